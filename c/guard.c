@@ -81,6 +81,8 @@ static inline struct words advised(struct words reply, uint64_t when_dead) {
 
 CALL(look, OWN, (HELD(port), capability), uint16_t capability)
 CALL(copy, OWN, (HELD(port), capability, table, slot, rights), uint16_t capability, uint16_t table, uint16_t slot, uint8_t rights)
+CALL(part, OWN, (HELD(port), range, frame, count, table, slot),
+    uint16_t range, uint16_t frame, uint16_t count, uint16_t table, uint16_t slot)
 CALL(remove, OWN, (HELD(port), table, slot), uint16_t table, uint16_t slot)
 CALL(grow, OWN, (HELD(port), root, entry, leaf), uint16_t root, uint16_t entry, uint16_t leaf)
 CALL(shrink, OWN, (HELD(port), root, entry), uint16_t root, uint16_t entry)

@@ -108,7 +108,7 @@
 extern "C" {
 #endif
 
-#define SPECK_VERSION 200 /* 10,000 for the first number, 100 for the second, 1 for the third; docs/CHANGES.md has what each changed */
+#define SPECK_VERSION 201 /* 10,000 for the first number, 100 for the second, 1 for the third; docs/CHANGES.md has what each changed */
 
 struct speck_machine { uint64_t own[4]; };
 struct speck_port { uint64_t own[4]; };
@@ -304,6 +304,11 @@ struct speck_reply speck_remove(struct speck_port *port, uint16_t table, uint16_
  * capabilities, one of pages leaves of pages. */
 struct speck_reply speck_grow(struct speck_port *port, uint16_t root, uint16_t entry, uint16_t leaf);
 struct speck_reply speck_shrink(struct speck_port *port, uint16_t root, uint16_t entry);
+
+/* A part of a range: the range of the `count` frames from `frame` on, all of `range`, which has both rights; it goes, with both rights too, under
+ * the number `slot`, which holds nothing, of `table`. So memory is handed out; what is removed of the parts comes back to nobody: the whole
+ * range still has all its frames. */
+struct speck_reply speck_part(struct speck_port *port, uint16_t range, uint16_t frame, uint16_t count, uint16_t table, uint16_t slot);
 
 /* Memory. A frame of a range is untyped at first. As SPECK_FRAME_USER it can be mapped, as SPECK_FRAME_KERNEL an object can be made in it; and
  * it can be made untyped again once nothing refers to it, or SPECK_REFERENCED. */

@@ -99,6 +99,7 @@ int main(void) {
     ROW("look", reply = speck_look(p, 0));
     ROW("copy", reply = speck_copy(p, 0, 1, 20, 3));
     ROW("remove", reply = speck_remove(p, 1, 20));
+    ROW("part", reply = speck_part(p, 0, 12, 4, 1, 28));
     for (uint16_t frame = 20; frame < 28; frame++) reply = speck_retype(p, 0, frame, SPECK_FRAME_KERNEL);
     ROW("retype", reply = speck_retype(p, 0, 30, SPECK_FRAME_KERNEL));
     ROW("make table", reply = speck_make_table(p, 0, 20, 1, 20));

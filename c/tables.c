@@ -33,8 +33,8 @@ int main(void) {
     const struct speck_grant grants[2] = {{ .budget = 1000, .quality = 1, .sched = 0 }, { .budget = 40, .quality = 9, .sched = 63 }};
     uint8_t bad = speck_boot_with(&machine, 24, 100, 10, grants, 2);
     for (int core = 0; core < 2; core++) bad |= speck_deal(&machine, &port[core]);
-    /* a leaf of the page table, with a frame mapped; a component, a gate to it, and a thread; a temporal capability with ticks; then the core
-     * enters the component, which is killed */
+    /* a leaf of the page table, with a frame mapped; a part of the range; a component, a gate to it, and a thread; a temporal capability with
+     * ticks; then the core enters the component, which is killed */
     for (uint16_t frame = 8; frame < 15; frame++) bad |= speck_retype(&port[0], 0, frame, SPECK_FRAME_KERNEL).code;
     bad |= speck_make_pleaf(&port[0], 0, 8, 1, 20).code;
     bad |= speck_grow(&port[0], 2, 3, 20).code;
@@ -42,6 +42,7 @@ int main(void) {
     bad |= speck_map(&port[0], 2, 3 * 64 + 5, 0, 15, 1).code;
     bad |= speck_touch(&port[0], 3 * 64 + 5).code;
     bad |= speck_copy(&port[0], 0, 1, 21, SPECK_RIGHT_USE).code;
+    bad |= speck_part(&port[0], 0, 20, 4, 1, 26).code;
     bad |= speck_make_comp(&port[0], 1, 2, 7, 0, 9, 1, 22).code;
     bad |= speck_gate(&port[0], 22, 1, 23).code;
     bad |= speck_make_thread(&port[0], 22, 0, 10, 1, 24).code;

@@ -134,6 +134,7 @@ unsafe extern "C" {
     pub(crate) fn speck_meet(port: *mut Slot, note: *mut Slot) -> u8;
     pub(crate) fn speck_look(port: *mut Slot, capability: u16) -> Reply;
     pub(crate) fn speck_copy(port: *mut Slot, capability: u16, table: u16, slot: u16, rights: u8) -> Reply;
+    pub(crate) fn speck_part(port: *mut Slot, range: u16, frame: u16, count: u16, table: u16, slot: u16) -> Reply;
     pub(crate) fn speck_remove(port: *mut Slot, table: u16, slot: u16) -> Reply;
     pub(crate) fn speck_grow(port: *mut Slot, root: u16, entry: u16, leaf: u16) -> Reply;
     pub(crate) fn speck_shrink(port: *mut Slot, root: u16, entry: u16) -> Reply;

@@ -25,6 +25,11 @@ impl Port {
         answer(unsafe { ffi::speck_copy(&mut self.slot, capability, table, slot, rights as u8) })
     }
 
+    /// Puts the range of the `count` frames from `frame` on, which are within `range`, into the entry `slot` of `table`.
+    pub fn part(&mut self, range: u16, frame: u16, count: u16, table: u16, slot: u16) -> Result<Value, Refused> {
+        answer(unsafe { ffi::speck_part(&mut self.slot, range, frame, count, table, slot) })
+    }
+
     /// Removes the entry `slot` of `table`.
     pub fn remove(&mut self, table: u16, slot: u16) -> Result<Value, Refused> {
         answer(unsafe { ffi::speck_remove(&mut self.slot, table, slot) })

@@ -54,6 +54,7 @@ fn two_threads_share_a_kernel() {
     assert_eq!((first.core(), second.core()), (0, 1));
     let (mut machine, mut first, note) = std::thread::spawn(move || {
         assert_eq!(first.copy(0, 1, 20, Rights::Use), Ok(Value::Nothing));
+        assert_eq!(first.part(0, 16, 4, 1, 23), Ok(Value::Nothing));
         let note = first.note().expect("memory");
         (machine, first, note) // a machine, too, may move
     })
@@ -62,6 +63,9 @@ fn two_threads_share_a_kernel() {
     second.meet(note).expect("a note of this machine");
     let looked = Value::Capability { kind: Kind::Range, frame: 8, argument: 24, rights: Rights::Use };
     assert_eq!(second.look(20), Ok(looked));
+    let part = Value::Capability { kind: Kind::Range, frame: 16, argument: 4, rights: Rights::Both };
+    assert_eq!(second.look(23), Ok(part));
+    assert!(second.part(20, 16, 4, 1, 24).is_err());
     assert_eq!(second.tick(7), Ok(Value::Amount(7)));
     let filled = std::thread::scope(|scope| {
         let other = scope.spawn(|| fill(&mut first));

@@ -1,6 +1,6 @@
 -- Which frames the names of a call have led to, where they were found as its plan wants them.
 use Rattle.std.proofs.Common.{◌≡◌, ℕ}
-use Rattle.std.proofs.Common.{◌<◌, ◌≤◌, true, List, [], ◌∷◌}
+use Rattle.std.proofs.Common.{◌+◌, ◌<◌, ◌≤◌, true, List, [], ◌∷◌}
 use Rattle.std.proofs.Common.{IfSome, arith}
 use Rattle.call_stages.specs.spk_nums.specs.Capability.{Capability}
 use Rattle.call_stages.specs.spk_nums.specs.declared.kinds.Kind.{Kind}
@@ -8,7 +8,7 @@ use Rattle.call_stages.specs.spk_nums.specs.declared.kinds.Kind.TheVariants.{Ran
 use Rattle.call_stages.specs.spk_nums.specs.declared.kinds.Kind.TheVariants as kind
 use Rattle.call_stages.specs.spk_nums.specs.declared.calls.Call.{Call}
 use Rattle.call_stages.specs.spk_nums.specs.declared.calls.Call.TheVariants.{Make as make_call, Gate, Grow}
-use Rattle.call_stages.specs.spk_nums.specs.declared.calls.Call.TheVariants.{Switch, Transfer, Delegate, Test}
+use Rattle.call_stages.specs.spk_nums.specs.declared.calls.Call.TheVariants.{Switch, Transfer, Delegate, Test, Part}
 use Rattle.call_stages.specs.kernel_rules.specs.Access.{found, only, root}
 use Rattle.call_stages.specs.stage_look.specs.Shown.{end_of_frames}
 use Rattle.call_stages.specs.call_plans.specs.declared.plans.Nth.TheVariants.{First, Second, Third, Fourth}
@@ -23,7 +23,7 @@ abbrev pub TwoNamed : ℕ → List Capability → Type 0
 TwoNamed frames found = IfSome (at_place found First) (λ k. k.frame < frames) × IfSome (at_place found Second) (λ k. k.frame < frames)
 
 -- the name of a thread's component has led to a frame of the machine, and so have those of a component's table and pages, and of a thread
--- and a temporal capability with which a core goes on
+-- and a temporal capability with which a core goes on; that of a range of which a part is handed out names no frames past the machine's
 abbrev pub ObjectNamed : ℕ → Call → List Capability → Type 0
 ObjectNamed frames (Grow t i l) found = IfSome (at_place found Second) (λ k. k.frame < frames)
 ObjectNamed frames (make_call (make.Thread comp) r f t b) found = IfSome (at_place found Third) (λ k. k.frame < frames)
@@ -35,6 +35,7 @@ ObjectNamed frames (Switch h q) found = IfSome (at_place found First) (λ k. k.f
 ObjectNamed frames (Transfer a b m) found = TwoNamed frames found
 ObjectNamed frames (Delegate a b m) found = TwoNamed frames found
 ObjectNamed frames (Test a b) found = TwoNamed frames found
+ObjectNamed frames (Part r f n t b) found = IfSome (at_place found First) (λ k. k.frame + k.arg ≤ frames)
 ObjectNamed frames call found = Unit {0}
 
 pub comp_below : (frames : ℕ) (kind : Kind) (frame arg : ℕ) → only KindComp kind ≡ true → end_of_frames kind frame arg ≤ frames
@@ -70,6 +71,11 @@ pub tcap_below : (frames : ℕ) (k : Kind) (frame arg : ℕ) → only kind.Tcap 
     → frame < frames
 tcap_below frames Range frame arg wanted names = absurd (cc)
 tcap_below frames k frame arg wanted names = omega (arith, names)
+
+pub range_ends : (frames : ℕ) (kind : Kind) (frame arg : ℕ) → only Range kind ≡ true → end_of_frames kind frame arg ≤ frames
+    → frame + arg ≤ frames
+range_ends frames Range frame arg wanted names = names
+range_ends frames kind frame arg wanted names = absurd (cc)
 
 pub two_named : (frames a b : ℕ) (found : List Capability) → FoundFits frames (plan_for (Test a b)) found → TwoNamed frames found
 two_named frames a b [] leads = (tt, tt)
@@ -109,4 +115,6 @@ object_named frames (Switch h q) (k ∷ j ∷ ks) leads = (
 object_named frames (Transfer a b m) ks leads = two_named frames a b ks leads
 object_named frames (Delegate a b m) ks leads = two_named frames a b ks leads
 object_named frames (Test a b) ks leads = two_named frames a b ks leads
+object_named frames (Part r f n t b) [] leads = tt
+object_named frames (Part r f n t b) (k ∷ ks) leads = range_ends frames k.kind k.frame k.arg leads.0.0 leads.0.1
 object_named frames call found leads = tt

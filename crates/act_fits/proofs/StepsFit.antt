@@ -6,6 +6,7 @@ use Rattle.std.proofs.lemmas.Bool.{leb-true, ltb-true, ltb-false, eqb-true, eqb-
 use Rattle.call_stages.specs.stage_quiet.specs.declared.quiet.Quiet.{Quiet}
 use Rattle.call_stages.specs.stage_quiet.specs.Scan.{QuietFits, first_other, flush_scan, core_scan, quiet_scan}
 use Rattle.call_stages.specs.spk_nums.specs.Capability.{Capability, cap_of}
+use Rattle.call_stages.specs.spk_nums.specs.Rights.{part_of}
 use Rattle.call_stages.specs.spk_nums.specs.CallLimits.{InLimits, MakeInLimits}
 use Rattle.call_stages.specs.spk_nums.specs.declared.kinds.Kind.{Kind}
 use Rattle.call_stages.specs.spk_nums.specs.declared.kinds.Kind.TheVariants.{Range, Table, Pages, Comp as KindComp}
@@ -13,7 +14,7 @@ use Rattle.call_stages.specs.spk_nums.specs.declared.kinds.Kind.TheVariants as k
 use Rattle.call_stages.specs.spk_nums.specs.declared.calls.Call.{Call}
 use Rattle.call_stages.specs.spk_nums.specs.declared.calls.Call.TheVariants.{Look as look_call, Copy, Remove, Shrink, Unmap, Retype}
 use Rattle.call_stages.specs.spk_nums.specs.declared.calls.Call.TheVariants.{Make as make_call, Tick, Gate, Kill, Grow, Flush, Map}
-use Rattle.call_stages.specs.spk_nums.specs.declared.calls.Call.TheVariants.{Call as call_gate, Ret, Switch, Transfer, Delegate, Test}
+use Rattle.call_stages.specs.spk_nums.specs.declared.calls.Call.TheVariants.{Call as call_gate, Ret, Switch, Transfer, Delegate, Test, Part}
 use Rattle.call_stages.specs.entry_words.specs.declared.entry.Entry.{Entry}
 use Rattle.call_stages.specs.entry_words.specs.declared.entry.Entry.TheVariants as entry
 use Rattle.call_stages.specs.word_map.specs.Places.{Shape}
@@ -38,7 +39,8 @@ use Rattle.call_stages.specs.call_plans.proofs.RootedTargets.{rooted}
 use Rattle.call_stages.specs.spk_nums.specs.declared.kinds.PageFlags.{PageFlags}
 use Rattle.call_stages.specs.spk_nums.specs.declared.kinds.FrameKind.{FrameKind}
 use Rattle.call_stages.specs.spk_nums.specs.declared.kinds.FrameKind.TheVariants.{Untyped, User, Kernel}
-use Rattle.call_stages.specs.kernel_rules.specs.CapabilityCalls.{has_frame}
+use Rattle.call_stages.specs.kernel_rules.specs.CapabilityCalls.{has_frame, has_frames}
+use Rattle.call_stages.specs.kernel_rules.proofs.PartFrames.{frames_in}
 use Rattle.call_stages.specs.spk_nums.specs.declared.calls.Make.{Make}
 use Rattle.call_stages.specs.spk_nums.specs.declared.calls.Make.TheVariants as make
 use Rattle.call_stages.specs.act_states.specs.declared.objects.NewObject.{NewObject}
@@ -62,7 +64,7 @@ use Rattle.call_stages.specs.act_states.specs.Acts.{removing, removes_held, remo
 use Rattle.call_stages.specs.act_states.specs.Acts.{reads_of, starts, making, making_if, makes_in, makes_at, act_begun, next_work}
 use Rattle.call_stages.specs.act_states.specs.Acts.{kills_in, kills_at, kept_of, link_to, is_pages, page_cap, mapping, mapping_if}
 use Rattle.call_stages.specs.act_states.specs.Acts.{maps_if, maps_at, comp_making, comp_if, comps_in, comps_at, made_begun}
-use Rattle.call_stages.specs.act_states.specs.Acts.{invokes_in, invokes_if, invokes_at, returns_if, returns_at, switches_at}
+use Rattle.call_stages.specs.act_states.specs.Acts.{invokes_in, invokes_if, invokes_at, returns_if, returns_at, switches_at, part_if, parts_at}
 use Rattle.call_stages.specs.stage_tcap.specs.declared.pair.PairAt.TheVariants.{LoadA}
 use Rattle.call_stages.specs.stage_tcap.specs.declared.pair.PairWork.{PairWork}
 use Rattle.call_stages.specs.stage_tcap.specs.declared.pair.PairWork.TheVariants as share
@@ -357,6 +359,39 @@ maps own later (Some range) f w (Some at) h fits = by_flags (nat_lt w.0 4)
     by_flags true = by (has_frame (found range) f && nat_lt f own.layout.frames) refl
     by_flags false = (omega arith, tt)
 
+-- the act that puts a part of a range
+part_ends : (frames : ℕ) (range : Capability) (f n : ℕ) → range.frame + range.arg ≤ frames → has_frames (found range) f n ≡ true
+    → f + n ≤ frames
+part_ends frames range f n ends has = let p = frames_in (found range) f n has in let last = p.last in omega (arith, ends)
+
+parts : (own : Own) (later : ℕ) (range : Option Capability) (f n : ℕ) (target : Option Found) → IsOwn own
+    → IfSome range (λ k. k.frame + k.arg ≤ own.layout.frames) → IfSome target (PlaceFits own.layout)
+    → StepFits own.layout [] later own.layout.cores (parts_at own range f n target)
+parts own later None f n target h ends fits = (omega arith, tt)
+parts own later (Some range) f n None h ends fits = (omega arith, tt)
+parts own later (Some range) f n (Some at) h ends fits =
+    by (has_frames (found range) f n) (nat_lt f own.layout.frames) refl
+  where
+    outside : StepFits own.layout [] later own.layout.cores
+        (scans own.core (quiet_scan (stamp_in at.value) own.core own.layout.cores false) (Outside at.node at.entry at.word))
+    outside =
+        let many = h.shape.some_core in
+        scans_fit own.layout later own.layout.cores own.core (Outside at.node at.entry at.word) false
+        (quiet_scan (stamp_in at.value) own.core own.layout.cores false) h.core (fits.node, fits.entry)
+        (scan_may own.layout (stamp_in at.value) own.core false h.core) (omega (arith, many))
+
+    by : (has below : Bool) → has_frames (found range) f n ≡ has
+        → StepFits own.layout [] later own.layout.cores
+        (scans own.core (quiet_scan (stamp_in at.value) own.core own.layout.cores false) (part_if (has && below) (part_of range f n) at))
+    by true true is =
+        let many = h.shape.some_core in
+        scans_fit own.layout later own.layout.cores own.core (filling (part_of range f n) at) false
+        (quiet_scan (stamp_in at.value) own.core own.layout.cores false) h.core
+        (record { node = fits.node; entry = fits.entry; cap = part_ends own.layout.frames range f n ends is })
+        (scan_may own.layout (stamp_in at.value) own.core false h.core) (omega (arith, many))
+    by true false is = outside
+    by false below is = outside
+
 -- the act that makes a component, where the range has its frame
 comps : (own : Own) (later live : ℕ) (range table pages : Capability) (f : ℕ) (target : Found) → IsOwn own → live < 64
     → table.frame < own.layout.frames → pages.frame < own.layout.frames → PlaceFits own.layout target
@@ -610,6 +645,8 @@ act_fits own later (Delegate a b m) found read target h names objects limits fit
     shared own.layout later 30 own.core (share.Delegate m) found objects (omega arith)
 act_fits own later (Test a b) found read target h names objects limits fits =
     shared own.layout later 21 own.core share.Test found objects (omega arith)
+act_fits own later (Part r f n t b) found read target h names objects limits fits =
+    parts own later (at_place found First) f n target h objects fits
 act_fits own later call found read target h names objects limits fits = (omega arith, tt)
 
 -- the root of a target is a frame of the machine, where its name is found

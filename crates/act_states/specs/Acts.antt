@@ -2,10 +2,10 @@
 use Rattle.std.specs.Prelude.{ℕ, ◌<◌, Bool, true, false, ◌&&◌, nat_lt, nat_le}
 use Rattle.std.specs.Prelude.{Option, Some, None, List, if◌then◌else◌}
 use Rattle.spk_nums.specs.Capability.{Capability, cap_of}
-use Rattle.spk_nums.specs.Rights.{kept}
+use Rattle.spk_nums.specs.Rights.{kept, part_of}
 use Rattle.spk_nums.specs.declared.calls.Call.{Call}
 use Rattle.spk_nums.specs.declared.calls.Call.TheVariants.{Look, Copy, Remove, Shrink, Retype, Make as make_call, Unmap, Tick, Gate, Kill}
-use Rattle.spk_nums.specs.declared.calls.Call.TheVariants.{Grow, Flush, Map, Call as call_gate, Ret, Switch, Transfer, Delegate, Test}
+use Rattle.spk_nums.specs.declared.calls.Call.TheVariants.{Grow, Flush, Map, Call as call_gate, Ret, Switch, Transfer, Delegate, Test, Part}
 use Rattle.spk_nums.specs.declared.calls.Make.{Make}
 use Rattle.spk_nums.specs.declared.calls.Make.TheVariants as make
 use Rattle.spk_nums.specs.declared.replies.Value.TheVariants.{Cap, Nothing as nothing}
@@ -82,7 +82,7 @@ use Rattle.stage_sweep.specs.frame_words.specs.Frame.{frame_of_word}
 use Rattle.stage_sweep.specs.word_map.specs.Word.{EntryAt, FrameAt}
 use Rattle.call_plans.specs.kernel_invariant.specs.kernel_rules.specs.Access.{found as named, only}
 use Rattle.call_plans.specs.kernel_invariant.specs.kernel_rules.specs.Start.{plain_cap}
-use Rattle.call_plans.specs.kernel_invariant.specs.kernel_rules.specs.CapabilityCalls.{has_frame}
+use Rattle.call_plans.specs.kernel_invariant.specs.kernel_rules.specs.CapabilityCalls.{has_frame, has_frames}
 pub use Rattle.act_states.specs.Dues.{cap_dues, made_dues, killing_dues, invoking_dues, returning_dues, dues, acquires, next_work}
 pub use Rattle.act_states.specs.Taking.{meets_object, meets_kernel, meets_blank, meets_making, marks_if, published, took_making_at}
 pub use Rattle.act_states.specs.Taking.{took_making, meets_comp, meets_life, meets_number, meets_live, closes_if, drawn_dead}
@@ -293,6 +293,11 @@ abbrev pub page_of : Option Capability → ℕ → PageFlags → Option Capabili
 page_of None f w = None
 page_of (Some range) f w = if has_frame (named range) f then Some (page_cap f w) else None
 
+-- the range of these frames, which the range to which a name has led has
+abbrev pub part_in : Option Capability → ℕ → ℕ → Option Capability
+part_in None f n = None
+part_in (Some range) f n = if has_frames (named range) f n then Some (part_of range f n) else None
+
 -- the gate to a component whose word has been read in this epoch; an epoch of 0 is none
 abbrev pub gate_if : Bool → ℕ → ℕ → Option Capability
 gate_if some f epoch = if some then Some (cap_of kind.Gate f epoch) else None
@@ -312,6 +317,7 @@ put_by (Copy a t b rights) found read = kept_of rights.0 (at_place found First)
 put_by (Grow t i l) found read = link_to (at_place found Second)
 put_by (Map p v r f w) found read = page_of (at_place found Second) f w
 put_by (Gate c t b) found read = gate_to (at_place found First) read
+put_by (Part r f n t b) found read = part_in (at_place found First) f n
 put_by _ found read = None
 
 -- the frame of the component whose word a call reads before it looks its target up, where its names have led to these
@@ -417,6 +423,19 @@ maps_if flags own range frame w f = if flags then maps_in own range frame w f el
 abbrev pub maps_at : Own → Option Capability → ℕ → PageFlags → Option Found → WorkStep
 maps_at own (Some range) frame w (Some f) = maps_if (nat_lt w.0 4) own range frame w f
 maps_at own _ frame w _ = refuse Raced
+
+-- a part of a range is put at the target
+abbrev pub part_if : Bool → Capability → Found → Act
+part_if within part f = if within then filling part f else Outside f.node f.entry f.word
+
+abbrev pub parts_in : Own → Capability → ℕ → ℕ → Found → WorkStep
+parts_in own range frame n f =
+    scans own.core (quiet_scan (stamp_in f.value) own.core own.layout.cores false)
+    (part_if (has_frames (named range) frame n && nat_lt frame own.layout.frames) (part_of range frame n) f)
+
+abbrev pub parts_at : Own → Option Capability → ℕ → ℕ → Option Found → WorkStep
+parts_at own (Some range) frame n (Some f) = parts_in own range frame n f
+parts_at own _ frame n _ = refuse Raced
 
 -- a component is made in a frame of the range, and its capability put at the target
 abbrev pub comp_cap : ℕ → Capability
@@ -538,4 +557,5 @@ act_begun own (Switch h q) found read target = switches_at own (at_place found F
 act_begun own (Transfer a b m) found read target = shares_at own.core (share.Transfer m) (at_place found First) (at_place found Second)
 act_begun own (Delegate a b m) found read target = shares_at own.core (share.Delegate m) (at_place found First) (at_place found Second)
 act_begun own (Test a b) found read target = shares_at own.core share.Test (at_place found First) (at_place found Second)
+act_begun own (Part r f n t b) found read target = parts_at own (at_place found First) f n target
 act_begun own _ found read target = refuse Raced

@@ -3,7 +3,7 @@ use Rattle.std.proofs.Common.{◌≡◌, ◌≢◌, ◌⊎◌, inl, inr, ℕ, �
 use Rattle.std.proofs.Common.{◌==◌, nat_lt, nat_le, if◌then◌else◌, length, IsTrue, List, [], ◌∷◌, Option, Some, None}
 use Rattle.std.proofs.lemmas.Bool.{false≢true, eqb-true, eqb-false, ltb-false}
 use Rattle.state_laws.specs.spk_nums.specs.Capability.{Capability, cap_of}
-use Rattle.state_laws.specs.spk_nums.specs.Rights.{both, kept, has_rights}
+use Rattle.state_laws.specs.spk_nums.specs.Rights.{both, kept, has_rights, part_of}
 use Rattle.state_laws.specs.spk_nums.specs.declared.kinds.Kind.{Kind}
 use Rattle.state_laws.specs.spk_nums.specs.declared.kinds.Kind.TheVariants as kind
 use Rattle.state_laws.specs.spk_nums.specs.declared.kinds.FrameKind.{FrameKind}
@@ -20,14 +20,14 @@ use Rattle.state_laws.specs.kernel_rules.specs.State.{Holds, CompFields, Object,
 use Rattle.state_laws.specs.kernel_rules.specs.State.{Frame, User, Kernel, FrameOf, State, tcap_in, comp_in, comp_of, thread_in, thread_of}
 use Rattle.state_laws.specs.kernel_rules.specs.Start.{plain_cap}
 use Rattle.state_laws.specs.kernel_rules.specs.Access.{Want, to_use, to_copy, any, only, root, found, Slot, Target, Under, InRoot}
-use Rattle.state_laws.specs.kernel_rules.specs.Access.{linked, slot_in, usable, reached, own, place_at, root_slot}
+use Rattle.state_laws.specs.kernel_rules.specs.Access.{linked, slot_in, usable, reached, own, place_at, root_slot, to_part}
 use Rattle.state_laws.specs.kernel_rules.specs.Fitting.{fits}
 use Rattle.state_laws.specs.kernel_rules.specs.References.{refs}
 use Rattle.state_laws.specs.kernel_rules.specs.Rules.{waits_of, flushes_of, WaitedFor, Unflushed, Change, Cause, When, Found, name_of}
 use Rattle.state_laws.specs.kernel_rules.specs.Rules.{named, vacant, held, fills, removes, answers, first_cause, refusal_of}
 use Rattle.state_laws.specs.kernel_rules.specs.CapabilityCalls.{has_frame, outside, not_blank, makes, make_node, make_rule, not_taken}
 use Rattle.state_laws.specs.kernel_rules.specs.CapabilityCalls.{is_live, epoch_of}
-use Rattle.state_laws.specs.kernel_rules.specs.CapabilityCalls.{leaf_of, leaf_for}
+use Rattle.state_laws.specs.kernel_rules.specs.CapabilityCalls.{leaf_of, leaf_for, has_frames}
 use Rattle.state_laws.specs.kernel_rules.specs.MemoryCalls.{not_user, not_untyped, not_retyped, retype_rule, touch_by, translation_of}
 use Rattle.state_laws.specs.kernel_rules.specs.MemoryCalls.{translated, is_empty, is_untyped_now}
 use Rattle.state_laws.specs.kernel_rules.specs.Life.{is_live_in}
@@ -38,7 +38,7 @@ use Rattle.state_laws.specs.kernel_invariant.specs.Edits.{Edit, Fill, Remove, No
 use Rattle.state_laws.specs.kernel_invariant.specs.Edits.{Cache, Flush}
 use Rattle.state_laws.specs.kernel_invariant.specs.Edits.{Charge, Move, Merge, begins_in, does}
 use Rattle.state_laws.specs.kernel_invariant.proofs.Sound.{only_is}
-use Rattle.state_laws.specs.kernel_invariant.proofs.SoundCalls.{IsOpen, blank_by, untyped_by}
+use Rattle.state_laws.specs.kernel_invariant.proofs.SoundCalls.{IsOpen, blank_by, untyped_by, within_by}
 use Rattle.state_laws.specs.kernel_invariant.proofs.Facts.{ChangesFrom, Suits, suits, none_some, some_inj, some_none, vacant_facts}
 use Rattle.state_laws.specs.kernel_invariant.proofs.Facts.{held_facts, none_parts, when_not, not_not, first_two}
 use Rattle.state_laws.specs.kernel_invariant.proofs.Edited.{is_bare, Calm}
@@ -76,6 +76,23 @@ pub record IsCopied (s : State) (c : ℕ) (k : Capability) : Type 0 where
   pub from : usable s c at ≡ Some source
   pub rights : ℕ
   pub is : k ≡ kept source rights
+
+-- A part of a range that core c may use.
+pub record IsParted (s : State) (c : ℕ) (k : Capability) : Type 0 where
+  pub number : ℕ
+  pub at : Slot
+  pub reaches : reached s c (own s c number) ≡ Some at
+  pub source : Capability
+  pub from : usable s c at ≡ Some source
+  pub kind : source.kind ≡ kind.Range
+  pub frame : ℕ
+  pub count : ℕ
+  pub has : has_frames (found source) frame count ≡ true
+  pub is : k ≡ part_of source frame count
+
+-- A copy, or a part.
+abbrev pub IsTaken : State → ℕ → Capability → Type 0
+IsTaken s c k = IsCopied s c k ⊎ IsParted s c k
 
 -- Whether a kind is that of a leaf, or of a component.
 abbrev pub is_given : Kind → Bool
@@ -131,7 +148,7 @@ pub record IsFresh (x : Frame) : Type 0 where
 
 -- By what core c makes an edit for a call, in the state in which the call is decided.
 abbrev pub By : Call → State → ℕ → Edit → Type 0
-By act s c (Fill at k) = InNode act s c at.node × (IsCopied s c k ⊎ IsGiven act s c k)
+By act s c (Fill at k) = InNode act s c at.node × (IsTaken s c k ⊎ IsGiven act s c k)
 By act s c (Remove at k) = InNode act s c at.node × (place_at s at ≡ Holds k)
 By act s c (Node f object) = InRange act s c f × IsTrue (is_bare (s.frame f)) × IsFresh (Kernel object)
 By act s c (Become f x) = InRange act s c f × IsTrue (is_bare (s.frame f)) × IsFresh x
@@ -279,7 +296,7 @@ module _ (call : Call) (s : State) (c : ℕ) where
 
   -- the capability of what is made
   made_cap : (k : Kind) (f : ℕ) → only kind.Range k ≡ false → InRange call s c f
-      → IsCopied s c (plain_cap k f) ⊎ IsGiven call s c (plain_cap k f)
+      → IsTaken s c (plain_cap k f) ⊎ IsGiven call s c (plain_cap k f)
   made_cap k f other range = inr (record { rights = refl; kind = other; frame = inl range })
 
 -- ---- lists of one edit, and of two
@@ -294,7 +311,7 @@ module _ (call : Call) (s : State) (c : ℕ) where
   two : (e x : Edit) (v : Value) → Calm c s (e ∷ x ∷ []) → begins_in c s e ≡ [] → By call s c e → By call s c x → Acts call c s (does c s v (e ∷ x ∷ []))
   two e x v calm quiet by next = record { list = e ∷ x ∷ []; is = refl; calm = calm; quiet = quiet; by = (by, (next, tt)) }
 
-  filled : (at : Slot) (k : Capability) → InNode call s c at.node → IsCopied s c k ⊎ IsGiven call s c k → Acts call c s (fills s at k)
+  filled : (at : Slot) (k : Capability) → InNode call s c at.node → IsTaken s c k ⊎ IsGiven call s c k → Acts call c s (fills s at k)
   filled at k node from = one (Fill at k) Nothing (node, from)
 
   removed : (target : Target) (at : Slot) (k : Capability) → InNode call s c at.node → held s c target ≡ Found (at, k)
@@ -449,7 +466,7 @@ module _ (s : State) (c : ℕ) (o : ℕ → Bool) (h : IsOpen s o c) where
   rule_acts (call.Copy a t b rights) = λ k e table g at v calm.
       let x = named_at s c a (to_copy any) k e in
       filled (call.Copy a t b rights) s c at (kept k rights.0) (place_by (call.Copy a t b rights) s c t b table at second g v)
-      (inl (record { number = a; at = x.at; reaches = x.reaches; source = k; from = x.from; rights = rights.0; is = refl }))
+      (inl (inl (record { number = a; at = x.at; reaches = x.reaches; source = k; from = x.from; rights = rights.0; is = refl })))
   rule_acts (call.Remove t b) = λ table e at k g calm.
       removed (call.Remove t b) s c (Under (found table) b) at k
       (table_node (call.Remove t b) s c t table at.node first e
@@ -535,3 +552,18 @@ module _ (s : State) (c : ℕ) (o : ℕ → Bool) (h : IsOpen s o c) where
         affords m j k (are_many s (found j) (found k) ∷ []) calm,
       ) (led_by (call.Delegate a b m) s c b (only kind.Tcap) k second f)
   rule_acts (call.Test a b) = λ j e k f calm. nothing (call.Test a b) s c
+  rule_acts (call.Part r f n t b) = λ k e table g at v calm.
+      let x = named_at s c r (to_part (only kind.Range)) k e in
+      filled (call.Part r f n t b) s c at (part_of k f n) (place_by (call.Part r f n t b) s c t b table at second g v)
+      (inl (inr (record {
+        number = r;
+        at = x.at;
+        reaches = x.reaches;
+        source = k;
+        from = x.from;
+        kind = only_is kind.Range k.kind x.kind;
+        frame = f;
+        count = n;
+        has = within_by s c k f n calm;
+        is = refl;
+      })))

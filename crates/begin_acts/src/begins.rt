@@ -11,7 +11,7 @@ ghost use Rattle.std.specs.Prelude.{◌<◌, ◌≡◌, ◌≤◌};
 use crate::no_target::{
     charges, flushes, invokes_at, kills_at, returns_at, shares_at, switches_at, types_at,
 };
-use crate::targets::{fills_with, made_begun, maps_at, removes_at};
+use crate::targets::{fills_with, made_begun, maps_at, parts_at, removes_at};
 use act_counts::act_states::{Own, Refusal, Tail, WorkStep};
 use act_counts::call_plans::{Caps, Nth};
 use act_counts::refuse;
@@ -20,9 +20,9 @@ use act_counts::stage_tcap::PairWork;
 use spk_nums::{Call, Cap, FrameNo, Kind, Rights, Value};
 
 /// What a call of a core does whose names have led to these, which has read this, and whose target, if it has one, was found: a look
-/// answers at once, a copy, a grow, a map and a gate begin to fill their target, a remove, a shrink and an unmap to remove what their
-/// target holds, a retype to type its frame, a make to make its object, a flush to drop its translations, a tick to charge its ticks, a
-/// call to enter its gate's component, a ret to leave its own. The core is one of the layout's at most 8.
+/// answers at once, a copy, a grow, a map, a gate and a part begin to fill their target, a remove, a shrink and an unmap to remove what
+/// their target holds, a retype to type its frame, a make to make its object, a flush to drop its translations, a tick to charge its
+/// ticks, a call to enter its gate's component, a ret to leave its own. The core is one of the layout's at most 8.
 #[inline]
 pub fn begin_act(
     own: &Own,
@@ -83,6 +83,13 @@ pub fn begin_act(
         Call::Transfer { a: _, b: _, m } => shares(own, PairWork::Transfer(*m), found),
         Call::Delegate { a: _, b: _, m } => shares(own, PairWork::Delegate(*m), found),
         Call::Test { a: _, b: _ } => shares(own, PairWork::Test, found),
+        Call::Part {
+            r: _,
+            f,
+            n,
+            t: _,
+            b: _,
+        } => parts_at(own, &found.get(Nth::First), *f, *n, target),
         _ => refuse(Refusal::Raced),
     }
 }

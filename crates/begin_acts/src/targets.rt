@@ -6,11 +6,11 @@
 //! **Out of range.** A frame that is not in its range is refused where the act starts, after the scan.
 
 ghost use Rattle.act_counts.specs.act_states.specs.Acts.{comps_at, comps_in, fills_at, fills_with, made_begun, makes_at, makes_in};
-ghost use Rattle.act_counts.specs.act_states.specs.Acts.{maps_at, maps_in, removes_at, removes_held, scans};
+ghost use Rattle.act_counts.specs.act_states.specs.Acts.{maps_at, maps_in, parts_at, parts_in, removes_at, removes_held, scans};
 ghost use Rattle.act_counts.specs.call_plans.specs.Plans.{at_place};
 ghost use Rattle.act_counts.specs.call_plans.specs.declared.plans.Nth.TheVariants.{First, Fourth, Third};
 ghost use Rattle.act_counts.specs.kernel_rules.specs.Access.{found as named_by_cap};
-ghost use Rattle.act_counts.specs.kernel_rules.specs.CapabilityCalls.{has_frame};
+ghost use Rattle.act_counts.specs.kernel_rules.specs.CapabilityCalls.{has_frame, has_frames};
 ghost use Rattle.std.specs.Prelude.{◌<◌, ◌≡◌, ◌≤◌};
 
 use act_counts::act_states::{
@@ -277,6 +277,44 @@ fn maps_in(own: &Own, range: &Cap, frame: FrameArg, flags: PageFlags, target: &F
     scans(own.core, quiet, &act)
 }
 
+/// A part of this range is put at the target.
+#[inline]
+pub(crate) fn parts_at(
+    own: &Own,
+    range: &Option<Cap>,
+    frame: FrameArg,
+    count: u16,
+    target: &Option<Found>,
+) -> WorkStep
+    requires core { own.now.core < own.now.layout.cores }
+    requires cores { own.now.layout.cores ≤ 8 }
+    ensures { result ≡ parts_at own.now range.now frame count target.now }
+{
+    match (range, target) {
+        (Some(range), Some(target)) => parts_in(own, range, frame, count, target),
+        _ => refuse(Refusal::Raced),
+    }
+}
+
+// The range of these frames is put there, where this range has them, after a scan where the target is quiescing.
+#[inline]
+fn parts_in(own: &Own, range: &Cap, frame: FrameArg, count: u16, target: &Found) -> WorkStep
+    requires core { own.now.core < own.now.layout.cores }
+    requires cores { own.now.layout.cores ≤ 8 }
+    ensures { result ≡ parts_in own.now range.now frame count target.now }
+{
+    let act = if has_frames(range, frame, count) && frame.number() < own.layout.frames() {
+        let part = range.part(FrameNo::new(frame.number()), count);
+        Act::Fill {
+            fill: fill_of(target, part),
+        }
+    } else {
+        outside(target)
+    };
+    let quiet = Quiet::entry(stamp_in(&target.value), own.core, own.layout.cores());
+    scans(own.core, quiet, &act)
+}
+
 /// What the target holds is removed.
 #[inline]
 pub(crate) fn removes_at(core: CoreNo, target: &Option<Found>) -> WorkStep
@@ -313,4 +351,14 @@ pub(crate) fn has_frame(range: &Cap, frame: FrameArg) -> bool
     let first = u32::from(range.frame().number());
     let number = u32::from(frame.number());
     first <= number && number < first + range.arg()
+}
+
+// Whether a range has these frames, and they are some.
+#[inline]
+fn has_frames(range: &Cap, frame: FrameArg, count: u16) -> bool
+    ensures { result ≡ has_frames (named_by_cap range.now) frame count }
+{
+    let first = u32::from(range.frame().number());
+    let number = u32::from(frame.number());
+    1 <= count && first <= number && number + u32::from(count) <= first + range.arg()
 }

@@ -16,7 +16,7 @@ use Rattle.spk_nums.specs.declared.calls.Make.TheVariants as make
 use Rattle.spk_nums.specs.declared.calls.Call.{Call}
 use Rattle.spk_nums.specs.declared.calls.Call.TheVariants.{Look, Copy, Remove, Grow, Shrink, Retype, Make as make_call}
 use Rattle.spk_nums.specs.declared.calls.Call.TheVariants.{Map, Unmap, Touch, Flush, Gate, Kill, Call as call_gate}
-use Rattle.spk_nums.specs.declared.calls.Call.TheVariants.{Ret, Switch, Tick, Transfer, Delegate, Test}
+use Rattle.spk_nums.specs.declared.calls.Call.TheVariants.{Ret, Switch, Tick, Transfer, Delegate, Test, Part}
 use Rattle.spk_nums.specs.declared.replies.Reply.TheVariants as reply
 use Rattle.kernel_rules.specs.State.{Limits, CompFields, Core, ThreadFields, TcapFields, Object, Frame, State, comp_in, comp_of}
 use Rattle.kernel_rules.specs.State.{thread_in, tcap_in}
@@ -332,3 +332,4 @@ every_may w (Tick n) fits = tt
 every_may w (Transfer a b m) fits = transfer_may w a b m
 every_may w (Delegate a b m) fits = delegate_may w a b m
 every_may w (Test a b) fits = (refl, refl, (refl, refl, ((refl, λ on. refl), tt)))
+every_may w (Part r f n x b) fits = (refl, refl, (refl, refl, (refl, table_root w x, ((refl, λ on. refl), tt))))

@@ -1,6 +1,6 @@
 -- The plan of each call.
 use Rattle.std.specs.Prelude.{ℕ, true, false, List, [], ◌∷◌}
-use Rattle.spk_nums.specs.Rights.{neither, right_to_copy, right_to_use}
+use Rattle.spk_nums.specs.Rights.{neither, right_to_copy, right_to_use, both}
 use Rattle.spk_nums.specs.declared.kinds.FrameKind.{FrameKind}
 use Rattle.spk_nums.specs.declared.kinds.FrameKind.TheVariants.{Untyped}
 use Rattle.spk_nums.specs.declared.kinds.Kind.{Kind}
@@ -10,7 +10,7 @@ use Rattle.spk_nums.specs.declared.calls.Make.TheVariants as make
 use Rattle.spk_nums.specs.declared.calls.Call.{Call}
 use Rattle.spk_nums.specs.declared.calls.Call.TheVariants.{Look, Copy, Remove, Grow, Shrink, Retype, Make as make_call}
 use Rattle.spk_nums.specs.declared.calls.Call.TheVariants.{Map, Unmap, Touch, Flush, Gate, Kill, Call as call_gate}
-use Rattle.spk_nums.specs.declared.calls.Call.TheVariants.{Ret, Switch, Tick, Transfer, Delegate, Test}
+use Rattle.spk_nums.specs.declared.calls.Call.TheVariants.{Ret, Switch, Tick, Transfer, Delegate, Test, Part}
 use Rattle.call_plans.specs.declared.plans.Nth.{Nth}
 use Rattle.call_plans.specs.declared.plans.Nth.TheVariants.{First, Second}
 use Rattle.call_plans.specs.declared.plans.Wanted.TheVariants.{Any, Only, Root, LeafOf}
@@ -36,6 +36,10 @@ of_kind kind n = record { number = n; wanted = Only kind; needs = record { 0 = r
 -- a name of this number, which is to lead to a leaf of the kind that the first name's root takes, to be used
 abbrev pub a_leaf : ℕ → Name
 a_leaf n = record { number = n; wanted = LeafOf First; needs = record { 0 = right_to_use } }
+
+-- a name of this number, which is to lead to a range of which a part is handed out, and needs both rights of it
+abbrev pub a_whole : ℕ → Name
+a_whole n = record { number = n; wanted = Only kind.Range; needs = record { 0 = both } }
 
 -- a call with these names that fills the free place of this number in the table to which a name leads, acquiring so many counts
 abbrev pub fills : List Name → Nth → ℕ → ℕ → Plan
@@ -92,3 +96,4 @@ plan_for (Tick n) = of_core 0 at.Head
 plan_for (Transfer a b m) = on_two_tcaps a b at.HeadB
 plan_for (Delegate a b m) = on_two_tcaps a b at.HeadB
 plan_for (Test a b) = on_two_tcaps a b at.HeadBAgain
+plan_for (Part r f n t b) = fills (a_whole r ∷ of_kind kind.Table t ∷ []) Second b 0

@@ -96,6 +96,13 @@ pub fn act_steps(call: &Call, cores: u32) -> u32
         | Call::Transfer { a: _, b: _, m: _ }
         | Call::Test { a: _, b: _ } => 21,
         Call::Delegate { a: _, b: _, m: _ } => 30,
+        Call::Part {
+            r: _,
+            f: _,
+            n: _,
+            t: _,
+            b: _,
+        } => cores,
     }
 }
 

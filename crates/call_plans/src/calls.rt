@@ -6,7 +6,7 @@ ghost use Rattle.kernel_rules.specs.State.{State};
 ghost use Rattle.kernel_rules.specs.Life.{asks_life};
 ghost use Rattle.kernel_rules.specs.CallRelation.{rule_of};
 ghost use Rattle.call_plans.specs.PlanOf.{any_cap, a_root, of_kind, fills, removes, names_alone, of_core};
-ghost use Rattle.call_plans.specs.PlanOf.{on_two_tcaps, plan_of_retype, plan_of_make, plan_for, a_leaf};
+ghost use Rattle.call_plans.specs.PlanOf.{on_two_tcaps, plan_of_retype, plan_of_make, plan_for, a_leaf, a_whole};
 ghost use Rattle.call_plans.specs.GoesBy.{GoesBy, own_pages};
 
 use crate::plans::{Decides, Name, Names, Nth, Plan, Spot, Target, Wanted};
@@ -100,6 +100,18 @@ pub fn plan_of(call: &Call) -> Plan
         Call::Transfer { a, b, m: _ } => on_two_tcaps(a, b, Decides::HeadB),
         Call::Delegate { a, b, m: _ } => on_two_tcaps(a, b, Decides::HeadB),
         Call::Test { a, b } => on_two_tcaps(a, b, Decides::HeadBAgain),
+        Call::Part {
+            r,
+            f: _,
+            n: _,
+            t,
+            b,
+        } => fills(
+            Names::two(a_whole(r), of_kind(Kind::Table, t)),
+            Nth::Second,
+            b.number(),
+            0,
+        ),
     }
 }
 
@@ -176,6 +188,17 @@ fn a_leaf(number: CapId) -> Name
         number,
         wanted: Wanted::LeafOf { root: Nth::First },
         needs: Rights::USE,
+    }
+}
+
+// A name that is to lead to a range of which a part is handed out, and needs both rights of it.
+fn a_whole(number: CapId) -> Name
+    ensures { result ≡ a_whole number }
+{
+    Name {
+        number,
+        wanted: Wanted::Only { kind: Kind::Range },
+        needs: Rights::both(),
     }
 }
 

@@ -1,5 +1,5 @@
 -- The line of each call: its arguments from left to right, and then nothing. The call's word is at 0.
-use Rattle.std.specs.Prelude.{ℕ, ◌==◌, ◌&&◌, nat_lt, List, length, Option, Some, None, Result, Ok, codes, if◌then◌else◌}
+use Rattle.std.specs.Prelude.{ℕ, ◌&&◌, nat_le, nat_lt, List, length, Option, Some, None, Result, Ok, codes, if◌then◌else◌}
 use Rattle.std.specs.Option.{ok_or}
 use Rattle.spk_nums.specs.Rights.{both}
 use Rattle.spk_nums.specs.declared.rights.Rights.{Rights}
@@ -38,11 +38,11 @@ both_at words = do
   done ← end_at words 4
   Ok (record { 0 = both })
 
--- after `copy A T B`: in version 2 there may be a fourth number, the rights
+-- after `copy A T B`: from version 2 on there may be a fourth number, the rights
 unfoldable pub rights_at : ℕ → List (List ℕ) → Result Rights Cause
-rights_at version words = if version == 2 && nat_lt 4 (length words) then fourth_at words else both_at words
+rights_at version words = if nat_le 2 version && nat_lt 4 (length words) then fourth_at words else both_at words
 
--- `copy A T B`, and in version 2 also `copy A T B R`
+-- `copy A T B`, and from version 2 on also `copy A T B R`
 unfoldable pub copy_line : ℕ → List (List ℕ) → Result Call Cause
 copy_line version words = do
   a ← name_at words 1
@@ -201,6 +201,17 @@ test_line words = do
   done ← end_at words 3
   Ok (call.Test a b)
 
+-- `part R F N T B`
+unfoldable pub part_line : List (List ℕ) → Result Call Cause
+part_line words = do
+  r ← name_at words 1
+  f ← name_at words 2
+  n ← name_at words 3
+  t ← name_at words 4
+  b ← name_at words 5
+  done ← end_at words 6
+  Ok (call.Part r f n t b)
+
 -- the objects that a `make` names
 unfoldable pub object_of : List ℕ → Option Object
 object_of word =
@@ -292,3 +303,4 @@ call_line version words verb.Tick = tick_line words
 call_line version words verb.Transfer = transfer_line words
 call_line version words verb.Delegate = delegate_line words
 call_line version words verb.Test = test_line words
+call_line version words verb.Part = part_line words

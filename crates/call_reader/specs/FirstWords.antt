@@ -1,14 +1,18 @@
 -- The words that a line may begin with.
-use Rattle.std.specs.Prelude.{ℕ, List, Option, Some, None, codes, if◌then◌else◌}
+use Rattle.std.specs.Prelude.{ℕ, nat_le, List, Option, Some, None, codes, if◌then◌else◌}
 use Rattle.line_reader.specs.Arguments.{is_word}
 use Rattle.call_reader.specs.declared.first_words.Verb.{Verb}
 use Rattle.call_reader.specs.declared.first_words.Verb.TheVariants as verb
 use Rattle.call_reader.specs.declared.first_words.FirstWord.{FirstWord}
 use Rattle.call_reader.specs.declared.first_words.FirstWord.TheVariants.{Speck, Cores, Frames, Grant, Calls, Epochs, Core, Order, Call}
 
--- the words of calls, from `flush` on
-unfoldable pub later_verb_of : List ℕ → Option Verb
-later_verb_of word =
+-- `part` is a word of a call from version 3 on
+abbrev pub part_from : ℕ → Option Verb
+part_from version = if nat_le 3 version then Some verb.Part else None
+
+-- the words of calls, from `flush` on, in a script of this version
+unfoldable pub later_verb_of : ℕ → List ℕ → Option Verb
+later_verb_of version word =
     if is_word word (codes "flush") then Some verb.Flush
     else (if is_word word (codes "gate") then Some verb.Gate
     else (if is_word word (codes "kill") then Some verb.Kill
@@ -19,11 +23,12 @@ later_verb_of word =
     else (if is_word word (codes "transfer") then Some verb.Transfer
     else (if is_word word (codes "delegate") then Some verb.Delegate
     else (if is_word word (codes "test") then Some verb.Test
-    else None)))))))))
+    else (if is_word word (codes "part") then part_from version
+    else None))))))))))
 
 -- the words of calls
-unfoldable pub verb_of : List ℕ → Option Verb
-verb_of word =
+unfoldable pub verb_of : ℕ → List ℕ → Option Verb
+verb_of version word =
     if is_word word (codes "look") then Some verb.Look
     else (if is_word word (codes "copy") then Some verb.Copy
     else (if is_word word (codes "remove") then Some verb.Remove
@@ -34,16 +39,16 @@ verb_of word =
     else (if is_word word (codes "map") then Some verb.Map
     else (if is_word word (codes "unmap") then Some verb.Unmap
     else (if is_word word (codes "touch") then Some verb.Touch
-    else later_verb_of word)))))))))
+    else later_verb_of version word)))))))))
 
 -- a word of a call as a first word
 abbrev pub call_word : Option Verb → Option FirstWord
 call_word None = None
 call_word (Some v) = Some (Call v)
 
--- the known first words; another is S2
-unfoldable pub first_word : List ℕ → Option FirstWord
-first_word word =
+-- the known first words in a script of this version; another is S2
+unfoldable pub first_word : ℕ → List ℕ → Option FirstWord
+first_word version word =
     if is_word word (codes "speck") then Some Speck
     else (if is_word word (codes "cores") then Some Cores
     else (if is_word word (codes "frames") then Some Frames
@@ -52,4 +57,4 @@ first_word word =
     else (if is_word word (codes "epochs") then Some Epochs
     else (if is_word word (codes "core") then Some Core
     else (if is_word word (codes "order") then Some Order
-    else call_word (verb_of word))))))))
+    else call_word (verb_of version word))))))))

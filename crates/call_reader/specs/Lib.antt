@@ -1,3 +1,4 @@
 pub mod FirstWords
 pub mod CallLines
 pub mod OneLine
+pub mod Versions

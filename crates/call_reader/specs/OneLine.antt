@@ -23,13 +23,13 @@ verb_in (Some (call_first verb)) = Ok verb
 verb_in (Some other) = Err S7
 verb_in None = Err S2
 
--- the word of a call that a line begins with; S3 where it has no word
-unfoldable pub verb_at : List (List ℕ) → Result Verb Cause
-verb_at words = word_at words 0 >>= λ word. verb_in (first_word word)
+-- the word of a call that a line of a script of this version begins with; S3 where it has no word
+unfoldable pub verb_at : ℕ → List (List ℕ) → Result Verb Cause
+verb_at version words = word_at words 0 >>= λ word. verb_in (first_word version word)
 
--- the call of a line, as version 2 has it
+-- the call of a line, as version 3 has it
 unfoldable pub call_at : List (List ℕ) → Result Call Cause
-call_at words = verb_at words >>= λ verb. call_line 2 words verb
+call_at words = verb_at 3 words >>= λ verb. call_line 3 words verb
 
 -- the call of words whose bytes end so: S8 of a byte that may not stand there, S9 of more than one line
 abbrev pub call_by : List (List ℕ) → Ending → Result Call Cause

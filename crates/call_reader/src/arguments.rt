@@ -67,6 +67,13 @@ pub fn frame_at(words: &[Token], place: usize) -> Result<FrameArg, Cause>
     Ok(FrameArg::new(number))
 }
 
+/// The count of frames at a place.
+pub fn count_at(words: &[Token], place: usize) -> Result<u16, Cause>
+    ensures { result ≡ name_at (texts words.now) place }
+{
+    half_at(words, place, 0, 65_535)
+}
+
 /// The amount at a place.
 pub fn amount_at(words: &[Token], place: usize) -> Result<u32, Cause>
     ensures { result ≡ amount_at (texts words.now) place }

@@ -6,11 +6,12 @@ ghost use Rattle.line_reader.specs.Arguments.{texts};
 ghost use Rattle.call_reader.specs.CallLines.{fourth_at, both_at, rights_at};
 ghost use Rattle.call_reader.specs.CallLines.{look_line, copy_line, remove_line, grow_line, shrink_line, retype_line, map_line};
 ghost use Rattle.call_reader.specs.CallLines.{unmap_line, touch_line, flush_line, gate_line, kill_line, enter_line, ret_line};
-ghost use Rattle.call_reader.specs.CallLines.{switch_line, tick_line, transfer_line, delegate_line, test_line, object_of};
+ghost use Rattle.call_reader.specs.CallLines.{switch_line, tick_line, transfer_line, delegate_line, test_line, part_line, object_of};
 ghost use Rattle.call_reader.specs.CallLines.{object_at, thread_at, tcap_at, comp_at, plain_at, made_at, make_line, call_line};
 
 use crate::arguments::{
-    amount_at, byte_at, capability_at, entry_at, frame_at, frame_kind_at, page_at, whole_at,
+    amount_at, byte_at, capability_at, count_at, entry_at, frame_at, frame_kind_at, page_at,
+    whole_at,
 };
 use crate::first_words::Verb;
 use line_reader::{Cause, end_at, is_word, word_at};
@@ -54,7 +55,7 @@ fn rights_at(words: &[Token], version: u8) -> Result<Rights, Cause>
     ensures value { result ≡ rights_at version (texts words.now) }
     ensures range { IfOk result (λ r. r.0 < 4) }
 {
-    if version == 2 && 4 < words.len() {
+    if 2 <= version && 4 < words.len() {
         fourth_at(words)
     } else {
         both_at(words)
@@ -266,6 +267,20 @@ fn test_line(words: &[Token]) -> Result<Call, Cause>
     Ok(Call::Test { a, b })
 }
 
+#[tactic(auto, unfolding(crate::specs::CallLines::part_line))]
+fn part_line(words: &[Token]) -> Result<Call, Cause>
+    ensures value { result ≡ part_line (texts words.now) }
+    ensures range { IfOk result InLimits }
+{
+    let r = capability_at(words, 1)?;
+    let f = frame_at(words, 2)?;
+    let n = count_at(words, 3)?;
+    let t = capability_at(words, 4)?;
+    let b = capability_at(words, 5)?;
+    end_at(words, 6)?;
+    Ok(Call::Part { r, f, n, t, b })
+}
+
 /// What a `make` names.
 #[derive(Clone, Copy, Debug, PartialEq, Eq)]
 enum Object {
@@ -415,5 +430,6 @@ pub fn call_line(words: &[Token], verb: Verb, version: u8) -> Result<Call, Cause
         Verb::Transfer => transfer_line(words),
         Verb::Delegate => delegate_line(words),
         Verb::Test => test_line(words),
+        Verb::Part => part_line(words),
     }
 }

@@ -1,7 +1,7 @@
 //! The words that a line may begin with.
 
 ghost use Rattle.std.specs.Prelude.{◌≡◌};
-ghost use Rattle.call_reader.specs.FirstWords.{verb_of, later_verb_of, first_word};
+ghost use Rattle.call_reader.specs.FirstWords.{part_from, verb_of, later_verb_of, first_word};
 
 use line_reader::is_word;
 
@@ -28,6 +28,7 @@ pub enum Verb {
     Transfer,
     Delegate,
     Test,
+    Part,
 }
 
 /// A known first word.
@@ -45,8 +46,8 @@ pub enum FirstWord {
 }
 
 #[tactic(auto, unfolding(crate::specs::FirstWords::verb_of))]
-fn verb_of(word: &[u8]) -> Option<Verb>
-    ensures { result ≡ verb_of word.now }
+fn verb_of(word: &[u8], version: u8) -> Option<Verb>
+    ensures { result ≡ verb_of version word.now }
 {
     if is_word(word, "look") {
         Some(Verb::Look)
@@ -69,13 +70,20 @@ fn verb_of(word: &[u8]) -> Option<Verb>
     } else if is_word(word, "touch") {
         Some(Verb::Touch)
     } else {
-        later_verb_of(word)
+        later_verb_of(word, version)
     }
 }
 
+// `part` is a word of a call from version 3 on.
+fn part_from(version: u8) -> Option<Verb>
+    ensures { result ≡ part_from version }
+{
+    if 3 <= version { Some(Verb::Part) } else { None }
+}
+
 #[tactic(auto, unfolding(crate::specs::FirstWords::later_verb_of))]
-fn later_verb_of(word: &[u8]) -> Option<Verb>
-    ensures { result ≡ later_verb_of word.now }
+fn later_verb_of(word: &[u8], version: u8) -> Option<Verb>
+    ensures { result ≡ later_verb_of version word.now }
 {
     if is_word(word, "flush") {
         Some(Verb::Flush)
@@ -97,15 +105,17 @@ fn later_verb_of(word: &[u8]) -> Option<Verb>
         Some(Verb::Delegate)
     } else if is_word(word, "test") {
         Some(Verb::Test)
+    } else if is_word(word, "part") {
+        part_from(version)
     } else {
         None
     }
 }
 
-/// The first word that a word is, if it is one that a rule knows.
+/// The first word that a word is in a script of this version, if it is one that a rule knows.
 #[tactic(auto, unfolding(crate::specs::FirstWords::first_word))]
-pub fn first_word(word: &[u8]) -> Option<FirstWord>
-    ensures { result ≡ first_word word.now }
+pub fn first_word(word: &[u8], version: u8) -> Option<FirstWord>
+    ensures { result ≡ first_word version word.now }
 {
     if is_word(word, "speck") {
         Some(FirstWord::Speck)
@@ -124,7 +134,7 @@ pub fn first_word(word: &[u8]) -> Option<FirstWord>
     } else if is_word(word, "order") {
         Some(FirstWord::Order)
     } else {
-        match verb_of(word) {
+        match verb_of(word, version) {
             Some(verb) => Some(FirstWord::Call(verb)),
             None => None,
         }

@@ -7,8 +7,10 @@ mod arguments;
 mod call_lines;
 mod first_words;
 mod one_line;
+mod versions;
 
 pub use arguments::{byte_at, capability_at, core_at, half_at, whole_at};
 pub use call_lines::call_line;
 pub use first_words::{FirstWord, Verb, first_word};
 pub use one_line::{read_call, verb_at};
+pub use versions::most_calls;

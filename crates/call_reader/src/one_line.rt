@@ -13,13 +13,14 @@ use script_tokens::{ByteFault, Ending, Scanned, Token, scan};
 use spk_nums::{Call, Make};
 use std::alloc::Global;
 
-/// The word of a call that these words begin with: S3 where there is none, S2 of an unknown first word, S7 of one that is no call's.
+/// The word of a call that these words begin with in a script of this version: S3 where there is none, S2 of an unknown first word, S7 of
+/// one that is no call's.
 #[tactic(auto, unfolding(crate::specs::OneLine::verb_at))]
-pub fn verb_at(words: &[Token]) -> Result<Verb, Cause>
-    ensures { result ≡ verb_at (texts words.now) }
+pub fn verb_at(words: &[Token], version: u8) -> Result<Verb, Cause>
+    ensures { result ≡ verb_at version (texts words.now) }
 {
     let word = word_at(words, 0)?;
-    match first_word(word) {
+    match first_word(word, version) {
         Some(FirstWord::Call(verb)) => Ok(verb),
         Some(_) => Err(Cause::S7),
         None => Err(Cause::S2),
@@ -32,8 +33,8 @@ fn call_at(words: &[Token]) -> Result<Call, Cause>
     ensures value { result ≡ call_at (texts words.now) }
     ensures range { IfOk result InLimits }
 {
-    let verb = verb_at(words)?;
-    call_line(words, verb, 2)
+    let verb = verb_at(words, 3)?;
+    call_line(words, verb, 3)
 }
 
 // The call of bytes with these words, which end so.
@@ -54,7 +55,7 @@ fn call_by(words: &[Token], ending: Ending) -> Result<Call, Cause>
     }
 }
 
-/// Reads one call, as a line of a script of version 2 has it: its word, then its arguments. Blanks and a comment may stand round it,
+/// Reads one call, as a line of a script of version 3 has it: its word, then its arguments. Blanks and a comment may stand round it,
 /// and a line feed at its end. Fewer than 2^32 bytes.
 ///
 /// # Errors

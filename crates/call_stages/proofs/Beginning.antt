@@ -12,7 +12,7 @@ use Rattle.spk_nums.specs.declared.calls.Make.TheVariants as make
 use Rattle.spk_nums.specs.declared.calls.Call.{Call}
 use Rattle.spk_nums.specs.declared.calls.Call.TheVariants.{Look as look_call, Copy, Remove, Shrink, Unmap, Retype}
 use Rattle.spk_nums.specs.declared.calls.Call.TheVariants.{Make as make_call, Gate, Kill, Grow, Map}
-use Rattle.spk_nums.specs.declared.calls.Call.TheVariants.{Call as call_gate, Ret, Switch, Transfer, Delegate, Test}
+use Rattle.spk_nums.specs.declared.calls.Call.TheVariants.{Call as call_gate, Ret, Switch, Transfer, Delegate, Test, Part}
 use Rattle.act_states.specs.entry_words.specs.declared.entry.Entry.{Entry}
 use Rattle.act_states.specs.entry_words.specs.declared.entry.Entry.TheVariants as entry
 use Rattle.act_states.specs.kernel_rules.specs.Access.{found, Target as place, Under, InRoot}
@@ -31,7 +31,7 @@ use Rattle.act_states.specs.declared.work.Act.TheVariants.{Switch as switch_act,
 use Rattle.act_states.specs.Acts.{fills_with, removes_held, removes_at, act_begun}
 use Rattle.act_states.specs.Acts.{types_if, types_at, stamp_in, filling, starts, scans, makes_at}
 use Rattle.act_states.specs.Acts.{kills_in, kills_at}
-use Rattle.act_states.specs.Acts.{maps_if, maps_at, comps_at, made_begun, invokes_if}
+use Rattle.act_states.specs.Acts.{maps_if, maps_at, parts_at, comps_at, made_begun, invokes_if}
 use Rattle.act_states.specs.Acts.{invokes_in, invokes_at, returns_if}
 use Rattle.act_states.specs.Acts.{switches_at}
 use Rattle.act_states.specs.call_plans.specs.declared.plans.Nth.TheVariants.{First, Second, Third, Fourth}
@@ -118,6 +118,11 @@ maps_no own (Some range) f w (Some at) = by (nat_lt w.0 4)
     by true = scans_no own.core _ _
     by false = tt
 
+pub parts_no : (own : Own) (range : Option Capability) (f n : ℕ) (target : Option Found) → NoAnswer (parts_at own range f n target)
+parts_no own None f n target = tt
+parts_no own (Some range) f n None = tt
+parts_no own (Some range) f n (Some at) = scans_no own.core _ _
+
 pub comps_no : (own : Own) (live : ℕ) (range table pages : Option Capability) (f : ℕ) (target : Option Found)
     → NoAnswer (comps_at own live range table pages f target)
 comps_no own live (Some range) (Some table) (Some pages) f (Some target) = scans_no own.core _ _
@@ -181,4 +186,5 @@ act_no own (Switch h q) found read target not = switches_no own (at_place found 
 act_no own (Transfer a b m) found read target not = shares_no own.core (share.Transfer m) (at_place found First) (at_place found Second)
 act_no own (Delegate a b m) found read target not = shares_no own.core (share.Delegate m) (at_place found First) (at_place found Second)
 act_no own (Test a b) found read target not = shares_no own.core share.Test (at_place found First) (at_place found Second)
+act_no own (Part r f n t b) found read target not = parts_no own (at_place found First) f n target
 act_no own call found read target not = tt

@@ -18,7 +18,7 @@ use Rattle.spk_nums.specs.declared.calls.Make.TheVariants as make
 use Rattle.spk_nums.specs.declared.calls.Call.{Call}
 use Rattle.spk_nums.specs.declared.calls.Call.TheVariants.{Look as look_call, Copy, Remove, Shrink, Unmap, Retype}
 use Rattle.spk_nums.specs.declared.calls.Call.TheVariants.{Make as make_call, Tick, Gate, Kill, Grow, Flush, Map}
-use Rattle.spk_nums.specs.declared.calls.Call.TheVariants.{Call as call_gate, Ret, Switch, Transfer, Delegate, Test}
+use Rattle.spk_nums.specs.declared.calls.Call.TheVariants.{Call as call_gate, Ret, Switch, Transfer, Delegate, Test, Part}
 use Rattle.spk_nums.specs.declared.replies.Reply.{Reply}
 use Rattle.act_states.specs.entry_words.specs.declared.entry.Entry.{Entry}
 use Rattle.act_states.specs.entry_words.specs.declared.entry.Entry.TheVariants as entry
@@ -603,6 +603,7 @@ begun_over own (Switch h q) k is = absurd (cc)
 begun_over own (Transfer a b m) k is = absurd (cc)
 begun_over own (Delegate a b m) k is = absurd (cc)
 begun_over own (Test a b) k is = absurd (cc)
+begun_over own (Part r f n t b) k is = absurd (cc)
 begun_over own call k is = tt
 
 zero_of : (found : List Capability) → (length found + 1 == 1) ≡ true → found ≡ []

@@ -67,7 +67,7 @@ fn row_of(call: Call, line: &'static str, act: &'static str, refusals: &'static 
 }
 
 /// The rows, in the order of the documents.
-pub fn rows() -> [Row; 25] {
+pub fn rows() -> [Row; 26] {
     [
         row_of(Call::Look { a: cap(0) }, "look A", "", "`no-slot`, `empty`"),
         row_of(
@@ -262,6 +262,18 @@ pub fn rows() -> [Row; 25] {
             "test A B",
             "as `transfer`, but head B is loaded a second time in place of its compare",
             "`no-slot`, `empty`, `wrong-cap`, `no-right`, `same`, `raced`",
+        ),
+        row_of(
+            Call::Part {
+                r: cap(0),
+                f: FrameArg::new(10),
+                n: 4,
+                t: cap(1),
+                b: cap(20),
+            },
+            "part R F N T B",
+            "scan of the cores, compare of the target",
+            "`no-slot`, `empty`, `wrong-cap`, `no-right`, `occupied`, `quiescing e`, `out-of-range`, `raced`",
         ),
     ]
 }

@@ -4,7 +4,7 @@ use Rattle.std.proofs.lemmas.Bool.{false≢true}
 use Rattle.spk_nums.specs.Capability.{Capability}
 use Rattle.spk_nums.specs.declared.kinds.Kind.TheVariants as kind
 use Rattle.spk_nums.specs.declared.calls.Call.{Call}
-use Rattle.spk_nums.specs.declared.calls.Call.TheVariants.{Copy, Make as make_call, Gate}
+use Rattle.spk_nums.specs.declared.calls.Call.TheVariants.{Copy, Make as make_call, Gate, Part}
 use Rattle.spk_nums.specs.declared.replies.Reply.{Reply}
 use Rattle.spk_nums.specs.declared.replies.Reply.TheVariants as reply
 use Rattle.kernel_rules.specs.State.{State}
@@ -15,7 +15,7 @@ use Rattle.kernel_invariant.proofs.Facts.{none_some, some_inj}
 use Rattle.call_judge.specs.same_changes.proofs.Reaching.{Twins, IsSlot, RootGood, own_good, own_same, reached_same, named_same, slot_good}
 use Rattle.call_judge.specs.same_changes.proofs.TimeRules.{named_table}
 use Rattle.origin_rules.specs.declared.chains.Step.{Step}
-use Rattle.origin_rules.specs.declared.chains.Step.TheVariants.{Copied, Made, Gated}
+use Rattle.origin_rules.specs.declared.chains.Step.TheVariants.{Copied, Made, Gated, Parted}
 use Rattle.origin_rules.specs.Chains.{Put, slot_named, slot_under, put_from, puts, puts_by}
 
 -- ---- the parts of a put
@@ -51,6 +51,7 @@ module _ {t s : State} {o : ℕ → Bool} {c : ℕ} (w : Twins t s o c) where
   puts_same (Copy a x b rights) = λ i. put_from Copied (named_slot_same a i) (under_same x b i)
   puts_same (make_call what r f x b) = λ i. put_from Made (named_slot_same r i) (under_same x b i)
   puts_same (Gate k x b) = λ i. put_from Gated (named_slot_same k i) (under_same x b i)
+  puts_same (Part r f n x b) = λ i. put_from Parted (named_slot_same r i) (under_same x b i)
   puts_same call = refl
 
   pub puts_by_same : (call : Call) (r : Reply) → puts_by t c call r ≡ puts_by s c call r
@@ -75,6 +76,7 @@ module _ {t s : State} {o : ℕ → Bool} {c : ℕ} (w : Twins t s o c) where
   put_slots (Copy a x b rights) p e = slots_of Copied a x b p e
   put_slots (make_call what r f x b) p e = slots_of Made r x b p e
   put_slots (Gate k x b) p e = slots_of Gated k x b p e
+  put_slots (Part r f n x b) p e = slots_of Parted r x b p e
   put_slots call p e = absurd (none_some p e)
 
   pub puts_slots : (call : Call) (r : Reply) (p : Put) → puts_by s c call r ≡ Some p → AreSlots p

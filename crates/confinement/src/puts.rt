@@ -65,8 +65,8 @@ fn put_from(what: Step, parent: Option<Slot>, at: Option<Slot>) -> Option<Put>
     }
 }
 
-/// What a call of a core puts that is carried out: a copy puts one from the capability that is copied, a `make` from its range, and a
-/// `gate` from its component.
+/// What a call of a core puts that is carried out: a copy puts one from the capability that is copied, a `make` and a `part` from their
+/// range, and a `gate` from its component.
 fn puts(k: &SeqKernel, core: CoreNo, call: &Call) -> Option<Put>
     requires { core < (state_of k.now).limits.cores }
     ensures { option_map put_of result ≡ puts (state_of k.now) core call.now }
@@ -90,6 +90,11 @@ fn puts(k: &SeqKernel, core: CoreNo, call: &Call) -> Option<Put>
         Call::Gate { c, t, b } => put_from(
             Step::Gated,
             slot_named(k, core, c),
+            slot_under(k, core, t, b),
+        ),
+        Call::Part { r, t, b, .. } => put_from(
+            Step::Parted,
+            slot_named(k, core, r),
             slot_under(k, core, t, b),
         ),
         _ => None,

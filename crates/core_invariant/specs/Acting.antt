@@ -28,7 +28,7 @@ use Rattle.kernel_invariant.specs.spk_nums.specs.Setting.{Setting}
 use Rattle.kernel_invariant.specs.spk_nums.specs.declared.kinds.Kind.{Kind}
 use Rattle.kernel_invariant.specs.spk_nums.specs.declared.kinds.Kind.TheVariants.{Comp as comp_kind}
 use Rattle.kernel_invariant.specs.spk_nums.specs.declared.calls.Call.{Call}
-use Rattle.kernel_invariant.specs.spk_nums.specs.declared.calls.Call.TheVariants.{Retype, Make as make_call, Flush, Tick, Kill, Map, Touch}
+use Rattle.kernel_invariant.specs.spk_nums.specs.declared.calls.Call.TheVariants.{Retype, Make as make_call, Flush, Tick, Kill, Map, Part, Touch}
 use Rattle.kernel_invariant.specs.spk_nums.specs.declared.kinds.FrameKind.{FrameKind}
 use Rattle.kernel_invariant.specs.spk_nums.specs.declared.kinds.FrameKind.TheVariants.{Untyped, Kernel as FrameKernel}
 use Rattle.kernel_history.specs.frame_words.specs.Frame.{frame_of_word}
@@ -86,7 +86,7 @@ use Rattle.act_fits.specs.act_states.specs.declared.typings.Typing.{Typing}
 use Rattle.act_fits.specs.act_states.specs.declared.typings.TypingAt.{TypingAt}
 use Rattle.act_fits.specs.act_states.specs.declared.typings.TypingAt.TheVariants.{Load, Compare as type_compare}
 use Rattle.act_fits.specs.act_states.specs.Typings.{is_typing}
-use Rattle.kernel_invariant.specs.kernel_rules.specs.CapabilityCalls.{has_frame}
+use Rattle.kernel_invariant.specs.kernel_rules.specs.CapabilityCalls.{has_frame, has_frames}
 use Rattle.act_fits.specs.act_states.specs.declared.work.Act.{Act as ActOf}
 use Rattle.act_fits.specs.act_states.specs.declared.work.Act.TheVariants.{Fill as fill_act, Remove as remove_act, Retype as type_act}
 use Rattle.act_fits.specs.act_states.specs.declared.work.Act.TheVariants.{Make as make_act, Outside, Tick as tick_act}
@@ -175,6 +175,7 @@ OutsideComp call ks = ⊥
 abbrev pub OutsideBy : Call → List Capability → Type 0
 OutsideBy (make_call what r f u b) ks = OutsideObject (make_call what r f u b) ks ⊎ OutsideComp (make_call what r f u b) ks
 OutsideBy (Map p v r f w) (pages ∷ range ∷ ks) = has_frame (found range) f ≡ false
+OutsideBy (Part r f n u b) (range ∷ ks) = has_frames (found range) f n ≡ false
 OutsideBy call ks = ⊥
 
 -- The frame's word as it was found: that of a blank kernel frame which no core has marked.

@@ -590,14 +590,18 @@ pub acquire_good : (setup : Setting) → IsSetting setup
     (pin_end pin (last_left setup t (word_of (pin_move pin))))))
 acquire_good setup setting cores t stands c here a active pin change (fill_act fill) is has =
     acquire_footprint setup setting cores t stands c here a active pin change (fill_act fill) is has
-    (put_counts a.call a.found has.knows.knows.read fill.cap has.knows.knows.puts)
+    (put_counts a.call a.found has.knows.knows.read fill.cap has.knows.knows.puts (pin_frame pin)
+    (due_named (named_by fill.cap.kind fill.cap.frame) (pos 1) (map due_of a.counts) (record { frame = pin_frame pin; change = change })
+    has.knows.rest has.knows.due))
     (λ b. put_footprint (state_after setup t) c a.call a.found has.knows.knows.read fill.cap
     has.knows.knows.puts (call_leads setup setting cores t stands c here a active has.names) (pin_frame pin)
     (due_named (named_by fill.cap.kind fill.cap.frame) (pos 1) (map due_of a.counts) (record { frame = pin_frame pin; change = change })
     has.knows.rest has.knows.due)) (λ e by. tt) tt refl
 acquire_good setup setting cores t stands c here a active pin change (map_act fill) is has =
     acquire_footprint setup setting cores t stands c here a active pin change (map_act fill) is has
-    (put_counts a.call a.found None fill.cap has.knows.knows.puts)
+    (put_counts a.call a.found None fill.cap has.knows.knows.puts (pin_frame pin)
+    (due_named (named_by fill.cap.kind fill.cap.frame) (pos 1) (map due_of a.counts) (record { frame = pin_frame pin; change = change })
+    has.knows.rest has.knows.due))
     (λ b. put_footprint (state_after setup t) c a.call a.found None fill.cap
     has.knows.knows.puts (call_leads setup setting cores t stands c here a active has.names) (pin_frame pin)
     (due_named (named_by fill.cap.kind fill.cap.frame) (pos 1) (map due_of a.counts) (record { frame = pin_frame pin; change = change })

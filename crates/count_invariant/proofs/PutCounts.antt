@@ -7,42 +7,59 @@ use Rattle.step_ways.proofs.Common.{Kill, Grow, Touch, Flush, Map, Ret, Transfer
 use Rattle.step_ways.proofs.Common.{counts_references, is_one_of, footprint_frames, only, Found, only_is, name_parts, at_place}
 use Rattle.step_ways.proofs.Common.{First, Second, plan_for, Leads}
 use Rattle.step_ways.proofs.Common.{LeadsIn, put_by, to_use, Suits, suits}
-use Rattle.plan_ways.specs.spk_nums.specs.declared.calls.Call.TheVariants.{Look, Make as make_call}
+use Rattle.plan_ways.specs.spk_nums.specs.declared.calls.Call.TheVariants.{Look, Make as make_call, Part}
 use Rattle.plan_ways.specs.spk_nums.specs.declared.calls.Call.TheVariants.{Call as call_gate}
-use Rattle.plan_ways.specs.spk_nums.specs.Rights.{kept}
+use Rattle.plan_ways.specs.spk_nums.specs.Rights.{kept, part_of}
 use Rattle.plan_ways.specs.spk_nums.specs.declared.rights.Rights.{Rights}
 use Rattle.plan_ways.specs.spk_nums.specs.declared.kinds.Kind.TheVariants.{Comp as comp_kind, Gate as gate_kind}
 use Rattle.plan_ways.specs.kernel_rules.specs.Rules.{of_kind}
+use Rattle.plan_ways.specs.kernel_rules.specs.CapabilityCalls.{has_frames}
+use Rattle.plan_ways.specs.kernel_rules.specs.Access.{found}
 use Rattle.plan_ways.proofs.InFootprint.{footprint_found}
 use Rattle.count_invariant.proofs.LinkCounts.{link_footprint, page_footprint}
-use Rattle.step_ways.specs.act_states.specs.Acts.{gate_if, gate_to, kept_of}
-
--- A call that fills its target changes references, and the frame that it names there is in its footprint: a line a call.
-pub put_counts : (call : Call) (ks : List Capability) (read : Option ℕ) (k : Capability) → put_by call ks read ≡ Some k
-    → IsTrue (counts_references call)
-put_counts (Look a) ks read k puts = absurd (cc)
-put_counts (Copy a u b rights) ks read k puts = refl
-put_counts (Grow u i l) ks read k puts = refl
-put_counts (Remove u b) ks read k puts = absurd (cc)
-put_counts (Shrink u i) ks read k puts = absurd (cc)
-put_counts (Map p v r f w) ks read k puts = refl
-put_counts (Unmap p v) ks read k puts = absurd (cc)
-put_counts (Retype r f j) ks read k puts = absurd (cc)
-put_counts (make_call what r f u b) ks read k puts = absurd (cc)
-put_counts (Touch v) ks read k puts = absurd (cc)
-put_counts Flush ks read k puts = absurd (cc)
-put_counts (Tick n) ks read k puts = absurd (cc)
-put_counts (Gate n u b) ks read k puts = refl
-put_counts (Kill n) ks read k puts = absurd (cc)
-put_counts (call_gate n) ks read k puts = absurd (cc)
-put_counts Ret ks read k puts = absurd (cc)
-put_counts (Transfer x y m) ks read k puts = absurd (cc)
-put_counts (Delegate x y m) ks read k puts = absurd (cc)
-put_counts (Test x y) ks read k puts = absurd (cc)
-put_counts (Switch x y) ks read k puts = absurd (cc)
+use Rattle.step_ways.specs.act_states.specs.Acts.{gate_if, gate_to, kept_of, part_in}
+use Rattle.std.proofs.lemmas.Bool.{false≢true}
 
 cap_same : (j k : Capability) → Some j ≡ Some k → j ≡ k
 cap_same j k h = cc
+
+-- A part of a range names no frame that is counted.
+pub part_unnamed : (o : Option Capability) (g n : ℕ) (k : Capability) → part_in o g n ≡ Some k
+    → (f : ℕ) → is_one_of f (named_by k.kind k.frame) ≡ true → ⊥
+part_unnamed None g n k puts f names_it = absurd (cc)
+part_unnamed (Some range) g n k puts f names_it = by (has_frames (found range) g n) puts
+  where
+    by : (has : Bool) → (if has then Some (part_of range g n) else None) ≡ Some k → ⊥
+    by true h =
+        let none : named_by k.kind k.frame ≡ [] =
+        subst (λ (x : Capability). named_by x.kind x.frame ≡ []) (cap_same (part_of range g n) k h) refl in
+        false≢true (sym (ap (is_one_of f) none) ∙ names_it)
+    by false h = absurd (cc)
+
+-- A call that fills its target with what names a frame changes references, and that frame is in its footprint: a line a call.
+pub put_counts : (call : Call) (ks : List Capability) (read : Option ℕ) (k : Capability) → put_by call ks read ≡ Some k
+    → (d : ℕ) → is_one_of d (named_by k.kind k.frame) ≡ true → IsTrue (counts_references call)
+put_counts (Look a) ks read k puts d names_it = absurd (cc)
+put_counts (Copy a u b rights) ks read k puts d names_it = refl
+put_counts (Grow u i l) ks read k puts d names_it = refl
+put_counts (Remove u b) ks read k puts d names_it = absurd (cc)
+put_counts (Shrink u i) ks read k puts d names_it = absurd (cc)
+put_counts (Map p v r f w) ks read k puts d names_it = refl
+put_counts (Unmap p v) ks read k puts d names_it = absurd (cc)
+put_counts (Retype r f j) ks read k puts d names_it = absurd (cc)
+put_counts (make_call what r f u b) ks read k puts d names_it = absurd (cc)
+put_counts (Touch v) ks read k puts d names_it = absurd (cc)
+put_counts Flush ks read k puts d names_it = absurd (cc)
+put_counts (Tick n) ks read k puts d names_it = absurd (cc)
+put_counts (Gate n u b) ks read k puts d names_it = refl
+put_counts (Kill n) ks read k puts d names_it = absurd (cc)
+put_counts (call_gate n) ks read k puts d names_it = absurd (cc)
+put_counts Ret ks read k puts d names_it = absurd (cc)
+put_counts (Transfer x y m) ks read k puts d names_it = absurd (cc)
+put_counts (Delegate x y m) ks read k puts d names_it = absurd (cc)
+put_counts (Test x y) ks read k puts d names_it = absurd (cc)
+put_counts (Switch x y) ks read k puts d names_it = absurd (cc)
+put_counts (Part r g n u b) ks read k puts d names_it = absurd (part_unnamed (at_place ks First) g n k puts d names_it)
 
 -- A name that wants a component has led to one.
 wanted_is : (j k : Capability) → of_kind (to_use (only comp_kind)) j ≡ Found k → k.kind ≡ comp_kind
@@ -106,3 +123,4 @@ put_footprint s c (Transfer x y m) ks read k puts lead f names_it = absurd (cc)
 put_footprint s c (Delegate x y m) ks read k puts lead f names_it = absurd (cc)
 put_footprint s c (Test x y) ks read k puts lead f names_it = absurd (cc)
 put_footprint s c (Switch x y) ks read k puts lead f names_it = absurd (cc)
+put_footprint s c (Part r g n u b) ks read k puts lead f names_it = absurd (part_unnamed (at_place ks First) g n k puts f names_it)

@@ -57,11 +57,11 @@ thrice (Err e) t0 t1 t2 t3 a b b' c c' p q eb ec f = tt
 pub fault_told : {A E : Type 0} (r : Result A E) (context : Context) (words : List (List ℕ)) (cause : Cause) (place : ℕ) (slot : Slot)
     (note : Note) (t0 t1 t2 t3 : List ℕ) → place ≡ place_of context words cause → slot ≡ slot_of context words place cause
     → note ≡ note_of context words place cause → t1 ≡ t0 ++ at_text words place
-    → t2 ≡ t1 ++ due_line context.reading context.stage slot → OnOk r (t3 ≡ t2 ++ forms_text context words note)
+    → t2 ≡ t1 ++ due_line context.version context.reading context.stage slot → OnOk r (t3 ≡ t2 ++ forms_text context words note)
     → OnOk r (t3 ≡ t0 ++ fault_line_text context words cause)
 fault_told r context words cause place slot note t0 t1 t2 t3 ep es en p q f =
     subst (λ (x : ℕ). OnOk r (t3 ≡ t0 ++ fault_at_text context words cause x)) ep
-    (thrice r t0 t1 t2 t3 (at_text words place) (due_line context.reading context.stage slot)
-    (due_line context.reading context.stage (slot_of context words place cause)) (forms_text context words note)
+    (thrice r t0 t1 t2 t3 (at_text words place) (due_line context.version context.reading context.stage slot)
+    (due_line context.version context.reading context.stage (slot_of context words place cause)) (forms_text context words note)
     (forms_text context words (note_of context words place cause)) p q
-    (ap (λ (s : Slot). due_line context.reading context.stage s) es) (ap (λ (n : Note). forms_text context words n) en) f)
+    (ap (λ (s : Slot). due_line context.version context.reading context.stage s) es) (ap (λ (n : Note). forms_text context words n) en) f)

@@ -19,7 +19,7 @@ byte_text (Some bad) =
 
 -- the end of a text that may not end there
 abbrev pub end_text : Context → List ℕ
-end_text context = codes "read the end of the text\n" ++ due_line context.reading context.stage First ++ note_line (end_note context)
+end_text context = codes "read the end of the text\n" ++ due_line context.version context.reading context.stage First ++ note_line (end_note context)
 
 -- a fault whose line has no words
 abbrev pub wordless_text : List ℕ → Context → Cause → List ℕ

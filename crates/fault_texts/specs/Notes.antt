@@ -74,7 +74,7 @@ misplaced_in _ context s words = note.Nothing
 
 -- of a line that may not stand there
 abbrev pub misplaced_note : Context → List (List ℕ) → Note
-misplaced_note context words = misplaced_in context.stage context (start_of context.reading context.stage words) words
+misplaced_note context words = misplaced_in context.stage context (start_of context.version context.reading context.stage words) words
 
 -- of a word that is not known
 abbrev pub unknown_note : Reading → ℕ → Note

@@ -55,8 +55,8 @@ read_text (Some word) = read_word_text word
 read_text None = codes "read the end of the line\n"
 
 -- what may stand there
-abbrev pub due_line : Reading → Stage → Slot → List ℕ
-due_line reading stage slot = codes "here may stand: " ++ due_text reading stage slot ++ codes "\n"
+abbrev pub due_line : ℕ → Reading → Stage → Slot → List ℕ
+due_line version reading stage slot = codes "here may stand: " ++ due_text version reading stage slot ++ codes "\n"
 
 -- the form of the line, if there is one
 abbrev pub form_text : List ℕ → List ℕ
@@ -77,7 +77,7 @@ at_text words place = shown_text (drop (place - 8) (take place words)) (take 4 (
 
 abbrev pub fault_at_text : Context → List (List ℕ) → Cause → ℕ → List ℕ
 fault_at_text context words cause place = at_text words place
-    ++ due_line context.reading context.stage (slot_of context words place cause)
+    ++ due_line context.version context.reading context.stage (slot_of context words place cause)
     ++ forms_text context words (note_of context words place cause)
 
 -- what is told of a fault of a line

@@ -132,7 +132,7 @@ fn list_note(words: &[Token]) -> Note
 fn misplaced_note(context: &Context, words: &[Token]) -> Note
     ensures { result ≡ misplaced_note context.now (texts words.now) }
 {
-    let start = start_of(context.reading, context.stage, words);
+    let start = start_of(context.version, context.reading, context.stage, words);
     match context.stage {
         Stage::Grants => grants_note(context),
         Stage::Calls | Stage::Epochs | Stage::Lists => call_note(start),

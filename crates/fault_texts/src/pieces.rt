@@ -117,9 +117,11 @@ fn push_read_word(text: &mut String, alloc: Global, word: &[u8]) -> Result<(), A
 
 /// Appends what may stand there.
 pub fn push_due(text: &mut String, context: &Context, slot: Slot) -> Result<(), AllocError>
-    ensures { OnOk result (string_bytes text.new ≡ string_bytes text.old ++ due_line context.now.reading context.now.stage slot) }
+    ensures { OnOk result (string_bytes text.new
+        ≡ string_bytes text.old ++ due_line context.now.version context.now.reading context.now.stage slot) }
 {
     let due = Due {
+        version: context.version,
         reading: context.reading,
         stage: context.stage,
         slot,

@@ -46,14 +46,14 @@ line_word word =
     else (if is_word word (codes "decide") then Some known.Decide
     else (if is_word word (codes "return") then Some known.Return
     else (if is_numbered word then Some known.Whole
-    else (if is_of_head (first_word word) then Some known.Head
+    else (if is_of_head (first_word 1 word) then Some known.Head
     else None))))
 
 -- ---- what a line says
 
 -- the call that words are, in a script of this version: S3, S2 or S7 of its word, then its arguments
 unfoldable pub call_in : ℕ → List (List ℕ) → Result Call Cause
-call_in version words = verb_at words >>= λ verb. call_line version words verb
+call_in version words = verb_at version words >>= λ verb. call_line version words verb
 
 -- `enter C CALL`
 unfoldable pub enter_line : ℕ → ℕ → List (List ℕ) → Result Said Cause

@@ -93,7 +93,7 @@ fn line_word(word: &[u8]) -> Option<LineWord>
         Some(LineWord::Return)
     } else if is_numbered(word) {
         Some(LineWord::Whole)
-    } else if is_of_head(first_word(word)) {
+    } else if is_of_head(first_word(word, 1)) {
         Some(LineWord::Head)
     } else {
         None
@@ -116,7 +116,7 @@ fn call_in(words: &[Token], version: u8) -> Result<Call, Cause>
     ensures value { result ≡ call_in version (texts words.now) }
     ensures range { IfOk result InLimits }
 {
-    let verb = verb_at(words)?;
+    let verb = verb_at(words, version)?;
     call_line(words, verb, version)
 }
 

@@ -7,7 +7,7 @@ use Rattle.spk_nums.specs.declared.calls.Make.TheVariants.{Comp as make_comp}
 use Rattle.spk_nums.specs.declared.calls.Call.{Call}
 use Rattle.spk_nums.specs.declared.calls.Call.TheVariants.{Look, Copy, Remove, Grow, Shrink, Retype, Make as make_call}
 use Rattle.spk_nums.specs.declared.calls.Call.TheVariants.{Map, Unmap, Touch, Flush, Gate, Kill, Call as call_gate}
-use Rattle.spk_nums.specs.declared.calls.Call.TheVariants.{Ret, Switch, Tick, Transfer, Delegate, Test}
+use Rattle.spk_nums.specs.declared.calls.Call.TheVariants.{Ret, Switch, Tick, Transfer, Delegate, Test, Part}
 use Rattle.word_map.specs.Word.{Word, EntryAt, FrameAt, CountAt, CoreAt, FlushAt, LiveAt, ClockAt}
 use Rattle.word_map.specs.Moves.{Move, LoadOf, CompareOf, StoreOf, AddOf, word_of, left_of}
 use Rattle.kernel_rules.specs.State.{Object, Blank, Table, Leaf, Pages, Pleaf, Comp, Thread, Tcap, Frame, Untyped, User, Kernel, State}
@@ -26,6 +26,7 @@ changes_places (make_call what range frame table slot) = true
 changes_places (Map p v r f w) = true
 changes_places (Unmap p v) = true
 changes_places (Gate k t b) = true
+changes_places (Part r f n t b) = true
 changes_places _ = false
 
 -- The words of a frame that is blank are changed by the call that makes an object of it.
@@ -89,7 +90,7 @@ changes_numbers _ = false
 abbrev pub looks_at_numbers : Call → Bool
 looks_at_numbers call = asks_life call
 
--- The counts of references are stepped on by the calls that take or release one,
+-- The counts of references are stepped on by the calls that take or release one: a range counts none,
 abbrev pub counts_references : Call → Bool
 counts_references (Look a) = false
 counts_references (Touch v) = false
@@ -98,6 +99,7 @@ counts_references (Tick n) = false
 counts_references (Transfer a b m) = false
 counts_references (Delegate a b m) = false
 counts_references (Test a b) = false
+counts_references (Part r f n t b) = false
 counts_references _ = true
 
 -- a call of core c on its own core's count words, and a retype to untyped on each count word of the frame.

@@ -7,7 +7,7 @@ use Rattle.spk_nums.specs.CallLimits.{InLimits}
 use Rattle.spk_nums.specs.Merging.{merged}
 use Rattle.spk_nums.specs.Qualities.{IsQualityList}
 use Rattle.spk_nums.specs.declared.kinds.Kind.{Kind}
-use Rattle.spk_nums.specs.Rights.{kept}
+use Rattle.spk_nums.specs.Rights.{kept, part_of}
 use Rattle.spk_nums.specs.declared.kinds.Kind.TheVariants as kind
 use Rattle.spk_nums.specs.declared.kinds.FrameKind.{FrameKind}
 use Rattle.spk_nums.specs.declared.kinds.FrameKind.TheVariants as frame_kind
@@ -495,6 +495,8 @@ module _ (s : State) (c : ℕ) where
         },
       ))
   rule_edits (call.Test a b) = λ j e k f calm. nothing (call.Test a b) (λ x. refl, refl, λ x g. refl, refl)
+  rule_edits (call.Part r f n t b) = λ k e table g at u calm.
+      filled (call.Part r f n t b) (Under (found table) b) at (part_of k f n) (λ x. refl, refl, λ x g. refl, refl) (λ o h. tt) u
 
   -- What holds of every change that is a list of edits holds of a call's.
   pub rule_by : (call : Call) (P : Change → Type 0) → ((change : Change) → Edits call c s change → P change)

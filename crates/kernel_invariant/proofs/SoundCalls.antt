@@ -5,7 +5,7 @@ use Rattle.std.proofs.Common.{IsTrue, IsFalse, List, [], ◌∷◌, length, take
 use Rattle.std.proofs.lemmas.Bool.{cases_eq, false≢true, true≢false, ltb-true, ltb-false, lt-ltb, and_parts}
 use Rattle.std.specs.List.{list_any, range_with_len}
 use Rattle.spk_nums.specs.Capability.{Capability, cap_of}
-use Rattle.spk_nums.specs.Rights.{kept}
+use Rattle.spk_nums.specs.Rights.{kept, part_of}
 use Rattle.spk_nums.specs.declared.kinds.Kind.{Kind}
 use Rattle.spk_nums.specs.declared.kinds.Kind.TheVariants as kind
 use Rattle.spk_nums.specs.declared.kinds.FrameKind.{FrameKind}
@@ -16,7 +16,7 @@ use Rattle.spk_nums.specs.declared.calls.Make.TheVariants as make
 use Rattle.spk_nums.specs.declared.calls.Call.{Call}
 use Rattle.spk_nums.specs.declared.calls.Call.TheVariants.{Look, Copy, Remove, Grow, Shrink, Retype, Make as make_call}
 use Rattle.spk_nums.specs.declared.calls.Call.TheVariants.{Map, Unmap, Touch, Flush, Gate, Kill, Call as call_gate}
-use Rattle.spk_nums.specs.declared.calls.Call.TheVariants.{Ret, Switch, Tick, Transfer, Delegate, Test}
+use Rattle.spk_nums.specs.declared.calls.Call.TheVariants.{Ret, Switch, Tick, Transfer, Delegate, Test, Part}
 use Rattle.spk_nums.specs.CallLimits.{InLimits}
 use Rattle.spk_nums.specs.declared.translations.Translation.{Translation}
 use Rattle.spk_nums.specs.declared.replies.Reply.TheVariants as reply
@@ -25,18 +25,19 @@ use Rattle.kernel_rules.specs.State.{Pleaf, Comp, Thread, Tcap, Frame, Untyped, 
 use Rattle.kernel_rules.specs.State.{FrameOf, State, put, with_frame, with_core, comp_of, comp_in, thread_in, thread_of}
 use Rattle.kernel_rules.specs.Start.{plain_cap}
 use Rattle.kernel_rules.specs.References.{refs, frame_names, number_names}
-use Rattle.kernel_rules.specs.Access.{Slot, found, any, to_copy, to_use, Target, Under, InRoot, held_in, only, root}
+use Rattle.kernel_rules.specs.Access.{Slot, found, any, to_copy, to_use, Target, Under, InRoot, held_in, only, root, to_part}
 use Rattle.kernel_rules.specs.GracePeriods.{same_thing, begun, flushed}
 use Rattle.kernel_rules.specs.Rules.{Change, Cause, When, WaitedFor, Unflushed, Found, named, vacant, held}
 use Rattle.kernel_rules.specs.Rules.{first_cause, refusal_of, waits_of, flushes_of, frames_of, fills, removes}
 use Rattle.kernel_rules.specs.CapabilityCalls.{grow_rule, leaf_of, has_frame, outside, epoch_of, is_frame, is_blank}
-use Rattle.kernel_rules.specs.CapabilityCalls.{not_blank, makes, cleared, make_node, makes_comp, make_rule, not_taken}
+use Rattle.kernel_rules.specs.CapabilityCalls.{not_blank, makes, cleared, make_node, makes_comp, make_rule, not_taken, has_frames, beyond}
 use Rattle.kernel_rules.specs.MemoryCalls.{is_untyped, is_untyped_now, not_untyped, is_user, holds_nothing, is_empty}
 use Rattle.kernel_rules.specs.MemoryCalls.{not_retyped, retype_rule, not_user, map_rule, touch_by, translation_of}
 use Rattle.kernel_rules.specs.InvocationCalls.{kills, with_thread, pushes, call_rule, pops, ret_rule, running, switches, switch_to}
 use Rattle.kernel_rules.specs.TimeCalls.{with_tcap, with_budget, with_qualities, tcap_at, moved, merged_list}
 use Rattle.kernel_rules.specs.CallRelation.{rule_of}
 use Rattle.kernel_rules.proofs.Within.{put_same, put_other}
+use Rattle.kernel_rules.proofs.PartFrames.{frames_in}
 use Rattle.kernel_rules.specs.Fitting.{fits, IsGood, EndsWithin}
 use Rattle.kernel_rules.specs.Relies.{is_node}
 use Rattle.kernel_invariant.proofs.Sound.{AreComps, IsStack, IsObjectGood, IsSound, weaken, only_is}
@@ -449,6 +450,21 @@ moved_step s o a b m fa fb h =
 kept_good : (s : State) (k : Capability) (these : ℕ) → IsGood s k → IsGood s (kept k these)
 kept_good s k these h = record { fit = h.fit; within = h.within }
 
+-- A part of a range has frames of the machine alone, where that has.
+pub within_by : (s : State) (c : ℕ) (range : Capability) (f n : ℕ) → first_cause s c (beyond (found range) f n ∷ []) ≡ None
+    → has_frames (found range) f n ≡ true
+within_by s c range f n calm =
+    let p = none_parts (refusal_of s c (beyond (found range) f n)) None calm in
+    not_not (has_frames (found range) f n) (when_not (not (has_frames (found range) f n)) reply.OutOfRange p.0)
+
+part_good : (s : State) (range : Capability) (f n : ℕ) → IsGood s range → IsTrue (only kind.Range range.kind)
+    → has_frames (found range) f n ≡ true → IsGood s (part_of range f n)
+part_good s range f n good is has =
+    let ends : EndsWithin kind.Range range.frame range.arg s.limits.frames =
+    subst (λ k. EndsWithin k range.frame range.arg s.limits.frames) (only_is kind.Range range.kind is) good.within in
+    let last = (frames_in (found range) f n has).last in
+    record { fit = refl; within = omega (arith, ends, last) }
+
 -- Every call that is carried out keeps the state sound.
 pub rule_keeps : (s : State) (o : ℕ → Bool) (c : ℕ) → IsOpen s o c
     → (call : Call) → InLimits call → ChangesFrom (Keeps s o c) s c (rule_of s c call)
@@ -494,3 +510,6 @@ rule_keeps s o c h (Delegate a b m) lim = λ j e k f calm.
     }) (tcap_below s o k.frame h.sound fb)
     (moved_step s o j.frame k.frame m (named_fit s o c a kind.Tcap j h.sound h.is e) fb h.sound))
 rule_keeps s o c h (Test a b) lim = λ j e k f calm. plain s s o c h h.sound
+rule_keeps s o c h (Part r f n t b) lim = λ range e table g at u calm.
+    let a : IsGood s range × IsTrue (only kind.Range range.kind) = named_good s o c r (to_part (only kind.Range)) range h.sound h.is e in
+    filled s o c (Under (found table) b) at (part_of range f n) h tt u (part_good s range f n a.0 a.1 (within_by s c range f n calm))

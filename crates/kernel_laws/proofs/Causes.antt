@@ -17,7 +17,7 @@ use Rattle.spk_nums.specs.declared.calls.Make.TheVariants as make
 use Rattle.spk_nums.specs.declared.calls.Call.{Call}
 use Rattle.spk_nums.specs.declared.calls.Call.TheVariants.{Look, Copy, Remove, Grow, Shrink, Retype, Make as make_call}
 use Rattle.spk_nums.specs.declared.calls.Call.TheVariants.{Map, Unmap, Touch, Flush, Gate, Kill, Call as call_gate}
-use Rattle.spk_nums.specs.declared.calls.Call.TheVariants.{Ret, Switch, Tick, Transfer, Delegate, Test}
+use Rattle.spk_nums.specs.declared.calls.Call.TheVariants.{Ret, Switch, Tick, Transfer, Delegate, Test, Part}
 use Rattle.spk_nums.specs.declared.translations.Translation.{Translation}
 use Rattle.spk_nums.specs.declared.replies.Reply.{Reply}
 use Rattle.spk_nums.specs.declared.replies.Reply.TheVariants as reply
@@ -25,12 +25,12 @@ use Rattle.kernel_rules.specs.State.{Object, Blank, Table, Leaf, Pages, Pleaf, C
 use Rattle.kernel_rules.specs.State.{Liveness, Live, Thing, FrameOf, NumberOf, State, comp_in, comp_of, thread_in, tcap_in, thread_of}
 use Rattle.kernel_rules.specs.References.{refs}
 use Rattle.kernel_rules.specs.Access.{Slot, Named, found, Want, to_use, Target, Under, InRoot, held_in}
-use Rattle.kernel_rules.specs.Access.{usable, reached, only, root, own}
+use Rattle.kernel_rules.specs.Access.{usable, reached, only, root, own, to_part}
 use Rattle.kernel_rules.specs.GracePeriods.{MayWait, MayBeUnflushed}
 use Rattle.kernel_rules.specs.Rules.{Judged, Refused, Found, and_then, or_refuse, of_kind, named, mapped, NameMay, VacantMay}
 use Rattle.kernel_rules.specs.Rules.{Lacks, HeldMay, MappedMay, WaitedMay, UnflushedMay, CauseMay, OneMay, RuleMay, IsFoundAnd, name_of}
 use Rattle.kernel_rules.specs.CapabilityCalls.{leaf_for, outside, has_frame, is_frame, is_blank}
-use Rattle.kernel_rules.specs.CapabilityCalls.{not_blank, make_node, make_rule, not_taken, epoch_of}
+use Rattle.kernel_rules.specs.CapabilityCalls.{not_blank, make_node, make_rule, not_taken, epoch_of, has_frames}
 use Rattle.kernel_rules.specs.MemoryCalls.{is_untyped, is_user, holds_nothing, is_empty, not_retyped, retype_rule, touch_by, translation_of}
 use Rattle.kernel_rules.specs.Life.{is_live_in, asks_life}
 use Rattle.kernel_rules.specs.InvocationCalls.{switch_to}
@@ -38,14 +38,11 @@ use Rattle.kernel_rules.specs.TimeCalls.{are_alike, are_same, is_short}
 use Rattle.kernel_rules.specs.CallRelation.{rule_of, MayBeDead}
 use Rattle.kernel_laws.specs.Causes.{OneIs, used_at, as_wanted, leads_as, Name, name, names_of, fills_at, empties_at}
 use Rattle.kernel_laws.specs.Causes.{NeedsLife, IsDead}
-use Rattle.kernel_laws.specs.Causes.{LiesOutside, HeldIn, IsDeadIn, BothAre, tcap_named, tcap_of, HasLess, HasCause}
+use Rattle.kernel_laws.specs.Causes.{LiesOutside, HeldIn, IsDeadIn, BothAre, tcap_named, tcap_of, HasLess, HasCause, LiesBeyond, leads}
 use Rattle.kernel_laws.specs.Laws.{CausesStand}
 
 -- What a rule finds under a name is what the name leads to.
-module _ (s : State) (c : ℕ) (kinds : Kind → Bool) where
-  abbrev wanted : Want
-  wanted = to_use kinds
-
+module _ (s : State) (c : ℕ) (wanted : Want) where
   by_kind : (k : Capability) (b d : Bool)
       → name_of (if b then (if d then Found k else Refused reply.NoRight) else Refused reply.WrongCap)
       ≡ (if b && d then found k else Rattle.kernel_rules.specs.Access.not_found)
@@ -55,7 +52,7 @@ module _ (s : State) (c : ℕ) (kinds : Kind → Bool) where
 
   by_use : (u : Option Capability) → name_of (and_then (or_refuse u reply.Empty) λ k. of_kind wanted k) ≡ as_wanted wanted u
   by_use None = refl
-  by_use (Some k) = by_kind k (kinds k.kind) (has_rights k.rights wanted.needs)
+  by_use (Some k) = by_kind k (wanted.kinds k.kind) (has_rights k.rights wanted.needs)
 
   by_slot : (o : Option Slot)
       → name_of (and_then (or_refuse o reply.NoSlot) λ at. and_then (or_refuse (usable s c at) reply.Empty) λ k. of_kind wanted k)
@@ -63,8 +60,11 @@ module _ (s : State) (c : ℕ) (kinds : Kind → Bool) where
   by_slot None = refl
   by_slot (Some at) = by_use (usable s c at)
 
-  pub leads_is : (n : ℕ) → name_of (named s c n wanted) ≡ leads_as s c n kinds
-  leads_is n = by_slot (reached s c (own s c n))
+  leads_wanted : (n : ℕ) → name_of (named s c n wanted) ≡ as_wanted wanted (leads s c n)
+  leads_wanted n = by_slot (reached s c (own s c n))
+
+pub leads_is : (s : State) (c : ℕ) (kinds : Kind → Bool) (n : ℕ) → name_of (named s c n (to_use kinds)) ≡ leads_as s c n kinds
+leads_is s c kinds n = leads_wanted s c (to_use kinds) n
 
 -- One of a list.
 one_map : {A : Type 0} (P Q : A → Type 0) (xs : List A) → ((x : A) → P x → Q x) → OneIs P xs → OneIs Q xs
@@ -200,6 +200,35 @@ module _ (s : State) (c : ℕ) where
       when_cause s c call _ reply.OutOfRange q
       (λ (t : IsTrue _). is (subst (λ (x : Named). LiesOutside x f)
       (leads_is s c (only kind.Range) r) (lies (name_of (named s c r (to_use (only kind.Range)))) f t))) h
+
+  -- `part`.
+  lies_beyond : (range : Named) (f n : ℕ) → IsTrue (range.found && not (has_frames range f n)) → LiesBeyond range f n
+  lies_beyond range f n h =
+      let p = and_parts range.found (not (has_frames range f n)) h in
+      record {
+        found = p.0;
+        beyond =
+            by_test (nat_le 1 n) (nat_le range.frame f) (nat_le (f + n) (range.frame + range.arg)) refl refl refl
+            (not_is (has_frames range f n) p.1);
+      }
+    where
+      by_test : (a b d : Bool) → nat_le 1 n ≡ a → nat_le range.frame f ≡ b → nat_le (f + n) (range.frame + range.arg) ≡ d
+          → (a && b && d) ≡ false → (n ≡ 0) ⊎ ((f < range.frame) ⊎ (range.frame + range.arg < f + n))
+      by_test false b d some low high e = inl (let less = leb-false 1 n some in omega arith)
+      by_test true false d some low high e = inr (inl (leb-false range.frame f low))
+      by_test true true false some low high e = inr (inr (leb-false (f + n) (range.frame + range.arg) high))
+      by_test true true true some low high e = absurd (true≢false e)
+
+  part_cause : (a f n t b : ℕ) (r : Reply) → RuleMay s c (rule_of s c (Part a f n t b)) r → HasCause s c (Part a f n t b) r
+  part_cause a f n t b r (inl h) = name_cause s c (Part a f n t b) r (inl h)
+  part_cause a f n t b r (inr (inl h)) = name_cause s c (Part a f n t b) r (inr (inl h))
+  part_cause a f n t b r (inr (inr (inl v))) =
+      fill_cause s c (Part a f n t b) r _ refl (subst (λ (x : Named). VacantMay s c (Under x b) r) (leads_is s c (only kind.Table) t) v)
+  part_cause a f n t b r (inr (inr (inr (inl h)))) =
+      when_cause s c (Part a f n t b) _ reply.OutOfRange r
+      (λ (t : IsTrue _). subst (λ (x : Named). LiesBeyond x f n) (leads_wanted s c (to_part (only kind.Range)) a)
+      (lies_beyond (name_of (named s c a (to_part (only kind.Range)))) f n t)) h
+  part_cause a f n t b r (inr (inr (inr (inr h)))) = absurd h
 
   -- The kind of a frame of the machine.
   is_machine : (f : ℕ) (b : Bool) → IsTrue (is_frame s f && b) → (f < s.limits.frames) × IsTrue b
@@ -510,6 +539,7 @@ module _ (s : State) (c : ℕ) where
   rule_cause (Transfer a b m) r h = transfer_cause a b m r h
   rule_cause (Delegate a b m) r h = delegate_cause a b m r h
   rule_cause (Test a b) r h = test_cause a b r h
+  rule_cause (Part a f n t b) r h = part_cause a f n t b r h
 
   -- A call that asks for life needs it.
   needs_life : (call : Call) → IsTrue (asks_life call) → NeedsLife call

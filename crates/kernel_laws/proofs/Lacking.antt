@@ -6,10 +6,10 @@ use Rattle.spk_nums.specs.declared.calls.Make.TheVariants as make
 use Rattle.spk_nums.specs.declared.calls.Call.{Call}
 use Rattle.spk_nums.specs.declared.calls.Call.TheVariants.{Look, Copy, Remove, Grow, Shrink, Retype, Make as make_call}
 use Rattle.spk_nums.specs.declared.calls.Call.TheVariants.{Map, Unmap, Touch, Flush, Gate, Kill, Call as call_gate}
-use Rattle.spk_nums.specs.declared.calls.Call.TheVariants.{Ret, Switch, Tick, Transfer, Delegate, Test}
+use Rattle.spk_nums.specs.declared.calls.Call.TheVariants.{Ret, Switch, Tick, Transfer, Delegate, Test, Part}
 use Rattle.spk_nums.specs.declared.replies.Reply.TheVariants as reply
 use Rattle.kernel_rules.specs.State.{State}
-use Rattle.kernel_rules.specs.Access.{Slot, Named, Want, any, only, root, own, reached, usable, to_look, to_copy, to_use}
+use Rattle.kernel_rules.specs.Access.{Slot, Named, Want, any, only, root, own, reached, usable, to_look, to_copy, to_use, to_part}
 use Rattle.kernel_rules.specs.Rules.{Lacks, NameMay, RuleMay, name_of, named}
 use Rattle.kernel_rules.specs.CapabilityCalls.{leaf_for, make_rule}
 use Rattle.kernel_rules.specs.CallRelation.{rule_of}
@@ -105,6 +105,9 @@ module _ (s : State) (c : ℕ) where
   lacks (Test a b) (inl h) = inl (at_name a (to_use (only kind.Tcap)) h)
   lacks (Test a b) (inr (inl h)) = inr (inl (at_name b (to_use (only kind.Tcap)) h))
   lacks (Test a b) (inr (inr h)) = absurd h
+  lacks (Part r f n t b) (inl h) = inl (at_name r (to_part (only kind.Range)) h)
+  lacks (Part r f n t b) (inr (inl h)) = inr (inl (at_name t (to_use (only kind.Table)) h))
+  lacks (Part r f n t b) (inr (inr h)) = absurd h
 
 pub lack_is_refused : LackIsRefused
 lack_is_refused s c call unspent h = (unspent, lacks s c call h)

@@ -12,13 +12,14 @@ use Rattle.spk_nums.specs.declared.calls.Make.TheVariants as make
 use Rattle.spk_nums.specs.declared.calls.Call.{Call}
 use Rattle.spk_nums.specs.declared.calls.Call.TheVariants.{Look, Copy, Remove, Grow, Shrink, Retype, Make as make_call, Map, Unmap}
 use Rattle.spk_nums.specs.declared.calls.Call.TheVariants.{Touch, Flush, Gate, Kill, Call as call_gate, Ret, Switch, Tick, Transfer}
-use Rattle.spk_nums.specs.declared.calls.Call.TheVariants.{Delegate, Test}
+use Rattle.spk_nums.specs.declared.calls.Call.TheVariants.{Delegate, Test, Part}
 use Rattle.spk_nums.specs.declared.replies.Reply.{Reply}
 use Rattle.spk_nums.specs.declared.replies.Reply.TheVariants as reply
 use Rattle.kernel_rules.specs.State.{TcapFields, Blank, Untyped, User, Kernel, Live, Thing, PlaceOf, FrameOf}
 use Rattle.kernel_rules.specs.State.{NumberOf, State, comp_in, thread_in, tcap_in, thread_of, comp_of}
 use Rattle.kernel_rules.specs.References.{refs}
-use Rattle.kernel_rules.specs.Access.{Slot, Named, found, not_found, root_at, Want, to_look, to_copy, to_use, Target, Under, InRoot, place_at, held_in}
+use Rattle.kernel_rules.specs.Access.{Slot, Named, found, not_found, root_at, Want, to_look, to_copy, to_part, to_use}
+use Rattle.kernel_rules.specs.Access.{Target, Under, InRoot, place_at, held_in}
 use Rattle.kernel_rules.specs.Access.{usable, reached, has_no_slot, root_slot, holds_link, any, only, root, own}
 use Rattle.kernel_rules.specs.GracePeriods.{MayWait, MayBeUnflushed}
 use Rattle.kernel_rules.specs.CapabilityCalls.{leaf_for, is_live, epoch_of}
@@ -79,6 +80,7 @@ names_of s c (Switch h q) = name h (only kind.Thread) ∷ name q (only kind.Tcap
 names_of s c (Transfer a b m) = name a (only kind.Tcap) ∷ name b (only kind.Tcap) ∷ []
 names_of s c (Delegate a b m) = name a (only kind.Tcap) ∷ name b (only kind.Tcap) ∷ []
 names_of s c (Test a b) = name a (only kind.Tcap) ∷ name b (only kind.Tcap) ∷ []
+names_of s c (Part r f n t b) = record { number = r; want = to_part (only kind.Range) } ∷ name t (only kind.Table) ∷ []
 names_of s c _ = []
 
 -- The place that a call fills, in the table or pages that it names.
@@ -88,6 +90,7 @@ fills_at s c (Grow t i l) = Some (InRoot (leads_as s c t root) i)
 fills_at s c (make_call what r f t b) = Some (Under (leads_as s c t (only kind.Table)) b)
 fills_at s c (Map p v r f w) = Some (Under (leads_as s c p (only kind.Pages)) v)
 fills_at s c (Gate k t b) = Some (Under (leads_as s c t (only kind.Table)) b)
+fills_at s c (Part r f n t b) = Some (Under (leads_as s c t (only kind.Table)) b)
 fills_at s c _ = None
 
 -- The place that a call empties.
@@ -162,10 +165,19 @@ pub record LiesOutside (range : Named) (f : ℕ) : Type 0 where
   pub found : IsTrue range.found
   pub outside : (f < range.frame) ⊎ (range.frame + range.arg ≤ f)
 
+-- Or the frames of a part are none, begin below the range's first, or end past its last.
+abbrev pub part_named : State → ℕ → ℕ → Named
+part_named s c r = as_wanted (to_part (only kind.Range)) (leads s c r)
+
+pub record LiesBeyond (range : Named) (f n : ℕ) : Type 0 where
+  pub found : IsTrue range.found
+  pub beyond : (n ≡ 0) ⊎ ((f < range.frame) ⊎ (range.frame + range.arg < f + n))
+
 abbrev pub IsOutside : State → ℕ → Call → Type 0
 IsOutside s c (Retype r f k) = LiesOutside (leads_as s c r (only kind.Range)) f
 IsOutside s c (make_call what r f t b) = LiesOutside (leads_as s c r (only kind.Range)) f
 IsOutside s c (Map p v r f w) = LiesOutside (leads_as s c r (only kind.Range)) f
+IsOutside s c (Part r f n t b) = LiesBeyond (part_named s c r) f n
 IsOutside s c _ = ⊥
 
 -- `frame-kind`: the frame is one of the machine's, and not what the call makes use of; or already untyped.

@@ -93,6 +93,10 @@ held_in Free = None
 held_in (Holds k) = Some k
 held_in (Quiescing k) = None
 
+-- Of a range of which a part is handed out, both rights are needed.
+abbrev pub to_part : (Kind → Bool) → Want
+to_part kinds = record { kinds = kinds; needs = both }
+
 -- What a core may use of a place: what it holds; and what it held, where the core waits in its grace period.
 abbrev pub usable_in : Place → Bool → Option Capability
 usable_in Free waits = None

@@ -1,6 +1,6 @@
 -- The calls on capabilities. Each rule reads: what the call names, in order; its target; its own causes; what it does.
 use Rattle.std.specs.Prelude.{ℕ, ◌+◌, Bool, true, false, not, ◌&&◌, ◌==◌, nat_lt, nat_le, if◌then◌else◌, List, [], ◌∷◌, ◌++◌, None}
-use Rattle.spk_nums.specs.Rights.{kept}
+use Rattle.spk_nums.specs.Rights.{kept, part_of}
 use Rattle.spk_nums.specs.declared.kinds.Kind.{Kind}
 use Rattle.spk_nums.specs.declared.kinds.Kind.TheVariants as kind
 use Rattle.spk_nums.specs.declared.calls.Make.{Make}
@@ -12,7 +12,7 @@ use Rattle.kernel_rules.specs.State.{Thread, Tcap, Frame, Kernel, Liveness, Unus
 use Rattle.kernel_rules.specs.State.{FrameOf, NumberOf, State, put, with_place, with_frame, with_number}
 use Rattle.kernel_rules.specs.Start.{plain_cap, no_grace}
 use Rattle.kernel_rules.specs.References.{place_names, frame_names, number_names}
-use Rattle.kernel_rules.specs.Access.{Slot, Named, capability, Under, InRoot, any, only, root, to_look, to_copy, to_use}
+use Rattle.kernel_rules.specs.Access.{Slot, Named, capability, Under, InRoot, any, only, root, to_look, to_copy, to_part, to_use}
 use Rattle.kernel_rules.specs.Rules.{Change, Cause, When, WaitedFor, Rule, Name, Vacant, Held, Does, answers, fills, removes}
 
 -- `look A` names any capability A, and answers it, whatever its rights.
@@ -68,6 +68,23 @@ has_frame range f = nat_le range.frame f && nat_lt f (range.frame + range.arg)
 -- `out-of-range`: the frame is not in the range.
 abbrev pub outside : Named → ℕ → Cause
 outside range f = When (range.found && not (has_frame range f)) reply.OutOfRange
+
+-- Whether a range has the n frames from f on, and these are some.
+abbrev pub has_frames : Named → ℕ → ℕ → Bool
+has_frames range f n = nat_le 1 n && nat_le range.frame f && nat_le (f + n) (range.frame + range.arg)
+
+-- `out-of-range` of a part: it is empty, or not within the range.
+abbrev pub beyond : Named → ℕ → ℕ → Cause
+beyond range f n = When (range.found && not (has_frames range f n)) reply.OutOfRange
+
+-- `part R F N T B` names a range R that may be copied and used, and a table T; the free place B of T then holds the range of the N
+-- frames from F on, which are within R, with R's rights.
+abbrev pub part_rule : State → ℕ → ℕ → ℕ → ℕ → ℕ → Rule
+part_rule s r f n t b =
+    Name r (to_part (only kind.Range)) λ range.
+    Name t (to_use (only kind.Table)) λ table.
+    Vacant (Under table b) λ at.
+    Does (beyond range f n ∷ []) (fills s at (part_of (capability range) f n))
 
 -- Whether a number is that of a frame of the machine.
 abbrev pub is_frame : State → ℕ → Bool

@@ -22,13 +22,13 @@ abbrev pub verb_in : Option FirstWord → Option Verb
 verb_in (Some (Call v)) = Some v
 verb_in _ = None
 
--- the word of a call that a word is
-abbrev pub verb_of : List ℕ → Option Verb
-verb_of word = verb_in (first_word word)
+-- the word of a call that a word is in a script of this version
+abbrev pub verb_of : ℕ → List ℕ → Option Verb
+verb_of version word = verb_in (first_word version word)
 
--- `copy A T B`, and in version 2 also `copy A T B R`
+-- `copy A T B`, and from version 2 on also `copy A T B R`
 abbrev pub copy_slot : ℕ → ℕ → Slot
-copy_slot version place = if place == 4 && version == 2 then MayNumber 0 3 else names place 3
+copy_slot version place = if place == 4 && nat_le 2 version then MayNumber 0 3 else names place 3
 
 -- `retype R F K`
 abbrev pub retype_slot : ℕ → Slot
@@ -80,6 +80,7 @@ verb_slot version verb.Switch words place = names place 2
 verb_slot version verb.Test words place = names place 2
 verb_slot version verb.Grow words place = names place 3
 verb_slot version verb.Gate words place = names place 3
+verb_slot version verb.Part words place = names place 5
 verb_slot version verb.Copy words place = copy_slot version place
 verb_slot version verb.Retype words place = retype_slot place
 verb_slot version verb.Make words place = make_slot words place
@@ -94,7 +95,7 @@ slot_by version (Some v) words place = verb_slot version v words place
 
 abbrev pub slot_of_word : ℕ → Option (List ℕ) → List (List ℕ) → ℕ → Slot
 slot_of_word version None words place = End
-slot_of_word version (Some word) words place = slot_by version (verb_of word) words place
+slot_of_word version (Some word) words place = slot_by version (verb_of version word) words place
 
 -- what may stand at a place of a call
 abbrev pub call_slot : ℕ → List (List ℕ) → ℕ → Slot

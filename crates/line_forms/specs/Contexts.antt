@@ -79,4 +79,4 @@ after_by context None words = record context { items = context.items - length wo
 
 -- what the lines come to with one line more, which its reader has taken; order items begin with no known word
 abbrev pub context_after : Context → List (List ℕ) → Context
-context_after context words = after_by context (start_of context.reading context.stage words) words
+context_after context words = after_by context (start_of context.version context.reading context.stage words) words

@@ -63,4 +63,4 @@ fits_by context (Some s) word = stands context.stage s && is_numbered_so s word 
 
 -- the line's first word fits
 abbrev pub first_fits : Context → List (List ℕ) → List ℕ → Bool
-first_fits context words word = fits_by context (start_of context.reading context.stage words) word
+first_fits context words word = fits_by context (start_of context.version context.reading context.stage words) word

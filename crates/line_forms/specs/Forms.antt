@@ -1,5 +1,5 @@
 -- The form of a line. Capitals stand for numbers, as in docs/FORMATS.md.
-use Rattle.std.specs.Prelude.{ℕ, ◌==◌, List, drop, Option, Some, None, slice_get, codes, if◌then◌else◌}
+use Rattle.std.specs.Prelude.{ℕ, nat_le, List, drop, Option, Some, None, slice_get, codes, if◌then◌else◌}
 use Rattle.call_reader.specs.declared.first_words.Verb.{Verb}
 use Rattle.call_reader.specs.declared.first_words.Verb.TheVariants as verb
 use Rattle.call_reader.specs.declared.first_words.FirstWord.{FirstWord}
@@ -13,7 +13,7 @@ use Rattle.line_forms.specs.Starts.{start_of}
 use Rattle.line_forms.specs.Calls.{is_at, verb_of}
 
 abbrev pub copy_form : ℕ → List ℕ
-copy_form version = if version == 2 then codes "copy A T B, or copy A T B R" else codes "copy A T B"
+copy_form version = if nat_le 2 version then codes "copy A T B, or copy A T B R" else codes "copy A T B"
 
 -- by what is made
 abbrev pub make_form : List (List ℕ) → List ℕ
@@ -45,6 +45,7 @@ verb_form version verb.Tick words = codes "tick N"
 verb_form version verb.Transfer words = codes "transfer A B M"
 verb_form version verb.Delegate words = codes "delegate A B M"
 verb_form version verb.Test words = codes "test A B"
+verb_form version verb.Part words = codes "part R F N T B"
 
 -- a line of a script
 abbrev pub head_form : ℕ → FirstWord → List (List ℕ) → List ℕ
@@ -82,14 +83,14 @@ form_by context None words = items_form context.stage
 
 -- the form of a line, by its words; nothing where its first word is not known
 abbrev pub form_of : Context → List (List ℕ) → List ℕ
-form_of context words = form_by context (start_of context.reading context.stage words) words
+form_of context words = form_by context (start_of context.version context.reading context.stage words) words
 
 abbrev pub verb_form_by : ℕ → Option Verb → List (List ℕ) → List ℕ
 verb_form_by version (Some v) words = verb_form version v words
 verb_form_by version None words = codes ""
 
 abbrev pub call_form_by : ℕ → Option (List ℕ) → List (List ℕ) → List ℕ
-call_form_by version (Some word) words = verb_form_by version (verb_of word) words
+call_form_by version (Some word) words = verb_form_by version (verb_of version word) words
 call_form_by version None words = codes ""
 
 -- the form of the call that words begin with; nothing where they begin with none
@@ -103,4 +104,4 @@ call_form_in context _ words = codes ""
 
 -- the form of the call in a line of a given history; nothing where there is none
 abbrev pub call_form_of : Context → List (List ℕ) → List ℕ
-call_form_of context words = call_form_in context (start_of context.reading context.stage words) words
+call_form_of context words = call_form_in context (start_of context.version context.reading context.stage words) words

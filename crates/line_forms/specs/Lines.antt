@@ -4,6 +4,7 @@ use Rattle.std.specs.Prelude.{codes, if◌then◌else◌}
 use Rattle.line_reader.specs.Arguments.{is_word}
 use Rattle.call_reader.specs.declared.first_words.FirstWord.{FirstWord}
 use Rattle.call_reader.specs.declared.first_words.FirstWord.TheVariants as first
+use Rattle.call_reader.specs.Versions.{most_calls}
 use Rattle.line_forms.specs.declared.context.Reading.{Reading}
 use Rattle.line_forms.specs.declared.context.Reading.TheVariants as reading
 use Rattle.line_forms.specs.declared.context.Stage.{Stage}
@@ -47,11 +48,11 @@ least_frames cores = 4 + 2 * cores
 
 -- a line of a script, from place 1 on
 abbrev pub head_slot : Context → FirstWord → List (List ℕ) → ℕ → Slot
-head_slot context first.Speck words place = number_then place 1 1 2
+head_slot context first.Speck words place = number_then place 1 1 3
 head_slot context first.Cores words place = number_then place 1 1 (cores_most context.reading words)
 head_slot context first.Frames words place = number_then place 1 (least_frames context.cores) 512
 head_slot context first.Grant words place = grant_slot place
-head_slot context first.Calls words place = number_then place 1 0 4194304
+head_slot context first.Calls words place = number_then place 1 0 (most_calls context.version)
 head_slot context first.Epochs words place = number_then place 1 1 65535
 head_slot context first.Core words place = core_then place 1 context.cores
 head_slot context first.Order words place = End
@@ -119,4 +120,4 @@ slot_in context s words place =
 
 -- what may stand at a place of a line
 abbrev pub slot_at : Context → List (List ℕ) → ℕ → Slot
-slot_at context words place = slot_in context (start_of context.reading context.stage words) words place
+slot_at context words place = slot_in context (start_of context.version context.reading context.stage words) words place

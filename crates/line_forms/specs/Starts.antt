@@ -26,15 +26,15 @@ ask_start word =
     else None))
 
 -- what `ends` reads
-unfoldable pub ends_start : Stage → List ℕ → Option Start
-ends_start stage.Asks word = ask_start word
-ends_start stage.AskList word = ask_start word
-ends_start _ word = if is_word word (codes "ends") then Some Ends else head_start (first_word word)
+unfoldable pub ends_start : ℕ → Stage → List ℕ → Option Start
+ends_start version stage.Asks word = ask_start word
+ends_start version stage.AskList word = ask_start word
+ends_start version _ word = if is_word word (codes "ends") then Some Ends else head_start (first_word version word)
 
 -- what `sched` reads
-unfoldable pub sched_start : Stage → List ℕ → Option Start
-sched_start stage.Tasks word = if is_word word (codes "task") then Some Task else None
-sched_start _ word = if is_word word (codes "sched") then Some Sched else head_start (first_word word)
+unfoldable pub sched_start : ℕ → Stage → List ℕ → Option Start
+sched_start version stage.Tasks word = if is_word word (codes "task") then Some Task else None
+sched_start version _ word = if is_word word (codes "sched") then Some Sched else head_start (first_word version word)
 
 -- the words of the head of a given history
 abbrev pub given_head : Option FirstWord → Option Start
@@ -51,15 +51,15 @@ history_start word =
     else (if is_word word (codes "decide") then Some Decide
     else (if is_word word (codes "return") then Some Return
     else (if is_numbered word then Some Whole
-    else given_head (first_word word))))
+    else given_head (first_word 1 word))))
 
--- the known first word that a word is
-abbrev pub start_in : Reading → Stage → List ℕ → Option Start
-start_in reading.Script s word = head_start (first_word word)
-start_in reading.Ends s word = ends_start s word
-start_in reading.Sched s word = sched_start s word
-start_in reading.History s word = history_start word
+-- the known first word that a word is in a script of this version
+abbrev pub start_in : ℕ → Reading → Stage → List ℕ → Option Start
+start_in version reading.Script s word = head_start (first_word version word)
+start_in version reading.Ends s word = ends_start version s word
+start_in version reading.Sched s word = sched_start version s word
+start_in version reading.History s word = history_start word
 
 -- the known first word of a line, if it has one
-abbrev pub start_of : Reading → Stage → List (List ℕ) → Option Start
-start_of r s words = option_and_then (start_in r s) (slice_get words 0)
+abbrev pub start_of : ℕ → Reading → Stage → List (List ℕ) → Option Start
+start_of version r s words = option_and_then (start_in version r s) (slice_get words 0)

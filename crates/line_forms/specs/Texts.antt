@@ -1,5 +1,5 @@
 -- What may stand at a place, as it is told.
-use Rattle.std.specs.Prelude.{ℕ, List, ◌++◌, codes, decimal}
+use Rattle.std.specs.Prelude.{ℕ, nat_le, List, ◌++◌, codes, decimal, if◌then◌else◌}
 use Rattle.line_forms.specs.declared.context.Reading.{Reading}
 use Rattle.line_forms.specs.declared.context.Reading.TheVariants as reading
 use Rattle.line_forms.specs.declared.context.Stage.{Stage}
@@ -56,18 +56,27 @@ more_words r stage.List = end_word r
 more_words r stage.Order = end_word r
 more_words r _ = codes ""
 
--- what may stand at a place
-abbrev pub due_text : Reading → Stage → Slot → List ℕ
-due_text r s slot.First = begin_words r s ++ more_words r s
-due_text r s (slot.Number least most) = codes "a number from " ++ decimal least ++ codes " to " ++ decimal most
-due_text r s (slot.MayNumber least most) = codes "nothing more, or a number from " ++ decimal least ++ codes " to " ++ decimal most
-due_text r s (slot.Core cores) = codes "a core, a number below " ++ decimal cores
-due_text r s slot.FrameKind = codes "untyped user kernel"
-due_text r s slot.Object = codes "table leaf pages pleaf thread tcap comp"
-due_text r s slot.Verb = codes "look copy remove grow shrink retype make map unmap touch flush gate kill call ret switch tick transfer delegate test"
-due_text r s (slot.Item cores) = codes "a number below " ++ decimal cores ++ codes ", alone or with < ! or . right after it"
-due_text r s slot.ReplyName = codes "ok no-slot empty wrong-cap occupied quiescing unflushed frame-kind out-of-range referenced not-empty dead deep bottom running short unlike too-many same epochs-spent raced busy fault calls-spent no-right"
-due_text r s slot.Value = codes "nothing more, a number, range table leaf pages pleaf comp gate thread tcap link page preempts stays"
-due_text r s slot.Rights = codes "nothing more, or rights and a number from 0 to 2"
-due_text r s slot.Equals = codes "= and a reply"
-due_text r s slot.End = codes "nothing more"
+-- after the words of calls, that of `part` from version 3 on
+abbrev pub part_word : ℕ → List ℕ
+part_word version = if nat_le 3 version then codes " part" else codes ""
+
+-- it stands after the words with which a line of a list may begin
+abbrev pub late_words : ℕ → Stage → List ℕ
+late_words version stage.List = part_word version
+late_words version _ = codes ""
+
+-- what may stand at a place of a text of this version
+abbrev pub due_text : ℕ → Reading → Stage → Slot → List ℕ
+due_text version r s slot.First = begin_words r s ++ late_words version s ++ more_words r s
+due_text version r s (slot.Number least most) = codes "a number from " ++ decimal least ++ codes " to " ++ decimal most
+due_text version r s (slot.MayNumber least most) = codes "nothing more, or a number from " ++ decimal least ++ codes " to " ++ decimal most
+due_text version r s (slot.Core cores) = codes "a core, a number below " ++ decimal cores
+due_text version r s slot.FrameKind = codes "untyped user kernel"
+due_text version r s slot.Object = codes "table leaf pages pleaf thread tcap comp"
+due_text version r s slot.Verb = codes "look copy remove grow shrink retype make map unmap touch flush gate kill call ret switch tick transfer delegate test" ++ part_word version
+due_text version r s (slot.Item cores) = codes "a number below " ++ decimal cores ++ codes ", alone or with < ! or . right after it"
+due_text version r s slot.ReplyName = codes "ok no-slot empty wrong-cap occupied quiescing unflushed frame-kind out-of-range referenced not-empty dead deep bottom running short unlike too-many same epochs-spent raced busy fault calls-spent no-right"
+due_text version r s slot.Value = codes "nothing more, a number, range table leaf pages pleaf comp gate thread tcap link page preempts stays"
+due_text version r s slot.Rights = codes "nothing more, or rights and a number from 0 to 2"
+due_text version r s slot.Equals = codes "= and a reply"
+due_text version r s slot.End = codes "nothing more"

@@ -20,21 +20,21 @@ pub fn is_at(words: &[Token], place: usize, name: &str) -> bool
     }
 }
 
-/// The word of a call that a word is.
-pub fn verb_of(word: &[u8]) -> Option<Verb>
-    ensures { result ≡ verb_of word.now }
+/// The word of a call that a word is in a script of this version.
+pub fn verb_of(version: u8, word: &[u8]) -> Option<Verb>
+    ensures { result ≡ verb_of version word.now }
 {
-    match first_word(word) {
+    match first_word(word, version) {
         Some(FirstWord::Call(verb)) => Some(verb),
         _ => None,
     }
 }
 
-// `copy A T B`, and in version 2 also `copy A T B R`.
+// `copy A T B`, and from version 2 on also `copy A T B R`.
 fn copy_slot(version: u8, place: usize) -> Slot
     ensures { result ≡ copy_slot version place }
 {
-    if place == 4 && version == 2 {
+    if place == 4 && 2 <= version {
         Slot::MayNumber { least: 0, most: 3 }
     } else {
         names(place, 3)
@@ -133,6 +133,7 @@ fn verb_slot(version: u8, verb: Verb, words: &[Token], place: usize) -> Slot
         Verb::Look | Verb::Touch | Verb::Kill | Verb::Call => names(place, 1),
         Verb::Remove | Verb::Shrink | Verb::Unmap | Verb::Switch | Verb::Test => names(place, 2),
         Verb::Grow | Verb::Gate => names(place, 3),
+        Verb::Part => names(place, 5),
         Verb::Copy => copy_slot(version, place),
         Verb::Retype => retype_slot(place),
         Verb::Make => make_slot(words, place),
@@ -152,7 +153,7 @@ pub fn call_slot(version: u8, words: &[Token], place: usize) -> Slot
     let Some(word) = words.first() else {
         return Slot::End;
     };
-    match verb_of(word.text) {
+    match verb_of(version, word.text) {
         Some(verb) => verb_slot(version, verb, words, place),
         None => Slot::End,
     }

@@ -181,7 +181,7 @@ fn after_start(context: Context, start: Start, words: &[Token]) -> Context
 pub fn context_after(context: Context, words: &[Token]) -> Context
     ensures { result ≡ context_after context (texts words.now) }
 {
-    match start_of(context.reading, context.stage, words) {
+    match start_of(context.version, context.reading, context.stage, words) {
         Some(start) => after_start(context, start, words),
         None => Context {
             items: context.items.saturating_sub(words.len()),

@@ -83,7 +83,7 @@ fn is_numbered_so(start: Start, word: &[u8], cores: u8) -> bool
 pub fn first_fits(context: &Context, words: &[Token], word: &[u8]) -> bool
     ensures { result ≡ first_fits context.now (texts words.now) word.now }
 {
-    match start_of(context.reading, context.stage, words) {
+    match start_of(context.version, context.reading, context.stage, words) {
         None => false,
         Some(start) => {
             let stood = stands(context.stage, start);

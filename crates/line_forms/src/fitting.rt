@@ -67,7 +67,7 @@ fn fits_word(context: &Context, words: &[Token], slot: Slot, word: &[u8]) -> boo
         Slot::Core { cores } => is_below(word, cores),
         Slot::FrameKind => is_kind(word),
         Slot::Object => is_object(word),
-        Slot::Verb => verb_of(word).is_some(),
+        Slot::Verb => verb_of(context.version, word).is_some(),
         Slot::Item { cores } => is_item(word, cores),
         Slot::ReplyName => is_reply_name(word),
         Slot::Value => is_value(word),

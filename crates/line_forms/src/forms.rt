@@ -15,7 +15,7 @@ use script_tokens::Token;
 fn copy_form(version: u8) -> &'static str
     ensures { result.now ≡ copy_form version }
 {
-    if version == 2 {
+    if 2 <= version {
         "copy A T B, or copy A T B R"
     } else {
         "copy A T B"
@@ -62,6 +62,7 @@ fn verb_form(version: u8, verb: Verb, words: &[Token]) -> &'static str
         Verb::Transfer => "transfer A B M",
         Verb::Delegate => "delegate A B M",
         Verb::Test => "test A B",
+        Verb::Part => "part R F N T B",
     }
 }
 
@@ -114,7 +115,7 @@ fn items_form(stage: Stage) -> &'static str
 pub fn form_of(context: &Context, words: &[Token]) -> &'static str
     ensures { result.now ≡ form_of context.now (texts words.now) }
 {
-    match start_of(context.reading, context.stage, words) {
+    match start_of(context.version, context.reading, context.stage, words) {
         Some(start) => start_form(context.version, start, words),
         None => items_form(context.stage),
     }
@@ -125,7 +126,7 @@ fn call_form(version: u8, words: &[Token]) -> &'static str
     ensures { result.now ≡ call_form version (texts words.now) }
 {
     match words.first() {
-        Some(word) => match verb_of(word.text) {
+        Some(word) => match verb_of(version, word.text) {
             Some(verb) => verb_form(version, verb, words),
             None => "",
         },
@@ -137,7 +138,7 @@ fn call_form(version: u8, words: &[Token]) -> &'static str
 pub fn call_form_of(context: &Context, words: &[Token]) -> &'static str
     ensures { result.now ≡ call_form_of context.now (texts words.now) }
 {
-    match start_of(context.reading, context.stage, words) {
+    match start_of(context.version, context.reading, context.stage, words) {
         Some(Start::Enter) => call_form(context.version, words_from(words, 2)),
         Some(Start::Whole) => call_form(context.version, words_from(words, 1)),
         _ => "",

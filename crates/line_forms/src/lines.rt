@@ -11,7 +11,7 @@ use crate::replies::reply_slot;
 use crate::slots::{Slot, core_then, fits_end, name, names, number_then};
 use crate::starts::{Start, start_of};
 use crate::words::words_from;
-use call_reader::FirstWord;
+use call_reader::{FirstWord, most_calls};
 use line_reader::is_word;
 use script_tokens::Token;
 
@@ -80,11 +80,11 @@ fn head_slot(context: &Context, first: FirstWord, words: &[Token], place: usize)
     ensures { result ≡ head_slot context.now first (texts words.now) place }
 {
     match first {
-        FirstWord::Speck => number_then(place, 1, 1, 2),
+        FirstWord::Speck => number_then(place, 1, 1, 3),
         FirstWord::Cores => number_then(place, 1, 1, cores_most(context.reading, words)),
         FirstWord::Frames => number_then(place, 1, least_frames(context.cores), 512),
         FirstWord::Grant => grant_slot(place),
-        FirstWord::Calls => number_then(place, 1, 0, 4_194_304),
+        FirstWord::Calls => number_then(place, 1, 0, most_calls(context.version)),
         FirstWord::Epochs => number_then(place, 1, 1, 65_535),
         FirstWord::Core => core_then(place, 1, context.cores),
         FirstWord::Order => Slot::End,
@@ -208,7 +208,7 @@ fn is_items(stage: Stage, start: Option<Start>) -> bool
 pub fn slot_at(context: &Context, words: &[Token], place: usize) -> Slot
     ensures { result ≡ slot_at context.now (texts words.now) place }
 {
-    let start = start_of(context.reading, context.stage, words);
+    let start = start_of(context.version, context.reading, context.stage, words);
     if is_items(context.stage, start) {
         return Slot::Item {
             cores: context.cores,

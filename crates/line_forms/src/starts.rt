@@ -55,8 +55,8 @@ fn ask_start(word: &[u8]) -> Option<Start>
 }
 
 #[tactic(auto, unfolding(crate::specs::Starts::ends_start))]
-fn ends_start(stage: Stage, word: &[u8]) -> Option<Start>
-    ensures { result ≡ ends_start stage word.now }
+fn ends_start(version: u8, stage: Stage, word: &[u8]) -> Option<Start>
+    ensures { result ≡ ends_start version stage word.now }
 {
     match stage {
         Stage::Asks | Stage::AskList => ask_start(word),
@@ -64,15 +64,15 @@ fn ends_start(stage: Stage, word: &[u8]) -> Option<Start>
             if is_word(word, "ends") {
                 Some(Start::Ends)
             } else {
-                head_start(first_word(word))
+                head_start(first_word(word, version))
             }
         }
     }
 }
 
 #[tactic(auto, unfolding(crate::specs::Starts::sched_start))]
-fn sched_start(stage: Stage, word: &[u8]) -> Option<Start>
-    ensures { result ≡ sched_start stage word.now }
+fn sched_start(version: u8, stage: Stage, word: &[u8]) -> Option<Start>
+    ensures { result ≡ sched_start version stage word.now }
 {
     match stage {
         Stage::Tasks => {
@@ -86,7 +86,7 @@ fn sched_start(stage: Stage, word: &[u8]) -> Option<Start>
             if is_word(word, "sched") {
                 Some(Start::Sched)
             } else {
-                head_start(first_word(word))
+                head_start(first_word(word, version))
             }
         }
     }
@@ -116,28 +116,28 @@ fn history_start(word: &[u8]) -> Option<Start>
     } else if is_numbered(word) {
         Some(Start::Whole)
     } else {
-        given_head(first_word(word))
+        given_head(first_word(word, 1))
     }
 }
 
-// The known first word that a word is.
-fn start_in(reading: Reading, stage: Stage, word: &[u8]) -> Option<Start>
-    ensures { result ≡ start_in reading stage word.now }
+// The known first word that a word is in a script of this version.
+fn start_in(version: u8, reading: Reading, stage: Stage, word: &[u8]) -> Option<Start>
+    ensures { result ≡ start_in version reading stage word.now }
 {
     match reading {
-        Reading::Script => head_start(first_word(word)),
-        Reading::Ends => ends_start(stage, word),
-        Reading::Sched => sched_start(stage, word),
+        Reading::Script => head_start(first_word(word, version)),
+        Reading::Ends => ends_start(version, stage, word),
+        Reading::Sched => sched_start(version, stage, word),
         Reading::History => history_start(word),
     }
 }
 
-/// The known first word of a line, if it has one.
-pub fn start_of(reading: Reading, stage: Stage, words: &[Token]) -> Option<Start>
-    ensures { result ≡ start_of reading stage (texts words.now) }
+/// The known first word of a line of a script of this version, if it has one.
+pub fn start_of(version: u8, reading: Reading, stage: Stage, words: &[Token]) -> Option<Start>
+    ensures { result ≡ start_of version reading stage (texts words.now) }
 {
     match words.first() {
-        Some(word) => start_in(reading, stage, word.text),
+        Some(word) => start_in(version, reading, stage, word.text),
         None => None,
     }
 }

@@ -1,7 +1,7 @@
 //! What may stand at a place, as it is told.
 
 ghost use Rattle.std.specs.Prelude.{◌≡◌, Some};
-ghost use Rattle.line_forms.specs.Texts.{script_words, history_words, sched_words, end_word, more_words, begin_words, due_text};
+ghost use Rattle.line_forms.specs.Texts.{script_words, history_words, sched_words, end_word, more_words, begin_words, part_word, late_words, due_text};
 
 use crate::context::{Context, Reading, Stage};
 use crate::slots::Slot;
@@ -88,23 +88,42 @@ fn more_words(reading: Reading, stage: Stage) -> &'static str
     }
 }
 
-/// What may stand at a place, to be told.
+// After the words of calls, that of `part` from version 3 on.
+fn part_word(version: u8) -> &'static str
+    ensures { result.now ≡ part_word version }
+{
+    if 3 <= version { " part" } else { "" }
+}
+
+// It stands after the words with which a line of a list may begin.
+fn late_words(version: u8, stage: Stage) -> &'static str
+    ensures { result.now ≡ late_words version stage }
+{
+    match stage {
+        Stage::List => part_word(version),
+        _ => "",
+    }
+}
+
+/// What may stand at a place of a text of this version, to be told.
 #[derive(Clone, Copy, Debug)]
 pub struct Due {
+    pub version: u8,
     pub reading: Reading,
     pub stage: Stage,
     pub slot: Slot,
 }
 
 impl fmt::Display for Due {
-    ghost output = { λ d. Some (due_text d.reading d.stage d.slot) };
+    ghost output = { λ d. Some (due_text d.version d.reading d.stage d.slot) };
 
     fn fmt<W: fmt::Write>(&self, f: &mut fmt::Formatter<W>) -> fmt::Result {
         match self.slot {
             Slot::First => {
                 let words = begin_words(self.reading, self.stage);
+                let late = late_words(self.version, self.stage);
                 let more = more_words(self.reading, self.stage);
-                write!(f, "{words}{more}")
+                write!(f, "{words}{late}{more}")
             }
             Slot::Number { least, most } => write!(f, "a number from {least} to {most}"),
             Slot::MayNumber { least, most } => {
@@ -113,10 +132,13 @@ impl fmt::Display for Due {
             Slot::Core { cores } => write!(f, "a core, a number below {cores}"),
             Slot::FrameKind => write!(f, "untyped user kernel"),
             Slot::Object => write!(f, "table leaf pages pleaf thread tcap comp"),
-            Slot::Verb => write!(
-                f,
-                "look copy remove grow shrink retype make map unmap touch flush gate kill call ret switch tick transfer delegate test"
-            ),
+            Slot::Verb => {
+                let part = part_word(self.version);
+                write!(
+                    f,
+                    "look copy remove grow shrink retype make map unmap touch flush gate kill call ret switch tick transfer delegate test{part}"
+                )
+            }
             Slot::Item { cores } => write!(
                 f,
                 "a number below {cores}, alone or with < ! or . right after it"

@@ -139,5 +139,10 @@ pub fn push_call(text: &mut String, call: &Call) -> Result<(), AllocError>
         Call::Transfer { a, b, m } => push_triple(text, "transfer", of(a), of(b), m),
         Call::Delegate { a, b, m } => push_triple(text, "delegate", of(a), of(b), m),
         Call::Test { a, b } => push_pair(text, "test", of(a), of(b)),
+        Call::Part { r, f, n, t, b } => {
+            push_triple(text, "part", of(r), u32::from(f.number()), u32::from(n))?;
+            push_spaced(text, of(t))?;
+            push_spaced(text, of(b))
+        }
     }
 }

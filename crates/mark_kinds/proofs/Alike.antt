@@ -94,6 +94,7 @@ all_alike s c (call.Transfer a b m) stays = λ j k. moved_alike s j.frame k.fram
 all_alike s c (call.Delegate a b m) stays = λ j k f i v.
     list_alike (moved s j.frame k.frame m) k.frame (merged_list s j.frame k.frame) f i v ∙ moved_alike s j.frame k.frame m f i v
 all_alike s c (call.Test a b) stays = λ j k f i v. refl
+all_alike s c (call.Part r f n t b) stays = λ k table at g i v. refl
 
 -- What is owed changes no frame.
 owed_alike : (s : State) (c : ℕ) (what : Call) → ReadAlike s (owed_by s c what)
@@ -186,4 +187,5 @@ nodes_stay s c (call.Shrink t j) q places f i k node removed v = kinds_stay s c 
 nodes_stay s c (call.Map p u r g w) q places f i k node removed v = kinds_stay s c (call.Map p u r g w) q refl f i v
 nodes_stay s c (call.Unmap p u) q places f i k node removed v = kinds_stay s c (call.Unmap p u) q refl f i v
 nodes_stay s c (call.Gate m t b) q places f i k node removed v = kinds_stay s c (call.Gate m t b) q refl f i v
+nodes_stay s c (call.Part r g n t b) q places f i k node removed v = kinds_stay s c (call.Part r g n t b) q refl f i v
 nodes_stay s c _ q places f i k node removed v = absurd (true≢false (sym places))

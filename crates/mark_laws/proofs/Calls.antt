@@ -1,7 +1,7 @@
 -- Each call is judged word by word.
 use Rattle.std.proofs.Common.{◌≡◌, ℕ, ◌≤◌, ◌==◌, Bool, true, false, ◌&&◌, List, ◌∷◌, length, Some, None, Result, Ok, Err}
 use Rattle.std.proofs.Common.{refl, ◌∙◌, ap, arith, if◌then◌else◌}
-use Rattle.std.specs.Prelude.{nat_lt, slice_get, codes}
+use Rattle.std.specs.Prelude.{nat_lt, slice_get, codes, nat_le}
 use Rattle.std.proofs.lemmas.Bool.{ltb-false}
 use Rattle.spk_nums.specs.declared.calls.Make.{Make}
 use Rattle.spk_nums.specs.declared.calls.Make.TheVariants as make
@@ -13,7 +13,7 @@ use Rattle.call_reader.specs.declared.first_words.Verb.TheVariants as verb
 use Rattle.call_reader.specs.CallLines.{call_line, look_line, copy_line, rights_at, fourth_at, both_at, remove_line, grow_line, shrink_line}
 use Rattle.call_reader.specs.CallLines.{retype_line, map_line, unmap_line, touch_line, flush_line, gate_line, kill_line, enter_line, ret_line}
 use Rattle.call_reader.specs.CallLines.{switch_line, tick_line, transfer_line, delegate_line, test_line, object_of}
-use Rattle.call_reader.specs.CallLines.{make_line, object_at, made_at, plain_at, thread_at, tcap_at, comp_at}
+use Rattle.call_reader.specs.CallLines.{make_line, object_at, made_at, plain_at, thread_at, tcap_at, comp_at, part_line}
 use Rattle.line_forms.specs.declared.context.Context.{Context}
 use Rattle.line_forms.specs.declared.slots.Slot.{Slot}
 use Rattle.line_forms.specs.declared.slots.Slot.TheVariants.{MayNumber, Object as Object_slot, End}
@@ -143,7 +143,14 @@ module _ (context : Context) (word : List ℕ) (rest : List (List ℕ)) where
       judge_number here ws 1 0 65535 _ (at 1 refl) (λ a l1. judge_number here ws 2 0 65535 _ (at 2 refl)
       (λ b l2. judge_end here ws 3 _ l2 (at 3 refl)))
 
-  -- after `copy A T B` the rights may stand, in version 2
+  part : At verb.Part → Judged here ws 1 (part_line ws)
+  unfolding part_line
+  part at =
+      judge_number here ws 1 0 65535 _ (at 1 refl) (λ a l1. judge_number here ws 2 0 65535 _ (at 2 refl)
+      (λ b l2. judge_number here ws 3 0 65535 _ (at 3 refl) (λ c l3. judge_number here ws 4 0 65535 _ (at 4 refl)
+      (λ d l4. judge_number here ws 5 0 65535 _ (at 5 refl) (λ e l5. judge_end here ws 6 _ l5 (at 6 refl))))))
+
+  -- after `copy A T B` the rights may stand, from version 2 on
   fourth : slot_at here ws 4 ≡ MayNumber 0 3 → slot_at here ws 5 ≡ End → Judged here ws 4 (fourth_at ws)
   unfolding fourth_at
   fourth four five =
@@ -158,7 +165,7 @@ module _ (context : Context) (word : List ℕ) (rest : List (List ℕ)) where
   unfolding both_at
   ended four low = judge_end here ws 4 _ low four
 
-  rights_by : At verb.Copy → 4 ≤ length ws → (a b : Bool) → (context.version == 2) ≡ a → nat_lt 4 (length ws) ≡ b
+  rights_by : At verb.Copy → 4 ≤ length ws → (a b : Bool) → nat_le 2 context.version ≡ a → nat_lt 4 (length ws) ≡ b
       → Judged here ws 4 (if a && b then fourth_at ws else both_at ws)
   rights_by at low true true second more =
       let four : slot_at here ws 4 ≡ MayNumber 0 3 = at 4 refl ∙ rw second refl in
@@ -175,7 +182,7 @@ module _ (context : Context) (word : List ℕ) (rest : List (List ℕ)) where
   copy at =
       judge_number here ws 1 0 65535 _ (at 1 refl) (λ a l1. judge_number here ws 2 0 65535 _ (at 2 refl)
       (λ t l2. judge_number here ws 3 0 65535 _ (at 3 refl)
-      (λ b l3. mapped 4 _ _ (rights_by at l3 (context.version == 2) (nat_lt 4 (length ws)) refl refl))))
+      (λ b l3. mapped 4 _ _ (rights_by at l3 (nat_le 2 context.version) (nat_lt 4 (length ws)) refl refl))))
 
   -- what may stand after `make O R F T B`, by the object's word
   abbrev At_name : List ℕ → Type 0
@@ -266,6 +273,7 @@ module _ (context : Context) (word : List ℕ) (rest : List (List ℕ)) where
   judged verb.Transfer at = transfer at
   judged verb.Delegate at = delegate at
   judged verb.Test at = test at
+  judged verb.Part at = part at
 
   -- its first word fits
   first_fine : (v : Verb) → IsCallLine context word rest v → fits here ws 0 ≡ true

@@ -50,5 +50,5 @@ in_list context = at_stage context stage.List
 
 -- the line of a call: its first word is that call's
 pub record IsCallLine (context : Context) (word : List ℕ) (rest : List (List ℕ)) (verb : Verb) : Type 0 where
-  pub is_verb : first_word word ≡ Some (first.Call verb)
-  pub begins : start_of context.reading stage.List (word ∷ rest) ≡ Some (start.Head (first.Call verb))
+  pub is_verb : first_word context.version word ≡ Some (first.Call verb)
+  pub begins : start_of context.version context.reading stage.List (word ∷ rest) ≡ Some (start.Head (first.Call verb))

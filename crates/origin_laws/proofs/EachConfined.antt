@@ -12,20 +12,21 @@ use Rattle.spk_nums.specs.declared.calls.Call.{Call}
 use Rattle.spk_nums.specs.declared.calls.Call.TheVariants as call
 use Rattle.spk_nums.specs.declared.replies.Reply.TheVariants as reply
 use Rattle.kernel_rules.specs.State.{State}
-use Rattle.kernel_rules.specs.Access.{Want, found, any, only, to_copy, to_use}
+use Rattle.kernel_rules.specs.Access.{Want, found, any, only, to_copy, to_use, to_part}
 use Rattle.kernel_rules.specs.Rules.{Found, named}
 use Rattle.kernel_rules.specs.CapabilityCalls.{has_frame, make_rule}
 use Rattle.kernel_rules.specs.CallRelation.{rule_of}
 use Rattle.kernel_rules.specs.Runs.{Event, Enters, Decides, Returns, after}
 use Rattle.call_names.specs.Names.{IsName}
 use Rattle.origin_rules.specs.declared.chains.Step.{Step}
-use Rattle.origin_rules.specs.declared.chains.Step.TheVariants.{Copied, Made, Gated}
+use Rattle.origin_rules.specs.declared.chains.Step.TheVariants.{Copied, Made, Gated, Parted}
 use Rattle.origin_rules.specs.declared.chains.ChainLink.{ChainLink}
 use Rattle.origin_rules.specs.Chains.{decided, origin_of}
 use Rattle.origin_rules.specs.Derived.{kind_of, Gives, HasChain}
 use Rattle.origin_rules.proofs.EachChain.{chains_are_real}
 use Rattle.origin_rules.proofs.Falling.{rights_only_fall}
 use Rattle.origin_laws.specs.Confined.{IsWithin, Covers, IsForeign, HasReached, IsCovered, CoresAreConfined}
+use Rattle.kernel_rules.proofs.PartFrames.{frame_in}
 
 -- ---- two ends of one run
 
@@ -67,12 +68,12 @@ step_covers s c (call.Copy a t b rights) Copied parent k g =
     inl (record { kind = falls.kind; frame = falls.frame; arg = falls.arg; rights = falls.rights })
 step_covers s c (call.Make what r f t b) Made parent k g =
     let falls = rights_only_fall s c (call.Make what r f t b) Made parent k g in
-    inr (inr (record {
+    inr (inr (inl (record {
       is_range = falls.kind;
       may_use = falls.may_use;
       other = λ e. made_kind what (sym (ap (λ (j : Capability). j.kind) g.is) ∙ e);
       frame = subst (λ (j : Capability). has_frame (found parent) j.frame ≡ true) (sym g.is) g.frame;
-    }))
+    })))
 step_covers s c (call.Gate comp t b) Gated parent k g =
     let falls = rights_only_fall s c (call.Gate comp t b) Gated parent k g in
     inr (inl (record {
@@ -81,6 +82,14 @@ step_covers s c (call.Gate comp t b) Gated parent k g =
       is_gate = ap (λ (j : Capability). j.kind) g.is;
       frame = falls.frame;
     }))
+step_covers s c (call.Part r f n t b) Parted parent k g =
+    let falls = rights_only_fall s c (call.Part r f n t b) Parted parent k g in
+    inr (inr (inr (record {
+      is_range = falls.parent_kind;
+      kind = falls.kind;
+      frames = λ f has. frame_in (found parent) (found k) f falls.frames has;
+      rights = λ needs h. subst (λ (own : ℕ). IsTrue (has_rights own needs)) falls.rights h;
+    })))
 step_covers s c call what parent k g = absurd g
 
 within_range : (r p : Capability) (f : ℕ) → IsWithin r p → has_frame (found p) f ≡ true → has_frame (found r) f ≡ true
@@ -102,12 +111,12 @@ covers_on r p k (inl w) (inr (inl v)) = inr (inl (record {
   is_gate = v.is_gate;
   frame = v.frame ∙ w.frame;
 }))
-covers_on r p k (inl w) (inr (inr v)) = inr (inr (record {
+covers_on r p k (inl w) (inr (inr (inl v))) = inr (inr (inl (record {
   is_range = sym w.kind ∙ v.is_range;
   may_use = w.rights right_to_use v.may_use;
   other = v.other;
   frame = within_range r p k.frame w v.frame;
-}))
+})))
 covers_on r p k (inr (inl w)) (inl v) = inr (inl (record {
   is_comp = w.is_comp;
   may_use = w.may_use;
@@ -115,20 +124,47 @@ covers_on r p k (inr (inl w)) (inl v) = inr (inl (record {
   frame = v.frame ∙ w.frame;
 }))
 covers_on r p k (inr (inl w)) (inr (inl v)) = let e = sym w.is_gate ∙ v.is_comp in absurd (cc)
-covers_on r p k (inr (inl w)) (inr (inr v)) = let e = sym w.is_gate ∙ v.is_range in absurd (cc)
-covers_on r p k (inr (inr w)) (inl v) = inr (inr (record {
+covers_on r p k (inr (inl w)) (inr (inr (inl v))) = let e = sym w.is_gate ∙ v.is_range in absurd (cc)
+covers_on r p k (inr (inr (inl w))) (inl v) = inr (inr (inl (record {
   is_range = w.is_range;
   may_use = w.may_use;
   other = λ e. w.other (sym v.kind ∙ e);
   frame = subst (λ n. has_frame (found r) n ≡ true) (sym v.frame) w.frame;
-}))
-covers_on r p k (inr (inr w)) (inr (inl v)) = inr (inr (record {
+})))
+covers_on r p k (inr (inr (inl w))) (inr (inl v)) = inr (inr (inl (record {
   is_range = w.is_range;
   may_use = w.may_use;
   other = λ e. let d = sym v.is_gate ∙ e in absurd (cc);
   frame = subst (λ n. has_frame (found r) n ≡ true) (sym v.frame) w.frame;
-}))
-covers_on r p k (inr (inr w)) (inr (inr v)) = absurd (w.other v.is_range)
+})))
+covers_on r p k (inr (inr (inl w))) (inr (inr (inl v))) = absurd (w.other v.is_range)
+covers_on r p k (inl w) (inr (inr (inr v))) = inr (inr (inr (record {
+  is_range = sym w.kind ∙ v.is_range;
+  kind = v.kind;
+  frames = λ f has. within_range r p f w (v.frames f has);
+  rights = λ needs h. w.rights needs (v.rights needs h);
+})))
+covers_on r p k (inr (inl w)) (inr (inr (inr v))) = let e = sym w.is_gate ∙ v.is_range in absurd (cc)
+covers_on r p k (inr (inr (inl w))) (inr (inr (inr v))) = absurd (w.other v.is_range)
+covers_on r p k (inr (inr (inr w))) (inl v) = inr (inr (inr (record {
+  is_range = w.is_range;
+  kind = v.kind ∙ w.kind;
+  frames = λ f has. w.frames f (within_range p k f v has);
+  rights = λ needs h. w.rights needs (v.rights needs h);
+})))
+covers_on r p k (inr (inr (inr w))) (inr (inl v)) = let e = sym w.kind ∙ v.is_comp in absurd (cc)
+covers_on r p k (inr (inr (inr w))) (inr (inr (inl v))) = inr (inr (inl (record {
+  is_range = w.is_range;
+  may_use = w.rights right_to_use v.may_use;
+  other = v.other;
+  frame = w.frames k.frame v.frame;
+})))
+covers_on r p k (inr (inr (inr w))) (inr (inr (inr v))) = inr (inr (inr (record {
+  is_range = w.is_range;
+  kind = v.kind;
+  frames = λ f has. w.frames f (v.frames f has);
+  rights = λ needs h. w.rights needs (v.rights needs h);
+})))
 
 -- ---- the law
 
@@ -164,6 +200,12 @@ named_by s c (call.Make what r f t b) Made parent k g = record {
 named_by s c (call.Gate comp t b) Gated parent k g = record {
   number = comp;
   want = to_use (only kind.Comp);
+  is_name = inl (refl, refl);
+  is = g.names;
+}
+named_by s c (call.Part r f n t b) Parted parent k g = record {
+  number = r;
+  want = to_part (only kind.Range);
   is_name = inl (refl, refl);
   is = g.names;
 }

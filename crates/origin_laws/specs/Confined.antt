@@ -39,9 +39,16 @@ pub record IsMadeIn (r k : Capability) : Type 0 where
   pub other : k.kind ≢ kind.Range
   pub frame : has_frame (found r) k.frame ≡ true
 
+-- A range whose frames the range r has, with no right that r lacks.
+pub record IsPartOf (r k : Capability) : Type 0 where
+  pub is_range : r.kind ≡ kind.Range
+  pub kind : k.kind ≡ kind.Range
+  pub frames : (f : ℕ) → has_frame (found k) f ≡ true → has_frame (found r) f ≡ true
+  pub rights : (needs : ℕ) → IsTrue (has_rights k.rights needs) → IsTrue (has_rights r.rights needs)
+
 -- What r covers.
 abbrev pub Covers : Capability → Capability → Type 0
-Covers r k = IsWithin r k ⊎ (IsGateOf r k ⊎ IsMadeIn r k)
+Covers r k = IsWithin r k ⊎ (IsGateOf r k ⊎ (IsMadeIn r k ⊎ IsPartOf r k))
 
 -- A decision of another core than c is this one of the run.
 pub record IsOfOther (c : ℕ) (events : List Event) (x : ChainLink) : Type 0 where

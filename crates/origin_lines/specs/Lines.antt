@@ -7,7 +7,7 @@ use Rattle.spk_nums.specs.Texts.{cap_text}
 use Rattle.kernel_rules.specs.Runs.{Event, IsRun}
 use Rattle.kernel_history.specs.Tables.{lines_below}
 use Rattle.origin_rules.specs.declared.chains.Step.{Step}
-use Rattle.origin_rules.specs.declared.chains.Step.TheVariants.{Copied, Made, Gated}
+use Rattle.origin_rules.specs.declared.chains.Step.TheVariants.{Copied, Made, Gated, Parted}
 use Rattle.origin_rules.specs.declared.chains.ChainLink.{ChainLink}
 use Rattle.origin_rules.specs.Chains.{ChainValue, chain_of}
 use Rattle.confinement.specs.Known.{Known, StandsFor}
@@ -17,6 +17,7 @@ abbrev pub step_word : Step → List ℕ
 step_word Copied = codes "copy"
 step_word Made = codes "make"
 step_word Gated = codes "gate"
+step_word Parted = codes "part"
 
 -- A decision with how it put.
 abbrev pub link_words : ℕ → List ℕ → List ℕ

@@ -15,6 +15,7 @@ fn step_word(what: Step) -> &'static str
         Step::Copied => "copy",
         Step::Made => "make",
         Step::Gated => "gate",
+        Step::Parted => "part",
     }
 }
 

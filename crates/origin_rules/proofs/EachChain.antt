@@ -20,7 +20,7 @@ use Rattle.kernel_rules.proofs.Changes.{IfFound}
 use Rattle.kernel_rules.specs.State.{PlaceOf}
 use Rattle.kernel_invariant.proofs.Facts.{outcome_from, none_some, some_inj}
 use Rattle.origin_rules.specs.declared.chains.Step.{Step}
-use Rattle.origin_rules.specs.declared.chains.Step.TheVariants.{Copied, Made, Gated}
+use Rattle.origin_rules.specs.declared.chains.Step.TheVariants.{Copied, Made, Gated, Parted}
 use Rattle.origin_rules.specs.declared.chains.ChainLink.{ChainLink}
 use Rattle.origin_rules.specs.Chains.{Origin, Put, puts, puts_by, with_put, decided, origin_of, is_own}
 use Rattle.origin_rules.specs.Derived.{Falls, HasChain, ChainsAreReal}
@@ -112,6 +112,7 @@ parent_own : (what : Step) (parent k : Capability) → is_own k.kind ≡ true �
 parent_own Copied parent k own falls = ap is_own (sym falls.kind) ∙ own
 parent_own Made parent k own falls = ap is_own falls.kind
 parent_own Gated parent k own falls = ap is_own falls.kind
+parent_own Parted parent k own falls = ap is_own falls.parent_kind
 
 abbrev pub EachHas : Setting → List Event → Type 0
 EachHas setting events = (f i : ℕ) (k : Capability) → shown ((after setting events).place f i) ≡ Some k → is_own k.kind ≡ true

@@ -1,16 +1,17 @@
 -- Rights only fall along a chain of copies.
-use Rattle.std.proofs.Common.{◌≡◌, ℕ, sym, ◌∙◌, ap, subst, IsTrue}
+use Rattle.std.proofs.Common.{◌≡◌, ℕ, true, refl, sym, ◌∙◌, ap, subst, IsTrue}
 use Rattle.std.proofs.lemmas.Bool.{eqb-true, eq-eqb}
 use Rattle.std.specs.Int.Bits.{bit_and, and_self}
 use Rattle.std.proofs.lemmas.Nat.{and_assoc}
 use Rattle.spk_nums.specs.Capability.{Capability}
-use Rattle.spk_nums.specs.Rights.{kept_rights, has_rights}
+use Rattle.spk_nums.specs.Rights.{both, right_to_copy, right_to_use, kept_rights, has_rights}
 use Rattle.spk_nums.specs.declared.kinds.Kind.{Kind}
 use Rattle.spk_nums.specs.declared.kinds.Kind.TheVariants as kind
 use Rattle.spk_nums.specs.declared.calls.Call.TheVariants as call
-use Rattle.kernel_rules.specs.Access.{any, only, to_copy, to_use}
+use Rattle.kernel_rules.specs.Access.{any, only, to_copy, to_part, to_use, found}
+use Rattle.kernel_rules.specs.CapabilityCalls.{has_frames}
 use Rattle.kernel_invariant.proofs.Sound.{only_is}
-use Rattle.origin_rules.specs.declared.chains.Step.TheVariants.{Copied, Made, Gated}
+use Rattle.origin_rules.specs.declared.chains.Step.TheVariants.{Copied, Made, Gated, Parted}
 use Rattle.origin_rules.specs.Derived.{RightsOnlyFall}
 use Rattle.origin_rules.proofs.Placed.{named_at}
 
@@ -25,6 +26,11 @@ kept_fewer : (k : Kind) (own these needs : ℕ) → IsTrue (has_rights (kept_rig
 kept_fewer kind.Link own these needs h = h
 kept_fewer kind.Page own these needs h = h
 kept_fewer _ own these needs h = eq-eqb (bit_and own needs) needs (fewer own these needs (eqb-true (bit_and (bit_and own these) needs) needs h))
+
+-- What has both rights has each.
+part_right : (own needs : ℕ) → bit_and both needs ≡ needs → IsTrue (has_rights own both) → IsTrue (has_rights own needs)
+part_right own needs is h =
+    eq-eqb (bit_and own needs) needs (fewer own both needs (ap (λ x. bit_and x needs) (eqb-true (bit_and own both) both h) ∙ is))
 
 pub rights_only_fall : RightsOnlyFall
 rights_only_fall s c (call.Copy a t b rights) Copied parent k g =
@@ -46,5 +52,15 @@ rights_only_fall s c (call.Gate comp t b) Gated parent k g =
       kind = only_is kind.Comp parent.kind x.kind;
       may_use = x.rights;
       frame = ap (λ (j : Capability). j.frame) g.is;
+    }
+rights_only_fall s c (call.Part r f n t b) Parted parent k g =
+    let x = named_at s c r (to_part (only kind.Range)) parent g.names in
+    record {
+      parent_kind = only_is kind.Range parent.kind x.kind;
+      kind = ap (λ (j : Capability). j.kind) g.is;
+      frames = subst (λ (j : Capability). has_frames (found parent) j.frame j.arg ≡ true) (sym g.is) g.frames;
+      rights = ap (λ (j : Capability). j.rights) g.is;
+      may_copy = part_right parent.rights right_to_copy refl x.rights;
+      may_use = part_right parent.rights right_to_use refl x.rights;
     }
 rights_only_fall s c call what parent k g = absurd g

@@ -3,7 +3,7 @@ use Rattle.std.proofs.Common.{◌≡◌, ◌⊎◌, inl, inr, ℕ, true, false, 
 use Rattle.std.proofs.Common.{◌∷◌, Option, Some, None}
 use Rattle.std.proofs.lemmas.Bool.{cases_eq, false≢true}
 use Rattle.spk_nums.specs.Capability.{Capability, cap_of}
-use Rattle.spk_nums.specs.Rights.{kept, has_rights}
+use Rattle.spk_nums.specs.Rights.{kept, has_rights, part_of}
 use Rattle.spk_nums.specs.declared.kinds.Kind.{Kind}
 use Rattle.spk_nums.specs.declared.kinds.Kind.TheVariants as kind
 use Rattle.spk_nums.specs.declared.kinds.FrameKind.{FrameKind}
@@ -17,7 +17,7 @@ use Rattle.spk_nums.specs.declared.replies.Reply.TheVariants as reply
 use Rattle.kernel_rules.specs.State.{Place, Free, Holds, Quiescing, Object, Table, Leaf, Pages, Pleaf, State, put, comp_of, comp_in}
 use Rattle.kernel_rules.specs.State.{thread_in}
 use Rattle.kernel_rules.specs.Start.{plain_cap}
-use Rattle.kernel_rules.specs.Access.{Want, Slot, found, any, only, to_copy, to_use, Target, Under, InRoot, own, reached, usable}
+use Rattle.kernel_rules.specs.Access.{Want, Slot, found, any, only, to_copy, to_use, Target, Under, InRoot, own, reached, usable, to_part}
 use Rattle.kernel_rules.specs.Rules.{Change, Cause, Found, or_refuse, and_then, of_kind, named, name_of, vacant, held, first_cause}
 use Rattle.kernel_rules.specs.Rules.{fills, removes}
 use Rattle.kernel_rules.specs.CapabilityCalls.{has_frame, outside, not_blank, cleared, make_node, make_rule, not_taken}
@@ -27,8 +27,9 @@ use Rattle.kernel_rules.specs.CallRelation.{rule_of}
 use Rattle.kernel_rules.proofs.Within.{put_same, put_other, either}
 use Rattle.kernel_invariant.proofs.Facts.{ChangesFrom, none_some, some_inj, then_parts, or_found, Suits, suits, vacant_facts, held_facts}
 use Rattle.kernel_invariant.proofs.Facts.{none_parts, when_not, not_not}
+use Rattle.kernel_invariant.proofs.SoundCalls.{within_by}
 use Rattle.origin_rules.specs.declared.chains.Step.{Step}
-use Rattle.origin_rules.specs.declared.chains.Step.TheVariants.{Copied, Made, Gated}
+use Rattle.origin_rules.specs.declared.chains.Step.TheVariants.{Copied, Made, Gated, Parted}
 use Rattle.origin_rules.specs.Chains.{Put, put_from, slot_named, slot_under, puts, is_own}
 use Rattle.origin_rules.specs.Derived.{kind_of, Gives}
 
@@ -255,3 +256,10 @@ module _ (s : State) (c : ℕ) where
   call_placed (call.Transfer a b m) = λ j e k f calm. kept_places (call.Transfer a b m) _ refl refl
   call_placed (call.Delegate a b m) = λ j e k f calm. kept_places (call.Delegate a b m) _ refl refl
   call_placed (call.Test a b) = λ j e k f calm. kept_places (call.Test a b) _ refl refl
+  call_placed (call.Part r f n t b) = λ cap e table g at h calm.
+      let x = named_at s c r (to_part (only kind.Range)) cap e in
+      record {
+        shows = put_at (call.Part r f n t b) Parted r (to_part (only kind.Range)) cap (part_of cap f n) at x
+            (named_put Parted r t b (to_part (only kind.Range)) cap table at x g h)
+            (record { names = e; frames = within_by s c cap f n calm; is = refl }) s.place (λ f i j e. e);
+      }

@@ -5,7 +5,7 @@ use Rattle.spk_nums.specs.Setting.{Setting}
 use Rattle.spk_nums.specs.declared.kinds.Kind.{Kind}
 use Rattle.spk_nums.specs.declared.kinds.Kind.TheVariants as kind
 use Rattle.spk_nums.specs.declared.calls.Call.{Call}
-use Rattle.spk_nums.specs.declared.calls.Call.TheVariants.{Copy, Make as make_call, Gate}
+use Rattle.spk_nums.specs.declared.calls.Call.TheVariants.{Copy, Make as make_call, Gate, Part}
 use Rattle.spk_nums.specs.declared.replies.Reply.{Reply}
 use Rattle.spk_nums.specs.declared.replies.Reply.TheVariants as reply
 use Rattle.kernel_rules.specs.State.{Place, Free, Holds, Quiescing, State}
@@ -13,7 +13,7 @@ use Rattle.kernel_rules.specs.Access.{Slot, Under, only, to_use, own, reached}
 use Rattle.kernel_rules.specs.Rules.{named, name_of}
 use Rattle.kernel_rules.specs.Runs.{Event, Enters, Decides, Returns, after}
 use Rattle.origin_rules.specs.declared.chains.Step.{Step}
-use Rattle.origin_rules.specs.declared.chains.Step.TheVariants.{Copied, Made, Gated}
+use Rattle.origin_rules.specs.declared.chains.Step.TheVariants.{Copied, Made, Gated, Parted}
 use Rattle.origin_rules.specs.declared.chains.ChainLink.{ChainLink}
 
 -- Where the capability of a place came from: the decisions that put it, its parent, the parent of that and so on, the newest first, and
@@ -47,12 +47,13 @@ put_from what (Some parent) (Some at) = Some record { at = at; what = what; pare
 put_from what (Some parent) None = None
 put_from what None at = None
 
--- What a call of core c puts that is carried out in state s: a copy puts one from the capability A, a `make` from the range R, and a
--- `gate` from the component C; each at the place B of the table T.
+-- What a call of core c puts that is carried out in state s: a copy puts one from the capability A, a `make` and a `part` from the range
+-- R, and a `gate` from the component C; each at the place B of the table T.
 abbrev pub puts : State → ℕ → Call → Option Put
 puts s c (Copy a t b rights) = put_from Copied (slot_named s c a) (slot_under s c t b)
 puts s c (make_call what r f t b) = put_from Made (slot_named s c r) (slot_under s c t b)
 puts s c (Gate k t b) = put_from Gated (slot_named s c k) (slot_under s c t b)
+puts s c (Part r f n t b) = put_from Parted (slot_named s c r) (slot_under s c t b)
 puts s c call = None
 
 -- A refused call puts nothing.

@@ -2,24 +2,24 @@
 -- named a capability which has the rest of the chain.
 use Rattle.std.specs.Prelude.{◌≡◌, ℕ, ◌+◌, true, List, [], ◌∷◌, ◌++◌, Some, IsTrue}
 use Rattle.spk_nums.specs.Capability.{Capability, cap_of}
-use Rattle.spk_nums.specs.Rights.{kept, has_rights, right_to_use, right_to_copy}
+use Rattle.spk_nums.specs.Rights.{kept, part_of, has_rights, right_to_use, right_to_copy}
 use Rattle.spk_nums.specs.Setting.{Setting, IsSetting}
 use Rattle.spk_nums.specs.declared.kinds.Kind.{Kind}
 use Rattle.spk_nums.specs.declared.kinds.Kind.TheVariants as kind
 use Rattle.spk_nums.specs.declared.calls.Make.{Make}
 use Rattle.spk_nums.specs.declared.calls.Make.TheVariants as make
 use Rattle.spk_nums.specs.declared.calls.Call.{Call}
-use Rattle.spk_nums.specs.declared.calls.Call.TheVariants.{Copy, Make as make_call, Gate}
+use Rattle.spk_nums.specs.declared.calls.Call.TheVariants.{Copy, Make as make_call, Gate, Part}
 use Rattle.spk_nums.specs.declared.replies.Value.{Value}
 use Rattle.spk_nums.specs.declared.replies.Reply.TheVariants as reply
 use Rattle.kernel_rules.specs.State.{Holds, State, comp_in}
 use Rattle.kernel_rules.specs.Start.{plain_cap, start_cap}
-use Rattle.kernel_rules.specs.Access.{any, only, to_copy, to_use, found}
+use Rattle.kernel_rules.specs.Access.{any, only, to_copy, to_part, to_use, found}
 use Rattle.kernel_rules.specs.Rules.{Found, named}
-use Rattle.kernel_rules.specs.CapabilityCalls.{has_frame}
+use Rattle.kernel_rules.specs.CapabilityCalls.{has_frame, has_frames}
 use Rattle.kernel_rules.specs.Runs.{Event, Decides, after, IsRun}
 use Rattle.origin_rules.specs.declared.chains.Step.{Step}
-use Rattle.origin_rules.specs.declared.chains.Step.TheVariants.{Copied, Made, Gated}
+use Rattle.origin_rules.specs.declared.chains.Step.TheVariants.{Copied, Made, Gated, Parted}
 use Rattle.origin_rules.specs.declared.chains.ChainLink.{ChainLink}
 use Rattle.origin_rules.specs.Chains.{decided, origin_of, is_own}
 
@@ -49,11 +49,18 @@ pub record IsGate (s : State) (c comp : ℕ) (parent k : Capability) : Type 0 wh
   pub names : named s c comp (to_use (only kind.Comp)) ≡ Found parent
   pub is : k ≡ cap_of kind.Gate parent.frame (comp_in (s.frame parent.frame)).epoch
 
+-- A part is the range of frames that its parent has, a range which may be copied and used, with its rights.
+pub record IsPart (s : State) (c r f n : ℕ) (parent k : Capability) : Type 0 where
+  pub names : named s c r (to_part (only kind.Range)) ≡ Found parent
+  pub frames : has_frames (found parent) f n ≡ true
+  pub is : k ≡ part_of parent f n
+
 -- A call of core c in state s puts capability k in this way, from this parent.
 abbrev pub Gives : State → ℕ → Call → Step → Capability → Capability → Type 0
 Gives s c (Copy a t b rights) Copied parent k = IsCopy s c a rights.0 parent k
 Gives s c (make_call what r f t b) Made parent k = IsMade s c r f what parent k
 Gives s c (Gate comp t b) Gated parent k = IsGate s c comp parent k
+Gives s c (Part r f n t b) Parted parent k = IsPart s c r f n parent k
 Gives s c call what parent k = ⊥
 
 -- A decision of the run with this number put capability k, from a parent of which this was so when it was decided.
@@ -99,10 +106,20 @@ pub record UsesComp (parent k : Capability) : Type 0 where
   pub may_use : IsTrue (has_rights parent.rights right_to_use)
   pub frame : k.frame ≡ parent.frame
 
+-- A part and its parent are ranges, with the same rights, among them those to copy and to use; and the parent has the part's frames.
+pub record IsPartOf (parent k : Capability) : Type 0 where
+  pub parent_kind : parent.kind ≡ kind.Range
+  pub kind : k.kind ≡ kind.Range
+  pub frames : has_frames (found parent) k.frame k.arg ≡ true
+  pub rights : k.rights ≡ parent.rights
+  pub may_copy : IsTrue (has_rights parent.rights right_to_copy)
+  pub may_use : IsTrue (has_rights parent.rights right_to_use)
+
 abbrev pub Falls : Step → Capability → Capability → Type 0
 Falls Copied parent k = FallsFrom parent k
 Falls Made parent k = UsesRange parent
 Falls Gated parent k = UsesComp parent k
+Falls Parted parent k = IsPartOf parent k
 
 -- So it is of each link, whatever the state.
 abbrev pub RightsOnlyFall : Type 0

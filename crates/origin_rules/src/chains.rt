@@ -9,6 +9,8 @@ pub enum Step {
     Made,
     /// It is a gate: its parent is the component's capability.
     Gated,
+    /// It is a part of a range: its parent is that range.
+    Parted,
 }
 
 /// One link of a chain: a decision that put a capability.

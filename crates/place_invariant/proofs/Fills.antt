@@ -25,10 +25,11 @@ use Rattle.count_invariant.proofs.Common.{PlaceIs, IsFrameWord, WordIs, HasFound
 use Rattle.count_invariant.proofs.Common.{phase_at, holds_at, holds_in, holds, times_of, Invariant, own_kept, slot_relies}
 use Rattle.count_invariant.specs.step_ways.proofs.Good.{spares_node}
 use Rattle.kernel_laws.specs.spk_nums.specs.declared.kinds.Kind.TheVariants as kind
-use Rattle.kernel_laws.specs.spk_nums.specs.declared.calls.Call.TheVariants.{Look, Make as make_call}
+use Rattle.kernel_laws.specs.spk_nums.specs.declared.calls.Call.TheVariants.{Look, Make as make_call, Part}
 use Rattle.kernel_laws.specs.spk_nums.specs.declared.calls.Call.TheVariants.{Call as call_gate}
 use Rattle.kernel_laws.specs.spk_nums.specs.declared.replies.Value.TheVariants.{Nothing}
 use Rattle.kernel_laws.specs.spk_nums.specs.declared.replies.Reply.TheVariants as reply
+use Rattle.kernel_laws.specs.spk_nums.specs.Rights.{part_of}
 use Rattle.count_invariant.specs.entry_words.specs.declared.entry.Entry.TheVariants.{Free, Quiescing}
 use Rattle.count_invariant.specs.entry_words.proofs.Spelling.{spelling}
 use Rattle.kernel_laws.specs.kernel_rules.specs.State.{Free as Vacant, Quiescing as Removed}
@@ -36,6 +37,7 @@ use Rattle.kernel_laws.specs.kernel_rules.specs.Start.{plain_cap}
 use Rattle.kernel_laws.specs.kernel_rules.specs.MemoryCalls.{is_user, not_user}
 use Rattle.kernel_laws.specs.kernel_rules.specs.Rules.{Vacant as to_be_free}
 use Rattle.kernel_laws.specs.kernel_rules.specs.Rules.{fills}
+use Rattle.kernel_laws.specs.kernel_rules.specs.CapabilityCalls.{has_frames, beyond}
 use Rattle.count_invariant.specs.kernel_history.specs.Ways.{led_to}
 use Rattle.count_invariant.specs.kernel_history.specs.Stamps.{begins_in as begins_then}
 use Rattle.count_invariant.specs.call_plans.specs.PlanOf.{any_cap}
@@ -444,6 +446,11 @@ maps_calm s c f range has user =
     by true = refl
     by false = refl
 
+-- A part has no cause against it, where the range has its frames.
+part_calm : (s : State) (c f n : ℕ) (range : Capability) → has_frames (found range) f n ≡ true
+    → first_cause s c (beyond (found range) f n ∷ []) ≡ None
+part_calm s c f n range has = ap (λ b. first_of (if not b then Some reply.OutOfRange else None) None) has
+
 -- A frame that the call maps is a user frame.
 abbrev MapsUser : State → Call → Type 0
 MapsUser s (Map p v r f w) = s.frame f ≡ User
@@ -540,6 +547,24 @@ puts_by s c target q (Transfer x y m) ks lead none next read has_read puts user 
 puts_by s c target q (Delegate x y m) ks lead none next read has_read puts user = absurd (cc)
 puts_by s c target q (Test x y) ks lead none next read has_read puts user = absurd (cc)
 puts_by s c target q (Switch x y) ks lead none next read has_read puts user = absurd (cc)
+puts_by s c target q (Part r f n u b) (k ∷ j ∷ []) lead none next read has_read puts user = by (has_frames (found k) f n) refl puts
+  where
+    by : (has : Bool) → has_frames (found k) f n ≡ has → (if has then Some (part_of k f n) else None) ≡ Some q
+        → Puts s c (Part r f n u b) (k ∷ j ∷ []) target q
+    by true has is = subst (λ (q : Capability). Puts s c (Part r f n u b) (k ∷ j ∷ []) target q) (cap_same (part_of k f n) q is)
+        (subst (λ p. Puts s c (Part r f n u b) (k ∷ j ∷ []) p (part_of k f n)) (target_in (Under (found j) b) target next)
+        (record {
+          causes = beyond (found k) f n ∷ [];
+          calm = part_calm s c f n k has;
+          rule = refl;
+          places = refl;
+          ends = λ x. refl;
+          flushes = refl;
+        }))
+    by false has is = absurd (cc)
+puts_by s c target q (Part r f n u b) [] lead none next read has_read puts user = absurd (cc)
+puts_by s c target q (Part r f n u b) (k ∷ []) lead none next read has_read puts user = absurd (cc)
+puts_by s c target q (Part r f n u b) (k ∷ j ∷ h ∷ ks) lead none next read has_read puts user = absurd lead.1.1
 
 module _ (setup : Setting) (setting : IsSetting setup) (cores : ℕ → Core) (t : Trace) (stands : Invariant setup cores t) (c : ℕ)
     (here : c < setup.cores)

@@ -8,14 +8,15 @@ use Rattle.count_invariant.proofs.Common.{first_of, first_cause, vacant, not_vac
 use Rattle.count_invariant.proofs.Common.{makes, makes_comp, rule_of, change_of, IsAlone, Trace, Open, state_after, last_left}
 use Rattle.count_invariant.proofs.Common.{own_read, not_changed, Plan, plan_for, GoesBy, own_pages, Leads, LeadsIn, rule_after}
 use Rattle.count_invariant.proofs.Common.{names_after, NextName, NextFree, next_of, left_may, outcome_left, NewObject, object_kind}
-use Rattle.count_invariant.proofs.Common.{object_made, ActiveCall, Core, IsSpot, MayFill, NamesAre, phase_at, Invariant, limits_of}
-use Rattle.kernel_laws.specs.spk_nums.specs.declared.calls.Call.TheVariants.{Make as make_call}
+use Rattle.count_invariant.proofs.Common.{object_made, ActiveCall, Core, IsSpot, MayFill, NamesAre, phase_at, Invariant, limits_of, Bool}
+use Rattle.kernel_laws.specs.spk_nums.specs.declared.calls.Call.TheVariants.{Make as make_call, Part}
 use Rattle.kernel_laws.specs.spk_nums.specs.declared.calls.Make.TheVariants as make_of
 use Rattle.place_invariant.proofs.CompMakes.{IsCompMake, comp_make, comp_rest, new_comp}
 use Rattle.kernel_laws.specs.spk_nums.specs.declared.replies.Reply.TheVariants as reply
+use Rattle.kernel_laws.specs.spk_nums.specs.Rights.{part_of}
 use Rattle.kernel_laws.specs.kernel_rules.specs.MemoryCalls.{not_user}
-use Rattle.kernel_laws.specs.kernel_rules.specs.Rules.{fills}
-use Rattle.kernel_laws.specs.kernel_rules.specs.CapabilityCalls.{not_taken}
+use Rattle.kernel_laws.specs.kernel_rules.specs.Rules.{fills, When}
+use Rattle.kernel_laws.specs.kernel_rules.specs.CapabilityCalls.{not_taken, has_frames}
 use Rattle.count_invariant.specs.core_invariant.specs.Knows.{OutsideBy, OutsideObject, OutsideComp}
 use Rattle.count_invariant.specs.step_ways.proofs.Loads.{step_to, call_is, is_active}
 use Rattle.count_invariant.specs.step_ways.proofs.Places.{IsMarked, IsUnmarked, place_reads}
@@ -86,12 +87,11 @@ none_left_of plan ks target next = by (rest_of plan ks)
 -- What is left of the rule of a call after its names that is refused where its frame is not in its range: its target is to be free, and the
 -- first of its own causes is that.
 record IsRefusable (s : State) (c : ℕ) (call : Call) (ks : List Capability) (target : Target) : Type 0 where
-  range : Capability
-  frame : ℕ
+  has : Bool
   causes : List Cause
   change : Slot → Change
-  rule : rule_after (rule_of s c call) ks ≡ Vacant target (λ at. Does (outside (found range) frame ∷ causes) (change at))
-  is_outside : has_frame (found range) frame ≡ false
+  rule : rule_after (rule_of s c call) ks ≡ Vacant target (λ at. Does (When (not has) reply.OutOfRange ∷ causes) (change at))
+  is_outside : has ≡ false
 
 target_in : (p q : Target) → NextFree p ≡ NextFree q → p ≡ q
 target_in p q h = cc
@@ -108,8 +108,7 @@ made_refusable s c call ks target is leads next =
     (sym call_is) ∙ next)
     in
     record {
-      range = make.two.range;
-      frame = is.frame;
+      has = has_frame (found make.two.range) is.frame;
       causes = not_blank s is.frame ∷ [];
       change = λ at. makes (readied is.object s is.frame) is.frame (new_object is.object) (object_kind is.object) at;
       rule = ap (λ x. rule_after (rule_of s c x) ks) call_is ∙ make.rule
@@ -129,8 +128,7 @@ comp_refusable s c (make_call (make_of.Comp x p live) r f u b) (range ∷ second
     let ks : List Capability = range ∷ second ∷ table ∷ pages ∷ [] in
     let make : IsCompMake s c r f u b x p live ks = comp_make s c r f u b x p live ks leads (none_left_of (plan_for call) ks target next) in
     record {
-      range = make.range;
-      frame = f;
+      has = has_frame (found make.range) f;
       causes = not_blank s f ∷ not_taken s live;
       change = λ at. makes_comp s f (new_comp s make.table.frame make.pages.frame live) at;
       rule = make.rule ∙ ap (λ to. comp_rest s make.range f make.table.frame make.pages.frame live to)
@@ -156,8 +154,7 @@ refusable s c (make_call what r f u b) ks target out leads next = elim out [
 ]
 refusable s c (Map p v r f w) (k ∷ j ∷ []) target out leads next =
     subst (IsRefusable s c (Map p v r f w) (k ∷ j ∷ [])) (target_in (Under (found k) v) target next) (record {
-      range = j;
-      frame = f;
+      has = has_frame (found j) f;
       causes = not_user s f ∷ [];
       change = λ at. fills s at (page_cap f w);
       rule = refl;
@@ -166,6 +163,17 @@ refusable s c (Map p v r f w) (k ∷ j ∷ []) target out leads next =
 refusable s c (Map p v r f w) [] target out leads next = absurd out
 refusable s c (Map p v r f w) (k ∷ []) target out leads next = absurd out
 refusable s c (Map p v r f w) (k ∷ j ∷ i ∷ ks) target out leads next = absurd leads.1.1
+refusable s c (Part r f n u b) (k ∷ j ∷ []) target out leads next =
+    subst (IsRefusable s c (Part r f n u b) (k ∷ j ∷ [])) (target_in (Under (found j) b) target next) (record {
+      has = has_frames (found k) f n;
+      causes = [];
+      change = λ at. fills s at (part_of k f n);
+      rule = refl;
+      is_outside = out;
+    })
+refusable s c (Part r f n u b) [] target out leads next = absurd out
+refusable s c (Part r f n u b) (k ∷ []) target out leads next = absurd (cc)
+refusable s c (Part r f n u b) (k ∷ j ∷ i ∷ ks) target out leads next = absurd leads.1.1
 refusable s c call ks target out leads next = absurd out
 
 -- A call is refused whose frame is outside its range, where its target is reached and, if the call is alone, vacant.
@@ -201,7 +209,7 @@ module _ (setup : Setting) (setting : IsSetting setup) (cores : ℕ → Core) (t
       → change_of s c a.call ≡ Refused reply.OutOfRange
   first alone =
       outcome_left s c (own_pages s c) a.plan (rule_of s c a.call) a.found by_plan leads ∙ ap (outcome s c) is.rule
-      ∙ ap (λ x. and_then x λ at. unless (first_of (if not (has_frame (found is.range) is.frame) then Some reply.OutOfRange else None)
+      ∙ ap (λ x. and_then x λ at. unless (first_of (if not is.has then Some reply.OutOfRange else None)
       (first_cause s c is.causes)) (is.change at))
       (vacant_slot s c target slot reaches (vacant_alone alone).vacant)
       ∙ ap (λ b. unless (first_of (if not b then Some reply.OutOfRange else None) (first_cause s c is.causes))

@@ -10,7 +10,7 @@ use Rattle.count_invariant.proofs.Common.{LeadsIn, NextNothing, NextHeld, NextOw
 use Rattle.place_invariant.proofs.CompMakes.{IsCompMake, comp_make}
 use Rattle.kernel_laws.specs.spk_nums.specs.declared.kinds.FrameKind.TheVariants as frame_kind
 use Rattle.kernel_laws.specs.spk_nums.specs.declared.kinds.Kind.TheVariants as kind
-use Rattle.kernel_laws.specs.spk_nums.specs.declared.calls.Call.TheVariants.{Look}
+use Rattle.kernel_laws.specs.spk_nums.specs.declared.calls.Call.TheVariants.{Look, Part}
 use Rattle.kernel_laws.specs.spk_nums.specs.declared.calls.Call.TheVariants.{Make as make_call}
 use Rattle.kernel_laws.specs.spk_nums.specs.declared.calls.Call.TheVariants.{Call as call_gate}
 use Rattle.kernel_laws.specs.kernel_rules.specs.Access.{to_use, root}
@@ -118,6 +118,12 @@ module _ (setup : Setting) (setting : IsSetting setup) (t : Trace) (legal : IsLe
   paging_by (Gate n u b) is [] lead next = absurd (cc)
   paging_by (Gate n u b) is (k ∷ []) lead next = absurd (cc)
   paging_by (Gate n u b) is (k ∷ j ∷ i ∷ ks) lead next = absurd lead.1.1
+  paging_by (Part r f n u b) is (k ∷ j ∷ []) lead next =
+      ap is_paging (in_leaf setup setting t legal c (Part r f n u b) is u b j at lead.1.0
+      (ap (reached s c) (target_in (Under (found j) b) target next) ∙ reaches))
+  paging_by (Part r f n u b) is [] lead next = absurd (cc)
+  paging_by (Part r f n u b) is (k ∷ []) lead next = absurd (cc)
+  paging_by (Part r f n u b) is (k ∷ j ∷ i ∷ ks) lead next = absurd lead.1.1
   paging_by (Touch v) is ks lead next = absurd (none_free (Touch v) ks next)
   paging_by Flush is ks lead next = absurd (none_free Flush ks next)
   paging_by (Look a) is ks lead next = absurd (none_free (Look a) ks next)

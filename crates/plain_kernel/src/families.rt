@@ -33,7 +33,8 @@ pub fn family_of(call: &Call) -> Family
         | Call::Remove { .. }
         | Call::Grow { .. }
         | Call::Shrink { .. }
-        | Call::Make { .. } => Family::Caps,
+        | Call::Make { .. }
+        | Call::Part { .. } => Family::Caps,
         Call::Retype { .. }
         | Call::Map { .. }
         | Call::Unmap { .. }

@@ -6,7 +6,7 @@ use Rattle.std.specs.List.{AllByRecursion}
 use Rattle.std.proofs.lemmas.Bool.{false≢true}
 use Rattle.spk_nums.proofs.KeptRights.{kept_above, kept_below}
 use Rattle.spk_nums.specs.Capability.{Capability, cap_of}
-use Rattle.spk_nums.specs.Rights.{kept, least_rights}
+use Rattle.spk_nums.specs.Rights.{kept, least_rights, part_of}
 use Rattle.spk_nums.specs.Setting.{Setting, IsSetting}
 use Rattle.spk_nums.specs.CallLimits.{InLimits}
 use Rattle.spk_nums.specs.declared.kinds.Kind.{Kind}
@@ -18,7 +18,7 @@ use Rattle.spk_nums.specs.declared.calls.Make.TheVariants as make
 use Rattle.spk_nums.specs.declared.calls.Call.{Call}
 use Rattle.spk_nums.specs.declared.calls.Call.TheVariants.{Look, Copy, Remove, Grow, Shrink, Retype, Make as make_call}
 use Rattle.spk_nums.specs.declared.calls.Call.TheVariants.{Map, Unmap, Touch, Flush, Gate, Kill, Call as call_gate}
-use Rattle.spk_nums.specs.declared.calls.Call.TheVariants.{Ret, Switch, Tick, Transfer, Delegate, Test}
+use Rattle.spk_nums.specs.declared.calls.Call.TheVariants.{Ret, Switch, Tick, Transfer, Delegate, Test, Part}
 use Rattle.spk_nums.specs.declared.translations.Translation.{Translation}
 use Rattle.spk_nums.specs.declared.replies.Reply.{Reply}
 use Rattle.spk_nums.specs.declared.replies.Reply.TheVariants as reply
@@ -27,19 +27,20 @@ use Rattle.kernel_rules.specs.State.{Core, State, put, with_place, comp_in, comp
 use Rattle.kernel_rules.specs.Start.{plain_cap, start_range, start_cap, place_with, start}
 use Rattle.kernel_rules.specs.GracePeriods.{entered, returned}
 use Rattle.kernel_rules.specs.Access.{Slot, Named, Want, Under, InRoot, found, root_at}
-use Rattle.kernel_rules.specs.Access.{place_at, held_in, usable_in, usable, reached, any, to_copy}
+use Rattle.kernel_rules.specs.Access.{place_at, held_in, usable_in, usable, reached, any, to_copy, to_part, only}
 use Rattle.kernel_rules.specs.Rules.{Change, Judged, Refused, Found, and_then, or_refuse, unless, named, mapped}
-use Rattle.kernel_rules.specs.CapabilityCalls.{make_rule}
+use Rattle.kernel_rules.specs.CapabilityCalls.{make_rule, has_frames}
 use Rattle.kernel_rules.specs.MemoryCalls.{retype_rule, touch_by, translation_of, caching}
 use Rattle.kernel_rules.specs.InvocationCalls.{switch_to}
 use Rattle.kernel_rules.specs.CallRelation.{rule_of, change_of, changed, counted, owed_by, state_by}
-use Rattle.kernel_rules.specs.Fitting.{fits}
+use Rattle.kernel_rules.specs.Fitting.{fits, IsGood, EndsWithin}
 use Rattle.kernel_rules.specs.Runs.{Event, Enters, Decides, Returns, after, is_open, IsRun}
 use Rattle.kernel_rules.proofs.Changes.{IfFound}
-use Rattle.kernel_invariant.proofs.Sound.{put_all}
-use Rattle.kernel_invariant.proofs.SoundCalls.{IsOpen}
+use Rattle.kernel_rules.proofs.PartFrames.{frames_in}
+use Rattle.kernel_invariant.proofs.Sound.{put_all, only_is}
+use Rattle.kernel_invariant.proofs.SoundCalls.{IsOpen, within_by}
 use Rattle.kernel_invariant.proofs.SoundRuns.{opened, open_is, open_limits, limits_stay}
-use Rattle.kernel_invariant.proofs.Facts.{ChangesFrom, outcome_from, held_facts, suits, named_fit, then_parts, or_found}
+use Rattle.kernel_invariant.proofs.Facts.{ChangesFrom, outcome_from, held_facts, suits, named_fit, then_parts, or_found, named_good}
 use Rattle.found_stays.proofs.Stays.{name_parts}
 use Rattle.kernel_laws.proofs.Shapes.{FrameShape, Shaped}
 use Rattle.kernel_laws.proofs.RangesLaw.{runs_shape}
@@ -166,7 +167,7 @@ abbrev Keeps : Change → Type 0
 Keeps change = IsTidy change.next
 
 module _ (s : State) (o : ℕ → Bool) (c : ℕ) (opens : IsOpen s o c) (w : IsFitted s o) (shape : Shaped s) (epochs : s.limits.epochs < 2 ^ 16)
-    (h : IsTidy s) where
+    (frames : s.limits.frames ≤ 512) (h : IsTidy s) where
   pub named_cap : (n : ℕ) (want : Want) (k : Capability) → named s c n want ≡ Found k → IsCap k
   named_cap n want k e =
       let p = name_parts s c n want k e in
@@ -174,6 +175,17 @@ module _ (s : State) (o : ℕ → Bool) (c : ℕ) (opens : IsOpen s o c) (w : Is
 
   pub held_cap : (f i : ℕ) (k : Capability) → s.place f i ≡ Holds k → IsCap k
   held_cap f i k is = subst PlaceFits is (h.places f i)
+
+  -- A part of a range begins at a frame of the machine.
+  part_cap : (k : Capability) (f n : ℕ) → IsCap k → IsGood s k × IsTrue (only kind.Range k.kind) → has_frames (found k) f n ≡ true
+      → IsCap (part_of k f n)
+  part_cap k f n cap good has =
+      let ends : EndsWithin kind.Range k.frame k.arg s.limits.frames =
+      subst (λ j. EndsWithin j k.frame k.arg s.limits.frames) (only_is kind.Range k.kind good.1) good.0.within in
+      let p = frames_in (found k) f n has in
+      let some = p.some in
+      let last = p.last in
+      record { number = omega (arith, ends, frames); least = omega arith; most = cap.most }
 
   cleared : (f : ℕ) (g i : ℕ) → PlaceFits (put s.place f (λ j. Free) g i)
   cleared f g i = put_all (λ g (row : ℕ → Place). PlaceFits (row i)) s.place f (λ j. Free) g (λ same. tt) (λ other. h.places g i)
@@ -251,6 +263,9 @@ module _ (s : State) (o : ℕ → Bool) (c : ℕ) (opens : IsOpen s o c) (w : Is
   rule_tidy (Transfer a b m) lim = λ j e k f calm. record { places = h.places; flags = h.flags }
   rule_tidy (Delegate a b m) lim = λ j e k f calm. record { places = h.places; flags = h.flags }
   rule_tidy (Test a b) lim = λ j e k f calm. h
+  rule_tidy (Part r f n t b) lim = λ k e table g at v calm.
+      filled at (part_of k f n) (part_cap k f n (named_cap r (to_part (only kind.Range)) k e)
+      (named_good s o c r (to_part (only kind.Range)) k opens.sound opens.is e) (within_by s c k f n calm))
 
   counted_tidy : (t : State) → IsTidy t → IsTidy (counted t c)
   counted_tidy t h = record { places = h.places; flags = core_flags t.core c _ (h.flags c) h.flags }
@@ -323,5 +338,6 @@ runs_tidy setting lim (Returns c ∷ events) run = returned_tidy (after setting 
 runs_tidy setting lim (Decides c call r ∷ events) run =
     decided_tidy (after setting events) (opened events) c (open_is setting lim events c run.0 (ap is_open run.1.is_open))
     (runs_fit setting lim events run.0) (runs_shape setting lim events run.0)
-    (subst (λ l. l.epochs < 2 ^ 16) (sym (limits_stay setting events)) lim.most_epochs) (runs_tidy setting lim events run.0) call r
+    (subst (λ l. l.epochs < 2 ^ 16) (sym (limits_stay setting events)) lim.most_epochs)
+    (subst (λ l. l.frames ≤ 512) (sym (limits_stay setting events)) lim.most_frames) (runs_tidy setting lim events run.0) call r
     (open_limits setting events c call run.0 run.1.is_open)

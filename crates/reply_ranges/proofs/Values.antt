@@ -15,7 +15,7 @@ use Rattle.spk_nums.specs.declared.calls.Make.TheVariants as make
 use Rattle.spk_nums.specs.declared.calls.Call.{Call}
 use Rattle.spk_nums.specs.declared.calls.Call.TheVariants.{Look, Copy, Remove, Grow, Shrink, Retype, Make as make_call}
 use Rattle.spk_nums.specs.declared.calls.Call.TheVariants.{Map, Unmap, Touch, Flush, Gate, Kill, Call as call_gate}
-use Rattle.spk_nums.specs.declared.calls.Call.TheVariants.{Ret, Switch, Tick, Transfer, Delegate, Test}
+use Rattle.spk_nums.specs.declared.calls.Call.TheVariants.{Ret, Switch, Tick, Transfer, Delegate, Test, Part}
 use Rattle.spk_nums.specs.declared.translations.Translation.{Translation}
 use Rattle.spk_nums.specs.declared.replies.Value.{Value}
 use Rattle.kernel_rules.specs.State.{Holds, Untyped, State, comp_of, thread_in}
@@ -115,7 +115,7 @@ module _ (s : State) (o : ℕ → Bool) (c : ℕ) (opens : IsOpen s o c) (w : Is
       let at = mapped_at s c (comp_of s c).pages v mapping e in
       let place : s.place at.0.node at.0.index ≡ Holds mapping = held_is s o c opens w (place_at s at.0) mapping at.1 in
       page_frame mapping.kind mapping.frame mapping.arg (mapped_page s o c opens w v mapping e)
-      (held_cap s o c opens w shape epochs h at.0.node at.0.index mapping place).number
+      (held_cap s o c opens w shape epochs frames h at.0.node at.0.index mapping place).number
       (opens.sound.held at.0.node at.0.index mapping place).fit
   touch_values v (Some t) is = λ calm.
       cached_values t (find_is (Stands s c) _ (s.core c).cached t stands is)
@@ -131,7 +131,8 @@ module _ (s : State) (o : ℕ → Bool) (c : ℕ) (opens : IsOpen s o c) (w : Is
 
   rule_values : (call : Call) → ChangesFrom Answers s c (rule_of s c call)
   rule_values (Look a) = λ k e calm.
-      cap_fits k (named_cap s o c opens w shape epochs h a (to_look any) k e) (named_good s o c a (to_look any) k opens.sound opens.is e).0
+      cap_fits k (named_cap s o c opens w shape epochs frames h a (to_look any) k e)
+      (named_good s o c a (to_look any) k opens.sound opens.is e).0
   rule_values (Copy a t b rights) = λ k e table f at v calm. tt
   rule_values (Remove t b) = λ table e at k g calm. tt
   rule_values (Grow t i l) = λ table e leaf f at v calm. tt
@@ -153,6 +154,7 @@ module _ (s : State) (o : ℕ → Bool) (c : ℕ) (opens : IsOpen s o c) (w : Is
   rule_values (Transfer a b m) = λ j e k f calm. tt
   rule_values (Delegate a b m) = λ j e k f calm. tt
   rule_values (Test a b) = λ j e k f calm. preempts_fits (preempts (tcap_at s j.frame) (tcap_at s k.frame))
+  rule_values (Part r f n t b) = λ k e table g at v calm. tt
 
   both : (x : Judged Change) (v : Value) → IfFound x Answers → IsFoundAnd x (λ change. change.value ≡ v) → ValueFits v
   both (Refused r) v fits is = absurd is

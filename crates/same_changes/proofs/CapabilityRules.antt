@@ -3,7 +3,7 @@ use Rattle.std.proofs.Common.{◌≡◌, ℕ, ◌+◌, ◌<◌, ◌==◌, Bool, 
 use Rattle.std.proofs.Common.{ap, subst, nat_le, nat_lt, if◌then◌else◌, List, [], ◌∷◌, Option, None, IsTrue}
 use Rattle.std.proofs.lemmas.Bool.{false≢true, ltb-true}
 use Rattle.spk_nums.specs.Capability.{Capability}
-use Rattle.spk_nums.specs.Rights.{kept}
+use Rattle.spk_nums.specs.Rights.{kept, part_of}
 use Rattle.spk_nums.specs.declared.kinds.Kind.{Kind}
 use Rattle.spk_nums.specs.declared.kinds.Kind.TheVariants as kind
 use Rattle.spk_nums.specs.declared.calls.Make.{Make}
@@ -18,7 +18,7 @@ use Rattle.kernel_rules.specs.Access.{to_use, Slot, Named, capability, Under, In
 use Rattle.kernel_rules.specs.Rules.{Change, Found, Cause, When, named, refusal_of, fills, removes}
 use Rattle.kernel_rules.specs.CapabilityCalls.{look_rule, copy_rule, remove_rule, grow_rule, shrink_rule, outside}
 use Rattle.kernel_rules.specs.CapabilityCalls.{is_blank, not_blank, makes, is_place_of, cleared, make_node, make_thread}
-use Rattle.kernel_rules.specs.CapabilityCalls.{make_tcap, is_live, epoch_of, not_taken, makes_comp, make_comp, make_rule}
+use Rattle.kernel_rules.specs.CapabilityCalls.{make_tcap, is_live, epoch_of, not_taken, makes_comp, make_comp, make_rule, part_rule}
 use Rattle.kernel_rules.specs.Fitting.{fits, IsGood}
 use Rattle.kernel_rules.specs.Relies.{is_node}
 use Rattle.kernel_invariant.proofs.Sound.{only_is}
@@ -58,6 +58,22 @@ copy_same w a x b rights = (
     refl,
     λ table is_table.
         (refl, (λ on. named_table w x table is_table), λ at is_free. (tt, λ none. fills_same w at (kept (capability (found cap)) rights))),
+  ),
+)
+
+pub part_same : {t s : State} {o : ℕ → Bool} {c : ℕ} → Twins t s o c → (r f n x b : ℕ)
+    → SameRule s c (part_rule t r f n x b) (part_rule s r f n x b)
+part_same w r f n x b = (
+  refl,
+  refl,
+  λ range is. (
+    refl,
+    refl,
+    λ table is_table. (
+      refl,
+      (λ on. named_table w x table is_table),
+      λ at is_free. (((refl, λ on. refl), λ calm. tt), λ none. fills_same w at (part_of range f n)),
+    ),
   ),
 )
 

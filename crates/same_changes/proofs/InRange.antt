@@ -11,17 +11,17 @@ use Rattle.spk_nums.specs.declared.calls.Make.TheVariants as make
 use Rattle.spk_nums.specs.declared.calls.Call.{Call}
 use Rattle.spk_nums.specs.declared.calls.Call.TheVariants.{Look, Copy, Remove, Grow, Shrink, Retype, Make as make_call}
 use Rattle.spk_nums.specs.declared.calls.Call.TheVariants.{Map, Unmap, Touch, Flush, Gate, Kill, Call as call_gate}
-use Rattle.spk_nums.specs.declared.calls.Call.TheVariants.{Ret, Switch, Tick, Transfer, Delegate, Test}
+use Rattle.spk_nums.specs.declared.calls.Call.TheVariants.{Ret, Switch, Tick, Transfer, Delegate, Test, Part}
 use Rattle.kernel_rules.specs.State.{CompFields, Comp, Frame, Kernel, Liveness, Unused, Live}
 use Rattle.kernel_rules.specs.State.{Dead, Core, Limits, State, comp_in, tcap_in, comp_of}
-use Rattle.kernel_rules.specs.Access.{to_use, only}
+use Rattle.kernel_rules.specs.Access.{to_use, only, to_part}
 use Rattle.kernel_rules.specs.Rules.{Judged, Refused, Found, named, mapped}
 use Rattle.kernel_rules.specs.CapabilityCalls.{epoch_of}
 use Rattle.kernel_rules.specs.Fitting.{fits, EndsWithin}
 use Rattle.kernel_rules.specs.Ranges.{NumberInRange, FrameInRange, budget_at}
 use Rattle.kernel_invariant.proofs.Sound.{only_is}
 use Rattle.kernel_invariant.proofs.Facts.{named_good, named_fit}
-use Rattle.seq_lookups.specs.Ranges.{WhereFound, RangeEnds, EpochFits, PageFound, HasEpoch, BudgetsFit, TicksFit, IsInRange}
+use Rattle.seq_lookups.specs.Ranges.{WhereFound, RangeEnds, EpochFits, PageFound, HasEpoch, BudgetsFit, TicksFit, IsInRange, WholeEnds}
 use Rattle.same_changes.proofs.Reaching.{Twins, core_same, core_below, tcap_frame_same, comp_same, named_same, mapped_same, pages_good}
 use Rattle.same_changes.proofs.TimeRules.{named_frame}
 
@@ -33,6 +33,12 @@ wherever (Found x) P h = h x refl
 range_ends : {t s : State} {o : ℕ → _} {c : ℕ} → Twins t s o c → (r : ℕ) → RangeEnds t c r
 range_ends {t} {s} {o} {c} w r = wherever (named t c r (to_use (only kind.Range))) _ (λ k is.
     let good = named_good s o c r (to_use (only kind.Range)) k w.sound w.is_open (sym (named_same w r (to_use (only kind.Range))) ∙ is) in
+    let ends = subst (λ j. EndsWithin j k.frame k.arg s.limits.frames) (only_is kind.Range k.kind good.1) good.0.within in
+    subst (λ (l : Limits). k.frame + k.arg ≤ l.frames) (sym w.same.limits) ends)
+
+whole_ends : {t s : State} {o : ℕ → _} {c : ℕ} → Twins t s o c → (r : ℕ) → WholeEnds t c r
+whole_ends {t} {s} {o} {c} w r = wherever (named t c r (to_part (only kind.Range))) _ (λ k is.
+    let good = named_good s o c r (to_part (only kind.Range)) k w.sound w.is_open (sym (named_same w r (to_part (only kind.Range))) ∙ is) in
     let ends = subst (λ j. EndsWithin j k.frame k.arg s.limits.frames) (only_is kind.Range k.kind good.1) good.0.within in
     subst (λ (l : Limits). k.frame + k.arg ≤ l.frames) (sym w.same.limits) ends)
 
@@ -115,3 +121,4 @@ in_range w calls pages (call_gate g) fits = tt
 in_range w calls pages Ret fits = tt
 in_range w calls pages (Switch h q) fits = tt
 in_range w calls pages (Test a b) fits = tt
+in_range w calls pages (Part r f n x b) fits = whole_ends w r

@@ -1,7 +1,7 @@
 -- A line is that of a `tick` only where its first word is `tick`.
 use Rattle.std.proofs.Common.{◌≡◌, ℕ, List, [], ◌∷◌, Bool, true, false, if◌then◌else◌, Option, Some, None, Result, Ok, Err, IfOk, refl, sym, ◌∙◌}
 use Rattle.std.proofs.Common.{ap, subst}
-use Rattle.std.specs.Prelude.{slice_get, codes}
+use Rattle.std.specs.Prelude.{slice_get, codes, nat_le}
 use Rattle.std.specs.Option.{ok_or, option_and_then}
 use Rattle.std.proofs.lemmas.Bool.{false≢true}
 use Rattle.spk_nums.specs.declared.calls.Call.{Call}
@@ -13,8 +13,8 @@ use Rattle.call_reader.specs.declared.first_words.Verb.{Verb}
 use Rattle.call_reader.specs.declared.first_words.Verb.TheVariants as verb
 use Rattle.call_reader.specs.declared.first_words.FirstWord.{FirstWord}
 use Rattle.call_reader.specs.declared.first_words.FirstWord.TheVariants as first
-use Rattle.call_reader.specs.CallLines.{frame_kind_at}
-use Rattle.call_reader.specs.FirstWords.{first_word, verb_of, later_verb_of, call_word}
+use Rattle.call_reader.specs.CallLines.{frame_kind_at, part_line}
+use Rattle.call_reader.specs.FirstWords.{first_word, verb_of, later_verb_of, call_word, part_from}
 use Rattle.call_reader.specs.CallLines.{look_line, rights_at, copy_line, remove_line, grow_line, shrink_line, retype_line, map_line}
 use Rattle.call_reader.specs.CallLines.{unmap_line, touch_line, flush_line, gate_line, kill_line, enter_line, ret_line, switch_line}
 use Rattle.call_reader.specs.CallLines.{tick_line, transfer_line, delegate_line, test_line, object_at, made_at, make_line, call_line}
@@ -41,11 +41,22 @@ lands : {A : Type 0} (t v : A) (b : Bool) (rest : Option A) → (rest ≡ Some t
 lands t v true rest go e = refl
 lands t v false rest go e = go e
 
-module _ (word : List ℕ) where
+module _ (version : ℕ) (word : List ℕ) where
   abbrev IsTick : Type 0
   IsTick = is_word word (codes "tick") ≡ true
 
-  later_tick : later_verb_of word ≡ Some verb.Tick → IsTick
+  part_tick : part_from version ≡ Some verb.Tick → ⊥
+  part_tick = by (nat_le 3 version)
+    where
+      by : (late : Bool) → (if late then Some verb.Part else None) ≡ Some verb.Tick → ⊥
+      by true e = cc
+      by false e = cc
+
+  no_part : (b : Bool) → (if b then part_from version else None) ≡ Some verb.Tick → IsTick
+  no_part true e = absurd (part_tick e)
+  no_part false e = absurd (cc)
+
+  later_tick : later_verb_of version word ≡ Some verb.Tick → IsTick
   unfolding later_verb_of
   later_tick = passes verb.Tick verb.Flush (is_word word (codes "flush")) _ (λ e. absurd (cc))
       (passes verb.Tick verb.Gate (is_word word (codes "gate")) _ (λ e. absurd (cc))
@@ -56,9 +67,9 @@ module _ (word : List ℕ) where
       (lands verb.Tick verb.Tick (is_word word (codes "tick")) _
       (passes verb.Tick verb.Transfer (is_word word (codes "transfer")) _ (λ e. absurd (cc))
       (passes verb.Tick verb.Delegate (is_word word (codes "delegate")) _ (λ e. absurd (cc))
-      (passes verb.Tick verb.Test (is_word word (codes "test")) _ (λ e. absurd (cc)) (λ e. absurd (cc)))))))))))
+      (passes verb.Tick verb.Test (is_word word (codes "test")) _ (λ e. absurd (cc)) (no_part (is_word word (codes "part"))))))))))))
 
-  verb_tick : verb_of word ≡ Some verb.Tick → IsTick
+  verb_tick : verb_of version word ≡ Some verb.Tick → IsTick
   unfolding verb_of
   verb_tick = passes verb.Tick verb.Look (is_word word (codes "look")) _ (λ e. absurd (cc))
       (passes verb.Tick verb.Copy (is_word word (codes "copy")) _ (λ e. absurd (cc))
@@ -75,7 +86,7 @@ module _ (word : List ℕ) where
   word_tick None e = absurd (cc)
   word_tick (Some v) e = cc
 
-  first_tick : first_word word ≡ Some (first.Call verb.Tick) → IsTick
+  first_tick : first_word version word ≡ Some (first.Call verb.Tick) → IsTick
   unfolding first_word
   first_tick = passes (first.Call verb.Tick) first.Speck (is_word word (codes "speck")) _ (λ e. absurd (cc))
       (passes (first.Call verb.Tick) first.Cores (is_word word (codes "cores")) _ (λ e. absurd (cc))
@@ -85,7 +96,7 @@ module _ (word : List ℕ) where
       (passes (first.Call verb.Tick) first.Epochs (is_word word (codes "epochs")) _ (λ e. absurd (cc))
       (passes (first.Call verb.Tick) first.Core (is_word word (codes "core")) _ (λ e. absurd (cc))
       (passes (first.Call verb.Tick) first.Order (is_word word (codes "order")) _ (λ e. absurd (cc))
-      (λ e. verb_tick (word_tick (verb_of word) e)))))))))
+      (λ e. verb_tick (word_tick (verb_of version word) e)))))))))
 
 -- ---- the calls of lines
 
@@ -177,6 +188,11 @@ module _ (words : List (List ℕ)) where
   unfolding test_line
   test_calm = binds (name_at words 1) _ λ a. binds (name_at words 2) _ λ b. binds (end_at words 3) _ λ done. tt
 
+  part_calm : Calm (part_line words)
+  unfolding part_line
+  part_calm = binds (name_at words 1) _ λ r. binds (name_at words 2) _ λ f. binds (name_at words 3) _ λ n.
+      binds (name_at words 4) _ λ t. binds (name_at words 5) _ λ b. binds (end_at words 6) _ λ done. tt
+
   make_calm : Calm (make_line words)
   unfolding make_line
   make_calm = binds (object_at words) _ λ o. binds (name_at words 2) _ λ range. binds (name_at words 3) _ λ frame.
@@ -204,6 +220,7 @@ module _ (words : List (List ℕ)) where
   calm version verb.Transfer other = transfer_calm
   calm version verb.Delegate other = delegate_calm
   calm version verb.Test other = test_calm
+  calm version verb.Part other = part_calm
 
 -- ---- a line
 
@@ -242,13 +259,14 @@ by_first : (head : Head) (words : List (List ℕ)) (o : Option FirstWord) → (o
 by_first head words None never = tt
 by_first head words (Some w) never = by_stand head words w (λ same. never (ap (λ x. Some x) same)) (may_stand head.section w)
 
-other_word : (word : List ℕ) → is_word word (codes "tick") ≡ false → first_word word ≡ Some (first.Call verb.Tick) → ⊥
-other_word word other is = false≢true (sym other ∙ first_tick word is)
+other_word : (version : ℕ) (word : List ℕ) → is_word word (codes "tick") ≡ false → first_word version word ≡ Some (first.Call verb.Tick) → ⊥
+other_word version word other is = false≢true (sym other ∙ first_tick version word is)
 
 by_word : (head : Head) (words : List (List ℕ)) (o : Option (List ℕ)) → is_name (codes "tick") o ≡ false
-    → IfOk (ok_or (option_and_then first_word o) S2 >>= λ word. if may_stand head.section word then line_by head words word else Err S7) IsCalm
+    → IfOk (ok_or (option_and_then (first_word head.version) o) S2
+    >>= λ word. if may_stand head.section word then line_by head words word else Err S7) IsCalm
 by_word head words None other = tt
-by_word head words (Some word) other = by_first head words (first_word word) (other_word word other)
+by_word head words (Some word) other = by_first head words (first_word head.version word) (other_word head.version word other)
 
 -- A line whose first word is another than `tick` says no `tick`.
 pub line_calm : (head : Head) (words : List (List ℕ)) → begins words (codes "tick") ≡ false → IfOk (line_of head words) IsCalm

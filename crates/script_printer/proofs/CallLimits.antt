@@ -22,9 +22,10 @@ use Rattle.call_reader.specs.CallLines.{fourth_at, both_at, rights_at}
 use Rattle.call_reader.specs.CallLines.{call_line, look_line, copy_line, remove_line, grow_line, shrink_line, retype_line}
 use Rattle.call_reader.specs.CallLines.{map_line, unmap_line, touch_line, flush_line, gate_line, kill_line, enter_line}
 use Rattle.call_reader.specs.CallLines.{ret_line, switch_line, tick_line, transfer_line, delegate_line, test_line}
-use Rattle.call_reader.specs.CallLines.{object_of, object_at, thread_at, tcap_at, comp_at, plain_at, made_at, make_line}
+use Rattle.call_reader.specs.CallLines.{object_of, object_at, thread_at, tcap_at, comp_at, plain_at, made_at, make_line, part_line}
 use Rattle.script_printer.specs.Law.{IsName, IsMakeWithin, IsCallWithin}
 use Rattle.script_printer.proofs.Spans.{both_left, both_right}
+use Rattle.script_printer.proofs.KnownWords.{IsVerbIn}
 
 -- ---- judgements that did not fail
 
@@ -236,10 +237,10 @@ make_in version words c e =
 rights_in : (version : ℕ) (words : List (List ℕ)) (r : Rights) → rights_at version words ≡ Ok r → (r.0 ≤ 3) × (version ≡ 1 → r.0 ≡ both)
 unfolding rights_at fourth_at both_at
 rights_in version words r e =
-    elim (cases_Bool (eqb version 2 && ltb 4 (length words))) [
+    elim (cases_Bool (leb 2 version && ltb 4 (length words))) [
       | inl two ↦
           let n = args_one (number_at words 4 0 3) (end_at words 5) (λ n. rights_of n) r (rw two at e) in
-          let is : version ≡ 2 = eqb-true version 2 (both_left (eqb version 2) (ltb 4 (length words)) two) in
+          let is : 2 ≤ version = leb-true 2 version (both_left (leb 2 version) (ltb 4 (length words)) two) in
           (subst (λ (x : Rights). x.0 ≤ 3) n.2 (number_in words 4 0 3 n.0 n.1).1, λ one. absurd (omega arith))
       | inr not ↦
           let same = args_none (end_at words 4) (rights_of both) r (rw not at e) in
@@ -267,29 +268,53 @@ copy_in version words c e =
       rights.1,
     )
 
+part_in : (version : ℕ) (words : List (List ℕ)) (c : Call) → 3 ≤ version → part_line words ≡ Ok c → IsCallWithin version c
+unfolding part_line
+part_in version words c known e =
+    let r = bind_ok (number_at words 1 0 65535) (λ r. number_at words 2 0 65535 >>= λ f. number_at words 3 0 65535 >>=
+    λ n. number_at words 4 0 65535 >>= λ t. number_at words 5 0 65535 >>= λ b. end_at words 6 >>= λ done. judged (call.Part r f n t b)) c e in
+    let f = bind_ok (number_at words 2 0 65535) (λ f. number_at words 3 0 65535 >>=
+    λ n. number_at words 4 0 65535 >>= λ t. number_at words 5 0 65535 >>= λ b. end_at words 6 >>= λ done. judged (call.Part r.0 f n t b)) c r.2 in
+    let n = bind_ok (number_at words 3 0 65535)
+    (λ n. number_at words 4 0 65535 >>= λ t. number_at words 5 0 65535 >>= λ b. end_at words 6 >>= λ done. judged (call.Part r.0 f.0 n t b)) c f.2
+    in
+    let t = bind_ok (number_at words 4 0 65535)
+    (λ t. number_at words 5 0 65535 >>= λ b. end_at words 6 >>= λ done. judged (call.Part r.0 f.0 n.0 t b)) c n.2 in
+    let b = bind_ok (number_at words 5 0 65535) (λ b. end_at words 6 >>= λ done. judged (call.Part r.0 f.0 n.0 t.0 b)) c t.2 in
+    subst (IsCallWithin version) (args_none (end_at words 6) (call.Part r.0 f.0 n.0 t.0 b.0) c b.2) (
+      known,
+      name_in words 1 r.0 r.1,
+      name_in words 2 f.0 f.1,
+      name_in words 3 n.0 n.1,
+      name_in words 4 t.0 t.1,
+      name_in words 5 b.0 b.1,
+    )
+
 -- what the line of a call says is within its limits
-pub call_in : (version : ℕ) (words : List (List ℕ)) (v : Verb) (c : Call) → call_line version words v ≡ Ok c → IsCallWithin version c
+pub call_in : (version : ℕ) (words : List (List ℕ)) (v : Verb) (c : Call) → IsVerbIn version v → call_line version words v ≡ Ok c
+    → IsCallWithin version c
 unfolding call_line look_line remove_line grow_line shrink_line unmap_line touch_line flush_line
-    gate_line kill_line enter_line ret_line switch_line tick_line transfer_line delegate_line test_line
-call_in version words verb.Look c e = name_line version words call.Look (end_at words 2) c (λ a h. h) e
-call_in version words verb.Copy c e = copy_in version words c e
-call_in version words verb.Remove c e = names_line version words call.Remove (end_at words 3) c (λ a b h k. (h, k)) e
-call_in version words verb.Grow c e = three_line version words 65535 call.Grow (end_at words 4) c (λ a b m h k l. (h, k, l)) e
-call_in version words verb.Shrink c e = names_line version words call.Shrink (end_at words 3) c (λ a b h k. (h, k)) e
-call_in version words verb.Retype c e = retype_in version words c e
-call_in version words verb.Make c e = make_in version words c e
-call_in version words verb.Map c e = map_in version words c e
-call_in version words verb.Unmap c e = names_line version words call.Unmap (end_at words 3) c (λ a b h k. (h, k)) e
-call_in version words verb.Touch c e = name_line version words call.Touch (end_at words 2) c (λ a h. h) e
-call_in version words verb.Flush c e = subst (IsCallWithin version) (args_none (end_at words 1) call.Flush c e) tt
-call_in version words verb.Gate c e = three_line version words 65535 call.Gate (end_at words 4) c (λ a b m h k l. (h, k, l)) e
-call_in version words verb.Kill c e = name_line version words call.Kill (end_at words 2) c (λ a h. h) e
-call_in version words verb.Call c e = name_line version words call.Call (end_at words 2) c (λ a h. h) e
-call_in version words verb.Ret c e = subst (IsCallWithin version) (args_none (end_at words 1) call.Ret c e) tt
-call_in version words verb.Switch c e = names_line version words call.Switch (end_at words 3) c (λ a b h k. (h, k)) e
+    gate_line kill_line enter_line ret_line switch_line tick_line transfer_line delegate_line test_line part_line
+call_in version words verb.Look c known e = name_line version words call.Look (end_at words 2) c (λ a h. h) e
+call_in version words verb.Copy c known e = copy_in version words c e
+call_in version words verb.Remove c known e = names_line version words call.Remove (end_at words 3) c (λ a b h k. (h, k)) e
+call_in version words verb.Grow c known e = three_line version words 65535 call.Grow (end_at words 4) c (λ a b m h k l. (h, k, l)) e
+call_in version words verb.Shrink c known e = names_line version words call.Shrink (end_at words 3) c (λ a b h k. (h, k)) e
+call_in version words verb.Retype c known e = retype_in version words c e
+call_in version words verb.Make c known e = make_in version words c e
+call_in version words verb.Map c known e = map_in version words c e
+call_in version words verb.Unmap c known e = names_line version words call.Unmap (end_at words 3) c (λ a b h k. (h, k)) e
+call_in version words verb.Touch c known e = name_line version words call.Touch (end_at words 2) c (λ a h. h) e
+call_in version words verb.Flush c known e = subst (IsCallWithin version) (args_none (end_at words 1) call.Flush c e) tt
+call_in version words verb.Gate c known e = three_line version words 65535 call.Gate (end_at words 4) c (λ a b m h k l. (h, k, l)) e
+call_in version words verb.Kill c known e = name_line version words call.Kill (end_at words 2) c (λ a h. h) e
+call_in version words verb.Call c known e = name_line version words call.Call (end_at words 2) c (λ a h. h) e
+call_in version words verb.Ret c known e = subst (IsCallWithin version) (args_none (end_at words 1) call.Ret c e) tt
+call_in version words verb.Switch c known e = names_line version words call.Switch (end_at words 3) c (λ a b h k. (h, k)) e
 call_in version words verb.Tick c e =
     let r = args_one (number_at words 1 0 1000000) (end_at words 2) call.Tick c e in
     subst (IsCallWithin version) r.2 (number_in words 1 0 1000000 r.0 r.1).1
-call_in version words verb.Transfer c e = three_line version words 4000000000 call.Transfer (end_at words 4) c (λ a b m h k l. (h, k, l)) e
-call_in version words verb.Delegate c e = three_line version words 4000000000 call.Delegate (end_at words 4) c (λ a b m h k l. (h, k, l)) e
-call_in version words verb.Test c e = names_line version words call.Test (end_at words 3) c (λ a b h k. (h, k)) e
+call_in version words verb.Transfer c known e = three_line version words 4000000000 call.Transfer (end_at words 4) c (λ a b m h k l. (h, k, l)) e
+call_in version words verb.Delegate c known e = three_line version words 4000000000 call.Delegate (end_at words 4) c (λ a b m h k l. (h, k, l)) e
+call_in version words verb.Test c known e = names_line version words call.Test (end_at words 3) c (λ a b h k. (h, k)) e
+call_in version words verb.Part c known e = part_in version words c known e

@@ -1,8 +1,9 @@
 -- Calls as words: the words of the line of a call are read as that call.
 use Rattle.std.proofs.Common.{◌≡◌, ◌≢◌, ℕ, ◌≤◌, ◌==◌, Bool, true, false, ◌&&◌, if◌then◌else◌, List, [], ◌∷◌, Some, Ok, refl, sym, ap, arith}
-use Rattle.std.proofs.lemmas.Bool.{eqb-true, eqb-false}
+use Rattle.std.proofs.lemmas.Bool.{eqb-true, eqb-false, le-leb}
 use Rattle.std.specs.Prelude.{codes, decimal, slice_get}
 use Rattle.std.specs.Option.{option_and_then}
+use Rattle.std.specs.Prelude.{nat_le, None}
 use Rattle.spk_nums.specs.Names.{frame_kind_word}
 use Rattle.spk_nums.specs.Rights.{both}
 use Rattle.spk_nums.specs.declared.kinds.FrameKind.{FrameKind}
@@ -12,17 +13,17 @@ use Rattle.spk_nums.specs.declared.calls.Make.TheVariants as make
 use Rattle.spk_nums.specs.declared.calls.Call.{Call}
 use Rattle.spk_nums.specs.declared.calls.Call.TheVariants.{Look, Copy, Remove, Grow, Shrink, Retype, Make as make_call}
 use Rattle.spk_nums.specs.declared.calls.Call.TheVariants.{Map, Unmap, Touch, Flush, Gate, Kill, Call as call_gate}
-use Rattle.spk_nums.specs.declared.calls.Call.TheVariants.{Ret, Switch, Tick, Transfer, Delegate, Test}
+use Rattle.spk_nums.specs.declared.calls.Call.TheVariants.{Ret, Switch, Tick, Transfer, Delegate, Test, Part}
 use Rattle.line_reader.specs.Arguments.{is_word, word_at, end_at}
 use Rattle.call_reader.specs.declared.first_words.Verb.{Verb}
 use Rattle.call_reader.specs.declared.first_words.Verb.TheVariants as verb
 use Rattle.call_reader.specs.declared.first_words.FirstWord.TheVariants as first
-use Rattle.call_reader.specs.FirstWords.{first_word, verb_of, later_verb_of}
+use Rattle.call_reader.specs.FirstWords.{first_word, verb_of, later_verb_of, call_word}
 use Rattle.call_reader.specs.CallLines.{frame_kind_of, frame_kind_at}
 use Rattle.call_reader.specs.CallLines.{fourth_at, both_at, rights_at}
 use Rattle.call_reader.specs.CallLines.{call_line, look_line, copy_line, remove_line, grow_line, shrink_line, retype_line}
 use Rattle.call_reader.specs.CallLines.{map_line, unmap_line, touch_line, flush_line, gate_line, kill_line, enter_line}
-use Rattle.call_reader.specs.CallLines.{ret_line, switch_line, tick_line, transfer_line, delegate_line, test_line}
+use Rattle.call_reader.specs.CallLines.{ret_line, switch_line, tick_line, transfer_line, delegate_line, test_line, part_line}
 use Rattle.call_reader.specs.CallLines.{object_of, object_at, thread_at, tcap_at, comp_at, plain_at, made_at, make_line}
 use Rattle.script_reader.specs.declared.head.Section.TheVariants as section
 use Rattle.script_reader.specs.declared.head.Head.{Head}
@@ -54,45 +55,50 @@ call_verb (Tick n) = verb.Tick
 call_verb (Transfer a b m) = verb.Transfer
 call_verb (Delegate a b m) = verb.Delegate
 call_verb (Test a b) = verb.Test
+call_verb (Part r f n t b) = verb.Part
 
-make_first : (what : Make) (r f t b : ℕ) → option_and_then first_word (slice_get (make_words what r f t b) 0) ≡ Some (first.Call verb.Make)
+make_first : (version : ℕ) (what : Make) (r f t b : ℕ)
+    → option_and_then (first_word version) (slice_get (make_words what r f t b) 0) ≡ Some (first.Call verb.Make)
 unfolding first_word verb_of later_verb_of is_word
-make_first make.Table r f t b = refl
-make_first make.Leaf r f t b = refl
-make_first make.Pages r f t b = refl
-make_first make.Pleaf r f t b = refl
-make_first (make.Thread comp) r f t b = refl
-make_first (make.Tcap sched quality) r f t b = refl
-make_first (make.Comp table pages live) r f t b = refl
+make_first version make.Table r f t b = refl
+make_first version make.Leaf r f t b = refl
+make_first version make.Pages r f t b = refl
+make_first version make.Pleaf r f t b = refl
+make_first version (make.Thread comp) r f t b = refl
+make_first version (make.Tcap sched quality) r f t b = refl
+make_first version (make.Comp table pages live) r f t b = refl
 
-copy_first : (whole : Bool) (a t b r : ℕ)
-    → option_and_then first_word (slice_get (copy_words whole a t b r) 0) ≡ Some (first.Call verb.Copy)
+copy_first : (version : ℕ) (whole : Bool) (a t b r : ℕ)
+    → option_and_then (first_word version) (slice_get (copy_words whole a t b r) 0) ≡ Some (first.Call verb.Copy)
 unfolding first_word verb_of later_verb_of is_word
-copy_first true a t b r = refl
-copy_first false a t b r = refl
+copy_first version true a t b r = refl
+copy_first version false a t b r = refl
 
-call_first : (c : Call) → option_and_then first_word (slice_get (call_words c) 0) ≡ Some (first.Call (call_verb c))
+call_first : (version : ℕ) (c : Call) → IsCallWithin version c
+    → option_and_then (first_word version) (slice_get (call_words c) 0) ≡ Some (first.Call (call_verb c))
 unfolding first_word verb_of later_verb_of is_word
-call_first (Look a) = refl
-call_first (Copy a t b rights) = copy_first (rights.0 == 3) a t b rights.0
-call_first (Remove t b) = refl
-call_first (Grow t i l) = refl
-call_first (Shrink t i) = refl
-call_first (Retype r f k) = refl
-call_first (make_call what range frame table slot) = make_first what range frame table slot
-call_first (Map p v r f w) = refl
-call_first (Unmap p v) = refl
-call_first (Touch v) = refl
-call_first Flush = refl
-call_first (Gate c t b) = refl
-call_first (Kill c) = refl
-call_first (call_gate g) = refl
-call_first Ret = refl
-call_first (Switch h q) = refl
-call_first (Tick n) = refl
-call_first (Transfer a b m) = refl
-call_first (Delegate a b m) = refl
-call_first (Test a b) = refl
+call_first version (Look a) h = refl
+call_first version (Copy a t b rights) h = copy_first version (rights.0 == 3) a t b rights.0
+call_first version (Remove t b) h = refl
+call_first version (Grow t i l) h = refl
+call_first version (Shrink t i) h = refl
+call_first version (Retype r f k) h = refl
+call_first version (make_call what range frame table slot) h = make_first version what range frame table slot
+call_first version (Map p v r f w) h = refl
+call_first version (Unmap p v) h = refl
+call_first version (Touch v) h = refl
+call_first version Flush h = refl
+call_first version (Gate c t b) h = refl
+call_first version (Kill c) h = refl
+call_first version (call_gate g) h = refl
+call_first version Ret h = refl
+call_first version (Switch h q) h = refl
+call_first version (Tick n) h = refl
+call_first version (Transfer a b m) h = refl
+call_first version (Delegate a b m) h = refl
+call_first version (Test a b) h = refl
+call_first version (Part r f n t b) h =
+    ap (λ late. call_word (if late then Some verb.Part else None)) (le-leb 3 version h.0)
 
 kind_back : (w a b : List ℕ) (k : FrameKind) → frame_kind_at (w ∷ a ∷ b ∷ frame_kind_word k ∷ []) 3 ≡ Ok k
 unfolding frame_kind_at word_at frame_kind_of is_word
@@ -146,22 +152,22 @@ make_read (make.Comp table pages live) r f t b h hr hf ht hb =
       number_back ws 8 0 63 live refl (omega arith) h.2 (omega arith),
     ) refl
 
--- after `copy A T B` nothing comes, and both rights are kept, in either version
+-- after `copy A T B` nothing comes, and both rights are kept, in every version
 both_read : (version a t b : ℕ) → rights_at version (copy_words true a t b 3) ≡ Ok (record { 0 = both })
 unfolding rights_at both_at end_at
-both_read version a t b = by (version == 2)
+both_read version a t b = by (nat_le 2 version)
   where
     by : (two : Bool) → (if two && false then fourth_at (copy_words true a t b 3) else Ok (record { 0 = both })) ≡ Ok (record { 0 = both })
     by true = refl
     by false = refl
 
--- or a fourth number comes, in version 2
-fourth_read : (version a t b r : ℕ) → version ≡ 2 → r ≤ 3 → rights_at version (copy_words false a t b r) ≡ Ok (record { 0 = r })
+-- or a fourth number comes, from version 2 on
+fourth_read : (version a t b r : ℕ) → 2 ≤ version → r ≤ 3 → rights_at version (copy_words false a t b r) ≡ Ok (record { 0 = r })
 unfolding rights_at fourth_at end_at
 fourth_read version a t b r two few =
-    rw (two, number_back (copy_words false a t b r) 4 0 3 r refl (omega arith) few (omega arith)) refl
+    rw (le-leb 2 version two, number_back (copy_words false a t b r) 4 0 3 r refl (omega arith) few (omega arith)) refl
 
-copy_read : (whole : Bool) (version a t b r : ℕ) → (r == 3) ≡ whole → 1 ≤ version → version ≤ 2 → IsName a → IsName t → IsName b → r ≤ 3
+copy_read : (whole : Bool) (version a t b r : ℕ) → (r == 3) ≡ whole → 1 ≤ version → version ≤ 3 → IsName a → IsName t → IsName b → r ≤ 3
     → (version ≡ 1 → r ≡ both) → copy_line version (copy_words whole a t b r) ≡ Ok (Copy a t b (record { 0 = r }))
 unfolding copy_line
 copy_read true version a t b r is some most ha ht hb few one =
@@ -172,13 +178,13 @@ copy_read true version a t b r is some most ha ht hb few one =
 copy_read false version a t b r is some most ha ht hb few one =
     let ws = copy_words false a t b r in
     let other : version ≢ 1 = λ e. eqb-false r 3 is (one e) in
-    let two : version ≡ 2 = omega (arith, some, most, other) in
+    let two : 2 ≤ version = omega (arith, some, other) in
     rw (name_back ws 1 a refl ha, name_back ws 2 t refl ht, name_back ws 3 b refl hb, fourth_read version a t b r two few) refl
 
-call_read : (version : ℕ) (c : Call) → 1 ≤ version → version ≤ 2 → IsCallWithin version c
+call_read : (version : ℕ) (c : Call) → 1 ≤ version → version ≤ 3 → IsCallWithin version c
     → call_line version (call_words c) (call_verb c) ≡ Ok c
 unfolding call_line look_line copy_line remove_line grow_line shrink_line retype_line map_line unmap_line touch_line
-    flush_line gate_line kill_line enter_line ret_line switch_line tick_line transfer_line delegate_line test_line end_at
+    flush_line gate_line kill_line enter_line ret_line switch_line tick_line transfer_line delegate_line test_line part_line end_at
 call_read version (Look a) some most h = let ws = call_words (Look a) in rw (name_back ws 1 a refl h) refl
 call_read version (Copy a t b rights) some most h = copy_read (rights.0 == 3) version a t b rights.0 refl some most h.0 h.1 h.2 h.3 h.4
 call_read version (Remove t b) some most h = let ws = call_words (Remove t b) in rw (name_back ws 1 t refl h.0, name_back ws 2 b refl h.1) refl
@@ -214,9 +220,18 @@ call_read version (Delegate a b m) some most h =
     let ws = call_words (Delegate a b m) in
     rw (name_back ws 1 a refl h.0, name_back ws 2 b refl h.1, number_back ws 3 0 4000000000 m refl (omega arith) h.2 (omega arith)) refl
 call_read version (Test a b) some most h = let ws = call_words (Test a b) in rw (name_back ws 1 a refl h.0, name_back ws 2 b refl h.1) refl
+call_read version (Part r f n t b) some most h =
+    let ws = call_words (Part r f n t b) in
+    rw (
+      name_back ws 1 r refl h.1,
+      name_back ws 2 f refl h.2,
+      name_back ws 3 n refl h.3,
+      name_back ws 4 t refl h.4,
+      name_back ws 5 b refl h.5,
+    ) refl
 
 -- after a `core` line, the line of a call says that call
-pub call_back : (head : Head) (c : Call) → head.section ≡ section.List → 1 ≤ head.version → head.version ≤ 2
+pub call_back : (head : Head) (c : Call) → head.section ≡ section.List → 1 ≤ head.version → head.version ≤ 3
     → IsCallWithin head.version c → line_of head (call_words c) ≡ Ok (line.Call c)
 unfolding line_of line_by
-call_back head c e some most h = rw (call_first c, e, call_read head.version c some most h) refl
+call_back head c e some most h = rw (call_first head.version c h, e, call_read head.version c some most h) refl

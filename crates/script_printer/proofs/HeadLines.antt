@@ -6,6 +6,7 @@ use Rattle.spk_nums.specs.Setting.{GrantFits}
 use Rattle.line_reader.specs.Numerals.{number_of}
 use Rattle.line_reader.specs.Arguments.{is_word, word_at, number_at, end_at}
 use Rattle.call_reader.specs.FirstWords.{first_word}
+use Rattle.call_reader.specs.Versions.{most_calls}
 use Rattle.script_reader.specs.declared.head.Section.{Section}
 use Rattle.script_reader.specs.declared.head.Section.TheVariants as section
 use Rattle.script_reader.specs.declared.head.Head.{Head}
@@ -13,6 +14,7 @@ use Rattle.script_reader.specs.declared.head.Line.TheVariants as line
 use Rattle.script_reader.specs.Heads.{no_head, granted, line_of, line_by, speck_line, cores_line, frames_line}
 use Rattle.script_reader.specs.Heads.{grant_line, calls_line, epochs_line, core_line, order_line}
 use Rattle.script_printer.proofs.NumberWords.{number_back, core_back}
+use Rattle.script_printer.proofs.KnownWords.{most_machine}
 
 -- the words of the lines
 abbrev pub speck_words : ℕ → List (List ℕ)
@@ -43,10 +45,10 @@ order_words = codes "order" ∷ []
 abbrev pub IsListing : Section → Type 0
 IsListing s = (s ≡ section.Lists) ⊎ (s ≡ section.List)
 
-pub speck_back : (n : ℕ) → 1 ≤ n → n ≤ 2
-    → line_of no_head (speck_words n) ≡ Ok (line.Head (record no_head { section = section.Cores; version = n }))
+pub speck_back : (n : ℕ) → 1 ≤ n → n ≤ 3
+    → line_of no_head (speck_words n) ≡ Ok (line.Head (record no_head { section = section.Cores; version = n; calls = most_calls n }))
 unfolding line_of line_by speck_line end_at first_word is_word
-speck_back n low high = rw (number_back (speck_words n) 1 1 2 n refl low high (omega arith)) refl
+speck_back n low high = rw (number_back (speck_words n) 1 1 3 n refl low high (omega arith)) refl
 
 pub cores_back : (h : Head) (n : ℕ) → h.section ≡ section.Cores → 1 ≤ n → n ≤ 8
     → line_of h (cores_words n) ≡ Ok (line.Head (record h { section = section.Frames; cores = n }))
@@ -72,10 +74,12 @@ grant_back h g e fits =
       number_back (grant_words g) 3 1 16777215 g.quality refl fits.2 (omega arith) (omega arith),
     ) refl
 
-pub calls_back : (h : Head) (n : ℕ) → h.section ≡ section.Calls → n ≤ 4194304
+pub calls_back : (h : Head) (n : ℕ) → h.section ≡ section.Calls → n ≤ most_calls h.version
     → line_of h (calls_words n) ≡ Ok (line.Head (record h { section = section.Epochs; calls = n }))
 unfolding line_of line_by calls_line end_at first_word is_word
-calls_back h n e high = rw (e, number_back (calls_words n) 1 0 4194304 n refl (omega arith) high (omega arith)) refl
+calls_back h n e high =
+    let most = most_machine h.version in
+    rw (e, number_back (calls_words n) 1 0 (most_calls h.version) n refl (omega arith) high (omega arith)) refl
 
 pub epochs_back : (h : Head) (n : ℕ) → h.section ≡ section.Epochs → 1 ≤ n → n ≤ 65535
     → line_of h (epochs_words n) ≡ Ok (line.Head (record h { section = section.Lists; epochs = n }))

@@ -1,5 +1,6 @@
 pub mod Spans
 pub mod NumberWords
+pub mod KnownWords
 pub mod CallWords
 pub mod CallReading
 pub mod HeadLines

@@ -57,7 +57,7 @@ one_more : (b : Bool) → cond b 1 0 ≤ 1
 one_more true = omega arith
 one_more false = omega arith
 
-pub few_lines : (m : Meaning) → 1 ≤ m.version → m.version ≤ 2 → IsSetting m.setup → length m.lists ≡ m.setup.cores
+pub few_lines : (m : Meaning) → 1 ≤ m.version → m.version ≤ 3 → IsSetting m.setup → length m.lists ≡ m.setup.cores
     → All (All (IsCallWithin m.version)) m.lists → BelowCores m.setup.cores m.order → line_count (printed m) ≤ most_lines m
 few_lines m some most setting pairs calls below =
     let text = printed m in

@@ -146,7 +146,7 @@ order_lines_are [] all = refl
 order_lines_are (i ∷ is) all =
     rows_lines 0 i is (All-head (λ (j : Item). j.core < 8) i is all) (All-tail (λ (j : Item). j.core < 8) i is all)
 
-pub script_are_lines : (m : Meaning) → 1 ≤ m.version → m.version ≤ 2 → IsSetting m.setup → length m.lists ≡ m.setup.cores
+pub script_are_lines : (m : Meaning) → 1 ≤ m.version → m.version ≤ 3 → IsSetting m.setup → length m.lists ≡ m.setup.cores
     → All (All (IsCallWithin m.version)) m.lists → BelowCores m.setup.cores m.order → are_lines (script_lines m) ≡ true
 script_are_lines m some most setting n calls_in below =
     let s = m.setup in

@@ -7,7 +7,7 @@ use Rattle.std.proofs.lemmas.Bool.{cases_Bool, cases_lt, eqb-true, eqb-false, lt
 use Rattle.std.proofs.lemmas.List.{get_or_past, length_push, length-set, length-take-le}
 use Rattle.std.proofs.lemmas.List.Elements.{All-push, All-set, All-weaker, All-get_or, All-take, All-nil, All-replicate}
 use Rattle.spk_nums.specs.declared.calls.Call.{Call}
-use Rattle.spk_nums.specs.declared.calls.Call.TheVariants.{Copy}
+use Rattle.spk_nums.specs.declared.calls.Call.TheVariants.{Copy, Part}
 use Rattle.spk_nums.specs.declared.grants.Grant.{Grant}
 use Rattle.spk_nums.specs.declared.steps.Item.{Item}
 use Rattle.spk_nums.specs.Setting.{GrantFits, IsSetting}
@@ -24,6 +24,7 @@ use Rattle.call_reader.specs.declared.first_words.FirstWord.{FirstWord}
 use Rattle.call_reader.specs.declared.first_words.FirstWord.TheVariants as first
 use Rattle.call_reader.specs.FirstWords.{first_word}
 use Rattle.call_reader.specs.CallLines.{call_line}
+use Rattle.call_reader.specs.Versions.{most_calls}
 use Rattle.script_reader.specs.declared.head.Section.{Section}
 use Rattle.script_reader.specs.declared.head.Section.TheVariants as section
 use Rattle.script_reader.specs.declared.head.Head.{Head}
@@ -38,6 +39,7 @@ use Rattle.script_reader.specs.Readings.{draft_from, rows_of, meaning_of, meanin
 use Rattle.script_printer.specs.Printing.{printed}
 use Rattle.script_printer.specs.Law.{IsCallWithin, IsWithin}
 use Rattle.script_printer.proofs.CallLimits.{judged_is, bind_ok, args_none, args_one, args_three, number_in, call_in}
+use Rattle.script_printer.proofs.KnownWords.{IsWordIn, word_known, most_machine}
 
 -- ---- lines of the head
 
@@ -93,15 +95,16 @@ first_version : (s : Section) (h : Head) → may_stand s first.Speck ≡ true �
 first_version section.Version h t come = come.1
 first_version _ h t come = absurd cc
 
--- what a line makes of a head: a head, of version 1 only if it was so before
+-- what a line makes of a head: a head, of version 1 only if it was so before, and from version 3 on if it was so before
 abbrev Goes : Head → Head → Type 0
-Goes h g = IsHead g × (g.version ≡ 1 → h.version ≡ 1)
+Goes h g = IsHead g × (g.version ≡ 1 → h.version ≡ 1) × (3 ≤ h.version → 3 ≤ g.version)
 
 speck_in : (h g : Head) (words : List (List ℕ)) → IsHead h → may_stand h.section first.Speck ≡ true → speck_line h words ≡ Ok g → Goes h g
 unfolding speck_line
 speck_in h g words is t e =
-    let r = args_one (number_at words 1 1 2) (end_at words 2) (λ n. record h { section = section.Cores; version = n }) g e in
-    let n = number_in words 1 1 2 r.0 r.1 in
+    let r = args_one (number_at words 1 1 3) (end_at words 2)
+    (λ n. record h { section = section.Cores; version = n; calls = most_calls n }) g e in
+    let n = number_in words 1 1 3 r.0 r.1 in
     subst (Goes h) r.2 (
       record {
         some_version = n.0;
@@ -109,12 +112,14 @@ speck_in h g words is t e =
         some_core = is.some_core;
         most_cores = is.most_cores;
         fit = is.fit;
-        most_calls = is.most_calls;
+        most_calls = omega arith;
+        machine_calls = most_machine r.0;
         some_epoch = is.some_epoch;
         most_epochs = is.most_epochs;
         come = no_grants h.section h t is.come;
       },
       λ v. first_version h.section h t is.come,
+      λ v. let one : h.version ≡ 1 = first_version h.section h t is.come in absurd (omega arith),
     )
 
 cores_in : (h g : Head) (words : List (List ℕ)) → IsHead h → may_stand h.section first.Cores ≡ true → cores_line h words ≡ Ok g → Goes h g
@@ -130,10 +135,12 @@ cores_in h g words is t e =
         most_cores = n.1;
         fit = is.fit;
         most_calls = is.most_calls;
+        machine_calls = is.machine_calls;
         some_epoch = is.some_epoch;
         most_epochs = is.most_epochs;
         come = no_grants_cores h.section h t is.come;
       },
+      λ v. v,
       λ v. v,
     )
 
@@ -154,10 +161,12 @@ frames_in h g words is t e =
         most_cores = is.most_cores;
         fit = is.fit;
         most_calls = is.most_calls;
+        machine_calls = is.machine_calls;
         some_epoch = is.some_epoch;
         most_epochs = is.most_epochs;
         come = (number_in words 1 (4 + 2 * h.cores) 512 r.0 r.1, few);
       },
+      λ v. v,
       λ v. v,
     )
 
@@ -176,6 +185,7 @@ granted_in h g is come fits =
             most_cores = is.most_cores;
             fit = all;
             most_calls = is.most_calls;
+            machine_calls = is.machine_calls;
             some_epoch = is.some_epoch;
             most_epochs = is.most_epochs;
             come = (come.0, long ∙ last);
@@ -189,6 +199,7 @@ granted_in h g is come fits =
             most_cores = is.most_cores;
             fit = all;
             most_calls = is.most_calls;
+            machine_calls = is.machine_calls;
             some_epoch = is.some_epoch;
             most_epochs = is.most_epochs;
             come = (come.0, omega arith);
@@ -207,12 +218,15 @@ grant_in h g words is t e =
       granted_in h (record { budget = r.a; sched = r.b; quality = r.d }) is
           (some_grants h.section h t is.come) ((number_in words 1 0 500000000 r.a r.first).1, omega arith, quality.0, omega arith),
       λ v. v,
+      λ v. v,
     )
 
 calls_in : (h g : Head) (words : List (List ℕ)) → IsHead h → may_stand h.section first.Calls ≡ true → calls_line h words ≡ Ok g → Goes h g
 unfolding calls_line
 calls_in h g words is t e =
-    let r = args_one (number_at words 1 0 4194304) (end_at words 2) (λ n. record h { section = section.Epochs; calls = n }) g e in
+    let r = args_one (number_at words 1 0 (most_calls h.version)) (end_at words 2)
+    (λ n. record h { section = section.Epochs; calls = n }) g e in
+    let few : r.0 ≤ most_calls h.version = (number_in words 1 0 (most_calls h.version) r.0 r.1).1 in
     subst (Goes h) r.2 (
       record {
         some_version = is.some_version;
@@ -220,12 +234,14 @@ calls_in h g words is t e =
         some_core = is.some_core;
         most_cores = is.most_cores;
         fit = is.fit;
-        most_calls = (number_in words 1 0 4194304 r.0 r.1).1;
+        most_calls = few;
+        machine_calls = (let most = most_machine h.version in omega arith);
         some_epoch =
             is.some_epoch;
         most_epochs = is.most_epochs;
         come = all_grants_calls h.section h t is.come;
       },
+      λ v. v,
       λ v. v,
     )
 
@@ -244,10 +260,12 @@ epochs_in h g words is t e =
         most_cores = is.most_cores;
         fit = is.fit;
         most_calls = is.most_calls;
+        machine_calls = is.machine_calls;
         some_epoch = n.0;
         most_epochs = omega arith;
         come = all_grants_epochs h.section h t is.come;
       },
+      λ v. v,
       λ v. v,
     )
 
@@ -263,10 +281,12 @@ core_in h g words is t e =
         most_cores = is.most_cores;
         fit = is.fit;
         most_calls = is.most_calls;
+        machine_calls = is.machine_calls;
         some_epoch = is.some_epoch;
         most_epochs = is.most_epochs;
         come = all_grants_core h.section h t is.come;
       },
+      λ v. v,
       λ v. v,
     )
 
@@ -281,11 +301,13 @@ order_in h g words is t e =
         most_cores = is.most_cores;
         fit = is.fit;
         most_calls = is.most_calls;
+        machine_calls = is.machine_calls;
         some_epoch =
             is.some_epoch;
         most_epochs = is.most_epochs;
         come = all_grants_order h.section h t is.come;
       },
+      λ v. v,
       λ v. v,
     )
 
@@ -300,19 +322,19 @@ head_line h (Ok g) l within e = subst (IsLineWithin h) (judged_is (line.Head g) 
 head_line h (Err k) l within e = absurd cc
 
 line_by_in : (h : Head) (words : List (List ℕ)) (w : FirstWord) (l : Line)
-    → IsHead h → may_stand h.section w ≡ true → line_by h words w ≡ Ok l → IsLineWithin h l
+    → IsHead h → may_stand h.section w ≡ true → IsWordIn h.version w → line_by h words w ≡ Ok l → IsLineWithin h l
 unfolding line_by
-line_by_in h words first.Speck l is t e = head_line h (speck_line h words) l (λ g. speck_in h g words is t) e
-line_by_in h words first.Cores l is t e = head_line h (cores_line h words) l (λ g. cores_in h g words is t) e
-line_by_in h words first.Frames l is t e = head_line h (frames_line h words) l (λ g. frames_in h g words is t) e
-line_by_in h words first.Grant l is t e = head_line h (grant_line h words) l (λ g. grant_in h g words is t) e
-line_by_in h words first.Calls l is t e = head_line h (calls_line h words) l (λ g. calls_in h g words is t) e
-line_by_in h words first.Epochs l is t e = head_line h (epochs_line h words) l (λ g. epochs_in h g words is t) e
-line_by_in h words first.Core l is t e = head_line h (core_line h words) l (λ g. core_in h g words is t) e
-line_by_in h words first.Order l is t e = head_line h (order_line h words) l (λ g. order_in h g words is t) e
-line_by_in h words (first.Call v) l is t e =
+line_by_in h words first.Speck l is t known e = head_line h (speck_line h words) l (λ g. speck_in h g words is t) e
+line_by_in h words first.Cores l is t known e = head_line h (cores_line h words) l (λ g. cores_in h g words is t) e
+line_by_in h words first.Frames l is t known e = head_line h (frames_line h words) l (λ g. frames_in h g words is t) e
+line_by_in h words first.Grant l is t known e = head_line h (grant_line h words) l (λ g. grant_in h g words is t) e
+line_by_in h words first.Calls l is t known e = head_line h (calls_line h words) l (λ g. calls_in h g words is t) e
+line_by_in h words first.Epochs l is t known e = head_line h (epochs_line h words) l (λ g. epochs_in h g words is t) e
+line_by_in h words first.Core l is t known e = head_line h (core_line h words) l (λ g. core_in h g words is t) e
+line_by_in h words first.Order l is t known e = head_line h (order_line h words) l (λ g. order_in h g words is t) e
+line_by_in h words (first.Call v) l is t known e =
     let r = bind_ok (call_line h.version words v) (λ call. Ok (line.Call call)) l e in
-    subst (IsLineWithin h) (judged_is (line.Call r.0) l r.2) (call_in h.version words v r.0 r.1)
+    subst (IsLineWithin h) (judged_is (line.Call r.0) l r.2) (call_in h.version words v r.0 known r.1)
 
 abbrev failed : {A : Type 0} → Cause → Result A Cause
 failed k = Err k
@@ -323,10 +345,10 @@ no_value x k e = cc
 line_in : (h : Head) (words : List (List ℕ)) (l : Line) → IsHead h → line_of h words ≡ Ok l → IsLineWithin h l
 unfolding line_of
 line_in h words l is e =
-    let w = bind_ok (ok_or (option_and_then first_word (slice_get words 0)) S2)
+    let w = bind_ok (ok_or (option_and_then (first_word h.version) (slice_get words 0)) S2)
     (λ word. cond (may_stand h.section word) (line_by h words word) (Err S7)) l e in
     elim (cases_Bool (may_stand h.section w.0)) [
-      | inl t ↦ line_by_in h words w.0 l is t (rw t at w.2)
+      | inl t ↦ line_by_in h words w.0 l is t (word_known h.version (slice_get words 0) w.0 w.1) (rw t at w.2)
       | inr t ↦ absurd (no_value l S7 (rw t at w.2))
     ]
 
@@ -336,9 +358,9 @@ below_in : (b : Bool) (n m : ℕ) → cond b (Ok n) (failed S6) ≡ Ok m → (b 
 below_in true n m e = (refl, judged_is n m e)
 below_in false n m e = absurd (no_value m S6 e)
 
-parts_in : (cores : ℕ) (word : List ℕ) (o : Option Parts) (i : Item) → judged cores word o ≡ Ok i → i.core < cores
-parts_in cores word None i e = absurd (no_value i (no_item word) e)
-parts_in cores word (Some p) i e =
+parts_in : (version cores : ℕ) (word : List ℕ) (o : Option Parts) (i : Item) → judged version cores word o ≡ Ok i → i.core < cores
+parts_in version cores word None i e = absurd (no_value i (no_item version word) e)
+parts_in version cores word (Some p) i e =
     let r = bind_ok (cond (ltb (value_of p.digits) cores) (Ok (value_of p.digits)) (failed S6))
     (λ core. Ok (record { core = core; how = p.how })) i e in
     let t = below_in (ltb (value_of p.digits) cores) (value_of p.digits) r.0 r.1 in
@@ -347,9 +369,9 @@ parts_in cores word (Some p) i e =
     let core : r.0 ≡ i.core = ap (λ (x : Item). x.core) (judged_is (record { core = r.0; how = p.how }) i r.2) in
     omega arith
 
-item_in : (cores : ℕ) (word : List ℕ) (i : Item) → item_of cores word ≡ Ok i → i.core < cores
+item_in : (version cores : ℕ) (word : List ℕ) (i : Item) → item_of version cores word ≡ Ok i → i.core < cores
 unfolding item_of
-item_in cores word i e = parts_in cores word (parts_of word) i e
+item_in version cores word i e = parts_in version cores word (parts_of word) i e
 
 -- an order of cores below their number, with at most 200,000 items
 record IsOrder (cores : ℕ) (order : List Item) : Type 0 where
@@ -360,18 +382,18 @@ with_in : (b : Bool) (o more : List Item) (i : Item) → cond b (Ok (o ++ i ∷ 
 with_in true o more i e = (refl, judged_is (o ++ i ∷ []) more e)
 with_in false o more i e = absurd (no_value more S9 e)
 
-items_in : (cores : ℕ) (o : List Item) (words : List (List ℕ)) (r : List Item)
-    → IsOrder cores o → items_of cores o words ≡ Ok r → IsOrder cores r
-items_in cores o [] r is e = subst (IsOrder cores) (judged_is o r e) is
-items_in cores o (word ∷ words) r is e =
-    let i = bind_ok (item_of cores word) (λ item. with_item o item >>= λ more. items_of cores more words) r e in
-    let m = bind_ok (with_item o i.0) (λ more. items_of cores more words) r i.2 in
+items_in : (version cores : ℕ) (o : List Item) (words : List (List ℕ)) (r : List Item)
+    → IsOrder cores o → items_of version cores o words ≡ Ok r → IsOrder cores r
+items_in version cores o [] r is e = subst (IsOrder cores) (judged_is o r e) is
+items_in version cores o (word ∷ words) r is e =
+    let i = bind_ok (item_of version cores word) (λ item. with_item o item >>= λ more. items_of version cores more words) r e in
+    let m = bind_ok (with_item o i.0) (λ more. items_of version cores more words) r i.2 in
     let t = with_in (ltb (length o) 200000) o m.0 i.0 m.1 in
     let room : length o < 200000 = ltb-true (length o) 200000 t.0 in
     let long : length (o ++ i.0 ∷ []) ≡ length o + 1 = length_push o i.0 in
     let pushed : IsOrder cores (o ++ i.0 ∷ []) =
-    record { below = All-push (λ (x : Item). x.core < cores) o i.0 is.below (item_in cores word i.0 i.1); room = omega arith } in
-    items_in cores m.0 words r (subst (IsOrder cores) t.1 pushed) m.2
+    record { below = All-push (λ (x : Item). x.core < cores) o i.0 is.below (item_in version cores word i.0 i.1); room = omega arith } in
+    items_in version cores m.0 words r (subst (IsOrder cores) t.1 pushed) m.2
 
 -- ---- drafts
 
@@ -386,9 +408,10 @@ record IsRead (d : Draft_of) : Type 0 where
 no_order : (cores : ℕ) (order : List Item) → order ≡ [] → IsOrder cores order
 no_order cores order e = subst (IsOrder cores) (sym e) (record { below = All-nil (λ (x : Item). x.core < cores); room = omega arith })
 
--- a call that is within the limits of a version is so in one that is 1 only if that is
-later_version : (v w : ℕ) → (w ≡ 1 → v ≡ 1) → (c : Call) → IsCallWithin v c → IsCallWithin w c
-later_version v w goes (Copy a t b rights) h = (h.0, h.1, h.2, h.3, λ one. h.4 (goes one))
+-- a call that is within the limits of a version is so in one that is 1 only if that is, and from 3 on if that is
+later_version : (v w : ℕ) → (w ≡ 1 → v ≡ 1) × (3 ≤ v → 3 ≤ w) → (c : Call) → IsCallWithin v c → IsCallWithin w c
+later_version v w goes (Copy a t b rights) h = (h.0, h.1, h.2, h.3, λ one. h.4 (goes.0 one))
+later_version v w goes (Part r f n t b) h = (goes.1 h.0, h.1, h.2, h.3, h.4, h.5)
 later_version v w goes c h = h
 
 call_more : (v : ℕ) (lists : List (List Call)) (core : ℕ) (c : Call) → All (All (IsCallWithin v)) lists
@@ -407,7 +430,7 @@ line_read d (line.Head g) is none h =
       head = h.0;
       eight = is.eight;
       calls = All-weaker (All (IsCallWithin d.head.version)) (All (IsCallWithin g.version))
-          (λ cs. All-weaker (IsCallWithin d.head.version) (IsCallWithin g.version) (later_version d.head.version g.version h.1) cs)
+          (λ cs. All-weaker (IsCallWithin d.head.version) (IsCallWithin g.version) (later_version d.head.version g.version (h.1, h.2)) cs)
           d.lists is.calls;
       order = no_order g.cores d.order (is.before none);
       before = λ t. is.before none;
@@ -426,8 +449,8 @@ unfolding draft_behind behind_line
 behind_read d e words is h =
     elim (cases_Bool (is_order d.head.section)) [
       | inl t ↦
-          let r = bind_ok (items_of d.head.cores d.order words) (λ order. Ok (record d { order = order })) e (rw t at h) in
-          let order : IsOrder d.head.cores r.0 = items_in d.head.cores d.order words r.0 is.order r.1 in
+          let r = bind_ok (items_of d.head.version d.head.cores d.order words) (λ order. Ok (record d { order = order })) e (rw t at h) in
+          let order : IsOrder d.head.cores r.0 = items_in d.head.version d.head.cores d.order words r.0 is.order r.1 in
           subst IsRead (judged_is (record d { order = r.0 }) e r.2)
           (record { head = is.head; eight = is.eight; calls = is.calls; order = order; before = λ f. absurd (both t f) })
       | inr t ↦
@@ -469,6 +492,7 @@ none_read =
         most_cores = omega arith;
         fit = All-nil GrantFits;
         most_calls = omega arith;
+        machine_calls = omega arith;
         some_epoch = omega arith;
         most_epochs = omega arith;
         come = (refl, refl);
@@ -484,9 +508,9 @@ none_read =
 -- a script within the limits, but for its lines
 record IsInRange (m : Meaning) : Type 0 where
   some_version : 1 ≤ m.version
-  most_versions : m.version ≤ 2
+  most_versions : m.version ≤ 3
   setup : IsSetting m.setup
-  limit : m.setup.calls ≤ 4194304
+  limit : m.setup.calls ≤ most_calls m.version
   lists : length m.lists ≡ m.setup.cores
   calls : All (All (IsCallWithin m.version)) m.lists
   order : IsOrder m.setup.cores m.order
@@ -506,7 +530,7 @@ meaning_in d is whole =
         most_frames = come.0.1;
         granted = come.1;
         grants_fit = is.head.fit;
-        most_calls = omega (arith, is.head.most_calls);
+        most_calls = is.head.machine_calls;
         some_epoch = is.head.some_epoch;
         most_epochs = is.head.most_epochs;
       };

@@ -27,6 +27,7 @@ use Rattle.script_printer.proofs.HeadLines.{speck_words, cores_words, frames_wor
 use Rattle.script_printer.proofs.HeadLines.{epochs_words, core_words, order_words, IsListing, speck_back, cores_back}
 use Rattle.script_printer.proofs.HeadLines.{frames_back, grant_back, calls_back, epochs_back, core_line_back, order_back}
 use Rattle.script_printer.proofs.ItemWords.{in_front, item_rows, order_rows, item_read}
+use Rattle.call_reader.specs.Versions.{most_calls}
 
 -- after a draft, these lines say that script, wherever they stand
 pub record Says (d : Draft_of) (lines : List (List (List ℕ))) (m : Meaning) : Type 0 where
@@ -64,7 +65,7 @@ unfolding draft_behind behind_line
 head_behind h new lists order words before e = rw (before, e) refl
 
 call_behind : (h : Head) (lists : List (List Call)) (order : List Item) (c : Call) → h.section ≡ section.List
-    → 1 ≤ h.version → h.version ≤ 2 → IsCallWithin h.version c → draft_behind (draft h lists order) (call_words c) ≡ Ok (draft h (with_call lists h.core c) order)
+    → 1 ≤ h.version → h.version ≤ 3 → IsCallWithin h.version c → draft_behind (draft h lists order) (call_words c) ≡ Ok (draft h (with_call lists h.core c) order)
 unfolding draft_behind behind_line
 call_behind h lists order c e some most within = rw (ap is_order e, call_back h c e some most within) refl
 
@@ -131,7 +132,7 @@ one_more done after x core c e =
     ∙ set-append_seam done x after (x ++ c ∷ [])
 
 calls_say : (calls : List Call) (h : Head) (done after : List (List Call)) (x : List Call) (lines : List (List (List ℕ))) (m : Meaning)
-    → h.section ≡ section.List → 1 ≤ h.version → h.version ≤ 2 → h.core ≡ length done → All (IsCallWithin h.version) calls
+    → h.section ≡ section.List → 1 ≤ h.version → h.version ≤ 3 → h.core ≡ length done → All (IsCallWithin h.version) calls
     → Says (draft h (done ++ (x ++ calls) ∷ after) []) lines m → Says (draft h (done ++ x ∷ after) []) (calls_then calls lines) m
 calls_say [] h done after x lines m e some most at within more =
     subst (λ (l : List Call). Says (draft h (done ++ l ∷ after) []) lines m) (append-nil x) more
@@ -147,7 +148,7 @@ calls_say (c ∷ cs) h done after x lines m e some most at within more =
     says_line (draft h (done ++ x ∷ after) []) (draft h (done ++ (x ++ c ∷ []) ∷ after) []) (call_words c) (calls_then cs lines) m one rest
 
 core_says : (calls : List Call) (h : Head) (done after : List (List Call)) (core : ℕ) (lines : List (List (List ℕ))) (m : Meaning)
-    → IsListing h.section → 1 ≤ h.version → h.version ≤ 2 → core ≡ length done → core < h.cores → h.cores ≤ 8
+    → IsListing h.section → 1 ≤ h.version → h.version ≤ 3 → core ≡ length done → core < h.cores → h.cores ≤ 8
     → All (IsCallWithin h.version) calls
     → ((g : Head) → setting_of g ≡ setting_of h → g.version ≡ h.version → IsListing g.section → Says (draft g (done ++ calls ∷ after) []) lines m)
     → Says (draft h (done ++ [] ∷ after) []) (core_then core calls lines) m
@@ -165,7 +166,7 @@ emptied [] = []
 emptied (l ∷ ls) = [] ∷ emptied ls
 
 lists_say : (lists : List (List Call)) (h : Head) (done after : List (List Call)) (core : ℕ) (lines : List (List (List ℕ))) (m : Meaning)
-    → IsListing h.section → 1 ≤ h.version → h.version ≤ 2 → core ≡ length done → core + length lists ≡ h.cores → h.cores ≤ 8
+    → IsListing h.section → 1 ≤ h.version → h.version ≤ 3 → core ≡ length done → core + length lists ≡ h.cores → h.cores ≤ 8
     → All (All (IsCallWithin h.version)) lists
     → ((g : Head) → setting_of g ≡ setting_of h → g.version ≡ h.version → IsListing g.section → Says (draft g (done ++ (lists ++ after)) []) lines m)
     → Says (draft h (done ++ (emptied lists ++ after)) []) (lists_then core lists lines) m
@@ -272,7 +273,7 @@ sized v s = record {
   cores = s.cores;
   frames = s.frames;
   grants = [];
-  calls = 4194304;
+  calls = most_calls v;
   epochs = 65535;
   core = 0;
 }
@@ -290,13 +291,13 @@ limited v s = record {
   core = 0;
 }
 
-setup_says : (v : ℕ) (s : Setting) (lists : List (List Call)) (lines : List (List (List ℕ))) (m : Meaning) → 1 ≤ v → v ≤ 2 → IsSetting s
-    → s.calls ≤ 4194304 → Says (draft (limited v s) lists []) lines m
+setup_says : (v : ℕ) (s : Setting) (lists : List (List Call)) (lines : List (List (List ℕ))) (m : Meaning) → 1 ≤ v → v ≤ 3 → IsSetting s
+    → s.calls ≤ most_calls v → Says (draft (limited v s) lists []) lines m
     → Says (draft no_head lists []) (speck_words v ∷ cores_words s.cores ∷ frames_words s.frames
     ∷ grants_then s.grants (calls_words s.calls ∷ epochs_words s.epochs ∷ lines)) m
 setup_says v s lists lines m some most within limit more =
-    let h1 : Head = record no_head { section = section.Cores; version = v } in
-    let h2 : Head = record no_head { section = section.Frames; version = v; cores = s.cores } in
+    let h1 : Head = record no_head { section = section.Cores; version = v; calls = most_calls v } in
+    let h2 : Head = record no_head { section = section.Frames; version = v; cores = s.cores; calls = most_calls v } in
     let h3 : Head = sized v s in
     let h4 : Head = all_granted h3 s.grants in
     let h5 : Head = record h4 { section = section.Epochs; calls = s.calls } in
@@ -330,7 +331,7 @@ meaning_back g m after version same n =
     λ i. record { version = version i; setup = same i; lists = lists i; order = m.order }
 
 -- the lines of a script within the limits say that script
-pub script_says : (m : Meaning) → 1 ≤ m.version → m.version ≤ 2 → IsSetting m.setup → m.setup.calls ≤ 4194304
+pub script_says : (m : Meaning) → 1 ≤ m.version → m.version ≤ 3 → IsSetting m.setup → m.setup.calls ≤ most_calls m.version
     → length m.lists ≡ m.setup.cores → All (All (IsCallWithin m.version)) m.lists
     → BelowCores m.setup.cores m.order → length m.order ≤ 200000 → Says no_draft (script_lines m) m
 script_says m some most setup limit n calls below room =

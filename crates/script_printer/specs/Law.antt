@@ -5,12 +5,13 @@ use Rattle.spk_nums.specs.declared.calls.Make.TheVariants.{Thread, Tcap, Comp}
 use Rattle.spk_nums.specs.declared.calls.Call.{Call}
 use Rattle.spk_nums.specs.declared.calls.Call.TheVariants.{Look, Copy, Remove, Grow, Shrink, Retype, Make as make_call}
 use Rattle.spk_nums.specs.declared.calls.Call.TheVariants.{Map, Unmap, Touch, Flush, Gate, Kill, Call as call_gate}
-use Rattle.spk_nums.specs.declared.calls.Call.TheVariants.{Ret, Switch, Tick, Transfer, Delegate, Test}
+use Rattle.spk_nums.specs.declared.calls.Call.TheVariants.{Ret, Switch, Tick, Transfer, Delegate, Test, Part}
 use Rattle.spk_nums.specs.Rights.{both}
 use Rattle.spk_nums.specs.Setting.{IsSetting}
 use Rattle.script_tokens.specs.Words.{line_count}
 use Rattle.script_reader.specs.Readings.{Meaning, BelowCores, script_of}
 use Rattle.script_printer.specs.Printing.{printed}
+use Rattle.call_reader.specs.Versions.{most_calls}
 
 -- the number of a capability, a page, a root entry or a frame
 abbrev pub IsName : ℕ → Type 0
@@ -49,14 +50,15 @@ IsCallWithin version (Tick n) = n ≤ 1000000
 IsCallWithin version (Transfer a b m) = IsName a × IsName b × IsAmount m
 IsCallWithin version (Delegate a b m) = IsName a × IsName b × IsAmount m
 IsCallWithin version (Test a b) = IsName a × IsName b
+IsCallWithin version (Part r f n t b) = (3 ≤ version) × IsName r × IsName f × IsName n × IsName t × IsName b
 
--- a script within the limits: its version is 1 or 2, its setup is one with no more calls than a script may give, each core has a list,
+-- a script within the limits: its version is 1 to 3, its setup is one with no more calls than a script may give, each core has a list,
 -- arguments and items are in their ranges, the items are at most 200,000, and its printed form has at most 20,000 lines
 pub record IsWithin (m : Meaning) : Type 0 where
   pub some_version : 1 ≤ m.version
-  pub most_versions : m.version ≤ 2
+  pub most_versions : m.version ≤ 3
   pub setup : IsSetting m.setup
-  pub limit : m.setup.calls ≤ 4194304
+  pub limit : m.setup.calls ≤ most_calls m.version
   pub lists : length m.lists ≡ m.setup.cores
   pub calls : All (All (IsCallWithin m.version)) m.lists
   pub below : BelowCores m.setup.cores m.order
@@ -82,5 +84,5 @@ most_lines m = 7 + length m.setup.grants + most_list_lines m.lists + length m.or
 
 -- a script whose parts are within the limits has at most so many lines in its printed form
 abbrev pub HasFewLines : Meaning → Type 0
-HasFewLines m = 1 ≤ m.version → m.version ≤ 2 → IsSetting m.setup → length m.lists ≡ m.setup.cores → All (All (IsCallWithin m.version)) m.lists
+HasFewLines m = 1 ≤ m.version → m.version ≤ 3 → IsSetting m.setup → length m.lists ≡ m.setup.cores → All (All (IsCallWithin m.version)) m.lists
     → BelowCores m.setup.cores m.order → line_count (printed m) ≤ most_lines m

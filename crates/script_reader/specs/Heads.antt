@@ -1,5 +1,5 @@
 -- What comes before the calls, and where each line may stand.
-use Rattle.std.specs.Prelude.{◌≡◌, ◌<◌, ◌≤◌, ◌^◌, All, ℕ, List, [], ◌∷◌, ◌++◌, Bool, true, false}
+use Rattle.std.specs.Prelude.{◌≡◌, ◌<◌, ◌≤◌, ◌^◌, ◌-◌, All, ℕ, List, [], ◌∷◌, ◌++◌, Bool, true, false}
 use Rattle.std.specs.Prelude.{Result, Ok, Err, length, slice_get, ◌+◌, ◌*◌, ◌==◌, if◌then◌else◌}
 use Rattle.std.specs.Option.{ok_or, option_and_then}
 use Rattle.spk_nums.specs.declared.grants.Grant.{Grant}
@@ -13,6 +13,7 @@ use Rattle.call_reader.specs.declared.first_words.FirstWord.{FirstWord}
 use Rattle.call_reader.specs.declared.first_words.FirstWord.TheVariants as first
 use Rattle.call_reader.specs.FirstWords.{first_word}
 use Rattle.call_reader.specs.CallLines.{call_line}
+use Rattle.call_reader.specs.Versions.{most_calls}
 use Rattle.script_reader.specs.declared.head.Section.{Section}
 use Rattle.script_reader.specs.declared.head.Section.TheVariants as section
 use Rattle.script_reader.specs.declared.head.Head.{Head}
@@ -43,9 +44,9 @@ may_stand _ _ = false
 -- `speck V`: the version
 unfoldable pub speck_line : Head → List (List ℕ) → Result Head Cause
 speck_line head words = do
-  n ← number_at words 1 1 2
+  n ← number_at words 1 1 3
   done ← end_at words 2
-  Ok (record head { section = section.Cores; version = n })
+  Ok (record head { section = section.Cores; version = n; calls = most_calls n })
 
 -- `cores n`
 unfoldable pub cores_line : Head → List (List ℕ) → Result Head Cause
@@ -81,7 +82,7 @@ grant_line head words = do
 -- `calls N`
 unfoldable pub calls_line : Head → List (List ℕ) → Result Head Cause
 calls_line head words = do
-  n ← number_at words 1 0 4194304
+  n ← number_at words 1 0 (most_calls head.version)
   done ← end_at words 2
   Ok (record head { section = section.Epochs; calls = n })
 
@@ -123,7 +124,7 @@ line_by head words (first.Call verb) = call_line head.version words verb >>= λ 
 -- a line before the order of steps: its first word is judged for S2, then S7, and then its arguments
 unfoldable pub line_of : Head → List (List ℕ) → Result Line Cause
 line_of head words = do
-  word ← ok_or (option_and_then first_word (slice_get words 0)) S2
+  word ← ok_or (option_and_then (first_word head.version) (slice_get words 0)) S2
   if may_stand head.section word then line_by head words word else Err S7
 
 -- the setup before the first line
@@ -162,11 +163,12 @@ HasCome _ h = AreFrames h × (length h.grants ≡ h.cores)
 -- a head that lines lead to
 pub record IsHead (h : Head) : Type 0 where
   pub some_version : 1 ≤ h.version
-  pub most_versions : h.version ≤ 2
+  pub most_versions : h.version ≤ 3
   pub some_core : 1 ≤ h.cores
   pub most_cores : h.cores ≤ 8
   pub fit : All GrantFits h.grants
-  pub most_calls : h.calls ≤ 4194304
+  pub most_calls : h.calls ≤ most_calls h.version
+  pub machine_calls : h.calls ≤ 2 ^ 40 - 1
   pub some_epoch : 1 ≤ h.epochs
   pub most_epochs : h.epochs < 2 ^ 16
   pub come : HasCome h.section h

@@ -44,23 +44,24 @@ core_below n cores = if nat_lt n cores then Ok n else Err S6
 abbrev pub item_at : ℕ → Parts → Result Item Cause
 item_at cores p = core_below (value_of p.digits) cores >>= λ core. Ok (record { core = core; how = p.how })
 
--- a word that is no item: S7 if it is a known first word, else S2
-abbrev pub no_item : List ℕ → Cause
-no_item word = if is_some (first_word word) then S7 else S2
+-- a word that is no item: S7 if it is a known first word in a script of this version, else S2
+abbrev pub no_item : ℕ → List ℕ → Cause
+no_item version word = if is_some (first_word version word) then S7 else S2
 
-abbrev pub judged : ℕ → List ℕ → Option Parts → Result Item Cause
-judged cores word None = Err (no_item word)
-judged cores word (Some p) = item_at cores p
+abbrev pub judged : ℕ → ℕ → List ℕ → Option Parts → Result Item Cause
+judged version cores word None = Err (no_item version word)
+judged version cores word (Some p) = item_at cores p
 
 -- the item that a word is: S2 or S7, then S6
-unfoldable pub item_of : ℕ → List ℕ → Result Item Cause
-item_of cores word = judged cores word (parts_of word)
+unfoldable pub item_of : ℕ → ℕ → List ℕ → Result Item Cause
+item_of version cores word = judged version cores word (parts_of word)
 
 -- the order with one more item, which may be the 200,000th; else S9
 abbrev pub with_item : List Item → Item → Result (List Item) Cause
 with_item order item = if nat_lt (length order) 200000 then Ok (order ++ item ∷ []) else Err S9
 
 -- the order after the items of a line, judged from left to right
-abbrev pub items_of : ℕ → List Item → List (List ℕ) → Result (List Item) Cause
-items_of cores order [] = Ok order
-items_of cores order (word ∷ words) = item_of cores word >>= λ item. with_item order item >>= λ more. items_of cores more words
+abbrev pub items_of : ℕ → ℕ → List Item → List (List ℕ) → Result (List Item) Cause
+items_of version cores order [] = Ok order
+items_of version cores order (word ∷ words) =
+    item_of version cores word >>= λ item. with_item order item >>= λ more. items_of version cores more words

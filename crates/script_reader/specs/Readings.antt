@@ -62,7 +62,7 @@ behind_line d words = line_of d.head words >>= λ line. Ok (with_line d line)
 unfoldable pub draft_behind : Draft_of → List (List ℕ) → Result Draft_of Cause
 draft_behind d words =
     if is_order d.head.section
-    then (items_of d.head.cores d.order words >>= λ order. Ok (record d { order = order }))
+    then (items_of d.head.version d.head.cores d.order words >>= λ order. Ok (record d { order = order }))
     else behind_line d words
 
 -- the draft after a line of this number, or its fault
@@ -137,7 +137,7 @@ script_view s = record { version = s.version; setup = s.setup; lists = lists_of 
 -- a script is of version 1 or 2, has a list for each core, its calls are in range, and its items are of its cores
 pub record IsScript (s : Script) : Type 0 where
   pub some_version : 1 ≤ s.version
-  pub most_versions : s.version ≤ 2
+  pub most_versions : s.version ≤ 3
   pub lists : length s.lists.items ≡ s.setup.cores
   pub limits : All (All InLimits) (lists_of s.lists.items)
   pub below : BelowCores s.setup.cores s.order.items

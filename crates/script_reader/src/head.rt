@@ -8,8 +8,10 @@ ghost use Rattle.script_reader.specs.declared.head.Section.TheVariants as sectio
 ghost use Rattle.script_reader.specs.Heads.{may_stand, speck_line, cores_line, frames_line, grant_line, calls_line, epochs_line};
 ghost use Rattle.script_reader.specs.Heads.{core_line, order_line, line_by, line_of, no_head, is_whole, granted, IsHead, IsLine};
 
-use call_reader::{FirstWord, byte_at, call_line, core_at, first_word, half_at, whole_at};
-use line_reader::{Cause, end_at};
+use call_reader::{
+    FirstWord, byte_at, call_line, core_at, first_word, half_at, most_calls, whole_at,
+};
+use line_reader::{Cause, end_at, number_at};
 use script_tokens::Token;
 use spk_nums::{Call, CoreNo, Grant, Grants};
 
@@ -40,12 +42,12 @@ pub enum Section {
 #[derive(Clone, Copy, Debug)]
 pub struct Head {
     pub section: Section,
-    /// The script's version, 1 or 2.
+    /// The script's version, 1 to 3.
     pub version: u8,
     pub cores: u8,
     pub frames: u16,
     pub grants: Grants,
-    pub calls: u32,
+    pub calls: u64,
     pub epochs: u16,
     /// The core that was named last.
     pub core: CoreNo,
@@ -119,11 +121,12 @@ fn speck_line(head: &Head, words: &[Token]) -> Result<Head, Cause>
     ensures value { result ≡ speck_line head.now (texts words.now) }
     ensures head { IfOk result IsHead }
 {
-    let version = byte_at(words, 1, 1, 2)?;
+    let version = byte_at(words, 1, 1, 3)?;
     end_at(words, 2)?;
     Ok(Head {
         section: Section::Cores,
         version,
+        calls: most_calls(version),
         ..*head
     })
 }
@@ -205,7 +208,7 @@ fn calls_line(head: &Head, words: &[Token]) -> Result<Head, Cause>
     ensures value { result ≡ calls_line head.now (texts words.now) }
     ensures head { IfOk result IsHead }
 {
-    let calls = whole_at(words, 1, 0, 4_194_304)?;
+    let calls = number_at(words, 1, 0, most_calls(head.version))?;
     end_at(words, 2)?;
     Ok(Head {
         section: Section::Epochs,
@@ -285,12 +288,12 @@ fn line_by(head: &Head, words: &[Token], first: FirstWord) -> Result<Line, Cause
     Ok(Line::Head(head?))
 }
 
-/// The known first word of a line, if it has one.
-pub fn first_of(words: &[Token]) -> Option<FirstWord>
-    ensures { result ≡ option_and_then first_word (slice_get (texts words.now) 0) }
+/// The known first word of a line of a script of this version, if it has one.
+pub fn first_of(words: &[Token], version: u8) -> Option<FirstWord>
+    ensures { result ≡ option_and_then (first_word version) (slice_get (texts words.now) 0) }
 {
     match words.first() {
-        Some(word) => first_word(word.text),
+        Some(word) => first_word(word.text, version),
         None => None,
     }
 }
@@ -302,7 +305,7 @@ pub fn line_of(head: &Head, words: &[Token]) -> Result<Line, Cause>
     ensures value { result ≡ line_of head.now (texts words.now) }
     ensures range { IfOk result IsLine }
 {
-    let first = first_of(words).ok_or(Cause::S2)?;
+    let first = first_of(words, head.version).ok_or(Cause::S2)?;
     if may_stand(head.section, first) {
         line_by(head, words, first)
     } else {

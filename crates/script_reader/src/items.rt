@@ -71,11 +71,11 @@ fn core_below(digits: &[u8], cores: u8) -> Result<CoreNo, Cause>
     }
 }
 
-// Why a word is no item.
-fn no_item(word: &[u8]) -> Cause
-    ensures { result ≡ no_item word.now }
+// Why a word is no item of a script of this version.
+fn no_item(version: u8, word: &[u8]) -> Cause
+    ensures { result ≡ no_item version word.now }
 {
-    if first_word(word).is_some() {
+    if first_word(word, version).is_some() {
         Cause::S7
     } else {
         Cause::S2
@@ -83,9 +83,9 @@ fn no_item(word: &[u8]) -> Cause
 }
 
 #[tactic(auto, unfolding(crate::specs::Orders::item_of))]
-fn item_of(cores: u8, word: &[u8]) -> Result<Item, Cause>
+fn item_of(version: u8, cores: u8, word: &[u8]) -> Result<Item, Cause>
     requires { cores ≤ 8 }
-    ensures value { result ≡ item_of cores word.now }
+    ensures value { result ≡ item_of version cores word.now }
     ensures below { IfOk result (λ item. item.core < cores) }
 {
     match parts_of(word) {
@@ -93,18 +93,23 @@ fn item_of(cores: u8, word: &[u8]) -> Result<Item, Cause>
             let core = core_below(digits, cores)?;
             Ok(Item { core, how })
         }
-        None => Err(no_item(word)),
+        None => Err(no_item(version, word)),
     }
 }
 
-/// Adds the items of a line to an order, from left to right.
-pub fn take_items(order: &mut Vec<Item>, words: &[Token], cores: u8) -> Result<(), LineFault>
+/// Adds the items of a line of a script of this version to an order, from left to right.
+pub fn take_items(
+    order: &mut Vec<Item>,
+    words: &[Token],
+    version: u8,
+    cores: u8,
+) -> Result<(), LineFault>
     requires { cores ≤ 8 }
-    ensures value { Takes result order.new.items (items_of cores order.old.items (texts words.now)) }
+    ensures value { Takes result order.new.items (items_of version cores order.old.items (texts words.now)) }
     ensures below { BelowCores cores order.old.items → BelowCores cores order.new.items }
 {
     'items: for word in words {
-        let item = item_of(cores, word.text)?;
+        let item = item_of(version, cores, word.text)?;
         if order.len() >= MOST_ITEMS {
             return Err(LineFault::Cause(Cause::S9));
         }

@@ -16,7 +16,7 @@ use script_tokens::{Ending, Token};
 use spk_nums::{Call, CoreNo, Item, Make, Setup};
 use std::alloc::{AllocError, Global};
 
-/// A script: its version, 1 or 2, its setup, a list of calls for each core, core 0 first, and the items of its order.
+/// A script: its version, 1 to 3, its setup, a list of calls for each core, core 0 first, and the items of its order.
 #[derive(Debug, Drop)]
 pub struct Script {
     pub version: u8,
@@ -108,8 +108,9 @@ fn take_line(draft: &mut Draft, words: &[Token]) -> Result<(), LineFault>
     ensures draft { OnOk result (IsDraft (draft_view draft.new)) }
 {
     if is_order(draft.head.section) {
+        let version = draft.head.version;
         let cores = draft.head.cores;
-        take_items(&mut draft.order, words, cores)
+        take_items(&mut draft.order, words, version, cores)
     } else {
         take_head_line(draft, words)
     }
@@ -125,7 +126,7 @@ fn setup_of(head: &Head) -> Setup
         head.cores,
         head.frames,
         head.grants,
-        u64::from(head.calls),
+        head.calls,
         head.epochs,
     );
     setup.unwrap()
@@ -194,7 +195,7 @@ impl Draft {
         self.head.cores
     }
 
-    /// The script's version, 1 or 2; 1 where no line says so yet.
+    /// The script's version, 1 to 3; 1 where no line says so yet.
     pub fn version(&self) -> u8
         ensures { result ≡ (draft_view self.now).head.version }
     {

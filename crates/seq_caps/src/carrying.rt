@@ -164,6 +164,23 @@ fn copy(k: &mut SeqKernel, looked: &Looked, rights: Rights) -> Value
     Value::Nothing
 }
 
+/// `part`: the place holds the range of these frames, with the rights of the range that has them.
+fn part(k: &mut SeqKernel, frame: FrameArg, count: u16, looked: &Looked) -> Value
+    ensures { (core r t b : ℕ) → MayCarry (state_of k.old) core (Part r frame count t b) looked.now
+        → IsCarriedOut (state_of k.old) (change_in (left_of (rule_of (state_of k.old) core (Part r frame count t b)) looked.now))
+        (ok result) k.new }
+{
+    if let Some(range) = looked.first {
+        if let Some(at) = looked.at {
+            if frame.number() < k.frames() {
+                fill(k, at, range.part(FrameNo::new(frame.number()), count));
+                return Value::Nothing;
+            }
+        }
+    }
+    Value::Nothing
+}
+
 /// `grow`: the root entry links the leaf.
 fn grow(k: &mut SeqKernel, looked: &Looked) -> Value
     ensures { (core t i l : ℕ) → MayCarry (state_of k.old) core (Grow t i l) looked.now
@@ -218,13 +235,20 @@ pub fn carry_out(k: &mut SeqKernel, core: CoreNo, call: &Call, looked: &Looked) 
             table: _,
             slot: _,
         } => make(k, &what, frame, looked),
+        Call::Part {
+            r: _,
+            f,
+            n,
+            t: _,
+            b: _,
+        } => part(k, f, n, looked),
         _ => unreachable!(),
     }
 }
 
 ghost use Rattle.std.specs.Prelude.{ℕ, Some};
 ghost use Rattle.spk_nums.specs.Capability.{Capability};
-ghost use Rattle.spk_nums.specs.declared.calls.Call.TheVariants.{Copy, Grow};
+ghost use Rattle.spk_nums.specs.declared.calls.Call.TheVariants.{Copy, Grow, Part};
 ghost use Rattle.spk_nums.specs.declared.replies.Value.TheVariants.{Nothing, Cap as cap_value};
 ghost use Rattle.kernel_rules.specs.Access.{Slot as slot};
 ghost use Rattle.kernel_rules.specs.Rules.{Found, removes};

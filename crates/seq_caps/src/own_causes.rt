@@ -8,7 +8,7 @@ ghost use Rattle.seq_plans.specs.OwnCauses.{cause_of, causes_in, AreFitCauses, j
 ghost use Rattle.seq_caps.specs.Own.{IsCapCall};
 
 use crate::frames::{epoch_of, is_blank, is_live};
-use seq_plans::{Cause, Causes, Looked, outside};
+use seq_plans::{Cause, Causes, Looked, beyond, outside};
 use seq_state::{SeqKernel, Thing};
 use spk_nums::{Call, CoreNo, FrameArg, FrameNo, Make, Reply};
 
@@ -64,6 +64,13 @@ pub fn causes(k: &SeqKernel, core: CoreNo, call: &Call, looked: &Looked) -> Caus
             } => not_made(k, outside(&looked.first, frame), frame, live),
             _ => Causes::two(outside(&looked.first, frame), not_blank(k, frame)),
         },
+        Call::Part {
+            r: _,
+            f,
+            n,
+            t: _,
+            b: _,
+        } => Causes::one(beyond(&looked.first, f, n)),
         Call::Look { .. }
         | Call::Copy { .. }
         | Call::Remove { .. }

@@ -4,9 +4,9 @@ use Rattle.spk_nums.specs.declared.kinds.Kind.TheVariants as kind
 use Rattle.spk_nums.specs.declared.calls.Make.{Make}
 use Rattle.spk_nums.specs.declared.calls.Make.TheVariants as make
 use Rattle.spk_nums.specs.declared.calls.Call.{Call}
-use Rattle.spk_nums.specs.declared.calls.Call.TheVariants.{Retype, Make as make_call, Map, Touch, Gate, Tick, Transfer, Delegate}
+use Rattle.spk_nums.specs.declared.calls.Call.TheVariants.{Retype, Make as make_call, Map, Touch, Gate, Tick, Transfer, Delegate, Part}
 use Rattle.kernel_rules.specs.State.{State, comp_in, comp_of}
-use Rattle.kernel_rules.specs.Access.{to_use, only}
+use Rattle.kernel_rules.specs.Access.{to_use, to_part, only}
 use Rattle.kernel_rules.specs.Rules.{Judged, Refused, Found, named, mapped}
 use Rattle.kernel_rules.specs.CapabilityCalls.{epoch_of}
 use Rattle.kernel_rules.specs.Ranges.{budget_at}
@@ -19,6 +19,10 @@ WhereFound (Found x) P = P x
 -- A range that core c names ends within the machine's frames.
 abbrev pub RangeEnds : State → ℕ → ℕ → Type 0
 RangeEnds s c r = WhereFound (named s c r (to_use (only kind.Range))) λ k. k.frame + k.arg ≤ s.limits.frames
+
+-- So does one of which it names a part.
+abbrev pub WholeEnds : State → ℕ → ℕ → Type 0
+WholeEnds s c r = WhereFound (named s c r (to_part (only kind.Range))) λ k. k.frame + k.arg ≤ s.limits.frames
 
 -- The last epoch of the liveness number that a `make` takes is within the limit.
 abbrev pub EpochFits : State → Make → Type 0
@@ -49,6 +53,7 @@ abbrev pub IsInRange : State → ℕ → Call → Type 0
 IsInRange s c (make_call what range frame table slot) = RangeEnds s c range × EpochFits s what
 IsInRange s c (Retype r f k) = RangeEnds s c r
 IsInRange s c (Map p v r f w) = RangeEnds s c r
+IsInRange s c (Part r f n t b) = WholeEnds s c r
 IsInRange s c (Touch v) = PageFound s c v
 IsInRange s c (Gate k t b) = HasEpoch s c k
 IsInRange s c (Tick n) = TicksFit s c n

@@ -13,14 +13,14 @@ use Rattle.spk_nums.specs.declared.calls.Make.TheVariants as make
 use Rattle.spk_nums.specs.declared.calls.Call.{Call}
 use Rattle.spk_nums.specs.declared.calls.Call.TheVariants.{Look, Copy, Remove, Grow, Shrink, Retype, Make as make_call}
 use Rattle.spk_nums.specs.declared.calls.Call.TheVariants.{Map, Unmap, Touch, Flush, Gate, Kill, Call as call_gate}
-use Rattle.spk_nums.specs.declared.calls.Call.TheVariants.{Ret, Switch, Tick, Transfer, Delegate, Test}
+use Rattle.spk_nums.specs.declared.calls.Call.TheVariants.{Ret, Switch, Tick, Transfer, Delegate, Test, Part}
 use Rattle.spk_nums.specs.declared.replies.Reply.{Reply}
 use Rattle.spk_nums.specs.declared.replies.Reply.TheVariants as reply
 use Rattle.kernel_rules.specs.State.{Blank, Table, Leaf, Pages, Pleaf, Comp, Thread, Tcap, Frame, Untyped, User, Kernel}
 use Rattle.kernel_rules.specs.State.{State, comp_in, comp_of, thread_in, thread_of}
-use Rattle.kernel_rules.specs.Access.{Slot, Named, found, only, to_use}
+use Rattle.kernel_rules.specs.Access.{Slot, Named, found, only, to_use, to_part}
 use Rattle.kernel_rules.specs.Rules.{Cause, Found, named, mapped, first_of, refusal_of, first_cause}
-use Rattle.kernel_rules.specs.CapabilityCalls.{has_frame, outside, epoch_of}
+use Rattle.kernel_rules.specs.CapabilityCalls.{has_frame, outside, epoch_of, has_frames, beyond}
 use Rattle.kernel_rules.specs.MemoryCalls.{is_empty, not_retyped, retype_rule, translation_of}
 use Rattle.kernel_rules.specs.Life.{is_live_in}
 use Rattle.kernel_rules.specs.InvocationCalls.{not_live, switch_to}
@@ -28,7 +28,7 @@ use Rattle.kernel_rules.specs.TimeCalls.{are_same, is_short, are_many, merged_li
 use Rattle.kernel_rules.specs.CallRelation.{rule_of}
 use Rattle.kernel_rules.specs.Ranges.{budget_at}
 use Rattle.call_plans.specs.PlanOf.{plan_for}
-use Rattle.seq_lookups.specs.Ranges.{RangeEnds, PageFound, HasEpoch, BudgetsFit, IsInRange}
+use Rattle.seq_lookups.specs.Ranges.{RangeEnds, PageFound, HasEpoch, BudgetsFit, IsInRange, WholeEnds}
 use Rattle.seq_lookups.proofs.Outcomes.{where_found}
 use Rattle.seq_plans.specs.declared.walking.Looked.{Looked}
 use Rattle.seq_plans.specs.Reaches.{named_of}
@@ -37,6 +37,7 @@ use Rattle.seq_plans.specs.OwnCauses.{retype_beyond, judged_rule}
 use Rattle.seq_plans.specs.Carrying.{MayRetype, MayMake, MayTouch, MayCarry}
 use Rattle.seq_plans.specs.Resolving.{resolved}
 use Rattle.seq_plans.proofs.FoundAll.{found_all}
+use Rattle.kernel_rules.proofs.PartFrames.{frames_in}
 
 -- ---- no cause stands
 
@@ -92,6 +93,20 @@ found_frame s c r f (Some k) others is ends calm =
     let below : f < k.frame + k.arg =
     ltb-true f (k.frame + k.arg) (and_parts (nat_le k.frame f) (nat_lt f (k.frame + k.arg)) inside).1 in
     omega (arith, below, most)
+
+-- The first frame of a part is one of the machine's.
+part_frame : (s : State) (c r f n : ℕ) (o : Option Capability)
+    → IsSomeAnd o (λ k. named s c r (to_part (only kind.Range)) ≡ Found k) → WholeEnds s c r
+    → None ≡ first_cause s c (beyond (named_of o) f n ∷ []) → f < s.limits.frames
+part_frame s c r f n None is ends calm = absurd is
+part_frame s c r f n (Some k) is ends calm =
+    let most : k.frame + k.arg ≤ s.limits.frames =
+    where_found (named s c r (to_part (only kind.Range))) (λ k. k.frame + k.arg ≤ s.limits.frames) k (sym is) ends in
+    let p = frames_in (found k) f n (not_false (has_frames (found k) f n) (calm_when (not (has_frames (found k) f n)) reply.OutOfRange
+    (calm_parts (refusal_of s c (beyond (found k) f n)) None calm).0)) in
+    let some = p.some in
+    let last = p.last in
+    omega (arith, most)
 
 -- A frame past the machine's is in no range.
 frame_outside : (s : State) (c r f : ℕ) (o : Option Capability) → Names s c r kind.Range o → RangeEnds s c r
@@ -299,6 +314,9 @@ may_carry s c (Delegate a b m) l ranges is calm =
 may_carry s c (Test a b) l ranges is calm =
     let h = found_all s c (plan_for (Test a b)) l is in
     (some_of l.first _ h.first, some_of l.second _ h.second)
+may_carry s c (Part r f n t b) l ranges is calm =
+    let h = found_all s c (plan_for (Part r f n t b)) l is in
+    (some_of l.first _ h.first, h.target, part_frame s c r f n l.first h.first ranges calm)
 
 -- The own causes of a call as it is judged are those of its rule, for all that the first of them decides.
 pub judged_alike : (s : State) (c : ℕ) (call : Call) (l : Looked) → IsInRange s c call → Found l ≡ resolved s c (plan_for call)

@@ -10,7 +10,7 @@ use Rattle.spk_nums.specs.declared.calls.Make.TheVariants as make
 use Rattle.spk_nums.specs.declared.calls.Call.{Call}
 use Rattle.spk_nums.specs.declared.calls.Call.TheVariants.{Look, Copy, Remove, Grow, Shrink, Retype, Make as make_call}
 use Rattle.spk_nums.specs.declared.calls.Call.TheVariants.{Map, Unmap, Touch, Flush, Gate, Kill, Call as call_gate}
-use Rattle.spk_nums.specs.declared.calls.Call.TheVariants.{Ret, Switch, Tick, Transfer, Delegate, Test}
+use Rattle.spk_nums.specs.declared.calls.Call.TheVariants.{Ret, Switch, Tick, Transfer, Delegate, Test, Part}
 use Rattle.spk_nums.specs.declared.replies.Reply.TheVariants as reply
 use Rattle.kernel_rules.specs.State.{State, comp_in, comp_of, thread_in, thread_of}
 use Rattle.kernel_rules.specs.Rules.{Rule, Name as name_rule, Vacant, Held as held_rule, Mapped, Does}
@@ -78,3 +78,4 @@ MayCarry s c (Transfer a b m) l = MayMove s l m
 MayCarry s c (Delegate a b m) l =
     MayMove s l m × (length (merged_list s (named_of l.first).frame (named_of l.second).frame) ≤ 8)
 MayCarry s c (Test a b) l = IsSome l.first × IsSome l.second
+MayCarry s c (Part r f n t b) l = IsSome l.first × IsSome l.at × (f < s.limits.frames)

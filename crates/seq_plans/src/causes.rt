@@ -108,6 +108,30 @@ pub fn outside(range: &Option<Cap>, frame: FrameArg) -> Cause
     }
 }
 
+/// Whether a range has these frames, and they are some.
+fn has_frames(range: &Cap, frame: FrameArg, count: u16) -> bool
+    ensures { result ≡ has_frames (found range.now) frame count }
+{
+    let number = frame.number();
+    let first = range.frame().number();
+    let end = u32::from(number) + u32::from(count);
+    1 <= count && first <= number && end <= u32::from(first) + range.arg()
+}
+
+/// That a part is empty, or not within a range, where that was found.
+pub fn beyond(range: &Option<Cap>, frame: FrameArg, count: u16) -> Cause
+    ensures { cause_of result ≡ beyond (named_of range.now) frame count }
+{
+    let stands = match range {
+        None => false,
+        Some(range) => !has_frames(range, frame, count),
+    };
+    Cause::When {
+        stands,
+        refusal: Reply::OutOfRange,
+    }
+}
+
 /// The refusal of a cause that stands.
 fn refusal_of(k: &SeqKernel, core: CoreNo, cause: &Cause) -> Option<Reply>
     requires { IsFitCause (cause_of cause.now) }
@@ -270,7 +294,7 @@ pub fn one_may(k: &SeqKernel, core: CoreNo, causes: &Causes, refusal: &Reply) ->
 
 ghost use Rattle.std.specs.Prelude.{IsTrue};
 ghost use Rattle.kernel_rules.specs.Access.{found};
-ghost use Rattle.kernel_rules.specs.CapabilityCalls.{has_frame, outside};
+ghost use Rattle.kernel_rules.specs.CapabilityCalls.{has_frame, has_frames, beyond, outside};
 ghost use Rattle.seq_plans.specs.Reaches.{named_of};
 ghost use Rattle.kernel_rules.specs.Laws.{IsRefusal};
 ghost use Rattle.kernel_rules.specs.Rules.{WaitedMay, UnflushedMay, refusal_of, first_cause};

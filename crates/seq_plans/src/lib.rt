@@ -31,7 +31,7 @@ ghost use Rattle.seq_plans.specs.Refusals.{RefusedByPlan};
 ghost use Rattle.seq_plans.specs.Resolving.{ResolvedByPlan};
 
 pub use caching::translation_of;
-pub use causes::{Cause, Causes, first_cause, one_may, outside};
+pub use causes::{Cause, Causes, beyond, first_cause, one_may, outside};
 pub use reaching::Reach;
 pub use refusals::looks_may;
 pub use resolving::resolve;

@@ -52,6 +52,32 @@ pub extern "C" fn speck_inner_copy(
     )
 }
 
+/// Puts the range of the `count` frames from `frame` on, which are within `range`, into the entry `slot` of `table`, by the port's core.
+#[unsafe(no_mangle)]
+pub extern "C" fn speck_inner_part(
+    alloc: Global,
+    port: &mut Slot,
+    range: u16,
+    frame: u16,
+    count: u16,
+    table: u16,
+    slot: u16,
+) -> SpeckReply
+    ensures { IsCalled (held_in port.old) (Call.Part range frame count table slot) result (held_in port.new) }
+{
+    make_call(
+        alloc,
+        port,
+        Call::Part {
+            r: CapId::new(range),
+            f: FrameArg::new(frame),
+            n: count,
+            t: CapId::new(table),
+            b: CapId::new(slot),
+        },
+    )
+}
+
 /// Removes the entry `slot` of `table`, by the port's core.
 #[unsafe(no_mangle)]
 pub extern "C" fn speck_inner_remove(

@@ -106,6 +106,25 @@ fn grows_shrinks_and_retypes_print_as_they_are_written(rt: HostRuntime) -> Resul
 }
 
 #[test]
+fn parts_print_as_they_are_written(rt: HostRuntime) -> Result<(), Fail> {
+    let alloc = rt.alloc();
+    assert!(rt;
+        prints(
+            alloc,
+            &Call::Part {
+                r: id(0),
+                f: FrameArg::new(16),
+                n: 8,
+                t: id(1),
+                b: id(20)
+            },
+            "part 0 16 8 1 20"
+        )?
+    );
+    Ok(())
+}
+
+#[test]
 fn makes_print_as_they_are_written(rt: HostRuntime) -> Result<(), Fail> {
     let alloc = rt.alloc();
     assert!(rt; prints(alloc, &made(Make::Table), "make table 0 8 1 20")?);

@@ -1,11 +1,11 @@
--- The rights of a capability, as numbers, bit 0 to copy it, bit 1 to use it; and what a copy keeps of them.
+-- The rights of a capability, as numbers, bit 0 to copy it, bit 1 to use it; and what a copy and a part keep of them.
 use Rattle.std.specs.Prelude.{ℕ, Bool, ◌==◌}
 use Rattle.std.specs.Int.RustNames.{bit_and}
 use Rattle.spk_nums.specs.Capability.{Capability}
 use Rattle.spk_nums.specs.declared.calls.Call.{Call}
 use Rattle.spk_nums.specs.declared.calls.Call.TheVariants.{Copy}
 use Rattle.spk_nums.specs.declared.kinds.Kind.{Kind}
-use Rattle.spk_nums.specs.declared.kinds.Kind.TheVariants.{Link, Page}
+use Rattle.spk_nums.specs.declared.kinds.Kind.TheVariants.{Range, Link, Page}
 
 -- neither right, the right to copy, the right to use, and both
 abbrev pub neither : ℕ
@@ -39,6 +39,10 @@ kept_rights _ own these = bit_and own these
 -- the capability with those of its rights that are among these
 abbrev pub kept : Capability → ℕ → Capability
 kept cap these = record cap { rights = kept_rights cap.kind cap.rights these }
+
+-- the range of n frames from f on, with the rights of the range that it is a part of
+abbrev pub part_of : Capability → ℕ → ℕ → Capability
+part_of range f n = record { kind = Range; frame = f; arg = n; rights = range.rights }
 
 -- a copy that keeps both rights
 abbrev pub whole_copy : ℕ → ℕ → ℕ → Call

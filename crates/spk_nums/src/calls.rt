@@ -137,4 +137,12 @@ pub enum Call {
         a: CapId,
         b: CapId,
     },
+    /// Puts the range of the `n` frames from `f` on, which lies within the range `r`, into the entry `b` of the table `t`.
+    Part {
+        r: CapId,
+        f: FrameArg,
+        n: u16,
+        t: CapId,
+        b: CapId,
+    },
 }

@@ -3,7 +3,7 @@
 ghost use Rattle.std.specs.Prelude.{◌≡◌, ◌<◌, ◌≤◌};
 ghost use Rattle.spk_nums.specs.Capability.{cap_of};
 ghost use Rattle.spk_nums.specs.Limits.{least_arg, end_of_arg};
-ghost use Rattle.spk_nums.specs.Rights.{kept, kept_rights, least_rights};
+ghost use Rattle.spk_nums.specs.Rights.{kept, kept_rights, least_rights, part_of};
 
 use crate::kinds::Kind;
 use crate::numbers::FrameNo;
@@ -121,6 +121,19 @@ impl Cap {
             frame: self.frame,
             arg: self.arg,
             rights: kept_rights(self.kind, self.rights, rights),
+        }
+    }
+
+    /// The range of this many frames from a frame on, with the rights of this range.
+    #[inline]
+    pub fn part(self, frame: FrameNo, count: u16) -> Cap
+        ensures { result ≡ part_of self frame count }
+    {
+        Cap {
+            kind: Kind::Range,
+            frame,
+            arg: u32::from(count),
+            rights: self.rights,
         }
     }
 }

@@ -79,6 +79,13 @@ pub fn call_name(call: &Call) -> &'static str
         Call::Transfer { a: _, b: _, m: _ } => "transfer",
         Call::Delegate { a: _, b: _, m: _ } => "delegate",
         Call::Test { a: _, b: _ } => "test",
+        Call::Part {
+            r: _,
+            f: _,
+            n: _,
+            t: _,
+            b: _,
+        } => "part",
     }
 }
 

@@ -199,6 +199,13 @@ impl fmt::Display for Call {
             Call::Transfer { a, b, m } => write!(f, "transfer {a} {b} {m}"),
             Call::Delegate { a, b, m } => write!(f, "delegate {a} {b} {m}"),
             Call::Test { a, b } => write!(f, "test {a} {b}"),
+            Call::Part {
+                r,
+                f: frame,
+                n,
+                t,
+                b,
+            } => write!(f, "part {r} {frame} {n} {t} {b}"),
         }
     }
 }

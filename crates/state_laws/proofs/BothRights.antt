@@ -4,7 +4,7 @@ use Rattle.std.proofs.Common.{inl, inr, refl, sym, ap, ◌∙◌, subst, ◌==�
 use Rattle.std.proofs.lemmas.Bool.{false≢true}
 use Rattle.spk_nums.proofs.KeptRights.{both_kept}
 use Rattle.spk_nums.specs.Capability.{Capability, cap_of}
-use Rattle.spk_nums.specs.Rights.{both, has_rights, kept}
+use Rattle.spk_nums.specs.Rights.{both, has_rights, kept, part_of}
 use Rattle.spk_nums.specs.Setting.{Setting}
 use Rattle.spk_nums.specs.declared.kinds.Kind.TheVariants as kind
 use Rattle.spk_nums.specs.declared.kinds.FrameKind.{FrameKind}
@@ -14,14 +14,14 @@ use Rattle.spk_nums.specs.declared.calls.Make.TheVariants as make
 use Rattle.spk_nums.specs.declared.calls.Call.{Call}
 use Rattle.spk_nums.specs.declared.calls.Call.TheVariants.{Look, Copy, Remove, Grow, Shrink, Retype, Make as make_call}
 use Rattle.spk_nums.specs.declared.calls.Call.TheVariants.{Map, Unmap, Touch, Flush, Gate, Kill, Call as call_gate}
-use Rattle.spk_nums.specs.declared.calls.Call.TheVariants.{Ret, Switch, Tick, Transfer, Delegate, Test}
+use Rattle.spk_nums.specs.declared.calls.Call.TheVariants.{Ret, Switch, Tick, Transfer, Delegate, Test, Part}
 use Rattle.spk_nums.specs.declared.translations.Translation.{Translation}
 use Rattle.spk_nums.specs.declared.replies.Reply.{Reply}
 use Rattle.spk_nums.specs.declared.replies.Reply.TheVariants as reply
 use Rattle.kernel_rules.specs.State.{Place, Free, Holds, Quiescing, PlaceOf, State, put, with_place, thread_in, thread_of, comp_of}
 use Rattle.kernel_rules.specs.Start.{plain_cap, start_cap, place_with, start}
 use Rattle.kernel_rules.specs.Access.{Slot, Named, Want, Under, InRoot, found, place_at, usable_in, usable, reached, own, any}
-use Rattle.kernel_rules.specs.Access.{to_look, to_copy, to_use}
+use Rattle.kernel_rules.specs.Access.{to_look, to_copy, to_use, to_part}
 use Rattle.kernel_rules.specs.Rules.{Change, Judged, Refused, Found, named, held}
 use Rattle.kernel_rules.specs.CapabilityCalls.{make_rule}
 use Rattle.kernel_rules.specs.MemoryCalls.{retype_rule, touch_by, translation_of}
@@ -127,6 +127,8 @@ module _ (s : State) (c : ℕ) (h : AllBoth s) where
   rule_both (Transfer a b m) keep = λ j e k f calm. h
   rule_both (Delegate a b m) keep = λ j e k f calm. h
   rule_both (Test a b) keep = λ j e k f calm. h
+  rule_both (Part r f n t b) keep = λ k e table g at v calm.
+      placed s.place at.node at.index (Holds (part_of k f n)) (named_both r (to_part (only kind.Range)) k e) h
 
   change_both : (x : Judged Change) → IfFound x Keeps → AllBoth (changed s x)
   change_both (Refused r) by = h
@@ -212,6 +214,7 @@ met s c (Switch a b) = (refl, (refl, tt))
 met s c (Transfer a b m) = (refl, (refl, tt))
 met s c (Delegate a b m) = (refl, (refl, tt))
 met s c (Test a b) = (refl, (refl, tt))
+met s c (Part r f n t b) = (refl, (refl, tt))
 met s c _ = tt
 
 module _ (s : State) (c : ℕ) (h : AllBoth s) where

@@ -104,6 +104,16 @@ fn calls_have_their_plans(rt: HostRuntime) {
             Call::Test { a, b: t },
             (true, 2, nowhere, 0, Decides::HeadBAgain, 30),
         ),
+        (
+            Call::Part {
+                r: a,
+                f: frame,
+                n: 4,
+                t,
+                b,
+            },
+            (true, 2, place, 0, Decides::Target, 13),
+        ),
     ];
     for (call, wanted) in rows {
         assert!(rt; row(call) == wanted, "{call:?}");

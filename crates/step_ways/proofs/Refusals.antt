@@ -11,7 +11,7 @@ use Rattle.kept_facts.proofs.Common.{told_by, marked_by, holds_counts, phase_at,
 use Rattle.kept_facts.proofs.Common.{KnowsUndecided, KnowsAt, holds_in, held_by, Invariant, holds_tail, decided_in, returned_in}
 use Rattle.kept_facts.proofs.Common.{limits_of, marker_inside, acts, asks_life, lives, inl, inr, IsTrue}
 use Rattle.kept_facts.specs.trace_laws.proofs.AloneCalls.{dead_first}
-use Rattle.kept_facts.specs.spk_nums.specs.declared.calls.Call.TheVariants.{Look, Make}
+use Rattle.kept_facts.specs.spk_nums.specs.declared.calls.Call.TheVariants.{Look, Make, Part}
 use Rattle.kept_facts.specs.spk_nums.specs.declared.calls.Call.TheVariants.{Call as call_gate}
 use Rattle.kept_facts.specs.spk_nums.specs.declared.replies.Reply.TheVariants as reply
 use Rattle.kept_facts.specs.kernel_rules.specs.CallRelation.{owed_by}
@@ -46,6 +46,7 @@ NobodyWaits s = (x : Thing) (d : ℕ) → (s.grace x).waits d ≡ false
 pub only_tick_owes : (s : State) (c : ℕ) (call : Call) → ((n : ℕ) → call ≢ Tick n) → owed_by s c call ≡ s
 only_tick_owes s c (Look a) other = refl
 only_tick_owes s c (Copy a u b rights) other = refl
+only_tick_owes s c (Part r f n u b) other = refl
 only_tick_owes s c (Remove u b) other = refl
 only_tick_owes s c (Grow u i l) other = refl
 only_tick_owes s c (Shrink u i) other = refl

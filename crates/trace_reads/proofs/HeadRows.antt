@@ -15,6 +15,7 @@ use Rattle.line_reader.specs.Causes.{◌>>=◌}
 use Rattle.line_reader.specs.Arguments.{is_word}
 use Rattle.line_reader.specs.Lines.{First_fault, at_line, and_then}
 use Rattle.call_reader.specs.FirstWords.{first_word}
+use Rattle.call_reader.specs.Versions.{most_calls}
 use Rattle.script_reader.specs.Heads.{is_whole}
 use Rattle.script_reader.specs.Readings.{Draft_of, Meaning, no_draft, draft_behind, draft_from}
 use Rattle.script_reader.specs.Readings.{setting_of, meaning_of, meaning_at, BelowCores}
@@ -83,7 +84,7 @@ abbrev draft_or : Draft_of → Result Draft_of First_fault → Draft_of
 draft_or other (Ok d) = d
 draft_or other (Err f) = other
 
-module _ (v : ℕ) (s : Setting) (some : 1 ≤ v) (most : v ≤ 2) (within : IsSetting s) where
+module _ (v : ℕ) (s : Setting) (some : 1 ≤ v) (most : v ≤ 3) (within : IsSetting s) where
   lists_empty : All (All (IsCallWithin v)) (replicate s.cores [])
   lists_empty = All-replicate (All (IsCallWithin v)) s.cores [] (All-nil (IsCallWithin v))
 
@@ -125,7 +126,7 @@ module _ (v : ℕ) (s : Setting) (some : 1 ≤ v) (most : v ≤ 2) (within : IsS
   headed_by (Ok d) is e = record { draft = d; read = is; head = whole_head d (is_whole d.head.section) refl e }
   headed_by (Err f) is e = absurd cc
 
-  pub headed : s.calls ≤ 4194304 → Headed
+  pub headed : s.calls ≤ most_calls v → Headed
   headed limit =
       let says : and_then (draft_from no_draft (rows_from 1 (head_lines v s))) (λ d. meaning_at d (Whole 0)) ≡ Ok (bare v s) =
       ap (λ (ls : List (List (List ℕ))). and_then (draft_from no_draft (rows_from 1 ls)) (λ d. meaning_at d (Whole 0)))

@@ -41,7 +41,7 @@ all_reverse P [] h = h
 all_reverse P (x ∷ xs) h = subst (All P) (sym (reverse-append (x ∷ []) xs))
     (All-append P (reverse xs) (x ∷ []) (all_reverse P xs (All-tail P x xs h)) (All-cons P x [] (All-head P x xs h) (All-nil P)))
 
-module _ (v : ℕ) (setup : Setting) (some : 1 ≤ v) (most : v ≤ 2) (within : IsSetting setup)
+module _ (v : ℕ) (setup : Setting) (some : 1 ≤ v) (most : v ≤ 3) (within : IsSetting setup)
     (d : Draft_of) (head : IsHeadOf v setup some most within d) where
   cores : d.head.cores ≡ setup.cores
   cores = ap (λ (s : Setting). s.cores) head.setup
@@ -49,7 +49,7 @@ module _ (v : ℕ) (setup : Setting) (some : 1 ≤ v) (most : v ≤ 2) (within :
   some_version : 1 ≤ d.head.version
   some_version = omega (arith, some, head.version)
 
-  most_versions : d.head.version ≤ 2
+  most_versions : d.head.version ≤ 3
   most_versions = omega (arith, most, head.version)
 
   few_cores : d.head.cores ≤ 8

@@ -97,9 +97,9 @@ by_first v words c (Some (first.Call verb)) e = call_line_is (call_line v words 
 from_line : (v : ℕ) (words : List (List ℕ)) (c : Call) → line_of (listing v) words ≡ Ok (line.Call c) → call_in v words ≡ Ok c
 unfolding line_of call_in verb_at word_at
 from_line v [] c e = absurd cc
-from_line v (w ∷ ws) c e = by_first v (w ∷ ws) c (first_word w) e
+from_line v (w ∷ ws) c e = by_first v (w ∷ ws) c (first_word v w) e
 
-call_read : (v : ℕ) (c : Call) → 1 ≤ v → v ≤ 2 → IsCallWithin v c → call_in v (call_words c) ≡ Ok c
+call_read : (v : ℕ) (c : Call) → 1 ≤ v → v ≤ 3 → IsCallWithin v c → call_in v (call_words c) ≡ Ok c
 call_read v c some most within = from_line v (call_words c) c (call_back (listing v) c refl some most within)
 
 -- ---- marks
@@ -127,7 +127,7 @@ after_core w c tail = simp append_assoc
 two_line : (w v : List ℕ) (ws : List (List ℕ)) → is_text w ≡ true → is_text v ≡ true → is_line ws ≡ true → is_line (w ∷ v ∷ ws) ≡ true
 two_line w v ws hw hv h = and_from _ _ hw (and_from _ _ hv (line_texts ws h))
 
-module _ (s : Draft_of) (whole : is_whole s.head.section ≡ true) (some : 1 ≤ s.head.version) (most : s.head.version ≤ 2)
+module _ (s : Draft_of) (whole : is_whole s.head.section ≡ true) (some : 1 ≤ s.head.version) (most : s.head.version ≤ 3)
     (few : s.head.cores ≤ 8) where
   enter_read : (c : ℕ) (call : Call) → c < s.head.cores → IsCallWithin s.head.version call → (lines : List Given) (number : ℕ)
       → line_behind (record { script = s; lines = lines }) number (mark_words (Enter c call))

@@ -128,7 +128,7 @@ marks_from s n before (m ∷ marks) all =
 abbrev history_as : List Line → Meaning → History
 history_as lines m = record { setup = m.setup; lines = lines }
 
-module _ (v : ℕ) (setup : Setting) (t : Trace) (some : 1 ≤ v) (most : v ≤ 2) (within : IsSetting setup)
+module _ (v : ℕ) (setup : Setting) (t : Trace) (some : 1 ≤ v) (most : v ≤ 3) (within : IsSetting setup)
     (d : Draft_of) (head : IsHeadOf v setup some most within d) (read : draft_from no_draft (rows_from 1 (head_lines v setup)) ≡ Ok d)
     (all : All (MarkReads d) (reverse (marks_of t))) where
   all_in : All (MarkReads d) (marks_in (notes_of t).lines)

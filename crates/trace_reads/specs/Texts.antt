@@ -13,6 +13,7 @@ use Rattle.marked_laws.specs.Marks.{marks_of}
 use Rattle.trace_lines.specs.Traces.{trace_text}
 use Rattle.check_run.specs.history_reader.specs.Inputs.{History}
 use Rattle.reply_reads.specs.Laws.{IsReplyWithin}
+use Rattle.call_reader.specs.Versions.{most_calls}
 
 -- Marks, in order, as lines: one a line, the first of this number.
 abbrev pub mark_lines : ℕ → List Mark → List Line
@@ -44,7 +45,7 @@ pub record IsStepWithin (version cores : ℕ) (e : Step) : Type 0 where
 -- may have.
 pub record IsTextOf (version : ℕ) (setup : Setting) (t : Trace) : Type 0 where
   pub some_version : 1 ≤ version
-  pub most_versions : version ≤ 2
+  pub most_versions : version ≤ 3
   pub within : IsSetting setup
-  pub limit : setup.calls ≤ 4194304
+  pub limit : setup.calls ≤ most_calls version
   pub lines : line_count (trace_text version setup t) ≤ 20000

@@ -82,6 +82,7 @@ use Rattle.call_stages.specs.act_states.specs.Touches.{fault_of, touches_if}
 use Rattle.call_stages.specs.act_states.specs.Shares.{shared, took_shared, shares_if, shares_at}
 use Rattle.call_stages.specs.act_states.specs.Acts.{looked, scans, starts, fills_with, removes_held, removes_at, types_if, types_at, makes_at}
 use Rattle.call_stages.specs.act_states.specs.Acts.{maps_if, maps_at, comps_at, made_begun, kills_in, kills_at, invokes_if, invokes_in, invokes_at, returns_if, switches_at, act_begun}
+use Rattle.call_stages.specs.act_states.specs.Acts.{parts_at}
 use Rattle.call_stages.specs.declared.stages.Stage.TheVariants.{Decided}
 use Rattle.wait_steps.specs.Waits.{RefusesAt, RepliesAt, StepAt, EndAt, MayAt, IsAgain}
 
@@ -353,6 +354,11 @@ module _ (w : Word) where
   maps_found own (Some range) frame flags None = tt
   maps_found own None frame flags f = tt
 
+  pub parts_found : (own : Own) (o : Option Capability) (frame n : ℕ) (f : Option Found) → StepAt w (parts_at own o frame n f)
+  parts_found own (Some range) frame n (Some f) = scans_at _ _ _
+  parts_found own (Some range) frame n None = tt
+  parts_found own None frame n f = tt
+
   pub comps_found : (own : Own) (number : ℕ) (a b c : Option Capability) (frame : ℕ) (f : Option Found)
       → StepAt w (comps_at own number a b c frame f)
   comps_found own number (Some range) (Some table) (Some pages) frame (Some f) = scans_at _ _ _
@@ -428,6 +434,7 @@ module _ (w : Word) where
   begun_at own (call_as.Transfer a b m) ks read f = shares_found own.core (share.Transfer m) (at_place ks First) (at_place ks Second)
   begun_at own (call_as.Delegate a b m) ks read f = shares_found own.core (share.Delegate m) (at_place ks First) (at_place ks Second)
   begun_at own (call_as.Test a b) ks read f = shares_found own.core share.Test (at_place ks First) (at_place ks Second)
+  begun_at own (call_as.Part r g n t b) ks read f = parts_found own _ _ _ f
   begun_at own (call_as.Touch v) ks read f = tt
 
   pub touches_at : (b : Bool) (own : Own) (v : ℕ) → StepAt w (touches_if b own v)

@@ -10,33 +10,36 @@ use Rattle.comp_invariant.proofs.Common.{EntryFits, entry_of_word, State, found,
 use Rattle.comp_invariant.proofs.Common.{IsLegal, Trace, Out, Open, phase, state_after, WasAt, sound_of, opened_is, quiet_scan, First}
 use Rattle.comp_invariant.proofs.Common.{Second, Plan, Spot, Nowhere, at_place, of_kind, plan_for, Leads, LeadsIn, names_after, Own}
 use Rattle.comp_invariant.proofs.Common.{NewObject, Outside, object_made, put_by, reads_of, stamp_shown, act_begun, fills_page, page_cap}
-use Rattle.comp_invariant.proofs.Common.{ReadIs, IsSpot, KnowsAct, goes_on, limits_of, WorkStep}
+use Rattle.comp_invariant.proofs.Common.{ReadIs, IsSpot, KnowsAct, goes_on, limits_of, WorkStep, ◌+◌, ◌-◌}
 use Rattle.comp_invariant.specs.spk_nums.specs.declared.kinds.FrameKind.TheVariants as frame_kind
 use Rattle.comp_invariant.specs.spk_nums.specs.declared.kinds.Kind.TheVariants as kind
-use Rattle.comp_invariant.specs.spk_nums.specs.declared.calls.Call.TheVariants.{Look as look_call}
+use Rattle.comp_invariant.specs.spk_nums.specs.declared.calls.Call.TheVariants.{Look as look_call, Part}
 use Rattle.comp_invariant.specs.spk_nums.specs.declared.calls.Call.TheVariants.{Make as make_call}
 use Rattle.comp_invariant.specs.spk_nums.specs.declared.calls.Call.TheVariants.{Call as call_gate}
 use Rattle.comp_invariant.specs.spk_nums.specs.declared.calls.Make.TheVariants as make
+use Rattle.comp_invariant.specs.spk_nums.specs.Rights.{part_of, both, right_to_use}
 use Rattle.comp_invariant.specs.entry_words.specs.declared.entry.Entry.TheVariants as entry
 use Rattle.comp_invariant.specs.kernel_rules.specs.Start.{plain_cap}
 use Rattle.comp_invariant.specs.kernel_rules.specs.Fitting.{EndsWithin, IsGood}
 use Rattle.comp_invariant.specs.entry_words.proofs.Spelling.{kept_fits}
 use Rattle.comp_invariant.specs.kernel_rules.specs.Rules.{Found as Found_it}
+use Rattle.comp_invariant.specs.kernel_rules.specs.CapabilityCalls.{has_frames}
 use Rattle.comp_invariant.specs.kernel_invariant.proofs.Facts.{named_good}
 use Rattle.comp_invariant.specs.stage_look.specs.declared.look.Found.{Found}
 use Rattle.comp_invariant.specs.call_plans.specs.declared.plans.Nth.{Nth}
 use Rattle.comp_invariant.specs.call_plans.specs.declared.plans.Spot.TheVariants as spot_of
 use Rattle.comp_invariant.specs.call_plans.specs.declared.plans.Target.TheVariants.{Free, Held, Own as own_page}
-use Rattle.comp_invariant.specs.call_plans.specs.PlanOf.{any_cap, a_root, a_leaf}
+use Rattle.comp_invariant.specs.call_plans.specs.PlanOf.{any_cap, a_root, a_leaf, a_whole}
 use Rattle.comp_invariant.specs.act_states.specs.declared.objects.NewObject.TheVariants as objects
 use Rattle.comp_invariant.specs.act_states.specs.declared.work.Act.{Act as ActOf}
 use Rattle.comp_invariant.specs.act_states.specs.Acts.{gate_if, gate_to, fills_with, scans, stamp_in}
 use Rattle.comp_invariant.specs.act_states.specs.Acts.{stamp_of_act, filling, making, making_if, makes_at}
-use Rattle.comp_invariant.specs.act_states.specs.Acts.{mapping, mapping_if, maps_if, made_begun, comp_making, comp_if}
+use Rattle.comp_invariant.specs.act_states.specs.Acts.{mapping, mapping_if, maps_if, made_begun, comp_making, comp_if, part_if}
 use Rattle.comp_invariant.specs.core_invariant.specs.Knows.{IsRead, OutsideBy, is_start, HasUser}
 use Rattle.comp_invariant.specs.place_invariant.proofs.CompMakes.{IsCompMake, comp_make}
 use Rattle.comp_invariant.specs.place_invariant.proofs.ObjectMakes.{made_of, TwoFound, object_make}
 use Rattle.work_invariant.proofs.AtName.{range_below}
+use Rattle.comp_invariant.specs.kernel_rules.proofs.PartFrames.{first_in, last_in}
 
 -- What such a call begins with where it has found its place: an act, which starts after a scan, if there is one; what it knows of it where
 -- it may fill the place; and one that is out of range is so by the call.
@@ -58,11 +61,13 @@ good_within s range f good is has =
     (subst (λ (k : Kind). EndsWithin k range.frame range.arg s.limits.frames) is good.within) has
 
 pub range_within : (setup : Setting) → IsSetting setup → (t : Trace) → IsLegal setup t → (c : ℕ) (call : Call) → phase t c ≡ Open call
-    → (r f : ℕ) (range : Capability) → named (state_after setup t) c r (to_use (only kind.Range)) ≡ Found_it range
+    → (needs r f : ℕ) (range : Capability)
+    → named (state_after setup t) c r (record { kinds = only kind.Range; needs = needs }) ≡ Found_it range
     → has_frame (found range) f ≡ true → f < setup.frames
-range_within setup setting t legal c call is_open r f range is has =
+range_within setup setting t legal c call is_open needs r f range is has =
     let good : IsGood (state_after setup t) range × IsTrue (only kind.Range range.kind) = named_good (state_after setup t)
-    (opened (events_of t)) c r (to_use (only kind.Range)) range (sound_of setup setting t legal) (opened_is t c call is_open) is in
+    (opened (events_of t)) c r (record { kinds = only kind.Range; needs = needs }) range (sound_of setup setting t legal)
+    (opened_is t c call is_open) is in
     subst (λ (n : ℕ). f < n) (ap (λ l. l.frames) (limits_of setup t))
     (good_within (state_after setup t) range f good.0 (only_is kind.Range range.kind good.1) has)
 
@@ -135,6 +140,38 @@ module _ (own : Own) (plan : Plan) (read : Option ℕ) (c : ℕ) (own_core : own
         by false has = record {
           act = Outside at.node at.entry at.word;
           begins = map_within false has flags;
+          stamp = refl;
+          starts = refl;
+          knows = λ setup t upto epochs spot reads. record { spot = spot; outside = has };
+          outside = λ out. has;
+        }
+
+  -- it puts a part of a range
+  module _ (r f n u b : ℕ) (range : Capability) (rest : List Capability) where
+    abbrev part_scan : ActOf → WorkStep
+    part_scan act = scans own.core (quiet_scan (stamp_in at.value) own.core own.layout.cores false) act
+
+    part_within : (has : Bool) → has_frames (found range) f n ≡ has
+        → act_begun own (Part r f n u b) (range ∷ rest) read (Some at)
+        ≡ part_scan (part_if (has && nat_lt f own.layout.frames) (part_of range f n) at)
+    part_within has is = ap (λ b. part_scan (part_if (b && nat_lt f own.layout.frames) (part_of range f n) at)) is
+
+    begins_part : EntryFits (entry.Held range) → own.layout.frames ≤ 512
+        → ((g : ℕ) → has_frame (found range) g ≡ true → g < own.layout.frames)
+        → Begins own (Part r f n u b) plan (range ∷ rest) read c at
+    begins_part fits small below = by (has_frames (found range) f n) refl
+      where
+        by : (has : Bool) → has_frames (found range) f n ≡ has → Begins own (Part r f n u b) plan (range ∷ rest) read c at
+        by true has =
+            let first : f < own.layout.frames = below f (first_in (found range) f n has) in
+            let last : f + n - 1 < own.layout.frames = below (f + n - 1) (last_in (found range) f n has) in
+            begins_fill (Part r f n u b) (range ∷ rest) (part_of range f n)
+            (part_within true has ∙ ap (λ b. part_scan (part_if b (part_of range f n) at)) (lt-ltb f own.layout.frames first))
+            (omega (arith, first, small), omega arith, omega (arith, last, small), omega arith, fits.4)
+            (ap (λ b. if b then Some (part_of range f n) else None) has) (λ setup t. tt)
+        by false has = record {
+          act = Outside at.node at.entry at.word;
+          begins = part_within false has;
           stamp = refl;
           starts = refl;
           knows = λ setup t upto epochs spot reads. record { spot = spot; outside = has };
@@ -260,8 +297,8 @@ pub begins_free : (own : Own) (call : Call) → InLimits call → own.layout.fra
     → (s : State) (plan : Plan) (ks : List Capability) (read : Option ℕ) (c : ℕ) → own.core ≡ c
     → names_after (plan_for call).names ks ≡ [] → Leads (LeadsIn s c) (plan_for call).names [] ks
     → ((at : Nth) (k : Capability) → at_place ks at ≡ Some k → EntryFits (entry.Held k))
-    → ((r f : ℕ) (range : Capability) → named s c r (to_use (only kind.Range)) ≡ Found_it range → has_frame (found range) f ≡ true
-    → f < own.layout.frames)
+    → ((needs r f : ℕ) (range : Capability) → named s c r (record { kinds = only kind.Range; needs = needs }) ≡ Found_it range
+    → has_frame (found range) f ≡ true → f < own.layout.frames)
     → ReadIs s c (reads_of call ks) read
     → (at : Found) → Begins own call plan ks read c at
 begins_free own (look_call a) limits small spot to s plan ks read c core none leads fits within reads at = absurd (not_free to)
@@ -295,7 +332,7 @@ begins_free own (Map p v r f w) limits small spot to s plan (k ∷ []) read c co
     not_none : of_kind kind.Range r ∷ [] ≡ [] → ⊥
     not_none h = cc
 begins_free own (Map p v r f w) limits small spot to s plan (k ∷ j ∷ ks) read c core none leads fits within reads at =
-    begins_map own plan read c core at p v r f w k j ks limits small (within r f j leads.1.0)
+    begins_map own plan read c core at p v r f w k j ks limits small (within right_to_use r f j leads.1.0)
 begins_free own (Remove u b) limits small spot to s plan ks read c core none leads fits within reads at = absurd (not_free to)
   where
     not_free : Held (spot_of.Under First b) ≡ Free spot → ⊥
@@ -326,13 +363,13 @@ begins_free own (Retype r f frame_kind.Kernel) limits small spot to s plan ks re
 begins_free own (make_call (make.Comp x p live) r f u b) limits small spot to s plan ks read c core none leads fits within reads at =
     let of : IsCompMake s c r f u b x p live ks = comp_make s c r f u b x p live ks leads none in
     subst (λ ks. Begins own (make_call (make.Comp x p live) r f u b) plan ks read c at) (sym of.found_is)
-    (begins_comp own plan read c core at x p live r f u b of.range of.second of.table of.pages (within r f of.range of.first))
+    (begins_comp own plan read c core at x p live r f u b of.range of.second of.table of.pages (within right_to_use r f of.range of.first))
 begins_free own (make_call what r f u b) limits small spot to s plan ks read c core none leads fits within reads at =
     made_of what tt r f u b ks none (Begins own (make_call what r f u b) plan ks read c at) (λ object is.
     let two : TwoFound s c r u ks = (object_make s c r f u b what object ks is leads none).two in
     subst (λ ks. Begins own (make_call what r f u b) plan ks read c at) (sym two.found_is)
     (begins_make own plan read c core at what r f u b object two.range (two.table ∷ two.rest)
-    (subst (λ ks. object_made what ks ≡ Some object) two.found_is is) (within r f two.range two.first)))
+    (subst (λ ks. object_made what ks ≡ Some object) two.found_is is) (within right_to_use r f two.range two.first)))
 begins_free own (Touch v) limits small spot to s plan ks read c core none leads fits within reads at = absurd (not_target to)
   where
     not_target : own_page v ≡ Free spot → ⊥
@@ -382,3 +419,9 @@ begins_free own (Switch x y) limits small spot to s plan ks read c core none lea
   where
     not_target : Nowhere ≡ Free spot → ⊥
     not_target h = cc
+begins_free own (Part r f n u b) limits small spot to s plan [] read c core none leads fits within reads at = absurd (not_none none)
+  where
+    not_none : a_whole r ∷ of_kind kind.Table u ∷ [] ≡ [] → ⊥
+    not_none h = cc
+begins_free own (Part r f n u b) limits small spot to s plan (k ∷ ks) read c core none leads fits within reads at =
+    begins_part own plan read c core at r f n u b k ks (fits First k refl) small (λ g has. within both r g k leads.0 has)

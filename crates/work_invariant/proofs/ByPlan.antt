@@ -16,7 +16,7 @@ use Rattle.comp_invariant.proofs.Common.{MayFill, KnowsAct, LooksUp, own_in, Has
 use Rattle.comp_invariant.proofs.Common.{Quiet, quiet_scan, clock, stamp, landed, found_more, Core, holds_at, holds_in}
 use Rattle.comp_invariant.proofs.Common.{Invariant, names_on, limits_of, Want, has_rights, neither, to_look}
 use Rattle.switch_invariant.specs.thread_invariant.proofs.InvokeStarts.{invokes_good}
-use Rattle.comp_invariant.specs.spk_nums.specs.declared.calls.Call.TheVariants.{Look as look_call}
+use Rattle.comp_invariant.specs.spk_nums.specs.declared.calls.Call.TheVariants.{Look as look_call, Part}
 use Rattle.comp_invariant.specs.spk_nums.specs.declared.calls.Call.TheVariants.{Make as make_call}
 use Rattle.comp_invariant.specs.spk_nums.specs.declared.calls.Call.TheVariants.{Call as call_gate}
 use Rattle.comp_invariant.specs.spk_nums.specs.declared.replies.Reply.TheVariants as reply
@@ -236,6 +236,7 @@ module _ (setup : Setting) (setting : IsSetting setup) (cores : ℕ → Core) (t
         (looked_good setup setting cores t stands c here a active opens held_is no_counts room at looks n
         (subst (λ (m : ℕ). Arrives setup t c (own_in table m) at) (ap (λ (x : Name). x.number) only_one.1) arrives) k named_it is has.acts)
     acts_at_name (Copy b u v rights) is nowhere none = absurd (free_somewhere (spot_of.Under Second v) nowhere)
+    acts_at_name (Part r f n u v) is nowhere none = absurd (free_somewhere (spot_of.Under Second v) nowhere)
     acts_at_name (Grow u i l) is nowhere none = absurd (free_somewhere (spot_of.InRoot First i) nowhere)
     acts_at_name (Remove u v) is nowhere none = absurd (held_somewhere (spot_of.Under First v) nowhere)
     acts_at_name (Shrink u i) is nowhere none = absurd (held_somewhere (spot_of.InRoot First i) nowhere)
@@ -400,8 +401,8 @@ module _ (setup : Setting) (setting : IsSetting setup) (cores : ℕ → Core) (t
         (subst (λ (p : Plan). names_after p.names a.found ≡ []) plan_is none)
         (subst (λ (p : Plan). Leads (LeadsIn s c) p.names [] a.found) plan_is leads)
         (λ nth k is. found_fits setup t c table a.plan.names [] a.found nth k has.names is)
-        (λ r f range is in_range. subst (λ (n : ℕ). f < n) (sym (ap (λ x. x.frames) (stands.each c here).shape))
-        (range_within setup setting t stands.legal c a.call is_open r f range is in_range)) has_read
+        (λ needs r f range is in_range. subst (λ (n : ℕ). f < n) (sym (ap (λ x. x.frames) (stands.each c here).shape))
+        (range_within setup setting t stands.legal c a.call is_open needs r f range is in_range)) has_read
         (found_at at.node at.index (last_left setup t (EntryAt at.node at.index)) v)
 
     -- the place is reached, and its word shows that it may be filled, once the cores below `upto` were scanned

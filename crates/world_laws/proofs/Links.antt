@@ -39,7 +39,9 @@ link_kept j own these is e = by_kind j (only_is kind.Link j is)
 put_both : {call : Call} (s : State) (c f : ℕ) (k : Capability) → LinksHaveBoth s → Put call s c f k
     → IsTrue (only kind.Link k.kind) → k.rights ≡ both
 put_both s c f k h (node, inr given) is = given.rights
-put_both s c f k h (node, inl copied) is =
+put_both s c f k h (node, inl (inr part)) is =
+    absurd (false≢true (subst (λ (j : Capability). IsTrue (only kind.Link j.kind)) part.is is))
+put_both s c f k h (node, inl (inl copied)) is =
     let link : IsTrue (only kind.Link copied.source.kind) = subst (λ (j : Capability). IsTrue (only kind.Link j.kind)) copied.is is in
     ap (λ (j : Capability). j.rights) copied.is
     ∙ link_kept copied.source.kind copied.source.rights copied.rights link

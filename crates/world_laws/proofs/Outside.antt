@@ -3,23 +3,24 @@ use Rattle.std.proofs.Common.{◌≡◌, ◌⊎◌, inl, inr, ℕ, Bool, true, f
 use Rattle.std.proofs.Common.{Option, Some, None}
 use Rattle.std.proofs.lemmas.Bool.{false≢true, true≢false}
 use Rattle.authority_laws.specs.spk_nums.specs.Capability.{Capability}
-use Rattle.authority_laws.specs.spk_nums.specs.Rights.{both, kept, has_rights, right_to_use}
+use Rattle.authority_laws.specs.spk_nums.specs.Rights.{both, kept, has_rights, right_to_use, part_of}
 use Rattle.authority_laws.specs.spk_nums.proofs.KeptRights.{kept_has}
 use Rattle.authority_laws.specs.spk_nums.specs.declared.kinds.Kind.{Kind}
 use Rattle.authority_laws.specs.spk_nums.specs.declared.kinds.Kind.TheVariants as kind
 use Rattle.authority_laws.specs.spk_nums.specs.declared.calls.Call.{Call}
 use Rattle.authority_laws.specs.kernel_rules.specs.State.{Comp, Frame, Kernel, State, comp_in, comp_of}
 use Rattle.authority_laws.specs.kernel_rules.specs.Start.{plain_cap}
-use Rattle.authority_laws.specs.kernel_rules.specs.Access.{Slot, only, linked, usable, reached, own}
+use Rattle.authority_laws.specs.kernel_rules.specs.Access.{Slot, only, linked, usable, reached, own, found}
 use Rattle.authority_laws.specs.kernel_rules.specs.Fitting.{fits}
 use Rattle.authority_laws.specs.kernel_invariant.proofs.Sound.{only_is}
 use Rattle.authority_laws.specs.kernel_invariant.proofs.SoundCalls.{IsOpen}
 use Rattle.authority_laws.specs.kernel_invariant.proofs.Facts.{none_some, some_inj}
 use Rattle.authority_laws.specs.found_stays.proofs.Stays.{comp_fit}
 use Rattle.authority_laws.specs.Authority.{IsUnder, MayUse}
-use Rattle.authority_laws.proofs.Acts.{LedTo, InRange, InNode, IsCopied, IsGiven, is_given, used_at, under_leaf}
+use Rattle.authority_laws.proofs.Acts.{LedTo, InRange, InNode, IsCopied, IsParted, IsGiven, is_given, used_at, under_leaf}
 use Rattle.world_laws.specs.Worlds.{works_in, LeadsTo, gates, OnlyGates, HoldsNone, IsSealed}
 use Rattle.world_laws.proofs.Puts.{Put}
+use Rattle.authority_laws.specs.kernel_rules.proofs.PartFrames.{frame_in}
 
 -- What is sealed where fewer kinds cross is so where gates do.
 pub sealed_for_gates : (w : ℕ → Bool) (crosses : Kind → Bool) (s : State) → OnlyGates crosses → IsSealed w crosses s → IsSealed w gates s
@@ -123,6 +124,12 @@ module _ (w : ℕ → Bool) (s : State) (c : ℕ) (h : WorksOutside w s c) where
       leads_kept kind.Range f leads = leads
       leads_kept _ f leads = leads
 
+  parted_none : (crosses : Kind → Bool) → IsSealed w crosses s → (k : Capability) → IsParted s c k → HoldsNone w crosses k
+  parted_none crosses sealed k x = subst (HoldsNone w crosses) (sym x.is) (λ right crossing f leads.
+      sealed.places x.at.node x.at.index c x.source (reached_out x.number x.at x.reaches) x.from right (ap crosses x.kind ∙ crossing) f
+      (subst (λ j. LeadsTo j x.source f) (sym x.kind)
+      (frame_in (found x.source) (found (part_of x.source x.frame x.count)) f x.has leads)))
+
   given_none : {call : Call} (crosses : Kind → Bool) (k : Capability) → IsGiven call s c k → HoldsNone w crosses k
   given_none {call = call} crosses k x right crossing f leads = ap w (leads_frame k.kind x.kind leads) ∙ by_frame x.frame
     where
@@ -138,5 +145,6 @@ module _ (w : ℕ → Bool) (s : State) (c : ℕ) (h : WorksOutside w s c) where
 
   pub put_none : {call : Call} (crosses : Kind → Bool) → IsSealed w crosses s → (f : ℕ) (k : Capability) → Put call s c f k
       → HoldsNone w crosses k
-  put_none crosses sealed f k (node, inl x) = copied_none crosses sealed k x
+  put_none crosses sealed f k (node, inl (inl x)) = copied_none crosses sealed k x
+  put_none crosses sealed f k (node, inl (inr x)) = parted_none crosses sealed k x
   put_none crosses sealed f k (node, inr x) = given_none crosses k x

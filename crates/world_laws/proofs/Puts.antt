@@ -28,12 +28,12 @@ use Rattle.authority_laws.specs.kernel_invariant.proofs.Facts.{none_some, some_i
 use Rattle.authority_laws.specs.kernel_invariant.proofs.GraceChanges.{flushed_by, grace_is}
 use Rattle.authority_laws.specs.kernel_invariant.proofs.Edited.{AreLater, Calm}
 use Rattle.authority_laws.specs.state_laws.proofs.Kept.{KeptBy, decided_kept}
-use Rattle.authority_laws.proofs.Acts.{InRange, InNode, IsCopied, IsGiven, Makes, By, EachBy}
+use Rattle.authority_laws.proofs.Acts.{InRange, InNode, IsTaken, IsGiven, Makes, By, EachBy}
 use Rattle.authority_laws.proofs.DecidedParts.{decided_from}
 
 -- A capability that core c puts in a node, and a component that it makes in a frame.
 abbrev pub Put : Call → State → ℕ → ℕ → Capability → Type 0
-Put call s c f k = InNode call s c f × (IsCopied s c k ⊎ IsGiven call s c k)
+Put call s c f k = InNode call s c f × (IsTaken s c k ⊎ IsGiven call s c k)
 
 abbrev pub Made : Call → State → ℕ → ℕ → CompFields → Type 0
 Made call s c f k = InRange call s c f × Makes call s c k

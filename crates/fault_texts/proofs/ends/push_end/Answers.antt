@@ -10,7 +10,7 @@ use Rattle.fault_texts.proofs.ends.push_end.Goals as goal
 pub returns : goal.returns
 returns c =
     let context = c.args.context.now in
-    let due = due_line context.reading context.stage First in
+    let due = due_line context.version context.reading context.stage First in
     thrice c.push_note.result (string_bytes c.args.text.now) (string_bytes c.push_str.new.self) (string_bytes c.push_due.new.text)
     (string_bytes c.push_note.new.text) (codes "read the end of the text\n") due due (note_line c.end_note.result)
     (note_line (end_note context)) c.in_ok-push_str.ensures.bytes c.in_ok-push_due.ensures refl

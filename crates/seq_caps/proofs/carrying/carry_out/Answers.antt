@@ -8,3 +8,6 @@ returns-in-Grow c = rw c.in-Grow.is (c.grow.ensures c.args.core c.in-Grow.t c.in
 
 pub returns-in-Make : goal.returns-in-Make
 returns-in-Make c = rw c.in-Make.is (c.make.ensures c.args.core c.in-Make.range c.in-Make.table c.in-Make.slot)
+
+pub returns-in-Part : goal.returns-in-Part
+returns-in-Part c = rw c.in-Part.is (c.part.ensures c.args.core c.in-Part.r c.in-Part.t c.in-Part.b)
