@@ -275,5 +275,11 @@ pub fn rows() -> [Row; 26] {
             "scan of the cores, compare of the target",
             "`no-slot`, `empty`, `wrong-cap`, `no-right`, `occupied`, `quiescing e`, `out-of-range`, `raced`",
         ),
+        row_of(
+            Call::Replenish { a: cap(12), m: 1 },
+            "replenish A M",
+            "load of the head, 8 loads of its list, compare of the head",
+            "`no-slot`, `empty`, `wrong-cap`, `no-right`, `unlike`, `short b`, `raced`",
+        ),
     ]
 }

@@ -10,6 +10,7 @@ after_shape own (GoesOn a) = refl
 after_shape own (Decides r a) = refl
 after_shape own (Returns r x) = refl
 after_shape own (Changes r (Ticks charged owed) a) = refl
+after_shape own (Changes r (GivesBack ticks) a) = refl
 after_shape own (Changes r Empties a) = refl
 after_shape own (Changes r (Works comp table pages depth) a) = refl
 after_shape own (Changes r (Caches item) a) = refl

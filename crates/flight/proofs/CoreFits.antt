@@ -63,6 +63,7 @@ further_changed : (own : Own) (a : ActiveCall) (r : Reply) (change : OwnChange) 
     → IsCore (core_after own (Changes r change new)) → left_of own.layout.cores new < left_of own.layout.cores a
     → GoesFurther own a (core_after own (Changes r change new))
 further_changed own a r (Ticks charged owed) new fits fewer = record { fits = fits; fewer = fewer }
+further_changed own a r (GivesBack ticks) new fits fewer = record { fits = fits; fewer = fewer }
 further_changed own a r Empties new fits fewer = record { fits = fits; fewer = fewer }
 further_changed own a r (Works comp table pages depth) new fits fewer = record { fits = fits; fewer = fewer }
 further_changed own a r (Caches item) new fits fewer = record { fits = fits; fewer = fewer }

@@ -20,6 +20,7 @@ use Rattle.core_invariant.specs.act_states.specs.declared.work.Act.TheVariants.{
 use Rattle.core_invariant.specs.act_states.specs.declared.work.Act.TheVariants.{MakeComp as comp_act, Invoke as invoke_act}
 use Rattle.core_invariant.specs.act_states.specs.declared.work.Act.TheVariants.{Return as return_act}
 use Rattle.core_invariant.specs.act_states.specs.declared.work.Act.TheVariants.{Touch as touch_act, Share as share_act}
+use Rattle.core_invariant.specs.act_states.specs.declared.work.Act.TheVariants.{Refill as refill_act}
 use Rattle.core_invariant.specs.act_states.specs.declared.work.Act.TheVariants.{Switch as switch_act}
 use Rattle.core_invariant.specs.act_states.specs.declared.work.Work.{Work}
 use Rattle.core_invariant.specs.act_states.specs.declared.work.Work.TheVariants.{Lookup, Read, Scan, Acquire, Act}
@@ -56,6 +57,7 @@ stores_in (comp_act m) f = comp_is_marked m.at && f == m.frame
 stores_in (invoke_act m) f = false
 stores_in (return_act m) f = false
 stores_in (share_act p) f = false
+stores_in (refill_act r) f = false
 stores_in (switch_act m) f = false
 
 abbrev pub stores_of : Work → ℕ → Bool

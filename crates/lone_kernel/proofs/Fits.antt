@@ -106,6 +106,7 @@ same_took own (TookOn g) = record { core = refl; layout = refl }
 same_took own (Decides r g) = record { core = refl; layout = refl }
 same_took own (Returns r x) = record { core = refl; layout = refl }
 same_took own (Changes r (Ticks charged owed) g) = record { core = refl; layout = refl }
+same_took own (Changes r (GivesBack ticks) g) = record { core = refl; layout = refl }
 same_took own (Changes r Empties g) = record { core = refl; layout = refl }
 same_took own (Changes r (Works comp table pages depth) g) = record { core = refl; layout = refl }
 same_took own (Changes r (Caches item) g) = record { core = refl; layout = refl }

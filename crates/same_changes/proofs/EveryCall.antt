@@ -5,7 +5,7 @@ use Rattle.spk_nums.specs.CallLimits.{InLimits}
 use Rattle.spk_nums.specs.declared.calls.Call.{Call}
 use Rattle.spk_nums.specs.declared.calls.Call.TheVariants.{Look, Copy, Remove, Grow, Shrink, Retype, Make as make_call}
 use Rattle.spk_nums.specs.declared.calls.Call.TheVariants.{Map, Unmap, Touch, Flush, Gate, Kill, Call as call_gate}
-use Rattle.spk_nums.specs.declared.calls.Call.TheVariants.{Ret, Switch, Tick, Transfer, Delegate, Test, Part}
+use Rattle.spk_nums.specs.declared.calls.Call.TheVariants.{Ret, Switch, Tick, Transfer, Delegate, Test, Part, Replenish}
 use Rattle.kernel_rules.specs.State.{Limits, State}
 use Rattle.kernel_rules.specs.CallRelation.{rule_of, change_of}
 use Rattle.kernel_rules.specs.Runs.{Event, after, Open, is_open, phase_of, IsRun}
@@ -20,7 +20,7 @@ use Rattle.same_changes.proofs.Alike.{SameRule, outcome_same}
 use Rattle.same_changes.proofs.CapabilityRules.{look_same, copy_same, remove_same, grow_same, shrink_same, make_same, part_same}
 use Rattle.same_changes.proofs.MemoryRules.{retype_same, map_same, unmap_same, touch_same, flush_same}
 use Rattle.same_changes.proofs.TimeRules.{acts_same, gate_same, kill_same, call_same, ret_same, switch_same}
-use Rattle.same_changes.proofs.TimeRules.{tick_same, transfer_same, delegate_same, test_same}
+use Rattle.same_changes.proofs.TimeRules.{tick_same, transfer_same, delegate_same, test_same, replenish_same}
 
 pub rule_same : {t s : State} {o : ℕ → _} {c : ℕ} → Twins t s o c → (call : Call) → InLimits call
     → SameRule s c (rule_of t c call) (rule_of s c call)
@@ -44,6 +44,7 @@ rule_same w (Tick n) fits = tick_same w n
 rule_same w (Transfer a b m) fits = transfer_same w a b m
 rule_same w (Delegate a b m) fits = delegate_same w a b m
 rule_same w (Test a b) fits = test_same w a b
+rule_same w (Replenish a m) fits = replenish_same w a m
 rule_same w (Part r f n x b) fits = part_same w r f n x b
 
 -- A reached state with an open call, and a state that is one with it.

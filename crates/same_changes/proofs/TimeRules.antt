@@ -2,13 +2,13 @@
 use Rattle.std.proofs.Common.{◌≡◌, ℕ, ◌+◌, ◌-◌, ◌<◌, ◌==◌, Bool, true, false, not, ◌&&◌, ◌||◌, refl, sym, ◌∙◌, ap, subst}
 use Rattle.std.proofs.Common.{nat_le, nat_lt, List, [], ◌∷◌, length, take, drop, Option, Some, None, IsTrue}
 use Rattle.std.proofs.lemmas.Bool.{false≢true}
-use Rattle.spk_nums.specs.Merging.{merged}
+use Rattle.spk_nums.specs.Merging.{merged, covers}
 use Rattle.spk_nums.specs.Capability.{Capability, cap_of}
 use Rattle.spk_nums.specs.declared.kinds.Kind.{Kind}
 use Rattle.spk_nums.specs.declared.kinds.Kind.TheVariants as kind
 use Rattle.spk_nums.specs.declared.calls.Call.{Call}
 use Rattle.spk_nums.specs.declared.replies.Reply.TheVariants as reply
-use Rattle.kernel_rules.specs.State.{Frame, Kernel, Comp, CompFields, ThreadFields, TcapFields, Liveness, Dead, NumberOf, Holds, Core}
+use Rattle.kernel_rules.specs.State.{Frame, Kernel, Comp, CompFields, ThreadFields, TcapFields, Liveness, Dead, NumberOf, Holds, Core, outstanding}
 use Rattle.kernel_rules.specs.State.{State, with_frame, with_core, with_number, with_place, comp_of, comp_in, thread_in, tcap_in, thread_of}
 use Rattle.kernel_rules.specs.References.{number_names}
 use Rattle.kernel_rules.specs.Access.{to_use, Slot, Named, Under, found, only}
@@ -16,7 +16,7 @@ use Rattle.kernel_rules.specs.Rules.{Change, Cause, Found, named, frames_of, fil
 use Rattle.kernel_rules.specs.Life.{is_live_in, is_dead_in, asks_life, acts}
 use Rattle.kernel_rules.specs.InvocationCalls.{with_thread, with_stack, kills, pushes, pops, running, switches}
 use Rattle.kernel_rules.specs.InvocationCalls.{switch_to, gate_rule, kill_rule, call_rule, ret_rule, switch_rule}
-use Rattle.kernel_rules.specs.TimeCalls.{tcap_at, with_tcap, with_budget, with_qualities, charge, charges, moved, merged_list}
+use Rattle.kernel_rules.specs.TimeCalls.{tcap_at, with_tcap, with_budget, with_qualities, charge, charges, moved, merged_list, given_back, replenish_rule}
 use Rattle.kernel_rules.specs.TimeCalls.{are_alike, preemption, preempts, tick_rule, transfer_rule, delegate_rule, test_rule}
 use Rattle.kernel_rules.specs.Fitting.{fits}
 use Rattle.kernel_rules.specs.Relies.{is_node}
@@ -281,6 +281,37 @@ transfer_same {t} {s} {o} {c} w a b m = (
           },
         ),
   ),
+)
+
+given_same : {t s : State} {o : ℕ → Bool} {c : ℕ} → Twins t s o c → (f m : ℕ) → f < s.limits.frames
+    → SameState (given_back t c f m) (given_back s c f m)
+given_same {t} {s} {o} {c} w f m below =
+    same_then _ _ _
+    (same_by _ _ (λ i. with_core (with_budget t f ((tcap_at t f).budget + m)) c
+    (record (core_same w i) { back = (core_same w i).back + m })))
+    (same_core _ _ c (record (s.core c) { back = (s.core c).back + m })
+    (budget_same t s f _ _ below (ap (λ x. (tcap_in x).budget + m) (w.same.frame f below)) w.same))
+
+pub replenish_same : {t s : State} {o : ℕ → Bool} {c : ℕ} → Twins t s o c → (a m : ℕ)
+    → SameRule s c (replenish_rule t c a m) (replenish_rule s c a m)
+replenish_same {t} {s} {o} {c} w a m = (
+  refl,
+  refl,
+  λ x is.
+      let one : tcap_at t x.frame ≡ tcap_at s x.frame = ap tcap_in (named_frame w a kind.Tcap x refl is) in
+      let core = core_same w in (
+        (
+          ((λ i. not (covers (one i).qualities (core i).grant)), λ on. refl),
+          λ calm. (
+            (
+              ap (λ (k : Core). nat_lt (outstanding k) m) core,
+              λ on. ap (λ (k : Core). reply.Short (Rattle.std.specs.Prelude.min (outstanding k) m)) core,
+            ),
+            λ calm. tt,
+          ),
+        ),
+        λ none. record { value = refl; next = given_same w x.frame m (named_below w a kind.Tcap x refl is); begins = refl },
+      ),
 )
 
 pub delegate_same : {t s : State} {o : ℕ → Bool} {c : ℕ} → Twins t s o c → (a b m : ℕ)

@@ -27,7 +27,8 @@ use Rattle.kept_facts.specs.act_states.specs.declared.work.Act.TheVariants.{Make
 use Rattle.kept_facts.specs.act_states.specs.declared.work.Act.TheVariants.{Kill as kill_act, Untype as untype_act, Map as map_act}
 use Rattle.kept_facts.specs.act_states.specs.declared.work.Act.TheVariants.{MakeComp as comp_act, Invoke as invoke_act}
 use Rattle.kept_facts.specs.act_states.specs.declared.work.Act.TheVariants.{Return as return_act}
-use Rattle.kept_facts.specs.act_states.specs.declared.work.Act.TheVariants.{Touch as touch_act, Share as share_act, Switch as switch_act}
+use Rattle.kept_facts.specs.act_states.specs.declared.work.Act.TheVariants.{Touch as touch_act, Share as share_act, Refill as refill_act}
+use Rattle.kept_facts.specs.act_states.specs.declared.work.Act.TheVariants.{Switch as switch_act}
 use Rattle.kept_facts.specs.act_states.specs.declared.work.Act.{Act as ActOf}
 use Rattle.std.proofs.lemmas.Bool.{true≢false}
 use Rattle.kept_facts.specs.kernel_history.specs.Bounds.{IsWithin}
@@ -182,6 +183,7 @@ filled_act setup t c f call plan ks (flush_act by) h knows is = absurd (false≢
 filled_act setup t c f call plan ks (kill_act m) h knows is = absurd (false≢true is)
 filled_act setup t c f call plan ks (untype_act m) h knows is = absurd (false≢true is)
 filled_act setup t c f call plan ks (share_act p) h knows is = absurd (false≢true is)
+filled_act setup t c f call plan ks (refill_act r) h knows is = absurd (false≢true is)
 filled_act setup t c f call plan ks (switch_act m) h knows is = absurd (false≢true is)
 filled_act setup t c f call plan ks (comp_act m) h knows is = filled_comp setup t c f m m.at h knows.at is
 filled_act setup t c f call plan ks (invoke_act m) h knows is = absurd (false≢true is)
@@ -205,6 +207,7 @@ scans_nothing (flush_act by) f starts = refl
 scans_nothing (kill_act m) f starts = refl
 scans_nothing (untype_act m) f starts = refl
 scans_nothing (share_act p) f starts = refl
+scans_nothing (refill_act r) f starts = refl
 scans_nothing (switch_act m) f starts = refl
 scans_nothing (comp_act m) f starts = by (comp_is_marked m.at) starts
   where

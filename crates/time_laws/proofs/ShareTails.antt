@@ -186,6 +186,7 @@ shares_none core what (Some a) None = tt
 begun_none : (own : Own) (call : Call) (ks : List Capability) (read : Option ℕ) (target : Option Found) → changes_budgets call ≡ true
     → LeavesNone (act_begun own call ks read target)
 begun_none own (Tick n) ks read target budgets = tt
+begun_none own (Replenish x m) ks read target budgets = refills_none own m (at_place ks First)
 begun_none own (Transfer x y m) ks read target budgets = shares_none own.core (share.Transfer m) (at_place ks First) (at_place ks Second)
 begun_none own (Delegate x y m) ks read target budgets = shares_none own.core (share.Delegate m) (at_place ks First) (at_place ks Second)
 begun_none own (Test x y) ks read target budgets = shares_none own.core share.Test (at_place ks First) (at_place ks Second)

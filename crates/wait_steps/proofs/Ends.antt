@@ -434,6 +434,7 @@ module _ (w : Word) where
   begun_at own (call_as.Transfer a b m) ks read f = shares_found own.core (share.Transfer m) (at_place ks First) (at_place ks Second)
   begun_at own (call_as.Delegate a b m) ks read f = shares_found own.core (share.Delegate m) (at_place ks First) (at_place ks Second)
   begun_at own (call_as.Test a b) ks read f = shares_found own.core share.Test (at_place ks First) (at_place ks Second)
+  begun_at own (call_as.Replenish a m) ks read f = refills_found own m (at_place ks First)
   begun_at own (call_as.Part r g n t b) ks read f = parts_found own _ _ _ f
   begun_at own (call_as.Touch v) ks read f = tt
 
