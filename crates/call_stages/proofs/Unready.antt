@@ -170,7 +170,7 @@ refill_word_no r false left (Some v) = tt
 
 pub refill_unready : (r : Refill) (at : RefillAt) (found : ℕ) → is_refilling at ≡ false
     → NoAnswer (took_refilled (record (refill_noted (record r { at = at }) found) { at = refill_at_after (refill_noted (record r { at = at }) found) at found })
-      (refill_end_at (refill_noted (record r { at = at }) found) at found))
+    (refill_end_at (refill_noted (record r { at = at }) found) at found))
 refill_unready r refill.Load found not = refill_head_no _ (head_of_word found)
 refill_unready r (refill.List entry) found not = refill_word_no _ _ _ (quality_of_word found)
 refill_unready r refill.Compare found not = absurd (cc)
