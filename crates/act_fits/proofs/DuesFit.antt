@@ -20,7 +20,7 @@ use Rattle.call_stages.specs.act_states.specs.declared.kills.KillingAt.{KillingA
 use Rattle.call_stages.specs.act_states.specs.declared.kills.KillingAt.TheVariants.{LoadComp, LoadLive, Close as kill_close}
 use Rattle.call_stages.specs.act_states.specs.declared.kills.KillingAt.TheVariants.{Draw as kill_draw}
 use Rattle.call_stages.specs.act_states.specs.declared.own.OwnChange.{OwnChange}
-use Rattle.call_stages.specs.act_states.specs.declared.own.OwnChange.TheVariants.{Ticks, Works, Empties, Switches, Caches}
+use Rattle.call_stages.specs.act_states.specs.declared.own.OwnChange.TheVariants.{Ticks, GivesBack, Works, Empties, Switches, Caches}
 use Rattle.call_stages.specs.act_states.specs.declared.invocations.InvokingAt.{InvokingAt}
 use Rattle.call_stages.specs.act_states.specs.declared.invocations.InvokingAt.TheVariants as invoking
 use Rattle.call_stages.specs.act_states.specs.declared.invocations.ReturningAt.{ReturningAt}

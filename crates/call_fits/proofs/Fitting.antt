@@ -118,6 +118,7 @@ use Rattle.act_fits.proofs.CompsFit.{comp_fits, comp_undone}
 use Rattle.act_fits.proofs.SwitchesFit.{switch_fits, switching_undone}
 use Rattle.act_fits.proofs.InvocationsFit.{invoke_fits, return_fits, push_fits, pop_fits}
 use Rattle.act_fits.proofs.TouchesFit.{touch_fits}
+use Rattle.act_fits.proofs.RefillsFit.{refill_fits}
 use Rattle.act_fits.proofs.SharesFit.{share_fits, shared_fits}
 use Rattle.call_fits.proofs.LookingFits.{refused_fits, works_fits, look_fits}
 
@@ -321,7 +322,7 @@ module _ (own : Own) (a : ActiveCall) (facts : Facts own a) (room : own.made < o
   done_fits (return_act m) found fits waits = return_fits own a facts room m m.at found fits waits
   done_fits (switch_act m) found fits waits = switch_fits own a facts room m m.at found fits waits
   done_fits (share_act p) found fits waits = share_fits own a facts room waits p p.at found fits
-  done_fits (refill_act r) found fits waits = refill_fits own a facts room waits r found fits
+  done_fits (refill_act r) found fits waits = refill_fits own a facts room waits r r.at found fits
 
   undo_fits : (act : ActType) → ActFits own.layout act
       → TailFits own.layout (undo act) × (tail_left (undo act) ≤ act_left own.layout.cores act)

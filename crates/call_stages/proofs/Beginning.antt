@@ -41,6 +41,7 @@ use Rattle.spk_nums.specs.declared.kinds.Kind.TheVariants as kind
 use Rattle.act_states.specs.Lookups.{looks_under, looks_entry, looks_at}
 use Rattle.call_stages.specs.Steps.{decides_at_name}
 use Rattle.act_states.specs.stage_tcap.specs.declared.pair.PairWork.TheVariants as share
+use Rattle.act_states.specs.Refills.{refills_at}
 use Rattle.call_stages.proofs.Answering.{NoAnswer}
 use Rattle.call_stages.proofs.ShareDecisions.{shares_no}
 
@@ -167,6 +168,10 @@ pub switches_no : (own : Own) (h q : Option Capability) → NoAnswer (switches_a
 switches_no own None q = tt
 switches_no own (Some h) None = tt
 switches_no own (Some h) (Some q) = tt
+
+refills_no : (own : Own) (m : ℕ) (o : Option Capability) → NoAnswer (refills_at own m o)
+refills_no own m None = tt
+refills_no own m (Some k) = tt
 
 pub act_no : (own : Own) (call : Call) (found : List Capability) (read : Option ℕ) (target : Option Found)
     → decides_at_name (plan_for call).decides ≡ false

@@ -121,6 +121,11 @@ use Rattle.call_stages.specs.Fits.{FoundFits, IsFirst, IsActive}
 use Rattle.call_stages.specs.Tails.{took_tail, tail_counts}
 use Rattle.act_states.specs.call_plans.specs.After.{with_found, names_after, next_in, next_of}
 use Rattle.act_states.specs.call_plans.specs.After.{Next, NextName, NextFree, NextHeld, NextOwn, NextNothing}
+use Rattle.act_states.specs.Refills.{is_refilling, took_refilled, took_refill}
+use Rattle.act_states.specs.stage_tcap.specs.Refilling.{refill_after, won}
+use Rattle.act_states.specs.stage_tcap.specs.declared.refill.Refill.{Refill}
+use Rattle.act_states.specs.stage_tcap.specs.declared.refill.RefillAt.{RefillAt}
+use Rattle.act_states.specs.stage_tcap.specs.declared.refill.RefillAt.TheVariants as refill
 use Rattle.call_stages.specs.Steps.{GoesOn, landed, next_by, found_more, took_first, took_enter, took_alive, named_one, read_more}
 use Rattle.call_stages.specs.Steps.{took_read}
 use Rattle.call_stages.specs.Steps.{took_found, took_end, took_look, took_scan, took_count, gives_up, took_work}
@@ -475,12 +480,12 @@ charge_decides a (charge_compare tcap ticks budget version) found ready = by (fo
     by false = tt
 
 refill_decides : (a : ActiveCall) (r : Refill) (at : RefillAt) (found : ℕ) → is_refilling at ≡ true
-    → IsDecision (landed a (took_refilled (record r { at = refill_at_after r at found }) (refill_end_at r at found)))
+    → IsDecision (landed a (took_refill (record r { at = at }) found))
 refill_decides a r refill.Load found ready = absurd (cc)
 refill_decides a r (refill.List entry) found ready = absurd (cc)
 refill_decides a r refill.Compare found ready = by (found == word_of_head r.head)
   where
-    by : (equal : Bool) → IsDecision (landed a (took_refilled (record r { at = refill.Compare }) (won equal)))
+    by : (equal : Bool) → IsDecision (landed a (took_refilled (refill_after (record r { at = refill.Compare }) found) (won equal)))
     by true = tt
     by false = tt
 refill_decides a r refill.Again found ready = absurd (cc)

@@ -90,6 +90,13 @@ use Rattle.act_states.specs.Typings.{meets_frame, meets_word, took_typing_at, is
 use Rattle.spk_nums.specs.declared.translations.Translation.{Translation}
 use Rattle.act_states.specs.declared.touches.Touching.{Touching}
 use Rattle.act_states.specs.Touches.{touch_end, touched, is_at_page}
+use Rattle.act_states.specs.Refills.{is_refilling, took_refilled, took_refill}
+use Rattle.act_states.specs.tcap_words.specs.Quality.{quality_of_word}
+use Rattle.act_states.specs.tcap_words.specs.declared.quality_word.QualityWord.{QualityWord}
+use Rattle.act_states.specs.stage_tcap.specs.Refilling.{refill_after, word_end, weighed, again}
+use Rattle.act_states.specs.stage_tcap.specs.declared.refill.Refill.{Refill}
+use Rattle.act_states.specs.stage_tcap.specs.declared.refill.RefillAt.{RefillAt}
+use Rattle.act_states.specs.stage_tcap.specs.declared.refill.RefillAt.TheVariants as refill
 use Rattle.call_stages.proofs.Answering.{NoAnswer}
 use Rattle.call_stages.proofs.ShareDecisions.{share_unready}
 
@@ -163,20 +170,19 @@ refill_head_no r (Some h) = by h.mark
     by None = tt
     by (Some d) = tt
 
-refill_word_no : (r : Refill) (less : Bool) (left : ℕ) (o : Option QualityWord) → NoAnswer (took_refilled r (word_end o (weighed less left)))
+refill_word_no : (r : Refill) (less : Bool) (left : ℕ) (o : Option QualityWord)
+    → NoAnswer (took_refilled r (word_end o (weighed less left)))
 refill_word_no r less left None = tt
 refill_word_no r true left (Some v) = tt
 refill_word_no r false left (Some v) = tt
 
-pub refill_unready : (r : Refill) (at : RefillAt) (found : ℕ) → is_refilling at ≡ false
-    → NoAnswer (took_refilled (record (refill_noted (record r { at = at }) found) { at = refill_at_after (refill_noted (record r { at = at }) found) at found })
-    (refill_end_at (refill_noted (record r { at = at }) found) at found))
+pub refill_unready : (r : Refill) (at : RefillAt) (found : ℕ) → is_refilling at ≡ false → NoAnswer (took_refill (record r { at = at }) found)
 refill_unready r refill.Load found not = refill_head_no _ (head_of_word found)
 refill_unready r (refill.List entry) found not = refill_word_no _ _ _ (quality_of_word found)
 refill_unready r refill.Compare found not = absurd (cc)
 refill_unready r refill.Again found not = by (found == word_of_head r.head)
   where
-    by : (same : Bool) → NoAnswer (took_refilled (record r { at = refill.Again }) (again same))
+    by : (same : Bool) → NoAnswer (took_refilled (refill_after (record r { at = refill.Again }) found) (again same))
     by true = tt
     by false = tt
 

@@ -2,7 +2,7 @@
 use Rattle.work_invariant.proofs.Common.{◌≡◌, ℕ, Option, Some, None, refl, Reply, ActiveCall, Took, GoesOn, Decides, Returns, Changes}
 use Rattle.work_invariant.proofs.Common.{took, Core, Own, Works, core_after, absorbed_in, absorbed, told_by, told_in, returned_in}
 use Rattle.std.proofs.Common.{IsSome}
-use Rattle.call_stages.specs.act_states.specs.declared.own.OwnChange.TheVariants.{Ticks, Empties, Caches, Switches}
+use Rattle.call_stages.specs.act_states.specs.declared.own.OwnChange.TheVariants.{Ticks, GivesBack, Empties, Caches, Switches}
 use Rattle.call_stages.specs.Cores.{told_of_step}
 
 after_shape : (own : Own) (k : Took) → (core_after own k).own.layout ≡ own.layout

@@ -3,7 +3,7 @@ use Rattle.work_invariant.proofs.Common.{◌≡◌, ℕ, ◌<◌, ◌≤◌, ◌
 use Rattle.work_invariant.proofs.Common.{IsSetting, InLimits, Call, calls_counted, Own, Works, Reply, ActiveCall, Core, Took, GoesOn}
 use Rattle.work_invariant.proofs.Common.{Decides, Returns, Changes, took, fresh, core_after, absorbed_in, absorbed}
 use Rattle.call_stages.specs.act_states.specs.declared.own.OwnChange.{OwnChange}
-use Rattle.call_stages.specs.act_states.specs.declared.own.OwnChange.TheVariants.{Ticks, Empties, Caches, Switches}
+use Rattle.call_stages.specs.act_states.specs.declared.own.OwnChange.TheVariants.{Ticks, GivesBack, Empties, Caches, Switches}
 use Rattle.call_stages.specs.Steps.{told, call_after}
 use Rattle.call_stages.specs.Cores.{started, begun}
 use Rattle.call_stages.specs.Fits.{IsOwn, IsCore, left_of, left_for, steps_left}

@@ -42,6 +42,7 @@ use Rattle.call_stages.specs.stage_pins.specs.Held.{commit_of, AcquiredFits, All
 use Rattle.call_stages.specs.stage_pins.proofs.PinLemmas.{pin_is_in, settle_is_in}
 use Rattle.call_stages.specs.stage_pins.proofs.HeldLemmas.{commit_fits}
 use Rattle.call_stages.specs.stage_tcap.proofs.PairLemmas.{charge_is_in, pair_is_in}
+use Rattle.call_stages.specs.stage_tcap.proofs.RefillLemmas.{refill_is_in}
 use Rattle.call_stages.specs.stage_thread.proofs.ThreadLemmas.{push_is_in, pop_is_in, claim_is_in}
 use Rattle.call_stages.specs.act_states.specs.declared.invocations.InvokingAt.TheVariants as invoking
 use Rattle.call_stages.specs.act_states.specs.declared.invocations.ReturningAt.TheVariants as returning

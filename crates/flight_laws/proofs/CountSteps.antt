@@ -51,6 +51,10 @@ use Rattle.time_laws.specs.stage_tcap.specs.declared.pair.Pair.{Pair}
 use Rattle.time_laws.specs.stage_tcap.specs.declared.pair.PairAt.{PairAt}
 use Rattle.time_laws.specs.stage_tcap.specs.declared.pair.PairAt.TheVariants.{LoadA, MarkA, ListA, LoadB, ListB, CompareB}
 use Rattle.time_laws.specs.stage_tcap.specs.declared.pair.PairAt.TheVariants.{AgainB, StoreList, StoreB, StoreA}
+use Rattle.time_laws.specs.stage_tcap.specs.Refilling.{refill_move_at}
+use Rattle.time_laws.specs.stage_tcap.specs.declared.refill.Refill.{Refill}
+use Rattle.time_laws.specs.stage_tcap.specs.declared.refill.RefillAt.{RefillAt}
+use Rattle.time_laws.specs.stage_tcap.specs.declared.refill.RefillAt.TheVariants as refill
 use Rattle.time_laws.specs.stage_thread.specs.Stacking.{push_move, pop_move}
 use Rattle.time_laws.specs.stage_thread.specs.declared.claim.Claim.TheVariants as claim
 use Rattle.time_laws.specs.stage_thread.specs.declared.stack.Pop.{Pop as PopOf}

@@ -91,6 +91,9 @@ use Rattle.std.proofs.Common.{◌<◌, ◌^◌}
 use Rattle.time_laws.specs.stage_quiet.proofs.QuietLemmas.{drawn_in_range}
 use Rattle.time_laws.specs.stage_tcap.specs.declared.pair.Pair.{Pair}
 use Rattle.time_laws.specs.stage_tcap.specs.Pairs.{pair_after, pair_end}
+use Rattle.time_laws.specs.stage_tcap.specs.Refilling.{refill_after, refill_end}
+use Rattle.time_laws.specs.stage_tcap.specs.declared.refill.Refill.{Refill}
+use Rattle.time_laws.specs.act_states.specs.Refills.{took_refilled}
 use Rattle.time_laws.specs.act_states.specs.Refusals.{reply_of}
 use Rattle.time_laws.specs.act_states.specs.Shares.{shared, took_shared}
 use Rattle.time_laws.specs.call_stages.specs.Cores.{core_after, told_by}

@@ -50,6 +50,10 @@ use Rattle.time_laws.specs.act_states.specs.declared.switches.SwitchAt.TheVarian
 use Rattle.time_laws.specs.stage_thread.specs.declared.claim.Claim.TheVariants as claim
 use Rattle.time_laws.specs.stage_tcap.specs.Pairs.{move_at}
 use Rattle.time_laws.specs.stage_tcap.specs.declared.pair.PairAt.TheVariants as pair
+use Rattle.time_laws.specs.stage_tcap.specs.Refilling.{refill_move_at}
+use Rattle.time_laws.specs.stage_tcap.specs.declared.refill.Refill.{Refill}
+use Rattle.time_laws.specs.stage_tcap.specs.declared.refill.RefillAt.{RefillAt}
+use Rattle.time_laws.specs.stage_tcap.specs.declared.refill.RefillAt.TheVariants as refill
 use Rattle.time_laws.specs.act_states.specs.declared.kills.KillingAt.TheVariants.{Close as kill_close, Draw as kill_draw}
 use Rattle.time_laws.specs.act_states.specs.Kills.{killing_at}
 use Rattle.time_laws.specs.act_states.specs.declared.fills.Fill.{Fill as FillOf}
@@ -223,6 +227,13 @@ module _ (setup : Setting) (setting : IsSetting setup) (t : Trace) (cores : ℕ 
   by_charge (Tick n) (charge_load g ticks) has on = inr (inl (sym has.tcap ∙ ap frame_in on))
   by_charge (Tick n) (charge_compare g ticks budget version) has on = inr (inl (sym has.tcap ∙ ap frame_in on))
   by_charge call charge has on = absurd has
+
+  by_refill : (r : Refill) (at : RefillAt) → HasTcap (state_after setup t) c r.tcap → KnowsRefillAt setup t c r at
+      → word_of (refill_move_at r at) ≡ EntryAt f i → Rests
+  by_refill r refill.Load has at on = of_tcap r.tcap 0 on has
+  by_refill r (refill.List n) has at on = of_tcap r.tcap n on has
+  by_refill r refill.Compare has at on = of_tcap r.tcap 0 on has
+  by_refill r refill.Again has at on = of_tcap r.tcap 0 on has
 
   by_killing : (g core : ℕ) (at : KillingAt) → HasComp (state_after setup t) c g → word_of (killing_at g core at) ≡ EntryAt f i → Rests
   by_killing g core LoadComp comp on = inr (inr (inl (subst (HasComp (state_after setup t) c) (ap frame_in on) comp)))

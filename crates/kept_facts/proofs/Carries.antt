@@ -600,8 +600,8 @@ module _ (setup : Setting) (setting : IsSetting setup) (t : Trace) (e : Step) (l
     comp = has_comp_on m.comp has.comp;
     at = killing_on m.comp m.at same.numbers has.comp has.at;
   }
-  act_on of plan caps upto (share_act p) same has = same.pairs p refl of caps has
-  act_on of plan caps upto (refill_act r) same has = same.refills r refl of caps has
+  act_on of plan caps upto (share_act p) same has = same.pairs.shares p refl of caps has
+  act_on of plan caps upto (refill_act r) same has = same.pairs.refills r refl of caps has
   act_on of plan caps upto (switch_act m) same has = record {
     switches = has.switches;
     leaves = record {

@@ -456,7 +456,10 @@ module _ (setup : Setting) (setting : IsSetting setup) (cores : ℕ → Core) (t
       alive_on setup setting t e stands.legal c a.call at (open_carries follows time c a.call other at) a.call alive has
   knows_other follows time blanks c users shares table a other (Undecided work) held typed claims at has =
       undecided_on setup setting t e stands.legal c a.call at (open_carries follows time c a.call other at) table a work
-      (λ act is p share of ks has. shares.undecided (ap is_in at) of ks p has)
+      (λ act is. record {
+        shares = λ p share of ks has. shares.undecided (ap is_in at) of ks p has;
+        refills = λ r refill of ks has. shares.refilling (ap is_in at) of ks r has;
+      })
       (λ w. own_read-other c e t other w)
       (λ f i is. filled_stays follows blanks c (holds_at (Undecided work) a.counts) other held f
       (filled_work setup t c table f a work (holds_counts (is_done (Undecided work)) a.counts) has.knows is) i) users

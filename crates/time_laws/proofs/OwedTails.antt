@@ -24,6 +24,8 @@ use Rattle.flight.specs.stage_tcap.specs.Charging.{end_by_mark}
 use Rattle.flight.specs.stage_tcap.specs.Pairs.{noted_by, pair_after, pair_move}
 use Rattle.flight.specs.stage_tcap.specs.Pairs.{at_decided, compared_after, at_by_mark, at_by_head, at_marked, at_read}
 use Rattle.flight.specs.stage_tcap.specs.Pairs.{b_next, a_next, marked_end, decided_by_mark, b_end, list_end, again_value}
+use Rattle.flight.specs.stage_tcap.specs.declared.refill.Refill.{Refill}
+use Rattle.flight.specs.act_states.specs.Refills.{took_refilled}
 use Rattle.flight.specs.act_states.specs.declared.refusals.Refusal.{Refusal}
 use Rattle.flight.specs.act_states.specs.declared.refusals.Refusal.TheVariants as refusal
 use Rattle.flight.specs.act_states.specs.declared.typings.Typing.{Typing}
@@ -155,6 +157,12 @@ tick_none due charge ends.Going = tt
 tick_none due charge (ends.Decided r) = tt
 tick_none due charge (ends.Done v) = tt
 tick_none due charge (ends.Refuse r) = tt
+
+refill_none : (r : Refill) (end : StageEnd Value) → LeavesNone (took_refilled r end)
+refill_none r ends.Going = tt
+refill_none r (ends.Decided reply) = tt
+refill_none r (ends.Done v) = tt
+refill_none r (ends.Refuse reply) = tt
 
 -- What a decision owes
 

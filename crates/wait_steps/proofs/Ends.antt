@@ -80,6 +80,7 @@ use Rattle.call_stages.specs.act_states.specs.Refusals.{reply_of, refusal_of}
 use Rattle.call_stages.specs.act_states.specs.Lookups.{looks_under, looks_entry, looks_at, read_first, next_step, met_right, met_cap, met_name, met_free, met_held}
 use Rattle.call_stages.specs.act_states.specs.Touches.{fault_of, touches_if}
 use Rattle.call_stages.specs.act_states.specs.Shares.{shared, took_shared, shares_if, shares_at}
+use Rattle.call_stages.specs.act_states.specs.Refills.{refills_at}
 use Rattle.call_stages.specs.act_states.specs.Acts.{looked, scans, starts, fills_with, removes_held, removes_at, types_if, types_at, makes_at}
 use Rattle.call_stages.specs.act_states.specs.Acts.{maps_if, maps_at, comps_at, made_begun, kills_in, kills_at, invokes_if, invokes_in, invokes_at, returns_if, switches_at, act_begun}
 use Rattle.call_stages.specs.act_states.specs.Acts.{parts_at}
@@ -413,6 +414,10 @@ module _ (w : Word) where
   shares_found core what (Some a) (Some b) = shares_same _ core what _ _
   shares_found core what (Some a) None = tt
   shares_found core what None b = tt
+
+  pub refills_found : (own : Own) (m : ℕ) (o : Option Capability) → StepAt w (refills_at own m o)
+  refills_found own m None = tt
+  refills_found own m (Some k) = tt
 
   pub begun_at : (own : Own) (call : Call) (ks : List Capability) (read : Option ℕ) (f : Option Found) → StepAt w (act_begun own call ks read f)
   begun_at own (call_as.Look a) ks read f = looked_at _
