@@ -71,6 +71,7 @@ use Rattle.call_stages.specs.stage_tcap.specs.declared.pair.PairAt.TheVariants.{
 use Rattle.call_stages.specs.stage_tcap.specs.declared.pair.PairWork.{PairWork}
 use Rattle.call_stages.specs.stage_tcap.specs.declared.pair.PairWork.TheVariants as share
 use Rattle.call_stages.specs.act_states.specs.Shares.{share_left, shares_if, shares_at}
+use Rattle.call_stages.specs.act_states.specs.Refills.{refills_at}
 use Rattle.call_stages.specs.act_states.specs.Scans.{ScanFits, left_of_scan, left_of_cores}
 use Rattle.call_stages.specs.act_states.specs.Touches.{touches_if}
 use Rattle.call_stages.specs.act_states.specs.Lookups.{looks_under, looks_entry, looks_at, read_first, next_step}
@@ -604,6 +605,11 @@ shared s later most core what found named some = by (at_place found First) (at_p
     by None b first second = (omega arith, tt)
     by (Some a) None first second = (omega arith, tt)
 
+refilled : (own : Own) (later most m : ℕ) (o : Option Capability) → IfSome o (λ k. k.frame < own.layout.frames)
+    → 10 ≤ most → StepFits own.layout [] later most (refills_at own m o)
+refilled own later most m None named some = (omega arith, tt)
+refilled own later most m (Some k) named some = (record { tcap = named; head = omega arith; at = tt }, omega (arith, some), refl)
+
 kept_names : (frames these : ℕ) (o : Option Capability) → IfSome o (CapNames frames) → IfSome (kept_of these o) (CapNames frames)
 kept_names frames these None names = tt
 kept_names frames these (Some k) names = names
@@ -648,9 +654,8 @@ act_fits own later (Delegate a b m) found read target h names objects limits fit
     shared own.layout later 30 own.core (share.Delegate m) found objects (omega arith)
 act_fits own later (Test a b) found read target h names objects limits fits =
     shared own.layout later 21 own.core share.Test found objects (omega arith)
-act_fits own later (Replenish a m) [] read target h names objects limits fits = absurd (not_none names)
-act_fits own later (Replenish a m) (k ∷ ks) read target h names objects limits fits =
-    (record { tcap = names.0.1; head = omega arith; at = tt }, omega arith, refl)
+act_fits own later (Replenish a m) found read target h names objects limits fits =
+    refilled own later 10 m (at_place found First) objects (omega arith)
 act_fits own later (Part r f n t b) found read target h names objects limits fits =
     parts own later (at_place found First) f n target h objects fits
 act_fits own later call found read target h names objects limits fits = (omega arith, tt)
