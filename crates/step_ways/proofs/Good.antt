@@ -279,6 +279,8 @@ works_on setup t e core c on is = record {
   cached = is.cached ∙ ap (λ k. k.cached) (sym on.core);
   owed = is.owed ∙ ap (λ k. k.owed) (sym on.core);
   spent = is.spent ∙ ap (λ k. k.spent) (sym on.core);
+  back = is.back ∙ ap (λ k. k.back) (sym on.core);
+  grant = is.grant ∙ ap (λ k. k.grant) (sym on.core);
   made = is.made ∙ ap (λ k. k.counted) (sym on.core);
 }
 
