@@ -1,6 +1,6 @@
 -- Every call that is carried out is a list of edits, each with the capabilities by which it is made.
 use Rattle.std.proofs.Common.{◌≡◌, ◌≢◌, ◌⊎◌, inl, inr, ℕ, ◌≤◌, ◌+◌, ◌/◌, ◌%◌, Bool, true, false, not, refl, sym, ◌∙◌, ap, subst}
-use Rattle.std.proofs.Common.{◌==◌, nat_lt, nat_le, if◌then◌else◌, length, IsTrue, List, [], ◌∷◌, Option, Some, None}
+use Rattle.std.proofs.Common.{◌==◌, nat_lt, nat_le, if◌then◌else◌, length, IsTrue, List, [], ◌∷◌, Option, Some, None, min}
 use Rattle.std.proofs.lemmas.Bool.{false≢true, eqb-true, eqb-false, ltb-false}
 use Rattle.state_laws.specs.spk_nums.specs.Capability.{Capability, cap_of}
 use Rattle.state_laws.specs.spk_nums.specs.Rights.{both, kept, has_rights, part_of}

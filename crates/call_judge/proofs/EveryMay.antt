@@ -1,6 +1,6 @@
 -- Every call may be refused alike in two states that are one for the machine, one of them reached.
 use Rattle.std.proofs.Common.{◌≡◌, ℕ, ◌+◌, ◌<◌, ◌==◌, Bool, true, false, not, ◌&&◌, refl, sym, ◌∙◌, ap, subst}
-use Rattle.std.proofs.Common.{nat_le, nat_lt, if◌then◌else◌, arith, List, [], ◌∷◌, length, Option, Some, None, IsTrue}
+use Rattle.std.proofs.Common.{nat_le, nat_lt, if◌then◌else◌, arith, List, [], ◌∷◌, length, Option, Some, None, IsTrue, min}
 use Rattle.std.proofs.lemmas.Bool.{false≢true, ltb-true}
 use Rattle.spk_nums.specs.Capability.{Capability}
 use Rattle.spk_nums.specs.Merging.{merged, covers}

@@ -22,7 +22,7 @@ use Rattle.act_states.specs.Ticks.{took_charge, took_tick, is_charging}
 use Rattle.act_states.specs.stage_tcap.specs.declared.charge.Charge.{Charge}
 use Rattle.act_states.specs.stage_tcap.specs.declared.charge.Charge.TheVariants.{AtLoad as charge_load, AtCompare as charge_compare}
 use Rattle.act_states.specs.stage_tcap.specs.Charging.{end_by_mark, head_end}
-use Rattle.act_states.specs.tcap_words.specs.Head.{head_of_word}
+use Rattle.act_states.specs.tcap_words.specs.Head.{head_of_word, word_of_head}
 use Rattle.act_states.specs.tcap_words.specs.declared.head_word.HeadWord.{HeadWord}
 use Rattle.std.specs.Prelude.{is_some}
 use Rattle.spk_nums.specs.declared.kinds.Obj.{Obj}

@@ -1,6 +1,6 @@
 -- What a core has had back is the sum of its replenishments, and no more than it has spent.
 use Rattle.std.proofs.Common.{◌≡◌, ◌≢◌, ◌⊎◌, inl, inr, ℕ, ◌+◌, ◌-◌, ◌≤◌, arith}
-use Rattle.std.proofs.Common.{true, false, refl, sym, ◌∙◌, ap, subst, ◌==◌, if◌then◌else◌, List, [], ◌∷◌}
+use Rattle.std.proofs.Common.{Bool, true, false, refl, sym, ◌∙◌, ap, subst, ◌==◌, if◌then◌else◌, List, [], ◌∷◌}
 use Rattle.std.proofs.lemmas.Bool.{cases_eq, eq-eqb, ne_eqb}
 use Rattle.spk_nums.specs.Setting.{Setting, IsSetting}
 use Rattle.spk_nums.specs.declared.calls.Call.{Call}
@@ -67,7 +67,7 @@ given_ticks (Tick n) = refl
 given_ticks (Replenish a m) = refl
 given_ticks _ = refl
 
-changed_back : (s : State) (o : ℕ → _) (c : ℕ) (call : Call) (v : Value) → IsOpen s o c → MayReply s c call (reply.Ok v)
+changed_back : (s : State) (o : ℕ → Bool) (c : ℕ) (call : Call) (v : Value) → IsOpen s o c → MayReply s c call (reply.Ok v)
     → Gets s c (given_of call) (changed s (change_of s c call)).core
 changed_back s o c call v h may = after_ok s c call v (λ t. Gets s c (given_of call) t.core) may (λ change e.
     subst (λ n. Gets s c n (after_edits c s e.list).core) (ap (λ (p : ℕ × ℕ). p.1) (sym e.agrees.3) ∙ given_ticks call)
@@ -85,7 +85,7 @@ owed_back : (s : State) (c : ℕ) (call : Call) → Gets s c 0 (owed_by s c call
 owed_back s c (Tick n) = own s c 0 (record (s.core c) { owed = (s.core c).owed + n }) (omega arith) (λ w. w)
 owed_back s c _ = same s c
 
-decided_gets : (s : State) (o : ℕ → _) (c : ℕ) (call : Call) (r : Reply) → IsOpen s o c → MayReply s c call r
+decided_gets : (s : State) (o : ℕ → Bool) (c : ℕ) (call : Call) (r : Reply) → IsOpen s o c → MayReply s c call r
     → Gets s c (given_by call r) (state_by s c call r).core
 decided_gets s o c call (reply.Ok v) h may =
     counts s c (given_of call) (changed s (change_of s c call)) (changed_back s o c call v h may)

@@ -1,7 +1,7 @@
 -- A call whose plan was found, and against which no own cause stands, may be carried out.
 use Rattle.std.proofs.Common.{◌≡◌, ◌≢◌, inl, inr, ℕ, ◌<◌, ◌≤◌, ◌+◌, ◌^◌, ◌==◌, Bool, true, false, not, ◌&&◌, nat_lt, nat_le, if◌then◌else◌}
 use Rattle.std.proofs.Common.{refl, sym, ap, subst, ◌∙◌, arith, zero, suc, drop, length, List, [], ◌∷◌, Option, Some, None, IsTrue, IsFalse}
-use Rattle.std.specs.Prelude.{is_some, IsSome, IsSomeAnd}
+use Rattle.std.specs.Prelude.{is_some, IsSome, IsSomeAnd, min}
 use Rattle.std.proofs.lemmas.Bool.{true≢false, and_parts, cases_lt, ltb-true, ltb-false, leb-true, leb-false, eqb-false, le-ltb}
 use Rattle.spk_nums.specs.Capability.{Capability}
 use Rattle.spk_nums.specs.declared.kinds.Kind.TheVariants as kind

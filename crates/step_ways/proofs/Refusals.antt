@@ -283,6 +283,22 @@ module _ (setup : Setting) (setting : IsSetting setup) (cores : ℕ → Core) (t
       (λ x. refl) (λ x. refl) refl (unspent, inr may) tt
       (first_of reply.Dead may_act first)
 
+  pub refuses_unlike : IsTrue (acts (state_after setup t) c a.call)
+      → RuleMay (state_after setup t) c (rule_of (state_after setup t) c a.call) reply.Unlike → IsFirstCause reply.Unlike
+      → RefusedWith reply.Unlike
+  refuses_unlike may_act may first lands =
+      decides_on setup setting cores t stands c here a active move reply.Unlike a.found looks lands (still None refl) opens refl refl
+      (λ x. refl) (λ x. refl) refl (unspent, may) tt
+      (first_of reply.Unlike may_act first)
+
+  pub refuses_short : (n : ℕ) → IsTrue (acts (state_after setup t) c a.call)
+      → RuleMay (state_after setup t) c (rule_of (state_after setup t) c a.call) (reply.Short n) → IsFirstCause (reply.Short n)
+      → RefusedWith (reply.Short n)
+  refuses_short n may_act may first lands =
+      decides_on setup setting cores t stands c here a active move (reply.Short n) a.found looks lands (still None refl) opens refl refl
+      (λ x. refl) (λ x. refl) refl (unspent, may) tt
+      (first_of (reply.Short n) may_act first)
+
   pub refuses_running : (d : ℕ) → IsTrue (acts (state_after setup t) c a.call)
       → RuleMay (state_after setup t) c (rule_of (state_after setup t) c a.call) (reply.Running d)
       → IsFirstCause (reply.Running d) → RefusedWith (reply.Running d)
