@@ -1,26 +1,30 @@
--- What a call that gives ticks back knows of itself: its name, its rule, its machine.
-use Rattle.count_invariant.proofs.Common.{◌≡◌, ◌≢◌, ℕ, ◌<◌, ◌==◌, ◌&&◌, ◌||◌, true, false, List, [], ◌∷◌, Some, None, map, refl, sym, ◌∙◌}
-use Rattle.count_invariant.proofs.Common.{ap, subst, eq-eqb, ne_eqb, Setting, IsSetting, Capability, Call, Kind, Reply, Thing, State}
-use Rattle.count_invariant.proofs.Common.{Named, found, named_by, Change, Cause, Does, RuleMay, answers, leaves, outcome, unless}
-use Rattle.count_invariant.proofs.Common.{first_cause, tcap_at, moved, is_short, are_unlike, are_many, rule_of, change_of, ends_by}
-use Rattle.count_invariant.proofs.Common.{flushes_by, changes_budgets, is_one_of, footprint_frames, Trace, Open, phase, state_after, First}
-use Rattle.count_invariant.proofs.Common.{Second, Plan, at_place, plan_for, GoesBy, own_pages, rule_after, Leads, LeadsIn, leads_by}
-use Rattle.count_invariant.proofs.Common.{StageFits, HasRoom, Core, holds_counts, due_of, KnowsUndecided, phase_at, HasFound, own_in}
-use Rattle.count_invariant.proofs.Common.{SharesBy, holds_share, holds_at, holds_in, Invariant, TcapOf}
+-- What a call that gives ticks back knows of itself: its name, its rule, its machine, and what refuses it.
+use Rattle.count_invariant.proofs.Common.{◌≡◌, inl, inr, ℕ, ◌+◌, ◌*◌, ◌^◌, ◌<◌, ◌≤◌, not, nat_lt, Bool, true, false, List, Option}
+use Rattle.count_invariant.proofs.Common.{[], ◌∷◌, Some, None, map, arith, refl, sym, ◌∙◌, ap, subst, le-ltb, Setting, IsSetting}
+use Rattle.count_invariant.proofs.Common.{Capability, Call, Reply, State, Change, Cause, Does, Judged, Found, Refused, RuleMay, tcap_in}
+use Rattle.count_invariant.proofs.Common.{leaves, outcome, unless, first_of, first_cause, tcap_at, rule_of, change_of, changes_budgets}
+use Rattle.count_invariant.proofs.Common.{is_one_of, footprint_frames, Trace, Open, phase, state_after, First, Plan, at_place, plan_for}
+use Rattle.count_invariant.proofs.Common.{GoesBy, own_pages, rule_after, Leads, LeadsIn, leads_by, outcome_left, left_may, calls_go}
+use Rattle.count_invariant.proofs.Common.{Acquired, Act, Undecided, ActiveCall, StageFits, HasRoom, Core, holds_counts, due_of}
+use Rattle.count_invariant.proofs.Common.{KnowsUndecided, phase_at, HasFound, own_in, holds_at, holds_in, Invariant, TcapOf, in_order}
+use Rattle.count_invariant.proofs.Common.{IsRefill, RefillsBy, EntryAt, LoadOf, limits_of}
+use Rattle.std.proofs.Common.{min}
+use Rattle.std.proofs.lemmas.Bool.{ltb-true}
+use Rattle.quality_lists.specs.spk_nums.specs.Merging.{covers}
 use Rattle.quality_lists.specs.spk_nums.specs.declared.calls.Call.TheVariants as call_as
-use Rattle.quality_lists.specs.spk_nums.specs.declared.kinds.Kind.TheVariants as kind
-use Rattle.count_invariant.specs.call_plans.specs.declared.plans.Nth.{Nth}
-use Rattle.count_invariant.proofs.Findings.{found_named}
-use Rattle.count_invariant.specs.plan_ways.proofs.InFootprint.{footprint_found}
-use Rattle.count_invariant.specs.step_ways.proofs.Loads.{call_is, is_active}
-use Rattle.count_invariant.specs.kept_facts.proofs.Tcaps.{tcap_of}
-use Rattle.count_invariant.proofs.Common.{IsRefill, RefillsBy, EntryAt, LoadOf, inl, map}
-use Rattle.count_invariant.specs.act_states.specs.Refills.{left_among}
+use Rattle.quality_lists.specs.spk_nums.specs.declared.replies.Reply.TheVariants as reply
+use Rattle.kernel_laws.specs.kernel_rules.specs.Access.{found}
+use Rattle.kernel_laws.specs.kernel_rules.specs.State.{outstanding}
+use Rattle.kernel_laws.specs.kernel_rules.specs.Ranges.{CoreInRange}
 use Rattle.kernel_laws.specs.kernel_rules.specs.TimeCalls.{is_finer, is_less, given_back}
+use Rattle.count_invariant.proofs.Findings.{found_named}
+use Rattle.count_invariant.specs.act_states.specs.Refills.{left_among}
+use Rattle.count_invariant.specs.act_states.specs.declared.work.Act.TheVariants.{Refill as refill_act}
 use Rattle.count_invariant.specs.stage_tcap.specs.Refilling.{RefillFits}
 use Rattle.count_invariant.specs.stage_tcap.specs.declared.refill.Refill.{Refill}
-use Rattle.count_invariant.specs.act_states.specs.declared.work.Act.TheVariants.{Refill as refill_act}
-use Rattle.count_invariant.specs.step_ways.proofs.Loads.{OnlyLooks}
+use Rattle.count_invariant.specs.step_ways.proofs.Loads.{OnlyLooks, call_is, is_active}
+use Rattle.count_invariant.specs.kept_facts.proofs.Tcaps.{tcap_of}
+use Rattle.pair_invariant.proofs.ListsKnown.{ranges_of}
 use Rattle.pair_invariant.proofs.ShareCalls.{name_footprint}
 
 -- It is a replenishment of the temporal capability to which its name has led.
@@ -107,9 +111,9 @@ module _ (setup : Setting) (setting : IsSetting setup) (cores : ℕ → Core) (t
   pub change_is : change_of s c a.call ≡ unless (first_cause s c causes) change
   change_is = outcome_left s c (own_pages s c) a.plan (rule_of s c a.call) a.found by_plan leads ∙ ap (outcome s c) left
 
-  pub may : (r : Reply) → RuleMay s c (Does causes change) r → RuleMay s c (rule_of s c a.call) r
-  may reply is_may = left_may s c (own_pages s c) a.plan (rule_of s c a.call) a.found by_plan leads reply
-      (subst (λ x. RuleMay s c x reply) (sym left) is_may)
+  pub may : (q : Reply) → RuleMay s c (Does causes change) q → RuleMay s c (rule_of s c a.call) q
+  may q is_may = left_may s c (own_pages s c) a.plan (rule_of s c a.call) a.found by_plan leads q
+      (subst (λ x. RuleMay s c x q) (sym left) is_may)
 
   -- what the core has left to have back, and the grant, are the state's
   pub left_is : r.left ≡ left_among (s.core c).spent (s.core c).back
@@ -117,3 +121,77 @@ module _ (setup : Setting) (setting : IsSetting setup) (cores : ℕ → Core) (t
 
   pub grant_is : r.grant ≡ (s.core c).grant
   grant_is = is.refill.grant
+
+  pub budgets : changes_budgets a.call ≡ true
+  budgets = ap changes_budgets is.call_is
+
+  -- the numbers of the core
+  below : c < s.limits.cores
+  below = subst (λ (m : ℕ). c < m) (sym (ap (λ l. l.cores) (limits_of setup t))) here
+
+  pub numbers : CoreInRange s.limits.calls (s.core c)
+  numbers = (ranges_of setup setting t stands.legal).cores c below
+
+  pub spent_small : (s.core c).spent ≤ 1000000 * 2 ^ 40
+  spent_small =
+      let limit : s.limits.calls ≡ setup.calls = ap (λ l. l.calls) (limits_of setup t) in
+      let most = setting.most_calls in
+      let counted = numbers.counted in
+      let charged = numbers.charged in
+      omega (arith, limit, most, counted, charged)
+
+  pub budget_small : (tcap_at s r.tcap).budget + outstanding (s.core c) < 2 ^ 32
+  budget_small = (ranges_of setup setting t stands.legal).spending r.tcap c below
+
+  -- nothing is cut off of what is left
+  pub same_left : r.left ≡ outstanding (s.core c)
+  same_left = let cut = left_is in let small = budget_small in omega (arith, cut, small)
+
+  -- the list that was read, where it is that of the temporal capability
+  abbrev pub covered : Bool
+  covered = covers (tcap_at s is.cap.frame).qualities (s.core c).grant
+
+  pub covered_is : (list : Option (List (ℕ × ℕ))) → list ≡ Some tcap.fields.qualities → covers (in_order list) r.grant ≡ covered
+  covered_is list read =
+      ap (λ o. covers (in_order o) r.grant) read
+      ∙ ap (λ x. covers (tcap_in x).qualities r.grant) (sym tcap.is)
+      ∙ ap (λ (f : ℕ). covers (tcap_at s f).qualities r.grant) is.refill.tcap
+      ∙ ap (λ (p : ℕ × ℕ). covers (tcap_at s is.cap.frame).qualities p) grant_is
+
+  -- what refuses it: first a list that does not cover the grant
+  abbrev by_finer : Bool → Judged Change
+  by_finer b = unless (first_of (if not b then Some reply.Unlike else None) (first_cause s c (is_less s c is.amount ∷ []))) change
+
+  pub unlike_may : covered ≡ false → RuleMay s c (rule_of s c a.call) reply.Unlike
+  unlike_may other = may reply.Unlike (inl (ap not other, refl))
+
+  pub unlike_first : covered ≡ false → change_of s c a.call ≡ Refused reply.Unlike
+  unlike_first other = change_is ∙ ap by_finer other
+
+  -- and then too few ticks that are left
+  abbrev by_less : Bool → Judged Change
+  by_less b = unless (first_of (if b then Some (reply.Short (min (outstanding (s.core c)) is.amount)) else None) None) change
+
+  has_less : nat_lt r.left r.ticks ≡ true → nat_lt (outstanding (s.core c)) is.amount ≡ true
+  has_less less = ap (λ (n : ℕ). nat_lt n is.amount) (sym same_left) ∙ ap (λ (m : ℕ). nat_lt r.left m) (sym is.refill.ticks) ∙ less
+
+  told : nat_lt r.left r.ticks ≡ true → min (outstanding (s.core c)) is.amount ≡ r.left
+  told less =
+      let same = same_left in
+      let low = ltb-true (outstanding (s.core c)) is.amount (has_less less) in
+      omega (arith, same, low)
+
+  pub short_may : nat_lt r.left r.ticks ≡ true → RuleMay s c (rule_of s c a.call) (reply.Short r.left)
+  short_may less = may (reply.Short r.left) (inr (inl (has_less less, ap (λ (n : ℕ). reply.Short n) (sym (told less)))))
+
+  pub short_first : covered ≡ true → nat_lt r.left r.ticks ≡ true → change_of s c a.call ≡ Refused (reply.Short r.left)
+  short_first cover less =
+      change_is ∙ ap by_finer cover ∙ ap by_less (has_less less) ∙ ap (λ (n : ℕ). Refused (reply.Short n)) (told less)
+
+  -- nothing does
+  pub goes : covered ≡ true → r.ticks ≤ r.left → change_of s c a.call ≡ Found change
+  goes cover enough =
+      let same = same_left in
+      let amount = is.refill.ticks in
+      change_is ∙ ap by_finer cover
+      ∙ ap by_less (le-ltb (outstanding (s.core c)) is.amount (omega (arith, enough, same, amount)))

@@ -1,35 +1,34 @@
 -- The loads of a call that gives ticks back: the head, which may be marked, and the words of its list.
-use Rattle.count_invariant.proofs.Common.{◌≡◌, ◌≢◌, ◌⊎◌, inl, inr, ℕ, zero, suc, map, ◌+◌, ◌<◌, ◌≤◌, ◌==◌, ◌&&◌, nat_lt, not, Bool, true, false, if◌then◌else◌}
-use Rattle.count_invariant.proofs.Common.{List, [], ◌∷◌, Option, Some, None, arith, refl, sym, ◌∙◌, ap, subst, eq-eqb, ltb-false, false≢true}
-use Rattle.count_invariant.proofs.Common.{Setting, IsSetting, Capability, Call, head_of_word, quality_of_word, HeadWord, spelling, Word}
-use Rattle.count_invariant.proofs.Common.{EntryAt, LoadOf, State, counted, rule_of, change_of, head_mark, marked_by, holds_node, Step, Trace}
-use Rattle.count_invariant.proofs.Common.{state_after, last_left, own_read-here, own_read-there, last_left-here, head, in_order, Act, Goes}
-use Rattle.count_invariant.proofs.Common.{Undecided, ActiveCall, landed, Core, Acquired, due_of, names_on, holds_counts, KnowsUndecided, read_up, holds_in}
-use Rattle.count_invariant.proofs.Common.{held_by, Invariant, TcapOf, list_changed, KnowsRefillAt, HasReadList, RefillsBy, IsRefill, first_cause, unless}
-use Rattle.count_invariant.proofs.Common.{RuleMay, Refused}
-use Rattle.std.proofs.Common.{IsSome, is_some, min}
-use Rattle.std.proofs.lemmas.Bool.{ltb-true, ne_eqb}
+use Rattle.count_invariant.proofs.Common.{◌≡◌, ◌⊎◌, inl, inr, ℕ, zero, suc, map, ◌+◌, ◌<◌, ◌≤◌, ◌&&◌, nat_lt, Bool, true, false}
+use Rattle.count_invariant.proofs.Common.{List, [], ◌∷◌, Option, Some, None, arith, refl, sym, ◌∙◌, ap, subst, eq-eqb}
+use Rattle.count_invariant.proofs.Common.{ltb-false, false≢true, Setting, IsSetting, Capability, Call, HeadFits, word_of_head}
+use Rattle.count_invariant.proofs.Common.{head_of_word, quality_of_word, HeadWord, spelling, Word, EntryAt, LoadOf, State, head_mark}
+use Rattle.count_invariant.proofs.Common.{marked_by, holds_node, are_calls_spent, IsAlone, Step, Trace, state_after, last_left, own_read}
+use Rattle.count_invariant.proofs.Common.{own_read-here, own_read-there, last_left-here, refused_first, head, in_order, Act, Goes}
+use Rattle.count_invariant.proofs.Common.{Undecided, ActiveCall, landed, Core, Acquired, due_of, names_on, holds_counts, KnowsUndecided}
+use Rattle.count_invariant.proofs.Common.{read_up, Invariant, TcapOf, list_changed, SparesTcap, KnowsRefillAt, HasReadList, RefillsBy}
+use Rattle.std.proofs.Common.{IsSome, is_some}
 use Rattle.quality_lists.specs.spk_nums.specs.Merging.{covers}
 use Rattle.quality_lists.specs.spk_nums.specs.declared.calls.Call.TheVariants as call_as
 use Rattle.quality_lists.specs.spk_nums.specs.declared.replies.Reply.TheVariants as reply
 use Rattle.count_invariant.specs.tcap_words.specs.declared.quality_word.QualityWord.{QualityWord}
-use Rattle.kernel_laws.specs.kernel_rules.specs.State.{outstanding}
+use Rattle.count_invariant.specs.kernel_history.proofs.Laws.{own_is_last, read_is_left}
 use Rattle.count_invariant.specs.stage_tcap.specs.Charging.{end_by_mark, head_end}
 use Rattle.count_invariant.specs.stage_tcap.specs.Lists.{read_word}
 use Rattle.count_invariant.specs.stage_tcap.specs.Pairs.{noted}
-use Rattle.count_invariant.specs.stage_tcap.specs.Refilling.{RefillAtFits, from_mark, from_head, from_word, next_in, weighed_at, weighed, at_word, word_end}
+use Rattle.count_invariant.specs.stage_tcap.specs.Refilling.{from_mark, from_head, from_word, next_in, weighed_at, weighed, at_word, word_end}
 use Rattle.count_invariant.specs.stage_tcap.specs.declared.refill.Refill.{Refill}
-use Rattle.count_invariant.specs.stage_tcap.specs.declared.refill.RefillAt.{RefillAt}
 use Rattle.count_invariant.specs.stage_tcap.specs.declared.refill.RefillAt.TheVariants.{Load, List as at_list, Compare, Again}
-use Rattle.count_invariant.specs.act_states.specs.Refills.{left_among, took_refill, took_refilled}
+use Rattle.count_invariant.specs.act_states.specs.Refills.{took_refill, took_refilled}
 use Rattle.count_invariant.specs.act_states.specs.WorkSteps.{refuse}
 use Rattle.count_invariant.specs.act_states.specs.declared.refusals.Refusal.TheVariants as refusal
 use Rattle.count_invariant.specs.act_states.specs.declared.work.Act.TheVariants.{Refill as refill_act}
-use Rattle.count_invariant.specs.core_invariant.specs.Shares.{HasTcap, ReadsHead, HasSeenB, list_word}
-use Rattle.count_invariant.specs.kept_facts.proofs.Pairs.{left_same}
-use Rattle.count_invariant.specs.step_ways.proofs.Loads.{step_to, inner, core_is, loads_on}
-use Rattle.count_invariant.specs.step_ways.proofs.Refusals.{GoodTook, ticks_at, refuses_busy, refuses_short}
+use Rattle.count_invariant.specs.core_invariant.specs.Shares.{HasTcap, HasSeenB, list_word}
+use Rattle.count_invariant.specs.kept_facts.proofs.Pairs.{left_same, seen_on, tcap_mark}
+use Rattle.count_invariant.specs.step_ways.proofs.Loads.{step_to, inner, core_is, loads_on, decides_on}
+use Rattle.count_invariant.specs.step_ways.proofs.Refusals.{GoodTook, ticks_at, not_spent, refuses_busy}
 use Rattle.pair_invariant.proofs.RefillCalls as calls
+use Rattle.pair_invariant.proofs.RefillLists as lists
 use Rattle.pair_invariant.proofs.ShareSteps.{mark_is, head_says, list_plain}
 
 -- It goes on by a load of a word of its temporal capability.
@@ -184,6 +183,13 @@ module _ (setup : Setting) (setting : IsSetting setup) (cores : ℕ → Core) (t
   abbrev next_list : Option (List (ℕ × ℕ))
   next_list = read_word r.list (quality_of_word found)
 
+  abbrev tcap_here : TcapOf (s.frame r.tcap)
+  tcap_here = calls.tcap setup setting cores t stands c here a active now_r stage_is has
+
+  spares_load : (i : ℕ) → SparesTcap setup t e r.tcap i
+  spares_load zero = inl refl
+  spares_load (suc j) = inl refl
+
   low : suc n ≤ 8
   low = (calls.fits setup setting cores t stands c here a active now_r stage_is has).at.1
 
@@ -212,7 +218,8 @@ module _ (setup : Setting) (setting : IsSetting setup) (cores : ℕ → Core) (t
           index h = cc
 
       seen_before : HasSeenB setup (e ∷ t) r.tcap r.head.version r.list n
-      seen_before = seen_kept setup t e refl r.tcap r.head.version r.list n (λ i h. refl) read.seen
+      seen_before = seen_on setup t e refl r.tcap r.head.version r.list n read.seen
+          (tcap_mark setup t r.tcap tcap_here.fields tcap_here.is) (λ i h. spares_load i)
 
       seen_next : HasSeenB setup (e ∷ t) r.tcap r.head.version next_list (suc n)
       seen_next = record {
@@ -253,44 +260,35 @@ module _ (setup : Setting) (setting : IsSetting setup) (cores : ℕ → Core) (t
       → GoodTook setup cores t c (LoadOf word_at) (landed a (Goes (Act (refill_act q))))
   goes q = load_goes setup setting cores t stands c here a active now_r stage_is has (suc n) q
 
-  -- too few ticks are left: that is the core's own number
-  less_good : (nat_lt r.left r.ticks) ≡ true → covers (in_order next_list) r.grant ≡ true
+  -- too few ticks are left: that is the core's own number, and where the call is alone no cause comes before it
+  less_good : nat_lt r.left r.ticks ≡ true → covers (in_order next_list) r.grant ≡ true → suc n ≡ 8
       → GoodTook setup cores t c (LoadOf word_at) (landed a (refuse (refusal.Short r.left)))
-  less_good less covered =
-      refuses_short setup setting cores t stands c here a active
-      (calls.opens setup setting cores t stands c here a active now_r stage_is has)
-      (calls.held_is setup setting cores t stands c here a active now_r stage_is has)
-      (calls.room setup setting cores t stands c here a active now_r stage_is has) (LoadOf word_at)
-      (calls.loading setup setting cores t stands c here a active now_r stage_is has (suc n)) r.left has.acts
-      (calls.may setup setting cores t stands c here a active now_r stage_is has (reply.Short r.left) (inr (inl (stands_less, told))))
-      (λ nobody. calls.change_is setup setting cores t stands c here a active now_r stage_is has ∙ first_less nobody)
+  less_good less covered all lands =
+      decides_on setup setting cores t stands c here a active (LoadOf word_at) (reply.Short r.left) a.found
+      (calls.loading setup setting cores t stands c here a active now_r stage_is has (suc n)) lands
+      (sym (calls.held_is setup setting cores t stands c here a active now_r stage_is has))
+      (calls.opens setup setting cores t stands c here a active now_r stage_is has) refl refl (λ x. refl) (λ x. refl) refl
+      (unspent, calls.short_may setup setting cores t stands c here a active now_r stage_is has less) tt
+      (λ is_alone. refused_first s c a.call (reply.Short r.left) has.acts unspent
+      (calls.short_first setup setting cores t stands c here a active now_r stage_is has
+      (sym (calls.covered_is setup setting cores t stands c here a active now_r stage_is has next_list (listed is_alone)) ∙ covered) less))
     where
-      is : calls.IsRefillCall s c a.call a.found now_r
-      is = calls.is setup setting cores t stands c here a active now_r stage_is has
+      unspent : are_calls_spent s c ≡ false
+      unspent = not_spent setup (cores c) t c (core_is setup setting cores t stands c here a active)
+          (calls.room setup setting cores t stands c here a active now_r stage_is has)
 
-      left : ℕ
-      left = outstanding (s.core c)
-
-      low_left : r.left < r.ticks
-      low_left = ltb-true r.left r.ticks less
-
-      same_left : r.left ≡ left
-      same_left =
-          let cut = calls.left_is setup setting cores t stands c here a active now_r stage_is has in
-          let small = (calls.fits setup setting cores t stands c here a active now_r stage_is has) in
-          let most = amount_small setup setting t stands.legal c here in
-          omega (arith, cut, most)
-
-      stands_less : nat_lt left is.amount ≡ true
-      stands_less = ap (λ m. nat_lt m is.amount) (sym same_left) ∙ ap (nat_lt r.left) (sym is.refill.ticks) ∙ less
-
-      told : reply.Short (min left is.amount) ≡ reply.Short r.left
-      told = ap (λ m. reply.Short m) (let amount = is.refill.ticks in omega (arith, low_left, same_left, amount))
-
-      -- the list that was read is the one that stands, where no core is in between
-      first_less : _ → unless (first_cause s c (calls.causes setup setting cores t stands c here a active now_r stage_is has))
-          (calls.change setup setting cores t stands c here a active now_r stage_is has) ≡ Refused (reply.Short r.left)
-      first_less nobody = alone_less setup setting cores t stands c here a active now_r stage_is has nobody covered stands_less told
+      -- the list that was read is the one that stands
+      listed : IsAlone t (inner setup setting cores t stands c here a active (LoadOf word_at) (Some (reply.Short r.left)) None)
+          → next_list ≡ Some tcap_here.fields.qualities
+      listed is_alone =
+          subst (λ (m : ℕ). next_list ≡ read_up (list_word setup t r.tcap) m) all
+          (ap (λ o. read_word o (quality_of_word found)) (lists.as_read setup setting cores t stands r.tcap tcap_here.fields tcap_here.is
+          r.head read.head.fits read.head.bare equal r.list n read.seen))
+          ∙ lists.whole setup setting cores t stands r.tcap tcap_here.fields tcap_here.is r.head read.head.fits read.head.bare equal
+        where
+          equal : last_left setup t (EntryAt r.tcap 0) ≡ word_of_head r.head
+          equal = own_is_last setup t c (EntryAt r.tcap 0) (word_of_head r.head) is_alone.undisturbed
+              (read_is_left t c (EntryAt r.tcap 0) (word_of_head r.head) read.head.own)
 
   by_more : (more : Bool) → nat_lt (suc n) 8 ≡ more
       → GoodTook setup cores t c (LoadOf word_at)
@@ -308,7 +306,7 @@ module _ (setup : Setting) (setting : IsSetting setup) (cores : ℕ → Core) (t
       weighs : (covered less : Bool) → covers (in_order next_list) r.grant ≡ covered → nat_lt r.left r.ticks ≡ less
           → GoodTook setup cores t c (LoadOf word_at)
           (landed a (took_refilled (record known { at = weighed_at covered }) (weighed (covered && less) r.left)))
-      weighs true true cover less = less_good less cover
+      weighs true true cover less = less_good less cover all
       weighs true false cover less =
           goes (record known { at = Compare }) refl refl refl refl (weighed_knows true cover (λ h. ltb-false r.left r.ticks less) all)
       weighs false less cover few =

@@ -42,6 +42,7 @@ use Rattle.comp_invariant.specs.spk_nums.specs.declared.kinds.Kind.TheVariants.{
 use Rattle.work_invariant.proofs.AtName.{IsTypedBy, one_name, ranges_good, looked_good}
 use Rattle.switch_invariant.specs.live_invariant.proofs.KillStarts.{kills_good}
 use Rattle.share_invariant.specs.pair_invariant.proofs.ShareStarts.{transfers_good, delegates_good, tests_good}
+use Rattle.share_invariant.specs.pair_invariant.proofs.RefillStarts.{refills_good}
 use Rattle.switch_invariant.proofs.SwitchStarts.{switches_good}
 use Rattle.comp_invariant.specs.act_states.specs.declared.work.Act.{Act as ActOf}
 use Rattle.comp_invariant.specs.act_states.specs.Acts.{scans, removing}
