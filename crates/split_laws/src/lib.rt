@@ -1,0 +1,28 @@
+//! Split worlds: nothing crosses between a set of frames and liveness numbers and the rest, not even a gate.
+//!
+//! **The laws.** What is split stays so, where each component that is made takes a number of its side. Of the references to a frame
+//! of a world all are from that world. And `running` names no core across.
+//!
+//! See docs/WORLDS.md.
+#![tactic(auto)]
+
+ghost use Rattle.split_laws.specs.Split.{SplitForGood, RefersInside, RepliesTell};
+
+/// In every run, a world that is split stays so, whatever any core does, where each component that is made takes a number of its core's
+/// side.
+#[tactic(auto, using(crate::proofs::Splitting::split_for_good))]
+pub fn split_for_good()
+    ensures { SplitForGood }
+{}
+
+/// In every state that a run reaches and in which a world is split, all references to a frame of the world are from the world.
+#[tactic(auto, using(crate::proofs::Referring::refers_inside))]
+pub fn refers_inside()
+    ensures { RefersInside }
+{}
+
+/// In every run, where a world is split, `running` names a core that works on the side of the core that is answered.
+#[tactic(auto, using(crate::proofs::Telling::replies_tell))]
+pub fn replies_tell()
+    ensures { RepliesTell }
+{}
