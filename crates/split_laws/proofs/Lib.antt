@@ -1,3 +1,5 @@
+pub mod Working
+pub mod Sides
 pub mod Splitting
 pub mod Referring
 pub mod Telling
