@@ -72,7 +72,8 @@ budgets_fit : {t s : State} {o : ℕ → _} {c : ℕ} → Twins t s o c → (a b
 budgets_fit {t} {s} {o} {c} w a b = wherever (named t c a (to_use (only kind.Tcap))) _
     (λ x is. wherever (named t c b (to_use (only kind.Tcap))) _ (λ y is_other apart.
     let one = ap (λ f. (tcap_in f).budget) (named_frame w a kind.Tcap x refl (sym (named_same w a (to_use (only kind.Tcap))) ∙ is)) in
-    let other = ap (λ f. (tcap_in f).budget) (named_frame w b kind.Tcap y refl (sym (named_same w b (to_use (only kind.Tcap))) ∙ is_other)) in
+    let other = ap (λ f. (tcap_in f).budget) (named_frame w b kind.Tcap y refl
+    (sym (named_same w b (to_use (only kind.Tcap))) ∙ is_other)) in
     omega (arith, one, other, w.ranges.budgets x.frame y.frame apart)))
 
 ticks_fit : {t s : State} {o : ℕ → _} {c : ℕ} → Twins t s o c → s.limits.calls ≤ 2 ^ 40 - 1 → (n : ℕ) → n ≤ 1000000 → TicksFit t c n

@@ -291,8 +291,8 @@ module _ {r : Region} {t s : State} {o : ℕ → Bool} {c : ℕ} (w : TwinsOn r 
   named_agree n wanted =
       then_same (or_refuse (reached t c (own t c n)) reply.NoSlot) (or_refuse (reached s c (own s c n)) reply.NoSlot) _ _
       (ap (λ r. or_refuse r reply.NoSlot) (ap (reached t c) (own_agree n) ∙ reached_agree (own s c n) (own_in n)))
-      (λ at is.
-      ap (λ u. and_then (or_refuse u reply.Empty) (of_kind wanted)) (usable_agree at (slot_found (own s c n) reply.NoSlot at (own_in n) is)))
+      (λ at is. ap (λ u. and_then (or_refuse u reply.Empty) (of_kind wanted))
+      (usable_agree at (slot_found (own s c n) reply.NoSlot at (own_in n) is)))
 
   -- What a name leads to leads into the region.
   pub named_leads : (n : ℕ) (wanted : Want) (k : Capability) → named s c n wanted ≡ Found k → LeadsIn r k.kind k
@@ -301,7 +301,8 @@ module _ {r : Region} {t s : State} {o : ℕ → Bool} {c : ℕ} (w : TwinsOn r 
       (λ at. and_then (or_refuse (usable s c at) reply.Empty) λ k. of_kind wanted k) k e in
       let b = then_parts (or_refuse (usable s c a.0) reply.Empty) (λ k. of_kind wanted k) k a.2 in
       subst (λ (j : Capability). LeadsIn r j.kind j) (suits wanted b.0 k b.2).is
-      (w.within.places a.0 b.0 (slot_found (own s c n) reply.NoSlot a.0 (own_in n) a.1).node (or_found (usable s c a.0) reply.Empty b.0 b.1))
+      (w.within.places a.0 b.0 (slot_found (own s c n) reply.NoSlot a.0 (own_in n) a.1).node
+      (or_found (usable s c a.0) reply.Empty b.0 b.1))
 
   -- What a name of one kind leads to is in the region, and the same in both states.
   pub named_at : (n : ℕ) (j : Kind) (k : Capability) → is_some_kind j ≡ true → named s c n (to_use (only j)) ≡ Found k

@@ -24,7 +24,8 @@ use Rattle.kernel_rules.specs.Ranges.{FrameInRange}
 use Rattle.kernel_invariant.proofs.Facts.{named_fit}
 use Rattle.same_changes.specs.Region.{Region, AgreeOn, AgreeChange}
 use Rattle.same_changes.proofs.Agreeing.{agree_by, agree_then, agree_place, agree_frame, agree_number, agree_core}
-use Rattle.same_changes.proofs.Reaching.{Twins, TwinsOn, is_some_kind, fit_below, table_node, core_agree, thread_frame_agree, tcap_frame_agree}
+use Rattle.same_changes.proofs.Reaching.{Twins, is_some_kind, fit_below, table_node}
+use Rattle.same_changes.proofs.Reaching.{TwinsOn, core_agree, thread_frame_agree, tcap_frame_agree}
 use Rattle.same_changes.proofs.Reaching.{thread_agree, comp_agree, comp_parts, number_in, below_cores, named_at, named_agrees, table_at}
 use Rattle.same_changes.proofs.Alike.{SameRule}
 
@@ -208,7 +209,8 @@ module _ {r : Region} {t s : State} {o : ℕ → Bool} {c : ℕ} (w : TwinsOn r 
             (agree_by _ _ (λ i. with_core (with_budget t (core_agree w i).tcap ((tcap_at t (core_agree w i).tcap).budget - n)) c
             (record (core_agree w i) { spent = (core_agree w i).spent + n; owed = due - n })))
             (agree_core _ _ c (record core { spent = core.spent + n; owed = due - n })
-            (budget_agree t s core.tcap _ _ w.within.tcap (ap (λ x. (tcap_in x).budget - n) (w.agree.frame core.tcap w.within.tcap)) w.agree));
+            (budget_agree t s core.tcap _ _ w.within.tcap
+            (ap (λ x. (tcap_in x).budget - n) (w.agree.frame core.tcap w.within.tcap)) w.agree));
         begins = refl;
       }
 
