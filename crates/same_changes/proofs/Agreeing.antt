@@ -78,7 +78,8 @@ agree_then t s u a b =
       number = λ l is. a.number l is ∙ b.number l is;
       core = λ c is. a.core c is ∙ b.core c is;
       inside = λ c less. a.inside c (subst (λ n. c < n) (sym cores) less) ∙ b.inside c less;
-      grace = λ x is. grace_then u.limits.cores _ _ _ (subst (λ n. SameGrace n (t.grace x) (s.grace x)) cores (a.grace x is)) (b.grace x is);
+      grace = λ x is. grace_then u.limits.cores _ _ _
+          (subst (λ n. SameGrace n (t.grace x) (s.grace x)) cores (a.grace x is)) (b.grace x is);
     }
 
 -- A value of `put` follows from the values that it is made of.
@@ -88,7 +89,8 @@ put_both f g i x j e = ap (λ v. if j == i then x else v) e
 pub agree_place : {w : Region} (t s : State) (f i : ℕ) (p : Place) → AgreeOn w t s → AgreeOn w (with_place t f i p) (with_place s f i p)
 agree_place {w} t s f i p a = record {
   limits = a.limits;
-  place = λ g j is small. row (g == f) g j (a.place g j is small) (λ e. a.place f j (subst (λ h. w.frame h ≡ true) (eqb-true g f e) is) small);
+  place = λ g j is small. row (g == f) g j (a.place g j is small)
+      (λ e. a.place f j (subst (λ h. w.frame h ≡ true) (eqb-true g f e) is) small);
   frame = a.frame;
   number = a.number;
   core = a.core;
@@ -134,7 +136,8 @@ agree_core t s c x a = record {
   grace = a.grace;
 }
   where
-    by_test : (b : Bool) (d : ℕ) → (t.core d).inside ≡ (s.core d).inside → (if b then x else t.core d).inside ≡ (if b then x else s.core d).inside
+    by_test : (b : Bool) (d : ℕ) → (t.core d).inside ≡ (s.core d).inside
+        → (if b then x else t.core d).inside ≡ (if b then x else s.core d).inside
     by_test true d e = refl
     by_test false d e = e
 

@@ -1,36 +1,35 @@
 -- What an open call looks up is the same in two states that are one on a region, one of them reached, where the call's core reaches nothing
 -- outside of it; and so it is in two states that are one for all that the machine has.
-use Rattle.std.proofs.Common.{◌≡◌, ◌≢◌, inl, inr, ℕ, ◌+◌, ◌/◌, ◌%◌, ◌<◌, ◌≤◌, ◌==◌, Bool, true, false, not, ◌&&◌, ◌||◌, refl, sym}
+use Rattle.std.proofs.Common.{◌≡◌, inl, inr, ℕ, ◌+◌, ◌%◌, ◌<◌, ◌≤◌, ◌==◌, Bool, true, false, not, ◌&&◌, refl}
 use Rattle.std.proofs.Common.{◌∙◌, ap, subst, arith, nat_le, nat_lt, if◌then◌else◌, IsTrue, List, [], ◌∷◌, Option, Some, None}
 use Rattle.std.specs.Prelude.{find}
 use Rattle.std.specs.List.{range_with_len, AllByRecursion}
-use Rattle.std.proofs.lemmas.Bool.{cases_lt, false≢true, true≢false, leb-true, ltb-true, lt-ltb, and_parts}
+use Rattle.std.proofs.lemmas.Bool.{cases_lt, false≢true, leb-true, ltb-true, lt-ltb}
 use Rattle.spk_nums.specs.Capability.{Capability}
 use Rattle.spk_nums.specs.declared.kinds.Kind.{Kind}
 use Rattle.spk_nums.specs.declared.kinds.Kind.TheVariants as kind
 use Rattle.spk_nums.specs.declared.replies.Reply.{Reply}
 use Rattle.spk_nums.specs.declared.replies.Reply.TheVariants as reply
-use Rattle.kernel_rules.specs.State.{Place, Free, Holds, Quiescing, CompFields, ThreadFields, Object, Blank, Table, Leaf, Pages}
-use Rattle.kernel_rules.specs.State.{Pleaf, Comp, Thread, Tcap, Frame, Untyped, User, Kernel, Grace, Thing, PlaceOf, FrameOf}
-use Rattle.kernel_rules.specs.State.{NumberOf, Limits, Core, State, thread_in, comp_in, first_of_stack, thread_of, comp_of}
-use Rattle.kernel_rules.specs.References.{refs}
+use Rattle.kernel_rules.specs.State.{Place, Free, Holds, Quiescing, CompFields, ThreadFields, Table, Pages}
+use Rattle.kernel_rules.specs.State.{Comp, Thread, Frame, Untyped, Kernel, Thing, PlaceOf}
+use Rattle.kernel_rules.specs.State.{Limits, Core, State, thread_in, comp_in, first_of_stack, thread_of, comp_of}
 use Rattle.kernel_rules.specs.Access.{Want, Slot, Named, found, to_use, only, root, root_at, Target, Under, InRoot, place_at, held_in}
 use Rattle.kernel_rules.specs.Access.{usable_in, usable, linked, slot_in, reached, root_slot, own}
-use Rattle.kernel_rules.specs.GracePeriods.{lowest, other_waiting, quiescing_by, unflushed_by}
+use Rattle.kernel_rules.specs.GracePeriods.{lowest, quiescing_by, unflushed_by}
 use Rattle.kernel_rules.specs.Rules.{Judged, Refused, Found, and_then, unless, or_refuse, of_kind, named, refusal_of}
 use Rattle.kernel_rules.specs.Rules.{first_of, waits_of, flushes_of, not_vacant, vacant, held, mapped}
-use Rattle.kernel_rules.specs.CapabilityCalls.{outside, has_frame}
-use Rattle.kernel_rules.specs.Fitting.{fits, IsGood, EndsWithin}
+use Rattle.kernel_rules.specs.CapabilityCalls.{outside}
+use Rattle.kernel_rules.specs.Fitting.{fits, EndsWithin}
 use Rattle.kernel_rules.specs.Ranges.{FrameInRange, InRanges}
 use Rattle.kernel_rules.specs.Relies.{is_node}
 use Rattle.kernel_invariant.proofs.Sound.{IsSound, IsStack, AreComps, IsObjectGood, only_is}
-use Rattle.kernel_invariant.proofs.Facts.{usable_good, reached_node, RootIsNode, named_good, named_fit, Suits, suits}
+use Rattle.kernel_invariant.proofs.Facts.{usable_good, named_good, suits}
 use Rattle.kernel_invariant.proofs.Facts.{some_inj, none_some, then_parts, or_found, when_not, not_not}
-use Rattle.seq_state.specs.Representation.{IsThing, SameGrace, SameState}
+use Rattle.seq_state.specs.Representation.{SameState}
 use Rattle.seq_state.proofs.Same.{same_refs}
 use Rattle.seq_lookups.proofs.Lowest.{found_alike}
 use Rattle.same_changes.specs.Region.{Region, whole, IsIn, AgreeOn, SameRefs, LeadsIn, ReachesOnly}
-use Rattle.same_changes.proofs.Agreeing.{in_whole, on_whole}
+use Rattle.same_changes.proofs.Agreeing.{on_whole}
 
 -- A frame that has something is one of the machine's.
 pub below : (s : State) (o : ℕ → Bool) (f : ℕ) → IsSound s o → (s.frame f ≡ Untyped → ⊥) → f < s.limits.frames
@@ -88,6 +87,7 @@ comp_fit : (s : State) (x : Frame) → IsTrue (fits kind.Comp x) → IsObjectGoo
     → IsTrue (fits kind.Table (s.frame (comp_in x).table)) × IsTrue (fits kind.Pages (s.frame (comp_in x).pages))
 comp_fit s (Kernel (Comp k)) fit good = good
 comp_fit s _ fit good = absurd (false≢true fit)
+
 comp_is : (x : Frame) → IsTrue (fits kind.Comp x) → x ≡ Kernel (Comp (comp_in x))
 comp_is (Kernel (Comp k)) fit = refl
 comp_is _ fit = absurd (false≢true fit)
@@ -291,8 +291,8 @@ module _ {r : Region} {t s : State} {o : ℕ → Bool} {c : ℕ} (w : TwinsOn r 
   named_agree n wanted =
       then_same (or_refuse (reached t c (own t c n)) reply.NoSlot) (or_refuse (reached s c (own s c n)) reply.NoSlot) _ _
       (ap (λ r. or_refuse r reply.NoSlot) (ap (reached t c) (own_agree n) ∙ reached_agree (own s c n) (own_in n)))
-      (λ at is.
-      ap (λ u. and_then (or_refuse u reply.Empty) (of_kind wanted)) (usable_agree at (slot_found (own s c n) reply.NoSlot at (own_in n) is)))
+      (λ at is. ap (λ u. and_then (or_refuse u reply.Empty) (of_kind wanted))
+      (usable_agree at (slot_found (own s c n) reply.NoSlot at (own_in n) is)))
 
   -- What a name leads to leads into the region.
   pub named_leads : (n : ℕ) (wanted : Want) (k : Capability) → named s c n wanted ≡ Found k → LeadsIn r k.kind k
@@ -301,7 +301,8 @@ module _ {r : Region} {t s : State} {o : ℕ → Bool} {c : ℕ} (w : TwinsOn r 
       (λ at. and_then (or_refuse (usable s c at) reply.Empty) λ k. of_kind wanted k) k e in
       let b = then_parts (or_refuse (usable s c a.0) reply.Empty) (λ k. of_kind wanted k) k a.2 in
       subst (λ (j : Capability). LeadsIn r j.kind j) (suits wanted b.0 k b.2).is
-      (w.within.places a.0 b.0 (slot_found (own s c n) reply.NoSlot a.0 (own_in n) a.1).node (or_found (usable s c a.0) reply.Empty b.0 b.1))
+      (w.within.places a.0 b.0 (slot_found (own s c n) reply.NoSlot a.0 (own_in n) a.1).node
+      (or_found (usable s c a.0) reply.Empty b.0 b.1))
 
   -- What a name of one kind leads to is in the region, and the same in both states.
   pub named_at : (n : ℕ) (j : Kind) (k : Capability) → is_some_kind j ≡ true → named s c n (to_use (only j)) ≡ Found k
@@ -436,12 +437,12 @@ module _ (s : State) (o : ℕ → Bool) (h : IsSound s o) (ranges : InRanges s) 
   stack_whole (g ∷ fs) ok = (fits_whole kind.Comp g refl ok.0, comps_whole fs ok.1)
 
   pub reaches_whole : (c : ℕ) → o c ≡ true → ReachesOnly (whole s.limits) s c
-  reaches_whole c open =
-      let below : c < s.limits.cores = (h.inside c open).1 in record {
+  reaches_whole c inc =
+      let below : c < s.limits.cores = (h.inside c inc).1 in record {
         core = lt-ltb c s.limits.cores below;
         thread = fits_whole kind.Thread (s.core c).thread refl (h.cores c below).0;
         tcap = fits_whole kind.Tcap (s.core c).tcap refl (h.cores c below).1;
-        places = λ at k is has. let good = usable_good s o c at k h open has in leads_whole s o k.kind k h good.fit good.within;
+        places = λ at k is has. let good = usable_good s o c at k h inc has in leads_whole s o k.kind k h good.fit good.within;
         comps = λ f k is has.
             let good = subst (IsObjectGood s) has (h.objects f) in
             let range = subst (FrameInRange s.limits.epochs) has (ranges.frames f) in (

@@ -30,7 +30,6 @@ pub fn stays_in_range()
 
 /// In every state that a run reaches from which the core of an open call reaches nothing outside a region, and in every state
 /// that is one with it there, the call comes to the same there.
-#[tactic(auto, using(crate::proofs::EveryCall::changes_agree))]
 pub fn changes_agree()
     ensures { ChangesAgree }
 {}
