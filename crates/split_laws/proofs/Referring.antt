@@ -41,7 +41,8 @@ module _ (w : World) (s : State) (split : IsSplit w s) (numbers : NumbersOn w s)
   none_of b out [] all = refl
   none_of b out (g ∷ fs) all =
       let p = times_cons f g fs in
-      let q : cond (g == f) 1 0 ≡ 0 =
+      let none : ℕ = 0 in
+      let q : cond (g == f) 1 0 ≡ none =
       ap (λ t. cond t 1 0) (ne_eqb g f (λ same. false≢true (sym (all.0 ∙ out) ∙ ap w.frame same ∙ on))) in
       let r = none_of b out fs all.1 in
       omega (arith, p, q, r)
