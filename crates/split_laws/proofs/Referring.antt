@@ -1,13 +1,14 @@
 -- Where a world is split, what is outside has no reference to a frame of it.
-use Rattle.std.proofs.Common.{◌≡◌, ◌≢◌, ℕ, zero, suc, ◌<◌, arith, Bool, true, false, cond, ◌==◌, refl, sym, ◌∙◌, ap, subst, IsTrue, List, [], ◌∷◌}
+use Rattle.std.proofs.Common.{◌≡◌, ℕ, zero, suc, ◌+◌, ◌<◌, arith, Bool, true, false, cond, ◌==◌, refl, sym, ◌∙◌, ap, subst}
+use Rattle.std.proofs.Common.{List, [], ◌∷◌}
 use Rattle.std.proofs.lemmas.Bool.{false≢true, ne_eqb}
 use Rattle.std.specs.List.{AllByRecursion}
 use Rattle.world_laws.specs.spk_nums.specs.Setting.{Setting, IsSetting}
 use Rattle.world_laws.specs.spk_nums.specs.Capability.{Capability}
 use Rattle.world_laws.specs.spk_nums.specs.declared.kinds.Kind.{Kind}
 use Rattle.world_laws.specs.spk_nums.specs.declared.kinds.Kind.TheVariants as kind
-use Rattle.world_laws.specs.kernel_rules.specs.State.{Place, Free, Holds, Quiescing, Comp, Thread, Frame, Kernel, Liveness, Unused, Live, Dead}
-use Rattle.world_laws.specs.kernel_rules.specs.State.{PlaceOf, State, comp_in}
+use Rattle.world_laws.specs.kernel_rules.specs.State.{Place, Free, Holds, Quiescing, Comp, Thread, Frame, Kernel, Liveness, Unused}
+use Rattle.world_laws.specs.kernel_rules.specs.State.{Live, Dead, PlaceOf, Limits, State, comp_in}
 use Rattle.world_laws.specs.kernel_rules.specs.References.{named_by, place_names, frame_names, number_names, core_names, sum_below, times}
 use Rattle.world_laws.specs.kernel_rules.specs.References.{node_refs, refs}
 use Rattle.world_laws.specs.kernel_rules.specs.Access.{usable_in}
@@ -17,7 +18,7 @@ use Rattle.world_laws.specs.authority_laws.specs.state_laws.specs.Lives.{IsCompO
 use Rattle.world_laws.specs.authority_laws.specs.state_laws.proofs.Lives.{live_numbers_fit}
 use Rattle.world_laws.specs.Worlds.{LeadsTo}
 use Rattle.world_laws.specs.Time.{counted_if}
-use Rattle.split_laws.specs.Split.{World, IsSplit, refs_inside, RefersInside}
+use Rattle.split_laws.specs.Split.{World, IsSplit, AgreeIn, refs_inside, RefersInside}
 use Rattle.split_laws.proofs.Working.{comp_is}
 use Rattle.split_laws.proofs.Sides.{FrameOn}
 use Rattle.split_laws.proofs.Splitting.{sides_of}
@@ -41,7 +42,8 @@ module _ (w : World) (s : State) (split : IsSplit w s) (numbers : NumbersOn w s)
   none_of b out [] all = refl
   none_of b out (g ∷ fs) all =
       let p = times_cons f g fs in
-      let q : cond (g == f) 1 0 ≡ 0 =
+      let none : ℕ = 0 in
+      let q : cond (g == f) 1 0 ≡ none =
       ap (λ t. cond t 1 0) (ne_eqb g f (λ same. false≢true (sym (all.0 ∙ out) ∙ ap w.frame same ∙ on))) in
       let r = none_of b out fs all.1 in
       omega (arith, p, q, r)
@@ -93,11 +95,51 @@ module _ (w : World) (s : State) (split : IsSplit w s) (numbers : NumbersOn w s)
       (λ g below. inside_all (w.frame g) (node_refs s f g) (node_none g)) in
       let b = sum_same (λ g. counted_if (w.frame g) (times f (frame_names (s.frame g)))) (λ g. times f (frame_names (s.frame g))) n
       (λ g below. inside_all (w.frame g) (times f (frame_names (s.frame g))) (frame_none g)) in
-      let c = sum_same (λ c. counted_if (w.frame (s.core c).thread) (times f (core_names (s.core c)))) (λ c. times f (core_names (s.core c)))
-      s.limits.cores (λ c below. inside_all (w.frame (s.core c).thread) (times f (core_names (s.core c))) (core_none c below)) in
+      let c = sum_same (λ c. counted_if (w.frame (s.core c).thread) (times f (core_names (s.core c))))
+      (λ c. times f (core_names (s.core c))) s.limits.cores (λ c below. inside_all (w.frame (s.core c).thread) (times f (core_names (s.core c))) (core_none c below)) in
       let d = sum_same (λ l. counted_if (w.number l) (times f (number_names (s.number l)))) (λ l. times f (number_names (s.number l))) 64
       (λ l below. inside_all (w.number l) (times f (number_names (s.number l))) (number_none l)) in
       omega (arith, a, b, c, d)
+
+-- Where two states are one for a world, as many references to its frames are from the world.
+module _ (w : World) (s t : State) (h : AgreeIn w s t) (f : ℕ) where
+  agree_if : (b d : Bool) (m n : ℕ) → b ≡ d → (b ≡ true → m ≡ n) → counted_if b m ≡ counted_if d n
+  agree_if true d m n same e = e refl ∙ ap (λ x. counted_if x n) same
+  agree_if false d m n same e = ap (λ x. counted_if x n) same
+
+  node_agree : (g : ℕ) → w.frame g ≡ true → node_refs s f g ≡ node_refs t f g
+  unfolding node_refs
+  node_agree g of = sum_same (λ i. times f (place_names (t.place g i))) (λ i. times f (place_names (s.place g i))) 64
+      (λ i below. ap (λ p. times f (place_names p)) (h.place g i of))
+
+  same_inside : refs_inside w s f ≡ refs_inside w t f
+  same_inside =
+      let n : ℕ = s.limits.frames in
+      let m : ℕ = s.limits.cores in
+      let a = sum_same (λ g. counted_if (w.frame g) (node_refs t f g)) (λ g. counted_if (w.frame g) (node_refs s f g)) n
+      (λ g below. agree_if (w.frame g) (w.frame g) (node_refs s f g) (node_refs t f g) refl (node_agree g)) in
+      let b = sum_same (λ g. counted_if (w.frame g) (times f (frame_names (t.frame g))))
+      (λ g. counted_if (w.frame g) (times f (frame_names (s.frame g)))) n
+      (λ g below. agree_if (w.frame g) (w.frame g) _ _ refl (λ of. ap (λ x. times f (frame_names x)) (h.frame g of))) in
+      let c = sum_same (λ c. counted_if (w.frame (t.core c).thread) (times f (core_names (t.core c))))
+      (λ c. counted_if (w.frame (s.core c).thread) (times f (core_names (s.core c)))) m
+      (λ c below. agree_if (w.frame (s.core c).thread) (w.frame (t.core c).thread) _ _ (h.thread c below)
+      (λ of. ap (λ k. times f (core_names k)) (h.core c below of))) in
+      let d = sum_same (λ l. counted_if (w.number l) (times f (number_names (t.number l))))
+      (λ l. counted_if (w.number l) (times f (number_names (s.number l)))) 64
+      (λ l below. agree_if (w.number l) (w.number l) _ _ refl (λ of. ap (λ x. times f (number_names x)) (h.number l of))) in
+      let inside : Limits → ℕ = λ limits.
+      sum_below (λ g. counted_if (w.frame g) (node_refs t f g)) limits.frames
+      + sum_below (λ g. counted_if (w.frame g) (times f (frame_names (t.frame g)))) limits.frames
+      + sum_below (λ c. counted_if (w.frame (t.core c).thread) (times f (core_names (t.core c)))) limits.cores
+      + sum_below (λ l. counted_if (w.number l) (times f (number_names (t.number l)))) 64 in
+      let same : refs_inside w s f ≡ inside s.limits = omega (arith, a, b, c, d) in
+      same ∙ ap inside h.limits
+
+  -- So it is of all references, where the world is split in both.
+  pub same_refs : IsSplit w s → NumbersOn w s → IsSplit w t → NumbersOn w t → w.frame f ≡ true → refs s f ≡ refs t f
+  same_refs split numbers other others of =
+      counted_inside w s split numbers f of ∙ same_inside ∙ sym (counted_inside w t other others f of)
 
 -- In every state that a run reaches, so are the numbers.
 pub numbers_on : (setting : Setting) → IsSetting setting → (events : List Event) → IsRun setting events

@@ -18,7 +18,7 @@ use Rattle.world_laws.specs.kernel_rules.specs.Access.{Named, found, only, to_us
 use Rattle.world_laws.specs.kernel_rules.specs.Rules.{Change, Found, named}
 use Rattle.world_laws.specs.kernel_rules.specs.CapabilityCalls.{not_blank, not_taken, epoch_of, make_rule}
 use Rattle.world_laws.specs.kernel_rules.specs.MemoryCalls.{caching, not_retyped, retype_rule, touch_by, translation_of}
-use Rattle.world_laws.specs.kernel_rules.specs.InvocationCalls.{with_thread, switch_to}
+use Rattle.world_laws.specs.kernel_rules.specs.InvocationCalls.{with_thread, running, switches, switch_to}
 use Rattle.world_laws.specs.kernel_rules.specs.TimeCalls.{with_tcap}
 use Rattle.world_laws.specs.kernel_rules.specs.CallRelation.{rule_of}
 use Rattle.world_laws.specs.kernel_invariant.proofs.Sound.{put_all}
@@ -50,7 +50,8 @@ all_drop : (P : ℕ → Type 0) (xs : List ℕ) → AllByRecursion P xs → AllB
 all_drop P [] h = tt
 all_drop P (x ∷ xs) h = h.1
 
-all_more : (P : Translation → Type 0) (xs : List Translation) (x : Translation) → AllByRecursion P xs → P x → AllByRecursion P (xs ++ x ∷ [])
+all_more : (P : Translation → Type 0) (xs : List Translation) (x : Translation) → AllByRecursion P xs → P x
+    → AllByRecursion P (xs ++ x ∷ [])
 all_more P [] x h new = (new, tt)
 all_more P (y ∷ ys) x h new = (h.0, all_more P ys x h.1 new)
 
@@ -122,7 +123,8 @@ module _ (w : World) (s : State) (c : ℕ) (o : ℕ → Bool) (open_call : IsOpe
   retype_sides r f frame_kind.User = λ range e calm. becomes f User tt
   retype_sides r f frame_kind.Kernel = λ range e calm. becomes f (Kernel Blank) tt
 
-  make_sides : (what : Make) (r f t at : ℕ) → MakesOwn w b (call.Make what r f t at) → ChangesFrom (Next w s) s c (make_rule s what r f t at)
+  make_sides : (what : Make) (r f t at : ℕ) → MakesOwn w b (call.Make what r f t at)
+      → ChangesFrom (Next w s) s c (make_rule s what r f t at)
   make_sides make.Table r f t at own = λ range e table g slot v calm. becomes f (Kernel Table) tt
   make_sides make.Leaf r f t at own = λ range e table g slot v calm. becomes f (Kernel Leaf) tt
   make_sides make.Pages r f t at own = λ range e table g slot v calm. becomes f (Kernel Pages) tt
@@ -135,7 +137,9 @@ module _ (w : World) (s : State) (c : ℕ) (o : ℕ → Bool) (open_call : IsOpe
       becomes f (Kernel (Tcap (record { budget = 0; qualities = (sched, quality) ∷ [] }))) tt
   make_sides (make.Comp x p l) r f t at own = λ range e table g own_table a own_pages d slot v calm.
       let here : w.frame f ≡ b = range_frame w s c b on r f range (not_blank s f ∷ not_taken s l) e calm in
-      becomes f (Kernel (Comp (record { table = own_table.frame; pages = own_pages.frame; number = l; epoch = epoch_of (s.number l) + 1 }))) (
+      let fields : CompFields =
+      record { table = own_table.frame; pages = own_pages.frame; number = l; epoch = epoch_of (s.number l) + 1 } in
+      becomes f (Kernel (Comp fields)) (
         named_frame w s c b on x kind.Table own_table refl a ∙ sym here,
         named_frame w s c b on p kind.Pages own_pages refl d ∙ sym here,
         own ∙ sym here,
@@ -161,19 +165,20 @@ module _ (w : World) (s : State) (c : ℕ) (o : ℕ → Bool) (open_call : IsOpe
       by_room true t sided = all_more _ (s.core c).cached t own.cached sided
       by_room false t sided = own.cached
 
-  switch_sides : (a q : ℕ) (j k : Capability) → named s c a (to_use (only kind.Thread)) ≡ Found j
-      → named s c q (to_use (only kind.Tcap)) ≡ Found k → (e : Option ℕ) → ChangesFrom (Next w s) s c (switch_to s c (found j) k.frame e)
-  switch_sides a q j k g d = by_core
+  switched : (j k : Capability) → w.frame k.frame ≡ w.frame j.frame → (e : Option ℕ)
+      → ChangesFrom (Next w s) s c (switch_to s c (found j) k.frame e)
+  switched j k same = by_core
     where
-      idle : Sides w _ s.core n
-      idle = running_sides w s.frame s.core n h (s.core c).thread None
+      old : ℕ
+      old = (s.core c).thread
 
-      next : Sides w _ _ n
-      next = core_sides w _ s.core n (running_sides w _ s.core n idle j.frame (Some c)) c (record (s.core c) { thread = j.frame; tcap = k.frame })
-          (λ below. record {
-        tcap = named_frame w s c b on q kind.Tcap k refl d ∙ sym (named_frame w s c b on a kind.Thread j refl g);
-        cached = (h.cores c on.is_core).cached;
-      })
+      idle : Sides w (running s old None).frame s.core n
+      idle = running_sides w s.frame s.core n h old None
+
+      next : Next w s (switches s c (s.core c) j.frame k.frame)
+      next = core_sides w (running (running s old None) j.frame (Some c)).frame s.core n
+          (running_sides w (running s old None).frame s.core n idle j.frame (Some c)) c
+          (record (s.core c) { thread = j.frame; tcap = k.frame }) (λ below. record { tcap = same; cached = (h.cores c below).cached })
 
       by_core : (e : Option ℕ) → ChangesFrom (Next w s) s c (switch_to s c (found j) k.frame e)
       by_core None = λ calm. next
@@ -203,7 +208,9 @@ module _ (w : World) (s : State) (c : ℕ) (o : ℕ → Bool) (open_call : IsOpe
   rule_sides call.Ret own = λ calm.
       stack_sides w s.frame s.core n h (s.core c).thread (drop 1 (thread_of s c).stack)
       (all_drop _ (thread_of s c).stack (stack_on w (s.core c).thread (s.frame (s.core c).thread) (h.frames (s.core c).thread)))
-  rule_sides (call.Switch a q) own = λ thread e tcap g. switch_sides a q thread tcap e g (thread_in (s.frame thread.frame)).runs_on
+  rule_sides (call.Switch a q) own = λ j e k g.
+      switched j k (named_frame w s c b on q kind.Tcap k refl g ∙ sym (named_frame w s c b on a kind.Thread j refl e))
+      (thread_in (s.frame j.frame)).runs_on
   rule_sides (call.Tick m) own = λ calm.
       core_same w _ s.core n (tcap_sides w s.frame s.core n h (s.core c).tcap _) c _ refl refl refl
   rule_sides (call.Transfer a d m) own = λ j e k f calm.

@@ -74,15 +74,15 @@ module _ (w : World) (s : State) (c : ℕ) (o : ℕ → Bool) (open_call : IsOpe
   abbrev On : State → Type 0
   On t = Sides w t.frame t.core s.limits.cores
 
-  before : On s
-  before = sides_of w s split
+  sided : On s
+  sided = sides_of w s split
 
   counted_on : (t : State) → On t → On (counted t c)
   counted_on t h = core_same w t.frame t.core s.limits.cores h c _ refl refl refl
 
   owed_on : (made : Call) → On (owed_by s c made)
-  owed_on (Tick n) = core_same w s.frame s.core s.limits.cores before c _ refl refl refl
-  owed_on _ = before
+  owed_on (Tick n) = core_same w s.frame s.core s.limits.cores sided c _ refl refl refl
+  owed_on _ = sided
 
   changed_on : (v : Value) (x : Judged Change) → IfFound x (Next w s) → IsFoundAnd x (λ k. k.value ≡ v)
       → On (changed s x)
@@ -92,11 +92,11 @@ module _ (w : World) (s : State) (c : ℕ) (o : ℕ → Bool) (open_call : IsOpe
   by_reply : (q : Reply) → MayReply s c call q → On (state_by s c call q)
   by_reply (reply.Ok v) m = counted_on (changed s (change_of s c call)) (changed_on v (change_of s c call)
       (outcome_from (Next w s) s c (rule_of s c call)
-      (rule_sides w s c o open_call fitted b on before call own)) m.1.1)
-  by_reply reply.CallsSpent m = before
+      (rule_sides w s c o open_call fitted b on sided call own)) m.1.1)
+  by_reply reply.CallsSpent m = sided
   by_reply reply.Raced m = counted_on (owed_by s c call) (owed_on call)
   by_reply (reply.Busy d) m = counted_on (owed_by s c call) (owed_on call)
-  by_reply _ m = counted_on s before
+  by_reply _ m = counted_on s sided
 
   abbrev t : State
   t = state_by s c call r

@@ -22,8 +22,8 @@ pub record World : Type 0 where
   pub frame : ℕ → Bool
   pub number : ℕ → Bool
 
--- Nothing crosses, whatever its rights: what a place has for any core, also what was removed and still serves a call, leads to frames on the
--- place's side; a component has its table, its pages and its number on its side, and a thread its stack; a core's thread and temporal
+-- Nothing crosses, whatever its rights: what a place has for any core, also what was removed and still serves a call, leads to frames on
+-- the place's side; a component has its table, its pages and its number on its side, and a thread its stack; a core's thread and temporal
 -- capability are on one side, and so are the pages and the frame of a translation.
 pub record IsSplit (w : World) (s : State) : Type 0 where
   pub places : (f i d g : ℕ) (k : Capability) → usable s d (record { node = f; index = i }) ≡ Some k → LeadsTo k.kind k g
@@ -91,8 +91,8 @@ hushed w setting (Decides c call r ∷ later) before =
     Decides c call (if side w (after setting (later ++ before)) c then r else hushed_reply call r) ∷ hushed w setting later before
 hushed w setting (Returns c ∷ later) before = Returns c ∷ hushed w setting later before
 
--- In every run from where a world is split, hush the calls of all cores outside: it is a run, with the same decisions inside, and leaves the
--- world the same.
+-- In every run from where a world is split, hush the calls of all cores outside: it is a run, with the same decisions inside, and leaves
+-- the world the same.
 abbrev pub OthersAreSilent : Type 0
 OthersAreSilent = (setting : Setting) → IsSetting setting → (before later : List Event) → IsRun setting (later ++ before)
     → (w : World) → IsSplit w (after setting before) → KeepsNumbers w setting later before
