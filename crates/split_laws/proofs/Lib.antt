@@ -3,3 +3,9 @@ pub mod Sides
 pub mod Splitting
 pub mod Referring
 pub mod Telling
+pub mod MayAlike
+pub mod MayRules
+pub mod Keeping
+pub mod Phases
+pub mod Apart
+pub mod Cores
