@@ -9,3 +9,4 @@ pub mod Keeping
 pub mod Phases
 pub mod Apart
 pub mod Cores
+pub mod Inside
