@@ -38,7 +38,7 @@ agree_back t s a =
     }
 
 -- What holds of two values of `put` follows from what holds of those that they are made of.
-put_pair : {A : Type 0} (P : A → A → Type 0) (f g : ℕ → A) (i : ℕ) (x y : A) (j : ℕ) → (j ≡ i → P x y) → P (f j) (g j)
+pub put_pair : {A : Type 0} (P : A → A → Type 0) (f g : ℕ → A) (i : ℕ) (x y : A) (j : ℕ) → (j ≡ i → P x y) → P (f j) (g j)
     → P (put f i x j) (put g i y j)
 put_pair P f g i x y j here there = by_test (j == i) refl
   where

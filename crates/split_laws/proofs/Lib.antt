@@ -10,3 +10,4 @@ pub mod Phases
 pub mod Apart
 pub mod Cores
 pub mod Inside
+pub mod Silence

@@ -68,6 +68,11 @@ same_after e f events other core new old d =
     by_test true = new
     by_test false = old d
 
+pub decided_in : (p : Phase) → is_decided p ≡ true → is_in p ≡ true
+decided_in (Decided a r) is = refl
+decided_in Out is = absurd (false≢true is)
+decided_in (Open a) is = absurd (false≢true is)
+
 -- A core that is in a call is one of the machine's.
 pub in_call_below : (setting : Setting) (events : List Event) → IsRun setting events → (c : ℕ) → is_in (phase_of events c) ≡ true
     → c < setting.cores
@@ -77,11 +82,6 @@ in_call_below setting (e ∷ events) run c is = elim (cases_eq c (core_of e)) [
   | inr other ↦ in_call_below setting events run.0 c (ap is_in (sym (phase_other e events c other)) ∙ is)
 ]
   where
-    decided_in : (p : Phase) → is_decided p ≡ true → is_in p ≡ true
-    decided_in (Decided a r) is = refl
-    decided_in Out is = absurd (false≢true is)
-    decided_in (Open a) is = absurd (false≢true is)
-
     by_event : ((d : ℕ) → is_in (phase_of events d) ≡ true → d < setting.cores) → (e : Event) → MayFollow setting events e
         → core_of e < setting.cores
     by_event before (Enters d call) may = may.is_core

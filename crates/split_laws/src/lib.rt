@@ -3,10 +3,13 @@
 //! **The laws.** What is split stays so, where each component that is made takes a number of its side. Of the references to a frame
 //! of a world all are from that world. And `running` names no core across.
 //!
+//! **Non-interference of decisions.** Hush the calls of all cores outside a split world, so that they do nothing but enter, return and flush:
+//! the history is still one that the kernel may have, with the same decisions inside and the same world.
+//!
 //! See docs/WORLDS.md.
 #![tactic(auto)]
 
-ghost use Rattle.split_laws.specs.Split.{SplitForGood, RefersInside, RepliesTell};
+ghost use Rattle.split_laws.specs.Split.{SplitForGood, OthersAreSilent, RefersInside, RepliesTell};
 
 /// In every run, a world that is split stays so, whatever any core does, where each component that is made takes a number of its core's
 /// side.
@@ -25,4 +28,12 @@ pub fn refers_inside()
 #[tactic(auto, using(crate::proofs::Telling::replies_tell))]
 pub fn replies_tell()
     ensures { RepliesTell }
+{}
+
+/// In every run from where a world is split, where each component that is made takes a number of its core's side and each call inside is
+/// refused for its frame only where that is inside, the calls of all cores outside may be hushed: it is still a run, with the same decisions
+/// inside, and leaves the world the same.
+#[tactic(auto, using(crate::proofs::Silence::others_are_silent))]
+pub fn others_are_silent()
+    ensures { OthersAreSilent }
 {}
