@@ -3,3 +3,4 @@ pub mod Sides
 pub mod Splitting
 pub mod Referring
 pub mod Telling
+pub mod Touching

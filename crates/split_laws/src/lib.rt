@@ -1,12 +1,12 @@
 //! Split worlds: nothing crosses between a set of frames and liveness numbers and the rest, not even a gate.
 //!
 //! **The laws.** What is split stays so, where each component that is made takes a number of its side. Of the references to a frame
-//! of a world all are from that world. And `running` names no core across.
+//! of a world all are from that world. `running` names no core across, and `touch` answers no frame across.
 //!
 //! See docs/WORLDS.md.
 #![tactic(auto)]
 
-ghost use Rattle.split_laws.specs.Split.{SplitForGood, RefersInside, RepliesTell};
+ghost use Rattle.split_laws.specs.Split.{SplitForGood, RefersInside, RepliesTell, TouchesOwn};
 
 /// In every run, a world that is split stays so, whatever any core does, where each component that is made takes a number of its core's
 /// side.
@@ -25,4 +25,10 @@ pub fn refers_inside()
 #[tactic(auto, using(crate::proofs::Telling::replies_tell))]
 pub fn replies_tell()
     ensures { RepliesTell }
+{}
+
+/// In every run, where a world is split, a `touch` answers a frame of the side of its core.
+#[tactic(auto, using(crate::proofs::Touching::touches_own))]
+pub fn touches_own()
+    ensures { TouchesOwn }
 {}
