@@ -1,3 +1,4 @@
+pub mod Examples
 pub mod Working
 pub mod Sides
 pub mod Splitting
