@@ -49,7 +49,7 @@ module _ (w : World) (s : State) (split : IsSplit w s) (numbers : NumbersOn w s)
       omega (arith, p, q, r)
 
   -- The places of a node, an object, a core and a number outside have no reference to a frame of the world.
-  place_none : (g i : ℕ) → w.frame g ≡ false → (p : Place) → s.place g i ≡ p → times f (place_names p) ≡ 0
+  pub place_none : (g i : ℕ) → w.frame g ≡ false → (p : Place) → s.place g i ≡ p → times f (place_names p) ≡ 0
   place_none g i out Free is = refl
   place_none g i out (Quiescing k) is = refl
   place_none g i out (Holds k) is = by_kind k.kind refl
@@ -110,7 +110,7 @@ module _ (w : World) (s t : State) (h : AgreeIn w s t) (f : ℕ) where
   node_agree : (g : ℕ) → w.frame g ≡ true → node_refs s f g ≡ node_refs t f g
   unfolding node_refs
   node_agree g of = sum_same (λ i. times f (place_names (t.place g i))) (λ i. times f (place_names (s.place g i))) 64
-      (λ i below. ap (λ p. times f (place_names p)) (h.place g i of))
+      (λ i below. ap (λ p. times f (place_names p)) (h.place g i of below))
 
   same_inside : refs_inside w s f ≡ refs_inside w t f
   same_inside =

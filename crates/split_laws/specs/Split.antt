@@ -4,7 +4,7 @@ use Rattle.std.specs.List.{AllByRecursion}
 use Rattle.world_laws.specs.spk_nums.specs.Capability.{Capability}
 use Rattle.world_laws.specs.spk_nums.specs.Setting.{Setting, IsSetting}
 use Rattle.world_laws.specs.spk_nums.specs.declared.calls.Call.{Call}
-use Rattle.world_laws.specs.spk_nums.specs.declared.calls.Call.TheVariants.{Touch, Flush, Make as make_call}
+use Rattle.world_laws.specs.spk_nums.specs.declared.calls.Call.TheVariants.{Retype, Map, Touch, Flush, Make as make_call}
 use Rattle.world_laws.specs.spk_nums.specs.declared.calls.Make.TheVariants as make
 use Rattle.world_laws.specs.spk_nums.specs.declared.kinds.PageFlags.{PageFlags}
 use Rattle.world_laws.specs.spk_nums.specs.declared.replies.Value.TheVariants.{Page}
@@ -16,6 +16,7 @@ use Rattle.world_laws.specs.kernel_rules.specs.State.{State}
 use Rattle.world_laws.specs.kernel_rules.specs.References.{frame_names, number_names, core_names, sum_below, times, node_refs, refs}
 use Rattle.world_laws.specs.kernel_rules.specs.Access.{usable}
 use Rattle.world_laws.specs.kernel_rules.specs.Runs.{Event, Enters, Decides, Returns, after, IsRun}
+use Rattle.seq_state.specs.Representation.{HasIndex, SameGrace}
 use Rattle.world_laws.specs.Worlds.{LeadsTo, works_in}
 use Rattle.world_laws.specs.Time.{counted_if}
 
@@ -67,14 +68,14 @@ is_of w (PlaceOf f i) = w.frame f
 is_of w (FrameOf f) = w.frame f
 is_of w (NumberOf l) = w.number l
 
--- Two states are one for a world: for its frames, places, numbers and their grace periods, and for the cores on its threads. Of the other
--- cores they agree that they are others, and whether each is in a call.
+-- Two states are one for a world: for its frames, places, numbers and their grace periods, as far as the machine has any, and for the cores
+-- on its threads. Of the other cores they agree that they are others, and whether each is in a call.
 pub record AgreeIn (w : World) (s t : State) : Type 0 where
   pub limits : s.limits ≡ t.limits
   pub frame : (f : ℕ) → w.frame f ≡ true → s.frame f ≡ t.frame f
-  pub place : (f i : ℕ) → w.frame f ≡ true → s.place f i ≡ t.place f i
+  pub place : (f i : ℕ) → w.frame f ≡ true → i < 64 → s.place f i ≡ t.place f i
   pub number : (l : ℕ) → w.number l ≡ true → s.number l ≡ t.number l
-  pub grace : (x : Thing) → is_of w x ≡ true → s.grace x ≡ t.grace x
+  pub grace : (x : Thing) → is_of w x ≡ true → HasIndex x → SameGrace s.limits.cores (s.grace x) (t.grace x)
   pub thread : (c : ℕ) → c < s.limits.cores → w.frame (s.core c).thread ≡ w.frame (t.core c).thread
   pub core : (c : ℕ) → c < s.limits.cores → w.frame (s.core c).thread ≡ true → s.core c ≡ t.core c
   pub inside : (c : ℕ) → c < s.limits.cores → (s.core c).inside ≡ (t.core c).inside
@@ -93,11 +94,32 @@ hushed w setting (Decides c call r ∷ later) before =
     Decides c call (if side w (after setting (later ++ before)) c then r else hushed_reply call r) ∷ hushed w setting later before
 hushed w setting (Returns c ∷ later) before = Returns c ∷ hushed w setting later before
 
+-- A call is refused for what a frame is that it names by its number, for the references to it, or for who may still use it: only where the
+-- frame is on this side.
+abbrev pub TellsOwn : (ℕ → Bool) → Bool → Call → Reply → Type 0
+TellsOwn w b (Retype r f k) reply.FrameKind = w f ≡ b
+TellsOwn w b (Retype r f k) (reply.Referenced n) = w f ≡ b
+TellsOwn w b (Retype r f k) (reply.Quiescing e) = w f ≡ b
+TellsOwn w b (Retype r f k) (reply.Unflushed e) = w f ≡ b
+TellsOwn w b (Retype r f k) reply.NotEmpty = w f ≡ b
+TellsOwn w b (make_call what r f t at) reply.FrameKind = w f ≡ b
+TellsOwn w b (Map p v r f flags) reply.FrameKind = w f ≡ b
+TellsOwn w b call r = Unit {0}
+
+-- Each call after `before` of a core that works inside is refused so only for a frame inside. The relation of calls lets a call be refused
+-- for its frame also where that is not in the range that the call names.
+abbrev pub TellsInside : World → Setting → List Event → List Event → Type 0
+TellsInside w setting [] before = Unit {0}
+TellsInside w setting (Enters c call ∷ later) before = TellsInside w setting later before
+TellsInside w setting (Decides c call r ∷ later) before =
+    TellsInside w setting later before × (side w (after setting (later ++ before)) c ≡ true → TellsOwn w.frame true call r)
+TellsInside w setting (Returns c ∷ later) before = TellsInside w setting later before
+
 -- In every run from where a world is split, hush the calls of all cores outside: it is a run, with the same decisions inside, and leaves
 -- the world the same.
 abbrev pub OthersAreSilent : Type 0
 OthersAreSilent = (setting : Setting) → IsSetting setting → (before later : List Event) → IsRun setting (later ++ before)
-    → (w : World) → IsSplit w (after setting before) → KeepsNumbers w setting later before
+    → (w : World) → IsSplit w (after setting before) → KeepsNumbers w setting later before → TellsInside w setting later before
     → IsRun setting (hushed w setting later before ++ before)
     × AgreeIn w (after setting (later ++ before)) (after setting (hushed w setting later before ++ before))
 
