@@ -1,8 +1,10 @@
+pub mod Examples
 pub mod Working
 pub mod Sides
 pub mod Splitting
 pub mod Referring
 pub mod Telling
+pub mod Touching
 pub mod MayAlike
 pub mod MayRules
 pub mod Keeping

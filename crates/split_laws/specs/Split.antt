@@ -4,8 +4,10 @@ use Rattle.std.specs.List.{AllByRecursion}
 use Rattle.world_laws.specs.spk_nums.specs.Capability.{Capability}
 use Rattle.world_laws.specs.spk_nums.specs.Setting.{Setting, IsSetting}
 use Rattle.world_laws.specs.spk_nums.specs.declared.calls.Call.{Call}
-use Rattle.world_laws.specs.spk_nums.specs.declared.calls.Call.TheVariants.{Retype, Map, Flush, Make as make_call}
+use Rattle.world_laws.specs.spk_nums.specs.declared.calls.Call.TheVariants.{Retype, Map, Touch, Flush, Make as make_call}
 use Rattle.world_laws.specs.spk_nums.specs.declared.calls.Make.TheVariants as make
+use Rattle.world_laws.specs.spk_nums.specs.declared.kinds.PageFlags.{PageFlags}
+use Rattle.world_laws.specs.spk_nums.specs.declared.replies.Value.TheVariants.{Page}
 use Rattle.world_laws.specs.spk_nums.specs.declared.replies.Reply.{Reply}
 use Rattle.world_laws.specs.spk_nums.specs.declared.replies.Reply.TheVariants as reply
 use Rattle.world_laws.specs.spk_nums.specs.declared.translations.Translation.{Translation}
@@ -121,7 +123,7 @@ OthersAreSilent = (setting : Setting) → IsSetting setting → (before later : 
     → IsRun setting (hushed w setting later before ++ before)
     × AgreeIn w (after setting (later ++ before)) (after setting (hushed w setting later before ++ before))
 
--- ---- what replies tell
+-- ---- what replies tell, and what a core may touch
 
 -- The references to a frame from the world alone: from the places and objects of its frames, from its cores and from its numbers.
 abbrev pub refs_inside : World → State → ℕ → ℕ
@@ -142,3 +144,9 @@ abbrev pub RepliesTell : Type 0
 RepliesTell = (setting : Setting) → IsSetting setting → (events : List Event) (c e : ℕ) (call : Call)
     → IsRun setting (Decides c call (reply.Running e) ∷ events)
     → (w : World) → IsSplit w (after setting events) → side w (after setting events) e ≡ side w (after setting events) c
+
+-- In every run, where a world is split, a touch answers a frame of the side of its core.
+abbrev pub TouchesOwn : Type 0
+TouchesOwn = (setting : Setting) → IsSetting setting → (events : List Event) (c v f : ℕ) (flags : PageFlags)
+    → IsRun setting (Decides c (Touch v) (reply.Ok (Page f flags)) ∷ events)
+    → (w : World) → IsSplit w (after setting events) → w.frame f ≡ side w (after setting events) c
