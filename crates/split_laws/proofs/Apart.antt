@@ -1,6 +1,6 @@
 -- A decision of a core that works outside a world that is split leaves all of the world as it is, but that its flush passes grace periods.
-use Rattle.std.proofs.Common.{◌≡◌, ◌≢◌, ◌⊎◌, inl, inr, ℕ, ◌<◌, ◌==◌, ◌&&◌, Bool, true, false, cond, refl, sym, ◌∙◌, ap, subst, arith, IsTrue, List, [], ◌∷◌}
-use Rattle.std.proofs.lemmas.Bool.{cases_eq, false≢true, true≢false, eqb-true}
+use Rattle.std.proofs.Common.{◌≡◌, ◌≢◌, ◌⊎◌, inl, inr, ℕ, ◌<◌, Bool, true, false, cond, refl, sym, ◌∙◌, ap, subst, arith, List, [], ◌∷◌}
+use Rattle.std.proofs.lemmas.Bool.{cases_eq, false≢true, eqb-true}
 use Rattle.world_laws.specs.spk_nums.specs.Setting.{Setting, IsSetting}
 use Rattle.world_laws.specs.spk_nums.specs.Capability.{Capability}
 use Rattle.world_laws.specs.spk_nums.specs.declared.kinds.Kind.TheVariants as kind
@@ -10,15 +10,15 @@ use Rattle.world_laws.specs.spk_nums.specs.declared.calls.Call.{Call}
 use Rattle.world_laws.specs.spk_nums.specs.declared.calls.Call.TheVariants.{Retype, Make as make_call}
 use Rattle.world_laws.specs.spk_nums.specs.declared.replies.Reply.{Reply}
 use Rattle.world_laws.specs.spk_nums.specs.declared.replies.Reply.TheVariants as reply
-use Rattle.world_laws.specs.kernel_rules.specs.State.{Holds, Comp, Kernel, Liveness, Live, Dead, Grace, Thing, PlaceOf, FrameOf, NumberOf, State, comp_in}
+use Rattle.world_laws.specs.kernel_rules.specs.State.{Liveness, Live, Dead, Thing, PlaceOf, FrameOf, NumberOf, State, comp_in}
 use Rattle.world_laws.specs.kernel_rules.specs.Start.{no_grace}
-use Rattle.world_laws.specs.kernel_rules.specs.References.{number_names, times}
+use Rattle.world_laws.specs.kernel_rules.specs.References.{place_names, frame_names, number_names, core_names, times}
 use Rattle.world_laws.specs.kernel_rules.specs.GracePeriods.{same_thing, new_grace}
 use Rattle.world_laws.specs.kernel_rules.specs.Rules.{Change, Judged, Refused, Found, IsFoundAnd}
 use Rattle.world_laws.specs.kernel_rules.specs.CapabilityCalls.{is_live, is_place_of, not_blank}
 use Rattle.world_laws.specs.kernel_rules.specs.MemoryCalls.{not_retyped}
 use Rattle.world_laws.specs.kernel_rules.specs.Life.{is_live_in}
-use Rattle.world_laws.specs.kernel_rules.specs.CallRelation.{begins, ends, ends_by, flushes, rule_of, change_of, state_by, MayReply}
+use Rattle.world_laws.specs.kernel_rules.specs.CallRelation.{begins, ends, ends_by, flushes, rule_of, change_of, MayReply}
 use Rattle.world_laws.specs.kernel_rules.specs.Runs.{Event, Decides, after, is_open, IsRun}
 use Rattle.world_laws.specs.kernel_rules.proofs.Changes.{IfFound}
 use Rattle.world_laws.specs.kernel_invariant.specs.Edits.{Edit, Fill, Component, Deaden, Merge, edited, after_edits}
@@ -32,7 +32,7 @@ use Rattle.world_laws.specs.kernel_invariant.proofs.Edited.{AreLater, Calm}
 use Rattle.world_laws.specs.authority_laws.specs.state_laws.specs.Lives.{IsCompOf}
 use Rattle.world_laws.specs.authority_laws.specs.state_laws.proofs.Lives.{live_numbers_fit}
 use Rattle.world_laws.specs.authority_laws.specs.Authority.{Part, PlaceIs, FrameIs, NumberIs, CoreIs, LivesBy, MayUse}
-use Rattle.world_laws.specs.authority_laws.specs.Graces.{names_of, LosesOne, HasCause}
+use Rattle.world_laws.specs.authority_laws.specs.Graces.{names_of, HasCause}
 use Rattle.world_laws.specs.authority_laws.proofs.Acts.{InRange, By, EachBy}
 use Rattle.world_laws.specs.authority_laws.proofs.DecidedParts.{decided_from}
 use Rattle.world_laws.specs.authority_laws.proofs.Causes.{graces_have_cause}
@@ -185,13 +185,13 @@ module _ (setting : Setting) (lim : IsSetting setting) (events : List Event) (c 
     no_loss (PlaceIs g i) less = by_side (w.frame g) refl
       where
         by_side : (b : Bool) → w.frame g ≡ b → ⊥
-        by_side true here = no_less _ _ (ap Rattle.world_laws.specs.kernel_rules.specs.References.place_names (place_stays g i here)) less
+        by_side true here = no_less _ _ (ap place_names (place_stays g i here)) less
         by_side false here = less_none _ _
             (place_none w s split (numbers_on setting lim events run.0 w split) f of g i here (s.place g i) refl) less
     no_loss (FrameIs g) less = by_side (w.frame g) refl
       where
         by_side : (b : Bool) → w.frame g ≡ b → ⊥
-        by_side true here = no_less _ _ (ap Rattle.world_laws.specs.kernel_rules.specs.References.frame_names (frame_stays g here)) less
+        by_side true here = no_less _ _ (ap frame_names (frame_stays g here)) less
         by_side false here = less_none _ _ (frame_none w s split (numbers_on setting lim events run.0 w split) f of g here) less
     no_loss (NumberIs l) less = by_side (w.number l) refl
       where
@@ -199,7 +199,7 @@ module _ (setting : Setting) (lim : IsSetting setting) (events : List Event) (c 
         by_side true here = no_less _ _ (ap number_names (number_stays l here)) less
         by_side false here = less_none _ _ (number_none w s split (numbers_on setting lim events run.0 w split) f of l here) less
     no_loss (CoreIs d) less = elim (cases_eq d c) [
-      | inr other ↦ no_less _ _ (ap Rattle.world_laws.specs.kernel_rules.specs.References.core_names (core_stays d other)) less
+      | inr other ↦ no_less _ _ (ap core_names (core_stays d other)) less
       | inl same ↦ less_none _ _ (core_none w s split (numbers_on setting lim events run.0 w split) f of d
           (subst (λ n. n < s.limits.cores) (sym same) on.is_core) (ap (λ n. w.frame (s.core n).thread) same ∙ thread_out)) less
     ]

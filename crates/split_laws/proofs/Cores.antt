@@ -1,5 +1,5 @@
 -- What a decision makes of cores: it leaves all others as they are; its own counts a call, and stays on its side of a world that is split.
-use Rattle.std.proofs.Common.{◌≡◌, ◌≢◌, inl, inr, ℕ, ◌+◌, Bool, refl, sym, ◌∙◌, ap, subst, arith, List, [], ◌∷◌}
+use Rattle.std.proofs.Common.{◌≡◌, ◌≢◌, inl, inr, ℕ, ◌+◌, Bool, refl, sym, ◌∙◌, ap, arith, List, [], ◌∷◌}
 use Rattle.world_laws.specs.spk_nums.specs.Setting.{Setting, IsSetting}
 use Rattle.world_laws.specs.spk_nums.specs.Capability.{Capability}
 use Rattle.world_laws.specs.spk_nums.specs.declared.kinds.Kind.{Kind}
@@ -15,7 +15,7 @@ use Rattle.world_laws.specs.kernel_rules.specs.Laws.{calls_counted}
 use Rattle.world_laws.specs.kernel_rules.specs.Runs.{Event, Decides, after, is_open, IsRun}
 use Rattle.world_laws.specs.kernel_rules.proofs.Changes.{IfFound}
 use Rattle.world_laws.specs.kernel_rules.proofs.Within.{put_same}
-use Rattle.world_laws.specs.kernel_invariant.specs.Edits.{Edit, Fill, Push, Pop, Switch, Cache, Flush, Charge, Merge, edited, after_edits}
+use Rattle.world_laws.specs.kernel_invariant.specs.Edits.{Edit, Fill, Switch, Cache, Flush, Charge, Merge, edited, after_edits}
 use Rattle.world_laws.specs.kernel_invariant.proofs.SoundCalls.{IsOpen}
 use Rattle.world_laws.specs.kernel_invariant.proofs.SoundRuns.{opened, open_is, open_limits}
 use Rattle.world_laws.specs.kernel_invariant.proofs.Edited.{AreLater, Calm, found_by}
@@ -100,12 +100,14 @@ module _ (setting : Setting) (lim : IsSetting setting) (events : List Event) (c 
       owed (Tick n) = ap (λ (x : Core). x.counted) (put_same s.core c (record (s.core c) { owed = (s.core c).owed + n }) c refl)
       owed _ = refl
 
-      found : (P : Change → Type 0) (x : Judged Change) → IfFound x (ShapedBy s c) → IsFoundAnd x P → ((changed s x).core c).counted ≡ (s.core c).counted
+      found : (P : Change → Type 0) (x : Judged Change) → IfFound x (ShapedBy s c) → IsFoundAnd x P → ((changed s x).core c).counted
+          ≡ (s.core c).counted
       found P (Refused q) by ok = absurd ok
       found P (Found change) by ok = by.own.counted
 
       by_reply : (q : Reply) → MayReply s c call q → ((state_by s c call q).core c).counted ≡ (s.core c).counted + calls_counted q
-      by_reply (reply.Ok v) may = count (changed s (change_of s c call)) (found (λ change. change.value ≡ v) (change_of s c call) shaped may.1.1)
+      by_reply (reply.Ok v) may = count (changed s (change_of s c call))
+          (found (λ change. change.value ≡ v) (change_of s c call) shaped may.1.1)
       by_reply reply.CallsSpent may = omega arith
       by_reply reply.Raced may = count (owed_by s c call) (owed call)
       by_reply (reply.Busy d) may = count (owed_by s c call) (owed call)

@@ -1,5 +1,5 @@
 -- A core that works inside a world that is split: where two states are one for the world, its call may be decided alike in both.
-use Rattle.std.proofs.Common.{◌≡◌, ℕ, ◌<◌, Bool, true, false, refl, sym, ◌∙◌, ap, subst, nat_le, IsTrue, IsFalse, inl, inr, List, [], ◌∷◌, Some}
+use Rattle.std.proofs.Common.{◌≡◌, ℕ, ◌<◌, Bool, true, refl, sym, ◌∙◌, ap, subst, nat_le, inl, inr, Some}
 use Rattle.std.specs.List.{AllByRecursion}
 use Rattle.world_laws.specs.spk_nums.specs.Capability.{Capability}
 use Rattle.world_laws.specs.spk_nums.specs.declared.kinds.Kind.{Kind}
@@ -10,17 +10,17 @@ use Rattle.world_laws.specs.spk_nums.specs.declared.calls.Call.TheVariants.{Make
 use Rattle.world_laws.specs.spk_nums.specs.declared.replies.Value.{Value}
 use Rattle.world_laws.specs.spk_nums.specs.declared.replies.Reply.{Reply}
 use Rattle.world_laws.specs.spk_nums.specs.declared.replies.Reply.TheVariants as reply
-use Rattle.world_laws.specs.kernel_rules.specs.State.{CompFields, Core, Limits, Thing, PlaceOf, FrameOf, NumberOf, State, comp_of}
+use Rattle.world_laws.specs.kernel_rules.specs.State.{CompFields, Limits, Thing, PlaceOf, FrameOf, NumberOf, State, comp_of}
 use Rattle.world_laws.specs.kernel_rules.specs.Access.{Slot, usable}
 use Rattle.world_laws.specs.kernel_rules.specs.Life.{is_live_in, lives}
 use Rattle.world_laws.specs.kernel_rules.specs.Rules.{Change, Judged, Refused, Found, IsFoundAnd}
 use Rattle.world_laws.specs.kernel_rules.specs.CallRelation.{change_of, are_calls_spent, MayReply}
 use Rattle.world_laws.specs.Worlds.{LeadsTo}
-use Rattle.seq_state.specs.Representation.{HasIndex}
+use Rattle.seq_state.specs.Representation.{HasIndex, SameGrace}
 use Rattle.same_changes.specs.Region.{Region, IsIn, AgreeOn, AgreeOutcome, LeadsIn, NamesIn, ReachesOnly}
 use Rattle.same_changes.proofs.Reaching.{TwinsOn, core_agree, comp_agree, number_in}
 use Rattle.same_changes.proofs.EveryCall.{call_agrees}
-use Rattle.split_laws.specs.Split.{World, IsSplit, side, is_of, MakesOwn, AgreeIn, TellsOwn}
+use Rattle.split_laws.specs.Split.{World, is_of, MakesOwn, AgreeIn, TellsOwn}
 use Rattle.split_laws.proofs.Working.{WorksOn}
 use Rattle.split_laws.proofs.MayRules.{rule_may}
 
@@ -49,7 +49,7 @@ agree_in w cores t s a here there =
       frame = a.frame;
       place = a.place;
       number = a.number;
-      grace = λ x of small. subst (λ n. Rattle.seq_state.specs.Representation.SameGrace n (t.grace x) (s.grace x)) same
+      grace = λ x of small. subst (λ n. SameGrace n (t.grace x) (s.grace x)) same
           (a.grace x (thing_in w cores x of small));
       thread = λ c below. here c ∙ sym (there c);
       core = λ c below of. a.core c (sym (here c) ∙ of);
@@ -61,7 +61,8 @@ names_in w cores (make_call (make.Comp table pages live) r f t b) own = own
 names_in w cores _ own = tt
 
 -- A core that works inside reaches nothing outside.
-pub reaches_only : (w : World) (cores : ℕ → Bool) (s : State) (c : ℕ) → cores c ≡ true → WorksOn w s c true → ReachesOnly (region w cores) s c
+pub reaches_only : (w : World) (cores : ℕ → Bool) (s : State) (c : ℕ) → cores c ≡ true → WorksOn w s c true
+    → ReachesOnly (region w cores) s c
 reaches_only w cores s c of on = record {
   core = of;
   thread = on.thread;
@@ -79,7 +80,8 @@ reaches_only w cores s c of on = record {
 
 -- ---- what may be replied
 
-value_same : (w : Region) (v : Value) (x y : Judged Change) → AgreeOutcome w x y → IsFoundAnd y (λ k. k.value ≡ v) → IsFoundAnd x (λ k. k.value ≡ v)
+value_same : (w : Region) (v : Value) (x y : Judged Change) → AgreeOutcome w x y → IsFoundAnd y (λ k. k.value ≡ v)
+    → IsFoundAnd x (λ k. k.value ≡ v)
 value_same w v (Found x) (Found y) same is = same.value ∙ is
 value_same w v (Refused r) (Found y) same is = absurd same
 value_same w v (Found x) (Refused q) same is = absurd is
@@ -108,8 +110,11 @@ module _ (w : World) (cores : ℕ → Bool) {t s : State} {o : ℕ → Bool} {c 
   may_reply reply.CallsSpent tells may = spent_same ∙ may
   may_reply reply.Raced tells may = (spent_same ∙ may.0, tt)
   may_reply (reply.Busy d) tells may = (spent_same ∙ may.0, tt)
-  may_reply reply.Dead tells may = (spent_same ∙ may.0, elim may.1 [
-    | inl dead ↦ inl (dead.0, lives_same ∙ dead.1)
-    | inr rule ↦ inr (rule_may l call reply.Dead (names_in w cores call own) tells rule)
-  ])
+  may_reply reply.Dead tells may = (
+    spent_same ∙ may.0,
+    elim may.1 [
+      | inl dead ↦ inl (dead.0, lives_same ∙ dead.1)
+      | inr rule ↦ inr (rule_may l call reply.Dead (names_in w cores call own) tells rule)
+    ],
+  )
   may_reply r tells may = (spent_same ∙ may.0, rule_may l call r (names_in w cores call own) tells may.1)

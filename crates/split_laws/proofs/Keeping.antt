@@ -1,6 +1,6 @@
 -- States that are one on a region stay so as a core enters a call, is decided alike, flushes or returns; and they stay one, whatever a core
 -- outside counts and owes.
-use Rattle.std.proofs.Common.{◌≡◌, ◌≢◌, ℕ, ◌+◌, ◌<◌, ◌==◌, Bool, true, false, refl, sym, ◌∙◌, ap, subst, if◌then◌else◌, IsTrue, []}
+use Rattle.std.proofs.Common.{◌≡◌, ℕ, ◌+◌, ◌<◌, ◌==◌, Bool, true, false, refl, sym, ◌∙◌, ap, subst, if◌then◌else◌, []}
 use Rattle.std.proofs.lemmas.Bool.{false≢true, true≢false, eqb-true}
 use Rattle.world_laws.specs.spk_nums.specs.declared.calls.Call.{Call}
 use Rattle.world_laws.specs.spk_nums.specs.declared.calls.Call.TheVariants.{Tick, Flush}
@@ -13,7 +13,7 @@ use Rattle.world_laws.specs.kernel_rules.specs.Rules.{Change, Judged, Refused, F
 use Rattle.world_laws.specs.kernel_rules.specs.CallRelation.{change_of, changed, counted, owed_by, state_by}
 use Rattle.world_laws.specs.kernel_rules.proofs.AloneLaw.{decided_stays}
 use Rattle.seq_state.specs.Representation.{SameGrace}
-use Rattle.same_changes.specs.Region.{Region, IsIn, AgreeOn, AgreeChange, AgreeOutcome}
+use Rattle.same_changes.specs.Region.{Region, IsIn, AgreeOn, AgreeOutcome}
 use Rattle.same_changes.proofs.Agreeing.{agree_by, agree_then, agree_begun}
 
 grace_back : (n : ℕ) (g h : Grace) → SameGrace n g h → SameGrace n h g
@@ -34,7 +34,8 @@ agree_back t s a =
       number = λ l is. sym (a.number l is);
       core = λ c is. sym (a.core c is);
       inside = λ c less. sym (a.inside c (subst (λ n. c < n) (sym cores) less));
-      grace = λ x is. subst (λ n. SameGrace n (s.grace x) (t.grace x)) cores (grace_back s.limits.cores (t.grace x) (s.grace x) (a.grace x is));
+      grace = λ x is. subst (λ n. SameGrace n (s.grace x) (t.grace x)) cores
+          (grace_back s.limits.cores (t.grace x) (s.grace x) (a.grace x is));
     }
 
 -- What holds of two values of `put` follows from what holds of those that they are made of.
@@ -82,7 +83,8 @@ passed_agrees n c below g h e = record {
       by_test g.flush_unknown h.flush_unknown d (g.unflushed c) (h.unflushed c) (e.unflushed c below) (e.flush_unknown d less);
 }
   where
-    by_test : (p q : ℕ → Bool) (d : ℕ) (a b : Bool) → a ≡ b → p d ≡ q d → (if a then p else put p c false) d ≡ (if b then q else put q c false) d
+    by_test : (p q : ℕ → Bool) (d : ℕ) (a b : Bool) → a ≡ b → p d ≡ q d → (if a then p else put p c false) d
+        ≡ (if b then q else put q c false) d
     by_test p q d true true same here = here
     by_test p q d false false same here = ap (λ b. if d == c then false else b) here
     by_test p q d true false same here = absurd (true≢false same)

@@ -1,24 +1,24 @@
 -- What may be refused in one state may be refused in another in which core c finds the same.
-use Rattle.std.proofs.Common.{◌≡◌, ◌⊎◌, inl, inr, ℕ, ◌/◌, ◌<◌, ◌≤◌, ◌==◌, Bool, true, false, not, ◌&&◌, ◌||◌, refl, sym, ◌∙◌, ap, subst, arith}
-use Rattle.std.proofs.Common.{if◌then◌else◌, nat_lt, nat_le, IsTrue, IsFalse, IsSomeAnd, List, [], ◌∷◌, Option, Some, None, is_some}
-use Rattle.std.proofs.lemmas.Bool.{false≢true, true≢false, ltb-false}
+use Rattle.std.proofs.Common.{◌≡◌, inl, inr, ℕ, ◌/◌, ◌<◌, ◌≤◌, Bool, true, false, not, ◌&&◌, ◌||◌, refl, sym, ◌∙◌, ap, subst, arith}
+use Rattle.std.proofs.Common.{if◌then◌else◌, nat_lt, nat_le, IsFalse, IsSomeAnd, List, [], ◌∷◌, Option, Some, None, is_some}
+use Rattle.std.proofs.lemmas.Bool.{false≢true, leb-true, le-ltb, ltb-false}
 use Rattle.world_laws.specs.spk_nums.specs.Capability.{Capability}
-use Rattle.world_laws.specs.spk_nums.specs.declared.kinds.Kind.{Kind}
-use Rattle.world_laws.specs.spk_nums.specs.declared.kinds.Kind.TheVariants as kind
 use Rattle.world_laws.specs.spk_nums.specs.declared.replies.Reply.{Reply}
 use Rattle.world_laws.specs.spk_nums.specs.declared.replies.Reply.TheVariants as reply
-use Rattle.world_laws.specs.kernel_rules.specs.State.{Frame, CompFields, ThreadFields, Core, Limits, Grace, Thing, PlaceOf, State, thread_of, comp_of, comp_in}
-use Rattle.world_laws.specs.kernel_rules.specs.References.{refs}
-use Rattle.world_laws.specs.kernel_rules.specs.Access.{Want, to_use, only, Slot, Named, capability, found, Target, Under, InRoot, root_at, place_at, held_in}
+use Rattle.world_laws.specs.kernel_rules.specs.State.{Limits, Thing, PlaceOf, State}
+use Rattle.world_laws.specs.kernel_rules.specs.Access.{Want, Slot, Named, capability, Target, Under, InRoot, root_at, place_at, held_in}
 use Rattle.world_laws.specs.kernel_rules.specs.Access.{usable, reached, root_slot, holds_link, has_no_slot, own}
 use Rattle.world_laws.specs.kernel_rules.specs.GracePeriods.{MayWait, MayBeUnflushed}
-use Rattle.world_laws.specs.kernel_rules.specs.Rules.{Cause, When, WaitedFor, Unflushed, Rule, Name, Vacant, Held, Mapped, Does, Judged, Refused, Found}
-use Rattle.world_laws.specs.kernel_rules.specs.Rules.{named, held, mapped, and_then, or_refuse, IsFoundAnd, ReachesNone, ReachesHeld, ReachesOther, ReachesLacking, Lacks}
-use Rattle.world_laws.specs.kernel_rules.specs.Rules.{NameMay, VacantMay, HeldMay, MappedMay, WaitedMay, UnflushedMay, CauseMay, OneMay, name_of, slot_of, RuleMay}
-use Rattle.world_laws.specs.kernel_rules.specs.MemoryCalls.{is_empty}
+use Rattle.world_laws.specs.kernel_rules.specs.Rules.{Cause, When, WaitedFor, Unflushed, Rule, Name, Vacant, Held, Mapped, Does, Judged}
+use Rattle.world_laws.specs.kernel_rules.specs.Rules.{Refused, Found}
+use Rattle.world_laws.specs.kernel_rules.specs.Rules.{named, held, mapped, and_then, or_refuse, IsFoundAnd, ReachesNone, ReachesHeld}
+use Rattle.world_laws.specs.kernel_rules.specs.Rules.{ReachesOther, ReachesLacking, Lacks}
+use Rattle.world_laws.specs.kernel_rules.specs.Rules.{NameMay, VacantMay, HeldMay, MappedMay, WaitedMay, UnflushedMay, CauseMay, OneMay}
+use Rattle.world_laws.specs.kernel_rules.specs.Rules.{name_of, slot_of, RuleMay}
 use Rattle.world_laws.specs.kernel_invariant.proofs.Facts.{none_some, or_found}
 use Rattle.same_changes.specs.Region.{Region, IsIn}
-use Rattle.same_changes.proofs.Reaching.{TwinsOn, IsSlotIn, then_same, place_agree, usable_agree, reached_agree, slot_within, own_in, own_agree}
+use Rattle.same_changes.proofs.Reaching.{TwinsOn, IsSlotIn, then_same, place_agree, usable_agree, reached_agree, slot_within, own_in}
+use Rattle.same_changes.proofs.Reaching.{own_agree}
 use Rattle.same_changes.proofs.Reaching.{named_agree, mapped_agree}
 
 -- The root of a target is in a region, where it was found.
@@ -86,7 +86,8 @@ module _ {w : Region} {t s : State} {o : ℕ → Bool} {c : ℕ} (l : TwinsOn w 
     where
       by_found : (b : Bool) → table.found ≡ b → IsSlotIn w at
       by_found true on = slot_within l (InRoot table i) at (root on) is
-      by_found false on = absurd (none_some at (sym (ap (λ b. if b && nat_le i 63 then Some (record { node = table.frame; index = i }) else None) on) ∙ is))
+      by_found false on = absurd (none_some at (sym (ap (λ b. if b && nat_le i 63 then Some (record { node = table.frame; index = i })
+          else None) on) ∙ is))
 
   held_same : (x : Target) → RootIf w x → held t c x ≡ held s c x
   held_same x root = then_same (or_refuse (reached t c x) reply.NoSlot) (or_refuse (reached s c x) reply.NoSlot) _ _
@@ -99,7 +100,8 @@ module _ {w : Region} {t s : State} {o : ℕ → Bool} {c : ℕ} (l : TwinsOn w 
     where
       by_found : (b : Bool) → table.found ≡ b → nat_lt 4095 n ≡ false
           → (b && not (holds_link (place_at t (root_slot table.frame n)))) ≡ (b && not (holds_link (place_at s (root_slot table.frame n))))
-      by_found true on small = ap (λ p. not (holds_link p)) (place_agree l (root_slot table.frame n) (record { node = root on; index = root_index n small }))
+      by_found true on small = ap (λ p. not (holds_link p)) (place_agree l (root_slot table.frame n)
+          (record { node = root on; index = root_index n small }))
       by_found false on small = refl
 
       by_past : (b : Bool) → nat_lt 4095 n ≡ b
@@ -168,17 +170,14 @@ module _ {w : Region} {t s : State} {o : ℕ → Bool} {c : ℕ} (l : TwinsOn w 
 
   unmapped_may : (table v : ℕ) (r : Reply) → w.frame table ≡ true → MappedMay s c table v r → MappedMay t c table v r
   unmapped_may table v reply.NoSlot root h = h
-  unmapped_may table v reply.Fault root h = (h.0, elim h.1 [
-    | inl none ↦ inl (ap holds_link (place_agree l (root_slot table v) (record { node = root; index = root_index v (not_past v h.0) })) ∙ none)
-    | inr none ↦ inr (none_may (Under (root_at table) v) (λ on. root) none)
-  ])
-    where
-      not_past : (v : ℕ) → nat_le v 4095 ≡ true → nat_lt 4095 v ≡ false
-      not_past v is = let most : v ≤ 4095 = Rattle.std.proofs.lemmas.Bool.leb-true v 4095 is in by_test (nat_lt 4095 v) refl most
-        where
-          by_test : (b : Bool) → nat_lt 4095 v ≡ b → v ≤ 4095 → b ≡ false
-          by_test true past most = let less : 4095 < v = Rattle.std.proofs.lemmas.Bool.ltb-true 4095 v past in absurd (omega (arith, less, most))
-          by_test false past most = refl
+  unmapped_may table v reply.Fault root h = (
+    h.0,
+    elim h.1 [
+      | inl none ↦ inl (ap holds_link (place_agree l (root_slot table v)
+          (record { node = root; index = root_index v (le-ltb 4095 v (leb-true v 4095 h.0)) })) ∙ none)
+      | inr none ↦ inr (none_may (Under (root_at table) v) (λ on. root) none)
+    ],
+  )
   unmapped_may table v _ root h = absurd h
 
   -- ---- causes
@@ -213,7 +212,8 @@ module _ {w : Region} {t s : State} {o : ℕ → Bool} {c : ℕ} (l : TwinsOn w 
   led_is : (n : ℕ) (want : Want) → Led s c n want (name_of (named s c n want))
   led_is n want = by_judged (named s c n want) refl
     where
-      by_judged : (j : Judged Capability) → named s c n want ≡ j → (name_of j).found ≡ true → named s c n want ≡ Found (capability (name_of j))
+      by_judged : (j : Judged Capability) → named s c n want ≡ j → (name_of j).found ≡ true → named s c n want
+          ≡ Found (capability (name_of j))
       by_judged (Refused r) is on = absurd (false≢true on)
       by_judged (Found k) is on = is
 

@@ -1,8 +1,8 @@
 -- Each call of core c may be refused alike in a state in which it finds the same, but for a refusal that tells of a frame outside.
-use Rattle.std.proofs.Common.{◌≡◌, ℕ, ◌+◌, ◌==◌, Bool, true, false, not, ◌&&◌, ◌||◌, refl, sym, ◌∙◌, ap, subst, nat_lt, nat_le, List, [], ◌∷◌, length}
+use Rattle.std.proofs.Common.{◌≡◌, ℕ, ◌==◌, Bool, true, false, not, ◌&&◌, refl, sym, ◌∙◌, ap, subst, nat_lt, nat_le, length}
 use Rattle.std.proofs.Common.{inl, inr, Option, Some, None, IsTrue}
 use Rattle.std.proofs.lemmas.Bool.{false≢true}
-use Rattle.world_laws.specs.spk_nums.specs.Capability.{Capability}
+use Rattle.world_laws.specs.spk_nums.specs.Merging.{merged}
 use Rattle.world_laws.specs.spk_nums.specs.declared.kinds.Kind.{Kind}
 use Rattle.world_laws.specs.spk_nums.specs.declared.kinds.Kind.TheVariants as kind
 use Rattle.world_laws.specs.spk_nums.specs.declared.kinds.FrameKind.{FrameKind}
@@ -17,23 +17,27 @@ use Rattle.world_laws.specs.spk_nums.specs.declared.calls.Call.TheVariants.{Ret,
 use Rattle.world_laws.specs.spk_nums.specs.declared.translations.Translation.{Translation}
 use Rattle.world_laws.specs.spk_nums.specs.declared.replies.Reply.{Reply}
 use Rattle.world_laws.specs.spk_nums.specs.declared.replies.Reply.TheVariants as reply
-use Rattle.world_laws.specs.kernel_rules.specs.State.{CompFields, ThreadFields, TcapFields, Object, Table, Leaf, Pages, Pleaf, Comp, Frame, Kernel, FrameOf, NumberOf, Liveness, Limits}
-use Rattle.world_laws.specs.kernel_rules.specs.State.{State, thread_in, comp_in, thread_of, comp_of, Core}
+use Rattle.world_laws.specs.kernel_rules.specs.State.{CompFields, ThreadFields, TcapFields, Object, Table, Leaf, Pages, Pleaf, Comp, Frame}
+use Rattle.world_laws.specs.kernel_rules.specs.State.{Kernel, FrameOf, NumberOf, Liveness, Limits}
+use Rattle.world_laws.specs.kernel_rules.specs.State.{State, thread_in, comp_in, tcap_in, thread_of, comp_of, Core}
 use Rattle.world_laws.specs.kernel_rules.specs.References.{refs}
-use Rattle.world_laws.specs.kernel_rules.specs.Access.{any, only, root, to_look, to_copy, to_part, to_use, Named, capability, found, Under}
-use Rattle.world_laws.specs.kernel_rules.specs.Rules.{Cause, When, Rule, OneMay, RuleMay, Found, named}
+use Rattle.world_laws.specs.kernel_rules.specs.Access.{only, root, to_use, Named, capability}
+use Rattle.world_laws.specs.kernel_rules.specs.Rules.{RuleMay}
 use Rattle.world_laws.specs.kernel_rules.specs.Life.{is_live_in}
-use Rattle.world_laws.specs.kernel_rules.specs.CapabilityCalls.{copy_rule, remove_rule, grow_rule, shrink_rule, part_rule, leaf_for, is_blank, make_node, make_thread}
+use Rattle.world_laws.specs.kernel_rules.specs.CapabilityCalls.{copy_rule, remove_rule, grow_rule, shrink_rule, part_rule, is_blank}
+use Rattle.world_laws.specs.kernel_rules.specs.CapabilityCalls.{make_node, make_thread}
 use Rattle.world_laws.specs.kernel_rules.specs.CapabilityCalls.{make_tcap, make_comp, make_rule, is_live, epoch_of}
-use Rattle.world_laws.specs.kernel_rules.specs.MemoryCalls.{is_untyped, is_user, is_empty, retype_rule, map_rule, unmap_rule, translation_of, touch_by, touch_rule}
-use Rattle.world_laws.specs.kernel_rules.specs.InvocationCalls.{gate_rule, kill_comp, kill_rule, call_rule, ret_rule, switch_to, switch_rule}
-use Rattle.world_laws.specs.kernel_rules.specs.TimeCalls.{tcap_at, are_alike, merged_list, transfer_rule, delegate_rule, test_rule}
+use Rattle.world_laws.specs.kernel_rules.specs.MemoryCalls.{is_untyped, is_user, is_empty, retype_rule, map_rule, unmap_rule}
+use Rattle.world_laws.specs.kernel_rules.specs.MemoryCalls.{translation_of, touch_by, touch_rule}
+use Rattle.world_laws.specs.kernel_rules.specs.InvocationCalls.{gate_rule, kill_rule, call_rule, ret_rule, switch_to, switch_rule}
+use Rattle.world_laws.specs.kernel_rules.specs.TimeCalls.{tcap_at, are_alike, transfer_rule, delegate_rule, test_rule}
 use Rattle.world_laws.specs.kernel_rules.specs.CallRelation.{rule_of}
 use Rattle.world_laws.specs.kernel_rules.specs.Fitting.{fits}
 use Rattle.world_laws.specs.kernel_invariant.proofs.Facts.{named_fit}
-use Rattle.same_changes.specs.Region.{Region, IsIn, NamesIn}
+use Rattle.same_changes.specs.Region.{Region, NamesIn}
 use Rattle.split_laws.specs.Split.{TellsOwn}
-use Rattle.same_changes.proofs.Reaching.{TwinsOn, is_some_kind, core_agree, thread_agree, comp_agree, comp_parts, pages_in, named_at, root_within}
+use Rattle.same_changes.proofs.Reaching.{TwinsOn, is_some_kind, core_agree, thread_agree, comp_agree, comp_parts, pages_in, named_at}
+use Rattle.same_changes.proofs.Reaching.{root_within}
 use Rattle.same_changes.proofs.MemoryRules.{empty_agree}
 use Rattle.split_laws.proofs.MayAlike.{Led, RuleAlike, may_alike}
 
@@ -65,7 +69,7 @@ module _ {w : Region} {t s : State} {o : ℕ → Bool} {c : ℕ} (l : TwinsOn w 
   led_root n k is on = root_within l n (capability k) (is on)
 
   tcap_same : (n : ℕ) (k : Named) → Led s c n (to_use (only kind.Tcap)) k → k.found ≡ true → tcap_at t k.frame ≡ tcap_at s k.frame
-  tcap_same n k is on = ap Rattle.world_laws.specs.kernel_rules.specs.State.tcap_in (l.agree.frame k.frame (led_frame n kind.Tcap k refl is on))
+  tcap_same n k is on = ap tcap_in (l.agree.frame k.frame (led_frame n kind.Tcap k refl is on))
 
   number_same : (n : ℕ) (j : Kind) (k : Named) → is_some_kind j ≡ true → ((x : Frame) → IsTrue (fits j x) → IsTrue (fits kind.Comp x))
       → Led s c n (to_use (only j)) k → k.found ≡ true
@@ -92,8 +96,20 @@ module _ {w : Region} {t s : State} {o : ℕ → Bool} {c : ℕ} (l : TwinsOn w 
       (refl, refl, λ k is. (refl, refl, λ table led. (refl, led_frame x kind.Table table refl led, λ at. λ none. none)))
 
   part_alike : (a f n x b : ℕ) → RuleAlike w s c r (part_rule t a f n x b) (part_rule s a f n x b)
-  part_alike a f n x b =
-      (refl, refl, λ k is. (refl, refl, λ table led. (refl, led_frame x kind.Table table refl led, λ at. ((λ on is. (on, refl)), λ none. none))))
+  part_alike a f n x b = (
+    refl,
+    refl,
+    λ k is. (
+      refl,
+      refl,
+      λ table led. (
+        refl,
+        led_frame x kind.Table table refl led,
+        λ at.
+            ((λ on is. (on, refl)), λ none. none),
+      ),
+    ),
+  )
 
   remove_alike : (x b : ℕ) → RuleAlike w s c r (remove_rule t x b) (remove_rule s x b)
   remove_alike x b = (refl, refl, λ table led. (refl, led_frame x kind.Table table refl led, λ at k. λ none. none))
@@ -197,7 +213,8 @@ module _ {w : Region} {t s : State} {o : ℕ → Bool} {c : ℕ} (l : TwinsOn w 
     )
 
   make_alike : (what : Make) (range f x b : ℕ) → NamesIn w (make_call what range f x b)
-      → TellsOwn w.frame true (make_call what range f x b) r → RuleAlike w s c r (make_rule t what range f x b) (make_rule s what range f x b)
+      → TellsOwn w.frame true (make_call what range f x b) r
+      → RuleAlike w s c r (make_rule t what range f x b) (make_rule s what range f x b)
   make_alike make.Table range f x b names tells = node_alike make.Table range f x b tells Table kind.Table
   make_alike make.Leaf range f x b names tells = node_alike make.Leaf range f x b tells Leaf kind.Leaf
   make_alike make.Pages range f x b names tells = node_alike make.Pages range f x b tells Pages kind.Pages
@@ -247,7 +264,10 @@ module _ {w : Region} {t s : State} {o : ℕ → Bool} {c : ℕ} (l : TwinsOn w 
     λ k is. (
       (λ on is. (on, refl)),
       (
-        (λ on is. (frame_test f (λ x. not (is_untyped x)) (subst (TellsOwn w.frame true (Retype range f frame_kind.User)) is tells) on, refl)),
+        (λ on is. (
+          frame_test f (λ x. not (is_untyped x)) (subst (TellsOwn w.frame true (Retype range f frame_kind.User)) is tells) on,
+          refl,
+        )),
         λ none. none,
       ),
     ),
@@ -258,7 +278,10 @@ module _ {w : Region} {t s : State} {o : ℕ → Bool} {c : ℕ} (l : TwinsOn w 
     λ k is. (
       (λ on is. (on, refl)),
       (
-        (λ on is. (frame_test f (λ x. not (is_untyped x)) (subst (TellsOwn w.frame true (Retype range f frame_kind.Kernel)) is tells) on, refl)),
+        (λ on is. (
+          frame_test f (λ x. not (is_untyped x)) (subst (TellsOwn w.frame true (Retype range f frame_kind.Kernel)) is tells) on,
+          refl,
+        )),
         λ none. none,
       ),
     ),
@@ -422,7 +445,7 @@ module _ {w : Region} {t s : State} {o : ℕ → Bool} {c : ℕ} (l : TwinsOn w 
           (λ on is. short_alike a m x one on),
           (
             (λ on is. (
-              both_alike a m x one b y two (λ p q. nat_lt 8 (length (Rattle.world_laws.specs.spk_nums.specs.Merging.merged p.qualities q.qualities))) on,
+              both_alike a m x one b y two (λ p q. nat_lt 8 (length (merged p.qualities q.qualities))) on,
               refl,
             )),
             λ none. none,
@@ -461,4 +484,5 @@ module _ {w : Region} {t s : State} {o : ℕ → Bool} {c : ℕ} (l : TwinsOn w 
 -- A refusal of core c's call by its rule comes of the same in both states.
 pub rule_may : {w : Region} {t s : State} {o : ℕ → Bool} {c : ℕ} → TwinsOn w t s o c → (call : Call) (r : Reply) → NamesIn w call
     → TellsOwn w.frame true call r → RuleMay s c (rule_of s c call) r → RuleMay t c (rule_of t c call) r
-rule_may {t = t} {s = s} {c = c} l call r names tells = may_alike l r (rule_of t c call) (rule_of s c call) (rule_alike l r call names tells)
+rule_may {t = t} {s = s} {c = c} l call r names tells = may_alike l r (rule_of t c call) (rule_of s c call)
+    (rule_alike l r call names tells)

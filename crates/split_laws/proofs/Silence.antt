@@ -1,5 +1,6 @@
 -- Where a world is split, the calls of the cores outside may be hushed: the history is still a run, and the world the same.
-use Rattle.std.proofs.Common.{◌≡◌, ◌≢◌, ◌⊎◌, inl, inr, ℕ, ◌+◌, ◌<◌, nat_le, Bool, true, false, refl, sym, ◌∙◌, ap, subst, arith, if◌then◌else◌, IsTrue, IsFalse, List, [], ◌∷◌, ◌++◌}
+use Rattle.std.proofs.Common.{◌≡◌, ◌⊎◌, inl, inr, ℕ, ◌+◌, ◌<◌, nat_le, Bool, true, false, refl, sym, ◌∙◌, ap, subst, arith, if◌then◌else◌}
+use Rattle.std.proofs.Common.{IsTrue, IsFalse, List, [], ◌∷◌, ◌++◌}
 use Rattle.std.proofs.lemmas.Bool.{cases_eq, false≢true}
 use Rattle.world_laws.specs.spk_nums.specs.Setting.{Setting, IsSetting}
 use Rattle.world_laws.specs.spk_nums.specs.declared.calls.Call.{Call}
@@ -7,20 +8,21 @@ use Rattle.world_laws.specs.spk_nums.specs.declared.calls.Call.TheVariants.{Flus
 use Rattle.world_laws.specs.spk_nums.specs.declared.replies.Value.{Value}
 use Rattle.world_laws.specs.spk_nums.specs.declared.replies.Reply.{Reply}
 use Rattle.world_laws.specs.spk_nums.specs.declared.replies.Reply.TheVariants as reply
-use Rattle.world_laws.specs.kernel_rules.specs.State.{put, Core, Limits, Thing, State}
+use Rattle.world_laws.specs.kernel_rules.specs.State.{put, Core, Limits, State}
 use Rattle.world_laws.specs.kernel_rules.specs.CallRelation.{flushes, are_calls_spent, state_by, MayReply}
 use Rattle.world_laws.specs.kernel_rules.specs.Laws.{calls_counted}
-use Rattle.world_laws.specs.kernel_rules.specs.Runs.{Event, Enters, Decides, Returns, after, Phase, Open, is_in, is_open, is_decided, phase_of, IsRun}
+use Rattle.world_laws.specs.kernel_rules.specs.Runs.{Event, Enters, Decides, Returns, after, Open, is_open, is_decided, phase_of, IsRun}
 use Rattle.world_laws.specs.kernel_rules.specs.Runs.{MayEnter, MayDecide}
 use Rattle.world_laws.specs.kernel_rules.proofs.AloneLaw.{decided_stays}
 use Rattle.world_laws.specs.kernel_invariant.proofs.Sound.{put_all}
 use Rattle.world_laws.specs.kernel_invariant.proofs.SoundCalls.{IsOpen}
 use Rattle.world_laws.specs.kernel_invariant.proofs.SoundRuns.{opened, open_is, limits_stay}
 use Rattle.seq_state.proofs.Same.{same_grace_by}
-use Rattle.same_changes.specs.Region.{Region, AgreeOn}
+use Rattle.same_changes.specs.Region.{AgreeOn}
 use Rattle.same_changes.proofs.Agreeing.{agree_by, agree_then}
 use Rattle.same_changes.proofs.Reaching.{TwinsOn}
-use Rattle.split_laws.specs.Split.{World, IsSplit, side, MakesOwn, KeepsNumbers, TellsOwn, TellsInside, hushed_reply, hushed, OthersAreSilent}
+use Rattle.split_laws.specs.Split.{World, IsSplit, side, MakesOwn, KeepsNumbers, TellsOwn, TellsInside, hushed_reply, hushed}
+use Rattle.split_laws.specs.Split.{OthersAreSilent}
 use Rattle.split_laws.proofs.Working.{WorksOn, works_on}
 use Rattle.split_laws.proofs.Splitting.{split_for_good, split_entered, split_returned}
 use Rattle.split_laws.proofs.Referring.{numbers_on, same_refs}
@@ -90,11 +92,14 @@ module _ (setting : Setting) (lim : IsSetting setting) (w : World) (cores : ℕ 
     enters : (c : ℕ) (call : Call) → MayEnter setting events c call → Silent (Enters c call ∷ events) (Enters c call ∷ other)
     enters c call may = record {
       run = (h.run, may);
-      quiet = (h.quiet, record {
-        is_core = may.is_core;
-        is_out = same_out (phase_of events c) (phase_of other c) (h.phase c) may.is_out;
-        in_limits = may.in_limits;
-      });
+      quiet = (
+        h.quiet,
+        record {
+          is_core = may.is_core;
+          is_out = same_out (phase_of events c) (phase_of other c) (h.phase c) may.is_out;
+          in_limits = may.in_limits;
+        },
+      );
       split = split_entered w s c h.split;
       still = split_entered w t c h.still;
       agree = entered_agree t s c h.agree;
@@ -141,7 +146,8 @@ module _ (setting : Setting) (lim : IsSetting setting) (w : World) (cores : ℕ 
 
       -- the decision in the one, and a decision in the other, with this reply
       decides : (q : Reply) → MakesOwn w (side w s c) call → MayReply t c call q → calls_counted q ≡ calls_counted r
-          → AgreeOn (region w cores) (state_by t c call q) (state_by s c call r) → Silent (Decides c call r ∷ events) (Decides c call q ∷ other)
+          → AgreeOn (region w cores) (state_by t c call q) (state_by s c call r)
+          → Silent (Decides c call r ∷ events) (Decides c call q ∷ other)
       decides q own reply_may count agree =
           let decided_too : IsRun setting (Decides c call q ∷ other) = (h.quiet, record { is_open = open_too; permitted = reply_may }) in
           record {
@@ -217,14 +223,16 @@ module _ (setting : Setting) (lim : IsSetting setting) (w : World) (cores : ℕ 
               → MayReply t c made (reply.Ok v) × AgreeOn (region w cores) (state_by t c made (reply.Ok v)) (state_by s c made (reply.Ok v))
           by_flush made v is same answer = subst (λ m. MayReply t c m (reply.Ok v)
               × AgreeOn (region w cores) (state_by t c m (reply.Ok v)) (state_by s c m (reply.Ok v))) (sym is)
-              (let p : MayReply s c Flush (reply.Ok v) = subst (λ m. MayReply s c m (reply.Ok v)) (same ∙ is) (subst (MayReply s c call) answer may.permitted) in
+              (let p : MayReply s c Flush (reply.Ok v) = subst (λ m. MayReply s c m (reply.Ok v)) (same ∙ is)
+              (subst (MayReply s c call) answer may.permitted) in
               ((spent_same c ∙ p.0, (refl, p.1.1)), flush_agree t s c v h.agree))
 
           by_hush : Hushes call r → Silent (Decides c call r ∷ events) (Decides c call (hushed_reply call r) ∷ other)
           by_hush (inl (is, (v, answer))) =
               let both = by_flush call v is refl answer in
               let same : hushed_reply call r ≡ reply.Ok v = (λ i. hushed_reply (is i) (answer i)) in
-              decides (hushed_reply call r) owns (subst (MayReply t c call) (sym same) both.0) (ap calls_counted same ∙ ap calls_counted (sym answer))
+              decides (hushed_reply call r) owns (subst (MayReply t c call) (sym same) both.0)
+              (ap calls_counted same ∙ ap calls_counted (sym answer))
               (subst (λ q. AgreeOn (region w cores) (state_by t c call (hushed_reply call r)) (state_by s c call q)) (sym answer)
               (subst (λ q. AgreeOn (region w cores) (state_by t c call q) (state_by s c call (reply.Ok v))) (sym same) both.1))
           by_hush (inr (inl spent)) =
@@ -251,7 +259,8 @@ module _ (setting : Setting) (lim : IsSetting setting) (before : List Event) (w 
   abbrev cores : ℕ → Bool
   cores c = w.frame ((after setting before).core c).thread
 
-  all_silent : (later : List Event) → IsRun setting (later ++ before) → KeepsNumbers w setting later before → TellsInside w setting later before
+  all_silent : (later : List Event) → IsRun setting (later ++ before) → KeepsNumbers w setting later before
+      → TellsInside w setting later before
       → Silent setting lim w cores (later ++ before) (hushed w setting later before ++ before)
   all_silent [] run own tells = record {
     run = run;
@@ -269,13 +278,15 @@ module _ (setting : Setting) (lim : IsSetting setting) (before : List Event) (w 
   all_silent (Returns c ∷ later) run own tells =
       returns setting lim w cores (later ++ before) (hushed w setting later before ++ before) (all_silent later run.0 own tells) c run.1
   all_silent (Decides c call r ∷ later) run own tells =
-      decides_either setting lim w cores (later ++ before) (hushed w setting later before ++ before) (all_silent later run.0 own.0 tells.0) c call r
+      decides_either setting lim w cores (later ++ before) (hushed w setting later before ++ before)
+      (all_silent later run.0 own.0 tells.0) c call r
       run.1 (side w (after setting (later ++ before)) c) refl own.1 tells.1
 
 pub others_are_silent : OthersAreSilent
 others_are_silent setting lim before later run w split own tells =
     let h = all_silent setting lim before w split later run own tells in (
       h.quiet,
-      agree_in w (cores setting lim before w split) (after setting (later ++ before)) (after setting (hushed w setting later before ++ before))
+      agree_in w (cores setting lim before w split) (after setting (later ++ before))
+          (after setting (hushed w setting later before ++ before))
           (agree_back _ _ h.agree) h.thread h.threads,
     )
