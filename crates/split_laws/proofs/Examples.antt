@@ -1,5 +1,5 @@
 -- Worked examples, which the checker computes: states in which the world of frame 5 and number 1 is not split, and one in which a world is.
-use Rattle.std.proofs.Common.{◌≡◌, ℕ, ◌<◌, arith, Bool, true, false, ◌==◌, nat_lt, refl, sym, ◌∙◌, ap, subst, [], ◌∷◌, Some, None}
+use Rattle.std.proofs.Common.{◌≡◌, ℕ, arith, true, false, ◌==◌, nat_lt, refl, sym, ◌∙◌, ap, subst, [], ◌∷◌, Some, None}
 use Rattle.std.proofs.lemmas.Bool.{true≢false}
 use Rattle.std.specs.List.{AllByRecursion}
 use Rattle.world_laws.specs.spk_nums.specs.Capability.{Capability, cap_of}
@@ -7,7 +7,7 @@ use Rattle.world_laws.specs.spk_nums.specs.Rights.{neither}
 use Rattle.world_laws.specs.spk_nums.specs.declared.kinds.Kind.{Kind}
 use Rattle.world_laws.specs.spk_nums.specs.declared.kinds.Kind.TheVariants as kind
 use Rattle.world_laws.specs.spk_nums.specs.declared.translations.Translation.{Translation}
-use Rattle.world_laws.specs.kernel_rules.specs.State.{Free, Holds, Quiescing, CompFields, ThreadFields, Comp, Thread, Frame, Untyped, Kernel}
+use Rattle.world_laws.specs.kernel_rules.specs.State.{Free, Holds, Quiescing, CompFields, ThreadFields, Comp, Thread, Untyped, Kernel}
 use Rattle.world_laws.specs.kernel_rules.specs.State.{Unused, Core, State, with_place, with_frame, with_core, with_grace}
 use Rattle.world_laws.specs.kernel_rules.specs.Start.{plain_cap, no_grace}
 use Rattle.world_laws.specs.kernel_rules.specs.Access.{only, usable_in}

@@ -1,14 +1,12 @@
 -- Where a world is split, what is outside has no reference to a frame of it.
-use Rattle.std.proofs.Common.{◌≡◌, ℕ, zero, suc, ◌+◌, ◌<◌, arith, Bool, true, false, cond, ◌==◌, refl, sym, ◌∙◌, ap, subst}
-use Rattle.std.proofs.Common.{List, [], ◌∷◌}
+use Rattle.std.proofs.Common.{◌≡◌, ℕ, zero, suc, ◌+◌, ◌<◌, arith, Bool, true, false, cond, ◌==◌, refl, sym, ◌∙◌, ap, subst, List, [], ◌∷◌}
 use Rattle.std.proofs.lemmas.Bool.{false≢true, ne_eqb}
 use Rattle.std.specs.List.{AllByRecursion}
 use Rattle.world_laws.specs.spk_nums.specs.Setting.{Setting, IsSetting}
-use Rattle.world_laws.specs.spk_nums.specs.Capability.{Capability}
 use Rattle.world_laws.specs.spk_nums.specs.declared.kinds.Kind.{Kind}
 use Rattle.world_laws.specs.spk_nums.specs.declared.kinds.Kind.TheVariants as kind
-use Rattle.world_laws.specs.kernel_rules.specs.State.{Place, Free, Holds, Quiescing, Comp, Thread, Frame, Kernel, Liveness, Unused}
-use Rattle.world_laws.specs.kernel_rules.specs.State.{Live, Dead, PlaceOf, Limits, State, comp_in}
+use Rattle.world_laws.specs.kernel_rules.specs.State.{Place, Free, Holds, Quiescing, Comp, Thread, Frame, Kernel, Liveness, Unused, Live}
+use Rattle.world_laws.specs.kernel_rules.specs.State.{Dead, PlaceOf, Limits, State, comp_in}
 use Rattle.world_laws.specs.kernel_rules.specs.References.{named_by, place_names, frame_names, number_names, core_names, sum_below, times}
 use Rattle.world_laws.specs.kernel_rules.specs.References.{node_refs, refs}
 use Rattle.world_laws.specs.kernel_rules.specs.Access.{usable_in}
@@ -96,7 +94,8 @@ module _ (w : World) (s : State) (split : IsSplit w s) (numbers : NumbersOn w s)
       let b = sum_same (λ g. counted_if (w.frame g) (times f (frame_names (s.frame g)))) (λ g. times f (frame_names (s.frame g))) n
       (λ g below. inside_all (w.frame g) (times f (frame_names (s.frame g))) (frame_none g)) in
       let c = sum_same (λ c. counted_if (w.frame (s.core c).thread) (times f (core_names (s.core c))))
-      (λ c. times f (core_names (s.core c))) s.limits.cores (λ c below. inside_all (w.frame (s.core c).thread) (times f (core_names (s.core c))) (core_none c below)) in
+      (λ c. times f (core_names (s.core c))) s.limits.cores
+      (λ c below. inside_all (w.frame (s.core c).thread) (times f (core_names (s.core c))) (core_none c below)) in
       let d = sum_same (λ l. counted_if (w.number l) (times f (number_names (s.number l)))) (λ l. times f (number_names (s.number l))) 64
       (λ l below. inside_all (w.number l) (times f (number_names (s.number l))) (number_none l)) in
       omega (arith, a, b, c, d)

@@ -1,7 +1,6 @@
 -- Frames and cores, each on one side with all that it names: a call that is carried out keeps them so.
-use Rattle.std.proofs.Common.{◌≡◌, ℕ, ◌+◌, ◌-◌, ◌<◌, Bool, refl, sym, ◌∙◌, ap, subst, nat_lt, length, if◌then◌else◌, IsTrue}
-use Rattle.std.proofs.Common.{List, [], ◌∷◌, ◌++◌, drop, Option, Some, None}
-use Rattle.std.proofs.Common.{true, false}
+use Rattle.std.proofs.Common.{◌≡◌, ℕ, ◌+◌, ◌<◌, Bool, refl, sym, ◌∙◌, ap, subst, nat_lt, length, if◌then◌else◌, List, [], ◌∷◌, ◌++◌, drop}
+use Rattle.std.proofs.Common.{Option, Some, None, true, false}
 use Rattle.std.specs.List.{AllByRecursion}
 use Rattle.world_laws.specs.spk_nums.specs.Capability.{Capability}
 use Rattle.world_laws.specs.spk_nums.specs.declared.kinds.Kind.TheVariants as kind
@@ -14,10 +13,10 @@ use Rattle.world_laws.specs.spk_nums.specs.declared.calls.Call.TheVariants as ca
 use Rattle.world_laws.specs.spk_nums.specs.declared.translations.Translation.{Translation}
 use Rattle.world_laws.specs.kernel_rules.specs.State.{CompFields, ThreadFields, TcapFields, Table, Leaf, Pages, Pleaf, Comp, Thread, Tcap}
 use Rattle.world_laws.specs.kernel_rules.specs.State.{Blank, Frame, Untyped, User, Kernel, Core, State, put, comp_of, thread_in, thread_of}
-use Rattle.world_laws.specs.kernel_rules.specs.Access.{Named, found, only, to_use}
-use Rattle.world_laws.specs.kernel_rules.specs.Rules.{Change, Found, named}
+use Rattle.world_laws.specs.kernel_rules.specs.Access.{found}
+use Rattle.world_laws.specs.kernel_rules.specs.Rules.{Change}
 use Rattle.world_laws.specs.kernel_rules.specs.CapabilityCalls.{not_blank, not_taken, epoch_of, make_rule}
-use Rattle.world_laws.specs.kernel_rules.specs.MemoryCalls.{caching, not_retyped, retype_rule, touch_by, translation_of}
+use Rattle.world_laws.specs.kernel_rules.specs.MemoryCalls.{caching, retype_rule, touch_by, translation_of}
 use Rattle.world_laws.specs.kernel_rules.specs.InvocationCalls.{with_thread, running, switches, switch_to}
 use Rattle.world_laws.specs.kernel_rules.specs.TimeCalls.{with_tcap}
 use Rattle.world_laws.specs.kernel_rules.specs.CallRelation.{rule_of}
@@ -26,7 +25,7 @@ use Rattle.world_laws.specs.kernel_invariant.proofs.SoundCalls.{IsOpen}
 use Rattle.world_laws.specs.kernel_invariant.proofs.Facts.{ChangesFrom}
 use Rattle.world_laws.specs.kernel_laws.proofs.NodeSteps.{IsFitted}
 use Rattle.world_laws.specs.kernel_laws.proofs.NodesLaw.{mapped_page}
-use Rattle.split_laws.specs.Split.{World, IsSplit, MakesOwn}
+use Rattle.split_laws.specs.Split.{World, MakesOwn}
 use Rattle.split_laws.proofs.Working.{WorksOn, named_frame, range_frame, mapped_on}
 
 -- A frame's object is on the frame's side, with all that it names.

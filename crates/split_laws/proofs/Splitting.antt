@@ -1,6 +1,5 @@
 -- What is split stays split.
 use Rattle.std.proofs.Common.{◌≡◌, inl, inr, ℕ, Bool, refl, sym, ◌∙◌, ap, subst, [], ◌∷◌, ◌++◌, Some}
-use Rattle.world_laws.specs.spk_nums.specs.Setting.{Setting, IsSetting}
 use Rattle.world_laws.specs.spk_nums.specs.Capability.{Capability}
 use Rattle.world_laws.specs.spk_nums.specs.declared.calls.Call.{Call}
 use Rattle.world_laws.specs.spk_nums.specs.declared.calls.Call.TheVariants.{Tick}
@@ -12,7 +11,7 @@ use Rattle.world_laws.specs.kernel_rules.specs.Access.{usable}
 use Rattle.world_laws.specs.kernel_rules.specs.GracePeriods.{entered, returned}
 use Rattle.world_laws.specs.kernel_rules.specs.Rules.{Change, Judged, Refused, Found, IsFoundAnd}
 use Rattle.world_laws.specs.kernel_rules.specs.CallRelation.{rule_of, change_of, changed, counted, owed_by, state_by, MayReply}
-use Rattle.world_laws.specs.kernel_rules.specs.Runs.{Event, Enters, Decides, Returns, after, is_open, IsRun}
+use Rattle.world_laws.specs.kernel_rules.specs.Runs.{Enters, Decides, Returns, after, is_open}
 use Rattle.world_laws.specs.kernel_rules.proofs.Changes.{IfFound}
 use Rattle.world_laws.specs.kernel_rules.proofs.AloneLaw.{decided_stays}
 use Rattle.world_laws.specs.kernel_invariant.proofs.Facts.{outcome_from}
@@ -23,7 +22,7 @@ use Rattle.world_laws.specs.kernel_laws.proofs.NodesLaw.{runs_fit}
 use Rattle.world_laws.specs.Worlds.{LeadsTo}
 use Rattle.world_laws.proofs.Puts.{usable_from}
 use Rattle.world_laws.proofs.Links.{returned_uses}
-use Rattle.split_laws.specs.Split.{World, IsSplit, side, MakesOwn, KeepsNumbers, SplitForGood}
+use Rattle.split_laws.specs.Split.{World, IsSplit, side, MakesOwn, SplitForGood}
 use Rattle.split_laws.proofs.Working.{WorksOn, works_on, node_on, put_on}
 use Rattle.split_laws.proofs.Sides.{FrameOn, Sides, core_same, Next, rule_sides}
 

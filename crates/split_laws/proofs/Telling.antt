@@ -13,7 +13,7 @@ use Rattle.world_laws.specs.kernel_rules.specs.Rules.{Judged, Refused, Found, na
 use Rattle.world_laws.specs.kernel_rules.specs.Runs.{Event, Decides, after, is_open, IsRun}
 use Rattle.world_laws.specs.kernel_invariant.proofs.SoundCalls.{IsOpen}
 use Rattle.world_laws.specs.kernel_invariant.proofs.SoundRuns.{opened, open_is}
-use Rattle.world_laws.specs.kernel_laws.specs.Causes.{IsRunning, leads_as}
+use Rattle.world_laws.specs.kernel_laws.specs.Causes.{IsRunning}
 use Rattle.world_laws.specs.kernel_laws.proofs.Causes.{causes_stand, leads_is}
 use Rattle.world_laws.specs.authority_laws.specs.state_laws.proofs.Threads.{threads_run}
 use Rattle.split_laws.specs.Split.{World, IsSplit, side, RepliesTell}

@@ -39,7 +39,8 @@ cached_on w pages v (y ∷ ys) x all e =
     by false is q rest = rest q
 
 module _ (setting : Setting) (lim : IsSetting setting) (events : List Event) (c v f : ℕ) (flags : PageFlags)
-    (run : IsRun setting (Decides c (Touch v) (reply.Ok (Page f flags)) ∷ events)) (w : World) (split : IsSplit w (after setting events)) where
+    (run : IsRun setting (Decides c (Touch v) (reply.Ok (Page f flags)) ∷ events)) (w : World)
+    (split : IsSplit w (after setting events)) where
   abbrev s : State
   s = after setting events
 

@@ -1,6 +1,6 @@
 -- What a core names where a world is split is on the core's side.
-use Rattle.std.proofs.Common.{◌≡◌, ◌⊎◌, inl, inr, ℕ, ◌<◌, Bool, true, false, not, refl, sym, ◌∙◌, ap, subst, if◌then◌else◌, IsTrue}
-use Rattle.std.proofs.Common.{List, [], ◌∷◌, Option, Some, None}
+use Rattle.std.proofs.Common.{◌≡◌, ◌⊎◌, inl, inr, ℕ, ◌<◌, Bool, true, false, not, refl, sym, ◌∙◌, ap, subst, if◌then◌else◌, IsTrue, List}
+use Rattle.std.proofs.Common.{[], ◌∷◌, Option, Some, None}
 use Rattle.std.proofs.lemmas.Bool.{false≢true, true≢false}
 use Rattle.std.specs.List.{AllByRecursion}
 use Rattle.world_laws.specs.spk_nums.specs.Capability.{Capability}
@@ -9,8 +9,8 @@ use Rattle.world_laws.specs.spk_nums.specs.declared.kinds.Kind.{Kind}
 use Rattle.world_laws.specs.spk_nums.specs.declared.kinds.Kind.TheVariants as kind
 use Rattle.world_laws.specs.spk_nums.specs.declared.calls.Call.{Call}
 use Rattle.world_laws.specs.spk_nums.specs.declared.replies.Reply.TheVariants as reply
-use Rattle.world_laws.specs.kernel_rules.specs.State.{Place, Free, Holds, Quiescing, ThreadFields, Comp, Thread, Frame, Kernel, PlaceOf}
-use Rattle.world_laws.specs.kernel_rules.specs.State.{State, comp_in, comp_of, thread_in, first_of_stack}
+use Rattle.world_laws.specs.kernel_rules.specs.State.{Place, Holds, ThreadFields, Comp, Thread, Frame, Kernel, PlaceOf, State, comp_in}
+use Rattle.world_laws.specs.kernel_rules.specs.State.{comp_of, thread_in, first_of_stack}
 use Rattle.world_laws.specs.kernel_rules.specs.Start.{plain_cap}
 use Rattle.world_laws.specs.kernel_rules.specs.Access.{Slot, Want, Under, only, to_use, linked, usable_in, usable, held_in, place_at}
 use Rattle.world_laws.specs.kernel_rules.specs.Access.{reached, root_at, own, found}
