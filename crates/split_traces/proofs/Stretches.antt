@@ -9,10 +9,10 @@ use Rattle.kernel_history.specs.Trace.{Trace, Phase, Out, Open, Decided, phase, 
 use Rattle.kernel_history.specs.Events.{with_entry, with_decision, with_return, events_of}
 use Rattle.kernel_history.specs.Legal.{IsLegal}
 use Rattle.kernel_history.proofs.Events.{state_is, run_of}
-use Rattle.split_laws.specs.Split.{World, IsSplit, AgreeIn}
+use Rattle.split_laws.specs.Split.{IsSplit, AgreeIn}
 use Rattle.split_laws.proofs.Splitting.{split_for_good}
 use Rattle.split_laws.proofs.Silence.{others_are_silent}
-use Rattle.split_traces.specs.Traces.{events_since, TakesOwnNumbers, StretchesStaySplit, hushed_since, StretchesAreSilent}
+use Rattle.split_traces.specs.Traces.{events_since, StretchesStaySplit, hushed_since, StretchesAreSilent}
 
 -- ---- the events of a longer trace are those since a shorter one, and the shorter one's
 
@@ -56,7 +56,7 @@ stretches_stay_split setup lim u t legal w split own =
     (split_for_good setup lim (events_of t) (events_since u t) (run_since setup u t legal) w (subst (IsSplit w) (state_is setup t) split) own)
 
 pub stretches_are_silent : StretchesAreSilent
-stretches_are_silent setup lim u t legal w split own =
+stretches_are_silent setup lim u t legal w split own tells =
     let silent = others_are_silent setup lim (events_of t) (events_since u t) (run_since setup u t legal) w
-    (subst (IsSplit w) (state_is setup t) split) own in
+    (subst (IsSplit w) (state_is setup t) split) own tells in
     (silent.0, subst (λ s. AgreeIn w s (after setup (hushed_since w setup u t))) (sym (state_since setup u t)) silent.1)
