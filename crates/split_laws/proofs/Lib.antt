@@ -13,3 +13,4 @@ pub mod Apart
 pub mod Cores
 pub mod Inside
 pub mod Silence
+pub mod InOrder

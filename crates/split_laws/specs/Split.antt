@@ -15,7 +15,8 @@ use Rattle.world_laws.specs.kernel_rules.specs.State.{CompFields, ThreadFields, 
 use Rattle.world_laws.specs.kernel_rules.specs.State.{State}
 use Rattle.world_laws.specs.kernel_rules.specs.References.{frame_names, number_names, core_names, sum_below, times, node_refs, refs}
 use Rattle.world_laws.specs.kernel_rules.specs.Access.{usable}
-use Rattle.world_laws.specs.kernel_rules.specs.Runs.{Event, Enters, Decides, Returns, after, IsRun}
+use Rattle.world_laws.specs.kernel_rules.specs.Alone.{alone}
+use Rattle.world_laws.specs.kernel_rules.specs.Runs.{Event, Enters, Decides, Returns, Open, after, phase_of, IsRun}
 use Rattle.seq_state.specs.Representation.{HasIndex, SameGrace}
 use Rattle.world_laws.specs.Worlds.{LeadsTo, works_in}
 use Rattle.world_laws.specs.Time.{counted_if}
@@ -114,6 +115,14 @@ TellsInside w setting (Enters c call ∷ later) before = TellsInside w setting l
 TellsInside w setting (Decides c call r ∷ later) before =
     TellsInside w setting later before × (side w (after setting (later ++ before)) c ≡ true → TellsOwn w.frame true call r)
 TellsInside w setting (Returns c ∷ later) before = TellsInside w setting later before
+
+-- The first reply in order is so: in every state that a run reaches and in which a world is split, a call that is answered with it is refused
+-- so only for a frame of its core's side.
+abbrev pub FirstTellsOwn : Type 0
+FirstTellsOwn = (setting : Setting) → IsSetting setting → (events : List Event) → IsRun setting events
+    → (c : ℕ) (call : Call) → phase_of events c ≡ Open call
+    → (w : World) → IsSplit w (after setting events)
+    → TellsOwn w.frame (side w (after setting events) c) call (alone (after setting events) c call)
 
 -- In every run from where a world is split, hush the calls of all cores outside: it is a run, with the same decisions inside, and leaves
 -- the world the same.

@@ -9,7 +9,7 @@
 //! See docs/WORLDS.md.
 #![tactic(auto)]
 
-ghost use Rattle.split_laws.specs.Split.{SplitForGood, OthersAreSilent, RefersInside, RepliesTell, TouchesOwn};
+ghost use Rattle.split_laws.specs.Split.{SplitForGood, OthersAreSilent, FirstTellsOwn, RefersInside, RepliesTell, TouchesOwn};
 
 /// In every run, a world that is split stays so, whatever any core does, where each component that is made takes a number of its core's
 /// side.
@@ -24,6 +24,13 @@ pub fn split_for_good()
 #[tactic(auto, using(crate::proofs::Silence::others_are_silent))]
 pub fn others_are_silent()
     ensures { OthersAreSilent }
+{}
+
+/// In every state that a run reaches and in which a world is split, the first reply in order to an open call refuses it for the frame that it
+/// names by its number only where that is of its core's side.
+#[tactic(auto, using(crate::proofs::InOrder::first_tells_own))]
+pub fn first_tells_own()
+    ensures { FirstTellsOwn }
 {}
 
 /// In every state that a run reaches and in which a world is split, all references to a frame of the world are from the world.
