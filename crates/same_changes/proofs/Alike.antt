@@ -74,12 +74,7 @@ module _ {r : Region} {t s : State} {o : ℕ → Bool} {c : ℕ} (w : TwinsOn r 
       by_test false true e same = absurd (cc)
   refusal_same (WaitedFor x) (WaitedFor y) h = ap (refusal_of t c) (ap WaitedFor h.0) ∙ waits_agree w y h.1
   refusal_same (Unflushed x) (Unflushed y) h = ap (refusal_of t c) (ap Unflushed h.0) ∙ flushes_agree w y h.1
-  refusal_same (When b p) (WaitedFor y) h = absurd h
-  refusal_same (When b p) (Unflushed y) h = absurd h
-  refusal_same (WaitedFor x) (When b p) h = absurd h
-  refusal_same (WaitedFor x) (Unflushed y) h = absurd h
-  refusal_same (Unflushed x) (When b p) h = absurd h
-  refusal_same (Unflushed x) (WaitedFor y) h = absurd h
+  refusal_same x y h = absurd h
 
   causes_same : (xs ys : List Cause) → SameCauses r s c xs ys → first_cause t c xs ≡ first_cause s c ys
   causes_same [] [] h = refl
@@ -105,26 +100,7 @@ module _ {r : Region} {t s : State} {o : ℕ → Bool} {c : ℕ} (w : TwinsOn r 
       then_alike r (mapped t c a v) (mapped s c b u) _ _ ((λ i. mapped t c (h.0 i) (h.1 i)) ∙ mapped_agree w b u h.2)
       (λ k is. outcome_same (rest k) (other k) (h.3 k is))
   outcome_same (Does xs a) (Does ys b) h = unless_alike r (first_cause t c xs) (first_cause s c ys) a b (causes_same xs ys h.0) h.1
-  outcome_same (Name n p rest) (Vacant y other) h = absurd h
-  outcome_same (Name n p rest) (Held y other) h = absurd h
-  outcome_same (Name n p rest) (Mapped b u other) h = absurd h
-  outcome_same (Name n p rest) (Does ys b) h = absurd h
-  outcome_same (Vacant x rest) (Name m q other) h = absurd h
-  outcome_same (Vacant x rest) (Held y other) h = absurd h
-  outcome_same (Vacant x rest) (Mapped b u other) h = absurd h
-  outcome_same (Vacant x rest) (Does ys b) h = absurd h
-  outcome_same (Held x rest) (Name m q other) h = absurd h
-  outcome_same (Held x rest) (Vacant y other) h = absurd h
-  outcome_same (Held x rest) (Mapped b u other) h = absurd h
-  outcome_same (Held x rest) (Does ys b) h = absurd h
-  outcome_same (Mapped a v rest) (Name m q other) h = absurd h
-  outcome_same (Mapped a v rest) (Vacant y other) h = absurd h
-  outcome_same (Mapped a v rest) (Held y other) h = absurd h
-  outcome_same (Mapped a v rest) (Does ys b) h = absurd h
-  outcome_same (Does xs a) (Name m q other) h = absurd h
-  outcome_same (Does xs a) (Vacant y other) h = absurd h
-  outcome_same (Does xs a) (Held y other) h = absurd h
-  outcome_same (Does xs a) (Mapped b u other) h = absurd h
+  outcome_same x y h = absurd h
 
 -- ---- the whole machine
 

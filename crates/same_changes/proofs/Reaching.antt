@@ -49,16 +49,7 @@ is_some_kind _ = true
 
 fit_typed : (j : Kind) → is_some_kind j ≡ true → IsTrue (fits j Untyped) → ⊥
 fit_typed kind.Range some fit = false≢true some
-fit_typed kind.Table some fit = false≢true fit
-fit_typed kind.Leaf some fit = false≢true fit
-fit_typed kind.Pages some fit = false≢true fit
-fit_typed kind.Pleaf some fit = false≢true fit
-fit_typed kind.Comp some fit = false≢true fit
-fit_typed kind.Gate some fit = false≢true fit
-fit_typed kind.Thread some fit = false≢true fit
-fit_typed kind.Tcap some fit = false≢true fit
-fit_typed kind.Link some fit = false≢true fit
-fit_typed kind.Page some fit = false≢true fit
+fit_typed _ some fit = false≢true fit
 
 pub fit_below : (s : State) (o : ℕ → Bool) (j : Kind) (f : ℕ) → IsSound s o → is_some_kind j ≡ true → IsTrue (fits j (s.frame f))
     → f < s.limits.frames
@@ -126,16 +117,7 @@ RootIn r (InRoot table i) = r.frame table.frame ≡ true
 -- What leads into a region, and is no range, names a frame of it.
 pub leads_at : (r : Region) (j : Kind) (k : Capability) → is_some_kind j ≡ true → LeadsIn r j k → r.frame k.frame ≡ true
 leads_at r kind.Range k some leads = absurd (false≢true some)
-leads_at r kind.Table k some leads = leads
-leads_at r kind.Leaf k some leads = leads
-leads_at r kind.Pages k some leads = leads
-leads_at r kind.Pleaf k some leads = leads
-leads_at r kind.Comp k some leads = leads
-leads_at r kind.Gate k some leads = leads
-leads_at r kind.Thread k some leads = leads
-leads_at r kind.Tcap k some leads = leads
-leads_at r kind.Link k some leads = leads
-leads_at r kind.Page k some leads = leads
+leads_at r j k some leads = leads
 
 root_some : (j : Kind) → IsTrue (root j) → is_some_kind j ≡ true
 root_some kind.Range h = absurd (false≢true h)
@@ -412,16 +394,7 @@ leads_whole : (s : State) (o : ℕ → Bool) (j : Kind) (k : Capability) → IsS
 leads_whole s o kind.Range k h fit ends = λ f has.
     let less : f < k.frame + k.arg = ltb-true f (k.frame + k.arg) (number_part (nat_le k.frame f) (nat_lt f (k.frame + k.arg)) has) in
     lt-ltb f s.limits.frames (omega (arith, ends, less))
-leads_whole s o kind.Table k h fit ends = lt-ltb k.frame s.limits.frames (fit_below s o kind.Table k.frame h refl fit)
-leads_whole s o kind.Leaf k h fit ends = lt-ltb k.frame s.limits.frames (fit_below s o kind.Leaf k.frame h refl fit)
-leads_whole s o kind.Pages k h fit ends = lt-ltb k.frame s.limits.frames (fit_below s o kind.Pages k.frame h refl fit)
-leads_whole s o kind.Pleaf k h fit ends = lt-ltb k.frame s.limits.frames (fit_below s o kind.Pleaf k.frame h refl fit)
-leads_whole s o kind.Comp k h fit ends = lt-ltb k.frame s.limits.frames (fit_below s o kind.Comp k.frame h refl fit)
-leads_whole s o kind.Gate k h fit ends = lt-ltb k.frame s.limits.frames (fit_below s o kind.Gate k.frame h refl fit)
-leads_whole s o kind.Thread k h fit ends = lt-ltb k.frame s.limits.frames (fit_below s o kind.Thread k.frame h refl fit)
-leads_whole s o kind.Tcap k h fit ends = lt-ltb k.frame s.limits.frames (fit_below s o kind.Tcap k.frame h refl fit)
-leads_whole s o kind.Link k h fit ends = lt-ltb k.frame s.limits.frames (fit_below s o kind.Link k.frame h refl fit)
-leads_whole s o kind.Page k h fit ends = lt-ltb k.frame s.limits.frames (fit_below s o kind.Page k.frame h refl fit)
+leads_whole s o j k h fit ends = lt-ltb k.frame s.limits.frames (fit_below s o j k.frame h refl fit)
 
 -- A core with an open call reaches nothing outside the machine.
 module _ (s : State) (o : ℕ → Bool) (h : IsSound s o) (ranges : InRanges s) where
