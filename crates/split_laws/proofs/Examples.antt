@@ -1,16 +1,21 @@
 -- Worked examples, which the checker computes: states in which the world of frame 5 and number 1 is not split, and one in which a world is.
-use Rattle.std.proofs.Common.{◌≡◌, ℕ, arith, true, false, ◌==◌, nat_lt, refl, sym, ◌∙◌, ap, subst, [], ◌∷◌, Some, None}
+use Rattle.std.proofs.Common.{◌≡◌, inl, inr, ℕ, arith, false, ◌==◌, nat_lt, refl, sym, ◌∙◌, ap, subst, [], ◌∷◌, Some, None}
 use Rattle.std.proofs.lemmas.Bool.{true≢false}
 use Rattle.std.specs.List.{AllByRecursion}
 use Rattle.world_laws.specs.spk_nums.specs.Capability.{Capability, cap_of}
 use Rattle.world_laws.specs.spk_nums.specs.Rights.{neither}
 use Rattle.world_laws.specs.spk_nums.specs.declared.kinds.Kind.{Kind}
 use Rattle.world_laws.specs.spk_nums.specs.declared.kinds.Kind.TheVariants as kind
+use Rattle.world_laws.specs.spk_nums.specs.declared.kinds.FrameKind.TheVariants as frame_kind
+use Rattle.world_laws.specs.spk_nums.specs.declared.calls.Call.TheVariants.{Retype}
+use Rattle.world_laws.specs.spk_nums.specs.declared.replies.Reply.TheVariants as reply
 use Rattle.world_laws.specs.spk_nums.specs.declared.translations.Translation.{Translation}
-use Rattle.world_laws.specs.kernel_rules.specs.State.{Free, Holds, Quiescing, CompFields, ThreadFields, Comp, Thread, Untyped, Kernel}
+use Rattle.world_laws.specs.kernel_rules.specs.State.{Free, Holds, Quiescing, CompFields, ThreadFields, Comp, Thread, Untyped, User, Kernel}
 use Rattle.world_laws.specs.kernel_rules.specs.State.{Unused, Core, State, with_place, with_frame, with_core, with_grace}
 use Rattle.world_laws.specs.kernel_rules.specs.Start.{plain_cap, no_grace}
 use Rattle.world_laws.specs.kernel_rules.specs.Access.{only, usable_in}
+use Rattle.world_laws.specs.kernel_rules.specs.Rules.{RuleMay}
+use Rattle.world_laws.specs.kernel_rules.specs.CallRelation.{rule_of}
 use Rattle.world_laws.specs.kernel_invariant.proofs.Sound.{put_all}
 use Rattle.world_laws.specs.kernel_invariant.proofs.SoundSteps.{place_all}
 use Rattle.world_laws.specs.kernel_invariant.proofs.Facts.{none_some, some_inj}
@@ -144,3 +149,17 @@ halves_split = record {
   cores = λ c below. refl;
   cached = λ c below. tt;
 }
+
+-- Core 0 works outside the world, and names a frame of it, 8, by its number. It may be refused for what that frame is, though no range of its
+-- own has it: so it is told of the world, where the refusal tells of no frame of its own side.
+abbrev typed : State
+typed = with_frame halves 8 User
+
+frame_told : RuleMay typed 0 (rule_of typed 0 (Retype 0 8 frame_kind.Kernel)) reply.FrameKind
+frame_told = inr (inr (inl (refl, refl)))
+
+none_told : RuleMay halves 0 (rule_of halves 0 (Retype 0 8 frame_kind.Kernel)) reply.FrameKind → ⊥
+none_told (inl name) = name
+none_told (inr (inl range)) = true≢false (sym range.0)
+none_told (inr (inr (inl frame))) = true≢false (sym frame.0)
+none_told (inr (inr (inr none))) = none

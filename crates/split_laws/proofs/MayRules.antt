@@ -17,9 +17,9 @@ use Rattle.world_laws.specs.spk_nums.specs.declared.calls.Call.TheVariants.{Ret,
 use Rattle.world_laws.specs.spk_nums.specs.declared.translations.Translation.{Translation}
 use Rattle.world_laws.specs.spk_nums.specs.declared.replies.Reply.{Reply}
 use Rattle.world_laws.specs.spk_nums.specs.declared.replies.Reply.TheVariants as reply
-use Rattle.world_laws.specs.kernel_rules.specs.State.{CompFields, ThreadFields, TcapFields, Object, Table, Leaf, Pages, Pleaf, Comp, Frame}
-use Rattle.world_laws.specs.kernel_rules.specs.State.{Kernel, FrameOf, NumberOf, Liveness, Limits}
-use Rattle.world_laws.specs.kernel_rules.specs.State.{State, thread_in, comp_in, tcap_in, thread_of, comp_of, Core}
+use Rattle.world_laws.specs.kernel_rules.specs.State.{CompFields, ThreadFields, TcapFields, Object, Table, Leaf, Pages, Pleaf, Frame}
+use Rattle.world_laws.specs.kernel_rules.specs.State.{Limits}
+use Rattle.world_laws.specs.kernel_rules.specs.State.{State, thread_in, comp_in, tcap_in, comp_of}
 use Rattle.world_laws.specs.kernel_rules.specs.References.{refs}
 use Rattle.world_laws.specs.kernel_rules.specs.Access.{only, root, to_use, Named, capability}
 use Rattle.world_laws.specs.kernel_rules.specs.Rules.{RuleMay}
@@ -39,24 +39,14 @@ use Rattle.split_laws.specs.Split.{TellsOwn}
 use Rattle.same_changes.proofs.Reaching.{TwinsOn, is_some_kind, core_agree, thread_agree, comp_agree, comp_parts, pages_in, named_at}
 use Rattle.same_changes.proofs.Reaching.{root_within}
 use Rattle.same_changes.proofs.MemoryRules.{empty_agree}
+use Rattle.same_changes.proofs.TimeRules.{gate_comp}
+use Rattle.same_changes.proofs.Reaching.{found_part, number_part}
 use Rattle.split_laws.proofs.MayAlike.{Led, RuleAlike, may_alike}
 
 -- What holds where something was found.
 where_found : (f x y : Bool) → (f ≡ true → x ≡ y) → (f && y) ≡ true → (f && x) ≡ true
 where_found true x y same on = same refl ∙ on
 where_found false x y same on = absurd (false≢true on)
-
-first : (a b : Bool) → (a && b) ≡ true → a ≡ true
-first true b h = refl
-first false b h = absurd (false≢true h)
-
-second : (a b : Bool) → (a && b) ≡ true → b ≡ true
-second true b h = h
-second false b h = absurd (false≢true h)
-
-gate_comp : (x : Frame) → IsTrue (fits kind.Gate x) → IsTrue (fits kind.Comp x)
-gate_comp (Kernel (Comp k)) fit = refl
-gate_comp _ fit = absurd (false≢true fit)
 
 module _ {w : Region} {t s : State} {o : ℕ → Bool} {c : ℕ} (l : TwinsOn w t s o c) (r : Reply) where
   -- ---- what a name has led to
@@ -402,7 +392,7 @@ module _ {w : Region} {t s : State} {o : ℕ → Bool} {c : ℕ} (l : TwinsOn w 
         → ((k.found && nat_lt (tcap_at t k.frame).budget m) ≡ true)
         × (reply.Short (tcap_at t k.frame).budget ≡ reply.Short (tcap_at s k.frame).budget)
     short_alike on =
-        let same = ap (λ (q : TcapFields). q.budget) (tcap_same a k led (first k.found (nat_lt (tcap_at s k.frame).budget m) on)) in
+        let same = ap (λ (q : TcapFields). q.budget) (tcap_same a k led (found_part k.found (nat_lt (tcap_at s k.frame).budget m) on)) in
         (ap (λ n. k.found && nat_lt n m) same ∙ on, ap reply.Short same)
 
     -- a test of the temporal capabilities that two names have led to
@@ -410,9 +400,9 @@ module _ {w : Region} {t s : State} {o : ℕ → Bool} {c : ℕ} (l : TwinsOn w 
         → (k.found && (j.found && test (tcap_at s k.frame) (tcap_at s j.frame))) ≡ true
         → (k.found && (j.found && test (tcap_at t k.frame) (tcap_at t j.frame))) ≡ true
     both_alike b j other test on =
-        let one = first k.found (j.found && test (tcap_at s k.frame) (tcap_at s j.frame)) on in
-        let two = first j.found (test (tcap_at s k.frame) (tcap_at s j.frame))
-        (second k.found (j.found && test (tcap_at s k.frame) (tcap_at s j.frame)) on) in
+        let one = found_part k.found (j.found && test (tcap_at s k.frame) (tcap_at s j.frame)) on in
+        let two = found_part j.found (test (tcap_at s k.frame) (tcap_at s j.frame))
+        (number_part k.found (j.found && test (tcap_at s k.frame) (tcap_at s j.frame)) on) in
         (λ i. k.found && (j.found && test (tcap_same a k led one i) (tcap_same b j other two i))) ∙ on
 
   transfer_alike : (a b m : ℕ) → RuleAlike w s c r (transfer_rule t a b m) (transfer_rule s a b m)
