@@ -37,10 +37,9 @@ use Rattle.world_laws.specs.kernel_invariant.proofs.Facts.{named_fit}
 use Rattle.same_changes.specs.Region.{Region, NamesIn}
 use Rattle.split_laws.specs.Split.{TellsOwn}
 use Rattle.same_changes.proofs.Reaching.{TwinsOn, is_some_kind, core_agree, thread_agree, comp_agree, comp_parts, pages_in, named_at}
-use Rattle.same_changes.proofs.Reaching.{root_within}
+use Rattle.same_changes.proofs.Reaching.{found_part, number_part, root_within}
 use Rattle.same_changes.proofs.MemoryRules.{empty_agree}
 use Rattle.same_changes.proofs.TimeRules.{gate_comp}
-use Rattle.same_changes.proofs.Reaching.{found_part, number_part}
 use Rattle.split_laws.proofs.MayAlike.{Led, RuleAlike, may_alike}
 
 -- What holds where something was found.
