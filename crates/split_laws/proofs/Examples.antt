@@ -150,8 +150,8 @@ halves_split = record {
   cached = λ c below. tt;
 }
 
--- Core 0 works outside the world, and names a frame of it, 8, by its number. It may be refused for what that frame is, though no range of its
--- own has it: so it is told of the world, where the refusal tells of no frame of its own side.
+-- Core 0 works outside the world, and names a frame of it, 8, by its number. It may be refused for what that frame is, though no range of
+-- its own has it: so it is told of the world, and in another state of the world it is not.
 abbrev typed : State
 typed = with_frame halves 8 User
 
