@@ -22,7 +22,7 @@ use Rattle.same_changes.specs.Region.{AgreeOn}
 use Rattle.same_changes.proofs.Agreeing.{agree_by, agree_then}
 use Rattle.same_changes.proofs.Reaching.{TwinsOn}
 use Rattle.split_laws.specs.Split.{World, IsSplit, side, MakesOwn, KeepsNumbers, TellsOwn, TellsInside, hushed_reply, hushed}
-use Rattle.split_laws.specs.Split.{OthersAreSilent}
+use Rattle.split_laws.specs.Split.{told_inside, OthersAreSilent}
 use Rattle.split_laws.proofs.Working.{WorksOn, works_on}
 use Rattle.split_laws.proofs.Splitting.{split_for_good, split_entered, split_returned}
 use Rattle.split_laws.proofs.Referring.{numbers_on, same_refs}
@@ -282,6 +282,27 @@ module _ (setting : Setting) (lim : IsSetting setting) (before : List Event) (w 
       (all_silent later run.0 own.0 tells.0) c call r
       run.1 (side w (after setting (later ++ before)) c) refl own.1 tells.1
 
+  -- a decision told inside, or not
+  told_same : (c : ℕ) (call : Call) (r q : Reply) (b d : Bool) (xs ys : List Event) → d ≡ b → xs ≡ ys
+      → (if d then Decides c call (if b then r else q) ∷ xs else xs) ≡ (if b then Decides c call r ∷ ys else ys)
+  told_same c call r q true true xs ys same e = ap (λ es. Decides c call r ∷ es) e
+  told_same c call r q false false xs ys same e = e
+  told_same c call r q true false xs ys same e = absurd (false≢true same)
+  told_same c call r q false true xs ys same e = absurd (false≢true (sym same))
+
+  all_told : (later : List Event) → IsRun setting (later ++ before) → KeepsNumbers w setting later before
+      → TellsInside w setting later before
+      → told_inside w setting (hushed w setting later before) before ≡ told_inside w setting later before
+  all_told [] run own tells = refl
+  all_told (Enters c call ∷ later) run own tells = all_told later run.0 own tells
+  all_told (Returns c ∷ later) run own tells = all_told later run.0 own tells
+  all_told (Decides c call r ∷ later) run own tells =
+      told_same c call r (hushed_reply call r) (side w (after setting (later ++ before)) c)
+      (side w (after setting (hushed w setting later before ++ before)) c) _ _
+      (side_same setting lim w cores (later ++ before) (hushed w setting later before ++ before) (all_silent later run.0 own.0 tells.0) c
+      call r run.1)
+      (all_told later run.0 own.0 tells.0)
+
 pub others_are_silent : OthersAreSilent
 others_are_silent setting lim before later run w split own tells =
     let h = all_silent setting lim before w split later run own tells in (
@@ -289,4 +310,5 @@ others_are_silent setting lim before later run w split own tells =
       agree_in w (cores setting lim before w split) (after setting (later ++ before))
           (after setting (hushed w setting later before ++ before))
           (agree_back _ _ h.agree) h.thread h.threads,
+      all_told setting lim before w split later run own tells,
     )

@@ -95,6 +95,15 @@ hushed w setting (Decides c call r ∷ later) before =
     Decides c call (if side w (after setting (later ++ before)) c then r else hushed_reply call r) ∷ hushed w setting later before
 hushed w setting (Returns c ∷ later) before = Returns c ∷ hushed w setting later before
 
+-- What the cores that work inside are told after `before`: their decisions with the replies, the newest first.
+abbrev pub told_inside : World → Setting → List Event → List Event → List Event
+told_inside w setting [] before = []
+told_inside w setting (Enters c call ∷ later) before = told_inside w setting later before
+told_inside w setting (Decides c call r ∷ later) before =
+    if side w (after setting (later ++ before)) c then Decides c call r ∷ told_inside w setting later before
+    else told_inside w setting later before
+told_inside w setting (Returns c ∷ later) before = told_inside w setting later before
+
 -- A call is refused for what a frame is that it names by its number, for the references to it, or for who may still use it: only where the
 -- frame is on this side.
 abbrev pub TellsOwn : (ℕ → Bool) → Bool → Call → Reply → Type 0
@@ -124,13 +133,14 @@ FirstTellsOwn = (setting : Setting) → IsSetting setting → (events : List Eve
     → (w : World) → IsSplit w (after setting events)
     → TellsOwn w.frame (side w (after setting events) c) call (alone (after setting events) c call)
 
--- In every run from where a world is split, hush the calls of all cores outside: it is a run, with the same decisions inside, and leaves
--- the world the same.
+-- In every run from where a world is split, hush the calls of all cores outside: it is a run, it leaves the world the same, and the cores
+-- inside are told the same.
 abbrev pub OthersAreSilent : Type 0
 OthersAreSilent = (setting : Setting) → IsSetting setting → (before later : List Event) → IsRun setting (later ++ before)
     → (w : World) → IsSplit w (after setting before) → KeepsNumbers w setting later before → TellsInside w setting later before
     → IsRun setting (hushed w setting later before ++ before)
     × AgreeIn w (after setting (later ++ before)) (after setting (hushed w setting later before ++ before))
+    × (told_inside w setting (hushed w setting later before) before ≡ told_inside w setting later before)
 
 -- ---- what replies tell, and what a core may touch
 

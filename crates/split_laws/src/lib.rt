@@ -4,7 +4,7 @@
 //! of a world all are from that world. `running` names no core across, and `touch` answers no frame across.
 //!
 //! **Non-interference of decisions.** Hush the calls of all cores outside a split world, so that they do nothing but enter, return and flush:
-//! the history is still one that the kernel may have, with the same decisions inside and the same world.
+//! the history is still one that the kernel may have, it leaves the world the same, and the cores inside are told the same.
 //!
 //! See docs/WORLDS.md.
 #![tactic(auto)]
@@ -19,9 +19,8 @@ pub fn split_for_good()
 {}
 
 /// In every run from where a world is split, where each component that is made takes a number of its core's side and each call inside is
-/// refused for its frame only where that is inside, the calls of all cores outside may be hushed: it is still a run, with the same decisions
-/// inside, and leaves the world the same.
-#[tactic(auto, using(crate::proofs::Silence::others_are_silent))]
+/// refused for its frame only where that is inside, the calls of all cores outside may be hushed: it is still a run, leaves the world the
+/// same, and the cores inside are told the same.
 pub fn others_are_silent()
     ensures { OthersAreSilent }
 {}
