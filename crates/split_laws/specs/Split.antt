@@ -132,8 +132,8 @@ TellsInside w setting (Decides c call r ∷ later) before =
     TellsInside w setting later before × (side w (after setting (later ++ before)) c ≡ true → TellsOwn w.frame true call r)
 TellsInside w setting (Returns c ∷ later) before = TellsInside w setting later before
 
--- The first reply in order is so: in every state that a run reaches and in which a world is split, a call that is answered with it is refused
--- so only for a frame of its core's side.
+-- The first reply in order is so: in every state that a run reaches and in which a world is split, a call that is answered with it is
+-- refused so only for a frame of its core's side.
 abbrev pub FirstTellsOwn : Type 0
 FirstTellsOwn = (setting : Setting) → IsSetting setting → (events : List Event) → IsRun setting events
     → (c : ℕ) (call : Call) → phase_of events c ≡ Open call

@@ -3,13 +3,14 @@
 //! **The laws.** What is split stays so, where each component that is made takes a number of its side. Of the references to a frame
 //! of a world all are from that world. `running` names no core across, and `touch` answers no frame across.
 //!
-//! **Non-interference of decisions.** Hush the calls of all cores outside a split world, so that they do nothing but enter, return and flush:
-//! the history is still one that the kernel may have, it leaves the world the same, and the cores inside are told the same.
+//! **Non-interference of decisions.** Hush the calls of all cores outside a split world, so that they do nothing but enter, return and
+//! flush: the history is still one that the kernel may have, it leaves the world the same, and the cores inside are told the same.
 //!
 //! See docs/WORLDS.md.
 #![tactic(auto)]
 
-ghost use Rattle.split_laws.specs.Split.{SplitForGood, SplitBothWays, OthersAreSilent, FirstTellsOwn, RefersInside, RepliesTell, TouchesOwn};
+ghost use Rattle.split_laws.specs.Split.{SplitForGood, SplitBothWays, OthersAreSilent, FirstTellsOwn};
+ghost use Rattle.split_laws.specs.Split.{RefersInside, RepliesTell, TouchesOwn};
 
 /// In every run, a world that is split stays so, whatever any core does, where each component that is made takes a number of its core's
 /// side.
@@ -31,8 +32,8 @@ pub fn others_are_silent()
     ensures { OthersAreSilent }
 {}
 
-/// In every state that a run reaches and in which a world is split, the first reply in order to an open call refuses it for the frame that it
-/// names by its number only where that is of its core's side.
+/// In every state that a run reaches and in which a world is split, the first reply in order to an open call refuses it for the frame that
+/// it names by its number only where that is of its core's side.
 #[tactic(auto, using(crate::proofs::InOrder::first_tells_own))]
 pub fn first_tells_own()
     ensures { FirstTellsOwn }
