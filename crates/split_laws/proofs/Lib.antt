@@ -1,4 +1,5 @@
 pub mod Examples
+pub mod Others
 pub mod Working
 pub mod Sides
 pub mod Splitting

@@ -1,5 +1,5 @@
 -- Worlds that are split: nothing crosses, not even a gate. Of the others a world sees no more than when they enter calls, return and flush.
-use Rattle.std.specs.Prelude.{◌≡◌, ◌<◌, ℕ, ◌+◌, Bool, true, if◌then◌else◌, List, [], ◌∷◌, ◌++◌, Some}
+use Rattle.std.specs.Prelude.{◌≡◌, ◌<◌, ℕ, ◌+◌, Bool, true, not, if◌then◌else◌, List, [], ◌∷◌, ◌++◌, Some}
 use Rattle.std.specs.List.{AllByRecursion}
 use Rattle.world_laws.specs.spk_nums.specs.Capability.{Capability}
 use Rattle.world_laws.specs.spk_nums.specs.Setting.{Setting, IsSetting}
@@ -38,6 +38,13 @@ pub record IsSplit (w : World) (s : State) : Type 0 where
   pub cores : (c : ℕ) → c < s.limits.cores → w.frame (s.core c).tcap ≡ w.frame (s.core c).thread
   pub cached : (c : ℕ) → c < s.limits.cores
       → AllByRecursion (λ (x : Translation). w.frame x.frame ≡ w.frame x.pages) (s.core c).cached
+
+-- The rest, as a world of its own: it is split where the world is.
+abbrev pub others : World → World
+others w = record { frame = λ f. not (w.frame f); number = λ l. not (w.number l) }
+
+abbrev pub SplitBothWays : Type 0
+SplitBothWays = (w : World) (s : State) → IsSplit w s → IsSplit (others w) s
 
 -- The side on which a core works: whether the component in which it works is in the world.
 abbrev pub side : World → State → ℕ → Bool

@@ -9,13 +9,20 @@
 //! See docs/WORLDS.md.
 #![tactic(auto)]
 
-ghost use Rattle.split_laws.specs.Split.{SplitForGood, OthersAreSilent, FirstTellsOwn, RefersInside, RepliesTell, TouchesOwn};
+ghost use Rattle.split_laws.specs.Split.{SplitForGood, SplitBothWays, OthersAreSilent, FirstTellsOwn};
+ghost use Rattle.split_laws.specs.Split.{RefersInside, RepliesTell, TouchesOwn};
 
 /// In every run, a world that is split stays so, whatever any core does, where each component that is made takes a number of its core's
 /// side.
 #[tactic(auto, using(crate::proofs::Splitting::split_for_good))]
 pub fn split_for_good()
     ensures { SplitForGood }
+{}
+
+/// Where a world is split, so is the rest.
+#[tactic(auto, using(crate::proofs::Others::split_both_ways))]
+pub fn split_both_ways()
+    ensures { SplitBothWays }
 {}
 
 /// In every run from where a world is split, where each component that is made takes a number of its core's side and each call inside is
