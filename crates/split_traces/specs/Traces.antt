@@ -1,11 +1,11 @@
 -- Split worlds in legal traces: what stays so over any stretch of steps of all cores, and what the others leave of it.
-use Rattle.std.specs.Prelude.{List, [], ◌∷◌, ◌++◌}
+use Rattle.std.specs.Prelude.{◌≡◌, List, [], ◌∷◌, ◌++◌}
 use Rattle.split_laws.specs.world_laws.specs.spk_nums.specs.Setting.{Setting, IsSetting}
 use Rattle.split_laws.specs.world_laws.specs.kernel_rules.specs.Runs.{Event, after, IsRun}
 use Rattle.kernel_history.specs.Trace.{Trace, phase, after_enter, state_after}
 use Rattle.kernel_history.specs.Events.{with_entry, with_decision, with_return, events_of}
 use Rattle.kernel_history.specs.Legal.{IsLegal}
-use Rattle.split_laws.specs.Split.{World, IsSplit, KeepsNumbers, TellsInside, AgreeIn, hushed}
+use Rattle.split_laws.specs.Split.{World, IsSplit, KeepsNumbers, TellsInside, AgreeIn, hushed, told_inside}
 
 -- The events of the steps u, made after t, the newest first.
 abbrev pub events_since : Trace → Trace → List Event
@@ -33,8 +33,11 @@ abbrev pub hushed_since : World → Setting → Trace → Trace → List Event
 hushed_since w setup u t = hushed w setup (events_since u t) (events_of t) ++ events_of t
 
 -- In every legal trace, over any stretch of steps of all cores from where a world is split: with the calls of all cores outside hushed its
--- events are a run still, with the same decisions inside, and leave the world as the trace does.
+-- events are a run still, leave the world as the trace does, and tell the cores inside the same.
 abbrev pub StretchesAreSilent : Type 0
 StretchesAreSilent = (setup : Setting) → IsSetting setup → (u t : Trace) → IsLegal setup (u ++ t)
     → (w : World) → IsSplit w (state_after setup t) → TakesOwnNumbers w setup u t → RefusesInside w setup u t
-    → IsRun setup (hushed_since w setup u t) × AgreeIn w (state_after setup (u ++ t)) (after setup (hushed_since w setup u t))
+    → IsRun setup (hushed_since w setup u t)
+    × AgreeIn w (state_after setup (u ++ t)) (after setup (hushed_since w setup u t))
+    × (told_inside w setup (hushed w setup (events_since u t) (events_of t)) (events_of t)
+    ≡ told_inside w setup (events_since u t) (events_of t))
