@@ -18,7 +18,6 @@ pub fn stretches_stay_split()
 /// In every legal trace, over any stretch of steps from where a world is split, where each component that is made takes a number of its
 /// core's side and each call inside is refused for its frame only where that is inside: answer each call of the cores outside as if it had
 /// lost a race, and its events are a run still, leave the world the same, and tell the cores inside the same.
-#[tactic(auto, using(crate::proofs::Stretches::stretches_are_silent))]
 pub fn stretches_are_silent()
     ensures { StretchesAreSilent }
 {}
