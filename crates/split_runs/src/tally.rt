@@ -37,6 +37,7 @@ impl Counts {
                 at = at.saturating_add(1);
             }
         }
+        let at = at.min(self.rows.len());
         self.rows.insert(at, Row { name, count: 1 })?;
         Ok(())
     }
