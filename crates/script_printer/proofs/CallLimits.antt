@@ -311,7 +311,7 @@ call_in version words verb.Kill c known e = name_line version words call.Kill (e
 call_in version words verb.Call c known e = name_line version words call.Call (end_at words 2) c (λ a h. h) e
 call_in version words verb.Ret c known e = subst (IsCallWithin version) (args_none (end_at words 1) call.Ret c e) tt
 call_in version words verb.Switch c known e = names_line version words call.Switch (end_at words 3) c (λ a b h k. (h, k)) e
-call_in version words verb.Tick c e =
+call_in version words verb.Tick c known e =
     let r = args_one (number_at words 1 0 1000000) (end_at words 2) call.Tick c e in
     subst (IsCallWithin version) r.2 (number_in words 1 0 1000000 r.0 r.1).1
 call_in version words verb.Transfer c known e = three_line version words 4000000000 call.Transfer (end_at words 4) c (λ a b m h k l. (h, k, l)) e
