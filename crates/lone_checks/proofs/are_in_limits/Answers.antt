@@ -3,7 +3,7 @@ use Rattle.std.proofs.lemmas.List.{take_all}
 use Rattle.std.proofs.lemmas.List.Elements.{All-more}
 use Rattle.spk_nums.specs.declared.calls.Call.{Call}
 use Rattle.spk_nums.specs.CallLimits.{InLimits}
-use Rattle.stop_runs.proofs.machine.are_in_limits.Goals as goal
+use Rattle.lone_checks.proofs.are_in_limits.Goals as goal
 
 pub each-preserved : goal.each-preserved
 each-preserved c =
