@@ -58,8 +58,7 @@ stretches_stay_split setup lim u t legal w split own =
 pub stretches_are_silent : StretchesAreSilent
 stretches_are_silent setup lim u t legal w split own tells =
     let silent = others_are_silent setup lim (events_of t) (events_since u t) (run_since setup u t legal) w
-    (subst (IsSplit w) (state_is setup t) split) own tells in
-    (
+    (subst (IsSplit w) (state_is setup t) split) own tells in (
       silent.0,
       subst (λ s. AgreeIn w s (after setup (hushed_since w setup u t))) (sym (state_since setup u t)) silent.1,
       silent.2,
