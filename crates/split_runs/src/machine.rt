@@ -8,7 +8,7 @@ use lone_checks::{are_lists, are_out};
 use lone_kernel::LoneKernel;
 use spk_nums::{Call, CoreNo, Item, Reply, Setup};
 use std::alloc::Global;
-use step_views::StepMade;
+use step_views::{StepMade, StepView};
 use world_parts::machine_image::image_of;
 use world_parts::machine_image::word_map::Closed;
 use world_parts::{Parts, parts_of};
@@ -104,15 +104,20 @@ impl Machine {
         }
     }
 
+    // Keeps the call that begins with a step, where one does.
+    fn keep(&mut self, step: &StepView) {
+        if let Some(call) = step.enters {
+            self.begin(step.core, call);
+        }
+    }
+
     /// Makes one step of a core; none of one that is finished.
     pub fn step(&mut self, core: CoreNo) -> Option<StepMade> {
         if self.kernel.setup().cores() <= core.number() {
             return None;
         }
         let made = self.kernel.step_told(core)?;
-        if let Some(call) = made.view.enters {
-            self.begin(core, call);
-        }
+        self.keep(&made.view);
         Some(made)
     }
 

@@ -62,9 +62,8 @@ fn draw_core(machine: &Machine, draws: &mut Draws) -> Option<CoreNo> {
 }
 
 // What is told of a step on the other side.
-fn crossed(alloc: Global, seat: &Seat, call: &Call, made: &StepMade) -> Result<Fault, Fault> {
+fn crossed(alloc: Global, begun: u32, call: &Call, made: &StepMade) -> Result<Fault, Fault> {
     let core = made.view.core;
-    let begun = seat.begun;
     let mut text = format!(in alloc; "{core}.{begun} {call}: ")?;
     push_step(&mut text, &made.view)?;
     Ok(Fault::Crossed(text))
@@ -77,13 +76,13 @@ fn check_step(
     tally: &mut Tally,
     made: &StepMade,
 ) -> Result<(), Fault> {
-    let seat = machine.seat(made.view.core);
-    let Some(call) = seat.call else {
+    let Seat { begun, call } = machine.seat(made.view.core);
+    let Some(call) = call else {
         return Err(Fault::Astray(made.view.core));
     };
     tally.step();
     if !is_own(FIRST_OTHER, &made.view) {
-        return Err(crossed(alloc, &seat, &call, made)?);
+        return Err(crossed(alloc, begun, &call, made)?);
     }
     if let Some(reply) = &made.decides {
         tally.decide(&call, reply)?;
