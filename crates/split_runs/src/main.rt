@@ -4,7 +4,7 @@
 //! frames from 40 on, and goes on in its own below. Each has its table, pages, component, threads, temporal capabilities and a range, and
 //! for what it makes core 0 has the even liveness numbers and core 1 the odd ones.
 //!
-//! **A run.** For each seed 200 calls of each core are drawn, of every kind, by the names that the core has; a frame may be any, also one
+//! **A run.** For each seed 400 calls of each core are drawn, of every kind, by the names that the core has; a frame may be any, also one
 //! of the other's. Their steps are then made one after another, of either core as it is drawn.
 //!
 //! **What is asked.** Each step is on a word of a frame or a liveness number of its core's own, on a word that the core has for itself or on
