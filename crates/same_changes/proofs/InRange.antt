@@ -19,7 +19,8 @@ use Rattle.kernel_rules.specs.Fitting.{fits, EndsWithin}
 use Rattle.kernel_rules.specs.Ranges.{NumberInRange, FrameInRange}
 use Rattle.kernel_invariant.proofs.Sound.{only_is}
 use Rattle.kernel_invariant.proofs.Facts.{named_good, named_fit}
-use Rattle.seq_lookups.specs.Ranges.{WhereFound, RangeEnds, EpochFits, PageFound, HasEpoch, BudgetsFit, TicksFit, IsInRange, WholeEnds, BackFits}
+use Rattle.seq_lookups.specs.Ranges.{WhereFound, RangeEnds, EpochFits, PageFound, HasEpoch, BudgetsFit, TicksFit, WholeEnds, BackFits}
+use Rattle.seq_lookups.specs.Ranges.{IsInRange}
 use Rattle.same_changes.proofs.Reaching.{Twins, core_same, core_below, tcap_frame_same, comp_same, named_same, mapped_same, pages_good}
 use Rattle.same_changes.proofs.TimeRules.{named_frame}
 
