@@ -282,7 +282,7 @@ module _ (s : State) (c : ℕ) (o : ℕ → Bool) (h : IsOpen s o c) where
       let p = first_two s c (is_finer s c (found j)) (is_less s c m) [] calm in
       let left : ℕ = outstanding (s.core c) in
       record {
-        core = (h.sound.inside c h.is).0;
+        core = (h.sound.inside c h.is).1;
         to = tcap_known a j e;
         enough = ltb-false left m (when_not (nat_lt left m) (reply.Short (min left m)) p.1);
       }
