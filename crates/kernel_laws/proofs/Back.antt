@@ -22,7 +22,7 @@ use Rattle.kernel_invariant.proofs.Edited.{Known, Each, after_ok}
 use Rattle.kernel_laws.specs.Laws.{given_of, given_by, back_by, decided_back, IsHadBack, BackSums}
 
 -- Core c has had so many ticks more back, and no more than it has spent; no other core changes what it has spent and had back.
-record Gets (s : State) (c n : ℕ) (core : ℕ → Core) : Type 0 where
+pub record Gets (s : State) (c n : ℕ) (core : ℕ → Core) : Type 0 where
   own : (core c).back ≡ (s.core c).back + n
   within : (s.core c).back ≤ (s.core c).spent → (core c).back ≤ (core c).spent
   others : (d : ℕ) → d ≢ c → (core d ≡ s.core d)
