@@ -23,9 +23,9 @@ use Rattle.kernel_laws.specs.Laws.{given_of, given_by, back_by, decided_back, Is
 
 -- Core c has had so many ticks more back, and no more than it has spent; no other core changes what it has spent and had back.
 pub record Gets (s : State) (c n : ℕ) (core : ℕ → Core) : Type 0 where
-  own : (core c).back ≡ (s.core c).back + n
-  within : (s.core c).back ≤ (s.core c).spent → (core c).back ≤ (core c).spent
-  others : (d : ℕ) → d ≢ c → (core d ≡ s.core d)
+  pub own : (core c).back ≡ (s.core c).back + n
+  pub within : (s.core c).back ≤ (s.core c).spent → (core c).back ≤ (core c).spent
+  pub others : (d : ℕ) → d ≢ c → (core d ≡ s.core d)
 
 same : (s : State) (c : ℕ) → Gets s c 0 s.core
 same s c = record { own = omega arith; within = λ w. w; others = λ d other. refl }
