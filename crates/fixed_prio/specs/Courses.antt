@@ -1,5 +1,5 @@
 -- What a turn, and a whole schedule, make of a machine and of where the schedule has come to.
-use Rattle.std.specs.Prelude.{◌≡◌, ◌<◌, ◌≤◌, ◌^◌, ◌*◌, IfSome, ℕ, ◌+◌, ◌-◌, List, [], ◌∷◌, ◌++◌, length, slice_get, All, Bool, false, Option, Some, None}
+use Rattle.std.specs.Prelude.{◌≡◌, ◌<◌, ◌≤◌, ◌^◌, ◌*◌, IfSome, ℕ, ◌+◌, ◌-◌, List, [], ◌∷◌, ◌++◌, length, slice_get, All, false, Option, Some, None}
 use Rattle.spk_nums.specs.Setting.{Setting}
 use Rattle.spk_nums.specs.declared.calls.Call.{Call}
 use Rattle.seq_state.specs.Maps.{Maps}
@@ -19,11 +19,6 @@ abbrev pub progress : Setting → List Call → Course → Progress
 progress setting made course =
     record { time = course.time; state = after_calls setting made; jobs = course.jobs.items; last = course.last }
 
--- The work that tasks have left in all.
-abbrev pub work_left : List Job → ℕ
-work_left [] = 0
-work_left (job ∷ jobs) = job.left + work_left jobs
-
 -- What a task may have to run yet: what it has left, and for each tick up to the last at which a job may arrive the most work of one.
 abbrev pub yet_from : Option ℕ → ℕ
 yet_from None = 0
@@ -36,14 +31,16 @@ abbrev pub all_yet : List Job → ℕ
 all_yet [] = 0
 all_yet (job ∷ jobs) = yet job + all_yet jobs
 
--- A job arrives in range, and, unless its task is out, no earlier than now.
-abbrev pub ComesNext : ℕ → Bool → ℕ → Type 0
-ComesNext now out at = (at ≤ 1000000) × (out ≡ false → now ≤ at)
+-- A job arrives in range, after the first one, and, unless its task is out, no earlier than now.
+pub record ComesNext (now : ℕ) (job : Job) (at : ℕ) : Type 0 where
+  pub most : at ≤ 1000000
+  pub first : job.task.arrival ≤ at
+  pub coming : job.out ≡ false → now ≤ at
 
 -- A task is in range, and so is its next job; and it has run no longer than the schedule.
 pub record Arrives (now : ℕ) (job : Job) : Type 0 where
   pub task : TaskFits job.task
-  pub next : IfSome job.next (ComesNext now job.out)
+  pub next : IfSome job.next (ComesNext now job)
   pub used : job.used ≤ now
 
 -- Times of turns are in range, up to the end.

@@ -1,10 +1,11 @@
 -- What the turns of a schedule charge and give back, and to which temporal capability.
-use Rattle.std.specs.Prelude.{◌≡◌, ◌≢◌, ℕ, ◌+◌, List, [], ◌∷◌, Some}
+use Rattle.std.specs.Prelude.{◌≡◌, ◌≢◌, ℕ, ◌+◌, List, [], ◌∷◌, Some, IsTrue}
 use Rattle.spk_nums.specs.Capability.{Capability}
 use Rattle.spk_nums.specs.declared.kinds.Kind.TheVariants as kind
 use Rattle.kernel_rules.specs.State.{State}
 use Rattle.kernel_rules.specs.Access.{only, to_use}
 use Rattle.kernel_rules.specs.Rules.{Found, named}
+use Rattle.kernel_rules.specs.Fitting.{fits}
 use Rattle.kernel_rules.specs.TimeCalls.{tcap_at}
 use Rattle.sched_rules.specs.declared.tasks.Rule.{Rule}
 use Rattle.sched_rules.specs.declared.tasks.Choice.{Choice}
@@ -33,9 +34,10 @@ pub record ChargesChosen (rule : Rule) (x : Progress) (new : State) (i ticks : �
   pub task : choice.index + 1 ≡ i
   pub charges : Charges x.state new choice.ready.tcap ticks
 
--- From state s to the new one core 0 has had back so many ticks, all in the temporal capability in a frame.
+-- From state s to the new one core 0 has had back so many ticks, all in the temporal capability in a frame, where it has one, as in every
+-- state that the kernel reaches.
 pub record Restores (s new : State) (f ticks : ℕ) : Type 0 where
-  pub budget : (tcap_at new f).budget ≡ (tcap_at s f).budget + ticks
+  pub budget : IsTrue (fits kind.Tcap (s.frame f)) → (tcap_at new f).budget ≡ (tcap_at s f).budget + ticks
   pub others : (g : ℕ) → g ≢ f → (tcap_at new g).budget ≡ (tcap_at s g).budget
   pub spent : (new.core 0).spent ≡ (s.core 0).spent
   pub back : (new.core 0).back ≡ (s.core 0).back + ticks

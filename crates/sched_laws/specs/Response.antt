@@ -1,6 +1,6 @@
 -- When a task ends.
 use Rattle.std.specs.Prelude.{◌≡◌, ◌≢◌, ◌≤◌, ℕ, ◌+◌, Bool, true, ◌||◌, ◌&&◌, ◌==◌, nat_lt, nat_le, if◌then◌else◌}
-use Rattle.std.specs.Prelude.{List, [], ◌∷◌, slice_get, All, Option, Some, None, IsSome}
+use Rattle.std.specs.Prelude.{List, [], ◌∷◌, slice_get, Option, Some, None, IsSome}
 use Rattle.spk_nums.specs.declared.replies.Reply.{Reply}
 use Rattle.kernel_rules.specs.State.{State}
 use Rattle.sched_rules.specs.declared.tasks.Task.{Task}
@@ -55,8 +55,8 @@ pub record EndsBy (i work bound : ℕ) (steps : List Step) : Type 0 where
 -- Where no task has a period, one that is supplied whenever it is due, and is not refused, ends by its arrival and the work of all tasks that
 -- are not after it, itself included. Nothing is asked of the others but that each has one number throughout: they may be refused, or run out of budget.
 abbrev pub ResponseBound : Type 0
-ResponseBound = (rule : Rule) (s : State) (tasks : List Task) (steps : List Step) → All (λ task. task.period ≡ None) tasks
-    → IsSchedule rule (at_first s tasks) steps
+ResponseBound = (rule : Rule) (s : State) (tasks : List Task) (steps : List Step)
+    → ((k : ℕ) (other : Task) → slice_get tasks k ≡ Some other → other.period ≡ None) → IsSchedule rule (at_first s tasks) steps
     → (numbers : ℕ → ℕ) → Throughout (HasNumbers rule numbers) (at_first s tasks) steps
     → (i : ℕ) (task : Task) → slice_get tasks i ≡ Some task
     → Throughout (IsSupplied rule i) (at_first s tasks) steps → NeverRefused (i + 1) steps

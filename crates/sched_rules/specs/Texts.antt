@@ -47,7 +47,7 @@ come_by i (turn ∷ turns) = come_in i turn + come_by i turns
 
 -- the work of all its jobs that arrived
 abbrev pub work_by : ℕ → List Turn → Task → ℕ
-work_by i turns task = task.work * (come_by i turns + 1)
+work_by i turns task = (come_by i turns + 1) * task.work
 
 -- the line of a task after the schedule: the ticks that it ran, and the work left
 abbrev pub task_line : ℕ → ℕ → ℕ → List ℕ
