@@ -69,8 +69,10 @@ module _ (own : Own) (a : ActiveCall) (facts : Facts own a) (room : own.made < o
       by (Some h) = by_mark h.mark
   refill_fits r (at_list entry) found fits = by (quality_of_word found)
     where
-      known next : Refill
+      known : Refill
       known = refill_noted (record r { at = at_list entry }) found
+
+      next : Refill
       next = refill_after (record r { at = at_list entry }) found
 
       on : RefillFits own.layout next

@@ -67,7 +67,7 @@ fn row_of(call: Call, line: &'static str, act: &'static str, refusals: &'static 
 }
 
 /// The rows, in the order of the documents.
-pub fn rows() -> [Row; 26] {
+pub fn rows() -> [Row; 27] {
     [
         row_of(Call::Look { a: cap(0) }, "look A", "", "`no-slot`, `empty`"),
         row_of(

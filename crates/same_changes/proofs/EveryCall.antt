@@ -1,51 +1,99 @@
--- Every call comes to the same in two states that are one for the machine, one of them reached.
+-- Every call comes to the same on a region in two states that are one there, one of them reached, and so for the machine.
 use Rattle.std.proofs.Common.{◌≡◌, ℕ, ◌-◌, ◌^◌, ◌≤◌, sym, ap, subst, List}
+use Rattle.std.proofs.lemmas.Bool.{lt-ltb}
 use Rattle.spk_nums.specs.Setting.{Setting, IsSetting}
-use Rattle.spk_nums.specs.CallLimits.{InLimits}
+use Rattle.spk_nums.specs.CallLimits.{InLimits, MakeInLimits}
+use Rattle.spk_nums.specs.declared.calls.Make.{Make}
+use Rattle.spk_nums.specs.declared.calls.Make.TheVariants as make
 use Rattle.spk_nums.specs.declared.calls.Call.{Call}
 use Rattle.spk_nums.specs.declared.calls.Call.TheVariants.{Look, Copy, Remove, Grow, Shrink, Retype, Make as make_call}
 use Rattle.spk_nums.specs.declared.calls.Call.TheVariants.{Map, Unmap, Touch, Flush, Gate, Kill, Call as call_gate}
 use Rattle.spk_nums.specs.declared.calls.Call.TheVariants.{Ret, Switch, Tick, Transfer, Delegate, Test, Part, Replenish}
 use Rattle.kernel_rules.specs.State.{Limits, State}
+use Rattle.kernel_rules.specs.Rules.{Judged, Refused, Found, Change}
+use Rattle.kernel_rules.specs.Life.{acts}
 use Rattle.kernel_rules.specs.CallRelation.{rule_of, change_of}
 use Rattle.kernel_rules.specs.Runs.{Event, after, Open, is_open, phase_of, IsRun}
+use Rattle.kernel_rules.proofs.AloneLaw.{Waits, rule_waits}
+use Rattle.kernel_rules.proofs.Changes.{IfFound, outcome_all}
 use Rattle.kernel_invariant.proofs.SoundRuns.{opened, limits_stay, open_limits, runs_sound}
 use Rattle.kernel_laws.proofs.NodesLaw.{nodes_hold_what_fits}
 use Rattle.kernel_laws.proofs.RangesLaw.{ranges_hold}
 use Rattle.seq_state.specs.Representation.{SameState}
-use Rattle.same_changes.specs.Same.{SameOutcome, SameChanges, SameActs, StaysInRange}
-use Rattle.same_changes.proofs.Reaching.{Twins}
+use Rattle.same_changes.specs.Same.{SameChanges, SameActs, StaysInRange}
+use Rattle.same_changes.specs.Region.{Region, whole, NamesIn, AgreeOutcome, ChangesAgree}
+use Rattle.same_changes.proofs.Reaching.{Twins, TwinsOn, on_machine}
 use Rattle.same_changes.proofs.InRange.{in_range}
-use Rattle.same_changes.proofs.Alike.{SameRule, outcome_same}
+use Rattle.same_changes.proofs.Alike.{SameRule, outcome_same, same_outcome}
 use Rattle.same_changes.proofs.CapabilityRules.{look_same, copy_same, remove_same, grow_same, shrink_same, make_same, part_same}
 use Rattle.same_changes.proofs.MemoryRules.{retype_same, map_same, unmap_same, touch_same, flush_same}
-use Rattle.same_changes.proofs.TimeRules.{acts_same, gate_same, kill_same, call_same, ret_same, switch_same}
+use Rattle.same_changes.proofs.TimeRules.{acts_agree, gate_same, kill_same, call_same, ret_same, switch_same}
 use Rattle.same_changes.proofs.TimeRules.{tick_same, transfer_same, delegate_same, test_same, replenish_same}
 
-pub rule_same : {t s : State} {o : ℕ → _} {c : ℕ} → Twins t s o c → (call : Call) → InLimits call
-    → SameRule s c (rule_of t c call) (rule_of s c call)
-rule_same w (Look a) fits = look_same w a
-rule_same w (Copy a x b rights) fits = copy_same w a x b rights.0
-rule_same w (Remove x b) fits = remove_same w x b
-rule_same w (Grow x i l) fits = grow_same w x i l
-rule_same w (Shrink x i) fits = shrink_same w x i
-rule_same w (Retype r f k) fits = retype_same w r f k
-rule_same w (make_call what r f x b) fits = make_same w what r f x b fits
-rule_same w (Map p v r f flags) fits = map_same w p v r f flags
-rule_same w (Unmap p v) fits = unmap_same w p v
-rule_same w (Touch v) fits = touch_same w v
-rule_same w Flush fits = flush_same w
-rule_same w (Gate k x b) fits = gate_same w k x b
-rule_same w (Kill k) fits = kill_same w k
-rule_same w (call_gate g) fits = call_same w g
-rule_same w Ret fits = ret_same w
-rule_same w (Switch h q) fits = switch_same w h q
-rule_same w (Tick n) fits = tick_same w n
-rule_same w (Transfer a b m) fits = transfer_same w a b m
-rule_same w (Delegate a b m) fits = delegate_same w a b m
-rule_same w (Test a b) fits = test_same w a b
-rule_same w (Replenish a m) fits = replenish_same w a m
-rule_same w (Part r f n x b) fits = part_same w r f n x b
+-- ---- on a region
+
+module _ {r : Region} {t s : State} {o : ℕ → _} {c : ℕ} (w : TwinsOn r t s o c) where
+  pub rule_same : (call : Call) → NamesIn r call → SameRule r s c (rule_of t c call) (rule_of s c call)
+  rule_same (Look a) names = look_same w a
+  rule_same (Copy a x b rights) names = copy_same w a x b rights.0
+  rule_same (Remove x b) names = remove_same w x b
+  rule_same (Grow x i l) names = grow_same w x i l
+  rule_same (Shrink x i) names = shrink_same w x i
+  rule_same (Retype p f k) names = retype_same w p f k
+  rule_same (make_call what p f x b) names = make_same w what p f x b names
+  rule_same (Map m v p f flags) names = map_same w m v p f flags
+  rule_same (Unmap m v) names = unmap_same w m v
+  rule_same (Touch v) names = touch_same w v
+  rule_same Flush names = flush_same w
+  rule_same (Gate k x b) names = gate_same w k x b
+  rule_same (Kill k) names = kill_same w k
+  rule_same (call_gate g) names = call_same w g
+  rule_same Ret names = ret_same w
+  rule_same (Switch h q) names = switch_same w h q
+  rule_same (Tick n) names = tick_same w n
+  rule_same (Transfer a b m) names = transfer_same w a b m
+  rule_same (Delegate a b m) names = delegate_same w a b m
+  rule_same (Test a b) names = test_same w a b
+  rule_same (Replenish a m) names = replenish_same w a m
+  rule_same (Part p f n x b) names = part_same w p f n x b
+
+  -- Whether the core may make the call is the same, and so is its outcome on the region.
+  pub call_agrees : (call : Call) → NamesIn r call
+      → (acts t c call ≡ acts s c call) × AgreeOutcome r (change_of t c call) (change_of s c call)
+  call_agrees call names = (acts_agree w call, outcome_same w (rule_of t c call) (rule_of s c call) (rule_same call names))
+
+pub changes_agree : ChangesAgree
+changes_agree setting is events run c call opens w within names t agree referred = call_agrees (record {
+  sound = runs_sound setting is events run;
+  is_open = ap is_open opens;
+  within = within;
+  agree = agree;
+  referred = referred;
+}) call names
+
+-- ---- the whole machine
+
+-- A call within its limits names a liveness number of the machine.
+make_names : (limits : Limits) (what : Make) (p f x b : ℕ) → MakeInLimits what → NamesIn (whole limits) (make_call what p f x b)
+make_names limits (make.Comp table pages live) p f x b fits = lt-ltb live 64 fits
+make_names limits make.Table p f x b fits = tt
+make_names limits make.Leaf p f x b fits = tt
+make_names limits make.Pages p f x b fits = tt
+make_names limits make.Pleaf p f x b fits = tt
+make_names limits (make.Thread comp) p f x b fits = tt
+make_names limits (make.Tcap sched quality) p f x b fits = tt
+
+names_whole : (limits : Limits) (call : Call) → InLimits call → NamesIn (whole limits) call
+names_whole limits (make_call what p f x b) fits = make_names limits what p f x b fits
+names_whole limits _ fits = tt
+
+-- A call leaves the limits as they are.
+limits_after : (s : State) (c : ℕ) (call : Call) → IfFound (change_of s c call) (λ change. change.next.limits ≡ s.limits)
+limits_after s c call = of (change_of s c call) (outcome_all (Waits s) s c (rule_of s c call) (rule_waits s c call))
+  where
+    of : (j : Judged Change) → IfFound j (Waits s) → IfFound j (λ change. change.next.limits ≡ s.limits)
+    of (Refused q) h = tt
+    of (Found change) h = h.limits
 
 -- A reached state with an open call, and a state that is one with it.
 pub twins : (setting : Setting) → IsSetting setting → (events : List Event) → IsRun setting events → (c : ℕ) (call : Call)
@@ -60,12 +108,14 @@ twins setting is events run c call opens t same = record {
 
 pub changes_same : SameChanges
 changes_same setting is events run c call opens t same =
-    let w = twins setting is events run c call opens t same in
-    outcome_same w (rule_of t c call) (rule_of (after setting events) c call)
-    (rule_same w call (open_limits setting events c call run opens))
+    let s = after setting events in
+    same_outcome s.limits (change_of t c call) (change_of s c call) (limits_after s c call)
+    (call_agrees (on_machine (twins setting is events run c call opens t same)) call
+    (names_whole s.limits call (open_limits setting events c call run opens))).1
 
 pub same_acts : SameActs
-same_acts setting is events run c call opens t same = acts_same (twins setting is events run c call opens t same) call
+same_acts setting is events run c call opens t same =
+    acts_agree (on_machine (twins setting is events run c call opens t same)) call
 
 pub stays_in_range : StaysInRange
 stays_in_range setting is events run c call opens t same =

@@ -1,9 +1,7 @@
 -- What an open call finds is in range, in every state that is one for the machine with a reached one.
-use Rattle.std.proofs.Common.{◌≡◌, ◌≢◌, ℕ, ◌+◌, ◌-◌, ◌<◌, ◌≤◌, ◌^◌, refl, sym, ◌∙◌, ap, subst, arith, true, IsTrue, List}
+use Rattle.std.proofs.Common.{◌≡◌, ℕ, ◌+◌, ◌-◌, ◌≤◌, ◌^◌, refl, sym, ◌∙◌, ap, subst, arith, IsTrue}
 use Rattle.std.proofs.lemmas.Bool.{false≢true}
-use Rattle.spk_nums.specs.Setting.{Setting, IsSetting}
 use Rattle.spk_nums.specs.Capability.{Capability}
-use Rattle.spk_nums.specs.declared.kinds.Kind.{Kind}
 use Rattle.spk_nums.specs.declared.kinds.Kind.TheVariants as kind
 use Rattle.spk_nums.specs.CallLimits.{InLimits, MakeInLimits}
 use Rattle.spk_nums.specs.declared.calls.Make.{Make}
@@ -18,10 +16,11 @@ use Rattle.kernel_rules.specs.Access.{to_use, only, to_part}
 use Rattle.kernel_rules.specs.Rules.{Judged, Refused, Found, named, mapped}
 use Rattle.kernel_rules.specs.CapabilityCalls.{epoch_of}
 use Rattle.kernel_rules.specs.Fitting.{fits, EndsWithin}
-use Rattle.kernel_rules.specs.Ranges.{NumberInRange, FrameInRange, budget_at}
+use Rattle.kernel_rules.specs.Ranges.{NumberInRange, FrameInRange}
 use Rattle.kernel_invariant.proofs.Sound.{only_is}
 use Rattle.kernel_invariant.proofs.Facts.{named_good, named_fit}
-use Rattle.seq_lookups.specs.Ranges.{WhereFound, RangeEnds, EpochFits, PageFound, HasEpoch, BudgetsFit, TicksFit, IsInRange, WholeEnds, BackFits}
+use Rattle.seq_lookups.specs.Ranges.{WhereFound, RangeEnds, EpochFits, PageFound, HasEpoch, BudgetsFit, TicksFit, WholeEnds, BackFits}
+use Rattle.seq_lookups.specs.Ranges.{IsInRange}
 use Rattle.same_changes.proofs.Reaching.{Twins, core_same, core_below, tcap_frame_same, comp_same, named_same, mapped_same, pages_good}
 use Rattle.same_changes.proofs.TimeRules.{named_frame}
 
@@ -74,7 +73,8 @@ budgets_fit : {t s : State} {o : ℕ → _} {c : ℕ} → Twins t s o c → (a b
 budgets_fit {t} {s} {o} {c} w a b = wherever (named t c a (to_use (only kind.Tcap))) _
     (λ x is. wherever (named t c b (to_use (only kind.Tcap))) _ (λ y is_other apart.
     let one = ap (λ f. (tcap_in f).budget) (named_frame w a kind.Tcap x refl (sym (named_same w a (to_use (only kind.Tcap))) ∙ is)) in
-    let other = ap (λ f. (tcap_in f).budget) (named_frame w b kind.Tcap y refl (sym (named_same w b (to_use (only kind.Tcap))) ∙ is_other)) in
+    let other = ap (λ f. (tcap_in f).budget) (named_frame w b kind.Tcap y refl
+    (sym (named_same w b (to_use (only kind.Tcap))) ∙ is_other)) in
     omega (arith, one, other, w.ranges.budgets x.frame y.frame apart)))
 
 ticks_fit : {t s : State} {o : ℕ → _} {c : ℕ} → Twins t s o c → s.limits.calls ≤ 2 ^ 40 - 1 → (n : ℕ) → n ≤ 1000000 → TicksFit t c n

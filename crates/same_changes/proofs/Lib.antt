@@ -1,3 +1,4 @@
+pub mod Agreeing
 pub mod Reaching
 pub mod Alike
 pub mod TimeRules

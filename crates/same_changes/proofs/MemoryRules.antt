@@ -1,57 +1,36 @@
--- The calls on memory come to the same.
-use Rattle.std.proofs.Common.{◌≡◌, ℕ, ◌+◌, ◌<◌, ◌≤◌, ◌==◌, Bool, true, false, not, ◌&&◌, refl, sym, ◌∙◌, ap, subst, arith, nat_le}
-use Rattle.std.proofs.Common.{nat_lt, if◌then◌else◌, zero, suc, List, [], ◌∷◌, length, Option, Some, None, is_some, IsTrue}
+-- The calls on memory come to the same on a region.
+use Rattle.std.proofs.Common.{◌≡◌, ℕ, ◌+◌, ◌<◌, ◌≤◌, ◌==◌, Bool, true, false, not, refl, sym, ◌∙◌, ap, subst, arith}
+use Rattle.std.proofs.Common.{nat_lt, if◌then◌else◌, zero, suc, [], Option, Some, None, is_some, IsTrue}
 use Rattle.std.specs.List.{list_any, range_with_len}
-use Rattle.std.proofs.lemmas.Bool.{false≢true, ltb-true}
+use Rattle.std.proofs.lemmas.Bool.{lt-ltb}
 use Rattle.spk_nums.specs.Capability.{Capability, cap_of}
 use Rattle.spk_nums.specs.declared.kinds.Kind.TheVariants as kind
 use Rattle.spk_nums.specs.declared.kinds.FrameKind.{FrameKind}
 use Rattle.spk_nums.specs.declared.kinds.FrameKind.TheVariants as frame_kind
 use Rattle.spk_nums.specs.declared.kinds.PageFlags.{PageFlags}
 use Rattle.spk_nums.specs.declared.translations.Translation.{Translation}
-use Rattle.spk_nums.specs.declared.replies.Reply.{Reply}
 use Rattle.spk_nums.specs.declared.replies.Reply.TheVariants as reply
 use Rattle.kernel_rules.specs.State.{Holds, Object, Blank, Table, Leaf, Pages, Pleaf, Comp, Thread, Tcap, Frame, Untyped, User, Kernel}
-use Rattle.kernel_rules.specs.State.{Grace, Thing, FrameOf, CompFields, Core, State, put, with_frame, with_core, with_grace, comp_of}
+use Rattle.kernel_rules.specs.State.{Thing, FrameOf, CompFields, Core, State, with_frame, with_core, with_grace, comp_of}
 use Rattle.kernel_rules.specs.Start.{no_grace}
-use Rattle.kernel_rules.specs.References.{refs, frame_names}
-use Rattle.kernel_rules.specs.Access.{to_use, Named, Under, found, only, held_in}
+use Rattle.kernel_rules.specs.References.{frame_names}
+use Rattle.kernel_rules.specs.Access.{to_use, found, only, held_in}
 use Rattle.kernel_rules.specs.GracePeriods.{same_thing, flushed}
-use Rattle.kernel_rules.specs.Rules.{Change, Cause, Found, named, refusal_of, fills, frames_of}
-use Rattle.kernel_rules.specs.CapabilityCalls.{outside, has_frame}
-use Rattle.kernel_rules.specs.MemoryCalls.{is_untyped, is_user, holds_nothing, is_empty_object, is_empty, not_retyped, retypes, retype_rule}
-use Rattle.kernel_rules.specs.MemoryCalls.{map_rule, unmap_rule, translation_of, caching, caches, touch_by, touch_rule, flush_rule}
-use Rattle.kernel_rules.specs.Fitting.{IsGood, EndsWithin}
+use Rattle.kernel_rules.specs.Rules.{Found, named, refusal_of, first_cause, frames_of}
+use Rattle.kernel_rules.specs.CapabilityCalls.{outside}
+use Rattle.kernel_rules.specs.MemoryCalls.{is_untyped, is_user, holds_nothing, is_empty_object, is_empty, not_retyped, retype_rule}
+use Rattle.kernel_rules.specs.MemoryCalls.{map_rule, unmap_rule, translation_of, caching, touch_by, touch_rule, flush_rule}
 use Rattle.kernel_rules.specs.Relies.{is_node}
-use Rattle.kernel_invariant.proofs.Sound.{only_is}
-use Rattle.kernel_invariant.proofs.Facts.{named_good, named_fit, when_not, not_not}
-use Rattle.seq_state.specs.Representation.{IsThing, SameGrace, SameState}
-use Rattle.seq_state.proofs.Same.{same_by, same_then, same_place, same_frame, same_core, same_grace_by, same_refs}
-use Rattle.same_changes.specs.Same.{SameChange}
-use Rattle.same_changes.proofs.Reaching.{Twins, pages_node, pages_good, core_same, comp_same}
-use Rattle.same_changes.proofs.Alike.{SameCauses, SameRule}
-use Rattle.same_changes.proofs.CapabilityRules.{frame_test, removes_same}
+use Rattle.kernel_invariant.proofs.Facts.{named_fit, none_parts}
+use Rattle.seq_state.specs.Representation.{SameGrace}
+use Rattle.seq_state.proofs.Same.{same_grace_by}
+use Rattle.same_changes.specs.Region.{Region, whole, AgreeOn}
+use Rattle.same_changes.proofs.Agreeing.{on_whole, agree_by, agree_then, agree_place, agree_frame, agree_core}
+use Rattle.same_changes.proofs.Reaching.{Twins, TwinsOn, pages_node, core_agree, comp_agree, pages_in, pages_at, range_at, frame_agree}
+use Rattle.same_changes.proofs.Alike.{SameRule}
+use Rattle.same_changes.proofs.CapabilityRules.{removes_same}
 
-pub named_pages : {t s : State} {o : ℕ → Bool} {c : ℕ} → Twins t s o c → (n : ℕ) (k : Capability) → named s c n (to_use (only kind.Pages)) ≡ Found k
-    → IsTrue (is_node (s.frame k.frame))
-named_pages {s = s} {o = o} {c = c} w n k is = pages_node (s.frame k.frame) (named_fit s o c n kind.Pages k w.sound w.is_open is)
-
--- A frame of a named range is one of the machine's.
-in_range : {t s : State} {o : ℕ → Bool} {c : ℕ} → Twins t s o c → (n : ℕ) (k : Capability) (f : ℕ) → named s c n (to_use (only kind.Range)) ≡ Found k
-    → refusal_of s c (outside (found k) f) ≡ None → f < s.limits.frames
-in_range {s = s} {o = o} {c = c} w n k f is calm =
-    let good = named_good s o c n (to_use (only kind.Range)) k w.sound w.is_open is in
-    let ends : k.frame + k.arg ≤ s.limits.frames = subst (λ j. EndsWithin j k.frame k.arg s.limits.frames)
-    (only_is kind.Range k.kind good.1) good.0.within in
-    let has : (nat_le k.frame f && nat_lt f (k.frame + k.arg)) ≡ true = not_not _ (when_not _ reply.OutOfRange calm) in
-    let less : f < k.frame + k.arg = ltb-true f (k.frame + k.arg) (second (nat_le k.frame f) (nat_lt f (k.frame + k.arg)) has) in
-    omega (arith, ends, less)
-  where
-    second : (a b : Bool) → (a && b) ≡ true → b ≡ true
-    second true b h = h
-    second false b h = absurd (false≢true h)
-
--- ---- retyping
+-- ---- empty frames
 
 any_same : (p q : ℕ → Bool) (a n : ℕ) → ((i : ℕ) → a ≤ i → i < a + n → p i ≡ q i)
     → list_any p (range_with_len a n) ≡ list_any q (range_with_len a n)
@@ -60,39 +39,41 @@ any_same p q a (suc n) same =
     let rest = any_same p q (a + 1) n (λ i least less. same i (omega (arith, least)) (omega (arith, less))) in
     λ i. (Rattle.std.specs.Prelude.◌||◌) (same a (omega arith) (omega arith) i) (rest i)
 
-nothing_same : {t s : State} {o : ℕ → Bool} {c : ℕ} → Twins t s o c → (f : ℕ) → f < s.limits.frames → holds_nothing t f ≡ holds_nothing s f
+nothing_agree : {r : Region} (t s : State) (f : ℕ) → r.frame f ≡ true → AgreeOn r t s → holds_nothing t f ≡ holds_nothing s f
 unfolding holds_nothing
-nothing_same {t} {s} w f below = ap not (any_same (λ i. is_some (held_in (t.place f i))) (λ i. is_some (held_in (s.place f i))) 0 64
-    (λ i least less. ap (λ p. is_some (held_in p)) (w.same.place f i below (omega (arith, less)))))
+nothing_agree t s f is e = ap not (any_same (λ i. is_some (held_in (t.place f i))) (λ i. is_some (held_in (s.place f i))) 0 64
+    (λ i least less. ap (λ p. is_some (held_in p)) (e.place f i is (omega (arith, less)))))
 
-object_empty_same : {t s : State} {o : ℕ → Bool} {c : ℕ} → Twins t s o c → (f : ℕ) (x : Object) → f < s.limits.frames
+object_agree : {r : Region} (t s : State) (f : ℕ) (x : Object) → r.frame f ≡ true → AgreeOn r t s
     → is_empty_object t f x ≡ is_empty_object s f x
-object_empty_same w f Blank below = refl
-object_empty_same w f (Comp k) below = refl
-object_empty_same w f (Thread k) below = refl
-object_empty_same w f (Tcap q) below = refl
-object_empty_same w f Table below = nothing_same w f below
-object_empty_same w f Leaf below = nothing_same w f below
-object_empty_same w f Pages below = nothing_same w f below
-object_empty_same w f Pleaf below = nothing_same w f below
+object_agree t s f Blank is e = refl
+object_agree t s f (Comp k) is e = refl
+object_agree t s f (Thread k) is e = refl
+object_agree t s f (Tcap q) is e = refl
+object_agree t s f Table is e = nothing_agree t s f is e
+object_agree t s f Leaf is e = nothing_agree t s f is e
+object_agree t s f Pages is e = nothing_agree t s f is e
+object_agree t s f Pleaf is e = nothing_agree t s f is e
 
-pub empty_same : {t s : State} {o : ℕ → Bool} {c : ℕ} → Twins t s o c → (f : ℕ) (x : Frame) → f < s.limits.frames
-    → is_empty t f x ≡ is_empty s f x
-empty_same w f Untyped below = refl
-empty_same w f User below = refl
-empty_same w f (Kernel x) below = object_empty_same w f x below
+pub empty_agree : {r : Region} (t s : State) (f : ℕ) (x : Frame) → r.frame f ≡ true → AgreeOn r t s → is_empty t f x ≡ is_empty s f x
+empty_agree t s f Untyped is e = refl
+empty_agree t s f User is e = refl
+empty_agree t s f (Kernel x) is e = object_agree t s f x is e
 
-emptied_same : (t s : State) (f : ℕ) → SameState t s
-    → SameState (with_grace (with_frame t f Untyped) (λ x. if same_thing x (FrameOf f) then no_grace else t.grace x))
+-- ---- retyping
+
+emptied_agree : {r : Region} (t s : State) (f : ℕ) → AgreeOn r t s
+    → AgreeOn r (with_grace (with_frame t f Untyped) (λ x. if same_thing x (FrameOf f) then no_grace else t.grace x))
     (with_grace (with_frame s f Untyped) (λ x. if same_thing x (FrameOf f) then no_grace else s.grace x))
-emptied_same t s f e =
-    let frames = same_frame t s f Untyped e in
+emptied_agree {r} t s f e =
+    let frames : AgreeOn r (with_frame t f Untyped) (with_frame s f Untyped) = agree_frame t s f Untyped e in
     record {
       limits = e.limits;
       place = e.place;
       frame = frames.frame;
       number = e.number;
       core = e.core;
+      inside = e.inside;
       grace = λ x is. by_thing (same_thing x (FrameOf f)) x (e.grace x is);
     }
   where
@@ -101,134 +82,157 @@ emptied_same t s f e =
     by_thing true x same = same_grace_by s.limits.cores no_grace no_grace refl
     by_thing false x same = same
 
-pub retype_same : {t s : State} {o : ℕ → Bool} {c : ℕ} → Twins t s o c → (r f : ℕ) (k : FrameKind)
-    → SameRule s c (retype_rule t r f k) (retype_rule s r f k)
-retype_same {t} {s} {o} {c} w r f frame_kind.Untyped = (
-  refl,
-  refl,
-  λ range is. (
-    (
-      (refl, λ on. refl),
-      λ inside.
-          let below = in_range w r range f is inside in (
-            (frame_test w f is_untyped, λ on. refl),
-            λ calm. (
-              (ap (nat_lt 0) (same_refs t s f w.same), λ on. ap reply.Referenced (same_refs t s f w.same)),
-              λ calm. (
-                (refl, below),
-                λ calm. (
-                  (refl, below),
-                  λ calm.
-                      ((ap not (ap (is_empty t f) (w.same.frame f below) ∙ empty_same w f (s.frame f) below), λ on. refl), λ calm. tt),
-                ),
-              ),
-            ),
-          ),
-    ),
-    λ none.
-        let below = in_range w r range f is (Rattle.kernel_invariant.proofs.Facts.none_parts (refusal_of s c (outside (found range) f))
-        (Rattle.kernel_rules.specs.Rules.first_cause s c (not_retyped s f frame_kind.Untyped)) none).0 in
-        record { value = refl; next = emptied_same t s f w.same; begins = ap (λ x. frames_of (frame_names x)) (w.same.frame f below) },
-  ),
-)
-retype_same {t} {s} w r f frame_kind.User = (
-  refl,
-  refl,
-  λ range is. (
-    ((refl, λ on. refl), λ inside. ((frame_test w f (λ x. not (is_untyped x)), λ on. refl), λ calm. tt)),
-    λ none. record { value = refl; next = same_frame t s f User w.same; begins = refl },
-  ),
-)
-retype_same {t} {s} w r f frame_kind.Kernel = (
-  refl,
-  refl,
-  λ range is. (
-    ((refl, λ on. refl), λ inside. ((frame_test w f (λ x. not (is_untyped x)), λ on. refl), λ calm. tt)),
-    λ none. record { value = refl; next = same_frame t s f (Kernel Blank) w.same; begins = refl },
-  ),
-)
-
--- ---- pages
-
-pub map_same : {t s : State} {o : ℕ → Bool} {c : ℕ} → Twins t s o c → (p v r f : ℕ) (flags : PageFlags)
-    → SameRule s c (map_rule t p v r f flags) (map_rule s p v r f flags)
-map_same {t} {s} w p v r f flags = (
-  refl,
-  refl,
-  λ pages is_pages. (
+module _ {r : Region} {t s : State} {o : ℕ → Bool} {c : ℕ} (w : TwinsOn r t s o c) where
+  pub retype_same : (p f : ℕ) (k : FrameKind) → SameRule r s c (retype_rule t p f k) (retype_rule s p f k)
+  retype_same p f frame_kind.Untyped = (
     refl,
     refl,
     λ range is. (
+      (
+        (refl, λ on. refl),
+        λ inside.
+            let is_in = range_at w p range f is inside in (
+              (frame_agree w f is_untyped is_in, λ on. refl),
+              λ calm. (
+                (ap (nat_lt 0) (w.referred f is_in), λ on. ap reply.Referenced (w.referred f is_in)),
+                λ calm. (
+                  (refl, is_in),
+                  λ calm. (
+                    (refl, is_in),
+                    λ calm. (
+                      (
+                        ap not (ap (is_empty t f) (w.agree.frame f is_in) ∙ empty_agree t s f (s.frame f) is_in w.agree),
+                        λ on. refl,
+                      ),
+                      λ calm. tt,
+                    ),
+                  ),
+                ),
+              ),
+            ),
+      ),
+      λ none.
+          let is_in = range_at w p range f is (none_parts (refusal_of s c (outside (found range) f))
+          (first_cause s c (not_retyped s f frame_kind.Untyped)) none).0 in
+          record { value = refl; next = emptied_agree t s f w.agree; begins = ap (λ x. frames_of (frame_names x)) (w.agree.frame f is_in) },
+    ),
+  )
+  retype_same p f frame_kind.User = (
+    refl,
+    refl,
+    λ range is. (
+      (
+        (refl, λ on. refl),
+        λ inside. ((frame_agree w f (λ x. not (is_untyped x)) (range_at w p range f is inside), λ on. refl), λ calm. tt),
+      ),
+      λ none. record { value = refl; next = agree_frame t s f User w.agree; begins = refl },
+    ),
+  )
+  retype_same p f frame_kind.Kernel = (
+    refl,
+    refl,
+    λ range is. (
+      (
+        (refl, λ on. refl),
+        λ inside. ((frame_agree w f (λ x. not (is_untyped x)) (range_at w p range f is inside), λ on. refl), λ calm. tt),
+      ),
+      λ none. record { value = refl; next = agree_frame t s f (Kernel Blank) w.agree; begins = refl },
+    ),
+  )
+
+  -- ---- pages
+
+  pub map_same : (m v p f : ℕ) (flags : PageFlags) → SameRule r s c (map_rule t m v p f flags) (map_rule s m v p f flags)
+  map_same m v p f flags = (
+    refl,
+    refl,
+    λ pages is_pages. (
       refl,
-      (λ on. named_pages w p pages is_pages),
-      λ at is_free. (
-        ((refl, λ on. refl), λ inside. ((frame_test w f (λ x. not (is_user x)), λ on. refl), λ calm. tt)),
-        λ none. record {
-          value = refl;
-          next = same_place t s at.node at.index (Holds (cap_of kind.Page f flags.0))
-              w.same;
-          begins = refl;
-        },
+      refl,
+      λ range is. (
+        refl,
+        (λ on. pages_at w m pages is_pages),
+        λ at is_free. (
+          (
+            (refl, λ on. refl),
+            λ inside. ((frame_agree w f (λ x. not (is_user x)) (range_at w p range f is inside), λ on. refl), λ calm. tt),
+          ),
+          λ none. record {
+            value = refl;
+            next = agree_place t s at.node at.index (Holds (cap_of kind.Page f flags.0)) w.agree;
+            begins = refl;
+          },
+        ),
       ),
     ),
-  ),
-)
+  )
 
-pub unmap_same : {t s : State} {o : ℕ → Bool} {c : ℕ} → Twins t s o c → (p v : ℕ) → SameRule s c (unmap_rule t p v) (unmap_rule s p v)
-unmap_same w p v = (
-  refl,
-  refl,
-  λ pages is_pages.
-      (refl, (λ on. named_pages w p pages is_pages), λ at mapping is_held. (tt, λ none. removes_same w at mapping)),
-)
+  pub unmap_same : (m v : ℕ) → SameRule r s c (unmap_rule t m v) (unmap_rule s m v)
+  unmap_same m v = (
+    refl,
+    refl,
+    λ pages is_pages.
+        (refl, (λ on. pages_at w m pages is_pages), λ at mapping is_held. (tt, λ none. removes_same w at mapping)),
+  )
 
-touched_same : {t s : State} {o : ℕ → Bool} {c : ℕ} → Twins t s o c → (v : ℕ) (tr : Option Translation)
-    → SameRule s c (touch_by t c (comp_of s c).pages v tr) (touch_by s c (comp_of s c).pages v tr)
-touched_same w v (Some tr) = (((refl, λ on. refl), λ calm. tt), λ none. record { value = refl; next = w.same; begins = refl })
-touched_same {t} {s} {o} {c} w v None = (
-  refl,
-  refl,
-  pages_good w,
-  λ mapping is. (
-    tt,
-    λ none.
-        let tr : Translation =
-        record { pages = (comp_of s c).pages; page = v; frame = mapping.frame; flags = record { 0 = mapping.arg } } in
-        record {
-          value = refl;
-          next = same_then _ _ _
-              (same_by _ _ (ap (λ (k : Core). with_core t c (record k { cached = caching k.cached tr })) (core_same w)))
-              (same_core t s c (record (s.core c) { cached = caching (s.core c).cached tr }) w.same);
-          begins = refl;
-        },
-  ),
-)
+  touched_same : (v : ℕ) (tr : Option Translation)
+      → SameRule r s c (touch_by t c (comp_of s c).pages v tr) (touch_by s c (comp_of s c).pages v tr)
+  touched_same v (Some tr) = (((refl, λ on. refl), λ calm. tt), λ none. record { value = refl; next = w.agree; begins = refl })
+  touched_same v None = (
+    refl,
+    refl,
+    pages_in w,
+    λ mapping is. (
+      tt,
+      λ none.
+          let tr : Translation =
+          record { pages = (comp_of s c).pages; page = v; frame = mapping.frame; flags = record { 0 = mapping.arg } } in
+          record {
+            value = refl;
+            next = agree_then _ _ _
+                (agree_by _ _ (ap (λ (k : Core). with_core t c (record k { cached = caching k.cached tr })) (core_agree w)))
+                (agree_core t s c (record (s.core c) { cached = caching (s.core c).cached tr }) w.agree);
+            begins = refl;
+          },
+    ),
+  )
 
-pub touch_same : {t s : State} {o : ℕ → Bool} {c : ℕ} → Twins t s o c → (v : ℕ) → SameRule s c (touch_rule t c v) (touch_rule s c v)
-touch_same {t} {s} {o} {c} w v =
-    let pages : (comp_of t c).pages ≡ (comp_of s c).pages = ap (λ (k : CompFields). k.pages) (comp_same w) in
-    let tr : translation_of (t.core c).cached (comp_of t c).pages v ≡ translation_of (s.core c).cached (comp_of s c).pages v = λ i.
-    translation_of (core_same w i).cached (pages i) v in
-    subst (λ r. SameRule s c r (touch_rule s c v)) (λ i. touch_by t c (sym pages i) v (sym tr i))
-    (touched_same w v (translation_of (s.core c).cached (comp_of s c).pages v))
+  pub touch_same : (v : ℕ) → SameRule r s c (touch_rule t c v) (touch_rule s c v)
+  touch_same v =
+      let pages : (comp_of t c).pages ≡ (comp_of s c).pages = ap (λ (k : CompFields). k.pages) (comp_agree w) in
+      let tr : translation_of (t.core c).cached (comp_of t c).pages v ≡ translation_of (s.core c).cached (comp_of s c).pages v = λ i.
+      translation_of (core_agree w i).cached (pages i) v in
+      subst (λ x. SameRule r s c x (touch_rule s c v)) (λ i. touch_by t c (sym pages i) v (sym tr i))
+      (touched_same v (translation_of (s.core c).cached (comp_of s c).pages v))
 
-flushed_same : {t s : State} {o : ℕ → Bool} {c : ℕ} → Twins t s o c → SameState (flushed t c) (flushed s c)
-flushed_same {t} {s} {o} {c} w =
-    let cores = same_then _ _ _ (same_by _ _ (ap (λ (k : Core). with_core t c (record k { cached = [] })) (core_same w)))
-    (same_core t s c (record (s.core c) { cached = [] }) w.same) in
-    record {
-      limits = w.same.limits;
-      place = w.same.place;
-      frame = w.same.frame;
-      number = w.same.number;
-      core = cores.core;
-      grace = λ x is. let g = w.same.grace x is in record {
-        waits = g.waits;
-        not_passed = g.not_passed;
-        unflushed = λ d less. ap (λ b. if d == c then false else b) (g.unflushed d less);
-        flush_unknown = g.flush_unknown;
-      };
-    }
+  flushed_same : AgreeOn r (flushed t c) (flushed s c)
+  flushed_same =
+      let cores : AgreeOn r (with_core t c (record (t.core c) { cached = [] })) (with_core s c (record (s.core c) { cached = [] })) =
+      agree_then _ _ _ (agree_by _ _ (ap (λ (k : Core). with_core t c (record k { cached = [] })) (core_agree w)))
+      (agree_core t s c (record (s.core c) { cached = [] }) w.agree) in
+      record {
+        limits = w.agree.limits;
+        place = w.agree.place;
+        frame = w.agree.frame;
+        number = w.agree.number;
+        core = cores.core;
+        inside = cores.inside;
+        grace = λ x is. let g = w.agree.grace x is in record {
+          waits = g.waits;
+          not_passed = g.not_passed;
+          unflushed = λ d less. ap (λ b. if d == c then false else b) (g.unflushed d less);
+          flush_unknown = g.flush_unknown;
+        };
+      }
 
-pub flush_same : {t s : State} {o : ℕ → Bool} {c : ℕ} → Twins t s o c → SameRule s c (flush_rule t c) (flush_rule s c)
-flush_same w = (tt, λ none. record { value = refl; next = flushed_same w; begins = refl })
+  pub flush_same : SameRule r s c (flush_rule t c) (flush_rule s c)
+  flush_same = (tt, λ none. record { value = refl; next = flushed_same; begins = refl })
+
+-- ---- the whole machine
+
+module _ {t s : State} {o : ℕ → Bool} {c : ℕ} (w : Twins t s o c) where
+  pub named_pages : (n : ℕ) (k : Capability) → named s c n (to_use (only kind.Pages)) ≡ Found k → IsTrue (is_node (s.frame k.frame))
+  named_pages n k is = pages_node (s.frame k.frame) (named_fit s o c n kind.Pages k w.sound w.is_open is)
+
+  pub empty_same : (f : ℕ) (x : Frame) → f < s.limits.frames → is_empty t f x ≡ is_empty s f x
+  empty_same f x below = empty_agree {r = whole s.limits} t s f x (lt-ltb f s.limits.frames below) (on_whole t s w.same)

@@ -63,9 +63,9 @@ draft_none d words none other = by_order (is_order d.head.section)
     by_line (Ok l) calm = line_added d l none calm
     by_line (Err e) calm = tt
 
-    by_order : (b : Bool) → IfOk (if b then (items_of d.head.cores d.order words >>= λ order. Ok (record d { order = order }))
+    by_order : (b : Bool) → IfOk (if b then (items_of d.head.version d.head.cores d.order words >>= λ order. Ok (record d { order = order }))
         else (line_of d.head words >>= λ l. Ok (with_line d l))) HasNone
-    by_order true = by_items (items_of d.head.cores d.order words)
+    by_order true = by_items (items_of d.head.version d.head.cores d.order words)
     by_order false = by_line (line_of d.head words) (line_calm d.head words other)
 
 -- ---- the script and the tasks

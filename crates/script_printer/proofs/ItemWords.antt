@@ -122,17 +122,17 @@ digit_parts Decide core h = below_eight (λ n. parts_of (digit_item n Decide) �
 digit_parts Return core h = below_eight (λ n. parts_of (digit_item n Return) ≡ Some (record { digits = (48 + n) ∷ []; how = Return }))
     refl refl refl refl refl refl refl refl core h
 
-digit_read : (cores core : ℕ) (how : How) → core < cores → core < 8
-    → item_of cores (digit_item core how) ≡ Ok (record { core = core; how = how })
+digit_read : (version cores core : ℕ) (how : How) → core < cores → core < 8
+    → item_of version cores (digit_item core how) ≡ Ok (record { core = core; how = how })
 unfolding item_of
-digit_read cores core how below h =
+digit_read version cores core how below h =
     let value : value_of ((48 + core) ∷ []) ≡ core = omega arith in
     rw (digit_parts how core h, value, lt-ltb core cores below) refl
 
 -- an item is read as it was printed
-pub item_read : (cores : ℕ) (i : Item) → i.core < cores → cores ≤ 8 → item_of cores (item_text i) ≡ Ok i
-item_read cores i below fits = ap (item_of cores) (item_digit i.core i.how (omega arith))
-    ∙ digit_read cores i.core i.how below (omega arith)
+pub item_read : (version cores : ℕ) (i : Item) → i.core < cores → cores ≤ 8 → item_of version cores (item_text i) ≡ Ok i
+item_read version cores i below fits = ap (item_of version cores) (item_digit i.core i.how (omega arith))
+    ∙ digit_read version cores i.core i.how below (omega arith)
 
 front_lines : (w : List ℕ) (lines : List (List (List ℕ))) → is_text w ≡ true → are_lines lines ≡ true → are_lines (in_front w lines) ≡ true
 front_lines w [] h hs = rw h refl

@@ -192,7 +192,7 @@ item_behind : (h : Head) (lists : List (List Call)) (order : List Item) (i : Ite
     → h.section ≡ section.Order → i.core < h.cores → h.cores ≤ 8 → length order < 200000
     → draft_behind (draft h lists order) (item_text i ∷ words) ≡ draft_behind (draft h lists (order ++ i ∷ [])) words
 unfolding draft_behind
-item_behind h lists order i words e below few room = rw (e, item_read h.cores i below few, lt-ltb (length order) 200000 room) refl
+item_behind h lists order i words e below few room = rw (e, item_read h.version h.cores i below few, lt-ltb (length order) 200000 room) refl
 
 order_line_end : (h : Head) (lists : List (List Call)) (order : List Item)
     → h.section ≡ section.Order → draft_behind (draft h lists order) [] ≡ Ok (draft h lists order)

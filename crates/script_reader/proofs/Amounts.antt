@@ -45,7 +45,7 @@ unfolding draft_behind behind_line
 few_behind n d e words is h =
     elim (cases_Bool (is_order d.head.section)) [
       | inl order ↦
-          let b = bind_ok (items_of d.head.cores d.order words) (λ more. Ok (record d { order = more })) e (rw order at is) in
+          let b = bind_ok (items_of d.head.version d.head.cores d.order words) (λ more. Ok (record d { order = more })) e (rw order at is) in
           let same : record d { order = b.0 } ≡ e = judged_is _ _ b.2 in
           subst (λ (x : Draft_of). All (AtMost (n + 1)) x.lists) same (few_weaker n (n + 1) d.lists (omega arith) h)
       | inr order ↦

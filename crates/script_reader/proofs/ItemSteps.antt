@@ -9,24 +9,24 @@ use Rattle.line_reader.specs.Arguments.{texts}
 use Rattle.script_reader.specs.Orders.{item_of, items_of}
 use Rattle.script_reader.specs.Readings.{BelowCores}
 
--- the items so far, and what the words that follow still give
-pub record Adds (cores : ℕ) (old : List Item) (words : List Token) (i : ℕ) (order : List Item) : Type 0 where
-  pub value : items_of cores order (texts (drop i words)) ≡ items_of cores old (texts words)
+-- the items so far, and what the words that follow still give in a script of this version
+pub record Adds (version cores : ℕ) (old : List Item) (words : List Token) (i : ℕ) (order : List Item) : Type 0 where
+  pub value : items_of version cores order (texts (drop i words)) ≡ items_of version cores old (texts words)
   pub below : BelowCores cores old → BelowCores cores order
 
 cut : (words : List Token) (i : ℕ) (d : Token) → i < length words
     → texts (drop i words) ≡ (get_or words i d).text.now ∷ texts (drop (i + 1) words)
 cut words i d lt = ap texts (drop_more words i d lt)
 
-pub adds_more : (cores : ℕ) (old : List Item) (words : List Token) (i : ℕ) (order more : List Item) (d : Token) (item : Item)
-    → i < length words → Ok item ≡ item_of cores (get_or words i d).text.now
+pub adds_more : (version cores : ℕ) (old : List Item) (words : List Token) (i : ℕ) (order more : List Item) (d : Token) (item : Item)
+    → i < length words → Ok item ≡ item_of version cores (get_or words i d).text.now
     → item.core < cores → length order < 200000 → more ≡ order ++ item ∷ []
-    → Adds cores old words i order → Adds cores old words (i + 1) more
-adds_more cores old words i order more d item lt e below few new a =
+    → Adds version cores old words i order → Adds version cores old words (i + 1) more
+adds_more version cores old words i order more d item lt e below few new a =
     let rest = texts (drop (i + 1) words) in
-    let step : items_of cores order ((get_or words i d).text.now ∷ rest) ≡ items_of cores (order ++ item ∷ []) rest =
+    let step : items_of version cores order ((get_or words i d).text.now ∷ rest) ≡ items_of version cores (order ++ item ∷ []) rest =
     rw (sym e, lt-ltb (length order) 200000 few) refl in
     record {
-      value = ap (λ o. items_of cores o rest) new ∙ sym step ∙ ap (items_of cores order) (sym (cut words i d lt)) ∙ a.value;
+      value = ap (λ o. items_of version cores o rest) new ∙ sym step ∙ ap (items_of version cores order) (sym (cut words i d lt)) ∙ a.value;
       below = λ h. subst (BelowCores cores) (sym new) (All-push (λ (x : Item). x.core < cores) order item (a.below h) below);
     }

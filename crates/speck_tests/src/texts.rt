@@ -127,7 +127,16 @@ fn parts_print_as_they_are_written(rt: HostRuntime) -> Result<(), Fail> {
 #[test]
 fn replenishments_print_as_they_are_written(rt: HostRuntime) -> Result<(), Fail> {
     let alloc = rt.alloc();
-    assert!(rt; prints(alloc, &Call::Replenish { a: id(12), m: 4_000_000_000 }, "replenish 12 4000000000")?);
+    assert!(rt;
+        prints(
+            alloc,
+            &Call::Replenish {
+                a: id(12),
+                m: 4_000_000_000
+            },
+            "replenish 12 4000000000"
+        )?
+    );
     Ok(())
 }
 

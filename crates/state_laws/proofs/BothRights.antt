@@ -21,7 +21,7 @@ use Rattle.spk_nums.specs.declared.replies.Reply.TheVariants as reply
 use Rattle.kernel_rules.specs.State.{Place, Free, Holds, Quiescing, PlaceOf, State, put, with_place, thread_in, thread_of, comp_of}
 use Rattle.kernel_rules.specs.Start.{plain_cap, start_cap, place_with, start}
 use Rattle.kernel_rules.specs.Access.{Slot, Named, Want, Under, InRoot, found, place_at, usable_in, usable, reached, own, any}
-use Rattle.kernel_rules.specs.Access.{to_look, to_copy, to_use, to_part}
+use Rattle.kernel_rules.specs.Access.{only, to_look, to_copy, to_use, to_part}
 use Rattle.kernel_rules.specs.Rules.{Change, Judged, Refused, Found, named, held}
 use Rattle.kernel_rules.specs.CapabilityCalls.{make_rule}
 use Rattle.kernel_rules.specs.MemoryCalls.{retype_rule, touch_by, translation_of}

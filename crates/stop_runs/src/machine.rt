@@ -1,17 +1,15 @@
 //! The machine for given orders, with the plain kernel beside it.
 
-ghost use Rattle.std.specs.Prelude.{◌≡◌, ◌<◌, ◌^◌, ◌↔◌, ℕ, None, true, IsTrue, All, length, map};
-ghost use Rattle.spk_nums.specs.CallLimits.{InLimits};
-ghost use Rattle.lone_kernel.specs.Machine.{AreLists, core_at};
+ghost use Rattle.std.specs.Prelude.{◌≡◌, length};
 ghost use Rattle.lone_kernel.specs.word_map.specs.Places.{size_of};
-ghost use Rattle.stop_runs.specs.Lists.{IsRunnable};
 
 use crate::fault::Fault;
 use crate::judge::Judge;
+use lone_checks::{are_lists, are_out};
 use lone_kernel::LoneKernel;
 use plain_tables::tables;
 use run_outcomes::are_due;
-use spk_nums::{Call, CoreNo, How, Item, Reply, Setup, in_limits};
+use spk_nums::{Call, CoreNo, How, Item, Reply, Setup};
 use std::alloc::Global;
 use stop_causes::is_so;
 use table_report::machine_image::image_of;
@@ -28,37 +26,6 @@ pub struct Machine {
     judge: Judge,
 }
 
-// Whether these calls are in their limits.
-fn are_in_limits(calls: &[Call]) -> bool
-    ensures { IsTrue result ↔ All InLimits calls.now }
-{
-    'each: for call in calls {
-        if !in_limits(call) {
-            return false;
-        }
-    }
-    true
-}
-
-// Whether a list can be run: its calls are in their limits, and few.
-fn is_list(calls: &[Call]) -> bool
-    ensures { IsTrue result → IsRunnable calls.now }
-{
-    are_in_limits(calls) && calls.len() < 4_294_967_296
-}
-
-// Whether each list can be run.
-fn are_lists(lists: &[Vec<Call>]) -> bool
-    ensures { IsTrue result → AreLists (map (λ v. v.items) lists.now) }
-{
-    'lists: for list in lists {
-        if !is_list(list.as_slice()) {
-            return false;
-        }
-    }
-    true
-}
-
 // A copy of the lists.
 fn copied(alloc: Global, lists: &[Vec<Call>]) -> Result<Vec<Vec<Call>>, Fault> {
     let mut copies = Vec::with_capacity(alloc, lists.len())?;
@@ -66,18 +33,6 @@ fn copied(alloc: Global, lists: &[Vec<Call>]) -> Result<Vec<Vec<Call>>, Fault> {
         copies.push(Vec::from_slice(alloc, list.as_slice())?)?;
     }
     Ok(copies)
-}
-
-// Whether no core is in a call.
-fn are_out(kernel: &LoneKernel) -> bool
-    ensures { result ≡ true → (c : ℕ) → c < kernel.now.setup.cores → (core_at kernel.now c).active ≡ None }
-{
-    'cores: for number in 0..kernel.setup().cores() {
-        if kernel.inside(CoreNo::new(number)).is_some() {
-            return false;
-        }
-    }
-    true
 }
 
 // The machine's tables.

@@ -102,6 +102,7 @@ maps_none call budgets h = false≢true h
 outside_none : (call : Call) (ks : List Capability) → changes_budgets call ≡ true → OutsideBy call ks → ⊥
 outside_none (call_as.Make what r f u b) ks budgets h = false≢true budgets
 outside_none (call_as.Map p v r f w) ks budgets h = false≢true budgets
+outside_none (call_as.Part r f n u b) ks budgets h = false≢true budgets
 outside_none call ks budgets h = h
 
 kills_none : (call : Call) (ks : List Capability) (f : ℕ) → changes_budgets call ≡ true → KillsBy call ks f → ⊥

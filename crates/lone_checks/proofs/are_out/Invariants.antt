@@ -1,0 +1,6 @@
+use Rattle.std.proofs.Common.{◌≡◌, ℕ, ◌<◌, None}
+use Rattle.lone_kernel.specs.Machine.{core_at}
+use Rattle.lone_checks.proofs.are_out.Given as goal
+
+abbrev pub invariant-cores : goal.invariant-cores
+invariant-cores l = (c : ℕ) → c < l.number → (core_at l.kernel c).active ≡ None

@@ -1,0 +1,17 @@
+pub mod Examples
+pub mod Others
+pub mod Working
+pub mod Sides
+pub mod Splitting
+pub mod Referring
+pub mod Telling
+pub mod Touching
+pub mod MayAlike
+pub mod MayRules
+pub mod Keeping
+pub mod Phases
+pub mod Apart
+pub mod Cores
+pub mod Inside
+pub mod Silence
+pub mod InOrder

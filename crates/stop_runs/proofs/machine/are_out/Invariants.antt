@@ -1,6 +1,0 @@
-use Rattle.std.proofs.Common.{◌≡◌, ℕ, ◌<◌, None}
-use Rattle.lone_kernel.specs.Machine.{core_at}
-use Rattle.stop_runs.proofs.machine.are_out.Given as goal
-
-abbrev pub invariant-cores : goal.invariant-cores
-invariant-cores l = (c : ℕ) → c < l.number → (core_at l.kernel c).active ≡ None
