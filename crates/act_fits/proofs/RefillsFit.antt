@@ -60,7 +60,8 @@ module _ (own : Own) (a : ActiveCall) (facts : Facts own a) (room : own.made < o
 
       by_mark : (mark : Option ℕ) → TookFits own (2 + length a.counts + 10) a
           (landed a (took_refilled (record next { at = from_mark mark }) (end_by_mark mark)))
-      by_mark None = goes _ (record next { at = at_list 1 }) (placed own.layout next (at_list 1) on (omega arith, omega arith)) (omega arith)
+      by_mark None = goes _ (record next { at = at_list 1 })
+          (placed own.layout next (at_list 1) on (omega arith, omega arith)) (omega arith)
       by_mark (Some d) = refused _ (refusal.Busy d) (omega arith)
 
       by : (o : Option HeadWord) → TookFits own (2 + length a.counts + 10) a

@@ -14,7 +14,8 @@ use Rattle.call_stages.specs.spk_nums.specs.declared.kinds.Kind.TheVariants as k
 use Rattle.call_stages.specs.spk_nums.specs.declared.calls.Call.{Call}
 use Rattle.call_stages.specs.spk_nums.specs.declared.calls.Call.TheVariants.{Look as look_call, Copy, Remove, Shrink, Unmap, Retype}
 use Rattle.call_stages.specs.spk_nums.specs.declared.calls.Call.TheVariants.{Make as make_call, Tick, Gate, Kill, Grow, Flush, Map}
-use Rattle.call_stages.specs.spk_nums.specs.declared.calls.Call.TheVariants.{Call as call_gate, Ret, Switch, Transfer, Delegate, Test, Part, Replenish}
+use Rattle.call_stages.specs.spk_nums.specs.declared.calls.Call.TheVariants.{Call as call_gate, Ret, Switch, Transfer, Delegate, Test}
+use Rattle.call_stages.specs.spk_nums.specs.declared.calls.Call.TheVariants.{Part, Replenish}
 use Rattle.call_stages.specs.entry_words.specs.declared.entry.Entry.{Entry}
 use Rattle.call_stages.specs.entry_words.specs.declared.entry.Entry.TheVariants as entry
 use Rattle.call_stages.specs.word_map.specs.Places.{Shape}

@@ -36,8 +36,8 @@ module _ (s : State) (c : ℕ) (o : ℕ → Bool) (h : IsOpen s o c) (call : Cal
 
   -- What holds before, and holds on where the core, but for its thread and what it has left to have back, or grace periods change, holds
   -- after a decision if it does after a call's edits.
-  pub decided_from : (Q : State → Type 0) → Q s → ((t : State) (k : Core) → k.thread ≡ (t.core c).thread → outstanding k ≡ outstanding (t.core c)
-      → Q t → Q (with_core t c k))
+  pub decided_from : (Q : State → Type 0) → Q s
+      → ((t : State) (k : Core) → k.thread ≡ (t.core c).thread → outstanding k ≡ outstanding (t.core c) → Q t → Q (with_core t c k))
       → ((t : State) (g : Thing → Grace) → Q t → Q (with_grace t g))
       → ((es : List Edit) → Calm c s es → EachBy call s c es → Q (after_edits c s es))
       → (r : Reply) → MayReply s c call r → Q (state_by s c call r)

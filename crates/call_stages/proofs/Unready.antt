@@ -176,7 +176,8 @@ refill_word_no r less left None = tt
 refill_word_no r true left (Some v) = tt
 refill_word_no r false left (Some v) = tt
 
-pub refill_unready : (r : Refill) (at : RefillAt) (found : ℕ) → is_refilling at ≡ false → NoAnswer (took_refill (record r { at = at }) found)
+pub refill_unready : (r : Refill) (at : RefillAt) (found : ℕ) → is_refilling at ≡ false
+    → NoAnswer (took_refill (record r { at = at }) found)
 refill_unready r refill.Load found not = refill_head_no _ (head_of_word found)
 refill_unready r (refill.List entry) found not = refill_word_no _ _ _ (quality_of_word found)
 refill_unready r refill.Compare found not = absurd (cc)

@@ -135,7 +135,8 @@ ends_are core s c is =
     ∙ ap (λ (x : ℕ). end_with (s.core c).thread (s.core c).tcap x core.own.spent core.own.back core.own.owed core.own.cached) is.comp
     ∙ ap (λ (x : ℕ). end_with (s.core c).thread (s.core c).tcap (end_in s c).comp x core.own.back core.own.owed core.own.cached) is.spent
     ∙ ap (λ (x : ℕ). end_with (s.core c).thread (s.core c).tcap (end_in s c).comp (s.core c).spent x core.own.owed core.own.cached) is.back
-    ∙ ap (λ (x : ℕ). end_with (s.core c).thread (s.core c).tcap (end_in s c).comp (s.core c).spent (s.core c).back x core.own.cached) is.owed
+    ∙ ap (λ (x : ℕ). end_with (s.core c).thread (s.core c).tcap (end_in s c).comp (s.core c).spent (s.core c).back x core.own.cached)
+    is.owed
     ∙ ap (λ x. end_with (s.core c).thread (s.core c).tcap (end_in s c).comp (s.core c).spent (s.core c).back (s.core c).owed x) is.cached
 
 module _ (setup : Setting) (setting : IsSetting setup) (cores : ℕ → Core) (t : Trace) (stands : Invariant setup cores t)

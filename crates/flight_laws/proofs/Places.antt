@@ -18,7 +18,8 @@ use Rattle.time_laws.proofs.Common.{ReturningAt, Switching, SwitchAt, Pair, Pair
 use Rattle.time_laws.proofs.Common.{Untyping, Work, Lookup, Read, Scan, Acquire, Act, Stage, Enter, Living, Undecided, Decided, Leave}
 use Rattle.time_laws.proofs.Common.{ActiveCall}
 use Rattle.time_laws.proofs.Common.{stage_move, absorbed, absorbed_in, told_in, Core, decided_in, returned_in, IsSpot, LooksUp, own_in}
-use Rattle.time_laws.proofs.Common.{LooksFor, ChargesBy, KnowsWork, KnowsAt, CallIs, phase_at, HasTcap, KnowsPairAt, KnowsRefillAt, HasThread, claimed_by}
+use Rattle.time_laws.proofs.Common.{LooksFor, ChargesBy, KnowsWork, KnowsAt, CallIs, phase_at, HasTcap, KnowsPairAt, KnowsRefillAt}
+use Rattle.time_laws.proofs.Common.{HasThread, claimed_by}
 use Rattle.time_laws.proofs.Common.{Invariant, limits_of, slot_relies}
 use Rattle.std.specs.Prelude.{IsTrue}
 use Rattle.time_laws.specs.spk_nums.specs.declared.kinds.Kind.TheVariants.{Comp as comp_kind}

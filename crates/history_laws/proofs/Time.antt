@@ -22,7 +22,8 @@ use Rattle.history_laws.specs.Moments.{AtEachMoment, AtEachStep}
 use Rattle.history_laws.specs.Sums.{HeadHolds, TimeSums}
 use Rattle.history_laws.specs.Time.{KeepsTicks, TicksAreCounted, BackIsCounted, HeadsSay, OpenHeadsSay, ShowsOwed, LeadsTo}
 use Rattle.history_laws.specs.Time.{state_of_decision, MarkedHeadsSay, ListsSay, TellsOf, TestsTell}
-use Rattle.history_laws.specs.Scenes.{head_word, ticks_lost, tick_refused, replenish_unspent, budget_lost, marked_lost, list_changed, taken_early, added_twice}
+use Rattle.history_laws.specs.Scenes.{head_word, ticks_lost, tick_refused, replenish_unspent, budget_lost, marked_lost, list_changed}
+use Rattle.history_laws.specs.Scenes.{taken_early, added_twice}
 use Rattle.history_laws.specs.Scenes.{tests_nothing}
 use Rattle.history_laws.specs.Refusals.{TimeRefuses}
 use Rattle.history_laws.proofs.Traces.{whole, newest, breaks}

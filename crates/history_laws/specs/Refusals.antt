@@ -27,7 +27,8 @@ use Rattle.history_laws.specs.Scenes.{looks_on, looked, none_ready, reads_stray,
 use Rattle.history_laws.specs.Scenes.{leaf_one_untyped}
 use Rattle.history_laws.specs.Scenes.{counts_five, dates_early, counts_twice, freezes_one, freezes_both, copy_freezes, draws_held}
 use Rattle.history_laws.specs.Scenes.{cached_eight, touches_nine, killed, goes_through, looks_dead, both_run, runs_idle}
-use Rattle.history_laws.specs.Scenes.{ticks_lost, tick_refused, replenish_unspent, budget_lost, marked_lost, list_changed, taken_early, added_twice}
+use Rattle.history_laws.specs.Scenes.{ticks_lost, tick_refused, replenish_unspent, budget_lost, marked_lost, list_changed, taken_early}
+use Rattle.history_laws.specs.Scenes.{added_twice}
 use Rattle.history_laws.specs.Scenes.{tests_nothing}
 
 -- A law of traces refuses the trace, which is legal, in the footprints of its calls, within their bounds and disciplined.

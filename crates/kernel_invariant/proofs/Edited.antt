@@ -34,7 +34,8 @@ use Rattle.kernel_rules.specs.CapabilityCalls.{outside, not_blank, makes, make_n
 use Rattle.kernel_rules.specs.MemoryCalls.{is_untyped_now, is_empty, not_retyped, retype_rule, touch_by, translation_of, translated}
 use Rattle.kernel_rules.specs.Life.{is_live_in}
 use Rattle.kernel_rules.specs.InvocationCalls.{not_live, switch_to}
-use Rattle.kernel_rules.specs.TimeCalls.{tcap_at, with_tcap, with_budget, merged_list, are_same, is_short, are_unlike, are_many, moved, is_finer, is_less}
+use Rattle.kernel_rules.specs.TimeCalls.{tcap_at, with_tcap, with_budget, merged_list, are_same, is_short, are_unlike, are_many, moved}
+use Rattle.kernel_rules.specs.TimeCalls.{is_finer, is_less}
 use Rattle.kernel_rules.specs.GracePeriods.{begun}
 use Rattle.kernel_rules.specs.CallRelation.{rule_of, change_of, changed, MayReply, ends_by, flushes_by}
 use Rattle.kernel_rules.proofs.Changes.{IfFound}
@@ -154,7 +155,8 @@ abbrev pub Each : (ℕ → State → Edit → Type 0) → ℕ → State → List
 Each P c s [] = Unit {0}
 Each P c s (e ∷ es) = P c s e × Each P c (edited c s e) es
 
--- A list of edits ends the grace periods that the call ends, flushes where it does, leaves the others, and charges and gives back as many ticks.
+-- A list of edits ends the grace periods that the call ends, flushes where it does, leaves the others, and charges and gives back as many
+-- ticks.
 abbrev pub Agrees : Call → ℕ → List Edit → Type 0
 Agrees call c list =
     ((x : Thing) → ends_by call x ≡ ends_all list x)

@@ -71,7 +71,8 @@ charged_ticks _ = refl
 changed_due : (s : State) (c : ℕ) (call : Call) (v : Value) → MayReply s c call (reply.Ok v)
     → Counts s c (ticks_of call) (changed s (change_of s c call)).core
 changed_due s c call v may = after_ok s c call v (λ t. Counts s c (ticks_of call) t.core) may (λ change e.
-    subst (λ n. Counts s c n (after_edits c s e.list).core) (ap (λ (p : ℕ × ℕ). p.0) (sym e.agrees.3) ∙ charged_ticks call) (edits_due c s e.list))
+    subst (λ n. Counts s c n (after_edits c s e.list).core) (ap (λ (p : ℕ × ℕ). p.0) (sym e.agrees.3) ∙ charged_ticks call)
+    (edits_due c s e.list))
 
 -- A core is counted.
 counted_due : (s t : State) (c n : ℕ) (k : Core) → due k ≡ due (t.core c) → Counts s c n t.core → Counts s c n (put t.core c k)

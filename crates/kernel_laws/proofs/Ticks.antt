@@ -119,7 +119,8 @@ edit_ticks c s (Charge n) k within =
     least : (a b : ℕ) → min a b ≤ b
     least a b = omega arith
 edit_ticks c s (Move a b m) k within = moved_ticks s a b m k
-edit_ticks c s (Merge f qs) k within = same_budget s f _ k.to.below (put_budget (s.frame f) (record (tcap_at s f) { qualities = qs }) k.to.fit)
+edit_ticks c s (Merge f qs) k within =
+    same_budget s f _ k.to.below (put_budget (s.frame f) (record (tcap_at s f) { qualities = qs }) k.to.fit)
 edit_ticks c s (Give f m) k within =
     let a = budget_ticks s f ((tcap_at s f).budget + m) k.to in
     let b = core_ticks (with_budget s f ((tcap_at s f).budget + m)) c (record (s.core c) { back = (s.core c).back + m }) k.core in

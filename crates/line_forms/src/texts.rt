@@ -1,7 +1,8 @@
 //! What may stand at a place, as it is told.
 
 ghost use Rattle.std.specs.Prelude.{◌≡◌, Some};
-ghost use Rattle.line_forms.specs.Texts.{script_words, history_words, sched_words, end_word, more_words, begin_words, third_words, late_words, due_text};
+ghost use Rattle.line_forms.specs.Texts.{script_words, history_words, sched_words, end_word, more_words, begin_words, third_words};
+ghost use Rattle.line_forms.specs.Texts.{late_words, due_text};
 
 use crate::context::{Context, Reading, Stage};
 use crate::slots::Slot;

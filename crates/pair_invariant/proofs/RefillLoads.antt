@@ -16,7 +16,8 @@ use Rattle.count_invariant.specs.kernel_history.proofs.Laws.{own_is_last, read_i
 use Rattle.count_invariant.specs.stage_tcap.specs.Charging.{end_by_mark, head_end}
 use Rattle.count_invariant.specs.stage_tcap.specs.Lists.{read_word}
 use Rattle.count_invariant.specs.stage_tcap.specs.Pairs.{noted}
-use Rattle.count_invariant.specs.stage_tcap.specs.Refilling.{from_mark, from_head, from_word, next_in, weighed_at, weighed, at_word, word_end}
+use Rattle.count_invariant.specs.stage_tcap.specs.Refilling.{from_mark, from_head, from_word, next_in, weighed_at, weighed, at_word}
+use Rattle.count_invariant.specs.stage_tcap.specs.Refilling.{word_end}
 use Rattle.count_invariant.specs.stage_tcap.specs.declared.refill.Refill.{Refill}
 use Rattle.count_invariant.specs.stage_tcap.specs.declared.refill.RefillAt.TheVariants.{Load, List as at_list, Compare, Again}
 use Rattle.count_invariant.specs.act_states.specs.Refills.{took_refill, took_refilled}
@@ -65,7 +66,8 @@ module _ (setup : Setting) (setting : IsSetting setup) (cores : ℕ → Core) (t
       (λ carries. record {
         acts = has.acts;
         names = names_on setup setting t (loads i) stands.legal c a.call
-            (calls.is_open setup setting cores t stands c here a active r stage_is has) carries (cores c).own.table a.plan a.found has.names;
+            (calls.is_open setup setting cores t stands c here a active r stage_is has) carries (cores c).own.table
+            a.plan a.found has.names;
         knows = record {
           knows = record {
             refills = refills_same s c a.call a.found r q tcap ticks left grant has.knows.knows.refills;
@@ -246,7 +248,8 @@ module _ (setup : Setting) (setting : IsSetting setup) (cores : ℕ → Core) (t
   weighed_knows : (covered : Bool) → covers (in_order next_list) r.grant ≡ covered → (covered ≡ true → r.ticks ≤ r.left) → suc n ≡ 8
       → KnowsRefillAt setup (e ∷ t) c (record known { at = weighed_at covered }) (weighed_at covered)
   weighed_knows true is enough all = record {
-    read = subst (HasReadList setup (e ∷ t) c (record known { at = Compare })) all (reads_more (record known { at = Compare }) refl refl refl);
+    read = subst (HasReadList setup (e ∷ t) c (record known { at = Compare })) all
+        (reads_more (record known { at = Compare }) refl refl refl);
     is = is;
     enough = enough;
   }

@@ -6,8 +6,8 @@
 //!
 //! **What a move changes.** The budgets and the list of the state after it, and that references, places and sums stay.
 //!
-//! **Ticks given back.** The head and the list of one are read in the same way, but without a mark; the compare that finds the head again puts
-//! the ticks in, and a second load that finds it again refuses the list.
+//! **Ticks given back.** The head and the list of one are read in the same way, but without a mark; the compare that finds the head again
+//! puts the ticks in, and a second load that finds it again refuses the list.
 //!
 //! The lemmas stand in this crate's proofs.
 //!

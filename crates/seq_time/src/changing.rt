@@ -1,7 +1,8 @@
 //! The changes of the calls of invocation and of time, given what was looked up.
 
 ghost use Rattle.std.specs.Prelude.{◌≡◌, ◌≢◌, ◌<◌, ◌≤◌, ◌+◌, ◌^◌, ℕ, length};
-ghost use Rattle.spk_nums.specs.declared.calls.Call.TheVariants.{Gate, Kill, Call as call_gate, Ret, Switch, Transfer, Delegate, Test, Replenish};
+ghost use Rattle.spk_nums.specs.declared.calls.Call.TheVariants.{Gate, Kill, Call as call_gate, Ret, Switch, Transfer, Delegate, Test};
+ghost use Rattle.spk_nums.specs.declared.calls.Call.TheVariants.{Replenish};
 ghost use Rattle.spk_nums.specs.declared.replies.Value.TheVariants.{Nothing};
 ghost use Rattle.spk_nums.specs.declared.replies.Reply.TheVariants.{Ok as ok};
 ghost use Rattle.kernel_rules.specs.CallRelation.{rule_of};

@@ -8,8 +8,8 @@ use spk_nums::{CoreNo, FrameNo, Reply, StageEnd, Value, WordOp};
 use stage_tcap::Refill;
 use word_map::Layout;
 
-// Heads of the version 1 with the budget 100, also with core 1's mark, and with 7 ticks more and less. Words of lists with the pairs (0, 1),
-// (0, 2) and (1, 5).
+// Heads of the version 1 with the budget 100, also with core 1's mark, and with 7 ticks more and less. Words of lists with the pairs
+// (0, 1), (0, 2) and (1, 5).
 const HEAD: u64 = 0x10_0000_0064;
 
 const MARKED: u64 = 0x12_0000_0064;
@@ -39,8 +39,8 @@ fn goes(refill: &mut Refill, layout: &Layout, rows: &[Row]) -> bool
     true
 }
 
-// So many ticks are given back to the temporal capability in frame 6, by a core with the grant (0, 1) that has 7 ticks left, up to the load of
-// the list's last word; the list's first word is this, and the others have no pair.
+// So many ticks are given back to the temporal capability in frame 6, by a core with the grant (0, 1) that has 7 ticks left, up to the
+// load of the list's last word; the list's first word is this, and the others have no pair.
 fn read(ticks: u32, layout: &Layout, first: u64) -> Refill
     requires { 6 < layout.now.frames }
     ensures { RefillFits layout.now result }

@@ -120,7 +120,8 @@ use Rattle.call_stages.specs.declared.stages.ActiveCall.{ActiveCall}
 use Rattle.call_stages.specs.Steps.{found_more, landed, next_by, took_first, took_enter, took_alive, named_one, took_found}
 use Rattle.call_stages.specs.Steps.{took_end, took_read, took_count, took_scan, took_work, took_at, stage_move, work_move, is_spent}
 use Rattle.wait_steps.specs.Waits.{StepAt, EndAt, MayAt, TookAt, AgainIn, AgainOf, AgainAt}
-use Rattle.wait_steps.proofs.Ends.{refused_at, replied_at, fault_at, quiet_at, look_at, alive_at, claim_at, pin_at, charge_end_at, pair_at, took_shared_at, refill_at, took_refilled_at, starts_at, next_at, name_at, free_at, held_at, MetAt}
+use Rattle.wait_steps.proofs.Ends.{refused_at, replied_at, fault_at, quiet_at, look_at, alive_at, claim_at, pin_at, charge_end_at, pair_at}
+use Rattle.wait_steps.proofs.Ends.{took_shared_at, refill_at, took_refilled_at, starts_at, next_at, name_at, free_at, held_at, MetAt}
 
 module _ (w : Word) where
   -- the acts

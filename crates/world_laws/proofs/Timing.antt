@@ -81,13 +81,15 @@ module _ (w : ℕ → Bool) where
   core_same u c k side left =
       let a = sum_same (λ d. counted_if (w (u.core d).thread) (outstanding (u.core d)))
       (λ d. counted_if (w (put u.core c k d).thread) (outstanding (put u.core c k d))) u.limits.cores
-      (λ d below. put_all (λ d x. counted_if (w x.thread) (outstanding x) ≡ counted_if (w (u.core d).thread) (outstanding (u.core d))) u.core c k d
+      (λ d below. put_all (λ d x. counted_if (w x.thread) (outstanding x) ≡ counted_if (w (u.core d).thread) (outstanding (u.core d)))
+      u.core c k d
       (λ same. ap (λ b. counted_if b (outstanding k)) side ∙ ap (counted_if (w (u.core c).thread)) left
       ∙ ap (λ n. counted_if (w (u.core n).thread) (outstanding (u.core n))) (sym same)) (λ other. refl)) in
       omega (arith, a)
 
   core_put : (u : State) (c : ℕ) (k : Core) → c < u.limits.cores
-      → ticks_in w (with_core u c k) + counted_if (w (u.core c).thread) (outstanding (u.core c)) ≡ ticks_in w u + counted_if (w k.thread) (outstanding k)
+      → ticks_in w (with_core u c k) + counted_if (w (u.core c).thread) (outstanding (u.core c))
+      ≡ ticks_in w u + counted_if (w k.thread) (outstanding k)
   core_put u c k below =
       let a = sum_one (λ d. counted_if (w (u.core d).thread) (outstanding (u.core d)))
       (λ d. counted_if (w (put u.core c k d).thread) (outstanding (put u.core c k d))) u.limits.cores c below

@@ -16,4 +16,7 @@ cores-preserved c =
     (ends_read c.args.ends.now c.cores.core c.index-ends-core.result (omega arith) c.index-ends-core.is) in
     let m = sum_more (λ k. outstanding (core_shown_at c.args.ends.now k)) c.cores.core in
     let r = ap (λ e. e.spent - e.back) c.index-ends-core.is in
-    record { sum = omega (arith, m, e, r, c.from-saturating_sub.ensures); most = omega (arith, c.index-ends-core.element_fits, c.from-saturating_sub.ensures) }
+    record {
+      sum = omega (arith, m, e, r, c.from-saturating_sub.ensures);
+      most = omega (arith, c.index-ends-core.element_fits, c.from-saturating_sub.ensures);
+    }
