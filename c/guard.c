@@ -110,6 +110,7 @@ CALL(tick, OWN, (HELD(port), ticks), uint32_t ticks)
 CALL(transfer, OWN, (HELD(port), source, target, ticks), uint16_t source, uint16_t target, uint32_t ticks)
 CALL(delegate, OWN, (HELD(port), source, target, ticks), uint16_t source, uint16_t target, uint32_t ticks)
 CALL(test, OWN, (HELD(port), first, second), uint16_t first, uint16_t second)
+CALL(replenish, OWN, (HELD(port), tcap, ticks), uint16_t tcap, uint32_t ticks)
 CALL(send, OWN, (HELD(port), gate), uint16_t gate)
 CALL(recv, OWN, (HELD(port), comp), uint16_t comp)
 

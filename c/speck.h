@@ -67,7 +67,8 @@
  * nothing: at 100,000 calls a second after 127 days, at the full speed of a processor after some 52 hours; sooner only where
  * speck_boot_with says so. The other cores go on. A liveness number is used up after as many kills as it has epochs, 65,535, all 64 of
  * them after 4,194,240: then speck_make_comp with it answers SPECK_EPOCHS_SPENT. No call ends either. Finish the machine, once its ports are
- * back, and boot another; or have each core count its calls, and do so in time.
+ * back, and boot another; or have each core count its calls, and do so in time. Ticks do not end a machine: what a core has spent of them it
+ * gives back by speck_replenish, each period say.
  *
  * WHAT TO DO ABOUT A REPLY is its `advice` (below). To make a call until it is carried out or refused for good:
  *
@@ -108,7 +109,7 @@
 extern "C" {
 #endif
 
-#define SPECK_VERSION 201 /* 10,000 for the first number, 100 for the second, 1 for the third; docs/CHANGES.md has what each changed */
+#define SPECK_VERSION 202 /* 10,000 for the first number, 100 for the second, 1 for the third; docs/CHANGES.md has what each changed */
 
 struct speck_machine { uint64_t own[4]; };
 struct speck_port { uint64_t own[4]; };
@@ -258,7 +259,7 @@ struct speck_capability { uint8_t kind; uint8_t rights; uint16_t frame; uint32_t
 struct speck_component { uint16_t table; uint16_t pages; uint16_t epoch; uint8_t live; };     /* the frames of its two roots; its name */
 struct speck_quality { uint32_t quality; uint8_t sched; };
 struct speck_life { uint16_t epoch; uint16_t frame; uint8_t lives; };          /* `lives` 1: the frame of its component; 0: it was killed */
-struct speck_core_end { uint64_t spent; uint64_t owed; uint16_t thread; uint16_t tcap; uint16_t comp; uint16_t cached; }; /* ticks, frames, a count */
+struct speck_core_end { uint64_t spent; uint64_t back; uint64_t owed; uint16_t thread; uint16_t tcap; uint16_t comp; uint16_t cached; }; /* ticks, frames, a count */
 struct speck_translation { uint16_t pages; uint16_t page; uint16_t frame; uint8_t flags; };
 enum { SPECK_NO_OBJECT = 255 };
 
@@ -346,11 +347,14 @@ struct speck_reply speck_switch(struct speck_port *port, uint16_t thread, uint16
 
 /* Time. A tick charges these ticks, and what the core owes, to the temporal capability by which it runs, as far as its budget goes, and answers
  * what it charged; the rest is owed. Ticks move between temporal capabilities of equal lists by a transfer, between any two by a delegate, which
- * merges the lists. A test answers whether the first would preempt the second: SPECK_VALUE_PREEMPTS or SPECK_VALUE_STAYS. */
+ * merges the lists. A test answers whether the first would preempt the second: SPECK_VALUE_PREEMPTS or SPECK_VALUE_STAYS. A replenish gives back
+ * to a temporal capability these ticks of those that the core has spent and has not had back, where its list names the scheduler of the core's
+ * grant with a quality that is no smaller: so what is outstanding never exceeds the grants, and a machine runs on. */
 struct speck_reply speck_tick(struct speck_port *port, uint32_t ticks);
 struct speck_reply speck_transfer(struct speck_port *port, uint16_t source, uint16_t target, uint32_t ticks);
 struct speck_reply speck_delegate(struct speck_port *port, uint16_t source, uint16_t target, uint32_t ticks);
 struct speck_reply speck_test(struct speck_port *port, uint16_t first, uint16_t second);
+struct speck_reply speck_replenish(struct speck_port *port, uint16_t tcap, uint32_t ticks);
 
 /* Sends and receives. Each component has an endpoint, which counts: a send through a gate adds one, a receive by the component's capability
  * takes all that there is (0 too). Each is a look of the core, which may be refused as speck_look is, and then one or two steps. An endpoint is

@@ -121,6 +121,7 @@ int main(void) {
     ROW("call", reply = speck_call(p, 27));
     ROW("ret", reply = speck_ret(p));
     ROW("tick", reply = speck_tick(p, 3));
+    ROW("replenish", reply = speck_replenish(p, 12, 1));
     ROW("transfer", reply = speck_transfer(p, 12, 13, 5));
     ROW("delegate", reply = speck_delegate(p, 12, 26, 5));
     ROW("test", reply = speck_test(p, 12, 26));

@@ -34,7 +34,7 @@ int main(void) {
     uint8_t bad = speck_boot_with(&machine, 24, 100, 10, grants, 2);
     for (int core = 0; core < 2; core++) bad |= speck_deal(&machine, &port[core]);
     /* a leaf of the page table, with a frame mapped; a part of the range; a component, a gate to it, and a thread; a temporal capability with
-     * ticks; then the core enters the component, which is killed */
+     * ticks; of the ticks that the core then spends it has some back; then it enters the component, which is killed */
     for (uint16_t frame = 8; frame < 15; frame++) bad |= speck_retype(&port[0], 0, frame, SPECK_FRAME_KERNEL).code;
     bad |= speck_make_pleaf(&port[0], 0, 8, 1, 20).code;
     bad |= speck_grow(&port[0], 2, 3, 20).code;
@@ -49,6 +49,7 @@ int main(void) {
     bad |= speck_make_tcap(&port[0], 5, 70, 0, 11, 1, 25).code;
     bad |= speck_delegate(&port[0], 12, 25, 250).code;
     bad |= speck_tick(&port[0], 30).code;
+    bad |= speck_replenish(&port[0], 12, 10).code;
     bad |= speck_send(&port[0], 23).code;
     bad |= speck_send(&port[0], 23).code;
     struct speck_reply taken = speck_recv(&port[1], 22);
@@ -75,7 +76,7 @@ int main(void) {
         struct speck_core_end end;
         struct speck_translation it;
         if (speck_read_core(&last, core, &end)) continue;
-        printf("core %d: thread %d, tcap %d, comp %d, spent %" PRIu64 ", owed %" PRIu64 ", cached %d\n", core, end.thread, end.tcap, end.comp, end.spent, end.owed, end.cached);
+        printf("core %d: thread %d, tcap %d, comp %d, spent %" PRIu64 ", back %" PRIu64 ", owed %" PRIu64 ", cached %d\n", core, end.thread, end.tcap, end.comp, end.spent, end.back, end.owed, end.cached);
         for (uint8_t at = 0; !speck_read_cached(&last, core, at, &it); at++) printf("  page %d of %d: frame %d, flags %d\n", it.page, it.pages, it.frame, it.flags);
     }
     return speck_free_final(&last);

@@ -72,12 +72,13 @@ pub struct LivePart {
     pub lives: u8,
 }
 
-/// Where a core ended: ticks spent and owed; the frames of its thread, its temporal capability and its component; how many translations it has
-/// cached.
+/// Where a core ended: ticks spent, had back and owed; the frames of its thread, its temporal capability and its component; how many translations
+/// it has cached.
 #[repr(C)]
 #[derive(Clone, Copy, PartialEq, Eq, Debug, Default)]
 pub struct CorePart {
     pub spent: u64,
+    pub back: u64,
     pub owed: u64,
     pub thread: u16,
     pub tcap: u16,
@@ -159,6 +160,7 @@ unsafe extern "C" {
     pub(crate) fn speck_transfer(port: *mut Slot, source: u16, target: u16, ticks: u32) -> Reply;
     pub(crate) fn speck_delegate(port: *mut Slot, source: u16, target: u16, ticks: u32) -> Reply;
     pub(crate) fn speck_test(port: *mut Slot, first: u16, second: u16) -> Reply;
+    pub(crate) fn speck_replenish(port: *mut Slot, tcap: u16, ticks: u32) -> Reply;
     pub(crate) fn speck_send(port: *mut Slot, gate: u16) -> Reply;
     pub(crate) fn speck_recv(port: *mut Slot, comp: u16) -> Reply;
 }

@@ -152,6 +152,11 @@ impl Port {
         answer(unsafe { ffi::speck_test(&mut self.slot, first, second) })
     }
 
+    /// Gives back to a temporal capability these ticks of those that the core has spent and has not had back.
+    pub fn replenish(&mut self, tcap: u16, ticks: u32) -> Result<Value, Refused> {
+        answer(unsafe { ffi::speck_replenish(&mut self.slot, tcap, ticks) })
+    }
+
     /// Sends one to the component of the gate.
     pub fn send(&mut self, gate: u16) -> Result<Value, Refused> {
         answer(unsafe { ffi::speck_send(&mut self.slot, gate) })

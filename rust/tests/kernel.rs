@@ -67,6 +67,8 @@ fn two_threads_share_a_kernel() {
     assert_eq!(second.look(23), Ok(part));
     assert!(second.part(20, 16, 4, 1, 24).is_err());
     assert_eq!(second.tick(7), Ok(Value::Amount(7)));
+    assert_eq!(second.replenish(13, 3), Ok(Value::Nothing));
+    assert_eq!(second.replenish(13, 5), Err(Refused { why: Why::Short(4), advice: Advice::Change }));
     let filled = std::thread::scope(|scope| {
         let other = scope.spawn(|| fill(&mut first));
         (fill(&mut second), other.join().expect("the thread of core 0"))
@@ -80,8 +82,8 @@ fn two_threads_share_a_kernel() {
     assert_eq!((last.references(0), last.references(3)), (Ok(2), Ok(4)));
     let range = Capability { kind: Kind::Range, frame: 8, argument: 24, rights: Rights::Use };
     assert_eq!((last.entry(1, 20), last.under(0, 20)), (Ok(range), Ok(range)));
-    assert_eq!(last.core(1).map(|it| (it.thread, it.tcap, it.comp, it.spent)), Ok((5, 7, 3, 7)));
-    assert_eq!((last.budget(6), last.budget(7)), (Ok(100), Ok(93)));
+    assert_eq!(last.core(1).map(|it| (it.thread, it.tcap, it.comp, it.spent, it.back)), Ok((5, 7, 3, 7, 3)));
+    assert_eq!((last.budget(6), last.budget(7)), (Ok(100), Ok(96)));
     let mut tables = last.tables().expect("memory");
     let mut text = vec![0; tables.read(&mut [])];
     assert_eq!(tables.read(&mut text), text.len());

@@ -53,6 +53,7 @@ fn due(act: &Act, n: u8) -> Option<Due>
         Act::Return { returning } => returning_due(returning, n),
         Act::Switch { switching } => switching_due(switching, n),
         Act::Share { pair: _ } => None,
+        Act::Refill { refill: _ } => None,
     }
 }
 

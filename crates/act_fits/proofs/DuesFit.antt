@@ -20,7 +20,7 @@ use Rattle.call_stages.specs.act_states.specs.declared.kills.KillingAt.{KillingA
 use Rattle.call_stages.specs.act_states.specs.declared.kills.KillingAt.TheVariants.{LoadComp, LoadLive, Close as kill_close}
 use Rattle.call_stages.specs.act_states.specs.declared.kills.KillingAt.TheVariants.{Draw as kill_draw}
 use Rattle.call_stages.specs.act_states.specs.declared.own.OwnChange.{OwnChange}
-use Rattle.call_stages.specs.act_states.specs.declared.own.OwnChange.TheVariants.{Ticks, Works, Empties, Switches, Caches}
+use Rattle.call_stages.specs.act_states.specs.declared.own.OwnChange.TheVariants.{Ticks, GivesBack, Works, Empties, Switches, Caches}
 use Rattle.call_stages.specs.act_states.specs.declared.invocations.InvokingAt.{InvokingAt}
 use Rattle.call_stages.specs.act_states.specs.declared.invocations.InvokingAt.TheVariants as invoking
 use Rattle.call_stages.specs.act_states.specs.declared.invocations.ReturningAt.{ReturningAt}
@@ -32,6 +32,7 @@ use Rattle.call_stages.specs.act_states.specs.declared.work.Act.TheVariants.{Flu
 use Rattle.call_stages.specs.act_states.specs.declared.work.Act.TheVariants.{MakeComp as comp_act, Invoke as invoke_act}
 use Rattle.call_stages.specs.act_states.specs.declared.work.Act.TheVariants.{Return as return_act}
 use Rattle.call_stages.specs.act_states.specs.declared.work.Act.TheVariants.{Switch as switch_act, Touch as touch_act, Share as share_act}
+use Rattle.call_stages.specs.act_states.specs.declared.work.Act.TheVariants.{Refill as refill_act}
 use Rattle.call_stages.specs.act_states.specs.declared.work.WorkStep.{WorkStep}
 use Rattle.call_stages.specs.act_states.specs.declared.work.WorkStep.TheVariants.{Goes, Acquires, Refuses, Answers, Changes}
 use Rattle.call_stages.specs.act_states.specs.declared.work.Due.{Due}
@@ -59,6 +60,7 @@ use Rattle.call_stages.specs.Fits.{work_left}
 -- what a decision changes of what its core has of its own is of the machine
 abbrev pub ChangeFits : Shape → OwnChange → Type 0
 ChangeFits s (Ticks charged owed) = Unit {0}
+ChangeFits s (GivesBack ticks) = Unit {0}
 ChangeFits s Empties = Unit {0}
 ChangeFits s (Caches item) = Unit {0}
 ChangeFits s (Works comp table pages depth) = (comp < s.frames) × (table < s.frames) × (pages < s.frames) × (1 ≤ depth) × (depth ≤ 16)
@@ -179,6 +181,7 @@ few_dues (flush_act core) = omega arith
 few_dues (kill_act m) = let one = killing_one m.comp m.at in omega (arith, one)
 few_dues (untype_act m) = let two = untyped_few m.at in omega (arith, two)
 few_dues (share_act p) = omega arith
+few_dues (refill_act r) = omega arith
 few_dues (comp_act m) = let few = comp_few m m.at in omega (arith, few)
 few_dues (invoke_act m) = let one = invoking_one m.comp m.at in omega (arith, one)
 few_dues (return_act m) = let one = returning_one m.top m.at in omega (arith, one)
@@ -326,6 +329,8 @@ dues_fit s (touch_act m) zero fits = tt
 dues_fit s (touch_act m) (suc n) fits = tt
 dues_fit s (share_act p) zero fits = tt
 dues_fit s (share_act p) (suc n) fits = tt
+dues_fit s (refill_act r) zero fits = tt
+dues_fit s (refill_act r) (suc n) fits = tt
 dues_fit s (flush_act core) zero fits = tt
 dues_fit s (flush_act core) (suc n) fits = tt
 dues_fit s (kill_act m) n fits = killing_fit s m.comp m.at n fits.comp

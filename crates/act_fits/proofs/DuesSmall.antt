@@ -1,5 +1,6 @@
 -- No act changes a count by more than two.
-use Rattle.std.proofs.Common.{◌≡◌, ℕ, ℤ, pos, negsuc, ◌≤◌, ◌==◌, Bool, true, false, List, [], ◌∷◌, ◌++◌, map, Option, Some, None, subst, arith}
+use Rattle.std.proofs.Common.{◌≡◌, ℕ, ℤ, pos, negsuc, ◌≤◌, ◌==◌, Bool, true, false, List, [], ◌∷◌, ◌++◌, map, Option, Some, None, subst}
+use Rattle.std.proofs.Common.{arith}
 use Rattle.call_stages.specs.spk_nums.specs.Capability.{Capability}
 use Rattle.call_stages.specs.spk_nums.specs.declared.kinds.Kind.{Kind}
 use Rattle.call_stages.specs.spk_nums.specs.declared.kinds.Kind.TheVariants.{Range}
@@ -25,6 +26,7 @@ use Rattle.call_stages.specs.act_states.specs.declared.work.Act.TheVariants.{Flu
 use Rattle.call_stages.specs.act_states.specs.declared.work.Act.TheVariants.{MakeComp as comp_act, Invoke as invoke_act}
 use Rattle.call_stages.specs.act_states.specs.declared.work.Act.TheVariants.{Return as return_act}
 use Rattle.call_stages.specs.act_states.specs.declared.work.Act.TheVariants.{Switch as switch_act, Touch as touch_act, Share as share_act}
+use Rattle.call_stages.specs.act_states.specs.declared.work.Act.TheVariants.{Refill as refill_act}
 use Rattle.call_stages.specs.act_states.specs.declared.work.Due.{Due}
 use Rattle.call_stages.specs.act_states.specs.Dues.{IsSmallChange}
 use Rattle.call_stages.specs.act_states.specs.Acts.{cap_dues, dues, made_dues, killing_dues, invoking_dues, returning_dues}
@@ -136,6 +138,7 @@ dues_small (flush_act core) = tt
 dues_small (kill_act m) = killing_small m.comp m.at
 dues_small (untype_act m) = untyped_small m.at
 dues_small (share_act p) = tt
+dues_small (refill_act r) = tt
 dues_small (comp_act m) = comp_small m m.at
 dues_small (invoke_act m) = invoking_small m.comp m.at
 dues_small (return_act m) = returning_small m.top m.at

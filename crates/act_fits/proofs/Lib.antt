@@ -13,3 +13,4 @@ pub mod CompsFit
 pub mod InvocationsFit
 pub mod SwitchesFit
 pub mod SharesFit
+pub mod RefillsFit

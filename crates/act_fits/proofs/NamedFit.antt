@@ -8,7 +8,7 @@ use Rattle.call_stages.specs.spk_nums.specs.declared.kinds.Kind.TheVariants.{Ran
 use Rattle.call_stages.specs.spk_nums.specs.declared.kinds.Kind.TheVariants as kind
 use Rattle.call_stages.specs.spk_nums.specs.declared.calls.Call.{Call}
 use Rattle.call_stages.specs.spk_nums.specs.declared.calls.Call.TheVariants.{Make as make_call, Gate, Grow}
-use Rattle.call_stages.specs.spk_nums.specs.declared.calls.Call.TheVariants.{Switch, Transfer, Delegate, Test, Part}
+use Rattle.call_stages.specs.spk_nums.specs.declared.calls.Call.TheVariants.{Switch, Transfer, Delegate, Test, Part, Replenish}
 use Rattle.call_stages.specs.kernel_rules.specs.Access.{found, only, root}
 use Rattle.call_stages.specs.stage_look.specs.Shown.{end_of_frames}
 use Rattle.call_stages.specs.call_plans.specs.declared.plans.Nth.TheVariants.{First, Second, Third, Fourth}
@@ -35,6 +35,7 @@ ObjectNamed frames (Switch h q) found = IfSome (at_place found First) (λ k. k.f
 ObjectNamed frames (Transfer a b m) found = TwoNamed frames found
 ObjectNamed frames (Delegate a b m) found = TwoNamed frames found
 ObjectNamed frames (Test a b) found = TwoNamed frames found
+ObjectNamed frames (Replenish a m) found = IfSome (at_place found First) (λ k. k.frame < frames)
 ObjectNamed frames (Part r f n t b) found = IfSome (at_place found First) (λ k. k.frame + k.arg ≤ frames)
 ObjectNamed frames call found = Unit {0}
 
@@ -115,6 +116,8 @@ object_named frames (Switch h q) (k ∷ j ∷ ks) leads = (
 object_named frames (Transfer a b m) ks leads = two_named frames a b ks leads
 object_named frames (Delegate a b m) ks leads = two_named frames a b ks leads
 object_named frames (Test a b) ks leads = two_named frames a b ks leads
+object_named frames (Replenish a m) [] leads = tt
+object_named frames (Replenish a m) (k ∷ ks) leads = tcap_below frames k.kind k.frame k.arg leads.0.0 leads.0.1
 object_named frames (Part r f n t b) [] leads = tt
 object_named frames (Part r f n t b) (k ∷ ks) leads = range_ends frames k.kind k.frame k.arg leads.0.0 leads.0.1
 object_named frames call found leads = tt

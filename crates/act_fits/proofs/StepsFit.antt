@@ -14,7 +14,8 @@ use Rattle.call_stages.specs.spk_nums.specs.declared.kinds.Kind.TheVariants as k
 use Rattle.call_stages.specs.spk_nums.specs.declared.calls.Call.{Call}
 use Rattle.call_stages.specs.spk_nums.specs.declared.calls.Call.TheVariants.{Look as look_call, Copy, Remove, Shrink, Unmap, Retype}
 use Rattle.call_stages.specs.spk_nums.specs.declared.calls.Call.TheVariants.{Make as make_call, Tick, Gate, Kill, Grow, Flush, Map}
-use Rattle.call_stages.specs.spk_nums.specs.declared.calls.Call.TheVariants.{Call as call_gate, Ret, Switch, Transfer, Delegate, Test, Part}
+use Rattle.call_stages.specs.spk_nums.specs.declared.calls.Call.TheVariants.{Call as call_gate, Ret, Switch, Transfer, Delegate, Test}
+use Rattle.call_stages.specs.spk_nums.specs.declared.calls.Call.TheVariants.{Part, Replenish}
 use Rattle.call_stages.specs.entry_words.specs.declared.entry.Entry.{Entry}
 use Rattle.call_stages.specs.entry_words.specs.declared.entry.Entry.TheVariants as entry
 use Rattle.call_stages.specs.word_map.specs.Places.{Shape}
@@ -56,6 +57,7 @@ use Rattle.call_stages.specs.act_states.specs.declared.work.Act.TheVariants.{Flu
 use Rattle.call_stages.specs.act_states.specs.declared.work.Act.TheVariants.{MakeComp as comp_act, Invoke as invoke_act}
 use Rattle.call_stages.specs.act_states.specs.declared.work.Act.TheVariants.{Return as return_act}
 use Rattle.call_stages.specs.act_states.specs.declared.work.Act.TheVariants.{Switch as switch_act, Touch as touch_act, Share as share_act}
+use Rattle.call_stages.specs.act_states.specs.declared.work.Act.TheVariants.{Refill as refill_act}
 use Rattle.call_stages.specs.act_states.specs.declared.work.Work.TheVariants.{Lookup}
 use Rattle.call_stages.specs.act_states.specs.declared.work.WorkStep.{WorkStep}
 use Rattle.call_stages.specs.act_states.specs.declared.work.WorkStep.TheVariants.{Goes, Acquires, Refuses, Answers, Changes}
@@ -64,11 +66,13 @@ use Rattle.call_stages.specs.act_states.specs.Acts.{removing, removes_held, remo
 use Rattle.call_stages.specs.act_states.specs.Acts.{reads_of, starts, making, making_if, makes_in, makes_at, act_begun, next_work}
 use Rattle.call_stages.specs.act_states.specs.Acts.{kills_in, kills_at, kept_of, link_to, is_pages, page_cap, mapping, mapping_if}
 use Rattle.call_stages.specs.act_states.specs.Acts.{maps_if, maps_at, comp_making, comp_if, comps_in, comps_at, made_begun}
-use Rattle.call_stages.specs.act_states.specs.Acts.{invokes_in, invokes_if, invokes_at, returns_if, returns_at, switches_at, part_if, parts_at}
+use Rattle.call_stages.specs.act_states.specs.Acts.{invokes_in, invokes_if, invokes_at, returns_if, returns_at, switches_at, part_if}
+use Rattle.call_stages.specs.act_states.specs.Acts.{parts_at}
 use Rattle.call_stages.specs.stage_tcap.specs.declared.pair.PairAt.TheVariants.{LoadA}
 use Rattle.call_stages.specs.stage_tcap.specs.declared.pair.PairWork.{PairWork}
 use Rattle.call_stages.specs.stage_tcap.specs.declared.pair.PairWork.TheVariants as share
 use Rattle.call_stages.specs.act_states.specs.Shares.{share_left, shares_if, shares_at}
+use Rattle.call_stages.specs.act_states.specs.Refills.{refills_at}
 use Rattle.call_stages.specs.act_states.specs.Scans.{ScanFits, left_of_scan, left_of_cores}
 use Rattle.call_stages.specs.act_states.specs.Touches.{touches_if}
 use Rattle.call_stages.specs.act_states.specs.Lookups.{looks_under, looks_entry, looks_at, read_first, next_step}
@@ -182,6 +186,7 @@ starts_fit s later most core (flush_act by) here fits some = first_fits s later 
 starts_fit s later most core (kill_act m) here fits some = first_fits s later most core (kill_act m) here fits some
 starts_fit s later most core (untype_act m) here fits some = first_fits s later most core (untype_act m) here fits some
 starts_fit s later most core (share_act p) here fits some = first_fits s later most core (share_act p) here fits some
+starts_fit s later most core (refill_act r) here fits some = first_fits s later most core (refill_act r) here fits some
 starts_fit s later most core (comp_act m) here fits some = first_fits s later most core (comp_act m) here fits some
 starts_fit s later most core (invoke_act m) here fits some = first_fits s later most core (invoke_act m) here fits some
 starts_fit s later most core (return_act m) here fits some = first_fits s later most core (return_act m) here fits some
@@ -601,6 +606,11 @@ shared s later most core what found named some = by (at_place found First) (at_p
     by None b first second = (omega arith, tt)
     by (Some a) None first second = (omega arith, tt)
 
+refilled : (own : Own) (later most m : ℕ) (o : Option Capability) → IfSome o (λ k. k.frame < own.layout.frames)
+    → 10 ≤ most → StepFits own.layout [] later most (refills_at own m o)
+refilled own later most m None named some = (omega arith, tt)
+refilled own later most m (Some k) named some = (record { tcap = named; head = omega arith; at = tt }, omega (arith, some), refl)
+
 kept_names : (frames these : ℕ) (o : Option Capability) → IfSome o (CapNames frames) → IfSome (kept_of these o) (CapNames frames)
 kept_names frames these None names = tt
 kept_names frames these (Some k) names = names
@@ -645,6 +655,8 @@ act_fits own later (Delegate a b m) found read target h names objects limits fit
     shared own.layout later 30 own.core (share.Delegate m) found objects (omega arith)
 act_fits own later (Test a b) found read target h names objects limits fits =
     shared own.layout later 21 own.core share.Test found objects (omega arith)
+act_fits own later (Replenish a m) found read target h names objects limits fits =
+    refilled own later 10 m (at_place found First) objects (omega arith)
 act_fits own later (Part r f n t b) found read target h names objects limits fits =
     parts own later (at_place found First) f n target h objects fits
 act_fits own later call found read target h names objects limits fits = (omega arith, tt)

@@ -6,6 +6,7 @@ use Rattle.spk_nums.specs.Rights.{kept, part_of}
 use Rattle.spk_nums.specs.declared.calls.Call.{Call}
 use Rattle.spk_nums.specs.declared.calls.Call.TheVariants.{Look, Copy, Remove, Shrink, Retype, Make as make_call, Unmap, Tick, Gate, Kill}
 use Rattle.spk_nums.specs.declared.calls.Call.TheVariants.{Grow, Flush, Map, Call as call_gate, Ret, Switch, Transfer, Delegate, Test, Part}
+use Rattle.spk_nums.specs.declared.calls.Call.TheVariants.{Replenish}
 use Rattle.spk_nums.specs.declared.calls.Make.{Make}
 use Rattle.spk_nums.specs.declared.calls.Make.TheVariants as make
 use Rattle.spk_nums.specs.declared.replies.Value.TheVariants.{Cap, Nothing as nothing}
@@ -34,6 +35,7 @@ use Rattle.act_states.specs.declared.work.Act.TheVariants.{Make as make_act, Out
 use Rattle.act_states.specs.declared.work.Act.TheVariants.{Kill as kill_act, Untype as untype_act, Map as map_act}
 use Rattle.act_states.specs.declared.work.Act.TheVariants.{MakeComp as comp_act, Invoke as invoke_act, Return as return_act}
 use Rattle.act_states.specs.declared.work.Act.TheVariants.{Switch as switch_act, Touch as touch_act, Share as share_act}
+use Rattle.act_states.specs.declared.work.Act.TheVariants.{Refill as refill_act}
 use Rattle.act_states.specs.declared.work.Work.TheVariants.{Scan, Act as act_work}
 use Rattle.act_states.specs.declared.work.Tail.{Tail}
 use Rattle.act_states.specs.declared.work.Tail.TheVariants.{Nothing, Quiesce}
@@ -52,6 +54,8 @@ use Rattle.act_states.specs.Comps.{CompMakingFits, comp_move, comp_undo, comp_fi
 use Rattle.act_states.specs.Makings.{MakingFits, making_move, undo_at, is_filling, making_left}
 use Rattle.stage_tcap.specs.Charging.{ChargeFits, charge_move}
 use Rattle.act_states.specs.Ticks.{charges, took_tick, is_charging, charge_left}
+use Rattle.stage_tcap.specs.Refilling.{RefillFits, refill_move}
+use Rattle.act_states.specs.Refills.{refills_at, took_refill, is_refilling, refill_left}
 use Rattle.stage_tcap.specs.Pairs.{PairFits, pair_move}
 use Rattle.stage_tcap.specs.declared.pair.PairWork.TheVariants as share
 use Rattle.act_states.specs.Shares.{took_share, is_sharing, share_left, shares_at}
@@ -110,6 +114,7 @@ ActFits s (invoke_act m) = InvokingFits s m
 ActFits s (return_act m) = ReturningFits s m
 ActFits s (switch_act m) = SwitchingFits s m
 ActFits s (share_act p) = PairFits s p
+ActFits s (refill_act r) = RefillFits s r
 
 -- the stamp with which a removal that has drawn it goes on to its store
 abbrev pub drawn_by : Close → Option ℕ
@@ -143,6 +148,7 @@ act_move (invoke_act m) = invoking_move m
 act_move (return_act m) = returning_move m
 act_move (switch_act m) = switching_move m
 act_move (share_act p) = pair_move p
+act_move (refill_act r) = refill_move r
 
 -- whether the next step of a removal draws its stamp
 abbrev pub is_draw : Close → Bool
@@ -168,6 +174,7 @@ act_ready (invoke_act m) = is_entering m.at
 act_ready (return_act m) = is_leaving m.at
 act_ready (switch_act m) = is_switching m.at
 act_ready (share_act p) = is_sharing p.at
+act_ready (refill_act r) = is_refilling r.at
 
 -- the steps of a removal that are still to come
 abbrev pub close_left : Close → ℕ
@@ -193,6 +200,7 @@ act_left cores (invoke_act m) = invoking_left m.at
 act_left cores (return_act m) = returning_left m.at
 act_left cores (switch_act m) = switching_left m.at
 act_left cores (share_act p) = share_left p.what p.at
+act_left cores (refill_act r) = refill_left r.at
 
 -- a look answers what its name has led to
 abbrev pub looked : Option Capability → WorkStep
@@ -217,6 +225,7 @@ took_act s (invoke_act m) found = took_invoking m found
 took_act s (return_act m) found = took_returning m found
 took_act s (switch_act m) found = took_switching m found
 took_act s (share_act p) found = took_share p found
+took_act s (refill_act r) found = took_refill r found
 
 -- what a refused call has still to store where it acquires a count for an act
 abbrev pub undo : Act → Tail
@@ -236,6 +245,7 @@ undo (invoke_act m) = Nothing
 undo (return_act m) = Nothing
 undo (switch_act m) = switching_undo m.at
 undo (share_act p) = Nothing
+undo (refill_act r) = Nothing
 
 -- an act starts with its first count, where it is not out of range
 abbrev pub starts : ℕ → Act → WorkStep
@@ -369,6 +379,7 @@ stamp_of_act (invoke_act m) = 0
 stamp_of_act (return_act m) = 0
 stamp_of_act (switch_act m) = 0
 stamp_of_act (share_act p) = 0
+stamp_of_act (refill_act r) = 0
 
 -- a frame is typed, or made untyped again, where it is in the range, which has none past the machine's
 abbrev pub typing_to : ℕ → ℕ → FrameKind → Act
@@ -558,4 +569,5 @@ act_begun own (Transfer a b m) found read target = shares_at own.core (share.Tra
 act_begun own (Delegate a b m) found read target = shares_at own.core (share.Delegate m) (at_place found First) (at_place found Second)
 act_begun own (Test a b) found read target = shares_at own.core share.Test (at_place found First) (at_place found Second)
 act_begun own (Part r f n t b) found read target = parts_at own (at_place found First) f n target
+act_begun own (Replenish a m) found read target = refills_at own m (at_place found First)
 act_begun own _ found read target = refuse Raced

@@ -10,6 +10,7 @@ use Rattle.act_states.specs.declared.work.Act.TheVariants.{Make as make_act, Out
 use Rattle.act_states.specs.declared.work.Act.TheVariants.{Kill as kill_act, Untype as untype_act, Map as map_act}
 use Rattle.act_states.specs.declared.work.Act.TheVariants.{MakeComp as comp_act, Invoke as invoke_act, Return as return_act}
 use Rattle.act_states.specs.declared.work.Act.TheVariants.{Switch as switch_act, Touch as touch_act, Share as share_act}
+use Rattle.act_states.specs.declared.work.Act.TheVariants.{Refill as refill_act}
 use Rattle.act_states.specs.declared.work.Due.{Due}
 use Rattle.act_states.specs.declared.work.Work.{Work}
 use Rattle.act_states.specs.declared.work.Work.TheVariants.{Acquire, Act as act_work}
@@ -82,6 +83,7 @@ dues (invoke_act m) = invoking_dues m.comp m.at
 dues (return_act m) = returning_dues m.top m.at
 dues (switch_act m) = switching_dues m m.at
 dues (share_act p) = []
+dues (refill_act r) = []
 
 -- a core acquires this count for an act next, or has acquired all and goes on to the act
 abbrev pub acquires : ℕ → Act → Option Due → Work

@@ -23,6 +23,7 @@ pub mod Objects
 pub mod Makings
 pub mod OwnChanges
 pub mod Ticks
+pub mod Refills
 pub mod Invocations
 pub mod Switches
 pub mod Dues

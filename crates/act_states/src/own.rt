@@ -39,6 +39,10 @@ pub struct Own {
     pub owed: u64,
     /// The ticks that it has spent.
     pub spent: u64,
+    /// The ticks of these that it has had back.
+    pub back: u64,
+    /// The scheduler and the number with which time was granted to it at boot.
+    pub grant: (u8, u32),
     /// The translations that it has cached. They stand last, so that what every step reads lies together.
     pub cached: Translations,
 }
@@ -50,6 +54,10 @@ pub enum OwnChange {
     Ticks {
         charged: u32,
         owed: u64,
+    },
+    /// So many of the ticks that were spent were given back.
+    GivesBack {
+        ticks: u32,
     },
     /// It works in this component, with this table and these pages, at this depth of its thread's stack.
     Works {
@@ -85,6 +93,9 @@ impl Own {
             OwnChange::Ticks { charged, owed } => {
                 self.spent = self.spent.saturating_add(u64::from(*charged));
                 self.owed = *owed;
+            }
+            OwnChange::GivesBack { ticks } => {
+                self.back = self.back.saturating_add(u64::from(*ticks));
             }
             OwnChange::Empties => self.cached = Translations::empty(),
             OwnChange::Works {

@@ -16,7 +16,7 @@ use stage_sweep::frame_words::CompWord;
 use stage_sweep::stage_look::Look;
 use stage_sweep::stage_pins::{Acquired, Pin};
 use stage_sweep::stage_quiet::{Close, Quiet};
-use stage_tcap::{Charge, Pair};
+use stage_tcap::{Charge, Pair, Refill};
 use stage_thread::{Pop, Push};
 
 /// What a call does after its look-ups, till it is decided.
@@ -88,6 +88,10 @@ pub enum Act {
     /// It moves ticks from one temporal capability to another, or tells which preempts.
     Share {
         pair: Pair,
+    },
+    /// It gives ticks back to a temporal capability.
+    Refill {
+        refill: Refill,
     },
 }
 

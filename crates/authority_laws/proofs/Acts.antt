@@ -1,6 +1,6 @@
 -- Every call that is carried out is a list of edits, each with the capabilities by which it is made.
 use Rattle.std.proofs.Common.{◌≡◌, ◌≢◌, ◌⊎◌, inl, inr, ℕ, ◌≤◌, ◌+◌, ◌/◌, ◌%◌, Bool, true, false, not, refl, sym, ◌∙◌, ap, subst}
-use Rattle.std.proofs.Common.{◌==◌, nat_lt, nat_le, if◌then◌else◌, length, IsTrue, List, [], ◌∷◌, Option, Some, None}
+use Rattle.std.proofs.Common.{◌==◌, nat_lt, nat_le, if◌then◌else◌, length, IsTrue, List, [], ◌∷◌, Option, Some, None, min}
 use Rattle.std.proofs.lemmas.Bool.{false≢true, eqb-true, eqb-false, ltb-false}
 use Rattle.state_laws.specs.spk_nums.specs.Capability.{Capability, cap_of}
 use Rattle.state_laws.specs.spk_nums.specs.Rights.{both, kept, has_rights, part_of}
@@ -17,6 +17,7 @@ use Rattle.state_laws.specs.spk_nums.specs.declared.replies.Value.{Value}
 use Rattle.state_laws.specs.spk_nums.specs.declared.replies.Value.TheVariants.{Nothing, Amount}
 use Rattle.state_laws.specs.spk_nums.specs.declared.replies.Reply.TheVariants as reply
 use Rattle.state_laws.specs.kernel_rules.specs.State.{Holds, CompFields, Object, Blank, Table, Leaf, Pages, Pleaf, Thread, Tcap}
+use Rattle.state_laws.specs.kernel_rules.specs.State.{outstanding}
 use Rattle.state_laws.specs.kernel_rules.specs.State.{Frame, User, Kernel, FrameOf, State, tcap_in, comp_in, comp_of, thread_in, thread_of}
 use Rattle.state_laws.specs.kernel_rules.specs.Start.{plain_cap}
 use Rattle.state_laws.specs.kernel_rules.specs.Access.{Want, to_use, to_copy, any, only, root, found, Slot, Target, Under, InRoot}
@@ -32,11 +33,11 @@ use Rattle.state_laws.specs.kernel_rules.specs.MemoryCalls.{not_user, not_untype
 use Rattle.state_laws.specs.kernel_rules.specs.MemoryCalls.{translated, is_empty, is_untyped_now}
 use Rattle.state_laws.specs.kernel_rules.specs.Life.{is_live_in}
 use Rattle.state_laws.specs.kernel_rules.specs.InvocationCalls.{not_live, switch_to}
-use Rattle.state_laws.specs.kernel_rules.specs.TimeCalls.{merged_list, tcap_at, are_same, is_short, are_unlike, are_many}
+use Rattle.state_laws.specs.kernel_rules.specs.TimeCalls.{merged_list, tcap_at, are_same, is_short, are_unlike, are_many, is_finer, is_less}
 use Rattle.state_laws.specs.kernel_rules.specs.CallRelation.{rule_of}
 use Rattle.state_laws.specs.kernel_invariant.specs.Edits.{Edit, Fill, Remove, Node, Become, Untype, Component, Deaden, Push, Pop, Switch}
 use Rattle.state_laws.specs.kernel_invariant.specs.Edits.{Cache, Flush}
-use Rattle.state_laws.specs.kernel_invariant.specs.Edits.{Charge, Move, Merge, begins_in, does}
+use Rattle.state_laws.specs.kernel_invariant.specs.Edits.{Charge, Move, Merge, Give, begins_in, does}
 use Rattle.state_laws.specs.kernel_invariant.proofs.Sound.{only_is}
 use Rattle.state_laws.specs.kernel_invariant.proofs.SoundCalls.{IsOpen, blank_by, untyped_by, within_by}
 use Rattle.state_laws.specs.kernel_invariant.proofs.Facts.{ChangesFrom, Suits, suits, none_some, some_inj, some_none, vacant_facts}
@@ -163,6 +164,7 @@ By act s c Flush = Unit {0}
 By act s c (Charge n) = act ≡ call.Tick n
 By act s c (Move a b m) = LedTo act s c (only kind.Tcap) a × LedTo act s c (only kind.Tcap) b × Affords s a b m
 By act s c (Merge f qs) = LedTo act s c (only kind.Tcap) f
+By act s c (Give f m) = LedTo act s c (only kind.Tcap) f × (m ≤ outstanding (s.core c))
 
 abbrev pub EachBy : Call → State → ℕ → List Edit → Type 0
 EachBy call s c [] = Unit {0}
@@ -461,6 +463,12 @@ module _ (s : State) (c : ℕ) (o : ℕ → Bool) (h : IsOpen s o c) where
         enough = ltb-false budget m (when_not (nat_lt budget m) (reply.Short budget) p.1);
       }
 
+  has_left : (a m : ℕ) (j : Capability) → first_cause s c (is_finer s c (found j) ∷ is_less s c m ∷ []) ≡ None → m ≤ outstanding (s.core c)
+  has_left a m j calm =
+      let p = first_two s c (is_finer s c (found j)) (is_less s c m) [] calm in
+      let left : ℕ = outstanding (s.core c) in
+      ltb-false left m (when_not (nat_lt left m) (reply.Short (min left m)) p.1)
+
   pub rule_acts : (call : Call) → ChangesFrom (Acts call c s) s c (rule_of s c call)
   rule_acts (call.Look a) = λ k e calm. nothing (call.Look a) s c
   rule_acts (call.Copy a t b rights) = λ k e table g at v calm.
@@ -552,6 +560,11 @@ module _ (s : State) (c : ℕ) (o : ℕ → Bool) (h : IsOpen s o c) where
         affords m j k (are_many s (found j) (found k) ∷ []) calm,
       ) (led_by (call.Delegate a b m) s c b (only kind.Tcap) k second f)
   rule_acts (call.Test a b) = λ j e k f calm. nothing (call.Test a b) s c
+  rule_acts (call.Replenish a m) = λ j e calm.
+      one (call.Replenish a m) s c (Give j.frame m) Nothing (
+        led_by (call.Replenish a m) s c a (only kind.Tcap) j first e,
+        has_left a m j calm,
+      )
   rule_acts (call.Part r f n t b) = λ k e table g at v calm.
       let x = named_at s c r (to_part (only kind.Range)) k e in
       filled (call.Part r f n t b) s c at (part_of k f n) (place_by (call.Part r f n t b) s c t b table at second g v)

@@ -5,7 +5,7 @@ use Rattle.state_laws.specs.spk_nums.specs.declared.calls.Call.TheVariants.{Tick
 use Rattle.state_laws.specs.spk_nums.specs.declared.replies.Value.{Value}
 use Rattle.state_laws.specs.spk_nums.specs.declared.replies.Reply.{Reply}
 use Rattle.state_laws.specs.spk_nums.specs.declared.replies.Reply.TheVariants as reply
-use Rattle.state_laws.specs.kernel_rules.specs.State.{Core, Grace, Thing, State, with_core, with_grace}
+use Rattle.state_laws.specs.kernel_rules.specs.State.{Core, Grace, Thing, State, with_core, with_grace, outstanding}
 use Rattle.state_laws.specs.kernel_rules.specs.GracePeriods.{begun}
 use Rattle.state_laws.specs.kernel_rules.specs.Rules.{Change, Judged, Refused, Found, IsFoundAnd}
 use Rattle.state_laws.specs.kernel_rules.specs.CallRelation.{MayReply, rule_of, change_of, changed, owed_by, state_by}
@@ -34,8 +34,10 @@ module _ (s : State) (c : ℕ) (o : ℕ → Bool) (h : IsOpen s o c) (call : Cal
       found_after (Found change) acts ok =
           subst (λ (k : Change). Q (begun s k.begins k.next)) (sym acts.is) (by acts.list acts.calm acts.by)
 
-  -- What holds before, and holds on where the core, but for its thread and what it has spent, or grace periods change, holds after a decision if it does after a call's edits.
-  pub decided_from : (Q : State → Type 0) → Q s → ((t : State) (k : Core) → k.thread ≡ (t.core c).thread → k.spent ≡ (t.core c).spent → Q t → Q (with_core t c k))
+  -- What holds before, and holds on where the core, but for its thread and what it has left to have back, or grace periods change, holds
+  -- after a decision if it does after a call's edits.
+  pub decided_from : (Q : State → Type 0) → Q s
+      → ((t : State) (k : Core) → k.thread ≡ (t.core c).thread → outstanding k ≡ outstanding (t.core c) → Q t → Q (with_core t c k))
       → ((t : State) (g : Thing → Grace) → Q t → Q (with_grace t g))
       → ((es : List Edit) → Calm c s es → EachBy call s c es → Q (after_edits c s es))
       → (r : Reply) → MayReply s c call r → Q (state_by s c call r)

@@ -14,7 +14,7 @@ use Rattle.state_laws.specs.kernel_rules.specs.InvocationCalls.{with_thread, run
 use Rattle.state_laws.specs.kernel_rules.specs.TimeCalls.{tcap_at, with_tcap, with_budget, charge}
 use Rattle.state_laws.specs.kernel_invariant.specs.Edits.{Edit, Fill, Remove, Node, Become, Untype, Component, Deaden, Push, Pop, Switch}
 use Rattle.state_laws.specs.kernel_invariant.specs.Edits.{Cache, Flush}
-use Rattle.state_laws.specs.kernel_invariant.specs.Edits.{Charge, Move, Merge, edited, after_edits}
+use Rattle.state_laws.specs.kernel_invariant.specs.Edits.{Charge, Move, Merge, Give, edited, after_edits}
 use Rattle.state_laws.specs.kernel_invariant.proofs.Sound.{put_all, only_is}
 use Rattle.state_laws.specs.kernel_invariant.proofs.SoundSteps.{place_all}
 use Rattle.state_laws.specs.kernel_invariant.proofs.Edited.{is_bare, AreLater, Calm}
@@ -291,6 +291,9 @@ module _ (call : Call) (s : State) (c : ℕ) where
       (inr (budget_may a by.0)) (inl refl)) within_same)
   edit_within (Merge f qs) by =
       within_frame s f _ (kept_tcap f (s.frame f) (record (tcap_at s f) { qualities = qs }) (inl refl) (inr (list_may f by))) within_same
+  edit_within (Give f m) by =
+      within_core (with_budget s f ((tcap_at s f).budget + m)) _ (within_frame s f _ (kept_tcap f (s.frame f)
+      (record (tcap_at s f) { budget = (tcap_at s f).budget + m }) (inr (budget_may f by.0)) (inl refl)) within_same)
 
   later_within : (t : State) (es : List Edit) → AreLater es → EachBy call s c es → Within call s c t
       → Within call s c (after_edits c t es)

@@ -9,7 +9,8 @@ ghost use Rattle.act_counts.specs.call_plans.specs.declared.plans.Nth.TheVariant
 ghost use Rattle.std.specs.Prelude.{◌<◌, ◌≡◌, ◌≤◌};
 
 use crate::no_target::{
-    charges, flushes, invokes_at, kills_at, returns_at, shares_at, switches_at, types_at,
+    charges, flushes, invokes_at, kills_at, refills_at, returns_at, shares_at, switches_at,
+    types_at,
 };
 use crate::targets::{fills_with, made_begun, maps_at, parts_at, removes_at};
 use act_counts::act_states::{Own, Refusal, Tail, WorkStep};
@@ -22,7 +23,8 @@ use spk_nums::{Call, Cap, FrameNo, Kind, Rights, Value};
 /// What a call of a core does whose names have led to these, which has read this, and whose target, if it has one, was found: a look
 /// answers at once, a copy, a grow, a map, a gate and a part begin to fill their target, a remove, a shrink and an unmap to remove what
 /// their target holds, a retype to type its frame, a make to make its object, a flush to drop its translations, a tick to charge its
-/// ticks, a call to enter its gate's component, a ret to leave its own. The core is one of the layout's at most 8.
+/// ticks, a call to enter its gate's component, a ret to leave its own, a replenish to give ticks back. The core is one of the layout's at
+/// most 8.
 #[inline]
 pub fn begin_act(
     own: &Own,
@@ -90,6 +92,7 @@ pub fn begin_act(
             t: _,
             b: _,
         } => parts_at(own, &found.get(Nth::First), *f, *n, target),
+        Call::Replenish { a: _, m } => refills_at(own, *m, &found.get(Nth::First)),
         _ => refuse(Refusal::Raced),
     }
 }

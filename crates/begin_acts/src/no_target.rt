@@ -3,6 +3,7 @@
 ghost use Rattle.act_counts.specs.act_states.specs.Acts.{invokes_at, invokes_if, invokes_in, kills_at, kills_in, returns_at, returns_if};
 ghost use Rattle.act_counts.specs.act_states.specs.Acts.{switches_at, types_at, types_if, typing_to};
 ghost use Rattle.act_counts.specs.act_states.specs.Flushes.{flushes};
+ghost use Rattle.act_counts.specs.act_states.specs.Refills.{left_back, refills_at};
 ghost use Rattle.act_counts.specs.act_states.specs.Shares.{shares_at, shares_if};
 ghost use Rattle.act_counts.specs.act_states.specs.Ticks.{charges};
 ghost use Rattle.act_counts.specs.kernel_rules.specs.Access.{found as named_by_cap};
@@ -15,7 +16,7 @@ use act_counts::act_states::{
     Switching, Typing, TypingAt, Untyping, UntypingAt, Work, WorkStep,
 };
 use act_counts::refuse;
-use act_counts::stage_tcap::{Charge, Pair, PairWork};
+use act_counts::stage_tcap::{Charge, Pair, PairWork, Refill};
 use act_counts::stage_thread::Claim;
 use spk_nums::{Cap, CoreNo, FrameArg, FrameKind, FrameNo, Kind};
 
@@ -125,6 +126,36 @@ pub(crate) fn charges(own: &Own, ticks: u32) -> WorkStep
                 charge: Charge::new(own.tcap, due),
             },
         },
+    }
+}
+
+/// So many ticks are given back to the temporal capability to which a name has led.
+#[inline]
+pub(crate) fn refills_at(own: &Own, ticks: u32, tcap: &Option<Cap>) -> WorkStep
+    ensures { result ≡ refills_at own.now ticks tcap.now }
+{
+    match tcap {
+        None => refuse(Refusal::Raced),
+        Some(tcap) => WorkStep::Goes {
+            work: Work::Act {
+                act: Act::Refill {
+                    refill: Refill::new(tcap.frame(), ticks, left_back(own), own.grant),
+                },
+            },
+        },
+    }
+}
+
+// The ticks that the core has spent and has not had back.
+#[inline]
+fn left_back(own: &Own) -> u32
+    ensures { result ≡ left_back own.now }
+{
+    let left = own.spent.saturating_sub(own.back);
+    if left < 4_294_967_295 {
+        left as u32
+    } else {
+        4_294_967_295
     }
 }
 

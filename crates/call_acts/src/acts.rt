@@ -26,9 +26,9 @@ use make_acts::{
 };
 use spk_nums::{Cap, FrameKind, StageEnd, Stamp, Value, WordOp};
 use thread_acts::{
-    invoking_op, invoking_ready, invoking_took, is_charging, is_sharing, returning_op,
-    returning_ready, returning_took, share_op, share_took, switching_op, switching_ready,
-    switching_took, tick_op, tick_took,
+    invoking_op, invoking_ready, invoking_took, is_charging, is_refilling, is_sharing, refill_op,
+    refill_took, returning_op, returning_ready, returning_took, share_op, share_took, switching_op,
+    switching_ready, switching_took, tick_op, tick_took,
 };
 
 /// The next step of an act. What it names is of the layout's machine.
@@ -66,6 +66,7 @@ pub fn act_op(act: &Act, layout: &Layout) -> WordOp
         Act::Return { returning } => returning_op(returning, layout),
         Act::Switch { switching } => switching_op(switching, layout),
         Act::Share { pair } => share_op(pair, layout),
+        Act::Refill { refill } => refill_op(refill, layout),
     }
 }
 
@@ -96,6 +97,7 @@ pub fn act_took(act: &Act, layout: &Layout, found: u64) -> WorkStep
         Act::Return { returning } => returning_took(returning, layout, found),
         Act::Switch { switching } => switching_took(switching, layout, found),
         Act::Share { pair } => share_took(pair, layout, found),
+        Act::Refill { refill } => refill_took(refill, layout, found),
     }
 }
 
@@ -142,6 +144,7 @@ pub fn act_ready(act: &Act) -> bool
         Act::Return { returning } => returning_ready(returning),
         Act::Switch { switching } => switching_ready(switching),
         Act::Share { pair } => is_sharing(pair),
+        Act::Refill { refill } => is_refilling(refill),
     }
 }
 

@@ -53,6 +53,9 @@
 //! the ticks in it or marks it, or a load. The heads and the list that are to change are still to be stored, or the first head as it was
 //! found.
 //!
+//! **Replenish.** The head is loaded and its list is read. A compare with the head found puts the ticks in, which decides; a list that is
+//! better than the core's grant is refused by a second load that finds the head the same. No head is marked, and nothing is to be stored.
+//!
 //! **Gate.** The component's word is loaded before the target is looked up, and names the epoch that the gate carries. Then the target
 //! is filled, as by a copy; the count is that of the component's frame.
 //!

@@ -7,12 +7,14 @@
 ghost use Rattle.call_acts.specs.Moving.{MovesTo};
 ghost use Rattle.make_acts.specs.act_states.specs.Acts.{ActFits, took_act, took_close, took_invoking, took_making, took_returning};
 ghost use Rattle.make_acts.specs.act_states.specs.Acts.{took_switching, took_untyping};
+ghost use Rattle.make_acts.specs.act_states.specs.Refills.{took_refill};
 ghost use Rattle.make_acts.specs.act_states.specs.Switches.{SwitchingFits, took_claim};
 ghost use Rattle.make_acts.specs.act_states.specs.Ticks.{took_tick};
 ghost use Rattle.make_acts.specs.act_states.specs.Touches.{TouchFits, took_touch};
 ghost use Rattle.make_acts.specs.act_states.specs.Untypings.{UntypingFits};
 ghost use Rattle.make_acts.specs.stage_quiet.specs.Removal.{CloseFits, close_after, close_end};
 ghost use Rattle.make_acts.specs.stage_tcap.specs.Charging.{ChargeFits};
+ghost use Rattle.make_acts.specs.stage_tcap.specs.Refilling.{RefillFits};
 ghost use Rattle.make_acts.specs.stage_thread.specs.Claiming.{ClaimFits, claim_after, claim_end};
 ghost use Rattle.std.specs.Prelude.{◌≤◌};
 
@@ -22,7 +24,7 @@ use make_acts::act_states::{
     Touching, Untyping, UntypingAt,
 };
 use make_acts::stage_quiet::Close;
-use make_acts::stage_tcap::Charge;
+use make_acts::stage_tcap::{Charge, Refill};
 use make_acts::stage_thread::Claim;
 use make_acts::stored;
 use make_acts::word_map::Layout;
@@ -45,6 +47,7 @@ pub fn act_moves(act: &mut Act, layout: &Layout, found: u64) -> bool
         Act::Invoke { invoking } => invoking_moves(invoking, found),
         Act::Return { returning } => returning_moves(returning, found),
         Act::Switch { switching } => switching_moves(switching, layout, found),
+        Act::Refill { refill } => refill_moves(refill, layout, found),
         _ => false,
     }
 }
@@ -93,6 +96,22 @@ fn charge_moves(charge: &mut Charge, layout: &Layout, found: u64) -> bool
     match next.take(layout, found) {
         StageEnd::Going => {
             *charge = next;
+            true
+        }
+        _ => false,
+    }
+}
+
+// A giving back goes on from one load to the next, and to its compare.
+#[inline]
+fn refill_moves(refill: &mut Refill, layout: &Layout, found: u64) -> bool
+    requires { RefillFits layout.now refill.old }
+    ensures { MovesTo result (took_refill refill.old found) (Act.Refill refill.old) (Act.Refill refill.new) }
+{
+    let mut next = *refill;
+    match next.take(layout, found) {
+        StageEnd::Going => {
+            *refill = next;
             true
         }
         _ => false,

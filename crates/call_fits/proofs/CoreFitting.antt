@@ -8,7 +8,7 @@ use Rattle.act_fits.specs.kernel_rules.specs.Access.{found}
 use Rattle.act_fits.specs.call_plans.specs.PlanOf.{plan_for}
 use Rattle.act_fits.specs.act_states.specs.declared.own.Own.{Own}
 use Rattle.act_fits.specs.act_states.specs.declared.own.OwnChange.{OwnChange}
-use Rattle.act_fits.specs.act_states.specs.declared.own.OwnChange.TheVariants.{Ticks, Empties, Works, Switches, Caches}
+use Rattle.act_fits.specs.act_states.specs.declared.own.OwnChange.TheVariants.{Ticks, GivesBack, Empties, Works, Switches, Caches}
 use Rattle.act_fits.specs.act_states.specs.OwnChanges.{own_changed}
 use Rattle.act_fits.specs.call_stages.specs.Fits.{left_of, IsActive, CallFits, IsOwn, IsCore, left_for}
 use Rattle.act_fits.specs.call_stages.specs.declared.stages.ActiveCall.{ActiveCall}
@@ -43,6 +43,20 @@ active_on own made old a active next = record {
 -- What a decision changes beside leaves the core in its ranges.
 changed_on : (own : Own) (change : OwnChange) → IsOwn own → ChangeFits own.layout change → IsOwn (own_changed own change)
 changed_on own (Ticks charged owed) h fits = record {
+  shape = h.shape;
+  core = h.core;
+  thread = h.thread;
+  some_depth = h.some_depth;
+  most_depth = h.most_depth;
+  comp = h.comp;
+  table = h.table;
+  pages = h.pages;
+  tcap = h.tcap;
+  most_calls = h.most_calls;
+  most_epochs = h.most_epochs;
+  made = h.made;
+}
+changed_on own (GivesBack ticks) h fits = record {
   shape = h.shape;
   core = h.core;
   thread = h.thread;
@@ -164,6 +178,7 @@ decides_on own active a new r counted found h is decided next count =
 
 made_changed : (own : Own) (change : OwnChange) → (own_changed own change).made ≡ own.made
 made_changed own (Ticks charged owed) = refl
+made_changed own (GivesBack ticks) = refl
 made_changed own Empties = refl
 made_changed own (Works comp table pages depth) = refl
 made_changed own (Switches thread depth comp table pages tcap) = refl
@@ -171,6 +186,7 @@ made_changed own (Caches item) = refl
 
 limit_changed : (own : Own) (change : OwnChange) → (own_changed own change).limit ≡ own.limit
 limit_changed own (Ticks charged owed) = refl
+limit_changed own (GivesBack ticks) = refl
 limit_changed own Empties = refl
 limit_changed own (Works comp table pages depth) = refl
 limit_changed own (Switches thread depth comp table pages tcap) = refl
@@ -180,6 +196,17 @@ limit_changed own (Caches item) = refl
 active_changed : (own : Own) (change : OwnChange) (made : ℕ) (a : ActiveCall) → IsActive (record own { made = made }) a
     → IsActive (record (own_changed own change) { made = made }) a
 active_changed own (Ticks charged owed) made a on = record {
+  limits = on.limits;
+  plan = on.plan;
+  found = on.found;
+  first = on.first;
+  stage = on.stage;
+  acquired = on.acquired;
+  counts = on.counts;
+  room = on.room;
+  steps = on.steps;
+}
+active_changed own (GivesBack ticks) made a on = record {
   limits = on.limits;
   plan = on.plan;
   found = on.found;
@@ -260,6 +287,7 @@ changes_on own active a new r change counted found h is decided next count =
 
 layout_changed : (own : Own) (change : OwnChange) → (own_changed own change).layout ≡ own.layout
 layout_changed own (Ticks charged owed) = refl
+layout_changed own (GivesBack ticks) = refl
 layout_changed own Empties = refl
 layout_changed own (Works comp table pages depth) = refl
 layout_changed own (Switches thread depth comp table pages tcap) = refl

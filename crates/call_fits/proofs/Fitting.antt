@@ -84,6 +84,7 @@ use Rattle.act_fits.specs.act_states.specs.declared.work.Act.TheVariants.{Kill a
 use Rattle.act_fits.specs.act_states.specs.declared.work.Act.TheVariants.{MakeComp as comp_act, Invoke as invoke_act}
 use Rattle.act_fits.specs.act_states.specs.declared.work.Act.TheVariants.{Return as return_act}
 use Rattle.act_fits.specs.act_states.specs.declared.work.Act.TheVariants.{Switch as switch_act, Touch as touch_act, Share as share_act}
+use Rattle.act_fits.specs.act_states.specs.declared.work.Act.TheVariants.{Refill as refill_act}
 use Rattle.act_fits.specs.act_states.specs.declared.work.Tail.{Tail}
 use Rattle.act_fits.specs.act_states.specs.declared.work.Tail.TheVariants.{Nothing, Quiesce, Unmark, StoreDead, StoreFlush, Release}
 use Rattle.act_fits.specs.act_states.specs.declared.work.Tail.TheVariants.{StoreLive, Push, Pop, StoreRunning, StoreIdle, Share}
@@ -117,6 +118,7 @@ use Rattle.act_fits.proofs.CompsFit.{comp_fits, comp_undone}
 use Rattle.act_fits.proofs.SwitchesFit.{switch_fits, switching_undone}
 use Rattle.act_fits.proofs.InvocationsFit.{invoke_fits, return_fits, push_fits, pop_fits}
 use Rattle.act_fits.proofs.TouchesFit.{touch_fits}
+use Rattle.act_fits.proofs.RefillsFit.{refill_fits}
 use Rattle.act_fits.proofs.SharesFit.{share_fits, shared_fits}
 use Rattle.call_fits.proofs.LookingFits.{refused_fits, works_fits, look_fits}
 
@@ -320,6 +322,7 @@ module _ (own : Own) (a : ActiveCall) (facts : Facts own a) (room : own.made < o
   done_fits (return_act m) found fits waits = return_fits own a facts room m m.at found fits waits
   done_fits (switch_act m) found fits waits = switch_fits own a facts room m m.at found fits waits
   done_fits (share_act p) found fits waits = share_fits own a facts room waits p p.at found fits
+  done_fits (refill_act r) found fits waits = refill_fits own a facts room waits r r.at found fits
 
   undo_fits : (act : ActType) → ActFits own.layout act
       → TailFits own.layout (undo act) × (tail_left (undo act) ≤ act_left own.layout.cores act)
@@ -345,6 +348,7 @@ module _ (own : Own) (a : ActiveCall) (facts : Facts own a) (room : own.made < o
   undo_fits (untype_act m) fits = undone_fits own.layout m m.at facts.own_fits.shape fits
   undo_fits (comp_act m) fits = comp_undone own m m.at fits
   undo_fits (share_act p) fits = (tt, omega arith)
+  undo_fits (refill_act r) fits = (tt, omega arith)
 
   scan_end_fits : (left : ℕ) (act : ActType) (q : Quiet) (end : StageEnd (Unit {0})) → a.counts ≡ [] → ActFits own.layout act
       → (end ≡ ends.Going → QuietFits own.layout q × ScanFits own.layout q ×

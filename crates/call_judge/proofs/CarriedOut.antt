@@ -9,7 +9,7 @@ use Rattle.spk_nums.specs.declared.kinds.FrameKind.TheVariants as frame_kind
 use Rattle.spk_nums.specs.declared.calls.Call.{Call}
 use Rattle.spk_nums.specs.declared.calls.Call.TheVariants.{Look, Copy, Remove, Grow, Shrink, Retype, Make as make_call}
 use Rattle.spk_nums.specs.declared.calls.Call.TheVariants.{Map, Unmap, Touch, Flush, Gate, Kill, Call as call_gate}
-use Rattle.spk_nums.specs.declared.calls.Call.TheVariants.{Ret, Switch, Tick, Transfer, Delegate, Test, Part}
+use Rattle.spk_nums.specs.declared.calls.Call.TheVariants.{Ret, Switch, Tick, Transfer, Delegate, Test, Part, Replenish}
 use Rattle.spk_nums.specs.declared.translations.Translation.{Translation}
 use Rattle.spk_nums.specs.declared.replies.Value.{Value}
 use Rattle.spk_nums.specs.declared.replies.Value.TheVariants.{Nothing}
@@ -86,6 +86,7 @@ nothing s c (Tick n) plain = absurd (true≢false plain)
 nothing s c (Transfer a b m) plain = λ x y. refl
 nothing s c (Delegate a b m) plain = λ x y. refl
 nothing s c (Test a b) plain = absurd (true≢false plain)
+nothing s c (Replenish a m) plain = λ x. refl
 nothing s c (Part r f n x b) plain = λ range table at. refl
 
 -- ---- calls that answer a value

@@ -1,9 +1,9 @@
 -- Every call may be refused alike in two states that are one for the machine, one of them reached.
 use Rattle.std.proofs.Common.{◌≡◌, ℕ, ◌+◌, ◌<◌, ◌==◌, Bool, true, false, not, ◌&&◌, refl, sym, ◌∙◌, ap, subst}
-use Rattle.std.proofs.Common.{nat_le, nat_lt, if◌then◌else◌, arith, List, [], ◌∷◌, length, Option, Some, None, IsTrue}
+use Rattle.std.proofs.Common.{nat_le, nat_lt, if◌then◌else◌, arith, List, [], ◌∷◌, length, Option, Some, None, IsTrue, min}
 use Rattle.std.proofs.lemmas.Bool.{false≢true, ltb-true}
 use Rattle.spk_nums.specs.Capability.{Capability}
-use Rattle.spk_nums.specs.Merging.{merged}
+use Rattle.spk_nums.specs.Merging.{merged, covers}
 use Rattle.spk_nums.specs.CallLimits.{InLimits, MakeInLimits}
 use Rattle.spk_nums.specs.declared.kinds.Kind.{Kind}
 use Rattle.spk_nums.specs.declared.kinds.Kind.TheVariants as kind
@@ -16,9 +16,10 @@ use Rattle.spk_nums.specs.declared.calls.Make.TheVariants as make
 use Rattle.spk_nums.specs.declared.calls.Call.{Call}
 use Rattle.spk_nums.specs.declared.calls.Call.TheVariants.{Look, Copy, Remove, Grow, Shrink, Retype, Make as make_call}
 use Rattle.spk_nums.specs.declared.calls.Call.TheVariants.{Map, Unmap, Touch, Flush, Gate, Kill, Call as call_gate}
-use Rattle.spk_nums.specs.declared.calls.Call.TheVariants.{Ret, Switch, Tick, Transfer, Delegate, Test, Part}
+use Rattle.spk_nums.specs.declared.calls.Call.TheVariants.{Ret, Switch, Tick, Transfer, Delegate, Test, Part, Replenish}
 use Rattle.spk_nums.specs.declared.replies.Reply.TheVariants as reply
 use Rattle.kernel_rules.specs.State.{Limits, CompFields, Core, ThreadFields, TcapFields, Object, Frame, State, comp_in, comp_of}
+use Rattle.kernel_rules.specs.State.{outstanding}
 use Rattle.kernel_rules.specs.State.{thread_in, tcap_in}
 use Rattle.kernel_rules.specs.Access.{to_use, Want, Named, found, not_found, only, root, own}
 use Rattle.kernel_rules.specs.Rules.{Judged, Refused, Found, named, name_of}
@@ -273,6 +274,25 @@ module _ {t s : State} {o : ℕ → Bool} {c : ℕ} (w : Twins t s o c) where
         ),
       )
 
+  replenish_may : (a m : ℕ) → SameMayRule w (rule_of t c (Replenish a m)) (rule_of s c (Replenish a m))
+  replenish_may a m =
+      let x : Named = name_of (named s c a (to_use (only kind.Tcap))) in
+      let one : tcap_at t x.frame ≡ tcap_at s x.frame = (two_tcaps a a).0 in
+      let core : t.core c ≡ s.core c = core_same w in (
+        refl,
+        refl,
+        (
+          ((λ i. x.found && not (covers (one i).qualities (core i).grant)), λ on. refl),
+          (
+            (
+              ap (λ (k : Core). nat_lt (outstanding k) m) core,
+              λ on. ap (λ (k : Core). reply.Short (min (outstanding k) m)) core,
+            ),
+            tt,
+          ),
+        ),
+      )
+
   delegate_may : (a b m : ℕ) → SameMayRule w (rule_of t c (Delegate a b m)) (rule_of s c (Delegate a b m))
   delegate_may a b m =
       let x : Named = name_of (named s c a (to_use (only kind.Tcap))) in
@@ -332,4 +352,5 @@ every_may w (Tick n) fits = tt
 every_may w (Transfer a b m) fits = transfer_may w a b m
 every_may w (Delegate a b m) fits = delegate_may w a b m
 every_may w (Test a b) fits = (refl, refl, (refl, refl, ((refl, λ on. refl), tt)))
+every_may w (Replenish a m) fits = replenish_may w a m
 every_may w (Part r f n x b) fits = (refl, refl, (refl, refl, (refl, table_root w x, ((refl, λ on. refl), tt))))

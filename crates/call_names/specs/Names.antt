@@ -3,7 +3,7 @@ use Rattle.std.specs.Prelude.{◌≡◌, ◌⊎◌, ℕ, List, [], ◌∷◌}
 use Rattle.spk_nums.specs.declared.calls.Call.{Call}
 use Rattle.spk_nums.specs.declared.calls.Call.TheVariants.{Look, Copy, Remove, Grow, Shrink, Retype, Make as make_call}
 use Rattle.spk_nums.specs.declared.calls.Call.TheVariants.{Map, Unmap, Gate, Kill, Call as call_gate, Switch, Transfer, Delegate, Test}
-use Rattle.spk_nums.specs.declared.calls.Call.TheVariants.{Part}
+use Rattle.spk_nums.specs.declared.calls.Call.TheVariants.{Part, Replenish}
 use Rattle.spk_nums.specs.declared.calls.Make.{Make}
 use Rattle.spk_nums.specs.declared.calls.Make.TheVariants as make
 use Rattle.kernel_rules.specs.State.{State}
@@ -44,6 +44,7 @@ numbers_named (Transfer a b m) = a ∷ b ∷ []
 numbers_named (Delegate a b m) = a ∷ b ∷ []
 numbers_named (Test a b) = a ∷ b ∷ []
 numbers_named (Part r f n t b) = r ∷ t ∷ []
+numbers_named (Replenish a m) = a ∷ []
 numbers_named _ = []
 
 -- A number is one of these.

@@ -6,7 +6,7 @@ use Rattle.spk_nums.specs.declared.calls.Make.TheVariants as make
 use Rattle.spk_nums.specs.declared.calls.Call.{Call}
 use Rattle.spk_nums.specs.declared.calls.Call.TheVariants.{Look, Copy, Remove, Grow, Shrink, Retype, Make as make_call}
 use Rattle.spk_nums.specs.declared.calls.Call.TheVariants.{Map, Unmap, Touch, Flush, Gate, Kill, Call as call_gate}
-use Rattle.spk_nums.specs.declared.calls.Call.TheVariants.{Ret, Switch, Tick, Transfer, Delegate, Test, Part}
+use Rattle.spk_nums.specs.declared.calls.Call.TheVariants.{Ret, Switch, Tick, Transfer, Delegate, Test, Part, Replenish}
 use Rattle.spk_nums.specs.declared.translations.Translation.{Translation}
 use Rattle.kernel_rules.specs.State.{State, thread_in, comp_of}
 use Rattle.kernel_rules.specs.Access.{Named}
@@ -66,3 +66,4 @@ calls_go s c (Transfer a b m) = (refl, refl, λ k. (refl, refl, λ l. tt))
 calls_go s c (Delegate a b m) = (refl, refl, λ k. (refl, refl, λ l. tt))
 calls_go s c (Test a b) = (refl, refl, λ k. (refl, refl, λ l. tt))
 calls_go s c (Part r f n t b) = (refl, refl, λ k. (refl, refl, λ l. (refl, λ at. tt)))
+calls_go s c (Replenish a m) = (refl, refl, λ k. tt)

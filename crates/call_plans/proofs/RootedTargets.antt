@@ -5,7 +5,7 @@ use Rattle.spk_nums.specs.declared.kinds.FrameKind.TheVariants.{Untyped, User, K
 use Rattle.spk_nums.specs.declared.calls.Make.TheVariants as make
 use Rattle.spk_nums.specs.declared.calls.Call.TheVariants.{Look, Copy, Remove, Grow, Shrink, Retype, Make as make_call}
 use Rattle.spk_nums.specs.declared.calls.Call.TheVariants.{Map, Unmap, Touch, Flush, Gate, Kill, Call as call_gate}
-use Rattle.spk_nums.specs.declared.calls.Call.TheVariants.{Ret, Switch, Tick, Transfer, Delegate, Test, Part}
+use Rattle.spk_nums.specs.declared.calls.Call.TheVariants.{Ret, Switch, Tick, Transfer, Delegate, Test, Part, Replenish}
 use Rattle.kernel_rules.specs.Access.{only}
 use Rattle.call_plans.specs.declared.plans.Wanted.TheVariants.{Only, Root}
 use Rattle.call_plans.specs.Rooted.{WantsRoot, AreRooted}
@@ -57,3 +57,4 @@ rooted (Transfer a b m) = tt
 rooted (Delegate a b m) = tt
 rooted (Test a b) = tt
 rooted (Part r f n t b) = table_root
+rooted (Replenish a m) = tt

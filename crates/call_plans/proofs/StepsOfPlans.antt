@@ -4,7 +4,7 @@ use Rattle.spk_nums.specs.declared.kinds.FrameKind.TheVariants.{Untyped, User, K
 use Rattle.spk_nums.specs.declared.calls.Make.TheVariants as make
 use Rattle.spk_nums.specs.declared.calls.Call.TheVariants.{Look, Copy, Remove, Grow, Shrink, Retype, Make as make_call}
 use Rattle.spk_nums.specs.declared.calls.Call.TheVariants.{Map, Unmap, Touch, Flush, Gate, Kill, Call as call_gate}
-use Rattle.spk_nums.specs.declared.calls.Call.TheVariants.{Ret, Switch, Tick, Transfer, Delegate, Test, Part}
+use Rattle.spk_nums.specs.declared.calls.Call.TheVariants.{Ret, Switch, Tick, Transfer, Delegate, Test, Part, Replenish}
 use Rattle.call_plans.specs.Laws.{BoundIsByPlan}
 
 pub bound_is : BoundIsByPlan
@@ -37,3 +37,4 @@ bound_is (Transfer a b m) n = refl
 bound_is (Delegate a b m) n = refl
 bound_is (Test a b) n = refl
 bound_is (Part r f k t b) n = omega arith
+bound_is (Replenish a m) n = refl

@@ -10,7 +10,7 @@ use Rattle.spk_nums.specs.declared.calls.Make.TheVariants as make
 use Rattle.spk_nums.specs.declared.calls.Call.{Call}
 use Rattle.spk_nums.specs.declared.calls.Call.TheVariants.{Look, Copy, Remove, Grow, Shrink, Retype, Make as make_call}
 use Rattle.spk_nums.specs.declared.calls.Call.TheVariants.{Map, Unmap, Touch, Flush, Gate, Kill, Call as call_gate}
-use Rattle.spk_nums.specs.declared.calls.Call.TheVariants.{Ret, Switch, Tick, Transfer, Delegate, Test, Part}
+use Rattle.spk_nums.specs.declared.calls.Call.TheVariants.{Ret, Switch, Tick, Transfer, Delegate, Test, Part, Replenish}
 use Rattle.call_plans.specs.declared.plans.Nth.{Nth}
 use Rattle.call_plans.specs.declared.plans.Nth.TheVariants.{First, Second}
 use Rattle.call_plans.specs.declared.plans.Wanted.TheVariants.{Any, Only, Root, LeafOf}
@@ -97,3 +97,4 @@ plan_for (Transfer a b m) = on_two_tcaps a b at.HeadB
 plan_for (Delegate a b m) = on_two_tcaps a b at.HeadB
 plan_for (Test a b) = on_two_tcaps a b at.HeadBAgain
 plan_for (Part r f n t b) = fills (a_whole r ∷ of_kind kind.Table t ∷ []) Second b 0
+plan_for (Replenish a m) = names_alone (of_kind kind.Tcap a ∷ []) 0 at.Head

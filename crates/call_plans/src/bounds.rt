@@ -103,6 +103,7 @@ pub fn act_steps(call: &Call, cores: u32) -> u32
             t: _,
             b: _,
         } => cores,
+        Call::Replenish { a: _, m: _ } => 10,
     }
 }
 

@@ -112,6 +112,9 @@ pub fn plan_of(call: &Call) -> Plan
             b.number(),
             0,
         ),
+        Call::Replenish { a, m: _ } => {
+            names_alone(Names::one(of_kind(Kind::Tcap, a)), 0, Decides::Head)
+        }
     }
 }
 

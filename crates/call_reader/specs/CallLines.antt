@@ -212,6 +212,14 @@ part_line words = do
   done ← end_at words 6
   Ok (call.Part r f n t b)
 
+-- `replenish A M`
+unfoldable pub replenish_line : List (List ℕ) → Result Call Cause
+replenish_line words = do
+  a ← name_at words 1
+  m ← amount_at words 2
+  done ← end_at words 3
+  Ok (call.Replenish a m)
+
 -- the objects that a `make` names
 unfoldable pub object_of : List ℕ → Option Object
 object_of word =
@@ -304,3 +312,4 @@ call_line version words verb.Transfer = transfer_line words
 call_line version words verb.Delegate = delegate_line words
 call_line version words verb.Test = test_line words
 call_line version words verb.Part = part_line words
+call_line version words verb.Replenish = replenish_line words

@@ -6,9 +6,9 @@ use Rattle.call_reader.specs.declared.first_words.Verb.TheVariants as verb
 use Rattle.call_reader.specs.declared.first_words.FirstWord.{FirstWord}
 use Rattle.call_reader.specs.declared.first_words.FirstWord.TheVariants.{Speck, Cores, Frames, Grant, Calls, Epochs, Core, Order, Call}
 
--- `part` is a word of a call from version 3 on
-abbrev pub part_from : ℕ → Option Verb
-part_from version = if nat_le 3 version then Some verb.Part else None
+-- the word of a call that there is from version 3 on
+abbrev pub late_verb : ℕ → Verb → Option Verb
+late_verb version v = if nat_le 3 version then Some v else None
 
 -- the words of calls, from `flush` on, in a script of this version
 unfoldable pub later_verb_of : ℕ → List ℕ → Option Verb
@@ -23,8 +23,9 @@ later_verb_of version word =
     else (if is_word word (codes "transfer") then Some verb.Transfer
     else (if is_word word (codes "delegate") then Some verb.Delegate
     else (if is_word word (codes "test") then Some verb.Test
-    else (if is_word word (codes "part") then part_from version
-    else None))))))))))
+    else (if is_word word (codes "part") then late_verb version verb.Part
+    else (if is_word word (codes "replenish") then late_verb version verb.Replenish
+    else None)))))))))))
 
 -- the words of calls
 unfoldable pub verb_of : ℕ → List ℕ → Option Verb

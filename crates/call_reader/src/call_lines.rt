@@ -6,7 +6,8 @@ ghost use Rattle.line_reader.specs.Arguments.{texts};
 ghost use Rattle.call_reader.specs.CallLines.{fourth_at, both_at, rights_at};
 ghost use Rattle.call_reader.specs.CallLines.{look_line, copy_line, remove_line, grow_line, shrink_line, retype_line, map_line};
 ghost use Rattle.call_reader.specs.CallLines.{unmap_line, touch_line, flush_line, gate_line, kill_line, enter_line, ret_line};
-ghost use Rattle.call_reader.specs.CallLines.{switch_line, tick_line, transfer_line, delegate_line, test_line, part_line, object_of};
+ghost use Rattle.call_reader.specs.CallLines.{switch_line, tick_line, transfer_line, delegate_line, test_line, part_line};
+ghost use Rattle.call_reader.specs.CallLines.{replenish_line, object_of};
 ghost use Rattle.call_reader.specs.CallLines.{object_at, thread_at, tcap_at, comp_at, plain_at, made_at, make_line, call_line};
 
 use crate::arguments::{
@@ -281,6 +282,17 @@ fn part_line(words: &[Token]) -> Result<Call, Cause>
     Ok(Call::Part { r, f, n, t, b })
 }
 
+#[tactic(auto, unfolding(crate::specs::CallLines::replenish_line))]
+fn replenish_line(words: &[Token]) -> Result<Call, Cause>
+    ensures value { result ≡ replenish_line (texts words.now) }
+    ensures range { IfOk result InLimits }
+{
+    let a = capability_at(words, 1)?;
+    let m = amount_at(words, 2)?;
+    end_at(words, 3)?;
+    Ok(Call::Replenish { a, m })
+}
+
 /// What a `make` names.
 #[derive(Clone, Copy, Debug, PartialEq, Eq)]
 enum Object {
@@ -431,5 +443,6 @@ pub fn call_line(words: &[Token], verb: Verb, version: u8) -> Result<Call, Cause
         Verb::Delegate => delegate_line(words),
         Verb::Test => test_line(words),
         Verb::Part => part_line(words),
+        Verb::Replenish => replenish_line(words),
     }
 }

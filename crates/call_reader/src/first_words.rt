@@ -1,7 +1,7 @@
 //! The words that a line may begin with.
 
 ghost use Rattle.std.specs.Prelude.{◌≡◌};
-ghost use Rattle.call_reader.specs.FirstWords.{part_from, verb_of, later_verb_of, first_word};
+ghost use Rattle.call_reader.specs.FirstWords.{late_verb, verb_of, later_verb_of, first_word};
 
 use line_reader::is_word;
 
@@ -29,6 +29,7 @@ pub enum Verb {
     Delegate,
     Test,
     Part,
+    Replenish,
 }
 
 /// A known first word.
@@ -74,11 +75,11 @@ fn verb_of(word: &[u8], version: u8) -> Option<Verb>
     }
 }
 
-// `part` is a word of a call from version 3 on.
-fn part_from(version: u8) -> Option<Verb>
-    ensures { result ≡ part_from version }
+// The word of a call that there is from version 3 on.
+fn late_verb(version: u8, verb: Verb) -> Option<Verb>
+    ensures { result ≡ late_verb version verb }
 {
-    if 3 <= version { Some(Verb::Part) } else { None }
+    if 3 <= version { Some(verb) } else { None }
 }
 
 #[tactic(auto, unfolding(crate::specs::FirstWords::later_verb_of))]
@@ -106,7 +107,9 @@ fn later_verb_of(word: &[u8], version: u8) -> Option<Verb>
     } else if is_word(word, "test") {
         Some(Verb::Test)
     } else if is_word(word, "part") {
-        part_from(version)
+        late_verb(version, Verb::Part)
+    } else if is_word(word, "replenish") {
+        late_verb(version, Verb::Replenish)
     } else {
         None
     }

@@ -12,7 +12,7 @@ use Rattle.spk_nums.specs.declared.calls.Make.TheVariants as make
 use Rattle.spk_nums.specs.declared.calls.Call.{Call}
 use Rattle.spk_nums.specs.declared.calls.Call.TheVariants.{Look as look_call, Copy, Remove, Shrink, Unmap, Retype}
 use Rattle.spk_nums.specs.declared.calls.Call.TheVariants.{Make as make_call, Gate, Kill, Grow, Map}
-use Rattle.spk_nums.specs.declared.calls.Call.TheVariants.{Call as call_gate, Ret, Switch, Transfer, Delegate, Test, Part}
+use Rattle.spk_nums.specs.declared.calls.Call.TheVariants.{Call as call_gate, Ret, Switch, Transfer, Delegate, Test, Part, Replenish}
 use Rattle.act_states.specs.entry_words.specs.declared.entry.Entry.{Entry}
 use Rattle.act_states.specs.entry_words.specs.declared.entry.Entry.TheVariants as entry
 use Rattle.act_states.specs.kernel_rules.specs.Access.{found, Target as place, Under, InRoot}
@@ -28,6 +28,7 @@ use Rattle.act_states.specs.declared.work.Act.TheVariants.{Make as make_act, Out
 use Rattle.act_states.specs.declared.work.Act.TheVariants.{Kill as kill_act, Untype as untype_act, Map as map_act}
 use Rattle.act_states.specs.declared.work.Act.TheVariants.{MakeComp as comp_act, Invoke as invoke_act, Return as return_act}
 use Rattle.act_states.specs.declared.work.Act.TheVariants.{Switch as switch_act, Touch as touch_act, Share as share_act}
+use Rattle.act_states.specs.declared.work.Act.TheVariants.{Refill as refill_act}
 use Rattle.act_states.specs.Acts.{fills_with, removes_held, removes_at, act_begun}
 use Rattle.act_states.specs.Acts.{types_if, types_at, stamp_in, filling, starts, scans, makes_at}
 use Rattle.act_states.specs.Acts.{kills_in, kills_at}
@@ -40,6 +41,7 @@ use Rattle.spk_nums.specs.declared.kinds.Kind.TheVariants as kind
 use Rattle.act_states.specs.Lookups.{looks_under, looks_entry, looks_at}
 use Rattle.call_stages.specs.Steps.{decides_at_name}
 use Rattle.act_states.specs.stage_tcap.specs.declared.pair.PairWork.TheVariants as share
+use Rattle.act_states.specs.Refills.{refills_at}
 use Rattle.call_stages.proofs.Answering.{NoAnswer}
 use Rattle.call_stages.proofs.ShareDecisions.{shares_no}
 
@@ -73,6 +75,7 @@ starts_no core (invoke_act m) = tt
 starts_no core (return_act m) = tt
 starts_no core (switch_act m) = tt
 starts_no core (share_act p) = tt
+starts_no core (refill_act r) = tt
 
 pub scans_no : (core : ℕ) (o : Option Quiet) (act : ActType) → NoAnswer (scans core o act)
 scans_no core None act = starts_no core act
@@ -166,6 +169,10 @@ switches_no own None q = tt
 switches_no own (Some h) None = tt
 switches_no own (Some h) (Some q) = tt
 
+refills_no : (own : Own) (m : ℕ) (o : Option Capability) → NoAnswer (refills_at own m o)
+refills_no own m None = tt
+refills_no own m (Some k) = tt
+
 pub act_no : (own : Own) (call : Call) (found : List Capability) (read : Option ℕ) (target : Option Found)
     → decides_at_name (plan_for call).decides ≡ false
     → NoAnswer (act_begun own call found read target)
@@ -186,5 +193,6 @@ act_no own (Switch h q) found read target not = switches_no own (at_place found 
 act_no own (Transfer a b m) found read target not = shares_no own.core (share.Transfer m) (at_place found First) (at_place found Second)
 act_no own (Delegate a b m) found read target not = shares_no own.core (share.Delegate m) (at_place found First) (at_place found Second)
 act_no own (Test a b) found read target not = shares_no own.core share.Test (at_place found First) (at_place found Second)
+act_no own (Replenish a m) found read target not = refills_no own m (at_place found First)
 act_no own (Part r f n t b) found read target not = parts_no own (at_place found First) f n target
 act_no own call found read target not = tt

@@ -18,7 +18,7 @@ use Rattle.spk_nums.specs.declared.calls.Make.TheVariants as make
 use Rattle.spk_nums.specs.declared.calls.Call.{Call}
 use Rattle.spk_nums.specs.declared.calls.Call.TheVariants.{Look as look_call, Copy, Remove, Shrink, Unmap, Retype}
 use Rattle.spk_nums.specs.declared.calls.Call.TheVariants.{Make as make_call, Tick, Gate, Kill, Grow, Flush, Map}
-use Rattle.spk_nums.specs.declared.calls.Call.TheVariants.{Call as call_gate, Ret, Switch, Transfer, Delegate, Test, Part}
+use Rattle.spk_nums.specs.declared.calls.Call.TheVariants.{Call as call_gate, Ret, Switch, Transfer, Delegate, Test, Part, Replenish}
 use Rattle.spk_nums.specs.declared.replies.Reply.{Reply}
 use Rattle.act_states.specs.entry_words.specs.declared.entry.Entry.{Entry}
 use Rattle.act_states.specs.entry_words.specs.declared.entry.Entry.TheVariants as entry
@@ -56,6 +56,7 @@ use Rattle.act_states.specs.declared.work.Act.TheVariants.{Make as make_act, Out
 use Rattle.act_states.specs.declared.work.Act.TheVariants.{Kill as kill_act, Untype as untype_act, Map as map_act}
 use Rattle.act_states.specs.declared.work.Act.TheVariants.{MakeComp as comp_act, Invoke as invoke_act, Return as return_act}
 use Rattle.act_states.specs.declared.work.Act.TheVariants.{Switch as switch_act, Touch as touch_act, Share as share_act}
+use Rattle.act_states.specs.declared.work.Act.TheVariants.{Refill as refill_act}
 use Rattle.act_states.specs.declared.work.Work.{Work}
 use Rattle.act_states.specs.declared.work.Work.TheVariants.{Lookup, Read, Scan, Acquire, Act}
 use Rattle.call_stages.specs.declared.stages.Stage.{Stage}
@@ -120,6 +121,11 @@ use Rattle.call_stages.specs.Fits.{FoundFits, IsFirst, IsActive}
 use Rattle.call_stages.specs.Tails.{took_tail, tail_counts}
 use Rattle.act_states.specs.call_plans.specs.After.{with_found, names_after, next_in, next_of}
 use Rattle.act_states.specs.call_plans.specs.After.{Next, NextName, NextFree, NextHeld, NextOwn, NextNothing}
+use Rattle.act_states.specs.Refills.{is_refilling, took_refilled, took_refill}
+use Rattle.act_states.specs.stage_tcap.specs.Refilling.{refill_after, won}
+use Rattle.act_states.specs.stage_tcap.specs.declared.refill.Refill.{Refill}
+use Rattle.act_states.specs.stage_tcap.specs.declared.refill.RefillAt.{RefillAt}
+use Rattle.act_states.specs.stage_tcap.specs.declared.refill.RefillAt.TheVariants as refill
 use Rattle.call_stages.specs.Steps.{GoesOn, landed, next_by, found_more, took_first, took_enter, took_alive, named_one, read_more}
 use Rattle.call_stages.specs.Steps.{took_read}
 use Rattle.call_stages.specs.Steps.{took_found, took_end, took_look, took_scan, took_count, gives_up, took_work}
@@ -473,6 +479,17 @@ charge_decides a (charge_compare tcap ticks budget version) found ready = by (fo
     by true = tt
     by false = tt
 
+refill_decides : (a : ActiveCall) (r : Refill) (at : RefillAt) (found : ℕ) → is_refilling at ≡ true
+    → IsDecision (landed a (took_refill (record r { at = at }) found))
+refill_decides a r refill.Load found ready = absurd (cc)
+refill_decides a r (refill.List entry) found ready = absurd (cc)
+refill_decides a r refill.Compare found ready = by (found == word_of_head r.head)
+  where
+    by : (equal : Bool) → IsDecision (landed a (took_refilled (refill_after (record r { at = refill.Compare }) found) (won equal)))
+    by true = tt
+    by false = tt
+refill_decides a r refill.Again found ready = absurd (cc)
+
 killing_decides : (a : ActiveCall) (m : Killing) (at : KillingAt) (found : ℕ) → is_killing at ≡ true
     → IsDecision (landed a (took_killing_at m at found))
 killing_decides a m LoadComp found ready = absurd (cc)
@@ -573,6 +590,7 @@ act_decides s a (invoke_act m) found ready = invoking_decides a m m.at found rea
 act_decides s a (return_act m) found ready = returning_decides a m m.at found ready
 act_decides s a (switch_act m) found ready = switching_decides a m m.at found ready
 act_decides s a (share_act p) found ready = landed_decides a _ (share_over p p.at found ready)
+act_decides s a (refill_act r) found ready = refill_decides a r r.at found ready
 
 begun_over : (own : Own) (call : Call) (k : Capability) → decides_at_name (plan_for call).decides ≡ true
     → IsOver (act_begun own call (k ∷ []) None None)
@@ -603,6 +621,7 @@ begun_over own (Switch h q) k is = absurd (cc)
 begun_over own (Transfer a b m) k is = absurd (cc)
 begun_over own (Delegate a b m) k is = absurd (cc)
 begun_over own (Test a b) k is = absurd (cc)
+begun_over own (Replenish a m) k is = absurd (cc)
 begun_over own (Part r f n t b) k is = absurd (cc)
 begun_over own call k is = tt
 

@@ -22,7 +22,7 @@ use Rattle.act_states.specs.Ticks.{took_charge, took_tick, is_charging}
 use Rattle.act_states.specs.stage_tcap.specs.declared.charge.Charge.{Charge}
 use Rattle.act_states.specs.stage_tcap.specs.declared.charge.Charge.TheVariants.{AtLoad as charge_load, AtCompare as charge_compare}
 use Rattle.act_states.specs.stage_tcap.specs.Charging.{end_by_mark, head_end}
-use Rattle.act_states.specs.tcap_words.specs.Head.{head_of_word}
+use Rattle.act_states.specs.tcap_words.specs.Head.{head_of_word, word_of_head}
 use Rattle.act_states.specs.tcap_words.specs.declared.head_word.HeadWord.{HeadWord}
 use Rattle.std.specs.Prelude.{is_some}
 use Rattle.spk_nums.specs.declared.kinds.Obj.{Obj}
@@ -37,6 +37,7 @@ use Rattle.act_states.specs.declared.work.Act.TheVariants.{Make as make_act, Out
 use Rattle.act_states.specs.declared.work.Act.TheVariants.{Kill as kill_act, Untype as untype_act, Map as map_act}
 use Rattle.act_states.specs.declared.work.Act.TheVariants.{MakeComp as comp_act, Invoke as invoke_act, Return as return_act}
 use Rattle.act_states.specs.declared.work.Act.TheVariants.{Switch as switch_act, Touch as touch_act, Share as share_act}
+use Rattle.act_states.specs.declared.work.Act.TheVariants.{Refill as refill_act}
 use Rattle.act_states.specs.Acts.{took_close, is_draw, took_act, act_ready}
 use Rattle.act_states.specs.Acts.{meets_object, meets_blank, meets_making}
 use Rattle.act_states.specs.Acts.{marks_if, took_making_at, meets_comp, meets_live, meets_number, meets_life}
@@ -89,6 +90,13 @@ use Rattle.act_states.specs.Typings.{meets_frame, meets_word, took_typing_at, is
 use Rattle.spk_nums.specs.declared.translations.Translation.{Translation}
 use Rattle.act_states.specs.declared.touches.Touching.{Touching}
 use Rattle.act_states.specs.Touches.{touch_end, touched, is_at_page}
+use Rattle.act_states.specs.Refills.{is_refilling, took_refilled, took_refill}
+use Rattle.act_states.specs.tcap_words.specs.Quality.{quality_of_word}
+use Rattle.act_states.specs.tcap_words.specs.declared.quality_word.QualityWord.{QualityWord}
+use Rattle.act_states.specs.stage_tcap.specs.Refilling.{refill_after, word_end, weighed, again}
+use Rattle.act_states.specs.stage_tcap.specs.declared.refill.Refill.{Refill}
+use Rattle.act_states.specs.stage_tcap.specs.declared.refill.RefillAt.{RefillAt}
+use Rattle.act_states.specs.stage_tcap.specs.declared.refill.RefillAt.TheVariants as refill
 use Rattle.call_stages.proofs.Answering.{NoAnswer}
 use Rattle.call_stages.proofs.ShareDecisions.{share_unready}
 
@@ -152,6 +160,32 @@ head_no charge due (Some v) = by v.mark
 pub charge_no : (charge : Charge) (found : ℕ) → is_charging charge ≡ false → NoAnswer (took_tick charge found)
 charge_no (charge_load tcap ticks) found not = head_no _ ticks (head_of_word found)
 charge_no (charge_compare tcap ticks budget version) found not = absurd (cc)
+
+-- the giving back of ticks goes on, or is refused, before its compare
+refill_head_no : (r : Refill) (o : Option HeadWord) → NoAnswer (took_refilled r (head_end o))
+refill_head_no r None = tt
+refill_head_no r (Some h) = by h.mark
+  where
+    by : (mark : Option ℕ) → NoAnswer (took_refilled r (end_by_mark mark))
+    by None = tt
+    by (Some d) = tt
+
+refill_word_no : (r : Refill) (less : Bool) (left : ℕ) (o : Option QualityWord)
+    → NoAnswer (took_refilled r (word_end o (weighed less left)))
+refill_word_no r less left None = tt
+refill_word_no r true left (Some v) = tt
+refill_word_no r false left (Some v) = tt
+
+pub refill_unready : (r : Refill) (at : RefillAt) (found : ℕ) → is_refilling at ≡ false
+    → NoAnswer (took_refill (record r { at = at }) found)
+refill_unready r refill.Load found not = refill_head_no _ (head_of_word found)
+refill_unready r (refill.List entry) found not = refill_word_no _ _ _ (quality_of_word found)
+refill_unready r refill.Compare found not = absurd (cc)
+refill_unready r refill.Again found not = by (found == word_of_head r.head)
+  where
+    by : (same : Bool) → NoAnswer (took_refilled (refill_after (record r { at = refill.Again }) found) (again same))
+    by true = tt
+    by false = tt
 
 pub lives_no : (m : Killing) (life : CompWord) (word : ℕ) (lives : Bool) → NoAnswer (meets_life m life word lives)
 lives_no m life word true = tt
@@ -372,3 +406,4 @@ act_unready s (invoke_act m) found not = invoking_no m m.at found not
 act_unready s (return_act m) found not = returning_no m m.at found not
 act_unready s (switch_act m) found not = switching_no m m.at found not
 act_unready s (share_act p) found not = share_unready p p.at found not
+act_unready s (refill_act r) found not = refill_unready r r.at found not

@@ -1,5 +1,5 @@
 -- The steps of a core: its next one, and the core after it. Which calls there are is not said here.
-use Rattle.std.specs.Prelude.{ℕ, ◌+◌, Bool, false, [], Option, Some, None}
+use Rattle.std.specs.Prelude.{ℕ, ◌+◌, Bool, false, [], Option, Some, None, slice_get}
 use Rattle.spk_nums.specs.Setting.{Setting}
 use Rattle.spk_nums.specs.declared.calls.Call.{Call}
 use Rattle.spk_nums.specs.declared.replies.Reply.{Reply}
@@ -7,6 +7,7 @@ use Rattle.spk_nums.specs.declared.translations.CoreEnd.{CoreEnd}
 use Rattle.act_states.specs.word_map.specs.Word.{ClockAt}
 use Rattle.act_states.specs.word_map.specs.Moves.{Move, LoadOf}
 use Rattle.act_states.specs.kernel_rules.specs.Laws.{calls_counted}
+use Rattle.act_states.specs.kernel_rules.specs.Start.{grant_pair}
 use Rattle.act_states.specs.call_plans.specs.PlanOf.{plan_for}
 use Rattle.act_states.specs.declared.own.Own.{Own}
 use Rattle.act_states.specs.OwnChanges.{own_changed}
@@ -35,6 +36,8 @@ started c setting = record {
     tcap = 4 + setting.cores + c;
     owed = 0;
     spent = 0;
+    back = 0;
+    grant = grant_pair (slice_get setting.grants c);
     cached = [];
   };
   active = None;
@@ -47,6 +50,7 @@ end_of c = record {
   tcap = c.own.tcap;
   comp = c.own.comp;
   spent = c.own.spent;
+  back = c.own.back;
   owed = c.own.owed;
   cached =
       c.own.cached;

@@ -1,11 +1,12 @@
 //! The state of a core: what it has of its own, and its call.
 
-ghost use Rattle.std.specs.Prelude.{◌≡◌, ◌<◌, ◌≤◌, None, IsSome, IsTrue, ◌↔◌};
+ghost use Rattle.std.specs.Prelude.{◌≡◌, ◌<◌, ◌≤◌, None, IsSome, IsTrue, slice_get, ◌↔◌};
 ghost use Rattle.spk_nums.specs.CallLimits.{InLimits};
 ghost use Rattle.spk_nums.specs.WordSteps.{place_in};
 ghost use Rattle.step_looks.specs.word_map.specs.Places.{size_of};
 ghost use Rattle.step_looks.specs.word_map.specs.Moves.{op_of};
 ghost use Rattle.step_looks.specs.kernel_rules.specs.Laws.{calls_counted};
+ghost use Rattle.step_looks.specs.kernel_rules.specs.Start.{grant_pair};
 ghost use Rattle.step_looks.specs.call_stages.specs.Cores.{started, end_of, begun, move_of, ready_of, absorbed, told_of_step};
 ghost use Rattle.step_looks.specs.call_stages.specs.Fits.{IsCore, steps_left};
 ghost use Rattle.call_steps.specs.Stepping.{steps_made};
@@ -70,6 +71,8 @@ impl CoreState {
                 tcap: FrameNo::new(4 + u16::from(cores) + number),
                 owed: 0,
                 spent: 0,
+                back: 0,
+                grant: granted_to(setup, number),
                 cached: Translations::empty(),
             },
         }
@@ -224,9 +227,20 @@ impl CoreState {
             tcap: self.own.tcap,
             comp: self.own.comp,
             spent: self.own.spent,
+            back: self.own.back,
             owed: self.own.owed,
             cached: self.own.cached,
         }
+    }
+}
+
+// The scheduler and the number of a core's grant.
+fn granted_to(setup: &Setup, core: u16) -> (u8, u32)
+    ensures { result ≡ grant_pair (slice_get setup.now.grants core) }
+{
+    match setup.grants().get(usize::from(core)) {
+        None => (0, 0),
+        Some(grant) => (grant.sched, grant.quality),
     }
 }
 

@@ -67,7 +67,7 @@ fn row_of(call: Call, line: &'static str, act: &'static str, refusals: &'static 
 }
 
 /// The rows, in the order of the documents.
-pub fn rows() -> [Row; 26] {
+pub fn rows() -> [Row; 27] {
     [
         row_of(Call::Look { a: cap(0) }, "look A", "", "`no-slot`, `empty`"),
         row_of(
@@ -274,6 +274,12 @@ pub fn rows() -> [Row; 26] {
             "part R F N T B",
             "scan of the cores, compare of the target",
             "`no-slot`, `empty`, `wrong-cap`, `no-right`, `occupied`, `quiescing e`, `out-of-range`, `raced`",
+        ),
+        row_of(
+            Call::Replenish { a: cap(12), m: 1 },
+            "replenish A M",
+            "load of the head, 8 loads of its list, compare of the head",
+            "`no-slot`, `empty`, `wrong-cap`, `no-right`, `unlike`, `short b`, `raced`",
         ),
     ]
 }

@@ -12,7 +12,7 @@ use Rattle.scan_invariant.proofs.Common.{state_before, state_returned, state_dec
 use Rattle.std.specs.Prelude.{take}
 use Rattle.state_laws.specs.spk_nums.specs.declared.kinds.FrameKind.TheVariants as frame_kind
 use Rattle.state_laws.specs.spk_nums.specs.declared.calls.Make.TheVariants as make
-use Rattle.state_laws.specs.spk_nums.specs.declared.calls.Call.TheVariants.{Look, Make as make_call, Part}
+use Rattle.state_laws.specs.spk_nums.specs.declared.calls.Call.TheVariants.{Look, Make as make_call, Part, Replenish}
 use Rattle.state_laws.specs.spk_nums.specs.declared.calls.Call.TheVariants.{Call as call_gate}
 use Rattle.state_laws.specs.spk_nums.specs.declared.replies.Reply.TheVariants as reply
 use Rattle.state_laws.specs.kernel_rules.specs.Ranges.{NumberInRange}
@@ -100,6 +100,7 @@ rule_begun s c (Tick n) = λ calm l is. no_thing _ is
 rule_begun s c (Transfer a b m) = λ j e k f calm l is. no_thing _ is
 rule_begun s c (Delegate a b m) = λ j e k f calm l is. no_thing _ is
 rule_begun s c (Test a b) = λ j e k f calm l is. no_thing _ is
+rule_begun s c (Replenish a m) = λ j e calm l is. no_thing _ is
 rule_begun s c (Part r f n t b) = λ k e table g at v calm l is. no_thing _ is
 
 found_begun : (s : State) (v : Value) (x : Judged Change) → IfFound x (Begun s) → IsFoundAnd x (λ k. k.value ≡ v) → (l : ℕ)

@@ -24,6 +24,7 @@ use Rattle.act_fits.specs.act_states.specs.declared.work.Act.TheVariants.{Make a
 use Rattle.act_fits.specs.act_states.specs.declared.work.Act.TheVariants.{Flush as flush_act}
 use Rattle.act_fits.specs.act_states.specs.declared.work.Act.TheVariants.{Kill as kill_act, Untype as untype_act, Map as map_act}
 use Rattle.act_fits.specs.act_states.specs.declared.work.Act.TheVariants.{MakeComp as comp_act, Touch as touch_act, Share as share_act}
+use Rattle.act_fits.specs.act_states.specs.declared.work.Act.TheVariants.{Refill as refill_act}
 use Rattle.act_fits.specs.act_states.specs.declared.work.Act.TheVariants.{Invoke as invoke_act, Return as return_act}
 use Rattle.act_fits.specs.act_states.specs.declared.work.Act.TheVariants.{Switch as switch_act}
 use Rattle.act_fits.specs.act_states.specs.declared.work.Work.{Work}
@@ -97,6 +98,7 @@ act_bare (share_act p) h f i = by p.at
 act_bare (invoke_act m) h f i = refl
 act_bare (return_act m) h f i = refl
 act_bare (switch_act m) h f i = switching_bare m m.at h f i
+act_bare (refill_act r) h f i = refl
 
 work_bare : (work : Work) (h : Holding) (f i : ℕ) → (holds_work work h).bare f i ≡ h.bare f i
 work_bare (Lookup look) h f i = refl

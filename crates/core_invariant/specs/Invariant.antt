@@ -40,7 +40,8 @@ use Rattle.kernel_invariant.specs.spk_nums.specs.declared.replies.Reply.TheVaria
 use Rattle.act_fits.specs.stage_pins.specs.declared.held.Acquired.{Acquired}
 use Rattle.act_fits.specs.act_states.specs.declared.work.Act.{Act}
 use Rattle.act_fits.specs.act_states.specs.declared.work.Act.TheVariants.{Fill, Remove, Retype, Make, Outside, Tick, Flush, Kill, Untype}
-use Rattle.act_fits.specs.act_states.specs.declared.work.Act.TheVariants.{Map as map_act, MakeComp, Invoke, Return, Touch, Share, Switch}
+use Rattle.act_fits.specs.act_states.specs.declared.work.Act.TheVariants.{Map as map_act, MakeComp, Invoke, Return, Touch, Share, Refill}
+use Rattle.act_fits.specs.act_states.specs.declared.work.Act.TheVariants.{Switch}
 use Rattle.act_fits.specs.act_states.specs.declared.work.Work.{Work}
 use Rattle.act_fits.specs.act_states.specs.declared.work.Work.TheVariants.{Lookup, Read, Scan, Acquire, Act as act_work}
 use Rattle.act_fits.specs.act_states.specs.declared.work.Tail.{Tail}
@@ -164,6 +165,7 @@ holds_act (MakeComp m) h = holds_comp m m.at h
 holds_act (Invoke m) h = h
 holds_act (Return m) h = h
 holds_act (Share p) h = holds_share p p.at h
+holds_act (Refill r) h = h
 holds_act (Switch m) h = holds_switching m m.at h
 
 abbrev pub holds_tail : Tail → Holding → Holding

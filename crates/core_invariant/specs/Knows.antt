@@ -95,7 +95,8 @@ use Rattle.act_fits.specs.act_states.specs.declared.work.Act.TheVariants.{Flush 
 use Rattle.act_fits.specs.act_states.specs.declared.work.Act.TheVariants.{Kill as kill_act, Untype as untype_act, Map as map_act}
 use Rattle.act_fits.specs.act_states.specs.declared.work.Act.TheVariants.{MakeComp as comp_act, Invoke as invoke_act}
 use Rattle.act_fits.specs.act_states.specs.declared.work.Act.TheVariants.{Return as return_act}
-use Rattle.act_fits.specs.act_states.specs.declared.work.Act.TheVariants.{Touch as touch_act, Share as share_act, Switch as switch_act}
+use Rattle.act_fits.specs.act_states.specs.declared.work.Act.TheVariants.{Touch as touch_act, Share as share_act, Refill as refill_act}
+use Rattle.act_fits.specs.act_states.specs.declared.work.Act.TheVariants.{Switch as switch_act}
 use Rattle.act_fits.specs.act_states.specs.declared.work.Work.{Work}
 use Rattle.act_fits.specs.act_states.specs.declared.work.Due.{Due}
 use Rattle.act_fits.specs.act_states.specs.declared.work.Work.TheVariants.{Lookup, Read, Scan, Acquire, Act}
@@ -116,6 +117,7 @@ use Rattle.act_fits.specs.call_stages.specs.View.{Core}
 use Rattle.act_fits.specs.call_stages.specs.Fits.{IsCore}
 use Rattle.act_fits.specs.act_states.specs.Untypings.{is_drawing}
 use Rattle.core_invariant.specs.Shares.{KnowsShare, KnowsShared}
+use Rattle.core_invariant.specs.Refills.{KnowsRefill}
 use Rattle.core_invariant.specs.Holding.{count_of, holds_counts, AreApart}
 pub use Rattle.core_invariant.specs.Components.{HasComp, HasLife, IsRead, ReadIs, KnowsInvoking, KnowsReturning}
 use Rattle.core_invariant.specs.Threads.{KnowsSwitch, KnowsRunning, KnowsIdle}
@@ -149,6 +151,7 @@ KnowsAct setup t c call plan found upto (comp_act m) = KnowsComp setup t c call 
 KnowsAct setup t c call plan found upto (invoke_act m) = KnowsInvoking (state_after setup t) c call found m
 KnowsAct setup t c call plan found upto (return_act m) = KnowsReturning (state_after setup t) c call m
 KnowsAct setup t c call plan found upto (share_act p) = KnowsShare setup t c call found p
+KnowsAct setup t c call plan found upto (refill_act r) = KnowsRefill setup t c call found r
 KnowsAct setup t c call plan found upto (switch_act m) = KnowsSwitch setup t c call found m
 
 -- An act is before its first step.
@@ -173,6 +176,7 @@ is_start (comp_act m) = not (comp_is_marked m.at)
 is_start (invoke_act m) = not (is_entering m.at)
 is_start (return_act m) = not (is_leaving m.at)
 is_start (share_act p) = false
+is_start (refill_act r) = false
 is_start (switch_act m) = false
 
 -- Its counts may be acquired here: no entry and no liveness number is closed yet, and a sweep is over.
@@ -183,6 +187,7 @@ is_counting (comp_act m) = not (comp_meets_number m.at)
 is_counting (untype_act m) = is_drawing m.at
 is_counting (switch_act m) = not (is_switching m.at)
 is_counting (share_act p) = false
+is_counting (refill_act r) = false
 is_counting act = true
 
 -- It goes on: it is not out of range.
@@ -422,7 +427,7 @@ CallIs setup t c table None = phase t c ≡ Out
 CallIs setup t c table (Some a) = IsIn setup t c table a
 
 -- The core c works where the state says: on its thread, in the component on top of it, with its temporal capability; and has
--- cached, spent, owes and has counted what the state says.
+-- cached, spent, has had back, owes and has counted what the state says, and has its grant.
 pub record WorksIn (own : Own) (s : State) (c : ℕ) : Type 0 where
   pub thread : own.thread ≡ (s.core c).thread
   pub depth : own.depth ≡ length (thread_of s c).stack
@@ -433,6 +438,8 @@ pub record WorksIn (own : Own) (s : State) (c : ℕ) : Type 0 where
   pub cached : own.cached ≡ (s.core c).cached
   pub owed : own.owed ≡ (s.core c).owed
   pub spent : own.spent ≡ (s.core c).spent
+  pub back : own.back ≡ (s.core c).back
+  pub grant : own.grant ≡ (s.core c).grant
   pub made : own.made ≡ (s.core c).counted
 
 -- Whether a call has decided a flush whose stamp is still to be stored.

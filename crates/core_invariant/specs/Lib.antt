@@ -18,6 +18,7 @@ pub mod Frozen
 pub mod Sweeps
 pub mod Threads
 pub mod Shares
+pub mod Refills
 pub mod Components
 pub mod Reaching
 pub mod Acting

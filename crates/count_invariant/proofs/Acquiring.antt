@@ -54,7 +54,8 @@ use Rattle.step_ways.specs.act_states.specs.declared.work.Act.TheVariants.{Fill 
 use Rattle.step_ways.specs.act_states.specs.declared.work.Act.TheVariants.{Make as make_act, Tick as tick_act, Flush as flush_act}
 use Rattle.step_ways.specs.act_states.specs.declared.work.Act.TheVariants.{Kill as kill_act, Untype as untype_act, Map as map_act}
 use Rattle.step_ways.specs.act_states.specs.declared.work.Act.TheVariants.{MakeComp as comp_act, Invoke as invoke_act, Return as return_act}
-use Rattle.step_ways.specs.act_states.specs.declared.work.Act.TheVariants.{Touch as touch_act, Share as share_act, Switch as switch_act}
+use Rattle.step_ways.specs.act_states.specs.declared.work.Act.TheVariants.{Touch as touch_act, Share as share_act, Refill as refill_act}
+use Rattle.step_ways.specs.act_states.specs.declared.work.Act.TheVariants.{Switch as switch_act}
 use Rattle.step_ways.specs.act_states.specs.declared.work.WorkStep.TheVariants.{Acquires}
 use Rattle.step_ways.specs.act_states.specs.Acts.{acquires}
 use Rattle.step_ways.specs.call_stages.specs.Steps.{took_count, gives_up}
@@ -145,6 +146,7 @@ counts_plain (invoke_act m) before due rest is = refl
 counts_plain (return_act m) before due rest is = refl
 counts_plain (comp_act m) before due rest is = refl
 counts_plain (share_act p) before due rest is = absurd (no_due before due rest is)
+counts_plain (refill_act r) before due rest is = absurd (no_due before due rest is)
 counts_plain (switch_act m) before due rest is = refl
 counts_plain (untype_act m) before due rest is = refl
 

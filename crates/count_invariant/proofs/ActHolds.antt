@@ -19,6 +19,7 @@ use Rattle.step_ways.specs.act_states.specs.declared.work.Act.TheVariants.{Fill 
 use Rattle.step_ways.specs.act_states.specs.declared.work.Act.TheVariants.{Make as make_act, Tick as tick_act, Kill as kill_act}
 use Rattle.step_ways.specs.act_states.specs.declared.work.Act.TheVariants.{MakeComp as comp_act, Map as map_act, Flush as flush_act}
 use Rattle.step_ways.specs.act_states.specs.declared.work.Act.TheVariants.{Untype as untype_act, Touch as touch_act, Share as share_act}
+use Rattle.step_ways.specs.act_states.specs.declared.work.Act.TheVariants.{Refill as refill_act}
 use Rattle.step_ways.specs.act_states.specs.declared.work.Act.TheVariants.{Invoke as invoke_act, Return as return_act, Switch as switch_act}
 use Rattle.step_ways.specs.act_states.specs.declared.untypings.UntypingAt.TheVariants as untype
 use Rattle.step_ways.specs.act_states.specs.Untypings.{untyping_undo}
@@ -61,6 +62,7 @@ undo_holds (kill_act m) h is = by m.at is
     by (kill_close life word) is = refl
     by (kill_draw life word) is = absurd (false≢true is)
 undo_holds (share_act p) h is = absurd (false≢true is)
+undo_holds (refill_act r) h is = absurd (false≢true is)
 undo_holds (invoke_act m) h is = refl
 undo_holds (return_act m) h is = refl
 undo_holds (switch_act m) h is = switching_undo_holds m m.at h is
@@ -124,6 +126,7 @@ act_count (kill_act m) h f d spares = by m.at
     by (LoadLive life) = (refl, refl)
     by (kill_close life word) = (refl, refl)
     by (kill_draw life word) = (refl, refl)
+act_count (refill_act r) h f d spares = (refl, refl)
 act_count (share_act p) h f d spares = by p.at
   where
     by : (at : PairAt) → ((holds_share p at h).marks (CountAt f d) ≡ h.marks (CountAt f d))
@@ -196,6 +199,7 @@ act_over (kill_act m) h g w same = by m.at
     by (LoadLive life) = same
     by (kill_close life word) = same
     by (kill_draw life word) = keeps_over (LiveAt life.number) w word h g same
+act_over (refill_act r) h g w same = same
 act_over (share_act p) h g w same = by p.at
   where
     head : ((holds_head p false h).marks w ≡ (holds_head p false g).marks w)

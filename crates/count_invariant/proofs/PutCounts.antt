@@ -7,7 +7,7 @@ use Rattle.step_ways.proofs.Common.{Kill, Grow, Touch, Flush, Map, Ret, Transfer
 use Rattle.step_ways.proofs.Common.{counts_references, is_one_of, footprint_frames, only, Found, only_is, name_parts, at_place}
 use Rattle.step_ways.proofs.Common.{First, Second, plan_for, Leads}
 use Rattle.step_ways.proofs.Common.{LeadsIn, put_by, to_use, Suits, suits}
-use Rattle.plan_ways.specs.spk_nums.specs.declared.calls.Call.TheVariants.{Look, Make as make_call, Part}
+use Rattle.plan_ways.specs.spk_nums.specs.declared.calls.Call.TheVariants.{Look, Make as make_call, Part, Replenish}
 use Rattle.plan_ways.specs.spk_nums.specs.declared.calls.Call.TheVariants.{Call as call_gate}
 use Rattle.plan_ways.specs.spk_nums.specs.Rights.{kept, part_of}
 use Rattle.plan_ways.specs.spk_nums.specs.declared.rights.Rights.{Rights}
@@ -55,6 +55,7 @@ put_counts (Gate n u b) ks read k puts d names_it = refl
 put_counts (Kill n) ks read k puts d names_it = absurd (cc)
 put_counts (call_gate n) ks read k puts d names_it = absurd (cc)
 put_counts Ret ks read k puts d names_it = absurd (cc)
+put_counts (Replenish x m) ks read k puts d names_it = absurd (cc)
 put_counts (Transfer x y m) ks read k puts d names_it = absurd (cc)
 put_counts (Delegate x y m) ks read k puts d names_it = absurd (cc)
 put_counts (Test x y) ks read k puts d names_it = absurd (cc)
@@ -119,6 +120,7 @@ put_footprint s c (Gate n u b) ks read k puts lead f names_it = gate_footprint s
 put_footprint s c (Kill n) ks read k puts lead f names_it = absurd (cc)
 put_footprint s c (call_gate n) ks read k puts lead f names_it = absurd (cc)
 put_footprint s c Ret ks read k puts lead f names_it = absurd (cc)
+put_footprint s c (Replenish x m) ks read k puts lead f names_it = absurd (cc)
 put_footprint s c (Transfer x y m) ks read k puts lead f names_it = absurd (cc)
 put_footprint s c (Delegate x y m) ks read k puts lead f names_it = absurd (cc)
 put_footprint s c (Test x y) ks read k puts lead f names_it = absurd (cc)

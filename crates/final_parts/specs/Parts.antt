@@ -163,6 +163,7 @@ abbrev pub core_end : Option CoreEnd → Result CorePart NoPart
 core_end None = Err Outside
 core_end (Some e) = Ok (record {
   spent = e.spent;
+  back = e.back;
   owed = e.owed;
   thread = e.thread;
   tcap = e.tcap;

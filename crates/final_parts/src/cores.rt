@@ -57,6 +57,7 @@ pub fn core_part(image: &Image<'_>, core: u8) -> Result<CorePart, NoPart>
     match image.ends().get(usize::from(core)) {
         Some(end) => Ok(CorePart {
             spent: end.spent,
+            back: end.back,
             owed: end.owed,
             thread: end.thread.number(),
             tcap: end.tcap.number(),

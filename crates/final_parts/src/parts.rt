@@ -105,6 +105,8 @@ pub struct LivePart {
 pub struct CorePart {
     /// The ticks charged on it.
     pub spent: u64,
+    /// The ticks of these that it has had back.
+    pub back: u64,
     /// The ticks that it owes.
     pub owed: u64,
     /// The frame of its thread.

@@ -2,7 +2,7 @@
 use Rattle.work_invariant.proofs.Common.{◌≡◌, ℕ, Option, Some, None, refl, Reply, ActiveCall, Took, GoesOn, Decides, Returns, Changes}
 use Rattle.work_invariant.proofs.Common.{took, Core, Own, Works, core_after, absorbed_in, absorbed, told_by, told_in, returned_in}
 use Rattle.std.proofs.Common.{IsSome}
-use Rattle.call_stages.specs.act_states.specs.declared.own.OwnChange.TheVariants.{Ticks, Empties, Caches, Switches}
+use Rattle.call_stages.specs.act_states.specs.declared.own.OwnChange.TheVariants.{Ticks, GivesBack, Empties, Caches, Switches}
 use Rattle.call_stages.specs.Cores.{told_of_step}
 
 after_shape : (own : Own) (k : Took) → (core_after own k).own.layout ≡ own.layout
@@ -10,6 +10,7 @@ after_shape own (GoesOn a) = refl
 after_shape own (Decides r a) = refl
 after_shape own (Returns r x) = refl
 after_shape own (Changes r (Ticks charged owed) a) = refl
+after_shape own (Changes r (GivesBack ticks) a) = refl
 after_shape own (Changes r Empties a) = refl
 after_shape own (Changes r (Works comp table pages depth) a) = refl
 after_shape own (Changes r (Caches item) a) = refl

@@ -357,6 +357,8 @@ boots setup setting = record {
       cached = refl;
       owed = refl;
       spent = refl;
+      back = refl;
+      grant = refl;
       made = refl;
     };
     exit = refl;

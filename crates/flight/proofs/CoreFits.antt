@@ -3,7 +3,7 @@ use Rattle.work_invariant.proofs.Common.{◌≡◌, ℕ, ◌<◌, ◌≤◌, ◌
 use Rattle.work_invariant.proofs.Common.{IsSetting, InLimits, Call, calls_counted, Own, Works, Reply, ActiveCall, Core, Took, GoesOn}
 use Rattle.work_invariant.proofs.Common.{Decides, Returns, Changes, took, fresh, core_after, absorbed_in, absorbed}
 use Rattle.call_stages.specs.act_states.specs.declared.own.OwnChange.{OwnChange}
-use Rattle.call_stages.specs.act_states.specs.declared.own.OwnChange.TheVariants.{Ticks, Empties, Caches, Switches}
+use Rattle.call_stages.specs.act_states.specs.declared.own.OwnChange.TheVariants.{Ticks, GivesBack, Empties, Caches, Switches}
 use Rattle.call_stages.specs.Steps.{told, call_after}
 use Rattle.call_stages.specs.Cores.{started, begun}
 use Rattle.call_stages.specs.Fits.{IsOwn, IsCore, left_of, left_for, steps_left}
@@ -63,6 +63,7 @@ further_changed : (own : Own) (a : ActiveCall) (r : Reply) (change : OwnChange) 
     → IsCore (core_after own (Changes r change new)) → left_of own.layout.cores new < left_of own.layout.cores a
     → GoesFurther own a (core_after own (Changes r change new))
 further_changed own a r (Ticks charged owed) new fits fewer = record { fits = fits; fewer = fewer }
+further_changed own a r (GivesBack ticks) new fits fewer = record { fits = fits; fewer = fewer }
 further_changed own a r Empties new fits fewer = record { fits = fits; fewer = fewer }
 further_changed own a r (Works comp table pages depth) new fits fewer = record { fits = fits; fewer = fewer }
 further_changed own a r (Caches item) new fits fewer = record { fits = fits; fewer = fewer }

@@ -123,19 +123,21 @@ none_held Free h = refl
 none_held (Holds k) h = absurd (h k refl)
 none_held (Quiescing k) h = refl
 
-end_with : ℕ → ℕ → ℕ → ℕ → ℕ → List Translation → CoreEnd
-end_with thread tcap comp spent owed cached =
-    record { thread = thread; tcap = tcap; comp = comp; spent = spent; owed = owed; cached = cached }
+end_with : ℕ → ℕ → ℕ → ℕ → ℕ → ℕ → List Translation → CoreEnd
+end_with thread tcap comp spent back owed cached =
+    record { thread = thread; tcap = tcap; comp = comp; spent = spent; back = back; owed = owed; cached = cached }
 
 pub ends_are : (core : Core) (s : State) (c : ℕ) → WorksIn core.own s c → end_of core ≡ end_in s c
 unfolding end_with
 ends_are core s c is =
-    ap (λ (x : ℕ). end_with x core.own.tcap core.own.comp core.own.spent core.own.owed core.own.cached) is.thread
-    ∙ ap (λ (x : ℕ). end_with (s.core c).thread x core.own.comp core.own.spent core.own.owed core.own.cached) is.tcap
-    ∙ ap (λ (x : ℕ). end_with (s.core c).thread (s.core c).tcap x core.own.spent core.own.owed core.own.cached) is.comp
-    ∙ ap (λ (x : ℕ). end_with (s.core c).thread (s.core c).tcap (end_in s c).comp x core.own.owed core.own.cached) is.spent
-    ∙ ap (λ (x : ℕ). end_with (s.core c).thread (s.core c).tcap (end_in s c).comp (s.core c).spent x core.own.cached) is.owed
-    ∙ ap (λ x. end_with (s.core c).thread (s.core c).tcap (end_in s c).comp (s.core c).spent (s.core c).owed x) is.cached
+    ap (λ (x : ℕ). end_with x core.own.tcap core.own.comp core.own.spent core.own.back core.own.owed core.own.cached) is.thread
+    ∙ ap (λ (x : ℕ). end_with (s.core c).thread x core.own.comp core.own.spent core.own.back core.own.owed core.own.cached) is.tcap
+    ∙ ap (λ (x : ℕ). end_with (s.core c).thread (s.core c).tcap x core.own.spent core.own.back core.own.owed core.own.cached) is.comp
+    ∙ ap (λ (x : ℕ). end_with (s.core c).thread (s.core c).tcap (end_in s c).comp x core.own.back core.own.owed core.own.cached) is.spent
+    ∙ ap (λ (x : ℕ). end_with (s.core c).thread (s.core c).tcap (end_in s c).comp (s.core c).spent x core.own.owed core.own.cached) is.back
+    ∙ ap (λ (x : ℕ). end_with (s.core c).thread (s.core c).tcap (end_in s c).comp (s.core c).spent (s.core c).back x core.own.cached)
+    is.owed
+    ∙ ap (λ x. end_with (s.core c).thread (s.core c).tcap (end_in s c).comp (s.core c).spent (s.core c).back (s.core c).owed x) is.cached
 
 module _ (setup : Setting) (setting : IsSetting setup) (cores : ℕ → Core) (t : Trace) (stands : Invariant setup cores t)
     (between : AreBetween setup cores) where

@@ -25,7 +25,7 @@ use Rattle.call_stages.specs.act_states.specs.declared.untypings.UntypingAt.TheV
 use Rattle.call_stages.specs.act_states.specs.Untypings.{UntypingAtFits, untyping_at, release_at}
 use Rattle.call_stages.specs.act_states.specs.declared.work.Act.{Act}
 use Rattle.call_stages.specs.act_states.specs.declared.work.Act.TheVariants.{Remove, Retype, Make, Tick, Flush, Kill}
-use Rattle.call_stages.specs.act_states.specs.declared.work.Act.TheVariants.{Map as map_act, Touch, Share, Switch}
+use Rattle.call_stages.specs.act_states.specs.declared.work.Act.TheVariants.{Map as map_act, Touch, Share, Refill, Switch}
 use Rattle.call_stages.specs.act_states.specs.declared.typings.TypingAt.{TypingAt}
 use Rattle.call_stages.specs.act_states.specs.declared.typings.TypingAt.TheVariants.{Compare as type_compare}
 use Rattle.call_stages.specs.act_states.specs.Typings.{typing_at}
@@ -42,6 +42,7 @@ use Rattle.call_stages.specs.stage_pins.specs.Held.{commit_of, AcquiredFits, All
 use Rattle.call_stages.specs.stage_pins.proofs.PinLemmas.{pin_is_in, settle_is_in}
 use Rattle.call_stages.specs.stage_pins.proofs.HeldLemmas.{commit_fits}
 use Rattle.call_stages.specs.stage_tcap.proofs.PairLemmas.{charge_is_in, pair_is_in}
+use Rattle.call_stages.specs.stage_tcap.proofs.RefillLemmas.{refill_is_in}
 use Rattle.call_stages.specs.stage_thread.proofs.ThreadLemmas.{push_is_in, pop_is_in, claim_is_in}
 use Rattle.call_stages.specs.act_states.specs.declared.invocations.InvokingAt.TheVariants as invoking
 use Rattle.call_stages.specs.act_states.specs.declared.invocations.ReturningAt.TheVariants as returning
@@ -144,6 +145,7 @@ act_in shape (MakeComp m) fits = comp_in shape m m.at fits
 act_in shape (Invoke m) fits = invoking_in shape m.comp m.at fits.comp fits.at
 act_in shape (Return m) fits = returning_in shape m.thread m.depth m.at fits.thread fits.most_depth fits.at
 act_in shape (Share p) fits = pair_is_in shape p fits
+act_in shape (Refill r) fits = refill_is_in shape r fits
 act_in shape (Switch m) fits = switching_in shape m m.at fits
 
 tail_in : (shape : Shape) (r : Reply) (drawn : Option ℕ) (tail : Tail) (counts : List Acquired) → TailFits shape tail

@@ -51,6 +51,10 @@ use Rattle.time_laws.specs.stage_tcap.specs.declared.pair.Pair.{Pair}
 use Rattle.time_laws.specs.stage_tcap.specs.declared.pair.PairAt.{PairAt}
 use Rattle.time_laws.specs.stage_tcap.specs.declared.pair.PairAt.TheVariants.{LoadA, MarkA, ListA, LoadB, ListB, CompareB}
 use Rattle.time_laws.specs.stage_tcap.specs.declared.pair.PairAt.TheVariants.{AgainB, StoreList, StoreB, StoreA}
+use Rattle.time_laws.specs.stage_tcap.specs.Refilling.{refill_move_at}
+use Rattle.time_laws.specs.stage_tcap.specs.declared.refill.Refill.{Refill}
+use Rattle.time_laws.specs.stage_tcap.specs.declared.refill.RefillAt.{RefillAt}
+use Rattle.time_laws.specs.stage_tcap.specs.declared.refill.RefillAt.TheVariants as refill
 use Rattle.time_laws.specs.stage_thread.specs.Stacking.{push_move, pop_move}
 use Rattle.time_laws.specs.stage_thread.specs.declared.claim.Claim.TheVariants as claim
 use Rattle.time_laws.specs.stage_thread.specs.declared.stack.Pop.{Pop as PopOf}
@@ -94,7 +98,8 @@ use Rattle.time_laws.specs.act_states.specs.declared.work.Act.TheVariants.{Fill 
 use Rattle.time_laws.specs.act_states.specs.declared.work.Act.TheVariants.{Make as make_act, Outside, Tick as tick_act, Touch as touch_act}
 use Rattle.time_laws.specs.act_states.specs.declared.work.Act.TheVariants.{Flush as flush_act, Kill as kill_act, Untype as untype_act}
 use Rattle.time_laws.specs.act_states.specs.declared.work.Act.TheVariants.{Map as map_act, MakeComp as comp_act, Invoke as invoke_act}
-use Rattle.time_laws.specs.act_states.specs.declared.work.Act.TheVariants.{Return as return_act, Share as share_act, Switch as switch_act}
+use Rattle.time_laws.specs.act_states.specs.declared.work.Act.TheVariants.{Return as return_act, Share as share_act, Refill as refill_act}
+use Rattle.time_laws.specs.act_states.specs.declared.work.Act.TheVariants.{Switch as switch_act}
 use Rattle.time_laws.specs.act_states.specs.declared.work.Tail.{Tail}
 use Rattle.time_laws.specs.act_states.specs.declared.work.Tail.TheVariants.{Nothing, Quiesce, Unmark, StoreDead, StoreFlush, Release}
 use Rattle.time_laws.specs.act_states.specs.declared.work.Tail.TheVariants.{StoreLive, Push, Pop, Share, StoreRunning, StoreIdle}
@@ -160,6 +165,12 @@ making_beside f object core fill (making.Fill word) = refl
 charge_beside : (charge : Charge) → is_count (word_of (charge_move charge)) ≡ false
 charge_beside (charge_load tcap ticks) = refl
 charge_beside (charge_compare tcap ticks budget version) = refl
+
+refill_beside : (r : Refill) (at : RefillAt) → is_count (word_of (refill_move_at r at)) ≡ false
+refill_beside r refill.Load = refl
+refill_beside r (refill.List entry) = refl
+refill_beside r refill.Compare = refl
+refill_beside r refill.Again = refl
 
 killing_beside : (f core : ℕ) (at : KillingAt) → is_count (word_of (killing_at f core at)) ≡ false
 killing_beside f core LoadComp = refl
@@ -473,6 +484,7 @@ module _ (setup : Setting) (setting : IsSetting setup) (cores : ℕ → Core) (t
     act_leaves (invoke_act m) is is_open has = beside (act_move (invoke_act m)) (invoking_beside m.comp m.at)
     act_leaves (return_act m) is is_open has = beside (act_move (return_act m)) (returning_beside m.thread m.depth m.at)
     act_leaves (share_act p) is is_open has = beside (act_move (share_act p)) (pair_beside p p.at)
+    act_leaves (refill_act r) is is_open has = beside (act_move (refill_act r)) (refill_beside r r.at)
     act_leaves (switch_act m) is is_open has = beside (act_move (switch_act m)) (switching_beside m m.at)
 
     -- what a call stores in a word that it holds, no core holds then

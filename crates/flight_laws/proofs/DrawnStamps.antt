@@ -34,6 +34,7 @@ use Rattle.time_laws.specs.act_states.specs.declared.work.Act.TheVariants.{Make 
 use Rattle.time_laws.specs.act_states.specs.declared.work.Act.TheVariants.{Kill as kill_act, Untype as untype_act, Map as map_act}
 use Rattle.time_laws.specs.act_states.specs.declared.work.Act.TheVariants.{MakeComp as comp_act, Invoke as invoke_act, Return as return_act}
 use Rattle.time_laws.specs.act_states.specs.declared.work.Act.TheVariants.{Switch as switch_act, Touch as touch_act, Share as share_act}
+use Rattle.time_laws.specs.act_states.specs.declared.work.Act.TheVariants.{Refill as refill_act}
 use Rattle.time_laws.specs.act_states.specs.declared.work.Work.TheVariants.{Lookup, Read, Scan, Acquire, Act}
 use Rattle.time_laws.specs.call_stages.specs.declared.stages.Stage.{Stage}
 use Rattle.time_laws.specs.call_stages.specs.declared.stages.Stage.TheVariants.{Enter, Living, Undecided, Decided, Leave}
@@ -90,6 +91,9 @@ use Rattle.std.proofs.Common.{◌<◌, ◌^◌}
 use Rattle.time_laws.specs.stage_quiet.proofs.QuietLemmas.{drawn_in_range}
 use Rattle.time_laws.specs.stage_tcap.specs.declared.pair.Pair.{Pair}
 use Rattle.time_laws.specs.stage_tcap.specs.Pairs.{pair_after, pair_end}
+use Rattle.time_laws.specs.stage_tcap.specs.Refilling.{refill_after, refill_end}
+use Rattle.time_laws.specs.stage_tcap.specs.declared.refill.Refill.{Refill}
+use Rattle.time_laws.specs.act_states.specs.Refills.{took_refilled}
 use Rattle.time_laws.specs.act_states.specs.Refusals.{reply_of}
 use Rattle.time_laws.specs.act_states.specs.Shares.{shared, took_shared}
 use Rattle.time_laws.specs.call_stages.specs.Cores.{core_after, told_by}
@@ -168,6 +172,12 @@ charge_drawn (charge_compare tcap ticks budget version) found ready = by (found 
         (charged_end equal (min ticks budget)))
     by true = tt
     by false = tt
+
+refilled_drawn : (r : Refill) (end : StageEnd Value) → IsDrawn (took_refilled r end)
+refilled_drawn r ends.Going = tt
+refilled_drawn r (ends.Decided reply) = tt
+refilled_drawn r (ends.Done v) = tt
+refilled_drawn r (ends.Refuse reply) = tt
 
 killing_drawn : (m : Killing) (at : KillingAt) (found : ℕ) → is_killing at ≡ true
     → IsDrawn (took_killing_at m at found)
@@ -269,6 +279,7 @@ act_drawn s (invoke_act m) found ready = invoking_drawn m m.at found ready
 act_drawn s (return_act m) found ready = returning_drawn m m.at found ready
 act_drawn s (switch_act m) found ready = switching_drawn m m.at found ready
 act_drawn s (share_act p) found ready = shared_end (pair_after p found) (pair_end p found)
+act_drawn s (refill_act r) found ready = refilled_drawn (refill_after r found) (refill_end r found)
 
 pub took_drawn : (s : Shape) (act : ActType) (found : ℕ) → IsDrawn (took_act s act found)
 took_drawn s act found = by (act_ready act) refl

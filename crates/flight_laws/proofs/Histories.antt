@@ -23,7 +23,7 @@ use Rattle.flight_laws.proofs.Threads.{threads_apart, words_say}
 use Rattle.isolation_laws.proofs.StepAuthority.{steps_have_authority}
 use Rattle.isolation_laws.proofs.StepWorlds.{steps_enter_worlds, steps_spare_worlds}
 use Rattle.isolation_laws.proofs.StretchWorlds.{stretches_keep_worlds}
-use Rattle.time_laws.proofs.Time.{time_kept, ticks_counted, heads_say, lists_say, tests_tell}
+use Rattle.time_laws.proofs.Time.{time_kept, ticks_counted, back_counted, heads_say, lists_say, tests_tell}
 use Rattle.time_laws.proofs.MarkedHeads.{open_heads_say}
 use Rattle.time_laws.proofs.OwedHeads.{marked_heads_say}
 
@@ -98,6 +98,7 @@ made_histories setup lim t made =
       time_sums = moments setup t made (time_sums setup lim);
       time_is_kept = moments setup t made (time_kept setup lim);
       ticks_are_counted = moments setup t made (ticks_counted setup lim);
+      back_is_counted = moments setup t made (back_counted setup lim);
       heads_say = moments setup t made (heads_say setup lim);
       open_heads_say = moments setup t made (open_heads_say setup lim);
       marked_heads_say = moments setup t made (marked_heads_say setup lim);

@@ -18,7 +18,8 @@ use Rattle.time_laws.proofs.Common.{ReturningAt, Switching, SwitchAt, Pair, Pair
 use Rattle.time_laws.proofs.Common.{Untyping, Work, Lookup, Read, Scan, Acquire, Act, Stage, Enter, Living, Undecided, Decided, Leave}
 use Rattle.time_laws.proofs.Common.{ActiveCall}
 use Rattle.time_laws.proofs.Common.{stage_move, absorbed, absorbed_in, told_in, Core, decided_in, returned_in, IsSpot, LooksUp, own_in}
-use Rattle.time_laws.proofs.Common.{LooksFor, ChargesBy, KnowsWork, KnowsAt, CallIs, phase_at, HasTcap, KnowsPairAt, HasThread, claimed_by}
+use Rattle.time_laws.proofs.Common.{LooksFor, ChargesBy, KnowsWork, KnowsAt, CallIs, phase_at, HasTcap, KnowsPairAt, KnowsRefillAt}
+use Rattle.time_laws.proofs.Common.{HasThread, claimed_by}
 use Rattle.time_laws.proofs.Common.{Invariant, limits_of, slot_relies}
 use Rattle.std.specs.Prelude.{IsTrue}
 use Rattle.time_laws.specs.spk_nums.specs.declared.kinds.Kind.TheVariants.{Comp as comp_kind}
@@ -34,7 +35,7 @@ use Rattle.time_laws.specs.trace_laws.proofs.Waiting.{Passed, still_past, passed
 use Rattle.time_laws.specs.stage_pins.specs.declared.pin.Pin.TheVariants.{AtCompare as pin_compare}
 use Rattle.time_laws.specs.stage_quiet.specs.Removal.{close_move}
 use Rattle.time_laws.specs.act_states.specs.declared.work.Act.TheVariants.{Remove, Retype, Make, Tick as tick_act, Flush, Kill}
-use Rattle.time_laws.specs.act_states.specs.declared.work.Act.TheVariants.{Map as map_act, Touch, Share}
+use Rattle.time_laws.specs.act_states.specs.declared.work.Act.TheVariants.{Map as map_act, Touch, Share, Refill}
 use Rattle.time_laws.specs.act_states.specs.declared.work.Act.TheVariants.{Switch}
 use Rattle.time_laws.specs.act_states.specs.declared.typings.Typing.{Typing}
 use Rattle.time_laws.specs.act_states.specs.declared.typings.TypingAt.{TypingAt}
@@ -50,6 +51,10 @@ use Rattle.time_laws.specs.act_states.specs.declared.switches.SwitchAt.TheVarian
 use Rattle.time_laws.specs.stage_thread.specs.declared.claim.Claim.TheVariants as claim
 use Rattle.time_laws.specs.stage_tcap.specs.Pairs.{move_at}
 use Rattle.time_laws.specs.stage_tcap.specs.declared.pair.PairAt.TheVariants as pair
+use Rattle.time_laws.specs.stage_tcap.specs.Refilling.{refill_move_at}
+use Rattle.time_laws.specs.stage_tcap.specs.declared.refill.Refill.{Refill}
+use Rattle.time_laws.specs.stage_tcap.specs.declared.refill.RefillAt.{RefillAt}
+use Rattle.time_laws.specs.stage_tcap.specs.declared.refill.RefillAt.TheVariants as refill
 use Rattle.time_laws.specs.act_states.specs.declared.kills.KillingAt.TheVariants.{Close as kill_close, Draw as kill_draw}
 use Rattle.time_laws.specs.act_states.specs.Kills.{killing_at}
 use Rattle.time_laws.specs.act_states.specs.declared.fills.Fill.{Fill as FillOf}
@@ -224,6 +229,13 @@ module _ (setup : Setting) (setting : IsSetting setup) (t : Trace) (cores : ℕ 
   by_charge (Tick n) (charge_compare g ticks budget version) has on = inr (inl (sym has.tcap ∙ ap frame_in on))
   by_charge call charge has on = absurd has
 
+  by_refill : (r : Refill) (at : RefillAt) → HasTcap (state_after setup t) c r.tcap → KnowsRefillAt setup t c r at
+      → word_of (refill_move_at r at) ≡ EntryAt f i → Rests
+  by_refill r refill.Load has at on = of_tcap r.tcap 0 on has
+  by_refill r (refill.List n) has at on = of_tcap r.tcap n on has
+  by_refill r refill.Compare has at on = of_tcap r.tcap 0 on has
+  by_refill r refill.Again has at on = of_tcap r.tcap 0 on has
+
   by_killing : (g core : ℕ) (at : KillingAt) → HasComp (state_after setup t) c g → word_of (killing_at g core at) ≡ EntryAt f i → Rests
   by_killing g core LoadComp comp on = inr (inr (inl (subst (HasComp (state_after setup t) c) (ap frame_in on) comp)))
   by_killing g core (LoadLive life) comp on = absurd (cc)
@@ -268,6 +280,7 @@ module _ (setup : Setting) (setting : IsSetting setup) (t : Trace) (cores : ℕ 
   by_work table a (Act (Kill m)) has on read none = by_killing m.comp m.core m.at has.knows.comp on
   by_work table a (Act (Untype m)) has on read none = absurd (some_act m none)
   by_work table a (Act (Share p)) has on read none = by_sharing p p.at has.knows.tcap_a has.knows.tcap_b has.knows.at on
+  by_work table a (Act (Refill r)) has on read none = by_refill r r.at has.knows.tcap has.knows.at on
   by_work table a (Act (Switch m)) has on read none = by_switching m m.at has.knows.thread has.knows.at on read
   by_work table a (Act (MakeComp m)) has on read none = by_comp a m m.at has.knows.spot on read
   by_work table a (Act (Invoke m)) has on read none = by_invoking m.comp m.at has.knows.comp on

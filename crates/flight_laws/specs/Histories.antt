@@ -21,7 +21,8 @@ use Rattle.time_laws.specs.history_laws.specs.Invocations.{EntersTheLiving, Ente
 use Rattle.time_laws.specs.history_laws.specs.Threads.{ThreadsRunApart, ThreadWordsSay}
 use Rattle.isolation_laws.specs.Authority.{HasAuthority}
 use Rattle.isolation_laws.specs.Worlds.{SparesWorlds, EntersWorlds, WorldsStay}
-use Rattle.time_laws.specs.history_laws.specs.Time.{TimeIsKept, TicksAreCounted, HeadsSay, OpenHeadsSay, MarkedHeadsSay, ListsSay, TestsTell}
+use Rattle.time_laws.specs.history_laws.specs.Time.{TimeIsKept, TicksAreCounted, BackIsCounted, HeadsSay, OpenHeadsSay, MarkedHeadsSay}
+use Rattle.time_laws.specs.history_laws.specs.Time.{ListsSay, TestsTell}
 
 -- The trace is the machine's, and is a legal history: its replies are those of the sequential kernel, each at a step of its call,
 -- and justified. Its calls keep within their bounds of steps, each step keeps the discipline of words and is in the footprint of its
@@ -67,6 +68,7 @@ pub record IsHistory (setup : Setting) (t : Trace) : Type 0 where
   pub time_sums : AtEachMoment (TimeSums setup) t
   pub time_is_kept : AtEachMoment (TimeIsKept setup) t
   pub ticks_are_counted : AtEachMoment (TicksAreCounted setup) t
+  pub back_is_counted : AtEachMoment (BackIsCounted setup) t
   pub heads_say : AtEachMoment (HeadsSay setup) t
   pub open_heads_say : AtEachMoment (OpenHeadsSay setup) t
   pub marked_heads_say : AtEachMoment (MarkedHeadsSay setup) t

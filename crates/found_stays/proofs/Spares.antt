@@ -14,7 +14,7 @@ use Rattle.spk_nums.specs.declared.calls.Make.TheVariants as make
 use Rattle.spk_nums.specs.declared.calls.Call.{Call}
 use Rattle.spk_nums.specs.declared.calls.Call.TheVariants.{Look, Copy, Remove, Grow, Shrink, Retype, Make as make_call}
 use Rattle.spk_nums.specs.declared.calls.Call.TheVariants.{Map, Unmap, Touch, Flush, Gate, Kill, Call as call_gate}
-use Rattle.spk_nums.specs.declared.calls.Call.TheVariants.{Ret, Switch, Tick, Transfer, Delegate, Test, Part}
+use Rattle.spk_nums.specs.declared.calls.Call.TheVariants.{Ret, Switch, Tick, Transfer, Delegate, Test, Part, Replenish}
 use Rattle.spk_nums.specs.declared.translations.Translation.{Translation}
 use Rattle.spk_nums.specs.declared.replies.Reply.{Reply}
 use Rattle.spk_nums.specs.declared.replies.Reply.TheVariants as reply
@@ -476,4 +476,11 @@ module _ (s : State) (o : ℕ → Bool) (d : ℕ) (h : HasTurn s o d) where
       (runs_put (moved s j.frame k.frame m) k.frame _ d
       (own_away s o d h k.frame (tcap_no_thread (s.frame k.frame) fb)) (moved_runs j.frame k.frame m fa fb))
   rule_spares (Test a b) = λ j e k f calm. plain s o d h s (apart_same s o d) (own_runs s o d h)
+  rule_spares (Replenish a m) = λ j e calm.
+      let q : ℕ = j.frame in
+      let fit : IsTrue (fits kind.Tcap (s.frame q)) = named_fit s h.opened d a kind.Tcap j h.opens.sound h.opens.is e in
+      plain s o d h (with_core (with_budget s q _) d _)
+      (apart_then s (with_budget s q _) _ o d (tcap_apart s o d q _ (tcap_loose (s.frame q) fit) (tcap_away q fit))
+      (core_apart (with_budget s q _) o d _))
+      (runs_core (with_budget s q _) d _ refl (runs_put s q _ d (own_away s o d h q (tcap_no_thread (s.frame q) fit)) (own_runs s o d h)))
   rule_spares (Part r f n t b) = λ k e table g at u calm. filled s o d h (Under (found table) b) at (part_of k f n) u

@@ -20,9 +20,10 @@ use Rattle.kernel_history.proofs.Computed.{may_follow}
 use Rattle.kernel_history.proofs.Unjustified.{carried_out}
 use Rattle.history_laws.specs.Moments.{AtEachMoment, AtEachStep}
 use Rattle.history_laws.specs.Sums.{HeadHolds, TimeSums}
-use Rattle.history_laws.specs.Time.{KeepsTicks, TicksAreCounted, HeadsSay, OpenHeadsSay, ShowsOwed, LeadsTo}
+use Rattle.history_laws.specs.Time.{KeepsTicks, TicksAreCounted, BackIsCounted, HeadsSay, OpenHeadsSay, ShowsOwed, LeadsTo}
 use Rattle.history_laws.specs.Time.{state_of_decision, MarkedHeadsSay, ListsSay, TellsOf, TestsTell}
-use Rattle.history_laws.specs.Scenes.{head_word, ticks_lost, tick_refused, budget_lost, marked_lost, list_changed, taken_early, added_twice}
+use Rattle.history_laws.specs.Scenes.{head_word, ticks_lost, tick_refused, replenish_unspent, budget_lost, marked_lost, list_changed}
+use Rattle.history_laws.specs.Scenes.{taken_early, added_twice}
 use Rattle.history_laws.specs.Scenes.{tests_nothing}
 use Rattle.history_laws.specs.Refusals.{TimeRefuses}
 use Rattle.history_laws.proofs.Traces.{whole, newest, breaks}
@@ -58,6 +59,10 @@ lost_refused kept = let is : 150 ≡ 200 = kept in omega (arith, is)
 counted_refused : AtEachMoment (TicksAreCounted two_cores) tick_refused → ⊥
 unfolding two_cores tick_refused
 counted_refused law = let is : 0 ≡ 1 = whole (TicksAreCounted two_cores) tick_refused law 0 in omega (arith, is)
+
+back_refused : AtEachMoment (BackIsCounted two_cores) replenish_unspent → ⊥
+unfolding two_cores replenish_unspent
+back_refused law = let is : 0 ≡ 1 = (whole (BackIsCounted two_cores) replenish_unspent law 0).is in omega (arith, is)
 
 -- heads and lists
 
@@ -200,6 +205,7 @@ unfolding two_cores budget_lost marked_lost list_changed taken_early added_twice
 time_refuses = record {
   time_is_kept = lost_refused;
   ticks_are_counted = counted_refused;
+  back_is_counted = back_refused;
   time_sums = breaks (AtEachMoment (TimeSums two_cores)) budget_lost budget_legal refl refl budget_disciplined sums_refused;
   heads_say = breaks (AtEachMoment (HeadsSay two_cores)) budget_lost budget_legal refl refl budget_disciplined heads_refused;
   open_heads_say = breaks (AtEachMoment (OpenHeadsSay two_cores)) marked_lost marked_legal refl refl marked_disciplined open_refused;

@@ -22,12 +22,13 @@ use Rattle.history_laws.specs.Pages.{AllStand, IsKept, TouchesCache}
 use Rattle.history_laws.specs.Lives.{DeadForGood, KilledStop}
 use Rattle.history_laws.specs.Invocations.{EntersTheLiving, EntersNoneKilled}
 use Rattle.history_laws.specs.Threads.{RunApart, ThreadWordsSay}
-use Rattle.history_laws.specs.Time.{KeepsTicks, TicksAreCounted, HeadsSay, OpenHeadsSay, MarkedHeadsSay, ListsSay, TestsTell}
+use Rattle.history_laws.specs.Time.{KeepsTicks, TicksAreCounted, BackIsCounted, HeadsSay, OpenHeadsSay, MarkedHeadsSay, ListsSay, TestsTell}
 use Rattle.history_laws.specs.Scenes.{looks_on, looked, none_ready, reads_stray, scans_stray, leaf_untyped, counted_untyped}
 use Rattle.history_laws.specs.Scenes.{leaf_one_untyped}
 use Rattle.history_laws.specs.Scenes.{counts_five, dates_early, counts_twice, freezes_one, freezes_both, copy_freezes, draws_held}
 use Rattle.history_laws.specs.Scenes.{cached_eight, touches_nine, killed, goes_through, looks_dead, both_run, runs_idle}
-use Rattle.history_laws.specs.Scenes.{ticks_lost, tick_refused, budget_lost, marked_lost, list_changed, taken_early, added_twice}
+use Rattle.history_laws.specs.Scenes.{ticks_lost, tick_refused, replenish_unspent, budget_lost, marked_lost, list_changed, taken_early}
+use Rattle.history_laws.specs.Scenes.{added_twice}
 use Rattle.history_laws.specs.Scenes.{tests_nothing}
 
 -- A law of traces refuses the trace, which is legal, in the footprints of its calls, within their bounds and disciplined.
@@ -84,6 +85,7 @@ pub record ObjectsRefuse : Type 0 where
 pub record TimeRefuses : Type 0 where
   pub time_is_kept : KeepsTicks two_cores ticks_lost → ⊥
   pub ticks_are_counted : Refuses (AtEachMoment (TicksAreCounted two_cores)) tick_refused
+  pub back_is_counted : Refuses (AtEachMoment (BackIsCounted two_cores)) replenish_unspent
   pub time_sums : Breaks (AtEachMoment (TimeSums two_cores)) budget_lost
   pub heads_say : Breaks (AtEachMoment (HeadsSay two_cores)) budget_lost
   pub open_heads_say : Breaks (AtEachMoment (OpenHeadsSay two_cores)) marked_lost

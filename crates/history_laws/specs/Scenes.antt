@@ -7,7 +7,7 @@ use Rattle.state_laws.specs.spk_nums.specs.declared.translations.Translation.{Tr
 use Rattle.state_laws.specs.spk_nums.specs.declared.calls.Call.{Call}
 use Rattle.state_laws.specs.spk_nums.specs.declared.calls.Make.TheVariants as make
 use Rattle.state_laws.specs.spk_nums.specs.declared.calls.Call.TheVariants as call
-use Rattle.state_laws.specs.spk_nums.specs.declared.replies.Value.TheVariants.{Page}
+use Rattle.state_laws.specs.spk_nums.specs.declared.replies.Value.TheVariants.{Page, Nothing}
 use Rattle.state_laws.specs.spk_nums.specs.declared.replies.Reply.TheVariants as reply
 use Rattle.state_laws.specs.kernel_rules.specs.Start.{start}
 use Rattle.state_laws.specs.kernel_rules.specs.State.{State, with_core}
@@ -187,6 +187,10 @@ ticks_lost = with_budget (start two_cores) 6 50
 -- A tick would be refused with `no-right`, which leaves its ticks uncounted.
 unfoldable pub tick_refused : Trace
 tick_refused = decides 0 (LoadOf ClockAt) reply.NoRight (enters 0 (call.Tick 1) [])
+
+-- A replenishment would be carried out of a core that has spent nothing, which gives nothing back and counts as given.
+unfoldable pub replenish_unspent : Trace
+replenish_unspent = decides 0 (LoadOf ClockAt) (reply.Ok Nothing) (enters 0 (call.Replenish 12 1) [])
 
 -- A tick stores a budget of five, without a mark and with its own, and a list of another quality.
 unfoldable pub budget_lost : Trace

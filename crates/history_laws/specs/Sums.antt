@@ -36,8 +36,8 @@ pub record HeadHolds (setup : Setting) (t : Trace) (f held : ℕ) : Type 0 where
       ≡ Some (record { budget = shown; mark = marked_by setup t (EntryAt f 0); version = version })
   pub transit : HoldsBy setup t (marked_by setup t (EntryAt f 0)) f shown held
 
--- At each moment what the heads of all temporal capabilities hold, with the ticks in transit, and what all cores have spent sums to what
--- was granted: `ticks` is the sum of these budgets and of what is spent.
+-- At each moment what the heads of all temporal capabilities hold, with the ticks in transit, and what all cores have spent and have not
+-- had back sums to what was granted: `ticks` is the sum of these budgets and of what is spent less what was given back.
 pub record TimeSums (setup : Setting) (t : Trace) : Type 0 where
   pub heads : (f : ℕ) (q : TcapFields) → (state_after setup t).frame f ≡ Kernel (Tcap q) → HeadHolds setup t f q.budget
   pub sum : ticks (state_after setup t) ≡ grants_sum setup

@@ -1,5 +1,5 @@
 -- The time of a machine: what its temporal capabilities hold and its cores have spent and owe.
-use Rattle.std.specs.Prelude.{◌≡◌, ℕ, suc, ◌+◌, ◌<◌, ◌==◌, ◌&&◌, ◌⊎◌, [], ◌∷◌, slice_get, Option, Some, None, is_some, if◌then◌else◌}
+use Rattle.std.specs.Prelude.{◌≡◌, ℕ, suc, ◌+◌, ◌<◌, ◌≤◌, ◌==◌, ◌&&◌, ◌⊎◌, [], ◌∷◌, slice_get, Option, Some, None, is_some, if◌then◌else◌}
 use Rattle.state_laws.specs.spk_nums.specs.Setting.{Setting}
 use Rattle.state_laws.specs.spk_nums.specs.Capability.{Capability}
 use Rattle.state_laws.specs.spk_nums.specs.declared.kinds.Kind.TheVariants as kind
@@ -18,12 +18,12 @@ use Rattle.state_laws.specs.kernel_rules.specs.Rules.{Found, named}
 use Rattle.state_laws.specs.kernel_rules.specs.Start.{start}
 use Rattle.state_laws.specs.kernel_rules.specs.State.{Kernel, Tcap, TcapFields, State}
 use Rattle.state_laws.specs.kernel_rules.specs.TimeCalls.{tcap_at, preemption, preempts}
-use Rattle.state_laws.specs.kernel_laws.specs.Laws.{grants_sum, decided_ticks}
+use Rattle.state_laws.specs.kernel_laws.specs.Laws.{grants_sum, decided_ticks, decided_back}
 use Rattle.kernel_history.specs.Events.{events_of}
 use Rattle.kernel_history.specs.Marking.{marked_by}
 use Rattle.kernel_history.specs.Trace.{Step, Trace, Open, Decided, phase, after_enter, state_after, state_before, last_left}
 
--- The budgets of all temporal capabilities and the ticks that all cores have spent sum to the grants.
+-- The budgets of all temporal capabilities and the ticks that all cores have spent and have not had back sum to the grants.
 abbrev pub KeepsTicks : Setting → State → Type 0
 KeepsTicks setup s = ticks s ≡ grants_sum setup
 
@@ -36,6 +36,14 @@ TimeIsKept setup t = KeepsTicks setup (state_after setup t)
 abbrev pub TicksAreCounted : Setting → Trace → Type 0
 TicksAreCounted setup t = (c : ℕ)
     → ((state_after setup t).core c).spent + ((state_after setup t).core c).owed ≡ decided_ticks (events_of t) c
+
+-- At each moment what a core has had back is the sum of its `replenish` calls that were carried out, and no more than it has spent.
+pub record HasHadBack (setup : Setting) (t : Trace) (c : ℕ) : Type 0 where
+  pub is : ((state_after setup t).core c).back ≡ decided_back (events_of t) c
+  pub within : ((state_after setup t).core c).back ≤ ((state_after setup t).core c).spent
+
+abbrev pub BackIsCounted : Setting → Trace → Type 0
+BackIsCounted setup t = (c : ℕ) → HasHadBack setup t c
 
 -- A head shows this budget, and no mark.
 pub record ShowsBudget (budget : ℕ) (shown : Option HeadWord) : Type 0 where

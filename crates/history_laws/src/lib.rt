@@ -39,8 +39,9 @@ pub fn objects_refuse()
     ensures { ObjectsRefuse }
 {}
 
-/// The laws of time refuse budgets that do not sum to the grants, ticks that are not counted, heads and lists that show another budget or
-/// quality, heads of a transfer and of a delegation that show what is still to be stored, and a test that answers something else.
+/// The laws of time refuse budgets that do not sum to the grants, ticks that are not counted, ticks that come back and were not spent,
+/// heads and lists that show another budget or quality, heads of a transfer and of a delegation that show what is still to be stored, and
+/// a test that answers something else.
 #[tactic(auto, using(crate::proofs::Time::time_refuses))]
 pub fn time_refuses()
     ensures { TimeRefuses }

@@ -97,6 +97,8 @@ same_works s s' c core after own_thread own_comp own same is =
       cached = ap (λ k. k.cached) same ∙ is.cached ∙ ap (λ k. k.cached) (sym own);
       owed = ap (λ k. k.owed) same ∙ is.owed ∙ ap (λ k. k.owed) (sym own);
       spent = ap (λ k. k.spent) same ∙ is.spent ∙ ap (λ k. k.spent) (sym own);
+      back = ap (λ k. k.back) same ∙ is.back ∙ ap (λ k. k.back) (sym own);
+      grant = ap (λ k. k.grant) same ∙ is.grant ∙ ap (λ k. k.grant) (sym own);
       made = ap (λ k. k.made) same;
     }
 

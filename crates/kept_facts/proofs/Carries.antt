@@ -72,6 +72,7 @@ use Rattle.core_invariant.specs.act_states.specs.declared.work.Act.TheVariants.{
 use Rattle.core_invariant.specs.act_states.specs.declared.work.Act.TheVariants.{MakeComp as comp_act, Invoke as invoke_act}
 use Rattle.core_invariant.specs.act_states.specs.declared.work.Act.TheVariants.{Return as return_act}
 use Rattle.core_invariant.specs.act_states.specs.declared.work.Act.TheVariants.{Touch as touch_act, Share as share_act}
+use Rattle.core_invariant.specs.act_states.specs.declared.work.Act.TheVariants.{Refill as refill_act}
 use Rattle.core_invariant.specs.act_states.specs.declared.work.Act.TheVariants.{Switch as switch_act}
 use Rattle.core_invariant.specs.act_states.specs.declared.work.Work.{Work}
 use Rattle.core_invariant.specs.act_states.specs.declared.work.Work.TheVariants.{Lookup, Read, Scan, Acquire, Act}
@@ -599,7 +600,8 @@ module _ (setup : Setting) (setting : IsSetting setup) (t : Trace) (e : Step) (l
     comp = has_comp_on m.comp has.comp;
     at = killing_on m.comp m.at same.numbers has.comp has.at;
   }
-  act_on of plan caps upto (share_act p) same has = same.pairs p refl of caps has
+  act_on of plan caps upto (share_act p) same has = same.pairs.shares p refl of caps has
+  act_on of plan caps upto (refill_act r) same has = same.pairs.refills r refl of caps has
   act_on of plan caps upto (switch_act m) same has = record {
     switches = has.switches;
     leaves = record {

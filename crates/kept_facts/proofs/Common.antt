@@ -258,6 +258,7 @@ pub use Rattle.core_invariant.specs.Knows.{Knows, KnowsAct, KnowsAt, KnowsComp, 
 pub use Rattle.core_invariant.specs.Knows.{KnowsAlive, KnowsAliveAt}
 pub use Rattle.core_invariant.specs.Knows.{KnowsUnmark, KnowsWork, LooksFor, LooksUp, MakesBy, MayFill, NamesAre, ReadBefore, ReadIs}
 pub use Rattle.core_invariant.specs.Knows.{WorksIn, blank_word, due_of, flushing_in, goes_on, is_flushing, own_in, phase_at, untypes}
+pub use Rattle.core_invariant.specs.Refills.{HasReadList, HasWeighed, KnowsRefill, KnowsRefillAt, RefillsBy, IsRefill}
 pub use Rattle.core_invariant.specs.Shares.{HasBoth, HasMarkedA, HasTcap, KnowsPairAt, KnowsShared, KnowsStoresAt, SharesBy, SparesTcap}
 pub use Rattle.core_invariant.specs.Shares.{StoresA, TurnsHead, list_changed, read_up}
 pub use Rattle.core_invariant.specs.Sweeps.{AreFrozen, AreKept, IsLookedAt, IsQuiet, IsScanning, KnowsSweep, KnowsSweepScan, KnowsSwept}

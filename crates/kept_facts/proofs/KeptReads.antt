@@ -20,11 +20,14 @@ use Rattle.core_invariant.specs.act_states.specs.declared.work.Act.TheVariants.{
 use Rattle.core_invariant.specs.act_states.specs.declared.work.Act.TheVariants.{MakeComp as comp_act, Invoke as invoke_act}
 use Rattle.core_invariant.specs.act_states.specs.declared.work.Act.TheVariants.{Return as return_act}
 use Rattle.core_invariant.specs.act_states.specs.declared.work.Act.TheVariants.{Touch as touch_act, Share as share_act}
+use Rattle.core_invariant.specs.act_states.specs.declared.work.Act.TheVariants.{Refill as refill_act}
 use Rattle.core_invariant.specs.act_states.specs.declared.work.Act.TheVariants.{Switch as switch_act}
 use Rattle.core_invariant.specs.act_states.specs.declared.work.Work.{Work}
 use Rattle.core_invariant.specs.act_states.specs.declared.work.Work.TheVariants.{Lookup, Read, Scan, Acquire, Act}
 use Rattle.core_invariant.specs.act_states.specs.Acts.{dues}
 use Rattle.core_invariant.specs.Shares.{KnowsShare}
+use Rattle.core_invariant.specs.Refills.{KnowsRefill}
+use Rattle.core_invariant.specs.stage_tcap.specs.declared.refill.Refill.{Refill}
 use Rattle.core_invariant.specs.call_stages.specs.declared.stages.ActiveCall.{ActiveCall}
 use Rattle.core_invariant.specs.act_states.specs.declared.work.Due.{Due}
 use Rattle.core_invariant.specs.stage_tcap.specs.declared.pair.Pair.{Pair}
@@ -56,6 +59,7 @@ stores_in (comp_act m) f = comp_is_marked m.at && f == m.frame
 stores_in (invoke_act m) f = false
 stores_in (return_act m) f = false
 stores_in (share_act p) f = false
+stores_in (refill_act r) f = false
 stores_in (switch_act m) f = false
 
 abbrev pub stores_of : Work → ℕ → Bool
@@ -127,17 +131,26 @@ pub record KeepsThreads (setup : Setting) (t : Trace) (e : Step) (c : ℕ) (clai
 abbrev pub KeepsUsers : Setting → Trace → Step → ℕ → Type 0
 KeepsUsers setup t e c = (f : ℕ) → IsUser setup t c f → IsUser setup (e ∷ t) c f
 
--- What is known of two temporal capabilities stays known; no count is acquired and no core scanned for an act on them.
-abbrev pub PairsStay : Setting → Trace → Step → ℕ → ActOf → Type 0
-PairsStay setup t e c act =
-    (p : Pair) → act ≡ share_act p → (of : Call) (ks : List Capability) → KnowsShare setup t c of ks p → KnowsShare setup (e ∷ t) c of ks p
+-- What is known of two temporal capabilities stays known, and of one that is given ticks back; no count is acquired and no core scanned
+-- for an act on them.
+pub record PairsStay (setup : Setting) (t : Trace) (e : Step) (c : ℕ) (act : ActOf) : Type 0 where
+  pub shares : (p : Pair) → act ≡ share_act p → (of : Call) (ks : List Capability) → KnowsShare setup t c of ks p
+      → KnowsShare setup (e ∷ t) c of ks p
+  pub refills : (r : Refill) → act ≡ refill_act r → (of : Call) (ks : List Capability) → KnowsRefill setup t c of ks r
+      → KnowsRefill setup (e ∷ t) c of ks r
 
 pub start_pairs : (setup : Setting) (t : Trace) (e : Step) (c : ℕ) (act : ActOf) → is_start act ≡ true → PairsStay setup t e c act
-start_pairs setup t e c act starts p is of ks has = absurd (false≢true (sym (ap is_start is) ∙ starts))
+start_pairs setup t e c act starts = record {
+  shares = λ p is of ks has. absurd (false≢true (sym (ap is_start is) ∙ starts));
+  refills = λ r is of ks has. absurd (false≢true (sym (ap is_start is) ∙ starts));
+}
 
 pub due_pairs : (setup : Setting) (t : Trace) (e : Step) (c : ℕ) (act : ActOf) (before : List Due) (due : Due) (rest : List Due)
     → dues act ≡ before ++ due ∷ rest → PairsStay setup t e c act
-due_pairs setup t e c act before due rest has_due p is of ks has = absurd (none before (sym (ap dues is) ∙ has_due))
+due_pairs setup t e c act before due rest has_due = record {
+  shares = λ p is of ks has. absurd (none before (sym (ap dues is) ∙ has_due));
+  refills = λ r is of ks has. absurd (none before (sym (ap dues is) ∙ has_due));
+}
   where
     none : (xs : List Due) → [] ≡ xs ++ due ∷ rest → ⊥
     none [] h = cc

@@ -23,6 +23,10 @@ use Rattle.core_invariant.specs.stage_tcap.specs.declared.pair.PairAt.TheVariant
 use Rattle.core_invariant.specs.stage_tcap.specs.declared.pair.PairAt.TheVariants.{AgainB, StoreList, StoreB, StoreA}
 use Rattle.core_invariant.specs.Shares.{turns_list, list_changed, MayTurn, TurnsHead, SparesTcap, list_word, read_up}
 use Rattle.core_invariant.specs.Shares.{ReadsHead, HasMarkedA, HasSeenB, HasReadB, HasBoth, KnowsPairAt, StoresA, KeepsList}
+use Rattle.core_invariant.specs.Refills.{HasReadList, HasWeighed, KnowsRefillAt}
+use Rattle.core_invariant.specs.stage_tcap.specs.declared.refill.Refill.{Refill}
+use Rattle.core_invariant.specs.stage_tcap.specs.declared.refill.RefillAt.{RefillAt}
+use Rattle.core_invariant.specs.stage_tcap.specs.declared.refill.RefillAt.TheVariants as refill
 use Rattle.thread_laws.specs.tcap_words.specs.Head.{HeadFits}
 
 -- A list is read alike from words that are alike.
@@ -296,6 +300,27 @@ module _ (setup : Setting) (t : Trace) (e : Step) (found_is : e.found ≡ last_l
 pub tcap_mark : (setup : Setting) (t : Trace) (f : ℕ) (q : TcapFields) → (state_after setup t).frame f ≡ Kernel (Tcap q)
     → marked_by setup t (EntryAt f 0) ≡ head_mark (head_of_word (last_left setup t (EntryAt f 0)))
 tcap_mark setup t f q is = ap (λ x. mark_in_frame x 0 (last_left setup t (EntryAt f 0))) is
+
+-- A step of another core, where one is a temporal capability that ticks are given back to.
+module _ (setup : Setting) (t : Trace) (e : Step) (found_is : e.found ≡ last_left setup t (word_of e.move)) (c : ℕ)
+    (r : Refill) (own : (w : Word) → own_read (e ∷ t) c w ≡ own_read t c w)
+    (mark : marked_by setup t (EntryAt r.tcap 0) ≡ head_mark (head_of_word (last_left setup t (EntryAt r.tcap 0))))
+    (spares : (i : ℕ) → word_of e.move ≡ EntryAt r.tcap i → SparesTcap setup t e r.tcap i) where
+  read_other : (n : ℕ) → HasReadList setup t c r n → HasReadList setup (e ∷ t) c r n
+  read_other n has = record {
+    head = record { own = own (EntryAt r.tcap 0) ∙ has.head.own; fits = has.head.fits; bare = has.head.bare };
+    seen = seen_on setup t e found_is r.tcap r.head.version r.list n has.seen mark spares;
+  }
+
+  weighed_other : (covered : Bool) → HasWeighed setup t c r covered → HasWeighed setup (e ∷ t) c r covered
+  weighed_other covered has = record { read = read_other 8 has.read; is = has.is; enough = has.enough }
+
+  pub refill_other : (at : RefillAt) → KnowsRefillAt setup t c r at → KnowsRefillAt setup (e ∷ t) c r at
+  refill_other refill.Load has = has
+  refill_other (refill.List zero) has = has
+  refill_other (refill.List (suc n)) has = read_other n has
+  refill_other refill.Compare has = weighed_other true has
+  refill_other refill.Again has = weighed_other false has
 
 -- A step of another core, where both are temporal capabilities.
 module _ (setup : Setting) (t : Trace) (e : Step) (found_is : e.found ≡ last_left setup t (word_of e.move)) (c : ℕ) (other : c ≢ e.core)

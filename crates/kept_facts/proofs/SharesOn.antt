@@ -1,8 +1,9 @@
 -- What a call knows of two temporal capabilities it knows still after a step of another core.
-use Rattle.std.proofs.Common.{◌≡◌, ◌≢◌, ◌<◌, ℕ, true, List, ◌∷◌, Some, arith, ◌∙◌, ap}
+use Rattle.std.proofs.Common.{◌≡◌, ◌≢◌, ◌<◌, ℕ, true, List, [], ◌∷◌, Some, arith, sym, ◌∙◌, ap}
 use Rattle.thread_laws.specs.spk_nums.specs.Setting.{Setting, IsSetting}
 use Rattle.thread_laws.specs.spk_nums.specs.Capability.{Capability}
 use Rattle.thread_laws.specs.spk_nums.specs.declared.calls.Call.{Call}
+use Rattle.thread_laws.specs.spk_nums.specs.declared.calls.Call.TheVariants.{Replenish}
 use Rattle.thread_laws.specs.tcap_words.specs.Head.{HeadFits, word_of_head, head_of_word}
 use Rattle.thread_laws.specs.tcap_words.specs.declared.head_word.HeadWord.{HeadWord}
 use Rattle.thread_laws.specs.tcap_words.proofs.HeadLemmas as heads
@@ -15,13 +16,17 @@ use Rattle.thread_laws.specs.kernel_history.specs.Trace.{Step, Trace, phase, sta
 use Rattle.thread_laws.specs.kernel_history.specs.Stamps.{is_in}
 use Rattle.thread_laws.specs.kernel_history.proofs.Steps.{own_read-other}
 use Rattle.thread_laws.specs.trace_laws.proofs.Carries.{was_stays}
+use Rattle.thread_laws.specs.trace_laws.proofs.Stays.{stays_in_other}
 use Rattle.core_invariant.specs.stage_tcap.specs.Heads.{marked}
 use Rattle.core_invariant.specs.stage_tcap.specs.declared.pair.Pair.{Pair}
 use Rattle.core_invariant.specs.stage_tcap.specs.declared.pair.PairAt.{PairAt}
 use Rattle.core_invariant.specs.stage_tcap.specs.declared.pair.PairAt.TheVariants.{LoadA, MarkA, ListA, LoadB, ListB, CompareB}
 use Rattle.core_invariant.specs.stage_tcap.specs.declared.pair.PairAt.TheVariants.{AgainB, StoreList, StoreB, StoreA}
+use Rattle.core_invariant.specs.act_states.specs.Refills.{left_among}
+use Rattle.core_invariant.specs.stage_tcap.specs.declared.refill.Refill.{Refill}
+use Rattle.core_invariant.specs.Refills.{RefillsBy, KnowsRefill}
 use Rattle.core_invariant.specs.Shares.{SparesTcap, HasTcap, KnowsShare, StoresA, StoresB, KnowsStoresAt, KnowsShared}
-use Rattle.kept_facts.proofs.Pairs.{tcap_mark, kept_all, left_same, pair_other, stores_on_a, keeps_on_b}
+use Rattle.kept_facts.proofs.Pairs.{tcap_mark, kept_all, left_same, pair_other, refill_other, stores_on_a, keeps_on_b}
 use Rattle.kept_facts.proofs.Tcaps.{tcap_of, tcap_stays}
 
 -- What core c knows of them stays known, while its call is undecided and after.
@@ -29,6 +34,8 @@ pub record SharesStay (setup : Setting) (t : Trace) (e : Step) (c : ℕ) : Type 
   pub undecided : is_in (phase t c) ≡ true → (call : Call) (ks : List Capability) (p : Pair) → KnowsShare setup t c call ks p
       → KnowsShare setup (e ∷ t) c call ks p
   pub decided : is_in (phase t c) ≡ true → (call : Call) (p : Pair) → KnowsShared setup t c call p → KnowsShared setup (e ∷ t) c call p
+  pub refilling : is_in (phase t c) ≡ true → (call : Call) (ks : List Capability) (r : Refill) → KnowsRefill setup t c call ks r
+      → KnowsRefill setup (e ∷ t) c call ks r
 
 module _ (setup : Setting) (setting : IsSetting setup) (t : Trace) (legal : IsLegal setup t) (e : Step) (follows : MayFollow setup t e)
     (c : ℕ) (here : c < setup.cores) (other : c ≢ e.core)
@@ -50,6 +57,30 @@ module _ (setup : Setting) (setting : IsSetting setup) (t : Trace) (legal : IsLe
             (tcap_mark setup t p.a a.fields a.is) (λ i at. spares p.a i a.fields a.is at) (few p has.core)
             (tcap_mark setup t p.b b.fields b.is) (λ i at. spares p.b i b.fields b.is at) p.at has.at;
       }
+
+  refilling_stays : is_in (phase t c) ≡ true → (call : Call) (ks : List Capability) (r : Refill) → KnowsRefill setup t c call ks r
+      → KnowsRefill setup (e ∷ t) c call ks r
+  refilling_stays inside call ks r has =
+      let q = tcap_of ((state_after setup t).frame r.tcap) has.tcap.tcap in record {
+        refills = refills_on call ks has.refills;
+        tcap = tcap_stays setup setting t legal e follows c here other inside r.tcap has.tcap;
+        at = refill_other setup t e follows.found c r (own_read-other c e t other)
+            (tcap_mark setup t r.tcap q.fields q.is) (λ i at. spares r.tcap i q.fields q.is at) r.at has.at;
+      }
+    where
+      core : (state_after setup (e ∷ t)).core c ≡ (state_after setup t).core c
+      core = (stays_in_other setup setting t legal e follows c other inside).own.core
+
+      refills_on : (call : Call) (ks : List Capability) → RefillsBy (state_after setup t) c call ks r
+          → RefillsBy (state_after setup (e ∷ t)) c call ks r
+      refills_on (Replenish x m) (k ∷ []) is = record {
+        tcap = is.tcap;
+        kind = is.kind;
+        ticks = is.ticks;
+        left = is.left ∙ ap (λ k. left_among k.spent k.back) (sym core);
+        grant = is.grant ∙ ap (λ k. k.grant) (sym core);
+      }
+      refills_on call ks is = absurd is
 
   -- A step of another core leaves the words of a temporal capability whose head this core has marked.
   kept : (f core : ℕ) (h : HeadWord) → HasTcap (state_after setup t) c f → core ≡ c → core < 8 → HeadFits h
@@ -97,6 +128,7 @@ module _ (setup : Setting) (setting : IsSetting setup) (t : Trace) (legal : IsLe
   pub shares_other : SharesStay setup t e c
   shares_other = record {
     undecided = undecided_stays;
+    refilling = refilling_stays;
     decided = λ inside call p has. record {
       budgets = has.budgets;
       core = has.core;

@@ -12,7 +12,7 @@ use Rattle.thread_laws.specs.spk_nums.specs.declared.calls.Make.TheVariants as m
 use Rattle.thread_laws.specs.spk_nums.specs.declared.calls.Call.{Call}
 use Rattle.thread_laws.specs.spk_nums.specs.declared.calls.Call.TheVariants.{Look, Copy, Remove, Grow, Shrink, Retype, Make as make_call}
 use Rattle.thread_laws.specs.spk_nums.specs.declared.calls.Call.TheVariants.{Map, Unmap, Touch, Flush, Gate, Kill, Call as call_gate}
-use Rattle.thread_laws.specs.spk_nums.specs.declared.calls.Call.TheVariants.{Ret, Switch, Tick, Transfer, Delegate, Test, Part}
+use Rattle.thread_laws.specs.spk_nums.specs.declared.calls.Call.TheVariants.{Ret, Switch, Tick, Transfer, Delegate, Test, Part, Replenish}
 use Rattle.thread_laws.specs.spk_nums.specs.declared.translations.Translation.{Translation}
 use Rattle.thread_laws.specs.spk_nums.specs.declared.replies.Reply.{Reply}
 use Rattle.thread_laws.specs.spk_nums.specs.declared.replies.Reply.TheVariants as reply
@@ -170,6 +170,8 @@ rule_keeps s o d opens (Delegate a b m) = λ j e k g calm f.
     (put_keeps (Delegate a b m) (moved s j.frame k.frame m) k.frame _
     (with_tcap_keeps (Delegate a b m) k.frame ((moved s j.frame k.frame m).frame k.frame) _) f)
 rule_keeps s o d opens (Test a b) = λ j e k g calm f. keeps_same (Test a b) f (s.frame f)
+rule_keeps s o d opens (Replenish a m) = λ j e calm.
+    put_keeps (Replenish a m) s j.frame _ (with_tcap_keeps (Replenish a m) j.frame (s.frame j.frame) _)
 rule_keeps s o d opens (Part r f n t b) = λ k e table g at v calm h. keeps_same (Part r f n t b) h (s.frame h)
 
 found_keeps : (s : State) (call : Call) (x : Judged Change) → IfFound x (KeepsBy s call) → (f : ℕ)

@@ -96,7 +96,7 @@ one_call_at_a_time setup (e ∷ t) legal c = elim (cases_eq c e.core) [
 -- a call that is alone
 
 -- What a core's call left in a word is what the word has, while the core alone has stepped since.
-own_is_last : (setup : Setting) (t : Trace) (c : ℕ) (w : Word) (v : ℕ)
+pub own_is_last : (setup : Setting) (t : Trace) (c : ℕ) (w : Word) (v : ℕ)
     → IsUndisturbed t c → own_left t c w ≡ Some v → last_left setup t w ≡ v
 own_is_last setup [] c w v alone own = absurd (cc)
 own_is_last setup (e ∷ t) c w v alone own = elim (cases_word w (word_of e.move)) [
@@ -117,7 +117,7 @@ own_is_last setup (e ∷ t) c w v alone own = elim (cases_word w (word_of e.move
     by_entry (Some call) alone own before = absurd (none_some own)
 
 -- What a core's call read last in a word, and left as found, is what it left there.
-read_is_left : (t : Trace) (c : ℕ) (w : Word) (v : ℕ) → own_read t c w ≡ Some v → own_left t c w ≡ Some v
+pub read_is_left : (t : Trace) (c : ℕ) (w : Word) (v : ℕ) → own_read t c w ≡ Some v → own_left t c w ≡ Some v
 read_is_left [] c w v has = absurd (cc)
 read_is_left (e ∷ t) c w v has = elim (cases_eq c e.core) [
   | inr other ↦ own_left-other c e t other w ∙ read_is_left t c w v (sym (own_read-other c e t other w) ∙ has)

@@ -248,6 +248,26 @@ is_alike : MayReply at_start 0 (call.Transfer 12 13 1) reply.Unlike → ⊥
 unfolding grant machine behind at_start
 is_alike may = neither none (neither none (neither (λ x. absurd (cc)) (neither (λ x. absurd (cc)) (neither (λ x. absurd (cc)) none)))) may.1
 
+gets_finer : MayReply two_schedulers 0 (call.Replenish 13 0) reply.Unlike
+unfolding grant machine two_schedulers
+gets_finer = (refl, inr (inl (refl, refl)))
+
+gets_no_finer : MayReply two_schedulers 0 (call.Replenish 12 0) reply.Unlike → ⊥
+unfolding grant machine two_schedulers
+gets_no_finer may = neither none (neither (λ x. absurd (cc)) (neither (λ x. absurd (cc)) none)) may.1
+
+-- A core that has spent 30 ticks.
+has_spent : State
+has_spent = behind (call.Tick 30 ∷ [])
+
+has_less : MayReply has_spent 0 (call.Replenish 12 31) (reply.Short 30)
+unfolding grant machine behind has_spent
+has_less = (refl, inr (inr (inl (refl, refl))))
+
+has_enough : MayReply has_spent 0 (call.Replenish 12 30) (reply.Short 30) → ⊥
+unfolding grant machine behind has_spent
+has_enough may = neither none (neither (λ x. absurd (cc)) (neither (λ x. absurd (cc)) none)) may.1
+
 -- From i on, so many temporal capabilities, each of a scheduler of its own, that delegate to the one of place 20.
 each_delegates : ℕ → ℕ → List Call
 each_delegates i zero = []

@@ -7,7 +7,7 @@ use Rattle.spk_nums.specs.declared.calls.Make.TheVariants.{Comp as make_comp}
 use Rattle.spk_nums.specs.declared.calls.Call.{Call}
 use Rattle.spk_nums.specs.declared.calls.Call.TheVariants.{Look, Copy, Remove, Grow, Shrink, Retype, Make as make_call}
 use Rattle.spk_nums.specs.declared.calls.Call.TheVariants.{Map, Unmap, Touch, Flush, Gate, Kill, Call as call_gate}
-use Rattle.spk_nums.specs.declared.calls.Call.TheVariants.{Ret, Switch, Tick, Transfer, Delegate, Test, Part}
+use Rattle.spk_nums.specs.declared.calls.Call.TheVariants.{Ret, Switch, Tick, Transfer, Delegate, Test, Part, Replenish}
 use Rattle.word_map.specs.Word.{Word, EntryAt, FrameAt, CountAt, CoreAt, FlushAt, LiveAt, ClockAt}
 use Rattle.word_map.specs.Moves.{Move, LoadOf, CompareOf, StoreOf, AddOf, word_of, left_of}
 use Rattle.kernel_rules.specs.State.{Object, Blank, Table, Leaf, Pages, Pleaf, Comp, Thread, Tcap, Frame, Untyped, User, Kernel, State}
@@ -41,12 +41,13 @@ changes_threads Ret = true
 changes_threads (Switch h q) = true
 changes_threads _ = false
 
--- The words of a temporal capability are changed by the calls that charge, move or compare budgets.
+-- The words of a temporal capability are changed by the calls that charge, move, give back or compare budgets.
 abbrev pub changes_budgets : Call → Bool
 changes_budgets (Tick n) = true
 changes_budgets (Transfer a b m) = true
 changes_budgets (Delegate a b m) = true
 changes_budgets (Test a b) = true
+changes_budgets (Replenish a m) = true
 changes_budgets _ = false
 
 -- Which calls change the words of a frame with this object; those of a component are changed by none.
@@ -100,6 +101,7 @@ counts_references (Transfer a b m) = false
 counts_references (Delegate a b m) = false
 counts_references (Test a b) = false
 counts_references (Part r f n t b) = false
+counts_references (Replenish a m) = false
 counts_references _ = true
 
 -- a call of core c on its own core's count words, and a retype to untyped on each count word of the frame.

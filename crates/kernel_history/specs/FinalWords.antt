@@ -93,6 +93,7 @@ end_of s c = record {
   tcap = (s.core c).tcap;
   comp = first_of_stack (thread_of s c).stack;
   spent = (s.core c).spent;
+  back = (s.core c).back;
   owed = (s.core c).owed;
   cached = (s.core c).cached;
 }
@@ -117,7 +118,7 @@ word_in shape words w = slice_index words (place_of shape w)
 
 -- The end of a core that a list does not tell.
 abbrev pub no_end : CoreEnd
-no_end = record { thread = 0; tcap = 0; comp = 0; spent = 0; owed = 0; cached = [] }
+no_end = record { thread = 0; tcap = 0; comp = 0; spent = 0; back = 0; owed = 0; cached = [] }
 
 -- The end of core c in a list of ends, core 0's first.
 abbrev pub end_in : List CoreEnd → ℕ → CoreEnd

@@ -104,14 +104,19 @@ abbrev pub ascending : List Translation → List Translation
 ascending [] = []
 ascending (t ∷ ts) = inserted t (ascending ts)
 
+-- What a core's line says of the ticks that it has had back: nothing where these are none.
+abbrev pub back_words : ℕ → List ℕ
+back_words n = if n == 0 then [] else codes " back" ++ number n
+
 -- The line of a core, with the component that it works in, and those of its translations.
 abbrev pub core_lines : ℕ → Core → ℕ → List ℕ
 core_lines c k comp =
     codes "core" ++ (number c ++ (codes " thread" ++ (number k.thread ++ (codes " tcap" ++ (number k.tcap ++ (codes " comp" ++ (number comp
     ++ (codes " spent" ++ (number k.spent
-    ++ (codes " owed" ++ (number k.owed ++ (line_end ++ flat_map translation_line (ascending k.cached)))))))))))))
+    ++ (codes " owed" ++ (number k.owed ++ (back_words k.back
+    ++ (line_end ++ flat_map translation_line (ascending k.cached))))))))))))))
 
--- The line of all ticks: the budgets and what the cores have spent.
+-- The line of all ticks: the budgets, and what the cores have spent and have not had back.
 abbrev pub total_line : ℕ → List ℕ
 total_line n = codes "total" ++ (number n ++ line_end)
 

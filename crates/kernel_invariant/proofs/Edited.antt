@@ -1,5 +1,5 @@
 -- Every call that is carried out is a list of edits, and what is known where each is made.
-use Rattle.std.proofs.Common.{◌≡◌, ◌≢◌, ℕ, ◌+◌, ◌-◌, ◌<◌, ◌≤◌, Bool, true, false, not, refl, sym, ◌∙◌, ap, subst, cond}
+use Rattle.std.proofs.Common.{◌≡◌, ◌≢◌, ℕ, ◌+◌, ◌-◌, ◌<◌, ◌≤◌, Bool, true, false, not, refl, sym, ◌∙◌, ap, subst, cond, min}
 use Rattle.std.proofs.Common.{◌==◌, nat_lt, nat_le, length, IsTrue, List, [], ◌∷◌, Option, Some, None}
 use Rattle.std.proofs.lemmas.Bool.{false≢true, eqb-false, ltb-false, leb-false}
 use Rattle.spk_nums.specs.Capability.{Capability}
@@ -19,7 +19,7 @@ use Rattle.spk_nums.specs.declared.translations.Translation.{Translation}
 use Rattle.spk_nums.specs.declared.replies.Value.{Value}
 use Rattle.spk_nums.specs.declared.replies.Value.TheVariants.{Nothing, Amount}
 use Rattle.spk_nums.specs.declared.replies.Reply.TheVariants as reply
-use Rattle.kernel_rules.specs.State.{Free, Holds, Object, Blank, Table, Leaf, Pages, Pleaf, Comp, Thread, Tcap, Frame}
+use Rattle.kernel_rules.specs.State.{Free, Holds, Object, Blank, Table, Leaf, Pages, Pleaf, Comp, Thread, Tcap, Frame, outstanding}
 use Rattle.kernel_rules.specs.State.{Untyped, User, Kernel}
 use Rattle.kernel_rules.specs.State.{CompFields, TcapFields, Liveness, Live, Grace, Thing, FrameOf, NumberOf, State}
 use Rattle.kernel_rules.specs.State.{put, tcap_in, comp_in, comp_of, thread_in, thread_of}
@@ -35,6 +35,7 @@ use Rattle.kernel_rules.specs.MemoryCalls.{is_untyped_now, is_empty, not_retyped
 use Rattle.kernel_rules.specs.Life.{is_live_in}
 use Rattle.kernel_rules.specs.InvocationCalls.{not_live, switch_to}
 use Rattle.kernel_rules.specs.TimeCalls.{tcap_at, with_tcap, with_budget, merged_list, are_same, is_short, are_unlike, are_many, moved}
+use Rattle.kernel_rules.specs.TimeCalls.{is_finer, is_less}
 use Rattle.kernel_rules.specs.GracePeriods.{begun}
 use Rattle.kernel_rules.specs.CallRelation.{rule_of, change_of, changed, MayReply, ends_by, flushes_by}
 use Rattle.kernel_rules.proofs.Changes.{IfFound}
@@ -45,7 +46,7 @@ use Rattle.kernel_invariant.proofs.Facts.{held_facts, none_parts, when_not, not_
 use Rattle.kernel_invariant.proofs.SoundCalls.{IsOpen, node_of, in_range, blank_by, untyped_by, own_thread}
 use Rattle.kernel_invariant.proofs.SoundCalls.{thread_below, tcap_below, root_node, zero_refs}
 use Rattle.kernel_invariant.specs.Edits.{Edit, Fill, Remove, Node, Become, Untype, Component, Deaden, Push, Pop, Switch, Cache, Flush}
-use Rattle.kernel_invariant.specs.Edits.{Charge, Move, Merge, edited, after_edits, begins_in, ends_in, begins_all, ends_all}
+use Rattle.kernel_invariant.specs.Edits.{Charge, Move, Merge, Give, edited, after_edits, begins_in, ends_in, begins_all, ends_all}
 use Rattle.kernel_invariant.specs.Edits.{flush_in, kept_all, charged_by, charged_all, does}
 
 -- A frame without an object.
@@ -103,6 +104,12 @@ pub record Merges (s : State) (f : ℕ) (qs : List (ℕ × ℕ)) : Type 0 where
   pub is : qs ≡ merged_list s other f
   pub few : length qs ≤ 8
 
+-- Ticks are given back that the core has spent and has not had back.
+pub record Gives (s : State) (c f m : ℕ) : Type 0 where
+  pub core : c < s.limits.cores
+  pub to : HasTcap s f
+  pub enough : m ≤ outstanding (s.core c)
+
 -- A frame without an object takes one that has no budget and runs nowhere.
 pub record TakesFresh (s : State) (f : ℕ) (x : Frame) : Type 0 where
   pub below : f < s.limits.frames
@@ -141,13 +148,15 @@ Known c s Flush = c < s.limits.cores
 Known c s (Charge n) = (c < s.limits.cores) × HasTcap s (s.core c).tcap
 Known c s (Move a b m) = Moves s a b m
 Known c s (Merge f qs) = Merges s f qs
+Known c s (Give f m) = Gives s c f m
 
 -- Each edit of a list, in the state that it finds.
 abbrev pub Each : (ℕ → State → Edit → Type 0) → ℕ → State → List Edit → Type 0
 Each P c s [] = Unit {0}
 Each P c s (e ∷ es) = P c s e × Each P c (edited c s e) es
 
--- A list of edits ends the grace periods that the call ends, flushes where it does, leaves the others, and charges as many ticks.
+-- A list of edits ends the grace periods that the call ends, flushes where it does, leaves the others, and charges and gives back as many
+-- ticks.
 abbrev pub Agrees : Call → ℕ → List Edit → Type 0
 Agrees call c list =
     ((x : Thing) → ends_by call x ≡ ends_all list x)
@@ -265,6 +274,17 @@ module _ (s : State) (c : ℕ) (o : ℕ → Bool) (h : IsOpen s o c) where
         to = tcap_known b k f;
         apart = eqb-false j.frame k.frame (when_not (j.frame == k.frame) reply.Same p.0);
         enough = ltb-false budget m (when_not (nat_lt budget m) (reply.Short budget) p.1);
+      }
+
+  gives_known : (a m : ℕ) (j : Capability) → named s c a (to_use (only kind.Tcap)) ≡ Found j
+      → first_cause s c (is_finer s c (found j) ∷ is_less s c m ∷ []) ≡ None → Gives s c j.frame m
+  gives_known a m j e calm =
+      let p = first_two s c (is_finer s c (found j)) (is_less s c m) [] calm in
+      let left : ℕ = outstanding (s.core c) in
+      record {
+        core = (h.sound.inside c h.is).1;
+        to = tcap_known a j e;
+        enough = ltb-false left m (when_not (nat_lt left m) (reply.Short (min left m)) p.1);
       }
 
   moved_known : (a b m g : ℕ) → HasTcap s g → HasTcap (moved s a b m) g
@@ -495,6 +515,9 @@ module _ (s : State) (c : ℕ) where
         },
       ))
   rule_edits (call.Test a b) = λ j e k f calm. nothing (call.Test a b) (λ x. refl, refl, λ x g. refl, refl)
+  rule_edits (call.Replenish a m) = λ j e calm.
+      one (call.Replenish a m) (Give j.frame m) Nothing (λ x. refl, refl, λ x g. refl, refl) tt (λ lim. tt)
+      (λ o h. gives_known s c o h a m j e calm)
   rule_edits (call.Part r f n t b) = λ k e table g at u calm.
       filled (call.Part r f n t b) (Under (found table) b) at (part_of k f n) (λ x. refl, refl, λ x g. refl, refl) (λ o h. tt) u
 

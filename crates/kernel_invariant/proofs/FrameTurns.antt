@@ -17,7 +17,7 @@ use Rattle.kernel_rules.specs.Relies.{is_node}
 use Rattle.kernel_rules.proofs.Changes.{IfFound}
 use Rattle.kernel_invariant.proofs.Sound.{put_all}
 use Rattle.kernel_invariant.proofs.SoundCalls.{IsOpen}
-use Rattle.kernel_invariant.specs.Edits.{Edit, Node, Become, Untype, Component, Push, Pop, Switch, Charge, Move, Merge}
+use Rattle.kernel_invariant.specs.Edits.{Edit, Node, Become, Untype, Component, Push, Pop, Switch, Charge, Move, Merge, Give}
 use Rattle.kernel_invariant.specs.Edits.{edited, after_edits, ends_in, ends_all}
 use Rattle.kernel_invariant.proofs.Edited.{is_bare, Known, Each, Edits, found_by}
 
@@ -105,6 +105,7 @@ edit_turns c s (Move a b m) k = λ f.
     turns_then _ _ f (s.frame f) (first.frame f) _ (put_turns (λ t. false) s a _ (tcap_turns _ a (s.frame a) _) f)
     (put_turns (λ t. false) first b _ (tcap_turns _ b (first.frame b) _) f)
 edit_turns c s (Merge g qs) k = put_turns _ s g _ (tcap_turns _ g (s.frame g) _)
+edit_turns c s (Give g m) k = put_turns _ s g _ (tcap_turns _ g (s.frame g) _)
 edit_turns c s _ k = λ f. turns_same _ f (s.frame f)
 
 edits_turn : (c : ℕ) (s : State) (es : List Edit) → Each Known c s es

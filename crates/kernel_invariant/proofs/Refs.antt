@@ -23,7 +23,7 @@ use Rattle.kernel_rules.proofs.Within.{put_same, put_other}
 use Rattle.kernel_invariant.proofs.Sums.{sum_same, sum_one, times_cons, times_append}
 use Rattle.kernel_invariant.proofs.Sound.{put_all}
 use Rattle.kernel_invariant.specs.Edits.{Edit, Fill, Remove, Node, Become, Untype, Component, Deaden, Push, Pop, Switch, Cache, Flush}
-use Rattle.kernel_invariant.specs.Edits.{Charge, Move, Merge, edited, after_edits, takes_in, begins_in, takes_all, begins_all}
+use Rattle.kernel_invariant.specs.Edits.{Charge, Move, Merge, Give, edited, after_edits, takes_in, begins_in, takes_all, begins_all}
 use Rattle.kernel_invariant.proofs.Facts.{ChangesFrom, some_none}
 use Rattle.kernel_invariant.proofs.SoundCalls.{IsOpen}
 use Rattle.kernel_invariant.proofs.Edited.{is_bare, Tested, Limited, Known, Each, Edits, HasThread, rule_by}
@@ -234,6 +234,8 @@ edit_refs c s (Charge n) tested lim h f =
 edit_refs c s (Move a b m) tested lim h f =
     plus_none _ _ (tcap_refs (with_budget s a ((tcap_at s a).budget - m)) b _ f h.to.below ∙ tcap_refs s a _ f h.from.below)
 edit_refs c s (Merge g qs) tested lim h f = plus_none _ _ (tcap_refs s g _ f h.to.below)
+edit_refs c s (Give g m) tested lim h f =
+    plus_none _ _ (same_core (with_budget s g _) c _ f h.core refl refl ∙ tcap_refs s g _ f h.to.below)
 
 times_released : (f : ℕ) (xs ys : List Thing) → times f (released (xs ++ ys)) ≡ times f (released xs) + times f (released ys)
 times_released f [] ys = omega arith

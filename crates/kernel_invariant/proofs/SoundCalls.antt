@@ -16,7 +16,7 @@ use Rattle.spk_nums.specs.declared.calls.Make.TheVariants as make
 use Rattle.spk_nums.specs.declared.calls.Call.{Call}
 use Rattle.spk_nums.specs.declared.calls.Call.TheVariants.{Look, Copy, Remove, Grow, Shrink, Retype, Make as make_call}
 use Rattle.spk_nums.specs.declared.calls.Call.TheVariants.{Map, Unmap, Touch, Flush, Gate, Kill, Call as call_gate}
-use Rattle.spk_nums.specs.declared.calls.Call.TheVariants.{Ret, Switch, Tick, Transfer, Delegate, Test, Part}
+use Rattle.spk_nums.specs.declared.calls.Call.TheVariants.{Ret, Switch, Tick, Transfer, Delegate, Test, Part, Replenish}
 use Rattle.spk_nums.specs.CallLimits.{InLimits}
 use Rattle.spk_nums.specs.declared.translations.Translation.{Translation}
 use Rattle.spk_nums.specs.declared.replies.Reply.TheVariants as reply
@@ -34,7 +34,7 @@ use Rattle.kernel_rules.specs.CapabilityCalls.{not_blank, makes, cleared, make_n
 use Rattle.kernel_rules.specs.MemoryCalls.{is_untyped, is_untyped_now, not_untyped, is_user, holds_nothing, is_empty}
 use Rattle.kernel_rules.specs.MemoryCalls.{not_retyped, retype_rule, not_user, map_rule, touch_by, translation_of}
 use Rattle.kernel_rules.specs.InvocationCalls.{kills, with_thread, pushes, call_rule, pops, ret_rule, running, switches, switch_to}
-use Rattle.kernel_rules.specs.TimeCalls.{with_tcap, with_budget, with_qualities, tcap_at, moved, merged_list}
+use Rattle.kernel_rules.specs.TimeCalls.{with_tcap, with_budget, with_qualities, tcap_at, moved, merged_list, given_back}
 use Rattle.kernel_rules.specs.CallRelation.{rule_of}
 use Rattle.kernel_rules.proofs.Within.{put_same, put_other}
 use Rattle.kernel_rules.proofs.PartFrames.{frames_in}
@@ -510,6 +510,11 @@ rule_keeps s o c h (Delegate a b m) lim = λ j e k f calm.
     }) (tcap_below s o k.frame h.sound fb)
     (moved_step s o j.frame k.frame m (named_fit s o c a kind.Tcap j h.sound h.is e) fb h.sound))
 rule_keeps s o c h (Test a b) lim = λ j e k f calm. plain s s o c h h.sound
+rule_keeps s o c h (Replenish a m) lim = λ j e calm.
+    let fit : IsTrue (fits kind.Tcap (s.frame j.frame)) = named_fit s o c a kind.Tcap j h.sound h.is e in
+    plain s (given_back s c j.frame m) o c h
+    (core_keeps (with_budget s j.frame _) o c _ refl refl refl
+    (tcap_step s o j.frame (record (tcap_at s j.frame) { budget = _ }) (tcap_below s o j.frame h.sound fit) h.sound))
 rule_keeps s o c h (Part r f n t b) lim = λ range e table g at u calm.
     let a : IsGood s range × IsTrue (only kind.Range range.kind) = named_good s o c r (to_part (only kind.Range)) range h.sound h.is e in
     filled s o c (Under (found table) b) at (part_of range f n) h tt u (part_good s range f n a.0 a.1 (within_by s c range f n calm))

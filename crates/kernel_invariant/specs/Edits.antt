@@ -2,7 +2,7 @@
 use Rattle.std.specs.Prelude.{ℕ, ◌+◌, ◌==◌, ◌||◌, Bool, true, false, if◌then◌else◌, List, [], ◌∷◌, ◌++◌, take, drop}
 use Rattle.spk_nums.specs.Capability.{Capability}
 use Rattle.spk_nums.specs.declared.calls.Call.{Call}
-use Rattle.spk_nums.specs.declared.calls.Call.TheVariants.{Tick}
+use Rattle.spk_nums.specs.declared.calls.Call.TheVariants.{Tick, Replenish}
 use Rattle.spk_nums.specs.declared.replies.Value.{Value}
 use Rattle.spk_nums.specs.declared.translations.Translation.{Translation}
 use Rattle.kernel_rules.specs.State.{CompFields, Object, Comp, Kernel, Holds, Quiescing, Frame, Untyped, Live, Dead}
@@ -16,12 +16,12 @@ use Rattle.kernel_rules.specs.Rules.{Change, frames_of}
 use Rattle.kernel_rules.specs.CapabilityCalls.{cleared, is_place_of}
 use Rattle.kernel_rules.specs.MemoryCalls.{caching}
 use Rattle.kernel_rules.specs.InvocationCalls.{with_stack, switches}
-use Rattle.kernel_rules.specs.TimeCalls.{charge, charges, moved, with_qualities}
+use Rattle.kernel_rules.specs.TimeCalls.{charge, charges, moved, with_qualities, given_back}
 
 -- One edit of the state by a core: a place is filled or removed; a frame has a node whose places are free, has another object,
 -- is untyped, or has a component with its number; a number dies; the core's thread enters a component or leaves one; the core
 -- goes on as a thread with a temporal capability; it caches, flushes, is charged ticks beside those owed; ticks move; a list of
--- qualities is put.
+-- qualities is put; ticks that it has spent are given back.
 pub data Edit : Type 0 where
   Fill : Slot → Capability → Edit
   Remove : Slot → Capability → Edit
@@ -38,6 +38,7 @@ pub data Edit : Type 0 where
   Charge : ℕ → Edit
   Move : ℕ → ℕ → ℕ → Edit
   Merge : ℕ → List (ℕ × ℕ) → Edit
+  Give : ℕ → ℕ → Edit
 
 -- The state after one edit of core c.
 abbrev pub edited : ℕ → State → Edit → State
@@ -56,6 +57,7 @@ edited c s Flush = flushed s c
 edited c s (Charge n) = (charges s c (n + (s.core c).owed) (charge s c (n + (s.core c).owed))).next
 edited c s (Move a b m) = moved s a b m
 edited c s (Merge f qs) = with_qualities s f qs
+edited c s (Give f m) = given_back s c f m
 
 -- The frames to which an edit takes a reference.
 abbrev pub takes_in : ℕ → State → Edit → List ℕ
@@ -87,14 +89,19 @@ abbrev pub is_flush : Edit → Bool
 is_flush Flush = true
 is_flush _ = false
 
--- The ticks that a call charges, beside those that are owed, and those that an edit charges.
-abbrev pub charged_by : Call → ℕ
-charged_by (Tick n) = n
-charged_by _ = 0
+-- The ticks that a call charges, beside those that are owed, with those that it gives back; and those of an edit.
+abbrev pub charged_by : Call → ℕ × ℕ
+charged_by (Tick n) = (n, 0)
+charged_by (Replenish a m) = (0, m)
+charged_by _ = (0, 0)
 
-abbrev pub charged_in : Edit → ℕ
-charged_in (Charge n) = n
-charged_in _ = 0
+abbrev pub charged_in : Edit → ℕ × ℕ
+charged_in (Charge n) = (n, 0)
+charged_in (Give f m) = (0, m)
+charged_in _ = (0, 0)
+
+abbrev pub charged_both : ℕ × ℕ → ℕ × ℕ → ℕ × ℕ
+charged_both p q = (p.0 + q.0, p.1 + q.1)
 
 -- What it leaves of the grace period of a thing.
 abbrev pub kept_in : ℕ → Edit → Thing → Grace → Grace
@@ -127,10 +134,10 @@ abbrev pub flush_in : List Edit → Bool
 flush_in [] = false
 flush_in (e ∷ es) = is_flush e || flush_in es
 
-abbrev pub charged_all : List Edit → ℕ
-charged_all [] = 0
+abbrev pub charged_all : List Edit → ℕ × ℕ
+charged_all [] = (0, 0)
 charged_all (e ∷ []) = charged_in e
-charged_all (e ∷ (x ∷ es)) = charged_in e + charged_all (x ∷ es)
+charged_all (e ∷ (x ∷ es)) = charged_both (charged_in e) (charged_all (x ∷ es))
 
 abbrev pub kept_all : ℕ → List Edit → Thing → Grace → Grace
 kept_all c [] x g = g

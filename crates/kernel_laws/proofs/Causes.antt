@@ -1,5 +1,5 @@
 -- Each reply that the relation permits has its cause.
-use Rattle.std.proofs.Common.{◌≡◌, ◌≢◌, ◌⊎◌, inl, inr, ℕ, zero, suc, ◌+◌, ◌<◌, ◌≤◌, Bool, true, false, not}
+use Rattle.std.proofs.Common.{◌≡◌, ◌≢◌, ◌⊎◌, inl, inr, ℕ, zero, suc, ◌+◌, ◌<◌, ◌≤◌, Bool, true, false, not, min}
 use Rattle.std.proofs.Common.{◌&&◌, ◌||◌, refl, sym, ◌∙◌, ap, subst, arith, ◌==◌, nat_lt, nat_le, if◌then◌else◌}
 use Rattle.std.proofs.Common.{IsTrue, IsFalse, IsSomeAnd, is_some, List, [], ◌∷◌, length, Option, Some, None}
 use Rattle.std.proofs.lemmas.Bool.{false≢true, true≢false, eqb-true, eqb-false, ltb-true, ltb-false, leb-true, leb-false, and_parts}
@@ -17,11 +17,13 @@ use Rattle.spk_nums.specs.declared.calls.Make.TheVariants as make
 use Rattle.spk_nums.specs.declared.calls.Call.{Call}
 use Rattle.spk_nums.specs.declared.calls.Call.TheVariants.{Look, Copy, Remove, Grow, Shrink, Retype, Make as make_call}
 use Rattle.spk_nums.specs.declared.calls.Call.TheVariants.{Map, Unmap, Touch, Flush, Gate, Kill, Call as call_gate}
-use Rattle.spk_nums.specs.declared.calls.Call.TheVariants.{Ret, Switch, Tick, Transfer, Delegate, Test, Part}
+use Rattle.spk_nums.specs.declared.calls.Call.TheVariants.{Ret, Switch, Tick, Transfer, Delegate, Test, Part, Replenish}
 use Rattle.spk_nums.specs.declared.translations.Translation.{Translation}
 use Rattle.spk_nums.specs.declared.replies.Reply.{Reply}
 use Rattle.spk_nums.specs.declared.replies.Reply.TheVariants as reply
+use Rattle.spk_nums.specs.Merging.{covers}
 use Rattle.kernel_rules.specs.State.{Object, Blank, Table, Leaf, Pages, Pleaf, Comp, Thread, Tcap, Frame, Untyped, User, Kernel}
+use Rattle.kernel_rules.specs.State.{outstanding}
 use Rattle.kernel_rules.specs.State.{Liveness, Live, Thing, FrameOf, NumberOf, State, comp_in, comp_of, thread_in, tcap_in, thread_of}
 use Rattle.kernel_rules.specs.References.{refs}
 use Rattle.kernel_rules.specs.Access.{Slot, Named, found, Want, to_use, Target, Under, InRoot, held_in}
@@ -34,9 +36,9 @@ use Rattle.kernel_rules.specs.CapabilityCalls.{not_blank, make_node, make_rule, 
 use Rattle.kernel_rules.specs.MemoryCalls.{is_untyped, is_user, holds_nothing, is_empty, not_retyped, retype_rule, touch_by, translation_of}
 use Rattle.kernel_rules.specs.Life.{is_live_in, asks_life}
 use Rattle.kernel_rules.specs.InvocationCalls.{switch_to}
-use Rattle.kernel_rules.specs.TimeCalls.{are_alike, are_same, is_short}
+use Rattle.kernel_rules.specs.TimeCalls.{are_alike, are_same, is_short, is_finer, is_less}
 use Rattle.kernel_rules.specs.CallRelation.{rule_of, MayBeDead}
-use Rattle.kernel_laws.specs.Causes.{OneIs, used_at, as_wanted, leads_as, Name, name, names_of, fills_at, empties_at}
+use Rattle.kernel_laws.specs.Causes.{OneIs, used_at, as_wanted, leads_as, Name, name, names_of, fills_at, empties_at, IsFiner}
 use Rattle.kernel_laws.specs.Causes.{NeedsLife, IsDead}
 use Rattle.kernel_laws.specs.Causes.{LiesOutside, HeldIn, IsDeadIn, BothAre, tcap_named, tcap_of, HasLess, HasCause, LiesBeyond, leads}
 use Rattle.kernel_laws.specs.Laws.{CausesStand}
@@ -503,6 +505,29 @@ module _ (s : State) (c : ℕ) where
       (λ t. both_are a b _ (two_found _ _ _ _ (λ t. unlike_lists _ _ (not_is _ t)) t)) h
   transfer_cause a b m r (inr (inr (inr (inr (inr h))))) = absurd h
 
+  finer_cause : (a m : ℕ) (r : Reply) → CauseMay s c (is_finer s c (name_of (named s c a (to_use (only kind.Tcap))))) r
+      → HasCause s c (Replenish a m) r
+  finer_cause a m r h = when_cause s c (Replenish a m) _ reply.Unlike r
+      (λ t. subst (λ (x : Named). IsFiner s c x) (leads_is s c (only kind.Tcap) a)
+      (let p = and_parts x.found (not (covers (tcap_of s x.frame).qualities (s.core c).grant)) t in
+      record { found = p.0; finer = not_is _ p.1 })) h
+    where
+      x : Named
+      x = name_of (named s c a (to_use (only kind.Tcap)))
+
+  less_cause : (a m : ℕ) (r : Reply) → CauseMay s c (is_less s c m) r → HasCause s c (Replenish a m) r
+  less_cause a m r h = when_cause s c (Replenish a m) _ (reply.Short (min left m)) r
+      (λ t. let less : left < m = ltb-true left m t in (omega (arith, less), omega (arith, less))) h
+    where
+      left : ℕ
+      left = outstanding (s.core c)
+
+  replenish_cause : (a m : ℕ) (r : Reply) → RuleMay s c (rule_of s c (Replenish a m)) r → HasCause s c (Replenish a m) r
+  replenish_cause a m r (inl n) = name_cause s c (Replenish a m) r (inl n)
+  replenish_cause a m r (inr (inl h)) = finer_cause a m r h
+  replenish_cause a m r (inr (inr (inl h))) = less_cause a m r h
+  replenish_cause a m r (inr (inr (inr h))) = absurd h
+
   delegate_cause : (a b m : ℕ) (r : Reply) → RuleMay s c (rule_of s c (Delegate a b m)) r → HasCause s c (Delegate a b m) r
   delegate_cause a b m r (inl n) = name_cause s c (Delegate a b m) r (inl n)
   delegate_cause a b m r (inr (inl n)) = name_cause s c (Delegate a b m) r (inr (inl n))
@@ -539,6 +564,7 @@ module _ (s : State) (c : ℕ) where
   rule_cause (Transfer a b m) r h = transfer_cause a b m r h
   rule_cause (Delegate a b m) r h = delegate_cause a b m r h
   rule_cause (Test a b) r h = test_cause a b r h
+  rule_cause (Replenish a m) r h = replenish_cause a m r h
   rule_cause (Part a f n t b) r h = part_cause a f n t b r h
 
   -- A call that asks for life needs it.

@@ -6,7 +6,7 @@ use Rattle.spk_nums.specs.declared.calls.Make.TheVariants as make
 use Rattle.spk_nums.specs.declared.calls.Call.{Call}
 use Rattle.spk_nums.specs.declared.calls.Call.TheVariants.{Look, Copy, Remove, Grow, Shrink, Retype, Make as make_call}
 use Rattle.spk_nums.specs.declared.calls.Call.TheVariants.{Map, Unmap, Touch, Flush, Gate, Kill, Call as call_gate}
-use Rattle.spk_nums.specs.declared.calls.Call.TheVariants.{Ret, Switch, Tick, Transfer, Delegate, Test, Part}
+use Rattle.spk_nums.specs.declared.calls.Call.TheVariants.{Ret, Switch, Tick, Transfer, Delegate, Test, Part, Replenish}
 use Rattle.spk_nums.specs.declared.replies.Reply.TheVariants as reply
 use Rattle.kernel_rules.specs.State.{State}
 use Rattle.kernel_rules.specs.Access.{Slot, Named, Want, any, only, root, own, reached, usable, to_look, to_copy, to_use, to_part}
@@ -105,6 +105,8 @@ module _ (s : State) (c : ℕ) where
   lacks (Test a b) (inl h) = inl (at_name a (to_use (only kind.Tcap)) h)
   lacks (Test a b) (inr (inl h)) = inr (inl (at_name b (to_use (only kind.Tcap)) h))
   lacks (Test a b) (inr (inr h)) = absurd h
+  lacks (Replenish a m) (inl h) = inl (at_name a (to_use (only kind.Tcap)) h)
+  lacks (Replenish a m) (inr h) = absurd h
   lacks (Part r f n t b) (inl h) = inl (at_name r (to_part (only kind.Range)) h)
   lacks (Part r f n t b) (inr (inl h)) = inr (inl (at_name t (to_use (only kind.Table)) h))
   lacks (Part r f n t b) (inr (inr h)) = absurd h

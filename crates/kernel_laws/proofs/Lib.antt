@@ -9,5 +9,6 @@ pub mod Lacking
 pub mod NodeSteps
 pub mod NodesLaw
 pub mod Spending
+pub mod Back
 pub mod Rows
 pub mod TwoCores

@@ -15,7 +15,7 @@ use Rattle.spk_nums.specs.declared.calls.Make.TheVariants as make
 use Rattle.spk_nums.specs.declared.calls.Call.{Call}
 use Rattle.spk_nums.specs.declared.calls.Call.TheVariants.{Look, Copy, Remove, Grow, Shrink, Retype, Make as make_call}
 use Rattle.spk_nums.specs.declared.calls.Call.TheVariants.{Map, Unmap, Touch, Flush, Gate, Kill, Call as call_gate}
-use Rattle.spk_nums.specs.declared.calls.Call.TheVariants.{Ret, Switch, Tick, Transfer, Delegate, Test, Part}
+use Rattle.spk_nums.specs.declared.calls.Call.TheVariants.{Ret, Switch, Tick, Transfer, Delegate, Test, Part, Replenish}
 use Rattle.spk_nums.specs.declared.translations.Translation.{Translation}
 use Rattle.spk_nums.specs.declared.replies.Value.{Value}
 use Rattle.spk_nums.specs.declared.replies.Reply.{Reply}
@@ -361,6 +361,8 @@ module _ (s : State) (o : ℕ → Bool) (c : ℕ) (h : IsOpen s o c) (w : IsFitt
       (λ g. alike_then (s.frame g) (next.frame g) _ (moved_alike j.frame k.frame m g)
       (put_alike next k.frame _ (tcap_alike (next.frame k.frame) _) g)) (λ g i d q. q)
   rule_keeps (Test a b) = λ j e k f calm. same
+  rule_keeps (Replenish a m) = λ j e calm.
+      framed _ [] (λ g i. refl) (λ g i. refl) (put_alike s j.frame _ (tcap_alike (s.frame j.frame) _)) (λ g i d q. q)
   rule_keeps (Part r f n t b) = λ range e table g at u calm.
       filled at (part_of range f n)
       (in_leaf_fits at kind.Range (s.frame f) (in_leaf t b table at g (vacant_facts s c (Under (found table) b) at u).0) refl)

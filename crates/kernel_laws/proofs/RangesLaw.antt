@@ -10,7 +10,7 @@ use Rattle.spk_nums.specs.declared.calls.Call.TheVariants.{Tick}
 use Rattle.spk_nums.specs.declared.replies.Value.{Value}
 use Rattle.spk_nums.specs.declared.replies.Reply.{Reply}
 use Rattle.spk_nums.specs.declared.replies.Reply.TheVariants as reply
-use Rattle.kernel_rules.specs.State.{Comp, Thread, Tcap, Frame, Kernel, Core, Limits, State, put, with_core, tcap_in}
+use Rattle.kernel_rules.specs.State.{Comp, Thread, Tcap, Frame, Kernel, Core, Limits, State, put, with_core, tcap_in, outstanding}
 use Rattle.kernel_rules.specs.Start.{start, granted}
 use Rattle.kernel_rules.specs.References.{sum_below}
 use Rattle.kernel_rules.specs.Rules.{Change, Judged, Refused, Found, IsFoundAnd}
@@ -27,6 +27,7 @@ use Rattle.kernel_invariant.proofs.SoundStart.{choose}
 use Rattle.kernel_invariant.proofs.SoundRuns.{opened, open_is, open_limits, runs_sound}
 use Rattle.kernel_laws.specs.Laws.{RangesHold}
 use Rattle.kernel_laws.proofs.TicksLaw.{ticks_kept}
+use Rattle.kernel_laws.proofs.Back.{within_spent}
 use Rattle.kernel_laws.proofs.Shapes.{ListInRange, FrameShape, CoreShape, Shaped, Grows, ShapedBy, shaped_by}
 use Rattle.kernel_invariant.proofs.Edited.{found_by}
 
@@ -43,9 +44,9 @@ counted_shape : (calls : ℕ) (k m : Core) → nat_le calls k.counted ≡ false 
 counted_shape calls k m more grows h =
     let less : k.counted < calls = leb-false calls k.counted more in
     let a = grows.counted in
-    let b = grows.owed in
-    let d = h.owed in
-    record { counted = omega (arith, less, a); owed = omega (arith, a, b, d); cached = grows.cached }
+    let b = grows.charged in
+    let d = h.charged in
+    record { counted = omega (arith, less, a); charged = omega (arith, a, b, d); cached = grows.cached }
 
 limited : (s t : State) → t.limits ≡ s.limits → ((f : ℕ) → FrameShape s.limits.epochs (t.frame f))
     → ((l : ℕ) → NumberInRange s.limits.epochs (t.number l))
@@ -75,7 +76,7 @@ refused_shape s c k more grows h = record {
 }
 
 stays : (s : State) (c : ℕ) → Shaped s → Grows (s.core c) (s.core c)
-stays s c h = record { counted = refl; owed = omega arith; cached = (h.cores c).cached }
+stays s c h = record { counted = refl; charged = omega arith; cached = (h.cores c).cached }
 
 twice : (s : State) (c : ℕ) (k : Core) → Shaped (with_core s c (record k { counted = k.counted + 1 }))
     → Shaped (counted (with_core s c k) c)
@@ -94,7 +95,7 @@ owed_shape : (s : State) (c : ℕ) (call : Call) → InLimits call → nat_le s.
 owed_shape s c (Tick n) lim more h =
     twice s c (record (s.core c) { owed = (s.core c).owed + n })
     (refused_shape s c (record (s.core c) { owed = (s.core c).owed + n }) more
-    (record { counted = refl; owed = omega (arith, lim); cached = (h.cores c).cached }) h)
+    (record { counted = refl; charged = omega (arith, lim); cached = (h.cores c).cached }) h)
 owed_shape s c _ lim more h = refused_shape s c (s.core c) more (stays s c h) h
 
 decided_shape : (s : State) (o : ℕ → Bool) (c : ℕ) (call : Call) (r : Reply) → IsOpen s o c → InLimits call → MayReply s c call r
@@ -136,7 +137,7 @@ start_shape setting lim = record {
       let n = lim.granted in omega (arith, low, high, n)))
       (λ b. tt);
   numbers = λ l. choose (NumberInRange setting.epochs) (l == 0) _ _ (λ e. record { least = omega arith; most = lim.some_epoch }) (λ e. tt);
-  cores = λ c. record { counted = omega arith; owed = omega arith; cached = omega arith };
+  cores = λ c. record { counted = omega arith; charged = omega arith; cached = omega arith };
 }
   where
     P : Frame → Type 0
@@ -146,7 +147,7 @@ entered_shape : (s : State) (c : ℕ) (b : Bool) → Shaped s → Shaped (with_c
 entered_shape s c b h = record {
   frames = h.frames;
   numbers = h.numbers;
-  cores = core_shape s c _ (record { counted = (h.cores c).counted; owed = (h.cores c).owed; cached = (h.cores c).cached }) h.cores;
+  cores = core_shape s c _ (record { counted = (h.cores c).counted; charged = (h.cores c).charged; cached = (h.cores c).cached }) h.cores;
 }
 
 pub runs_shape : (setting : Setting) → IsSetting setting → (events : List Event) → IsRun setting events → Shaped (after setting events)
@@ -218,9 +219,9 @@ module _ (s : State) (o : ℕ → Bool) (h : IsSound s o) (few : ticks s ≤ 400
     ]
   ]
 
-  spending_small : (f c : ℕ) → c < s.limits.cores → budget_at s f + (s.core c).spent < 2 ^ 32
+  spending_small : (f c : ℕ) → c < s.limits.cores → budget_at s f + outstanding (s.core c) < 2 ^ 32
   spending_small f c core =
-      let b = sum_term (λ d. (s.core d).spent) s.limits.cores c core in
+      let b = sum_term (λ d. outstanding (s.core d)) s.limits.cores c core in
       elim (cases_lt f s.limits.frames) [
         | inl below ↦ (let a = sum_term (budget_at s) s.limits.frames f below in omega (arith, a, b, few))
         | inr past ↦ (let a = budget_past f past in omega (arith, a, b, few))
@@ -238,8 +239,7 @@ ranges_hold setting lim events run = record {
   numbers = shape.numbers;
   cores = λ c core.
       let k : CoreShape s.limits.calls (s.core c) = shape.cores c in
-      let spent = spending_small s (opened events) sound few 0 c core in
-      record { counted = k.counted; owed = k.owed; spent = omega (arith, spent); cached = k.cached };
+      record { counted = k.counted; charged = k.charged; back = within_spent setting lim events run c; cached = k.cached };
   budgets = budgets_small s (opened events) sound few;
   spending = spending_small s (opened events) sound few;
 }

@@ -1,5 +1,5 @@
 -- Every decision keeps the lengths, lists, epochs and counts of a state in range.
-use Rattle.std.proofs.Common.{◌≡◌, ◌≢◌, ℕ, ◌+◌, ◌-◌, ◌*◌, ◌<◌, ◌≤◌, Bool, true, false, refl, sym, ◌∙◌, ap, subst, arith}
+use Rattle.std.proofs.Common.{◌≡◌, ◌≢◌, ℕ, ◌+◌, ◌-◌, ◌*◌, ◌<◌, ◌≤◌, Bool, true, false, refl, sym, ◌∙◌, ap, subst, arith, min}
 use Rattle.std.proofs.Common.{nat_lt, if◌then◌else◌, IsTrue, List, [], ◌∷◌, ◌++◌, length, length-append, drop, Option, Some, None}
 use Rattle.std.proofs.lemmas.Bool.{false≢true, eqb-true, ltb-true}
 use Rattle.spk_nums.specs.CallLimits.{InLimits}
@@ -22,7 +22,7 @@ use Rattle.kernel_rules.specs.Fitting.{fits}
 use Rattle.kernel_rules.specs.Relies.{is_node}
 use Rattle.kernel_rules.proofs.Within.{put_same, put_other}
 use Rattle.kernel_invariant.specs.Edits.{Edit, Fill, Node, Become, Untype, Component, Deaden, Push, Pop, Switch, Cache, Flush}
-use Rattle.kernel_invariant.specs.Edits.{Charge, Move, Merge, edited, after_edits, charged_by, charged_in, charged_all}
+use Rattle.kernel_invariant.specs.Edits.{Charge, Move, Merge, Give, edited, after_edits, charged_by, charged_in, charged_all}
 use Rattle.kernel_invariant.proofs.Sound.{put_all}
 use Rattle.kernel_invariant.proofs.SoundCalls.{IsOpen}
 use Rattle.kernel_invariant.proofs.Edited.{Tested, Limited, Known, Each, Edits}
@@ -41,10 +41,10 @@ FrameShape epochs (Kernel (Thread t)) = ThreadInRange t
 FrameShape epochs (Kernel (Tcap q)) = ListInRange q.qualities
 FrameShape epochs _ = Unit {0}
 
--- What a core has counted, owes and has cached is in range.
+-- What a core has counted, has spent and owes, and has cached is in range.
 pub record CoreShape (calls : ℕ) (k : Core) : Type 0 where
   pub counted : k.counted ≤ calls
-  pub owed : k.owed ≤ 1000000 * k.counted
+  pub charged : k.spent + k.owed ≤ 1000000 * k.counted
   pub cached : length k.cached ≤ 64
 
 -- A state is in range but for its budgets and spent ticks.
@@ -53,10 +53,10 @@ pub record Shaped (s : State) : Type 0 where
   pub numbers : (l : ℕ) → NumberInRange s.limits.epochs (s.number l)
   pub cores : (c : ℕ) → CoreShape s.limits.calls (s.core c)
 
--- A core owes at most 1,000,000 ticks more than before, and has counted as many calls.
+-- A core has spent and owes at most 1,000,000 ticks more than before, and has counted as many calls.
 pub record Grows (k m : Core) : Type 0 where
   pub counted : m.counted ≡ k.counted
-  pub owed : m.owed ≤ k.owed + 1000000
+  pub charged : m.spent + m.owed ≤ k.spent + k.owed + 1000000
   pub cached : length m.cached ≤ 64
 
 -- A change of core c, but for the count of its call.
@@ -71,10 +71,10 @@ record Fits (epochs : ℕ) (frame : ℕ → Frame) (number : ℕ → Liveness) :
   frames : (f : ℕ) → FrameShape epochs (frame f)
   numbers : (l : ℕ) → NumberInRange epochs (number l)
 
--- Core c has counted as many calls, and owes at most n ticks more.
+-- Core c has counted as many calls, and has spent and owes at most n ticks more.
 record CoresBy (s : State) (c n : ℕ) (core : ℕ → Core) : Type 0 where
   counted : (core c).counted ≡ (s.core c).counted
-  owed : (core c).owed ≤ (s.core c).owed + n
+  charged : (core c).spent + (core c).owed ≤ (s.core c).spent + (s.core c).owed + n
   cached : length (s.core c).cached ≤ 64 → length (core c).cached ≤ 64
   others : (d : ℕ) → d ≢ c → core d ≡ s.core d
 
@@ -186,6 +186,7 @@ edit_fits c s (Switch g q) tested lim k h =
 edit_fits c s (Charge n) tested lim k h = tcap_puts s (s.core c).tcap _ (λ l. l) h
 edit_fits c s (Move a b m) tested lim k h =
     tcap_puts (with_budget s a ((tcap_at s a).budget - m)) b _ (λ l. l) (tcap_puts s a _ (λ l. l) h)
+edit_fits c s (Give f m) tested lim k h = tcap_puts s f _ (λ l. l) h
 edit_fits c s (Merge f qs) tested lim k h = tcap_puts s f _ (λ l. subst ListInRange (sym k.is) list) h
   where
     first : ListInRange (tcap_at s k.other).qualities
@@ -227,27 +228,33 @@ caching_short cached t h = tested (nat_lt (length cached) 64) refl
 
 -- The cores.
 same : (s : State) (c : ℕ) → CoresBy s c 0 s.core
-same s c = record { counted = refl; owed = omega arith; cached = λ h. h; others = λ d other. refl }
+same s c = record { counted = refl; charged = omega arith; cached = λ h. h; others = λ d other. refl }
 
-own : (s : State) (c n : ℕ) (k : Core) → k.counted ≡ (s.core c).counted → k.owed ≤ (s.core c).owed + n
+own : (s : State) (c n : ℕ) (k : Core) → k.counted ≡ (s.core c).counted
+    → k.spent + k.owed ≤ (s.core c).spent + (s.core c).owed + n
     → (length (s.core c).cached ≤ 64 → length k.cached ≤ 64) → CoresBy s c n (put s.core c k)
-own s c n k counted owed cached = record {
+own s c n k counted charged cached = record {
   counted = ap (λ (x : Core). x.counted) (put_same s.core c k c refl) ∙ counted;
-  owed = subst (λ (x : Core). x.owed ≤ (s.core c).owed + n) (sym (put_same s.core c k c refl)) owed;
+  charged = subst (λ (x : Core). x.spent + x.owed ≤ (s.core c).spent + (s.core c).owed + n) (sym (put_same s.core c k c refl)) charged;
   cached = λ h. subst (λ (x : Core). length x.cached ≤ 64) (sym (put_same s.core c k c refl)) (cached h);
   others = λ d other. put_other s.core c k d other;
 }
 
-edit_cores : (c : ℕ) (s : State) (e : Edit) → CoresBy s c (charged_in e) (edited c s e).core
+edit_cores : (c : ℕ) (s : State) (e : Edit) → CoresBy s c (charged_in e).0 (edited c s e).core
 edit_cores c s (Switch g q) = own s c 0 (record (s.core c) { thread = g; tcap = q }) refl (omega arith) (λ h. h)
 edit_cores c s (Cache t) = own s c 0 _ refl (omega arith) (caching_short (s.core c).cached t)
 edit_cores c s Flush = own s c 0 (record (s.core c) { cached = [] }) refl (omega arith) (λ h. omega arith)
 edit_cores c s (Charge n) =
     let m : ℕ = charge s c (n + (s.core c).owed) in
-    own s c n (record (s.core c) { spent = (s.core c).spent + m; owed = (n + (s.core c).owed) - m }) refl (omega arith) (λ h. h)
+    own s c n (record (s.core c) { spent = (s.core c).spent + m; owed = (n + (s.core c).owed) - m }) refl
+    (let small : m ≤ n + (s.core c).owed = least (n + (s.core c).owed) (tcap_at s (s.core c).tcap).budget in omega (arith, small)) (λ h. h)
+  where
+    least : (a b : ℕ) → min a b ≤ a
+    least a b = omega arith
+edit_cores c s (Give f m) = own s c 0 (record (s.core c) { back = (s.core c).back + m }) refl (omega arith) (λ h. h)
 edit_cores c s _ = same s c
 
-edits_cores : (c : ℕ) (s : State) (es : List Edit) → CoresBy s c (charged_all es) (after_edits c s es).core
+edits_cores : (c : ℕ) (s : State) (es : List Edit) → CoresBy s c (charged_all es).0 (after_edits c s es).core
 edits_cores c s [] = same s c
 edits_cores c s (e ∷ []) = edit_cores c s e
 edits_cores c s (e ∷ (x ∷ es)) =
@@ -255,7 +262,7 @@ edits_cores c s (e ∷ (x ∷ es)) =
     let b = edits_cores c (edited c s e) (x ∷ es) in
     record {
       counted = b.counted ∙ a.counted;
-      owed = (let p = a.owed in let q = b.owed in omega (arith, p, q));
+      charged = (let p = a.charged in let q = b.charged in omega (arith, p, q));
       cached = λ h. b.cached (a.cached h);
       others = λ d other. b.others d other ∙ a.others d other;
     }
@@ -268,7 +275,7 @@ shaped_by s o c turn h call lim change e = subst (ShapedBy s c) (sym e.is) (reco
   numbers = f.numbers;
   own = record {
     counted = k.counted;
-    owed = (let a = k.owed in let b = e.agrees.3 in let d = small call lim in omega (arith, a, b, d));
+    charged = (let a = k.charged in let b = ap (λ (p : ℕ × ℕ). p.0) e.agrees.3 in let d = small call lim in omega (arith, a, b, d));
     cached = k.cached (h.cores c).cached;
   };
   others = k.others;
@@ -277,9 +284,9 @@ shaped_by s o c turn h call lim change e = subst (ShapedBy s c) (sym e.is) (reco
     f : Fits s.limits.epochs (after_edits c s e.list).frame (after_edits c s e.list).number
     f = edits_fit c s e.list e.tested (e.limited lim) (e.known o turn) (record { frames = h.frames; numbers = h.numbers })
 
-    k : CoresBy s c (charged_all e.list) (after_edits c s e.list).core
+    k : CoresBy s c (charged_all e.list).0 (after_edits c s e.list).core
     k = edits_cores c s e.list
 
-    small : (call : Call) → InLimits call → charged_by call ≤ 1000000
+    small : (call : Call) → InLimits call → (charged_by call).0 ≤ 1000000
     small (Tick n) lim = lim
     small _ lim = omega arith

@@ -15,7 +15,7 @@ use Rattle.kernel_rules.specs.Life.{asks_life}
 use Rattle.kernel_rules.specs.CallRelation.{rule_of, change_of, changed, counted, owed_by, state_by, MayBeDead, MayReply}
 use Rattle.kernel_rules.specs.Runs.{Enters, Decides, Returns, after}
 use Rattle.kernel_rules.proofs.Within.{put_same, put_other}
-use Rattle.kernel_invariant.specs.Edits.{Edit, Switch, Cache, Flush, Charge, edited, after_edits, charged_by, charged_in, charged_all}
+use Rattle.kernel_invariant.specs.Edits.{Edit, Switch, Cache, Flush, Charge, Give, edited, after_edits, charged_by, charged_in, charged_all}
 use Rattle.kernel_invariant.proofs.Sound.{put_all}
 use Rattle.kernel_invariant.proofs.Edited.{after_ok}
 use Rattle.kernel_laws.specs.Laws.{ticks_of, ticks_counted, ticks_by, decided_ticks, SpendingSums}
@@ -38,7 +38,7 @@ own s c n k sum = record {
   others = λ d other. ap due (put_other s.core c k d other);
 }
 
-edit_due : (c : ℕ) (s : State) (e : Edit) → Counts s c (charged_in e) (edited c s e).core
+edit_due : (c : ℕ) (s : State) (e : Edit) → Counts s c (charged_in e).0 (edited c s e).core
 edit_due c s (Switch h q) = own s c 0 (record (s.core c) { thread = h; tcap = q }) (omega arith)
 edit_due c s (Cache t) = own s c 0 (record (s.core c) { cached = caching (s.core c).cached t }) (omega arith)
 edit_due c s Flush = own s c 0 (record (s.core c) { cached = [] }) (omega arith)
@@ -49,9 +49,10 @@ edit_due c s (Charge n) =
   where
     least : (a b : ℕ) → min a b ≤ a
     least a b = omega arith
+edit_due c s (Give f m) = own s c 0 (record (s.core c) { back = (s.core c).back + m }) (omega arith)
 edit_due c s _ = same s c
 
-edits_due : (c : ℕ) (s : State) (es : List Edit) → Counts s c (charged_all es) (after_edits c s es).core
+edits_due : (c : ℕ) (s : State) (es : List Edit) → Counts s c (charged_all es).0 (after_edits c s es).core
 edits_due c s [] = same s c
 edits_due c s (e ∷ []) = edit_due c s e
 edits_due c s (e ∷ (x ∷ es)) =
@@ -62,7 +63,7 @@ edits_due c s (e ∷ (x ∷ es)) =
       others = λ d other. b.others d other ∙ a.others d other;
     }
 
-charged_ticks : (call : Call) → charged_by call ≡ ticks_of call
+charged_ticks : (call : Call) → (charged_by call).0 ≡ ticks_of call
 charged_ticks (Tick n) = refl
 charged_ticks _ = refl
 
@@ -70,7 +71,8 @@ charged_ticks _ = refl
 changed_due : (s : State) (c : ℕ) (call : Call) (v : Value) → MayReply s c call (reply.Ok v)
     → Counts s c (ticks_of call) (changed s (change_of s c call)).core
 changed_due s c call v may = after_ok s c call v (λ t. Counts s c (ticks_of call) t.core) may (λ change e.
-    subst (λ n. Counts s c n (after_edits c s e.list).core) (sym e.agrees.3 ∙ charged_ticks call) (edits_due c s e.list))
+    subst (λ n. Counts s c n (after_edits c s e.list).core) (ap (λ (p : ℕ × ℕ). p.0) (sym e.agrees.3) ∙ charged_ticks call)
+    (edits_due c s e.list))
 
 -- A core is counted.
 counted_due : (s t : State) (c n : ℕ) (k : Core) → due k ≡ due (t.core c) → Counts s c n t.core → Counts s c n (put t.core c k)

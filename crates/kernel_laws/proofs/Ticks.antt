@@ -1,9 +1,9 @@
--- Every edit keeps the sum of budgets and spent ticks.
+-- Every edit keeps the sum of budgets and of the ticks that are spent and were not given back.
 use Rattle.std.proofs.Common.{◌≡◌, ◌≢◌, ℕ, ◌+◌, ◌-◌, ◌<◌, ◌≤◌, min, true, refl, sym, ◌∙◌, ap, subst, arith, IsTrue}
 use Rattle.std.proofs.Common.{List, [], ◌∷◌, Some, None}
 use Rattle.std.proofs.lemmas.Bool.{false≢true, eqb-true}
 use Rattle.spk_nums.specs.declared.kinds.Kind.TheVariants as kind
-use Rattle.kernel_rules.specs.State.{TcapFields, ThreadFields, Blank, Comp, Thread, Tcap, Frame, Untyped, Kernel}
+use Rattle.kernel_rules.specs.State.{TcapFields, ThreadFields, Blank, Comp, Thread, Tcap, Frame, Untyped, Kernel, outstanding}
 use Rattle.kernel_rules.specs.State.{Core, State, put, with_frame, with_core, tcap_in}
 use Rattle.kernel_rules.specs.Fitting.{fits}
 use Rattle.kernel_rules.specs.Laws.{ticks}
@@ -14,8 +14,9 @@ use Rattle.kernel_rules.proofs.Within.{put_same, put_other}
 use Rattle.kernel_invariant.proofs.Sums.{sum_same, sum_one}
 use Rattle.kernel_invariant.proofs.Sound.{put_all}
 use Rattle.kernel_invariant.specs.Edits.{Edit, Node, Become, Untype, Component, Push, Pop, Switch, Cache, Flush}
-use Rattle.kernel_invariant.specs.Edits.{Charge, Move, Merge, edited, after_edits}
+use Rattle.kernel_invariant.specs.Edits.{Charge, Move, Merge, Give, edited, after_edits}
 use Rattle.kernel_invariant.proofs.Edited.{is_bare, Known, Each, HasTcap, Moves}
+use Rattle.kernel_laws.proofs.Back.{edit_back}
 
 abbrev budget : Frame → ℕ
 budget x = (tcap_in x).budget
@@ -33,18 +34,20 @@ same_budget : (s : State) (f : ℕ) (y : Frame) → f < s.limits.frames → budg
 same_budget s f y below e = let a = frame_ticks s f y below in omega (arith, a, e)
 
 -- What a change of a core makes of the sum.
-pub core_ticks : (s : State) (c : ℕ) (k : Core) → c < s.limits.cores → ticks (with_core s c k) + (s.core c).spent ≡ ticks s + k.spent
+pub core_ticks : (s : State) (c : ℕ) (k : Core) → c < s.limits.cores
+    → ticks (with_core s c k) + outstanding (s.core c) ≡ ticks s + outstanding k
 core_ticks s c k below =
-    let a = sum_one (λ d. (s.core d).spent) (λ d. (put s.core c k d).spent) s.limits.cores
-    c below (λ d other. ap (λ x. x.spent) (put_other s.core c k d other)) in
-    let b : (put s.core c k c).spent ≡ k.spent = ap (λ x. x.spent) (put_same s.core c k c refl) in
+    let a = sum_one (λ d. outstanding (s.core d)) (λ d. outstanding (put s.core c k d)) s.limits.cores
+    c below (λ d other. ap outstanding (put_other s.core c k d other)) in
+    let b : outstanding (put s.core c k c) ≡ outstanding k = ap outstanding (put_same s.core c k c refl) in
     omega (arith, a, b)
 
--- A core that has spent as much.
-pub same_spent : (s : State) (c : ℕ) (k : Core) → k.spent ≡ (s.core c).spent → ticks (with_core s c k) ≡ ticks s
+-- A core that has as much left to have back.
+pub same_spent : (s : State) (c : ℕ) (k : Core) → outstanding k ≡ outstanding (s.core c) → ticks (with_core s c k) ≡ ticks s
 same_spent s c k e =
-    let a = sum_same (λ d. (s.core d).spent) (λ d. (put s.core c k d).spent) s.limits.cores (λ d below.
-    put_all (λ d x. x.spent ≡ (s.core d).spent) s.core c k d (λ same. e ∙ ap (λ n. (s.core n).spent) (sym same)) (λ other. refl)) in
+    let a = sum_same (λ d. outstanding (s.core d)) (λ d. outstanding (put s.core c k d)) s.limits.cores (λ d below.
+    put_all (λ d x. outstanding x ≡ outstanding (s.core d)) s.core c k d
+    (λ same. e ∙ ap (λ n. outstanding (s.core n)) (sym same)) (λ other. refl)) in
     omega (arith, a)
 
 bare_budget : (x : Frame) → IsTrue (is_bare x) → budget x ≡ 0
@@ -84,21 +87,25 @@ moved_ticks s a b m h =
     let enough = h.enough in
     omega (arith, p, q, r, t, enough)
 
-edit_ticks : (c : ℕ) (s : State) (e : Edit) → Known c s e → ticks (edited c s e) ≡ ticks s
-edit_ticks c s (Node f object) k = same_budget s f (Kernel object) k.2.below (k.2.poor ∙ sym (bare_budget (s.frame f) k.2.bare))
-edit_ticks c s (Become f x) k = same_budget s f x k.1.below (k.1.poor ∙ sym (bare_budget (s.frame f) k.1.bare))
-edit_ticks c s (Component f comp) k = same_budget s f (Kernel (Comp comp)) k.below (sym (bare_budget (s.frame f) k.bare))
-edit_ticks c s (Untype f) k = same_budget s f Untyped k.below (sym (empty_budget s f (s.frame f) k.empty))
-edit_ticks c s (Push f) k = same_budget s (s.core c).thread _ k.below (thread_budget (s.frame (s.core c).thread) _)
-edit_ticks c s Pop k = same_budget s (s.core c).thread _ k.below (thread_budget (s.frame (s.core c).thread) _)
-edit_ticks c s (Switch h q) k =
+-- A core has had back no more than it has spent.
+abbrev Within : State → ℕ → Type 0
+Within s c = (s.core c).back ≤ (s.core c).spent
+
+edit_ticks : (c : ℕ) (s : State) (e : Edit) → Known c s e → Within s c → ticks (edited c s e) ≡ ticks s
+edit_ticks c s (Node f object) k within = same_budget s f (Kernel object) k.2.below (k.2.poor ∙ sym (bare_budget (s.frame f) k.2.bare))
+edit_ticks c s (Become f x) k within = same_budget s f x k.1.below (k.1.poor ∙ sym (bare_budget (s.frame f) k.1.bare))
+edit_ticks c s (Component f comp) k within = same_budget s f (Kernel (Comp comp)) k.below (sym (bare_budget (s.frame f) k.bare))
+edit_ticks c s (Untype f) k within = same_budget s f Untyped k.below (sym (empty_budget s f (s.frame f) k.empty))
+edit_ticks c s (Push f) k within = same_budget s (s.core c).thread _ k.below (thread_budget (s.frame (s.core c).thread) _)
+edit_ticks c s Pop k within = same_budget s (s.core c).thread _ k.below (thread_budget (s.frame (s.core c).thread) _)
+edit_ticks c s (Switch h q) k within =
     let idle : State = running s (s.core c).thread None in
     same_spent (running idle h (Some c)) c (record (s.core c) { thread = h; tcap = q }) refl
     ∙ same_budget idle h _ k.new.below (thread_budget (idle.frame h) _)
     ∙ same_budget s (s.core c).thread _ k.old.below (thread_budget (s.frame (s.core c).thread) _)
-edit_ticks c s (Cache t) k = same_spent s c _ refl
-edit_ticks c s Flush k = same_spent s c _ refl
-edit_ticks c s (Charge n) k =
+edit_ticks c s (Cache t) k within = same_spent s c _ refl
+edit_ticks c s Flush k within = same_spent s c _ refl
+edit_ticks c s (Charge n) k within =
     let q : ℕ = (s.core c).tcap in
     let due : ℕ = n + (s.core c).owed in
     let budget : ℕ = (tcap_at s q).budget in
@@ -106,14 +113,22 @@ edit_ticks c s (Charge n) k =
     let a = budget_ticks s q (budget - m) k.1 in
     let b = core_ticks (with_budget s q (budget - m)) c (record (s.core c) { spent = (s.core c).spent + m; owed = due - m }) k.0 in
     let small : m ≤ budget = least due budget in
-    omega (arith, a, b, small)
+    let spent : (s.core c).back ≤ (s.core c).spent = within in
+    omega (arith, a, b, small, spent)
   where
     least : (a b : ℕ) → min a b ≤ b
     least a b = omega arith
-edit_ticks c s (Move a b m) k = moved_ticks s a b m k
-edit_ticks c s (Merge f qs) k = same_budget s f _ k.to.below (put_budget (s.frame f) (record (tcap_at s f) { qualities = qs }) k.to.fit)
-edit_ticks c s _ k = refl
+edit_ticks c s (Move a b m) k within = moved_ticks s a b m k
+edit_ticks c s (Merge f qs) k within =
+    same_budget s f _ k.to.below (put_budget (s.frame f) (record (tcap_at s f) { qualities = qs }) k.to.fit)
+edit_ticks c s (Give f m) k within =
+    let a = budget_ticks s f ((tcap_at s f).budget + m) k.to in
+    let b = core_ticks (with_budget s f ((tcap_at s f).budget + m)) c (record (s.core c) { back = (s.core c).back + m }) k.core in
+    let enough : m ≤ outstanding (s.core c) = k.enough in
+    omega (arith, a, b, enough)
+edit_ticks c s _ k within = refl
 
-pub edits_ticks : (c : ℕ) (s : State) (es : List Edit) → Each Known c s es → ticks (after_edits c s es) ≡ ticks s
-edits_ticks c s [] k = refl
-edits_ticks c s (e ∷ es) k = edits_ticks c (edited c s e) es k.1 ∙ edit_ticks c s e k.0
+pub edits_ticks : (c : ℕ) (s : State) (es : List Edit) → Each Known c s es → Within s c → ticks (after_edits c s es) ≡ ticks s
+edits_ticks c s [] k within = refl
+edits_ticks c s (e ∷ es) k within =
+    edits_ticks c (edited c s e) es k.1 ((edit_back c s e k.0).within within) ∙ edit_ticks c s e k.0 within

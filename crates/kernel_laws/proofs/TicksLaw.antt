@@ -1,4 +1,4 @@
--- In every state that a run reaches, budgets and spent ticks sum to the grants.
+-- In every state that a run reaches, budgets and the ticks that are spent and were not given back sum to the grants.
 use Rattle.std.proofs.Common.{◌≡◌, ℕ, zero, suc, ◌+◌, ◌-◌, ◌*◌, ◌<◌, ◌≤◌, Bool, refl, sym, ◌∙◌, ap}
 use Rattle.std.proofs.Common.{arith, ◌==◌, nat_lt, List, [], ◌∷◌, length, slice_get, fold, sum_by}
 use Rattle.std.proofs.lemmas.Bool.{false≢true, lt-ltb}
@@ -8,18 +8,19 @@ use Rattle.spk_nums.specs.declared.calls.Call.{Call}
 use Rattle.spk_nums.specs.declared.calls.Call.TheVariants.{Tick}
 use Rattle.spk_nums.specs.declared.replies.Reply.{Reply}
 use Rattle.spk_nums.specs.declared.replies.Reply.TheVariants as reply
-use Rattle.kernel_rules.specs.State.{Frame, State, tcap_in}
+use Rattle.kernel_rules.specs.State.{Frame, Limits, State, outstanding, tcap_in}
 use Rattle.kernel_rules.specs.Start.{start, start_frame, granted}
 use Rattle.kernel_rules.specs.References.{sum_below}
 use Rattle.kernel_rules.specs.CallRelation.{change_of, changed, owed_by, state_by, MayReply}
 use Rattle.kernel_rules.specs.Runs.{Enters, Decides, Returns, after, is_open}
 use Rattle.kernel_rules.specs.Laws.{ticks}
-use Rattle.kernel_laws.specs.Laws.{grants_sum, TicksKept}
+use Rattle.kernel_laws.specs.Laws.{grants_sum, TicksKept, NoneGivenBack}
 use Rattle.kernel_invariant.proofs.Sums.{sum_same}
 use Rattle.kernel_invariant.proofs.Edited.{after_ok}
 use Rattle.kernel_invariant.proofs.SoundCalls.{IsOpen}
 use Rattle.kernel_invariant.proofs.SoundStart.{choose, if_not, not_below, past_three}
-use Rattle.kernel_invariant.proofs.SoundRuns.{opened, open_is}
+use Rattle.kernel_invariant.proofs.SoundRuns.{opened, open_is, limits_stay}
+use Rattle.kernel_laws.proofs.Back.{back_sums, within_spent}
 use Rattle.kernel_laws.proofs.Ticks.{same_spent, edits_ticks}
 
 -- A sum over two stretches.
@@ -116,7 +117,7 @@ start_ticks setting lim =
     let f = sum_none (λ i. budget_of setting (((4 + n) + n) + i)) rest (λ i h. high_none setting (((4 + n) + n) + i) (omega arith)) in
     let g = grant_sum setting.grants in
     let k = ap (sum_below (λ i. (granted (slice_get setting.grants i)).budget)) lim.granted in
-    let m = sum_none (λ c. ((start setting).core c).spent) n (λ c h. refl) in
+    let m = sum_none (λ c. outstanding ((start setting).core c)) n (λ c h. refl) in
     omega (arith, a, b, c, d, e, f, g, k, m)
 
 owed_ticks : (s : State) (c : ℕ) (call : Call) → ticks (owed_by s c call) ≡ ticks s
@@ -124,13 +125,13 @@ owed_ticks s c (Tick n) = same_spent s c _ refl
 owed_ticks s c _ = refl
 
 decided_ticks : (s : State) (o : ℕ → Bool) (c : ℕ) (call : Call) (r : Reply)
-    → IsOpen s o c → MayReply s c call r → ticks (state_by s c call r) ≡ ticks s
-decided_ticks s o c call (reply.Ok v) h may = same_spent (changed s (change_of s c call)) c _ refl
-    ∙ after_ok s c call v (λ t. ticks t ≡ ticks s) may (λ change e. edits_ticks c s e.list (e.known o h))
-decided_ticks s o c call reply.CallsSpent h may = refl
-decided_ticks s o c call reply.Raced h may = same_spent (owed_by s c call) c _ refl ∙ owed_ticks s c call
-decided_ticks s o c call (reply.Busy e) h may = same_spent (owed_by s c call) c _ refl ∙ owed_ticks s c call
-decided_ticks s o c call _ h may = same_spent s c _ refl
+    → IsOpen s o c → (s.core c).back ≤ (s.core c).spent → MayReply s c call r → ticks (state_by s c call r) ≡ ticks s
+decided_ticks s o c call (reply.Ok v) h within may = same_spent (changed s (change_of s c call)) c _ refl
+    ∙ after_ok s c call v (λ t. ticks t ≡ ticks s) may (λ change e. edits_ticks c s e.list (e.known o h) within)
+decided_ticks s o c call reply.CallsSpent h within may = refl
+decided_ticks s o c call reply.Raced h within may = same_spent (owed_by s c call) c _ refl ∙ owed_ticks s c call
+decided_ticks s o c call (reply.Busy e) h within may = same_spent (owed_by s c call) c _ refl ∙ owed_ticks s c call
+decided_ticks s o c call _ h within may = same_spent s c _ refl
 
 pub ticks_kept : TicksKept
 ticks_kept setting lim [] run = start_ticks setting lim
@@ -138,5 +139,17 @@ ticks_kept setting lim (Enters c call ∷ events) run = same_spent (after settin
 ticks_kept setting lim (Returns c ∷ events) run = same_spent (after setting events) c _ refl ∙ ticks_kept setting lim events run.0
 ticks_kept setting lim (Decides c call r ∷ events) run =
     decided_ticks (after setting events) (opened events) c call r
-    (open_is setting lim events c run.0 (ap is_open run.1.is_open)) run.1.permitted
+    (open_is setting lim events c run.0 (ap is_open run.1.is_open)) (within_spent setting lim events run.0 c) run.1.permitted
     ∙ ticks_kept setting lim events run.0
+
+-- Where none are given back, all that is spent is outstanding.
+pub none_given_back : NoneGivenBack
+none_given_back setting lim events run none =
+    let s : State = after setting events in
+    let cores : s.limits.cores ≡ setting.cores = ap (λ (l : Limits). l.cores) (limits_stay setting events) in
+    let a = sum_same (λ c. (s.core c).spent) (λ c. outstanding (s.core c)) s.limits.cores (λ c below.
+    let back = (back_sums setting lim events run c).is in
+    let zero = none c (omega (arith, below, cores)) in
+    omega (arith, back, zero)) in
+    let b = ticks_kept setting lim events run in
+    omega (arith, a, b)

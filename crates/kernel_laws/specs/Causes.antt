@@ -3,7 +3,7 @@ use Rattle.std.specs.Prelude.{◌≡◌, ◌≢◌, ◌⊎◌, ℕ, ◌+◌, ◌
 use Rattle.std.specs.Prelude.{length, Option, Some, None, is_some, IsTrue, IsFalse, IsSomeAnd}
 use Rattle.spk_nums.specs.Capability.{Capability}
 use Rattle.spk_nums.specs.Rights.{has_rights}
-use Rattle.spk_nums.specs.Merging.{merged}
+use Rattle.spk_nums.specs.Merging.{covers, merged}
 use Rattle.spk_nums.specs.declared.kinds.Kind.{Kind}
 use Rattle.spk_nums.specs.declared.kinds.Kind.TheVariants as kind
 use Rattle.spk_nums.specs.declared.kinds.FrameKind.TheVariants as frame_kind
@@ -12,11 +12,11 @@ use Rattle.spk_nums.specs.declared.calls.Make.TheVariants as make
 use Rattle.spk_nums.specs.declared.calls.Call.{Call}
 use Rattle.spk_nums.specs.declared.calls.Call.TheVariants.{Look, Copy, Remove, Grow, Shrink, Retype, Make as make_call, Map, Unmap}
 use Rattle.spk_nums.specs.declared.calls.Call.TheVariants.{Touch, Flush, Gate, Kill, Call as call_gate, Ret, Switch, Tick, Transfer}
-use Rattle.spk_nums.specs.declared.calls.Call.TheVariants.{Delegate, Test, Part}
+use Rattle.spk_nums.specs.declared.calls.Call.TheVariants.{Delegate, Test, Part, Replenish}
 use Rattle.spk_nums.specs.declared.replies.Reply.{Reply}
 use Rattle.spk_nums.specs.declared.replies.Reply.TheVariants as reply
 use Rattle.kernel_rules.specs.State.{TcapFields, Blank, Untyped, User, Kernel, Live, Thing, PlaceOf, FrameOf}
-use Rattle.kernel_rules.specs.State.{NumberOf, State, comp_in, thread_in, tcap_in, thread_of, comp_of}
+use Rattle.kernel_rules.specs.State.{NumberOf, State, comp_in, thread_in, tcap_in, thread_of, comp_of, outstanding}
 use Rattle.kernel_rules.specs.References.{refs}
 use Rattle.kernel_rules.specs.Access.{Slot, Named, found, not_found, root_at, Want, to_look, to_copy, to_part, to_use}
 use Rattle.kernel_rules.specs.Access.{Target, Under, InRoot, place_at, held_in}
@@ -81,6 +81,7 @@ names_of s c (Transfer a b m) = name a (only kind.Tcap) ∷ name b (only kind.Tc
 names_of s c (Delegate a b m) = name a (only kind.Tcap) ∷ name b (only kind.Tcap) ∷ []
 names_of s c (Test a b) = name a (only kind.Tcap) ∷ name b (only kind.Tcap) ∷ []
 names_of s c (Part r f n t b) = record { number = r; want = to_part (only kind.Range) } ∷ name t (only kind.Table) ∷ []
+names_of s c (Replenish a m) = name a (only kind.Tcap) ∷ []
 names_of s c _ = []
 
 -- The place that a call fills, in the table or pages that it names.
@@ -262,7 +263,8 @@ AreSame s c (Delegate a b m) = BothAre (tcap_named s c a) (tcap_named s c b) (λ
 AreSame s c (Test a b) = BothAre (tcap_named s c a) (tcap_named s c b) (λ f g. f ≡ g)
 AreSame s c _ = ⊥
 
--- `short n`: the first is found; its budget is n, and less than the amount.
+-- `short n`: the first is found; its budget is n, and less than the amount. Or n is what core c has left to have back, and less than the
+-- amount.
 pub record HasLess (s : State) (a : Named) (m n : ℕ) : Type 0 where
   pub found : IsTrue a.found
   pub is : n ≡ (tcap_of s a.frame).budget
@@ -271,12 +273,19 @@ pub record HasLess (s : State) (a : Named) (m n : ℕ) : Type 0 where
 abbrev pub IsShort : State → ℕ → Call → ℕ → Type 0
 IsShort s c (Transfer a b m) n = HasLess s (tcap_named s c a) m n
 IsShort s c (Delegate a b m) n = HasLess s (tcap_named s c a) m n
+IsShort s c (Replenish a m) n = (n ≡ outstanding (s.core c)) × (n < m)
 IsShort s c _ n = ⊥
 
--- `unlike`: the two lists of a transfer differ. `too-many`: the merged list of a delegation has more than 8 schedulers.
+-- `unlike`: the two lists of a transfer differ, or the list that would have ticks back does not name the scheduler of the core's grant
+-- with a number that is no smaller. `too-many`: the merged list of a delegation has more than 8 schedulers.
+pub record IsFiner (s : State) (c : ℕ) (a : Named) : Type 0 where
+  pub found : IsTrue a.found
+  pub finer : IsFalse (covers (tcap_of s a.frame).qualities (s.core c).grant)
+
 abbrev pub AreUnlike : State → ℕ → Call → Type 0
 AreUnlike s c (Transfer a b m) =
     BothAre (tcap_named s c a) (tcap_named s c b) (λ f g. (tcap_of s f).qualities ≢ (tcap_of s g).qualities)
+AreUnlike s c (Replenish a m) = IsFiner s c (tcap_named s c a)
 AreUnlike s c _ = ⊥
 
 abbrev pub AreTooMany : State → ℕ → Call → Type 0

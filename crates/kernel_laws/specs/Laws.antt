@@ -1,23 +1,23 @@
 -- Laws of the sequential kernel, each the contract of a function of this crate.
-use Rattle.std.specs.Prelude.{ℕ, ◌≡◌, ◌≤◌, ◌+◌, ◌==◌, if◌then◌else◌, List, [], ◌∷◌, sum_by, IsFalse}
+use Rattle.std.specs.Prelude.{ℕ, ◌≡◌, ◌<◌, ◌≤◌, ◌+◌, ◌==◌, if◌then◌else◌, List, [], ◌∷◌, sum_by, IsFalse}
 use Rattle.spk_nums.specs.Setting.{Setting, IsSetting}
 use Rattle.spk_nums.specs.declared.calls.Call.{Call}
-use Rattle.spk_nums.specs.declared.calls.Call.TheVariants.{Tick}
+use Rattle.spk_nums.specs.declared.calls.Call.TheVariants.{Tick, Replenish}
 use Rattle.spk_nums.specs.declared.replies.Reply.{Reply}
 use Rattle.spk_nums.specs.declared.replies.Reply.TheVariants as reply
-use Rattle.kernel_rules.specs.State.{State}
+use Rattle.kernel_rules.specs.State.{State, tcap_in}
 use Rattle.kernel_rules.specs.CallRelation.{are_calls_spent, MayReply}
 use Rattle.kernel_laws.specs.Causes.{HasCause, HasNoRight}
 use Rattle.kernel_rules.specs.Runs.{Event, Enters, Decides, Returns, after, IsRun}
 use Rattle.kernel_rules.specs.Laws.{ticks}
 use Rattle.kernel_rules.specs.Ranges.{InRanges}
-use Rattle.kernel_rules.specs.References.{refs}
+use Rattle.kernel_rules.specs.References.{refs, sum_below}
 
 -- The sum of the grants.
 abbrev pub grants_sum : Setting → ℕ
 grants_sum setting = sum_by (λ g. g.budget) setting.grants
 
--- In every state that a run reaches, the budgets and the spent ticks sum to the grants.
+-- In every state that a run reaches, the budgets and the ticks that are spent and were not given back sum to the grants.
 abbrev pub TicksKept : Type 0
 TicksKept = (setting : Setting) → IsSetting setting → (events : List Event) → IsRun setting events
     → ticks (after setting events) ≡ grants_sum setting
@@ -63,3 +63,39 @@ decided_ticks (e ∷ events) c = ticks_by e c + decided_ticks events c
 abbrev pub SpendingSums : Type 0
 SpendingSums = (setting : Setting) (events : List Event) → IsRun setting events → (c : ℕ)
     → ((after setting events).core c).spent + ((after setting events).core c).owed ≡ decided_ticks events c
+
+-- The ticks that a call gives back where it is carried out, and those that an event gives back to core c.
+abbrev pub given_of : Call → ℕ
+given_of (Replenish a m) = m
+given_of _ = 0
+
+abbrev pub given_by : Call → Reply → ℕ
+given_by call (reply.Ok v) = given_of call
+given_by call _ = 0
+
+abbrev pub back_by : Event → ℕ → ℕ
+back_by (Enters d call) c = 0
+back_by (Decides d call r) c = if c == d then given_by call r else 0
+back_by (Returns d) c = 0
+
+-- The sum of what core c has had back.
+abbrev pub decided_back : List Event → ℕ → ℕ
+decided_back [] c = 0
+decided_back (e ∷ events) c = back_by e c + decided_back events c
+
+-- In every state that a run reaches, what a core has had back is the sum of its `replenish` calls that were carried out, and no more than
+-- it has spent.
+pub record IsHadBack (setting : Setting) (events : List Event) (c : ℕ) : Type 0 where
+  pub is : ((after setting events).core c).back ≡ decided_back events c
+  pub within : ((after setting events).core c).back ≤ ((after setting events).core c).spent
+
+abbrev pub BackSums : Type 0
+BackSums = (setting : Setting) → IsSetting setting → (events : List Event) → IsRun setting events → (c : ℕ) → IsHadBack setting events c
+
+-- In every run in which no ticks are given back, the budgets and all spent ticks sum to the grants.
+abbrev pub NoneGivenBack : Type 0
+NoneGivenBack = (setting : Setting) → IsSetting setting → (events : List Event) → IsRun setting events
+    → ((c : ℕ) → c < setting.cores → decided_back events c ≡ 0)
+    → sum_below (λ f. (tcap_in ((after setting events).frame f)).budget) (after setting events).limits.frames
+    + sum_below (λ c. ((after setting events).core c).spent) (after setting events).limits.cores
+    ≡ grants_sum setting

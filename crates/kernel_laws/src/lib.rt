@@ -5,18 +5,19 @@
 #![tactic(auto)]
 
 ghost use Rattle.kernel_laws.specs.Laws.{TicksKept, RangesHold, ReferencesFew, CausesStand, LackIsRefused, SpendingSums};
+ghost use Rattle.kernel_laws.specs.Laws.{BackSums, NoneGivenBack};
 ghost use Rattle.kernel_laws.specs.Nodes.{NodesHoldWhatFits};
 
-/// In every state that a run reaches, the budgets of all temporal capabilities and the ticks that all cores have spent sum to
-/// the grants.
+/// In every state that a run reaches, the budgets of all temporal capabilities and the ticks that all cores have spent and have not had
+/// back sum to the grants.
 #[tactic(auto, using(crate::proofs::TicksLaw::ticks_kept))]
 pub fn ticks_kept()
     ensures { TicksKept }
 {}
 
 /// In every state that a run reaches, the numbers are in range: a thread is in 1 to 16 components; a temporal capability has 1
-/// to 8 pairs in order; epochs are within their limit; the budgets of two frames, and a budget and what a core has spent, sum
-/// to less than 2^32; a core owes at most 1,000,000 ticks for each call that it has counted.
+/// to 8 pairs in order; epochs are within their limit; the budgets of two frames, and a budget and what a core has spent and has not had
+/// back, sum to less than 2^32; a core has spent and owes at most 1,000,000 ticks for each call that it has counted.
 #[tactic(auto, using(crate::proofs::RangesLaw::ranges_hold))]
 pub fn ranges_hold()
     ensures { RangesHold }
@@ -56,4 +57,18 @@ pub fn nodes_hold_what_fits()
 #[tactic(auto, using(crate::proofs::Spending::spending_sums))]
 pub fn spending_sums()
     ensures { SpendingSums }
+{}
+
+/// In every state that a run reaches, what a core has had back is the sum of its `replenish` calls that were carried out, and no more than
+/// it has spent.
+#[tactic(auto, using(crate::proofs::Back::back_sums))]
+pub fn back_sums()
+    ensures { BackSums }
+{}
+
+/// In every run in which no ticks are given back, the budgets of all temporal capabilities and the ticks that all cores have spent sum to
+/// the grants.
+#[tactic(auto, using(crate::proofs::TicksLaw::none_given_back))]
+pub fn none_given_back()
+    ensures { NoneGivenBack }
 {}

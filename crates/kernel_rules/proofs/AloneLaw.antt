@@ -12,7 +12,7 @@ use Rattle.spk_nums.specs.declared.translations.Translation.{Translation}
 use Rattle.spk_nums.specs.declared.calls.Call.{Call}
 use Rattle.spk_nums.specs.declared.calls.Call.TheVariants.{Look, Copy, Remove, Grow, Shrink, Retype, Make as make_call}
 use Rattle.spk_nums.specs.declared.calls.Call.TheVariants.{Map, Unmap, Touch, Flush, Gate, Kill, Call as call_gate}
-use Rattle.spk_nums.specs.declared.calls.Call.TheVariants.{Ret, Switch, Tick, Transfer, Delegate, Test, Part}
+use Rattle.spk_nums.specs.declared.calls.Call.TheVariants.{Ret, Switch, Tick, Transfer, Delegate, Test, Part, Replenish}
 use Rattle.spk_nums.specs.declared.replies.Value.{Value}
 use Rattle.spk_nums.specs.declared.replies.Reply.{Reply}
 use Rattle.spk_nums.specs.declared.replies.Reply.TheVariants as reply
@@ -99,6 +99,7 @@ rule_waits s c (Tick n) = record { inside = λ d. core_inside s c d _ refl; wait
 rule_waits s c (Transfer a b m) = λ a b. record { inside = λ d. refl; waits = λ x d h. h; limits = refl }
 rule_waits s c (Delegate a b m) = λ a b. record { inside = λ d. refl; waits = λ x d h. h; limits = refl }
 rule_waits s c (Test a b) = λ a b. record { inside = λ d. refl; waits = λ x d h. h; limits = refl }
+rule_waits s c (Replenish a m) = λ a. record { inside = λ d. core_inside s c d _ refl; waits = λ x d h. h; limits = refl }
 rule_waits s c (Part r f n t b) = λ range table at. record { inside = λ d. refl; waits = λ x d h. h; limits = refl }
 
 -- The cores that wait are in a call.
@@ -214,6 +215,7 @@ rule_plain s c (Tick n) = tt
 rule_plain s c (Transfer a b m) = λ a b. (tt, (tt, (tt, tt)))
 rule_plain s c (Delegate a b m) = λ a b. (tt, (tt, (tt, tt)))
 rule_plain s c (Test a b) = λ a b. (tt, tt)
+rule_plain s c (Replenish a m) = λ a. (tt, (tt, tt))
 rule_plain s c (Part r f n t b) = λ range table. (refl, λ at. (tt, tt))
 
 -- A plain refusal of a call's rule is a reply that the relation permits.

@@ -174,6 +174,33 @@ two_cores =
       epochs = 65535;
     })
 
+-- A core gives back what it has spent, and no more; core 1 gives back nothing of it.
+spends : List Call
+spends = call.Tick 10 ∷ call.Replenish 12 11 ∷ call.Replenish 12 4 ∷ call.Replenish 13 7 ∷ call.Replenish 13 6 ∷ []
+
+given : plain_replies two_cores 0 spends ≡ reply.Ok (Amount 10) ∷ reply.Short 10 ∷ done ∷ reply.Short 6 ∷ done ∷ []
+unfolding spends
+given = refl
+
+none_of_others : plain_reply (plain_steps two_cores 0 spends) 1 (call.Replenish 12 1) ≡ reply.Short 0
+unfolding spends
+none_of_others = refl
+
+-- Two cores with time of two schedulers: neither puts its own into the other's capability, before it has delegated there.
+abbrev two_kinds : State
+two_kinds =
+    start (record {
+      cores = 2;
+      frames = 32;
+      grants = record { budget = 100; sched = 0; quality = 5 } ∷ record { budget = 100; sched = 1; quality = 5 } ∷ [];
+      calls = 4194304;
+      epochs = 65535;
+    })
+
+no_better : plain_replies two_kinds 0 (call.Replenish 13 0 ∷ call.Delegate 12 13 0 ∷ call.Replenish 13 0 ∷ [])
+    ≡ reply.Unlike ∷ done ∷ done ∷ []
+no_better = refl
+
 -- The state after core 1 has entered a call, and core 0 one that kills the component of both.
 abbrev kill_decided : State
 kill_decided = state_by (entered (entered two_cores 1) 0) 0 (call.Kill 3) done

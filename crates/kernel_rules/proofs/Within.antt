@@ -11,7 +11,7 @@ use Rattle.spk_nums.specs.declared.translations.Translation.{Translation}
 use Rattle.spk_nums.specs.declared.calls.Call.{Call}
 use Rattle.spk_nums.specs.declared.calls.Call.TheVariants.{Look, Copy, Remove, Grow, Shrink, Retype, Make as make_call}
 use Rattle.spk_nums.specs.declared.calls.Call.TheVariants.{Map, Unmap, Touch, Flush, Gate, Kill, Call as call_gate}
-use Rattle.spk_nums.specs.declared.calls.Call.TheVariants.{Ret, Switch, Tick, Transfer, Delegate, Test, Part}
+use Rattle.spk_nums.specs.declared.calls.Call.TheVariants.{Ret, Switch, Tick, Transfer, Delegate, Test, Part, Replenish}
 use Rattle.spk_nums.specs.declared.replies.Reply.{Reply}
 use Rattle.spk_nums.specs.declared.replies.Reply.TheVariants as reply
 use Rattle.kernel_rules.specs.State.{Grace, Thing, FrameOf, State, put, comp_of, thread_in}
@@ -129,6 +129,7 @@ rule_keeps s c (Tick n) = λ x d h. h
 rule_keeps s c (Transfer a b m) = λ a b x d h. h
 rule_keeps s c (Delegate a b m) = λ a b x d h. h
 rule_keeps s c (Test a b) = λ a b x d h. h
+rule_keeps s c (Replenish a m) = λ a x d h. h
 rule_keeps s c (Part r f n t b) = λ range table at x d h. h
 
 changed_within : (s : State) (found : Judged Change) → IfFound found (Keeps s)

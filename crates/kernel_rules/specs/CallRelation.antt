@@ -4,7 +4,7 @@ use Rattle.std.specs.List.{list_any}
 use Rattle.spk_nums.specs.declared.calls.Call.{Call}
 use Rattle.spk_nums.specs.declared.calls.Call.TheVariants.{Look, Copy, Remove, Grow, Shrink, Retype, Make as make_call}
 use Rattle.spk_nums.specs.declared.calls.Call.TheVariants.{Map, Unmap, Touch, Flush, Gate, Kill, Call as call_gate}
-use Rattle.spk_nums.specs.declared.calls.Call.TheVariants.{Ret, Switch, Tick, Transfer, Delegate, Test, Part}
+use Rattle.spk_nums.specs.declared.calls.Call.TheVariants.{Ret, Switch, Tick, Transfer, Delegate, Test, Part, Replenish}
 use Rattle.spk_nums.specs.declared.calls.Make.TheVariants as make
 use Rattle.spk_nums.specs.declared.kinds.FrameKind.TheVariants as frame_kind
 use Rattle.spk_nums.specs.declared.replies.Reply.{Reply}
@@ -16,7 +16,7 @@ use Rattle.kernel_rules.specs.Rules.{Change, Rule, Judged, Refused, Found, outco
 use Rattle.kernel_rules.specs.CapabilityCalls.{look_rule, copy_rule, part_rule, remove_rule, grow_rule, shrink_rule, make_rule, is_place_of}
 use Rattle.kernel_rules.specs.MemoryCalls.{retype_rule, map_rule, unmap_rule, touch_rule, flush_rule}
 use Rattle.kernel_rules.specs.InvocationCalls.{gate_rule, kill_rule, call_rule, ret_rule, switch_rule}
-use Rattle.kernel_rules.specs.TimeCalls.{owing, tick_rule, transfer_rule, delegate_rule, test_rule}
+use Rattle.kernel_rules.specs.TimeCalls.{owing, tick_rule, transfer_rule, delegate_rule, test_rule, replenish_rule}
 
 -- The rule of a call of core c.
 abbrev pub rule_of : State → ℕ → Call → Rule
@@ -41,6 +41,7 @@ rule_of s c (Transfer a b m) = transfer_rule s a b m
 rule_of s c (Delegate a b m) = delegate_rule s a b m
 rule_of s c (Test a b) = test_rule s a b
 rule_of s c (Part r f n t b) = part_rule s r f n t b
+rule_of s c (Replenish a m) = replenish_rule s c a m
 
 -- Whether core c has made as many calls as its limit.
 abbrev pub are_calls_spent : State → ℕ → Bool

@@ -7,7 +7,7 @@ use Rattle.spk_nums.specs.declared.calls.Call.TheVariants.{Tick}
 use Rattle.spk_nums.specs.declared.replies.Value.{Value}
 use Rattle.spk_nums.specs.declared.replies.Reply.{Reply}
 use Rattle.spk_nums.specs.declared.replies.Reply.TheVariants as reply
-use Rattle.kernel_rules.specs.State.{Holds, Grace, Thing, PlaceOf, FrameOf, NumberOf, State, put, tcap_in}
+use Rattle.kernel_rules.specs.State.{Holds, Grace, Thing, PlaceOf, FrameOf, NumberOf, State, put, tcap_in, outstanding}
 use Rattle.kernel_rules.specs.References.{sum_below, times, refs}
 use Rattle.kernel_rules.specs.Rules.{IsFoundAnd}
 use Rattle.kernel_rules.specs.CallRelation.{MayReply, change_of, state_by}
@@ -69,9 +69,9 @@ pub record AgreesFirst (s : State) (c : ℕ) (call : Call) : Type 0 where
 abbrev pub FirstPermitted : Type 0
 FirstPermitted = (setting : Setting) (events : List Event) (c : ℕ) (call : Call) → AgreesFirst (after setting events) c call
 
--- The ticks of the machine: the budgets of all temporal capabilities, and what all cores have spent.
+-- The ticks of the machine: the budgets of all temporal capabilities, and what all cores have spent and have not had back.
 abbrev pub ticks : State → ℕ
-ticks s = sum_below (λ f. (tcap_in (s.frame f)).budget) s.limits.frames + sum_below (λ c. (s.core c).spent) s.limits.cores
+ticks s = sum_below (λ f. (tcap_in (s.frame f)).budget) s.limits.frames + sum_below (λ c. outstanding (s.core c)) s.limits.cores
 
 -- The frames among these things.
 abbrev pub released : List Thing → List ℕ

@@ -2,7 +2,7 @@
 use Rattle.std.specs.Prelude.{◌≢◌, ℕ, ◌+◌, ◌*◌, ◌<◌, ◌≤◌, ◌^◌, length}
 use Rattle.spk_nums.specs.Qualities.{IsQualityList}
 use Rattle.kernel_rules.specs.State.{CompFields, ThreadFields, TcapFields, Comp, Thread, Tcap, Frame}
-use Rattle.kernel_rules.specs.State.{Kernel, Liveness, Unused, Live, Dead, Core, State, tcap_in}
+use Rattle.kernel_rules.specs.State.{Kernel, Liveness, Unused, Live, Dead, Core, State, tcap_in, outstanding}
 
 -- An epoch is from 1 to the limit.
 pub record EpochInRange (epochs e : ℕ) : Type 0 where
@@ -39,12 +39,12 @@ NumberInRange epochs Unused = Unit {0}
 NumberInRange epochs (Live e f) = EpochInRange epochs e
 NumberInRange epochs (Dead e) = EpochInRange epochs e
 
--- A core has counted no more calls than its limit, owes at most 1,000,000 ticks for each of them, has spent fewer than 2^32, and
--- has cached at most 64 translations.
+-- A core has counted no more calls than its limit, has spent and owes at most 1,000,000 ticks for each of them, has had back no more than
+-- it has spent, and has cached at most 64 translations.
 pub record CoreInRange (calls : ℕ) (k : Core) : Type 0 where
   pub counted : k.counted ≤ calls
-  pub owed : k.owed ≤ 1000000 * k.counted
-  pub spent : k.spent < 2 ^ 32
+  pub charged : k.spent + k.owed ≤ 1000000 * k.counted
+  pub back : k.back ≤ k.spent
   pub cached : length k.cached ≤ 64
 
 -- The budget of the temporal capability in a frame; 0 where it has none.
@@ -52,10 +52,10 @@ abbrev pub budget_at : State → ℕ → ℕ
 budget_at s f = (tcap_in (s.frame f)).budget
 
 -- The numbers of a state are in range. The budgets of two frames also sum to less than 2^32, and so do a frame's budget and what
--- a core has spent.
+-- a core has spent and has not had back.
 pub record InRanges (s : State) : Type 0 where
   pub frames : (f : ℕ) → FrameInRange s.limits.epochs (s.frame f)
   pub numbers : (l : ℕ) → NumberInRange s.limits.epochs (s.number l)
   pub cores : (c : ℕ) → c < s.limits.cores → CoreInRange s.limits.calls (s.core c)
   pub budgets : (f g : ℕ) → f ≢ g → budget_at s f + budget_at s g < 2 ^ 32
-  pub spending : (f c : ℕ) → c < s.limits.cores → budget_at s f + (s.core c).spent < 2 ^ 32
+  pub spending : (f c : ℕ) → c < s.limits.cores → budget_at s f + outstanding (s.core c) < 2 ^ 32

@@ -54,6 +54,11 @@ abbrev pub granted : Option Grant → TcapFields
 granted None = record { budget = 0; qualities = [] }
 granted (Some g) = record { budget = g.budget; qualities = (g.sched, g.quality) ∷ [] }
 
+-- The scheduler and the number of a grant.
+abbrev pub grant_pair : Option Grant → ℕ × ℕ
+grant_pair None = (0, 0)
+grant_pair (Some g) = (g.sched, g.quality)
+
 -- The frames of the start: 0 to 3 have the table, its leaf, the pages and the component, then come each core's thread and
 -- each core's temporal capability; the rest are untyped.
 abbrev pub start_frame : Setting → ℕ → Frame
@@ -70,7 +75,7 @@ start_frame setting f =
 abbrev pub start_number : ℕ → Liveness
 start_number l = if l == 0 then Live 1 3 else Unused
 
--- A core at the start: out of a call, on its own thread and temporal capability, without translation, spent or owed ticks.
+-- A core at the start: out of a call, on its own thread and temporal capability, without translation, spent or owed ticks, with its grant.
 abbrev pub start_core : Setting → ℕ → Core
 start_core setting c = record {
   inside = false;
@@ -78,8 +83,10 @@ start_core setting c = record {
   tcap = 4 + setting.cores + c;
   cached = [];
   spent = 0;
+  back = 0;
   owed = 0;
   counted = 0;
+  grant = grant_pair (slice_get setting.grants c);
 }
 
 -- No grace period: all four sets are empty.

@@ -1,5 +1,5 @@
 -- The state of the sequential kernel. Its parts are functions of numbers, so no bounds stand here.
-use Rattle.std.specs.Prelude.{ℕ, Bool, List, [], ◌∷◌, Option, None, ◌==◌, if◌then◌else◌}
+use Rattle.std.specs.Prelude.{ℕ, ◌-◌, Bool, List, [], ◌∷◌, Option, None, ◌==◌, if◌then◌else◌}
 use Rattle.spk_nums.specs.Capability.{Capability}
 use Rattle.spk_nums.specs.declared.translations.Translation.{Translation}
 
@@ -50,15 +50,22 @@ pub data Liveness : Type 0 where
   Dead : ℕ → Liveness
 
 -- A core: whether it is in a call, the frames of its current thread and temporal capability, its cached translations, the
--- ticks that it has spent and those that it owes, and how many of its calls were counted.
+-- ticks that it has spent, those of them that it has had back, and those that it owes, how many of its calls were counted, and the
+-- scheduler and the number with which time was granted to it at boot.
 pub record Core : Type 0 where
   pub inside : Bool
   pub thread : ℕ
   pub tcap : ℕ
   pub cached : List Translation
   pub spent : ℕ
+  pub back : ℕ
   pub owed : ℕ
   pub counted : ℕ
+  pub grant : ℕ × ℕ
+
+-- The ticks that a core has spent and has not had back.
+abbrev pub outstanding : Core → ℕ
+outstanding k = k.spent - k.back
 
 -- The grace period of what was removed: `waits` are the cores still in the call in which the removal met them; of a core in
 -- `not_passed` no call entered after the removal has returned; a core in `unflushed` has decided no flush since the removal;

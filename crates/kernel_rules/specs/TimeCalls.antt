@@ -1,11 +1,11 @@
--- The calls of time: charging ticks, moving budgets, and testing preemption.
+-- The calls of time: charging ticks, moving budgets, testing preemption, and giving back what was spent.
 use Rattle.std.specs.Prelude.{ℕ, ◌+◌, ◌-◌, Bool, true, false, not, ◌&&◌, ◌==◌, nat_lt, min, if◌then◌else◌, List, [], ◌∷◌, length}
-use Rattle.spk_nums.specs.Merging.{merged, preempts_by}
+use Rattle.spk_nums.specs.Merging.{merged, covers, preempts_by}
 use Rattle.spk_nums.specs.declared.kinds.Kind.TheVariants as kind
 use Rattle.spk_nums.specs.declared.replies.Value.{Value}
 use Rattle.spk_nums.specs.declared.replies.Value.TheVariants.{Amount, Preempts, Stays}
 use Rattle.spk_nums.specs.declared.replies.Reply.TheVariants as reply
-use Rattle.kernel_rules.specs.State.{TcapFields, Frame, Kernel, Tcap, State, with_frame, with_core, tcap_in}
+use Rattle.kernel_rules.specs.State.{TcapFields, Frame, Kernel, Tcap, State, with_frame, with_core, tcap_in, outstanding}
 use Rattle.kernel_rules.specs.Access.{Named, only, to_use}
 use Rattle.kernel_rules.specs.Rules.{Change, Cause, When, Rule, Name, Does, answers, leaves}
 
@@ -109,3 +109,24 @@ test_rule s a b =
     Name a (to_use (only kind.Tcap)) λ a.
     Name b (to_use (only kind.Tcap)) λ b.
     Does (are_same a b ∷ []) (answers s (preemption (preempts (tcap_at s a.frame) (tcap_at s b.frame))))
+
+-- `unlike`: the list of the temporal capability does not name the scheduler of the core's grant with a number that is no smaller, so
+-- merging the grant into it would change it: time would get better by being given back.
+abbrev pub is_finer : State → ℕ → Named → Cause
+is_finer s c a = When (a.found && not (covers (tcap_at s a.frame).qualities (s.core c).grant)) reply.Unlike
+
+-- `short`: the core has fewer ticks left to have back than the amount; the reply tells how many.
+abbrev pub is_less : State → ℕ → ℕ → Cause
+is_less s c m = When (nat_lt (outstanding (s.core c)) m) (reply.Short (min (outstanding (s.core c)) m))
+
+-- The state in which core c has had m ticks back, which are in the budget of a temporal capability.
+abbrev pub given_back : State → ℕ → ℕ → ℕ → State
+given_back s c f m =
+    with_core (with_budget s f ((tcap_at s f).budget + m)) c (record (s.core c) { back = (s.core c).back + m })
+
+-- `replenish A M` names a temporal capability A whose list is no better than the core's grant, and puts into its budget M of the ticks
+-- that the core has spent and has not had back.
+abbrev pub replenish_rule : State → ℕ → ℕ → ℕ → Rule
+replenish_rule s c a m =
+    Name a (to_use (only kind.Tcap)) λ a.
+    Does (is_finer s c a ∷ is_less s c m ∷ []) (leaves (given_back s c a.frame m))

@@ -42,6 +42,10 @@ map_slot place = if nat_le place 4 then name else number_then place 5 0 3
 abbrev pub moved_slot : ℕ → Slot
 moved_slot place = if nat_le place 2 then name else number_then place 3 0 4000000000
 
+-- `replenish A M`
+abbrev pub given_slot : ℕ → Slot
+given_slot place = if nat_le place 1 then name else number_then place 2 0 4000000000
+
 -- after `make tcap R F T B`: `S W`
 abbrev pub tcap_slot : ℕ → Slot
 tcap_slot place = if place == 6 then Number 0 63 else number_then place 7 1 16777215
@@ -88,6 +92,7 @@ verb_slot version verb.Map words place = map_slot place
 verb_slot version verb.Tick words place = number_then place 1 0 1000000
 verb_slot version verb.Transfer words place = moved_slot place
 verb_slot version verb.Delegate words place = moved_slot place
+verb_slot version verb.Replenish words place = given_slot place
 
 abbrev pub slot_by : ℕ → Option Verb → List (List ℕ) → ℕ → Slot
 slot_by version None words place = End

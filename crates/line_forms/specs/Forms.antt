@@ -46,6 +46,7 @@ verb_form version verb.Transfer words = codes "transfer A B M"
 verb_form version verb.Delegate words = codes "delegate A B M"
 verb_form version verb.Test words = codes "test A B"
 verb_form version verb.Part words = codes "part R F N T B"
+verb_form version verb.Replenish words = codes "replenish A M"
 
 -- a line of a script
 abbrev pub head_form : ℕ → FirstWord → List (List ℕ) → List ℕ

@@ -56,13 +56,13 @@ more_words r stage.List = end_word r
 more_words r stage.Order = end_word r
 more_words r _ = codes ""
 
--- after the words of calls, that of `part` from version 3 on
-abbrev pub part_word : ℕ → List ℕ
-part_word version = if nat_le 3 version then codes " part" else codes ""
+-- after the words of calls, those that there are from version 3 on
+abbrev pub third_words : ℕ → List ℕ
+third_words version = if nat_le 3 version then codes " part replenish" else codes ""
 
--- it stands after the words with which a line of a list may begin
+-- they stand after the words with which a line of a list may begin
 abbrev pub late_words : ℕ → Stage → List ℕ
-late_words version stage.List = part_word version
+late_words version stage.List = third_words version
 late_words version _ = codes ""
 
 -- what may stand at a place of a text of this version
@@ -73,7 +73,7 @@ due_text version r s (slot.MayNumber least most) = codes "nothing more, or a num
 due_text version r s (slot.Core cores) = codes "a core, a number below " ++ decimal cores
 due_text version r s slot.FrameKind = codes "untyped user kernel"
 due_text version r s slot.Object = codes "table leaf pages pleaf thread tcap comp"
-due_text version r s slot.Verb = codes "look copy remove grow shrink retype make map unmap touch flush gate kill call ret switch tick transfer delegate test" ++ part_word version
+due_text version r s slot.Verb = codes "look copy remove grow shrink retype make map unmap touch flush gate kill call ret switch tick transfer delegate test" ++ third_words version
 due_text version r s (slot.Item cores) = codes "a number below " ++ decimal cores ++ codes ", alone or with < ! or . right after it"
 due_text version r s slot.ReplyName = codes "ok no-slot empty wrong-cap occupied quiescing unflushed frame-kind out-of-range referenced not-empty dead deep bottom running short unlike too-many same epochs-spent raced busy fault calls-spent no-right"
 due_text version r s slot.Value = codes "nothing more, a number, range table leaf pages pleaf comp gate thread tcap link page preempts stays"

@@ -74,6 +74,17 @@ fn moved_slot(place: usize) -> Slot
     }
 }
 
+// `replenish A M`.
+fn given_slot(place: usize) -> Slot
+    ensures { result ≡ given_slot place }
+{
+    if place <= 1 {
+        name()
+    } else {
+        number_then(place, 2, 0, 4_000_000_000)
+    }
+}
+
 // After `make tcap R F T B`: `S W`.
 fn tcap_slot(place: usize) -> Slot
     ensures { result ≡ tcap_slot place }
@@ -140,6 +151,7 @@ fn verb_slot(version: u8, verb: Verb, words: &[Token], place: usize) -> Slot
         Verb::Map => map_slot(place),
         Verb::Tick => number_then(place, 1, 0, 1_000_000),
         Verb::Transfer | Verb::Delegate => moved_slot(place),
+        Verb::Replenish => given_slot(place),
     }
 }
 

@@ -63,6 +63,7 @@ fn verb_form(version: u8, verb: Verb, words: &[Token]) -> &'static str
         Verb::Delegate => "delegate A B M",
         Verb::Test => "test A B",
         Verb::Part => "part R F N T B",
+        Verb::Replenish => "replenish A M",
     }
 }
 

@@ -1,7 +1,8 @@
 //! What may stand at a place, as it is told.
 
 ghost use Rattle.std.specs.Prelude.{◌≡◌, Some};
-ghost use Rattle.line_forms.specs.Texts.{script_words, history_words, sched_words, end_word, more_words, begin_words, part_word, late_words, due_text};
+ghost use Rattle.line_forms.specs.Texts.{script_words, history_words, sched_words, end_word, more_words, begin_words, third_words};
+ghost use Rattle.line_forms.specs.Texts.{late_words, due_text};
 
 use crate::context::{Context, Reading, Stage};
 use crate::slots::Slot;
@@ -88,19 +89,19 @@ fn more_words(reading: Reading, stage: Stage) -> &'static str
     }
 }
 
-// After the words of calls, that of `part` from version 3 on.
-fn part_word(version: u8) -> &'static str
-    ensures { result.now ≡ part_word version }
+// After the words of calls, those that there are from version 3 on.
+fn third_words(version: u8) -> &'static str
+    ensures { result.now ≡ third_words version }
 {
-    if 3 <= version { " part" } else { "" }
+    if 3 <= version { " part replenish" } else { "" }
 }
 
-// It stands after the words with which a line of a list may begin.
+// They stand after the words with which a line of a list may begin.
 fn late_words(version: u8, stage: Stage) -> &'static str
     ensures { result.now ≡ late_words version stage }
 {
     match stage {
-        Stage::List => part_word(version),
+        Stage::List => third_words(version),
         _ => "",
     }
 }
@@ -133,10 +134,10 @@ impl fmt::Display for Due {
             Slot::FrameKind => write!(f, "untyped user kernel"),
             Slot::Object => write!(f, "table leaf pages pleaf thread tcap comp"),
             Slot::Verb => {
-                let part = part_word(self.version);
+                let third = third_words(self.version);
                 write!(
                     f,
-                    "look copy remove grow shrink retype make map unmap touch flush gate kill call ret switch tick transfer delegate test{part}"
+                    "look copy remove grow shrink retype make map unmap touch flush gate kill call ret switch tick transfer delegate test{third}"
                 )
             }
             Slot::Item { cores } => write!(

@@ -144,5 +144,6 @@ pub fn push_call(text: &mut String, call: &Call) -> Result<(), AllocError>
             push_spaced(text, of(t))?;
             push_spaced(text, of(b))
         }
+        Call::Replenish { a, m } => push_pair(text, "replenish", of(a), m),
     }
 }

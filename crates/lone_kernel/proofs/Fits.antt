@@ -13,7 +13,7 @@ use Rattle.boot_words.specs.kernel_history.specs.Trace.{decision_at}
 use Rattle.call_steps.specs.call_stages.specs.View.{Core}
 use Rattle.call_steps.specs.call_stages.specs.Fits.{IsCore, steps_left}
 use Rattle.call_steps.specs.act_states.specs.declared.own.Own.{Own}
-use Rattle.call_steps.specs.act_states.specs.declared.own.OwnChange.TheVariants.{Ticks, Empties, Works, Caches, Switches}
+use Rattle.call_steps.specs.act_states.specs.declared.own.OwnChange.TheVariants.{Ticks, GivesBack, Empties, Works, Caches, Switches}
 use Rattle.call_steps.specs.call_stages.specs.Cores.{core_after, told_by, absorbed, told_of_step, absorbed_in, told_in}
 use Rattle.flight_laws.specs.core_invariant.specs.Events.{decided_in}
 use Rattle.call_steps.specs.call_stages.specs.declared.stages.Absorbed.{Absorbed}
@@ -106,6 +106,7 @@ same_took own (TookOn g) = record { core = refl; layout = refl }
 same_took own (Decides r g) = record { core = refl; layout = refl }
 same_took own (Returns r x) = record { core = refl; layout = refl }
 same_took own (Changes r (Ticks charged owed) g) = record { core = refl; layout = refl }
+same_took own (Changes r (GivesBack ticks) g) = record { core = refl; layout = refl }
 same_took own (Changes r Empties g) = record { core = refl; layout = refl }
 same_took own (Changes r (Works comp table pages depth) g) = record { core = refl; layout = refl }
 same_took own (Changes r (Caches item) g) = record { core = refl; layout = refl }

@@ -46,6 +46,7 @@ bound_small (call.Tick t) n h = omega arith
 bound_small (call.Transfer a b m) n h = omega arith
 bound_small (call.Delegate a b m) n h = omega arith
 bound_small (call.Test a b) n h = omega arith
+bound_small (call.Replenish a m) n h = omega arith
 bound_small (call.Part r f k t b) n h = omega arith
 
 left_small : (core : Core) (o : Option ActiveCall) → core.own.layout.cores ≤ 8 → CallFits core.own o

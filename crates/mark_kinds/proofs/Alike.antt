@@ -94,6 +94,7 @@ all_alike s c (call.Transfer a b m) stays = λ j k. moved_alike s j.frame k.fram
 all_alike s c (call.Delegate a b m) stays = λ j k f i v.
     list_alike (moved s j.frame k.frame m) k.frame (merged_list s j.frame k.frame) f i v ∙ moved_alike s j.frame k.frame m f i v
 all_alike s c (call.Test a b) stays = λ j k f i v. refl
+all_alike s c (call.Replenish a m) stays = λ j. budget_alike s j.frame _
 all_alike s c (call.Part r f n t b) stays = λ k table at g i v. refl
 
 -- What is owed changes no frame.

@@ -11,9 +11,10 @@ use Rattle.line_reader.specs.Arguments.{is_word, word_at}
 use Rattle.call_reader.specs.declared.first_words.Verb.{Verb}
 use Rattle.call_reader.specs.declared.first_words.Verb.TheVariants as verb
 use Rattle.call_reader.specs.CallLines.{call_line, look_line, copy_line, rights_at, fourth_at, both_at, remove_line, grow_line, shrink_line}
-use Rattle.call_reader.specs.CallLines.{retype_line, map_line, unmap_line, touch_line, flush_line, gate_line, kill_line, enter_line, ret_line}
+use Rattle.call_reader.specs.CallLines.{retype_line, map_line, unmap_line, touch_line, flush_line, gate_line, kill_line, enter_line}
+use Rattle.call_reader.specs.CallLines.{ret_line}
 use Rattle.call_reader.specs.CallLines.{switch_line, tick_line, transfer_line, delegate_line, test_line, object_of}
-use Rattle.call_reader.specs.CallLines.{make_line, object_at, made_at, plain_at, thread_at, tcap_at, comp_at, part_line}
+use Rattle.call_reader.specs.CallLines.{make_line, object_at, made_at, plain_at, thread_at, tcap_at, comp_at, part_line, replenish_line}
 use Rattle.line_forms.specs.declared.context.Context.{Context}
 use Rattle.line_forms.specs.declared.slots.Slot.{Slot}
 use Rattle.line_forms.specs.declared.slots.Slot.TheVariants.{MayNumber, Object as Object_slot, End}
@@ -141,6 +142,12 @@ module _ (context : Context) (word : List ℕ) (rest : List (List ℕ)) where
   unfolding test_line
   test at =
       judge_number here ws 1 0 65535 _ (at 1 refl) (λ a l1. judge_number here ws 2 0 65535 _ (at 2 refl)
+      (λ b l2. judge_end here ws 3 _ l2 (at 3 refl)))
+
+  replenish : At verb.Replenish → Judged here ws 1 (replenish_line ws)
+  unfolding replenish_line
+  replenish at =
+      judge_number here ws 1 0 65535 _ (at 1 refl) (λ a l1. judge_number here ws 2 0 4000000000 _ (at 2 refl)
       (λ b l2. judge_end here ws 3 _ l2 (at 3 refl)))
 
   part : At verb.Part → Judged here ws 1 (part_line ws)
@@ -274,6 +281,7 @@ module _ (context : Context) (word : List ℕ) (rest : List (List ℕ)) where
   judged verb.Delegate at = delegate at
   judged verb.Test at = test at
   judged verb.Part at = part at
+  judged verb.Replenish at = replenish at
 
   -- its first word fits
   first_fine : (v : Verb) → IsCallLine context word rest v → fits here ws 0 ≡ true

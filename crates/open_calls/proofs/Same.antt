@@ -1,15 +1,15 @@
 -- What is found of an open call is the same in two states that are one for the machine, one of them reached.
-use Rattle.std.proofs.Common.{◌≡◌, ℕ, ◌<◌, ◌++◌, nat_le, nat_lt, if◌then◌else◌, refl, sym, ◌∙◌, ap, List, Option, Some, None}
+use Rattle.std.proofs.Common.{◌≡◌, ℕ, ◌<◌, ◌++◌, nat_le, nat_lt, min, if◌then◌else◌, refl, sym, ◌∙◌, ap, List, Option, Some, None}
 use Rattle.std.specs.Prelude.{string_bytes}
 use Rattle.spk_nums.specs.Setting.{Setting, IsSetting}
 use Rattle.spk_nums.specs.Capability.{Capability}
 use Rattle.spk_nums.specs.declared.kinds.Kind.TheVariants as kind
 use Rattle.spk_nums.specs.declared.kinds.FrameKind.TheVariants as frame_kind
 use Rattle.spk_nums.specs.declared.calls.Call.{Call}
-use Rattle.spk_nums.specs.declared.calls.Call.TheVariants.{Retype, Transfer, Delegate}
+use Rattle.spk_nums.specs.declared.calls.Call.TheVariants.{Retype, Transfer, Delegate, Replenish}
 use Rattle.spk_nums.specs.declared.replies.Reply.{Reply}
 use Rattle.spk_nums.specs.declared.replies.Reply.TheVariants as reply
-use Rattle.kernel_rules.specs.State.{State, tcap_in}
+use Rattle.kernel_rules.specs.State.{Core, State, tcap_in, outstanding}
 use Rattle.kernel_rules.specs.Access.{any, only, to_look, to_use}
 use Rattle.kernel_rules.specs.Rules.{Change, Judged, Refused, Found, named}
 use Rattle.kernel_rules.specs.Life.{acts}
@@ -22,7 +22,7 @@ use Rattle.seq_state.specs.Representation.{Represents}
 use Rattle.seq_state.proofs.Same.{same_refs}
 use Rattle.seq_lookups.specs.Ranges.{IsInRange}
 use Rattle.plain_kernel.specs.same_changes.specs.Same.{SameOutcome}
-use Rattle.plain_kernel.specs.same_changes.proofs.Reaching.{Twins, core_below, named_same}
+use Rattle.plain_kernel.specs.same_changes.proofs.Reaching.{Twins, core_below, core_same, named_same}
 use Rattle.plain_kernel.specs.same_changes.proofs.TimeRules.{named_frame}
 use Rattle.plain_kernel.specs.same_changes.proofs.EveryCall.{changes_same, same_acts, stays_in_range, twins}
 use Rattle.call_plans.specs.declared.plans.Nth.TheVariants.{First, Second, Third, Fourth}
@@ -31,7 +31,7 @@ use Rattle.call_plans.specs.Plans.{at_place}
 use Rattle.call_plans.specs.PlanOf.{plan_for}
 use Rattle.open_calls.specs.declared.outlooks.Outlook.{Outlook}
 use Rattle.open_calls.specs.Leads.{lead_line, some_name, names_text}
-use Rattle.open_calls.specs.Told.{short_of, short, told}
+use Rattle.open_calls.specs.Told.{left, short_of, short, told}
 use Rattle.open_calls.specs.Outlooks.{IsOutlook}
 
 module _ {t s : State} {o : ℕ → _} {c : ℕ} (w : Twins t s o c) where
@@ -50,11 +50,15 @@ module _ {t s : State} {o : ℕ → _} {c : ℕ} (w : Twins t s o c) where
       by_found (Refused r) is = refl
       by_found (Found k) is = ap (λ x. Some (reply.Short (tcap_in x).budget)) (named_frame w a kind.Tcap k refl is)
 
+  left_same : (m : ℕ) → left t c m ≡ left s c m
+  left_same m = ap (λ (k : Core). if nat_lt (outstanding k) m then Some (reply.Short (min (outstanding k) m)) else None) (core_same w)
+
   pub told_same : (call : Call) → told t c call ≡ told s c call
   told_same (Retype r f frame_kind.Untyped) = λ i. if nat_lt f (w.same.limits i).frames then Some (reply.Referenced (same_refs t s f w.same i))
       else None
   told_same (Transfer a b m) = short_same a
   told_same (Delegate a b m) = short_same a
+  told_same (Replenish a m) = left_same m
   told_same _ = refl
 
 reply_same : (x y : Judged Change) → SameOutcome x y → reply_in x ≡ reply_in y

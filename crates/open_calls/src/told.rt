@@ -2,7 +2,7 @@
 
 ghost use Rattle.std.specs.Prelude.{◌≡◌, ◌<◌};
 ghost use Rattle.seq_state.specs.Maps.{state_of};
-ghost use Rattle.open_calls.specs.Told.{referenced, short, told};
+ghost use Rattle.open_calls.specs.Told.{left, referenced, short, told};
 
 use seq_lookups::{Wanted, named_for, tcap_at};
 use seq_state::SeqKernel;
@@ -30,6 +30,20 @@ fn short(k: &SeqKernel, core: CoreNo, name: CapId) -> Option<Reply>
     }
 }
 
+// How many ticks a core has left to have back, where these are fewer than an amount.
+fn left(k: &SeqKernel, core: CoreNo, amount: u32) -> Option<Reply>
+    requires { core < (state_of k.now).limits.cores }
+    ensures { result ≡ left (state_of k.now) core amount }
+{
+    let now = k.core(core);
+    let left = now.spent.saturating_sub(now.back);
+    if left < u64::from(amount) {
+        Some(Reply::Short(left as u32))
+    } else {
+        None
+    }
+}
+
 /// The reply that tells a number of the state, if a call of a core may be refused with one.
 pub fn told(k: &SeqKernel, core: CoreNo, call: &Call) -> Option<Reply>
     requires { core < (state_of k.now).limits.cores }
@@ -43,6 +57,7 @@ pub fn told(k: &SeqKernel, core: CoreNo, call: &Call) -> Option<Reply>
         } => referenced(k, f),
         Call::Transfer { a, b: _, m: _ } => short(k, core, a),
         Call::Delegate { a, b: _, m: _ } => short(k, core, a),
+        Call::Replenish { a: _, m } => left(k, core, m),
         _ => None,
     }
 }

@@ -1,6 +1,6 @@
 -- Each reply that may decide an open call is one of those that are tried.
 use Rattle.std.proofs.Common.{◌≡◌, ◌<◌, ◌≤◌, ℕ, zero, suc, Bool, true, false, List, [], ◌∷◌, ◌++◌, Option, Some, None, get_or}
-use Rattle.std.proofs.Common.{refl, sym, ◌∙◌, ap, subst, arith, inl, inr, if◌then◌else◌}
+use Rattle.std.proofs.Common.{refl, sym, ◌∙◌, ap, subst, arith, inl, inr, if◌then◌else◌, min}
 use Rattle.std.specs.List.{Contains}
 use Rattle.std.proofs.lemmas.Bool.{false≢true, cases_lt, lt-ltb}
 use Rattle.std.proofs.lemmas.List.Elements.{Contains-append_left, Contains-append_right, Contains-get_or}
@@ -8,12 +8,12 @@ use Rattle.spk_nums.specs.Setting.{Setting, IsSetting}
 use Rattle.spk_nums.specs.declared.kinds.Kind.TheVariants as kind
 use Rattle.spk_nums.specs.declared.kinds.FrameKind.TheVariants as frame_kind
 use Rattle.spk_nums.specs.declared.calls.Call.{Call}
-use Rattle.spk_nums.specs.declared.calls.Call.TheVariants.{Retype, Transfer, Delegate}
+use Rattle.spk_nums.specs.declared.calls.Call.TheVariants.{Retype, Transfer, Delegate, Replenish}
 use Rattle.spk_nums.specs.declared.replies.Value.{Value}
 use Rattle.spk_nums.specs.declared.replies.Reply.{Reply}
 use Rattle.spk_nums.specs.declared.replies.Reply.TheVariants as reply
 use Rattle.spk_nums.specs.Capability.{Capability}
-use Rattle.kernel_rules.specs.State.{State}
+use Rattle.kernel_rules.specs.State.{State, outstanding}
 use Rattle.kernel_rules.specs.Access.{Named, only, to_use}
 use Rattle.kernel_rules.specs.Rules.{Change, Judged, Refused, Found, named, name_of, IsFoundAnd}
 use Rattle.kernel_rules.specs.References.{refs}
@@ -25,7 +25,7 @@ use Rattle.kernel_laws.specs.Causes.{tcap_named, HasLess, IsShort, IsReferenced}
 use Rattle.kernel_laws.proofs.Causes.{leads_is, causes_stand}
 use Rattle.reply_ranges.specs.Ranges.{ReplyFits}
 use Rattle.reply_ranges.proofs.Replies.{replies_in_range}
-use Rattle.open_calls.specs.Told.{referenced, short_of, short, told}
+use Rattle.open_calls.specs.Told.{referenced, left, short_of, short, told}
 use Rattle.marked_history.specs.declared.marks.Mark.{Mark}
 use Rattle.marked_history.specs.Histories.{events_of, phase, state, MayBeHeldUp, MayDecideIn, IsHistory}
 use Rattle.marked_history.proofs.Running.{histories_run}
@@ -43,9 +43,17 @@ short_is : (s : State) (c a m n : ℕ) → HasLess s (tcap_named s c a) m n → 
 short_is s c a m n less = short_led s m n (named s c a (to_use (only kind.Tcap)))
     (subst (λ (x : Named). HasLess s x m n) (sym (leads_is s c (only kind.Tcap) a)) less)
 
+left_is : (s : State) (c m n : ℕ) → n ≡ outstanding (s.core c) → n < m → left s c m ≡ Some (reply.Short n)
+left_is s c m n is less =
+    let few : outstanding (s.core c) < m = omega (arith, is, less) in
+    let same : min (outstanding (s.core c)) m ≡ n = omega (arith, is, less) in
+    ap (λ b. if b then Some (reply.Short (min (outstanding (s.core c)) m)) else None) (lt-ltb (outstanding (s.core c)) m few)
+    ∙ ap (λ (k : ℕ). Some (reply.Short k)) same
+
 short_told : (s : State) (c : ℕ) (call : Call) (n : ℕ) → IsShort s c call n → told s c call ≡ Some (reply.Short n)
 short_told s c (Transfer a b m) n is = short_is s c a m n is
 short_told s c (Delegate a b m) n is = short_is s c a m n is
+short_told s c (Replenish a m) n is = left_is s c m n is.0 is.1
 short_told s c _ n is = absurd is
 
 referenced_is : (s : State) (f n : ℕ) → (s.limits.frames ≤ f → refs s f ≡ 0) → 0 < refs s f → n ≡ refs s f

@@ -256,6 +256,7 @@ module _ (s : State) (c : ℕ) where
   call_placed (call.Transfer a b m) = λ j e k f calm. kept_places (call.Transfer a b m) _ refl refl
   call_placed (call.Delegate a b m) = λ j e k f calm. kept_places (call.Delegate a b m) _ refl refl
   call_placed (call.Test a b) = λ j e k f calm. kept_places (call.Test a b) _ refl refl
+  call_placed (call.Replenish a m) = λ j e calm. kept_places (call.Replenish a m) _ refl refl
   call_placed (call.Part r f n t b) = λ cap e table g at h calm.
       let x = named_at s c r (to_part (only kind.Range)) cap e in
       record {

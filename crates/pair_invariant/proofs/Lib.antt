@@ -14,3 +14,10 @@ pub mod ListsKnown
 pub mod Moved
 -- Where it begins, and all its steps.
 pub mod ShareStarts
+-- Ticks are given back to one.
+pub mod RefillCalls
+pub mod RefillLists
+pub mod RefillLoads
+pub mod RefillEnds
+pub mod RefillWins
+pub mod RefillStarts

@@ -166,6 +166,8 @@ module _ (setup : Setting) (setting : IsSetting setup) (cores : ℕ → Core) (t
         cached = was_in.cached ∙ ap (λ k. k.cached) (sym core_now);
         owed = was_in.owed ∙ ap (λ k. k.owed) (sym core_now);
         spent = was_in.spent ∙ ap (λ k. k.spent) (sym core_now);
+        back = was_in.back ∙ ap (λ k. k.back) (sym core_now);
+        grant = was_in.grant ∙ ap (λ k. k.grant) (sym core_now);
         made = made_now;
       }
     where

@@ -102,7 +102,7 @@ share_of s c (call_as.Test x y) (a ∷ b ∷ []) p is = record {
 share_of s c call ks p is = absurd is
 
 -- A frame to which a name has led is in the call's footprint.
-name_footprint : (s : State) (c : ℕ) (call : Call) (ks : List Capability) → Leads (LeadsIn s c) (plan_for call).names [] ks
+pub name_footprint : (s : State) (c : ℕ) (call : Call) (ks : List Capability) → Leads (LeadsIn s c) (plan_for call).names [] ks
     → (at : Nth) (k : Capability) → at_place ks at ≡ Some k → k.kind ≡ kind.Tcap → (f : ℕ) → f ≡ k.frame
     → is_one_of f (footprint_frames s c call) ≡ true
 name_footprint s c call ks leads at k is kind_is f frame_is =

@@ -29,11 +29,11 @@ same_found wanted j k h =
     (w.is, subst (λ (x : Capability). wanted.kinds x.kind ≡ true) w.is w.kind)
 
 -- A temporal capability that an open call has named is there, and no other core may retype it.
-record IsNamed (s : State) (c : ℕ) (k : Capability) : Type 0 where
-  kind_is : k.kind ≡ kind.Tcap
-  tcap : HasTcap s c k.frame
+pub record IsNamed (s : State) (c : ℕ) (k : Capability) : Type 0 where
+  pub kind_is : k.kind ≡ kind.Tcap
+  pub tcap : HasTcap s c k.frame
 
-tcap_named : (setup : Setting) → IsSetting setup → (t : Trace) → IsLegal setup t → (c : ℕ) (call : Call) → phase t c ≡ Open call
+pub tcap_named : (setup : Setting) → IsSetting setup → (t : Trace) → IsLegal setup t → (c : ℕ) (call : Call) → phase t c ≡ Open call
     → (n : ℕ) (k : Capability) → named (state_after setup t) c n (to_use (only kind.Tcap)) ≡ Found k → IsNamed (state_after setup t) c k
 tcap_named setup setting t legal c call is n k found =
     let s : State = state_after setup t in

@@ -25,7 +25,7 @@ use Rattle.count_invariant.proofs.Common.{PlaceIs, IsFrameWord, WordIs, HasFound
 use Rattle.count_invariant.proofs.Common.{phase_at, holds_at, holds_in, holds, times_of, Invariant, own_kept, slot_relies}
 use Rattle.count_invariant.specs.step_ways.proofs.Good.{spares_node}
 use Rattle.kernel_laws.specs.spk_nums.specs.declared.kinds.Kind.TheVariants as kind
-use Rattle.kernel_laws.specs.spk_nums.specs.declared.calls.Call.TheVariants.{Look, Make as make_call, Part}
+use Rattle.kernel_laws.specs.spk_nums.specs.declared.calls.Call.TheVariants.{Look, Make as make_call, Part, Replenish}
 use Rattle.kernel_laws.specs.spk_nums.specs.declared.calls.Call.TheVariants.{Call as call_gate}
 use Rattle.kernel_laws.specs.spk_nums.specs.declared.replies.Value.TheVariants.{Nothing}
 use Rattle.kernel_laws.specs.spk_nums.specs.declared.replies.Reply.TheVariants as reply
@@ -543,6 +543,7 @@ puts_by s c target q Flush ks lead none next read has_read puts user = absurd (c
 puts_by s c target q (Kill n) ks lead none next read has_read puts user = absurd (cc)
 puts_by s c target q (call_gate n) ks lead none next read has_read puts user = absurd (cc)
 puts_by s c target q Ret ks lead none next read has_read puts user = absurd (cc)
+puts_by s c target q (Replenish x m) ks lead none next read has_read puts user = absurd (cc)
 puts_by s c target q (Transfer x y m) ks lead none next read has_read puts user = absurd (cc)
 puts_by s c target q (Delegate x y m) ks lead none next read has_read puts user = absurd (cc)
 puts_by s c target q (Test x y) ks lead none next read has_read puts user = absurd (cc)

@@ -10,7 +10,7 @@ use Rattle.count_invariant.proofs.Common.{LeadsIn, NextNothing, NextHeld, NextOw
 use Rattle.place_invariant.proofs.CompMakes.{IsCompMake, comp_make}
 use Rattle.kernel_laws.specs.spk_nums.specs.declared.kinds.FrameKind.TheVariants as frame_kind
 use Rattle.kernel_laws.specs.spk_nums.specs.declared.kinds.Kind.TheVariants as kind
-use Rattle.kernel_laws.specs.spk_nums.specs.declared.calls.Call.TheVariants.{Look, Part}
+use Rattle.kernel_laws.specs.spk_nums.specs.declared.calls.Call.TheVariants.{Look, Part, Replenish}
 use Rattle.kernel_laws.specs.spk_nums.specs.declared.calls.Call.TheVariants.{Make as make_call}
 use Rattle.kernel_laws.specs.spk_nums.specs.declared.calls.Call.TheVariants.{Call as call_gate}
 use Rattle.kernel_laws.specs.kernel_rules.specs.Access.{to_use, root}
@@ -137,6 +137,7 @@ module _ (setup : Setting) (setting : IsSetting setup) (t : Trace) (legal : IsLe
   paging_by (Kill n) is ks lead next = absurd (none_free (Kill n) ks next)
   paging_by (call_gate n) is ks lead next = absurd (none_free (call_gate n) ks next)
   paging_by Ret is ks lead next = absurd (none_free Ret ks next)
+  paging_by (Replenish x m) is ks lead next = absurd (none_free (Replenish x m) ks next)
   paging_by (Transfer x y m) is ks lead next = absurd (none_free (Transfer x y m) ks next)
   paging_by (Delegate x y m) is ks lead next = absurd (none_free (Delegate x y m) ks next)
   paging_by (Test x y) is ks lead next = absurd (none_free (Test x y) ks next)

@@ -27,6 +27,7 @@ use Rattle.count_invariant.specs.act_states.specs.declared.work.Act.TheVariants.
 use Rattle.count_invariant.specs.act_states.specs.declared.work.Act.TheVariants.{MakeComp as comp_act, Invoke as invoke_act}
 use Rattle.count_invariant.specs.act_states.specs.declared.work.Act.TheVariants.{Return as return_act}
 use Rattle.count_invariant.specs.act_states.specs.declared.work.Act.TheVariants.{Touch as touch_act, Share as share_act}
+use Rattle.count_invariant.specs.act_states.specs.declared.work.Act.TheVariants.{Refill as refill_act}
 use Rattle.count_invariant.specs.act_states.specs.declared.work.Act.TheVariants.{Switch as switch_act}
 use Rattle.count_invariant.specs.act_states.specs.Acts.{killing_dues}
 use Rattle.count_invariant.specs.core_invariant.specs.Knows.{is_start, is_counting}
@@ -62,6 +63,7 @@ start_holds (kill_act m) h is = by m.at is
     by (kill_draw life word) is = absurd (false≢true is)
 start_holds (untype_act m) h is = absurd (false≢true is)
 start_holds (share_act p) h is = absurd (false≢true is)
+start_holds (refill_act r) h is = absurd (false≢true is)
 start_holds (switch_act m) h is = absurd (false≢true is)
 start_holds (comp_act m) h is = by m.at is
   where
@@ -89,6 +91,7 @@ start_counts (flush_act core) is = refl
 start_counts (kill_act m) is = is
 start_counts (untype_act m) is = absurd (false≢true is)
 start_counts (share_act p) is = absurd (false≢true is)
+start_counts (refill_act r) is = absurd (false≢true is)
 start_counts (switch_act m) is = absurd (false≢true is)
 start_counts (comp_act m) is = by m.at is
   where
@@ -129,6 +132,7 @@ start_apart (kill_act m) is = by m.at
     by (kill_draw life word) = one_apart (killing_dues m.comp (kill_draw life word)) (omega arith)
 start_apart (untype_act m) is = absurd (false≢true is)
 start_apart (share_act p) is = tt
+start_apart (refill_act r) is = tt
 start_apart (switch_act m) is = absurd (false≢true is)
 start_apart (comp_act m) is = by m.at is
   where
@@ -203,6 +207,7 @@ module _ (setup : Setting) (setting : IsSetting setup) (cores : ℕ → Core) (t
   starts_good (kill_act m) is known refused = goes_good (kill_act m) is refl known
   starts_good (untype_act m) is known refused = absurd (false≢true is)
   starts_good (share_act p) is known refused = absurd (false≢true is)
+  starts_good (refill_act r) is known refused = absurd (false≢true is)
   starts_good (switch_act m) is known refused = absurd (false≢true is)
   starts_good (comp_act m) is known refused = goes_good (comp_act m) is refl known
   starts_good (invoke_act m) is known refused = goes_good (invoke_act m) is refl known

@@ -1,7 +1,7 @@
 -- The tables from their parts, and in states that are one for the machine.
 use Rattle.std.proofs.Common.{◌≡◌, ℕ, ◌+◌, ◌<◌, ◌++◌, List, [], refl, sym, ap, ◌∙◌, subst, arith, append_assoc, slice_index}
 use Rattle.kernel_rules.specs.State as state
-use Rattle.kernel_rules.specs.State.{Frame, Liveness, Core, Limits, State, tcap_in, thread_in, first_of_stack, thread_of}
+use Rattle.kernel_rules.specs.State.{Frame, Liveness, Core, Limits, State, tcap_in, thread_in, first_of_stack, thread_of, outstanding}
 use Rattle.kernel_rules.specs.References.{sum_below, times, place_names, frame_names, core_names, number_names, node_refs, refs}
 use Rattle.kernel_rules.specs.Laws.{ticks}
 use Rattle.kernel_invariant.proofs.Sums.{sum_same}
@@ -105,12 +105,12 @@ same_tables t s within same =
     budget r = λ f. (tcap_in (r.frame f)).budget
 
     spent : (r : State) → ℕ → ℕ
-    spent r = λ c. (r.core c).spent
+    spent r = λ c. outstanding (r.core c)
 
     all : ticks t ≡ ticks s
     all =
         let a = ap (sum_below (budget t)) few
         ∙ sum_same (budget s) (budget t) s.limits.frames (λ f below. ap (λ x. (tcap_in x).budget) (same.frame f below)) in
         let b = ap (sum_below (spent t)) many
-        ∙ sum_same (spent s) (spent t) s.limits.cores (λ c below. ap (λ (k : Core). k.spent) (same.core c below)) in
+        ∙ sum_same (spent s) (spent t) s.limits.cores (λ c below. ap (λ (k : Core). outstanding k) (same.core c below)) in
         λ i. a i + b i

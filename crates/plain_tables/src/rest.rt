@@ -1,7 +1,7 @@
-//! The lines of liveness numbers and cores, and the ticks that cores have spent.
+//! The lines of liveness numbers and cores, and the ticks that cores have spent and have not had back.
 
 ghost use Rattle.std.specs.Prelude.{◌≡◌, ◌<◌, ◌≤◌, ◌^◌, ◌++◌, OnOk, string_bytes};
-ghost use Rattle.kernel_rules.specs.State.{first_of_stack, thread_of};
+ghost use Rattle.kernel_rules.specs.State.{first_of_stack, outstanding, thread_of};
 ghost use Rattle.kernel_rules.specs.References.{sum_below};
 ghost use Rattle.kernel_history.specs.Tables.{lines_below, number_line, core_lines};
 ghost use Rattle.seq_state.specs.Parts.{number_of};
@@ -64,6 +64,7 @@ fn push_core(
         tcap: value.tcap,
         comp: top_of(&thread.stack),
         spent: value.spent,
+        back: value.back,
         owed: value.owed,
         cached: value.cached,
     };
@@ -82,15 +83,15 @@ pub fn push_cores(alloc: Global, text: &mut String, k: &SeqKernel) -> Result<(),
     Ok(())
 }
 
-/// The sum of the ticks that the cores have spent.
+/// The sum of the ticks that the cores have spent and have not had back.
 pub fn spent(k: &SeqKernel) -> u128
-    ensures sum { result ≡ sum_below (λ c. ((state_of k.now).core c).spent) (state_of k.now).limits.cores }
+    ensures sum { result ≡ sum_below (λ c. outstanding ((state_of k.now).core c)) (state_of k.now).limits.cores }
     ensures most { result ≤ 2 ^ 67 }
 {
     let mut sum: u128 = 0;
     'cores: for core in 0..k.cores() {
         let value = k.core(CoreNo::new(core));
-        sum += u128::from(value.spent);
+        sum += u128::from(value.spent.saturating_sub(value.back));
     }
     sum
 }

@@ -1,3 +1,4 @@
 pub mod Merges
 pub mod Equality
 pub mod Ranks
+pub mod Covering

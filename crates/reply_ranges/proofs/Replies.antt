@@ -8,11 +8,11 @@ use Rattle.spk_nums.specs.declared.kinds.Kind.TheVariants as kind
 use Rattle.spk_nums.specs.declared.kinds.FrameKind.TheVariants as frame_kind
 use Rattle.spk_nums.specs.declared.calls.Make.TheVariants as make
 use Rattle.spk_nums.specs.declared.calls.Call.{Call}
-use Rattle.spk_nums.specs.declared.calls.Call.TheVariants.{Retype, Make as make_call, Switch, Transfer, Delegate}
+use Rattle.spk_nums.specs.declared.calls.Call.TheVariants.{Retype, Make as make_call, Switch, Transfer, Delegate, Replenish}
 use Rattle.spk_nums.specs.declared.replies.Reply.{Reply}
 use Rattle.spk_nums.specs.declared.replies.Reply.TheVariants as reply
 use Rattle.kernel_rules.specs.State.{Place, Free, Holds, Quiescing, Comp, Thread, Frame, Kernel, Liveness, Unused, Live, Dead, Thing, State}
-use Rattle.kernel_rules.specs.State.{PlaceOf, FrameOf, NumberOf, thread_in}
+use Rattle.kernel_rules.specs.State.{PlaceOf, FrameOf, NumberOf, thread_in, outstanding}
 use Rattle.kernel_rules.specs.Access.{reached}
 use Rattle.kernel_rules.specs.References.{named_by, place_names, frame_names, number_names, core_names, sum_below, times, node_refs, refs}
 use Rattle.kernel_rules.specs.GracePeriods.{MayWait, MayBeUnflushed}
@@ -130,10 +130,12 @@ running_core : (s : State) (c : ℕ) (call : Call) (e : ℕ) → ((f : ℕ) → 
 running_core s c (Switch h q) e runs is = runs _ is.1
 running_core s c _ e runs is = absurd is
 
-short_few : (s : State) (c : ℕ) (call : Call) (n : ℕ) → ((f : ℕ) → budget_at s f < 2 ^ 32) → IsShort s c call n → n ≤ 4294967295
-short_few s c (Transfer a b m) n few is = let same = is.is in let small = few (tcap_named s c a).frame in omega (arith, same, small)
-short_few s c (Delegate a b m) n few is = let same = is.is in let small = few (tcap_named s c a).frame in omega (arith, same, small)
-short_few s c _ n few is = absurd is
+short_few : (s : State) (c : ℕ) (call : Call) (n : ℕ) → ((f : ℕ) → budget_at s f < 2 ^ 32) → outstanding (s.core c) < 2 ^ 32
+    → IsShort s c call n → n ≤ 4294967295
+short_few s c (Transfer a b m) n few left is = let same = is.is in let small = few (tcap_named s c a).frame in omega (arith, same, small)
+short_few s c (Delegate a b m) n few left is = let same = is.is in let small = few (tcap_named s c a).frame in omega (arith, same, small)
+short_few s c (Replenish a m) n few left is = let same = is.0 in omega (arith, same, left)
+short_few s c _ n few left is = absurd is
 
 -- ---- replies
 
@@ -164,6 +166,9 @@ replies_in_range setting lim events run c call r may busy = by r may.permitted b
     budgets : (f : ℕ) → budget_at s f < 2 ^ 32
     budgets f = let spending = ranges.spending f c (opens.sound.inside c opens.is).1 in omega (arith, spending)
 
+    left : outstanding (s.core c) < 2 ^ 32
+    left = let spending = ranges.spending 0 c (opens.sound.inside c opens.is).1 in omega (arith, spending)
+
     by : (r : Reply) → MayReply s c call r → ((d : ℕ) → r ≡ reply.Busy d → d < setting.cores) → ReplyFits setting.cores r
     by (reply.Ok v) may busy =
         answers_fit s (opened events) c opens (runs_fit setting lim events run) (runs_shape setting lim events run)
@@ -179,5 +184,5 @@ replies_in_range setting lim events run c call r may busy = by r may.permitted b
         untyped_and (λ f. (0 < refs s f) × (n ≡ refs s f)) (n ≤ 4294967295) call
         (λ f is. (let few = refs_few s f (runs_shape setting lim events run) frames (subst (λ k. k ≤ 8) (sym cores) lim.most_cores) in
         let same = is.1 in omega (arith, few, same))) (causes_stand s c call (reply.Referenced n) may)
-    by (reply.Short n) may busy = short_few s c call n budgets (causes_stand s c call (reply.Short n) may)
+    by (reply.Short n) may busy = short_few s c call n budgets left (causes_stand s c call (reply.Short n) may)
     by _ may busy = tt

@@ -18,7 +18,7 @@ use Rattle.spk_nums.specs.declared.calls.Make.TheVariants as make
 use Rattle.spk_nums.specs.declared.calls.Call.{Call}
 use Rattle.spk_nums.specs.declared.calls.Call.TheVariants.{Look, Copy, Remove, Grow, Shrink, Retype, Make as make_call}
 use Rattle.spk_nums.specs.declared.calls.Call.TheVariants.{Map, Unmap, Touch, Flush, Gate, Kill, Call as call_gate}
-use Rattle.spk_nums.specs.declared.calls.Call.TheVariants.{Ret, Switch, Tick, Transfer, Delegate, Test, Part}
+use Rattle.spk_nums.specs.declared.calls.Call.TheVariants.{Ret, Switch, Tick, Transfer, Delegate, Test, Part, Replenish}
 use Rattle.spk_nums.specs.declared.translations.Translation.{Translation}
 use Rattle.spk_nums.specs.declared.replies.Reply.{Reply}
 use Rattle.spk_nums.specs.declared.replies.Reply.TheVariants as reply
@@ -263,6 +263,7 @@ module _ (s : State) (o : ℕ → Bool) (c : ℕ) (opens : IsOpen s o c) (w : Is
   rule_tidy (Transfer a b m) lim = λ j e k f calm. record { places = h.places; flags = h.flags }
   rule_tidy (Delegate a b m) lim = λ j e k f calm. record { places = h.places; flags = h.flags }
   rule_tidy (Test a b) lim = λ j e k f calm. h
+  rule_tidy (Replenish a m) lim = λ j e calm. record { places = h.places; flags = h.flags }
   rule_tidy (Part r f n t b) lim = λ k e table g at v calm.
       filled at (part_of k f n) (part_cap k f n (named_cap r (to_part (only kind.Range)) k e)
       (named_good s o c r (to_part (only kind.Range)) k opens.sound opens.is e) (within_by s c k f n calm))

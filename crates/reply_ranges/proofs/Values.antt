@@ -15,7 +15,7 @@ use Rattle.spk_nums.specs.declared.calls.Make.TheVariants as make
 use Rattle.spk_nums.specs.declared.calls.Call.{Call}
 use Rattle.spk_nums.specs.declared.calls.Call.TheVariants.{Look, Copy, Remove, Grow, Shrink, Retype, Make as make_call}
 use Rattle.spk_nums.specs.declared.calls.Call.TheVariants.{Map, Unmap, Touch, Flush, Gate, Kill, Call as call_gate}
-use Rattle.spk_nums.specs.declared.calls.Call.TheVariants.{Ret, Switch, Tick, Transfer, Delegate, Test, Part}
+use Rattle.spk_nums.specs.declared.calls.Call.TheVariants.{Ret, Switch, Tick, Transfer, Delegate, Test, Part, Replenish}
 use Rattle.spk_nums.specs.declared.translations.Translation.{Translation}
 use Rattle.spk_nums.specs.declared.replies.Value.{Value}
 use Rattle.kernel_rules.specs.State.{Holds, Untyped, State, comp_of, thread_in}
@@ -154,6 +154,7 @@ module _ (s : State) (o : ℕ → Bool) (c : ℕ) (opens : IsOpen s o c) (w : Is
   rule_values (Transfer a b m) = λ j e k f calm. tt
   rule_values (Delegate a b m) = λ j e k f calm. tt
   rule_values (Test a b) = λ j e k f calm. preempts_fits (preempts (tcap_at s j.frame) (tcap_at s k.frame))
+  rule_values (Replenish a m) = λ j e calm. tt
   rule_values (Part r f n t b) = λ k e table g at v calm. tt
 
   both : (x : Judged Change) (v : Value) → IfFound x Answers → IsFoundAnd x (λ change. change.value ≡ v) → ValueFits v

@@ -15,7 +15,7 @@ use Rattle.trace_laws.specs.spk_nums.specs.declared.calls.Make.TheVariants as ma
 use Rattle.trace_laws.specs.spk_nums.specs.declared.calls.Call.{Call}
 use Rattle.trace_laws.specs.spk_nums.specs.declared.calls.Call.TheVariants.{Look, Copy, Remove, Grow, Shrink, Retype, Make as make_call}
 use Rattle.trace_laws.specs.spk_nums.specs.declared.calls.Call.TheVariants.{Map, Unmap, Touch, Flush, Gate, Kill, Call as call_gate}
-use Rattle.trace_laws.specs.spk_nums.specs.declared.calls.Call.TheVariants.{Ret, Switch, Tick, Transfer, Delegate, Test, Part}
+use Rattle.trace_laws.specs.spk_nums.specs.declared.calls.Call.TheVariants.{Ret, Switch, Tick, Transfer, Delegate, Test, Part, Replenish}
 use Rattle.trace_laws.specs.spk_nums.specs.declared.translations.Translation.{Translation}
 use Rattle.trace_laws.specs.spk_nums.specs.declared.replies.Reply.{Reply}
 use Rattle.trace_laws.specs.spk_nums.specs.declared.replies.Reply.TheVariants as reply
@@ -251,6 +251,9 @@ module _ (s : State) (o : ℕ → Bool) (d : ℕ) (h : IsOpen s o d) (f : ℕ) (
       inr (rests_then s (moved s j.frame k.frame m) _ f (moved_rests j.frame k.frame m (only_away a kind.Tcap j (λ g. refl) e) second)
       (frame_rests (moved s j.frame k.frame m) f k.frame _ second))
   rule_rests (Test a b) = λ j e k v calm. inr (rests_same s f)
+  rule_rests (Replenish a m) = λ j e calm.
+      let one = frame_rests s f j.frame _ (only_away a kind.Tcap j (λ g. refl) e) in
+      inr (record { frame = one.frame; place = λ i. refl })
   rule_rests (Part r f n t b) = λ k e table v at w calm. fill_under (found table) b at (part_of k f n) w
 
   found_rests : (x : Judged Change) → IfFound x RestsBy → RestsOr s (changed s x) f

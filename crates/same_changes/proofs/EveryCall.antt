@@ -8,7 +8,7 @@ use Rattle.spk_nums.specs.declared.calls.Make.TheVariants as make
 use Rattle.spk_nums.specs.declared.calls.Call.{Call}
 use Rattle.spk_nums.specs.declared.calls.Call.TheVariants.{Look, Copy, Remove, Grow, Shrink, Retype, Make as make_call}
 use Rattle.spk_nums.specs.declared.calls.Call.TheVariants.{Map, Unmap, Touch, Flush, Gate, Kill, Call as call_gate}
-use Rattle.spk_nums.specs.declared.calls.Call.TheVariants.{Ret, Switch, Tick, Transfer, Delegate, Test, Part}
+use Rattle.spk_nums.specs.declared.calls.Call.TheVariants.{Ret, Switch, Tick, Transfer, Delegate, Test, Part, Replenish}
 use Rattle.kernel_rules.specs.State.{Limits, State}
 use Rattle.kernel_rules.specs.Rules.{Judged, Refused, Found, Change}
 use Rattle.kernel_rules.specs.Life.{acts}
@@ -28,7 +28,7 @@ use Rattle.same_changes.proofs.Alike.{SameRule, outcome_same, same_outcome}
 use Rattle.same_changes.proofs.CapabilityRules.{look_same, copy_same, remove_same, grow_same, shrink_same, make_same, part_same}
 use Rattle.same_changes.proofs.MemoryRules.{retype_same, map_same, unmap_same, touch_same, flush_same}
 use Rattle.same_changes.proofs.TimeRules.{acts_agree, gate_same, kill_same, call_same, ret_same, switch_same}
-use Rattle.same_changes.proofs.TimeRules.{tick_same, transfer_same, delegate_same, test_same}
+use Rattle.same_changes.proofs.TimeRules.{tick_same, transfer_same, delegate_same, test_same, replenish_same}
 
 -- ---- on a region
 
@@ -54,6 +54,7 @@ module _ {r : Region} {t s : State} {o : ℕ → _} {c : ℕ} (w : TwinsOn r t s
   rule_same (Transfer a b m) names = transfer_same w a b m
   rule_same (Delegate a b m) names = delegate_same w a b m
   rule_same (Test a b) names = test_same w a b
+  rule_same (Replenish a m) names = replenish_same w a m
   rule_same (Part p f n x b) names = part_same w p f n x b
 
   -- Whether the core may make the call is the same, and so is its outcome on the region.

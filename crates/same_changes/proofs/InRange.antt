@@ -9,8 +9,8 @@ use Rattle.spk_nums.specs.declared.calls.Make.TheVariants as make
 use Rattle.spk_nums.specs.declared.calls.Call.{Call}
 use Rattle.spk_nums.specs.declared.calls.Call.TheVariants.{Look, Copy, Remove, Grow, Shrink, Retype, Make as make_call}
 use Rattle.spk_nums.specs.declared.calls.Call.TheVariants.{Map, Unmap, Touch, Flush, Gate, Kill, Call as call_gate}
-use Rattle.spk_nums.specs.declared.calls.Call.TheVariants.{Ret, Switch, Tick, Transfer, Delegate, Test, Part}
-use Rattle.kernel_rules.specs.State.{CompFields, Comp, Frame, Kernel, Liveness, Unused, Live}
+use Rattle.spk_nums.specs.declared.calls.Call.TheVariants.{Ret, Switch, Tick, Transfer, Delegate, Test, Part, Replenish}
+use Rattle.kernel_rules.specs.State.{CompFields, Comp, Frame, Kernel, Liveness, Unused, Live, outstanding}
 use Rattle.kernel_rules.specs.State.{Dead, Core, Limits, State, comp_in, tcap_in, comp_of}
 use Rattle.kernel_rules.specs.Access.{to_use, only, to_part}
 use Rattle.kernel_rules.specs.Rules.{Judged, Refused, Found, named, mapped}
@@ -19,7 +19,8 @@ use Rattle.kernel_rules.specs.Fitting.{fits, EndsWithin}
 use Rattle.kernel_rules.specs.Ranges.{NumberInRange, FrameInRange}
 use Rattle.kernel_invariant.proofs.Sound.{only_is}
 use Rattle.kernel_invariant.proofs.Facts.{named_good, named_fit}
-use Rattle.seq_lookups.specs.Ranges.{WhereFound, RangeEnds, EpochFits, PageFound, HasEpoch, BudgetsFit, TicksFit, IsInRange, WholeEnds}
+use Rattle.seq_lookups.specs.Ranges.{WhereFound, RangeEnds, EpochFits, PageFound, HasEpoch, BudgetsFit, TicksFit, WholeEnds, BackFits}
+use Rattle.seq_lookups.specs.Ranges.{IsInRange}
 use Rattle.same_changes.proofs.Reaching.{Twins, core_same, core_below, tcap_frame_same, comp_same, named_same, mapped_same, pages_good}
 use Rattle.same_changes.proofs.TimeRules.{named_frame}
 
@@ -84,8 +85,23 @@ ticks_fit {t} {s} {o} {c} w calls n small =
     let spent = ap (λ (k : Core). k.spent) core in
     let budget = ap (λ f. (tcap_in f).budget) (tcap_frame_same w) in
     record {
-      owed = omega (arith, owed, range.owed, range.counted, calls, small);
-      spent = omega (arith, spent, budget, w.ranges.spending (s.core c).tcap c (core_below w));
+      owed = omega (arith, owed, range.charged, range.counted, calls, small);
+      spent = omega (arith, spent, budget, range.charged, range.counted, calls, w.ranges.spending (s.core c).tcap c (core_below w));
+    }
+
+back_fits : {t s : State} {o : ℕ → _} {c : ℕ} → Twins t s o c → s.limits.calls ≤ 2 ^ 40 - 1 → (a : ℕ) → BackFits t c a
+back_fits {t} {s} {o} {c} w calls a =
+    let range = w.ranges.cores c (core_below w) in
+    let core = core_same w in
+    let spent = ap (λ (k : Core). k.spent) core in
+    let back = ap (λ (k : Core). k.back) core in
+    record {
+      back = omega (arith, spent, back, range.back);
+      spent = omega (arith, spent, range.charged, range.counted, calls);
+      budget = wherever (named t c a (to_use (only kind.Tcap))) _ (λ x is.
+          let one = ap (λ f. (tcap_in f).budget) (named_frame w a kind.Tcap x refl (sym (named_same w a (to_use (only kind.Tcap))) ∙ is)) in
+          let left = ap (λ (k : Core). outstanding k) core in
+          omega (arith, one, left, w.ranges.spending x.frame c (core_below w)));
     }
 
 -- What is mapped is a page, where it is so in the reached state.
@@ -120,4 +136,5 @@ in_range w calls pages (call_gate g) fits = tt
 in_range w calls pages Ret fits = tt
 in_range w calls pages (Switch h q) fits = tt
 in_range w calls pages (Test a b) fits = tt
+in_range w calls pages (Replenish a m) fits = back_fits w calls a
 in_range w calls pages (Part r f n x b) fits = whole_ends w r

@@ -2,13 +2,13 @@
 use Rattle.std.proofs.Common.{◌≡◌, ℕ, ◌+◌, ◌-◌, ◌<◌, Bool, true, not, ◌&&◌, ◌||◌, refl, sym, ◌∙◌, ap, subst}
 use Rattle.std.proofs.Common.{nat_le, nat_lt, List, ◌∷◌, length, take, drop, Option, Some, None, IsTrue}
 use Rattle.std.proofs.lemmas.Bool.{false≢true}
-use Rattle.spk_nums.specs.Merging.{merged}
+use Rattle.spk_nums.specs.Merging.{merged, covers}
 use Rattle.spk_nums.specs.Capability.{Capability, cap_of}
 use Rattle.spk_nums.specs.declared.kinds.Kind.{Kind}
 use Rattle.spk_nums.specs.declared.kinds.Kind.TheVariants as kind
 use Rattle.spk_nums.specs.declared.calls.Call.{Call}
 use Rattle.spk_nums.specs.declared.replies.Reply.TheVariants as reply
-use Rattle.kernel_rules.specs.State.{Frame, Kernel, Comp, CompFields, ThreadFields, TcapFields, Dead, NumberOf, Holds, Core}
+use Rattle.kernel_rules.specs.State.{Frame, Kernel, Comp, CompFields, ThreadFields, TcapFields, Dead, NumberOf, Holds, Core, outstanding}
 use Rattle.kernel_rules.specs.State.{State, with_frame, with_core, with_place, comp_of, comp_in, thread_in, tcap_in, thread_of}
 use Rattle.kernel_rules.specs.References.{number_names}
 use Rattle.kernel_rules.specs.Access.{to_use, found, only}
@@ -18,6 +18,7 @@ use Rattle.kernel_rules.specs.InvocationCalls.{with_thread, with_stack, kills, p
 use Rattle.kernel_rules.specs.InvocationCalls.{switch_to, gate_rule, kill_rule, call_rule, ret_rule, switch_rule}
 use Rattle.kernel_rules.specs.TimeCalls.{tcap_at, with_tcap, with_budget, with_qualities, charge, charges, moved, merged_list}
 use Rattle.kernel_rules.specs.TimeCalls.{are_alike, preemption, preempts, tick_rule, transfer_rule, delegate_rule, test_rule}
+use Rattle.kernel_rules.specs.TimeCalls.{given_back, replenish_rule}
 use Rattle.kernel_rules.specs.Fitting.{fits}
 use Rattle.kernel_rules.specs.Relies.{is_node}
 use Rattle.kernel_rules.specs.Ranges.{FrameInRange}
@@ -300,6 +301,37 @@ module _ {r : Region} {t s : State} {o : ℕ → Bool} {c : ℕ} (w : TwinsOn r 
             λ none. record { value = λ i. preemption (preempts (one i) (other i)); next = w.agree; begins = refl },
           ),
     ),
+  )
+
+  -- ---- giving back
+
+  given_agree : (f m : ℕ) → r.frame f ≡ true → AgreeOn r (given_back t c f m) (given_back s c f m)
+  given_agree f m is =
+      agree_then _ _ _
+      (agree_by _ _ (λ i. with_core (with_budget t f ((tcap_at t f).budget + m)) c
+      (record (core_agree w i) { back = (core_agree w i).back + m })))
+      (agree_core _ _ c (record (s.core c) { back = (s.core c).back + m })
+      (budget_agree t s f _ _ is (ap (λ x. (tcap_in x).budget + m) (w.agree.frame f is)) w.agree))
+
+  pub replenish_same : (a m : ℕ) → SameRule r s c (replenish_rule t c a m) (replenish_rule s c a m)
+  replenish_same a m = (
+    refl,
+    refl,
+    λ x is.
+        let one : tcap_at t x.frame ≡ tcap_at s x.frame = tcap_agree a x is in
+        let core = core_agree w in (
+          (
+            ((λ i. not (covers (one i).qualities (core i).grant)), λ on. refl),
+            λ calm. (
+              (
+                ap (λ (k : Core). nat_lt (outstanding k) m) core,
+                λ on. ap (λ (k : Core). reply.Short (Rattle.std.specs.Prelude.min (outstanding k) m)) core,
+              ),
+              λ calm. tt,
+            ),
+          ),
+          λ none. record { value = refl; next = given_agree x.frame m (named_at w a kind.Tcap x refl is); begins = refl },
+        ),
   )
 
 -- ---- the whole machine

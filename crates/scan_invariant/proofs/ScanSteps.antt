@@ -12,6 +12,7 @@ use Rattle.place_invariant.specs.act_states.specs.declared.work.Act.TheVariants.
 use Rattle.place_invariant.specs.act_states.specs.declared.work.Act.TheVariants.{MakeComp as comp_act, Invoke as invoke_act}
 use Rattle.place_invariant.specs.act_states.specs.declared.work.Act.TheVariants.{Return as return_act}
 use Rattle.place_invariant.specs.act_states.specs.declared.work.Act.TheVariants.{Touch as touch_act, Share as share_act}
+use Rattle.place_invariant.specs.act_states.specs.declared.work.Act.TheVariants.{Refill as refill_act}
 use Rattle.place_invariant.specs.act_states.specs.declared.work.Act.TheVariants.{Switch as switch_act}
 use Rattle.place_invariant.specs.act_states.specs.Acts.{ActFits, stamp_of_act}
 use Rattle.place_invariant.specs.core_invariant.specs.Knows.{scanned_for}
@@ -73,6 +74,7 @@ module _ (setup : Setting) (setting : IsSetting setup) (cores : ℕ → Core) (t
     outside = λ out. absurd (false≢true (sym out));
   }
   scans_place (share_act p) is fits stamp names knows = absurd (omega arith)
+  scans_place (refill_act r) is fits stamp names knows = absurd (omega arith)
   scans_place (switch_act m) is fits stamp names knows = absurd (omega arith)
   scans_place (comp_act m) is fits stamp names knows = record {
     node = m.fill.node;

@@ -1,5 +1,6 @@
 -- A line is that of a `tick` only where its first word is `tick`.
-use Rattle.std.proofs.Common.{◌≡◌, ℕ, List, [], ◌∷◌, Bool, true, false, if◌then◌else◌, Option, Some, None, Result, Ok, Err, IfOk, refl, sym, ◌∙◌}
+use Rattle.std.proofs.Common.{◌≡◌, ℕ, List, [], ◌∷◌, Bool, true, false, if◌then◌else◌, Option, Some, None, Result, Ok, Err, IfOk, refl, sym}
+use Rattle.std.proofs.Common.{◌∙◌}
 use Rattle.std.proofs.Common.{ap, subst}
 use Rattle.std.specs.Prelude.{slice_get, codes, nat_le}
 use Rattle.std.specs.Option.{ok_or, option_and_then}
@@ -13,8 +14,8 @@ use Rattle.call_reader.specs.declared.first_words.Verb.{Verb}
 use Rattle.call_reader.specs.declared.first_words.Verb.TheVariants as verb
 use Rattle.call_reader.specs.declared.first_words.FirstWord.{FirstWord}
 use Rattle.call_reader.specs.declared.first_words.FirstWord.TheVariants as first
-use Rattle.call_reader.specs.CallLines.{frame_kind_at, part_line}
-use Rattle.call_reader.specs.FirstWords.{first_word, verb_of, later_verb_of, call_word, part_from}
+use Rattle.call_reader.specs.CallLines.{frame_kind_at, part_line, replenish_line}
+use Rattle.call_reader.specs.FirstWords.{first_word, verb_of, later_verb_of, call_word, late_verb}
 use Rattle.call_reader.specs.CallLines.{look_line, rights_at, copy_line, remove_line, grow_line, shrink_line, retype_line, map_line}
 use Rattle.call_reader.specs.CallLines.{unmap_line, touch_line, flush_line, gate_line, kill_line, enter_line, ret_line, switch_line}
 use Rattle.call_reader.specs.CallLines.{tick_line, transfer_line, delegate_line, test_line, object_at, made_at, make_line, call_line}
@@ -45,16 +46,17 @@ module _ (version : ℕ) (word : List ℕ) where
   abbrev IsTick : Type 0
   IsTick = is_word word (codes "tick") ≡ true
 
-  part_tick : part_from version ≡ Some verb.Tick → ⊥
-  part_tick = by (nat_le 3 version)
+  late_tick : (v : Verb) → (Some v ≡ Some verb.Tick → ⊥) → late_verb version v ≡ Some verb.Tick → ⊥
+  late_tick v other = by (nat_le 3 version)
     where
-      by : (late : Bool) → (if late then Some verb.Part else None) ≡ Some verb.Tick → ⊥
-      by true e = cc
+      by : (late : Bool) → (if late then Some v else None) ≡ Some verb.Tick → ⊥
+      by true e = other e
       by false e = cc
 
-  no_part : (b : Bool) → (if b then part_from version else None) ≡ Some verb.Tick → IsTick
-  no_part true e = absurd (part_tick e)
-  no_part false e = absurd (cc)
+  no_late : (v : Verb) (b : Bool) (rest : Option Verb) → (Some v ≡ Some verb.Tick → ⊥) → (rest ≡ Some verb.Tick → IsTick)
+      → (if b then late_verb version v else rest) ≡ Some verb.Tick → IsTick
+  no_late v true rest other go e = absurd (late_tick v other e)
+  no_late v false rest other go e = go e
 
   later_tick : later_verb_of version word ≡ Some verb.Tick → IsTick
   unfolding later_verb_of
@@ -67,7 +69,9 @@ module _ (version : ℕ) (word : List ℕ) where
       (lands verb.Tick verb.Tick (is_word word (codes "tick")) _
       (passes verb.Tick verb.Transfer (is_word word (codes "transfer")) _ (λ e. absurd (cc))
       (passes verb.Tick verb.Delegate (is_word word (codes "delegate")) _ (λ e. absurd (cc))
-      (passes verb.Tick verb.Test (is_word word (codes "test")) _ (λ e. absurd (cc)) (no_part (is_word word (codes "part"))))))))))))
+      (passes verb.Tick verb.Test (is_word word (codes "test")) _ (λ e. absurd (cc))
+      (no_late verb.Part (is_word word (codes "part")) _ (λ e. cc)
+      (no_late verb.Replenish (is_word word (codes "replenish")) _ (λ e. cc) (λ e. absurd (cc)))))))))))))
 
   verb_tick : verb_of version word ≡ Some verb.Tick → IsTick
   unfolding verb_of
@@ -193,6 +197,10 @@ module _ (words : List (List ℕ)) where
   part_calm = binds (name_at words 1) _ λ r. binds (name_at words 2) _ λ f. binds (name_at words 3) _ λ n.
       binds (name_at words 4) _ λ t. binds (name_at words 5) _ λ b. binds (end_at words 6) _ λ done. tt
 
+  replenish_calm : Calm (replenish_line words)
+  unfolding replenish_line
+  replenish_calm = binds (name_at words 1) _ λ a. binds (amount_at words 2) _ λ m. binds (end_at words 3) _ λ done. tt
+
   make_calm : Calm (make_line words)
   unfolding make_line
   make_calm = binds (object_at words) _ λ o. binds (name_at words 2) _ λ range. binds (name_at words 3) _ λ frame.
@@ -221,6 +229,7 @@ module _ (words : List (List ℕ)) where
   calm version verb.Delegate other = delegate_calm
   calm version verb.Test other = test_calm
   calm version verb.Part other = part_calm
+  calm version verb.Replenish other = replenish_calm
 
 -- ---- a line
 

@@ -23,6 +23,7 @@ use Rattle.call_reader.specs.CallLines.{call_line, look_line, copy_line, remove_
 use Rattle.call_reader.specs.CallLines.{map_line, unmap_line, touch_line, flush_line, gate_line, kill_line, enter_line}
 use Rattle.call_reader.specs.CallLines.{ret_line, switch_line, tick_line, transfer_line, delegate_line, test_line}
 use Rattle.call_reader.specs.CallLines.{object_of, object_at, thread_at, tcap_at, comp_at, plain_at, made_at, make_line, part_line}
+use Rattle.call_reader.specs.CallLines.{replenish_line}
 use Rattle.script_printer.specs.Law.{IsName, IsMakeWithin, IsCallWithin}
 use Rattle.script_printer.proofs.Spans.{both_left, both_right}
 use Rattle.script_printer.proofs.KnownWords.{IsVerbIn}
@@ -268,6 +269,15 @@ copy_in version words c e =
       rights.1,
     )
 
+replenish_in : (version : ℕ) (words : List (List ℕ)) (c : Call) → 3 ≤ version → replenish_line words ≡ Ok c → IsCallWithin version c
+unfolding replenish_line
+replenish_in version words c known e =
+    let a = bind_ok (number_at words 1 0 65535) (λ a. number_at words 2 0 4000000000 >>= λ m. end_at words 3 >>=
+    λ done. judged (call.Replenish a m)) c e in
+    let m = bind_ok (number_at words 2 0 4000000000) (λ m. end_at words 3 >>= λ done. judged (call.Replenish a.0 m)) c a.2 in
+    subst (IsCallWithin version) (args_none (end_at words 3) (call.Replenish a.0 m.0) c m.2)
+    (known, name_in words 1 a.0 a.1, (number_in words 2 0 4000000000 m.0 m.1).1)
+
 part_in : (version : ℕ) (words : List (List ℕ)) (c : Call) → 3 ≤ version → part_line words ≡ Ok c → IsCallWithin version c
 unfolding part_line
 part_in version words c known e =
@@ -318,3 +328,4 @@ call_in version words verb.Transfer c known e = three_line version words 4000000
 call_in version words verb.Delegate c known e = three_line version words 4000000000 call.Delegate (end_at words 4) c (λ a b m h k l. (h, k, l)) e
 call_in version words verb.Test c known e = names_line version words call.Test (end_at words 3) c (λ a b h k. (h, k)) e
 call_in version words verb.Part c known e = part_in version words c known e
+call_in version words verb.Replenish c known e = replenish_in version words c known e

@@ -13,7 +13,7 @@ use Rattle.spk_nums.specs.declared.calls.Make.TheVariants as make
 use Rattle.spk_nums.specs.declared.calls.Call.{Call}
 use Rattle.spk_nums.specs.declared.calls.Call.TheVariants.{Look, Copy, Remove, Grow, Shrink, Retype, Make as make_call}
 use Rattle.spk_nums.specs.declared.calls.Call.TheVariants.{Map, Unmap, Touch, Flush, Gate, Kill, Call as call_gate}
-use Rattle.spk_nums.specs.declared.calls.Call.TheVariants.{Ret, Switch, Tick, Transfer, Delegate, Test, Part}
+use Rattle.spk_nums.specs.declared.calls.Call.TheVariants.{Ret, Switch, Tick, Transfer, Delegate, Test, Part, Replenish}
 use Rattle.line_reader.specs.Arguments.{is_word, word_at, end_at}
 use Rattle.call_reader.specs.declared.first_words.Verb.{Verb}
 use Rattle.call_reader.specs.declared.first_words.Verb.TheVariants as verb
@@ -24,6 +24,7 @@ use Rattle.call_reader.specs.CallLines.{fourth_at, both_at, rights_at}
 use Rattle.call_reader.specs.CallLines.{call_line, look_line, copy_line, remove_line, grow_line, shrink_line, retype_line}
 use Rattle.call_reader.specs.CallLines.{map_line, unmap_line, touch_line, flush_line, gate_line, kill_line, enter_line}
 use Rattle.call_reader.specs.CallLines.{ret_line, switch_line, tick_line, transfer_line, delegate_line, test_line, part_line}
+use Rattle.call_reader.specs.CallLines.{replenish_line}
 use Rattle.call_reader.specs.CallLines.{object_of, object_at, thread_at, tcap_at, comp_at, plain_at, made_at, make_line}
 use Rattle.script_reader.specs.declared.head.Section.TheVariants as section
 use Rattle.script_reader.specs.declared.head.Head.{Head}
@@ -56,6 +57,7 @@ call_verb (Transfer a b m) = verb.Transfer
 call_verb (Delegate a b m) = verb.Delegate
 call_verb (Test a b) = verb.Test
 call_verb (Part r f n t b) = verb.Part
+call_verb (Replenish a m) = verb.Replenish
 
 make_first : (version : ℕ) (what : Make) (r f t b : ℕ)
     → option_and_then (first_word version) (slice_get (make_words what r f t b) 0) ≡ Some (first.Call verb.Make)
@@ -99,6 +101,8 @@ call_first version (Delegate a b m) h = refl
 call_first version (Test a b) h = refl
 call_first version (Part r f n t b) h =
     ap (λ late. call_word (if late then Some verb.Part else None)) (le-leb 3 version h.0)
+call_first version (Replenish a m) h =
+    ap (λ late. call_word (if late then Some verb.Replenish else None)) (le-leb 3 version h.0)
 
 kind_back : (w a b : List ℕ) (k : FrameKind) → frame_kind_at (w ∷ a ∷ b ∷ frame_kind_word k ∷ []) 3 ≡ Ok k
 unfolding frame_kind_at word_at frame_kind_of is_word
@@ -220,6 +224,9 @@ call_read version (Delegate a b m) some most h =
     let ws = call_words (Delegate a b m) in
     rw (name_back ws 1 a refl h.0, name_back ws 2 b refl h.1, number_back ws 3 0 4000000000 m refl (omega arith) h.2 (omega arith)) refl
 call_read version (Test a b) some most h = let ws = call_words (Test a b) in rw (name_back ws 1 a refl h.0, name_back ws 2 b refl h.1) refl
+call_read version (Replenish a m) some most h =
+    let ws = call_words (Replenish a m) in
+    rw (name_back ws 1 a refl h.1, number_back ws 2 0 4000000000 m refl (omega arith) h.2 (omega arith)) refl
 call_read version (Part r f n t b) some most h =
     let ws = call_words (Part r f n t b) in
     rw (

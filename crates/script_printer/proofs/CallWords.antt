@@ -10,7 +10,7 @@ use Rattle.spk_nums.specs.declared.calls.Make.TheVariants as make
 use Rattle.spk_nums.specs.declared.calls.Call.{Call}
 use Rattle.spk_nums.specs.declared.calls.Call.TheVariants.{Look, Copy, Remove, Grow, Shrink, Retype, Make as make_call}
 use Rattle.spk_nums.specs.declared.calls.Call.TheVariants.{Map, Unmap, Touch, Flush, Gate, Kill, Call as call_gate}
-use Rattle.spk_nums.specs.declared.calls.Call.TheVariants.{Ret, Switch, Tick, Transfer, Delegate, Test, Part}
+use Rattle.spk_nums.specs.declared.calls.Call.TheVariants.{Ret, Switch, Tick, Transfer, Delegate, Test, Part, Replenish}
 use Rattle.script_printer.specs.Printing.{call_line}
 use Rattle.script_printer.specs.Law.{IsName, IsMakeWithin, IsCallWithin}
 use Rattle.script_printer.proofs.Spans.{is_text, is_line, line_onto}
@@ -56,6 +56,7 @@ call_words (Transfer a b m) = codes "transfer" ∷ decimal a ∷ decimal b ∷ d
 call_words (Delegate a b m) = codes "delegate" ∷ decimal a ∷ decimal b ∷ decimal m ∷ []
 call_words (Test a b) = codes "test" ∷ decimal a ∷ decimal b ∷ []
 call_words (Part r f n t b) = codes "part" ∷ decimal r ∷ decimal f ∷ decimal n ∷ decimal t ∷ decimal b ∷ []
+call_words (Replenish a m) = codes "replenish" ∷ decimal a ∷ decimal m ∷ []
 
 -- ---- the line is its words
 
@@ -96,6 +97,7 @@ text_onto (Transfer a b m) rest = simp append_assoc
 text_onto (Delegate a b m) rest = simp append_assoc
 text_onto (Test a b) rest = simp append_assoc
 text_onto (Part r f n t b) rest = simp append_assoc
+text_onto (Replenish a m) rest = simp append_assoc
 
 -- the line of a call, before the bytes after it
 pub call_onto : (c : Call) (rest : List ℕ) → call_line c ++ rest ≡ line_onto (call_words c) rest
@@ -170,5 +172,8 @@ call_is_line version (Delegate a b m) h =
     let amount : m ≤ 4000000000 = h.2 in
     rw (name_text a h.0, name_text b h.1, number_text m (omega arith)) refl
 call_is_line version (Test a b) h = rw (name_text a h.0, name_text b h.1) refl
+call_is_line version (Replenish a m) h =
+    let amount : m ≤ 4000000000 = h.2 in
+    rw (name_text a h.1, number_text m (omega (arith, amount))) refl
 call_is_line version (Part r f n t b) h =
     rw (name_text r h.1, name_text f h.2, name_text n h.3, name_text t h.4, name_text b h.5) refl

@@ -1,5 +1,6 @@
 -- What a version allows: the word of a call that a first word is, is one of the script's version, `part` from version 3 on; and calls.
-use Rattle.std.proofs.Common.{◌≡◌, ℕ, ◌-◌, ◌^◌, ◌≤◌, arith, Bool, true, false, nat_le, if◌then◌else◌, List, Option, Some, None, IfSome, Result, Ok, codes, refl, subst}
+use Rattle.std.proofs.Common.{◌≡◌, ℕ, ◌-◌, ◌^◌, ◌≤◌, arith, Bool, true, false, nat_le, if◌then◌else◌, List, Option, Some, None, IfSome}
+use Rattle.std.proofs.Common.{Result, Ok, codes, refl, subst}
 use Rattle.std.proofs.lemmas.Bool.{leb-true}
 use Rattle.std.specs.Option.{ok_or, option_and_then}
 use Rattle.line_reader.specs.declared.cause.Cause.TheVariants.{S2}
@@ -8,7 +9,7 @@ use Rattle.call_reader.specs.declared.first_words.Verb.{Verb}
 use Rattle.call_reader.specs.declared.first_words.Verb.TheVariants as verb
 use Rattle.call_reader.specs.declared.first_words.FirstWord.{FirstWord}
 use Rattle.call_reader.specs.declared.first_words.FirstWord.TheVariants as first
-use Rattle.call_reader.specs.FirstWords.{part_from, later_verb_of, verb_of, call_word, first_word}
+use Rattle.call_reader.specs.FirstWords.{late_verb, later_verb_of, verb_of, call_word, first_word}
 use Rattle.call_reader.specs.Versions.{most_calls}
 
 -- No version says more calls than a machine takes
@@ -22,6 +23,7 @@ most_machine version = by (nat_le 3 version)
 -- A word of a call is one of a version.
 abbrev pub IsVerbIn : ℕ → Verb → Type 0
 IsVerbIn version verb.Part = 3 ≤ version
+IsVerbIn version verb.Replenish = 3 ≤ version
 IsVerbIn version _ = Unit {0}
 
 abbrev pub IsWordIn : ℕ → FirstWord → Type 0
@@ -33,12 +35,14 @@ chain : {A : Type 0} (K : A → Type 0) (v : A) (b : Bool) (rest : Option A) →
 chain K v true rest here go = here
 chain K v false rest here go = go
 
-part_known : (version : ℕ) (b : Bool) → IfSome (if b then part_from version else None) (IsVerbIn version)
-part_known version false = tt
-part_known version true = by (nat_le 3 version) refl
+-- A verb of version 3 on is found by its word, or what comes after it is.
+late_known : (version : ℕ) (v : Verb) (b : Bool) (rest : Option Verb) → (3 ≤ version → IsVerbIn version v) → IfSome rest (IsVerbIn version)
+    → IfSome (if b then late_verb version v else rest) (IsVerbIn version)
+late_known version v false rest here go = go
+late_known version v true rest here go = by (nat_le 3 version) refl
   where
-    by : (late : Bool) → nat_le 3 version ≡ late → IfSome (if late then Some verb.Part else None) (IsVerbIn version)
-    by true is = leb-true 3 version is
+    by : (late : Bool) → nat_le 3 version ≡ late → IfSome (if late then Some v else None) (IsVerbIn version)
+    by true is = here (leb-true 3 version is)
     by false is = tt
 
 later_known : (version : ℕ) (word : List ℕ) → IfSome (later_verb_of version word) (IsVerbIn version)
@@ -54,7 +58,8 @@ later_known version word =
     (chain (IsVerbIn version) verb.Transfer (is_word word (codes "transfer")) _ tt
     (chain (IsVerbIn version) verb.Delegate (is_word word (codes "delegate")) _ tt
     (chain (IsVerbIn version) verb.Test (is_word word (codes "test")) _ tt
-    (part_known version (is_word word (codes "part"))))))))))))
+    (late_known version verb.Part (is_word word (codes "part")) _ (λ h. h)
+    (late_known version verb.Replenish (is_word word (codes "replenish")) _ (λ h. h) tt)))))))))))
 
 verb_known : (version : ℕ) (word : List ℕ) → IfSome (verb_of version word) (IsVerbIn version)
 unfolding verb_of

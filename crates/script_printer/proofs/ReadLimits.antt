@@ -411,6 +411,7 @@ no_order cores order e = subst (IsOrder cores) (sym e) (record { below = All-nil
 -- a call that is within the limits of a version is so in one that is 1 only if that is, and from 3 on if that is
 later_version : (v w : ℕ) → (w ≡ 1 → v ≡ 1) × (3 ≤ v → 3 ≤ w) → (c : Call) → IsCallWithin v c → IsCallWithin w c
 later_version v w goes (Copy a t b rights) h = (h.0, h.1, h.2, h.3, λ one. h.4 (goes.0 one))
+later_version v w goes (Replenish a m) h = (goes.1 h.0, h.1, h.2)
 later_version v w goes (Part r f n t b) h = (goes.1 h.0, h.1, h.2, h.3, h.4, h.5)
 later_version v w goes c h = h
 

@@ -5,7 +5,7 @@ use Rattle.spk_nums.specs.declared.calls.Make.TheVariants.{Thread, Tcap, Comp}
 use Rattle.spk_nums.specs.declared.calls.Call.{Call}
 use Rattle.spk_nums.specs.declared.calls.Call.TheVariants.{Look, Copy, Remove, Grow, Shrink, Retype, Make as make_call}
 use Rattle.spk_nums.specs.declared.calls.Call.TheVariants.{Map, Unmap, Touch, Flush, Gate, Kill, Call as call_gate}
-use Rattle.spk_nums.specs.declared.calls.Call.TheVariants.{Ret, Switch, Tick, Transfer, Delegate, Test, Part}
+use Rattle.spk_nums.specs.declared.calls.Call.TheVariants.{Ret, Switch, Tick, Transfer, Delegate, Test, Part, Replenish}
 use Rattle.spk_nums.specs.Rights.{both}
 use Rattle.spk_nums.specs.Setting.{IsSetting}
 use Rattle.script_tokens.specs.Words.{line_count}
@@ -51,6 +51,7 @@ IsCallWithin version (Transfer a b m) = IsName a × IsName b × IsAmount m
 IsCallWithin version (Delegate a b m) = IsName a × IsName b × IsAmount m
 IsCallWithin version (Test a b) = IsName a × IsName b
 IsCallWithin version (Part r f n t b) = (3 ≤ version) × IsName r × IsName f × IsName n × IsName t × IsName b
+IsCallWithin version (Replenish a m) = (3 ≤ version) × IsName a × IsAmount m
 
 -- a script within the limits: its version is 1 to 3, its setup is one with no more calls than a script may give, each core has a list,
 -- arguments and items are in their ranges, the items are at most 200,000, and its printed form has at most 20,000 lines

@@ -5,7 +5,8 @@ use Rattle.spk_nums.specs.declared.calls.Make.{Make}
 use Rattle.spk_nums.specs.declared.calls.Make.TheVariants as make
 use Rattle.spk_nums.specs.declared.calls.Call.{Call}
 use Rattle.spk_nums.specs.declared.calls.Call.TheVariants.{Retype, Make as make_call, Map, Touch, Gate, Tick, Transfer, Delegate, Part}
-use Rattle.kernel_rules.specs.State.{State, comp_in, comp_of}
+use Rattle.spk_nums.specs.declared.calls.Call.TheVariants.{Replenish}
+use Rattle.kernel_rules.specs.State.{State, comp_in, comp_of, outstanding}
 use Rattle.kernel_rules.specs.Access.{to_use, to_part, only}
 use Rattle.kernel_rules.specs.Rules.{Judged, Refused, Found, named, mapped}
 use Rattle.kernel_rules.specs.CapabilityCalls.{epoch_of}
@@ -48,6 +49,13 @@ pub record TicksFit (s : State) (c n : ℕ) : Type 0 where
   pub owed : n + (s.core c).owed < 2 ^ 64
   pub spent : (s.core c).spent + budget_at s (s.core c).tcap < 2 ^ 64
 
+-- Core c has had back no more than it has spent, which is less than 2^64, and what it has left to have back sums with the budget of a
+-- temporal capability that it names to less than 2^32.
+pub record BackFits (s : State) (c a : ℕ) : Type 0 where
+  pub back : (s.core c).back ≤ (s.core c).spent
+  pub spent : (s.core c).spent < 2 ^ 64
+  pub budget : WhereFound (named s c a (to_use (only kind.Tcap))) λ k. budget_at s k.frame + outstanding (s.core c) < 2 ^ 32
+
 -- What a call of core c finds is in range.
 abbrev pub IsInRange : State → ℕ → Call → Type 0
 IsInRange s c (make_call what range frame table slot) = RangeEnds s c range × EpochFits s what
@@ -59,4 +67,5 @@ IsInRange s c (Gate k t b) = HasEpoch s c k
 IsInRange s c (Tick n) = TicksFit s c n
 IsInRange s c (Transfer a b m) = BudgetsFit s c a b
 IsInRange s c (Delegate a b m) = BudgetsFit s c a b
+IsInRange s c (Replenish a m) = BackFits s c a
 IsInRange s c call = Unit {0}

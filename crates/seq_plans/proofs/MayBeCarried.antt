@@ -1,7 +1,7 @@
 -- A call whose plan was found, and against which no own cause stands, may be carried out.
 use Rattle.std.proofs.Common.{◌≡◌, ◌≢◌, inl, inr, ℕ, ◌<◌, ◌≤◌, ◌+◌, ◌^◌, ◌==◌, Bool, true, false, not, ◌&&◌, nat_lt, nat_le, if◌then◌else◌}
 use Rattle.std.proofs.Common.{refl, sym, ap, subst, ◌∙◌, arith, zero, suc, drop, length, List, [], ◌∷◌, Option, Some, None, IsTrue, IsFalse}
-use Rattle.std.specs.Prelude.{is_some, IsSome, IsSomeAnd}
+use Rattle.std.specs.Prelude.{is_some, IsSome, IsSomeAnd, min}
 use Rattle.std.proofs.lemmas.Bool.{true≢false, and_parts, cases_lt, ltb-true, ltb-false, leb-true, leb-false, eqb-false, le-ltb}
 use Rattle.spk_nums.specs.Capability.{Capability}
 use Rattle.spk_nums.specs.declared.kinds.Kind.TheVariants as kind
@@ -13,10 +13,10 @@ use Rattle.spk_nums.specs.declared.calls.Make.TheVariants as make
 use Rattle.spk_nums.specs.declared.calls.Call.{Call}
 use Rattle.spk_nums.specs.declared.calls.Call.TheVariants.{Look, Copy, Remove, Grow, Shrink, Retype, Make as make_call}
 use Rattle.spk_nums.specs.declared.calls.Call.TheVariants.{Map, Unmap, Touch, Flush, Gate, Kill, Call as call_gate}
-use Rattle.spk_nums.specs.declared.calls.Call.TheVariants.{Ret, Switch, Tick, Transfer, Delegate, Test, Part}
+use Rattle.spk_nums.specs.declared.calls.Call.TheVariants.{Ret, Switch, Tick, Transfer, Delegate, Test, Part, Replenish}
 use Rattle.spk_nums.specs.declared.replies.Reply.{Reply}
 use Rattle.spk_nums.specs.declared.replies.Reply.TheVariants as reply
-use Rattle.kernel_rules.specs.State.{Blank, Table, Leaf, Pages, Pleaf, Comp, Thread, Tcap, Frame, Untyped, User, Kernel}
+use Rattle.kernel_rules.specs.State.{Blank, Table, Leaf, Pages, Pleaf, Comp, Thread, Tcap, Frame, Untyped, User, Kernel, outstanding}
 use Rattle.kernel_rules.specs.State.{State, comp_in, comp_of, thread_in, thread_of}
 use Rattle.kernel_rules.specs.Access.{Slot, Named, found, only, to_use, to_part}
 use Rattle.kernel_rules.specs.Rules.{Cause, Found, named, mapped, first_of, refusal_of, first_cause}
@@ -24,11 +24,11 @@ use Rattle.kernel_rules.specs.CapabilityCalls.{has_frame, outside, epoch_of, has
 use Rattle.kernel_rules.specs.MemoryCalls.{is_empty, not_retyped, retype_rule, translation_of}
 use Rattle.kernel_rules.specs.Life.{is_live_in}
 use Rattle.kernel_rules.specs.InvocationCalls.{not_live, switch_to}
-use Rattle.kernel_rules.specs.TimeCalls.{are_same, is_short, are_many, merged_list}
+use Rattle.kernel_rules.specs.TimeCalls.{are_same, is_short, are_many, merged_list, is_finer, is_less}
 use Rattle.kernel_rules.specs.CallRelation.{rule_of}
 use Rattle.kernel_rules.specs.Ranges.{budget_at}
 use Rattle.call_plans.specs.PlanOf.{plan_for}
-use Rattle.seq_lookups.specs.Ranges.{RangeEnds, PageFound, HasEpoch, BudgetsFit, IsInRange, WholeEnds}
+use Rattle.seq_lookups.specs.Ranges.{RangeEnds, PageFound, HasEpoch, BudgetsFit, IsInRange, WholeEnds, BackFits}
 use Rattle.seq_lookups.proofs.Outcomes.{where_found}
 use Rattle.seq_plans.specs.declared.walking.Looked.{Looked}
 use Rattle.seq_plans.specs.Reaches.{named_of}
@@ -244,6 +244,17 @@ may_move s c a b m (Some x) (Some y) others is_x is_y fits calm =
     let both = where_found (named s c b (to_use (only kind.Tcap))) _ y (sym is_y) one in
     (refl, refl, apart, omega (arith, both apart, enough))
 
+gives : (s : State) (c a m : ℕ) (x : Option Capability) → Names s c a kind.Tcap x → BackFits s c a
+    → None ≡ first_of (refusal_of s c (is_finer s c (named_of x))) (first_of (refusal_of s c (is_less s c m)) None)
+    → IsSome x × (budget_at s (named_of x).frame + m < 2 ^ 32) × ((s.core c).back + m < 2 ^ 64)
+gives s c a m None is fits calm = absurd is
+gives s c a m (Some x) is fits calm =
+    let second = calm_parts _ _ (calm_parts _ _ calm).1 in
+    let left : ℕ = outstanding (s.core c) in
+    let enough : m ≤ left = ltb-false left m (calm_when (nat_lt left m) (reply.Short (min left m)) second.0) in
+    let one = where_found (named s c a (to_use (only kind.Tcap))) _ x (sym is) fits.budget in
+    (refl, omega (arith, one, enough), omega (arith, enough, fits.back, fits.spent))
+
 few_merged : (s : State) (c : ℕ) (x y : Option Capability) (o p : Option Reply) → IsSome x → IsSome y
     → None ≡ first_of o (first_of p (first_cause s c (are_many s (named_of x) (named_of y) ∷ [])))
     → length (merged_list s (named_of x).frame (named_of y).frame) ≤ 8
@@ -314,6 +325,9 @@ may_carry s c (Delegate a b m) l ranges is calm =
 may_carry s c (Test a b) l ranges is calm =
     let h = found_all s c (plan_for (Test a b)) l is in
     (some_of l.first _ h.first, some_of l.second _ h.second)
+may_carry s c (Replenish a m) l ranges is calm =
+    let h = found_all s c (plan_for (Replenish a m)) l is in
+    gives s c a m l.first h.first ranges calm
 may_carry s c (Part r f n t b) l ranges is calm =
     let h = found_all s c (plan_for (Part r f n t b)) l is in
     (some_of l.first _ h.first, h.target, part_frame s c r f n l.first h.first ranges calm)

@@ -10,7 +10,7 @@ use Rattle.spk_nums.specs.declared.calls.Make.TheVariants as make
 use Rattle.spk_nums.specs.declared.calls.Call.{Call}
 use Rattle.spk_nums.specs.declared.calls.Call.TheVariants.{Look, Copy, Remove, Grow, Shrink, Retype, Make as make_call}
 use Rattle.spk_nums.specs.declared.calls.Call.TheVariants.{Map, Unmap, Touch, Flush, Gate, Kill, Call as call_gate}
-use Rattle.spk_nums.specs.declared.calls.Call.TheVariants.{Ret, Switch, Tick, Transfer, Delegate, Test, Part}
+use Rattle.spk_nums.specs.declared.calls.Call.TheVariants.{Ret, Switch, Tick, Transfer, Delegate, Test, Part, Replenish}
 use Rattle.spk_nums.specs.declared.replies.Reply.TheVariants as reply
 use Rattle.kernel_rules.specs.State.{State, comp_in, comp_of, thread_in, thread_of}
 use Rattle.kernel_rules.specs.Rules.{Rule, Name as name_rule, Vacant, Held as held_rule, Mapped, Does}
@@ -54,6 +54,10 @@ abbrev pub MayMove : State → Looked → ℕ → Type 0
 MayMove s l m = IsSome l.first × IsSome l.second × ((named_of l.first).frame ≢ (named_of l.second).frame)
     × (budget_at s (named_of l.second).frame + m < 2 ^ 32)
 
+-- Ticks are given back to a temporal capability, whose budget takes them.
+abbrev pub MayGive : State → ℕ → Looked → ℕ → Type 0
+MayGive s c l m = IsSome l.first × (budget_at s (named_of l.first).frame + m < 2 ^ 32) × ((s.core c).back + m < 2 ^ 64)
+
 -- What a call of core c must have found to be carried out.
 abbrev pub MayCarry : State → ℕ → Call → Looked → Type 0
 MayCarry s c (Look a) l = IsSome l.first
@@ -79,3 +83,4 @@ MayCarry s c (Delegate a b m) l =
     MayMove s l m × (length (merged_list s (named_of l.first).frame (named_of l.second).frame) ≤ 8)
 MayCarry s c (Test a b) l = IsSome l.first × IsSome l.second
 MayCarry s c (Part r f n t b) l = IsSome l.first × IsSome l.at × (f < s.limits.frames)
+MayCarry s c (Replenish a m) l = MayGive s c l m

@@ -70,7 +70,17 @@ number_or_unused (Some x) = number_of x
 
 -- A core that the machine does not have.
 abbrev pub no_core : state.Core
-no_core = record { inside = false; thread = 0; tcap = 0; cached = []; spent = 0; owed = 0; counted = 0 }
+no_core = record {
+  inside = false;
+  thread = 0;
+  tcap = 0;
+  cached = [];
+  spent = 0;
+  back = 0;
+  owed = 0;
+  counted = 0;
+  grant = (0, 0);
+}
 
 -- The core in a map, or none.
 abbrev pub core_or_none : Option Core → state.Core

@@ -64,8 +64,10 @@ core_of k = record {
   tcap = k.tcap;
   cached = k.cached;
   spent = k.spent;
+  back = k.back;
   owed = k.owed;
   counted = k.counted;
+  grant = k.grant;
 }
 
 -- A thing.

@@ -109,10 +109,14 @@ pub struct Core {
     pub cached: Translations,
     /// The ticks that it has spent.
     pub spent: u64,
+    /// The ticks of these that it has had back.
+    pub back: u64,
     /// The ticks that it owes.
     pub owed: u64,
     /// How many of its calls were counted.
     pub counted: u64,
+    /// The scheduler and the number with which time was granted to it at boot.
+    pub grant: (u8, u32),
 }
 
 /// What one core has still to do in the grace period of what was removed.

@@ -2,7 +2,7 @@
 
 ghost use Rattle.std.specs.Prelude.{◌≡◌, ◌<◌, ◌≤◌, ◌+◌, ◌-◌, ◌*◌, ◌/◌, ◌%◌, IfOk, Some, IsSome, slice_get, length, [], ◌∷◌};
 ghost use Rattle.spk_nums.specs.Limits.{least_arg, end_of_arg};
-ghost use Rattle.kernel_rules.specs.Start.{plain_cap, start_range, core_cap, start_cap, start_place, granted};
+ghost use Rattle.kernel_rules.specs.Start.{plain_cap, start_range, core_cap, start_cap, start_place, granted, grant_pair};
 ghost use Rattle.kernel_rules.specs.Start.{start_frame, start_number, start_core, start, place_with};
 ghost use Rattle.seq_state.specs.Parts.{place_held, tcap_fields_of, frame_of, number_of, core_of, thread_fields_of};
 ghost use Rattle.seq_state.specs.Times.{no_period};
@@ -127,6 +127,16 @@ fn tcap_at(setup: &Setup, core: u16) -> TcapFields
     tcap_with(setup.grants().get(usize::from(core)))
 }
 
+/// The scheduler and the number of a core's grant.
+fn grant_at(setup: &Setup, core: u16) -> (u8, u32)
+    ensures { result ≡ grant_pair (slice_get setup.now.grants core) }
+{
+    match setup.grants().get(usize::from(core)) {
+        None => (0, 0),
+        Some(grant) => (grant.sched, grant.quality),
+    }
+}
+
 /// The thread of a core, in the component in frame 3.
 fn thread_at(core: u8) -> ThreadFields
     requires { core < 8 }
@@ -190,8 +200,10 @@ fn core_at(setup: &Setup, core: u16) -> Core
         tcap: FrameNo::new(4 + u16::from(setup.cores()) + core),
         cached: Translations::empty(),
         spent: 0,
+        back: 0,
         owed: 0,
         counted: 0,
+        grant: grant_at(setup, core),
     }
 }
 

@@ -1,8 +1,9 @@
 -- The calls of this family.
 use Rattle.spk_nums.specs.declared.calls.Call.{Call}
 use Rattle.spk_nums.specs.declared.calls.Call.TheVariants.{Gate, Kill, Call as call_gate, Ret, Switch, Tick, Transfer, Delegate, Test}
+use Rattle.spk_nums.specs.declared.calls.Call.TheVariants.{Replenish}
 
--- A call that makes a gate, kills, calls, returns or switches, that charges or moves ticks, or that tests preemption.
+-- A call that makes a gate, kills, calls, returns or switches, that charges, moves or gives back ticks, or that tests preemption.
 abbrev pub IsTimeCall : Call → Type 0
 IsTimeCall (Gate c t b) = Unit {0}
 IsTimeCall (Kill c) = Unit {0}
@@ -13,4 +14,5 @@ IsTimeCall (Tick n) = Unit {0}
 IsTimeCall (Transfer a b m) = Unit {0}
 IsTimeCall (Delegate a b m) = Unit {0}
 IsTimeCall (Test a b) = Unit {0}
+IsTimeCall (Replenish a m) = Unit {0}
 IsTimeCall call = ⊥

@@ -2,6 +2,7 @@
 
 ghost use Rattle.std.specs.Prelude.{◌≡◌, ◌≢◌, ◌<◌, ◌≤◌, ◌+◌, ◌^◌, ℕ, length};
 ghost use Rattle.spk_nums.specs.declared.calls.Call.TheVariants.{Gate, Kill, Call as call_gate, Ret, Switch, Transfer, Delegate, Test};
+ghost use Rattle.spk_nums.specs.declared.calls.Call.TheVariants.{Replenish};
 ghost use Rattle.spk_nums.specs.declared.replies.Value.TheVariants.{Nothing};
 ghost use Rattle.spk_nums.specs.declared.replies.Reply.TheVariants.{Ok as ok};
 ghost use Rattle.kernel_rules.specs.CallRelation.{rule_of};
@@ -15,7 +16,7 @@ ghost use Rattle.seq_time.specs.Own.{IsTimeCall};
 use crate::budgets::{delegate_ticks, move_ticks, preemption};
 use crate::invocation::{end_life, gate_to, pop, set_stack};
 use crate::switching::go_on;
-use crate::ticks::tick;
+use crate::ticks::{give_back, tick};
 use preempt_test::preempts;
 use seq_lookups::{comp_at, fill, tcap_at, thread_at, thread_of};
 use seq_plans::Looked;
@@ -146,6 +147,19 @@ fn test(k: &SeqKernel, looked: &Looked) -> Value
     preemption(wins)
 }
 
+/// `replenish`: ticks that the core has spent are given back to the temporal capability.
+fn replenish(k: &mut SeqKernel, core: CoreNo, looked: &Looked, amount: u32) -> Value
+    requires { core < (state_of k.old).limits.cores }
+    ensures { (a : ℕ) → MayCarry (state_of k.old) core (Replenish a amount) looked.now → IsCarriedOut (state_of k.old)
+        (change_in (left_of (rule_of (state_of k.old) core (Replenish a amount)) looked.now)) (ok result) k.new }
+{
+    if let Some(tcap) = looked.first {
+        give_back(k, core, tcap.frame(), amount);
+        return Value::Nothing;
+    }
+    Value::Nothing
+}
+
 /// Carries out a call of invocation or of time of a core of the machine that has looked this up, and answers its value: the change of
 /// the call's rule. None of its causes may stand, and what it refers to must have been found (`MayCarry`); of any other call nothing is
 /// said.
@@ -165,6 +179,7 @@ pub fn carry_out(k: &mut SeqKernel, core: CoreNo, call: &Call, looked: &Looked) 
         Call::Transfer { a: _, b: _, m } => transfer(k, looked, m),
         Call::Delegate { a: _, b: _, m } => delegate(k, looked, m),
         Call::Test { a: _, b: _ } => test(k, looked),
+        Call::Replenish { a: _, m } => replenish(k, core, looked, m),
         _ => unreachable!(),
     }
 }

@@ -4,7 +4,7 @@ ghost use Rattle.std.specs.Prelude.{◌≡◌, ◌<◌, ◌≤◌, [], ◌∷◌
 ghost use Rattle.spk_nums.specs.declared.calls.Call.TheVariants.{Call as call_gate, Kill, Switch, Ret};
 ghost use Rattle.kernel_rules.specs.State.{comp_in, thread_in};
 ghost use Rattle.kernel_rules.specs.InvocationCalls.{not_live};
-ghost use Rattle.kernel_rules.specs.TimeCalls.{are_same, is_short, are_unlike, are_many};
+ghost use Rattle.kernel_rules.specs.TimeCalls.{are_same, is_short, are_unlike, are_many, is_finer, is_less};
 ghost use Rattle.seq_state.specs.Maps.{state_of};
 ghost use Rattle.seq_plans.specs.Reaches.{named_of};
 ghost use Rattle.seq_plans.specs.Walks.{left_of, causes_of};
@@ -12,6 +12,7 @@ ghost use Rattle.seq_plans.specs.OwnCauses.{cause_of, causes_in, AreFitCauses, j
 ghost use Rattle.seq_time.specs.Own.{IsTimeCall};
 
 use crate::budgets::{are_alike, merged_for};
+use crate::ticks::left_back;
 use seq_lookups::{comp_at, is_live_in, tcap_at, thread_at, thread_of};
 use seq_plans::{Cause, Causes, Looked};
 use seq_state::SeqKernel;
@@ -156,6 +157,31 @@ fn are_many(k: &SeqKernel, a: &Option<Cap>, b: &Option<Cap>) -> Cause
     }
 }
 
+/// That the list of a temporal capability is better than the core's grant.
+fn is_finer(k: &SeqKernel, core: CoreNo, a: &Option<Cap>) -> Cause
+    requires { core < (state_of k.now).limits.cores }
+    ensures { cause_of result ≡ is_finer (state_of k.now) core (named_of a.now) }
+{
+    let list = tcap_at(k, frame_of(a)).qualities;
+    Cause::When {
+        stands: is_found(a) && !list.covers(k.core(core).grant),
+        refusal: Reply::Unlike,
+    }
+}
+
+/// That the core has fewer ticks left to have back than the amount.
+fn is_less(k: &SeqKernel, core: CoreNo, amount: u32) -> Cause
+    requires { core < (state_of k.now).limits.cores }
+    ensures { cause_of result ≡ is_less (state_of k.now) core amount }
+{
+    let left = left_back(k, core);
+    let stands = left < u64::from(amount);
+    Cause::When {
+        stands,
+        refusal: Reply::Short(if stands { left as u32 } else { amount }),
+    }
+}
+
 /// The own causes of a call of invocation or of time of a core of the machine that has looked this up, in order.
 pub fn causes(k: &SeqKernel, core: CoreNo, call: &Call, looked: &Looked) -> Causes
     requires own { IsTimeCall call.now }
@@ -177,6 +203,7 @@ pub fn causes(k: &SeqKernel, core: CoreNo, call: &Call, looked: &Looked) -> Caus
             Causes::three(are_same(a, b), is_short(k, a, m), are_many(k, a, b))
         }
         Call::Test { a: _, b: _ } => Causes::one(are_same(a, b)),
+        Call::Replenish { a: _, m } => Causes::two(is_finer(k, core, a), is_less(k, core, m)),
         _ => unreachable!(),
     }
 }

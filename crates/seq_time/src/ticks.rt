@@ -1,8 +1,9 @@
-//! Charging ticks.
+//! Charging ticks, and giving them back.
 
 ghost use Rattle.std.specs.Prelude.{◌≡◌, ◌<◌, ◌≤◌, ◌+◌, ◌^◌};
 ghost use Rattle.kernel_rules.specs.Rules.{outcome};
-ghost use Rattle.kernel_rules.specs.TimeCalls.{charge, with_budget, tick_rule, tcap_at, charges};
+ghost use Rattle.kernel_rules.specs.TimeCalls.{charge, with_budget, tick_rule, tcap_at, charges, given_back};
+ghost use Rattle.kernel_rules.specs.State.{outstanding};
 ghost use Rattle.seq_state.specs.Maps.{state_of};
 ghost use Rattle.seq_state.specs.Representation.{Represents};
 ghost use Rattle.seq_lookups.specs.Carried.{IsCarriedOut};
@@ -69,6 +70,31 @@ pub(crate) fn tick(k: &mut SeqKernel, core: CoreNo, ticks: u32) -> Value
     let charged = charged(k, core, due);
     charge(k, core, due, charged);
     Value::Amount(charged)
+}
+
+/// The ticks that a core has spent and has not had back.
+pub(crate) fn left_back(k: &SeqKernel, core: CoreNo) -> u64
+    requires { core < (state_of k.now).limits.cores }
+    ensures { result ≡ outstanding ((state_of k.now).core core) }
+{
+    let now = k.core(core);
+    now.spent.saturating_sub(now.back)
+}
+
+/// Gives back to a temporal capability so many of the ticks that the core has spent.
+pub(crate) fn give_back(k: &mut SeqKernel, core: CoreNo, tcap: FrameNo, amount: u32)
+    requires { core < (state_of k.old).limits.cores }
+    ensures { (tcap_at (state_of k.old) tcap).budget + amount < 2 ^ 32 → ((state_of k.old).core core).back + amount < 2 ^ 64
+        → Represents k.new (given_back (state_of k.old) core tcap amount) }
+{
+    let now = *k.core(core);
+    let budget = tcap_at(k, tcap).budget.saturating_add(amount);
+    let next = Core {
+        back: now.back.saturating_add(u64::from(amount)),
+        ..now
+    };
+    set_budget(k, tcap, budget);
+    k.set_core(core, next);
 }
 
 ghost use Rattle.spk_nums.specs.declared.replies.Reply.TheVariants.{Ok};

@@ -324,6 +324,26 @@ pub extern "C" fn speck_inner_test(
     )
 }
 
+/// Gives back to `tcap` so many of the ticks that the port's core has spent and has not had back, by that core.
+#[unsafe(no_mangle)]
+pub extern "C" fn speck_inner_replenish(
+    alloc: Global,
+    port: &mut Slot,
+    tcap: u16,
+    ticks: u32,
+) -> SpeckReply
+    ensures { IsCalled (held_in port.old) (Call.Replenish tcap ticks) result (held_in port.new) }
+{
+    make_call(
+        alloc,
+        port,
+        Call::Replenish {
+            a: CapId::new(tcap),
+            m: ticks,
+        },
+    )
+}
+
 /// Charges so many ticks, at most 1,000,000, by the port's core.
 #[unsafe(no_mangle)]
 pub extern "C" fn speck_inner_tick(alloc: Global, port: &mut Slot, ticks: u32) -> SpeckReply

@@ -125,6 +125,22 @@ fn parts_print_as_they_are_written(rt: HostRuntime) -> Result<(), Fail> {
 }
 
 #[test]
+fn replenishments_print_as_they_are_written(rt: HostRuntime) -> Result<(), Fail> {
+    let alloc = rt.alloc();
+    assert!(rt;
+        prints(
+            alloc,
+            &Call::Replenish {
+                a: id(12),
+                m: 4_000_000_000
+            },
+            "replenish 12 4000000000"
+        )?
+    );
+    Ok(())
+}
+
+#[test]
 fn makes_print_as_they_are_written(rt: HostRuntime) -> Result<(), Fail> {
     let alloc = rt.alloc();
     assert!(rt; prints(alloc, &made(Make::Table), "make table 0 8 1 20")?);

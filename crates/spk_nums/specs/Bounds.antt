@@ -6,7 +6,7 @@ use Rattle.spk_nums.specs.declared.calls.Make.TheVariants.{Thread as make_thread
 use Rattle.spk_nums.specs.declared.calls.Call.{Call}
 use Rattle.spk_nums.specs.declared.calls.Call.TheVariants.{Look, Copy, Remove, Grow, Shrink, Retype, Make as make_call}
 use Rattle.spk_nums.specs.declared.calls.Call.TheVariants.{Map, Unmap, Touch, Flush, Gate, Kill, Call as call_gate}
-use Rattle.spk_nums.specs.declared.calls.Call.TheVariants.{Ret, Switch, Tick, Transfer, Delegate, Test, Part}
+use Rattle.spk_nums.specs.declared.calls.Call.TheVariants.{Ret, Switch, Tick, Transfer, Delegate, Test, Part, Replenish}
 
 -- the most own steps of a retype on n cores: back to untyped it looks at every core's words
 abbrev pub bound_of_retype : FrameKind → ℕ → ℕ
@@ -44,3 +44,4 @@ bound_of (Transfer a b m) n = 30
 bound_of (Delegate a b m) n = 39
 bound_of (Test a b) n = 30
 bound_of (Part r f k t b) n = 11 + n
+bound_of (Replenish a m) n = 17

@@ -8,7 +8,7 @@ use Rattle.spk_nums.specs.declared.calls.Make.TheVariants as make
 use Rattle.spk_nums.specs.declared.calls.Call.{Call}
 use Rattle.spk_nums.specs.declared.calls.Call.TheVariants.{Look, Copy, Remove, Grow, Shrink, Retype, Make as make_call}
 use Rattle.spk_nums.specs.declared.calls.Call.TheVariants.{Map, Unmap, Touch, Flush, Gate, Kill, Call as call_gate}
-use Rattle.spk_nums.specs.declared.calls.Call.TheVariants.{Ret, Switch, Tick, Transfer, Delegate, Test, Part}
+use Rattle.spk_nums.specs.declared.calls.Call.TheVariants.{Ret, Switch, Tick, Transfer, Delegate, Test, Part, Replenish}
 use Rattle.spk_nums.specs.declared.replies.Value.{Value}
 use Rattle.spk_nums.specs.declared.replies.Value.TheVariants.{Nothing, Cap as cap_value, Page, Amount, Preempts, Stays}
 use Rattle.spk_nums.specs.declared.replies.Reply.{Reply}
@@ -97,6 +97,7 @@ call_text (Transfer a b m) = with_three (codes "transfer") a b m
 call_text (Delegate a b m) = with_three (codes "delegate") a b m
 call_text (Test a b) = with_two (codes "test") a b
 call_text (Part r f n t b) = with_five (codes "part") r f n t b
+call_text (Replenish a m) = with_two (codes "replenish") a m
 
 -- the answer of a call that was carried out
 abbrev pub ok_text : Value → List ℕ

@@ -145,4 +145,9 @@ pub enum Call {
         t: CapId,
         b: CapId,
     },
+    /// Gives back to `a` so many ticks of those that the core has spent, where `a`'s list is no better than the core's grant.
+    Replenish {
+        a: CapId,
+        m: u32,
+    },
 }

@@ -86,6 +86,7 @@ pub fn call_name(call: &Call) -> &'static str
             t: _,
             b: _,
         } => "part",
+        Call::Replenish { a: _, m: _ } => "replenish",
     }
 }
 

@@ -1,6 +1,7 @@
 //! Lists of qualities: for each scheduler through which time came, how good it is there.
 
 ghost use Rattle.std.specs.Prelude.{◌≡◌, ◌<◌, ◌≤◌, ◌^◌, [], ◌∷◌, ◌++◌, length, slice_get, if◌then◌else◌, nat_lt};
+ghost use Rattle.spk_nums.specs.Merging.{covers};
 ghost use Rattle.spk_nums.specs.Qualities.{IsQualityList, takes_pair};
 
 use std::marker::Model;
@@ -70,6 +71,16 @@ impl Qualities {
         } else {
             None
         }
+    }
+
+    /// Whether the list names a pair's scheduler with a number that is no smaller: merging the pair into it then leaves it as it is.
+    pub fn covers(&self, pair: (u8, u32)) -> bool
+        ensures { result ≡ covers self.now pair }
+    {
+        let len = usize::from(self.len);
+        self.cells[..len]
+            .iter()
+            .any(|x| x.0 == pair.0 && pair.1 <= x.1)
     }
 
     /// Appends a pair. Answers false and changes nothing exactly where there are 8 already, the scheduler is not

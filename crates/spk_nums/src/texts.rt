@@ -206,6 +206,7 @@ impl fmt::Display for Call {
                 t,
                 b,
             } => write!(f, "part {r} {frame} {n} {t} {b}"),
+            Call::Replenish { a, m } => write!(f, "replenish {a} {m}"),
         }
     }
 }

@@ -110,6 +110,8 @@ pub struct CoreEnd {
     pub comp: FrameNo,
     /// The ticks charged on it.
     pub spent: u64,
+    /// The ticks of these that it has had back.
+    pub back: u64,
     /// The ticks that it still owes.
     pub owed: u64,
     /// The translations that it has cached.

@@ -15,7 +15,7 @@ use Rattle.world_laws.specs.kernel_rules.specs.Laws.{calls_counted}
 use Rattle.world_laws.specs.kernel_rules.specs.Runs.{Event, Decides, after, is_open, IsRun}
 use Rattle.world_laws.specs.kernel_rules.proofs.Changes.{IfFound}
 use Rattle.world_laws.specs.kernel_rules.proofs.Within.{put_same}
-use Rattle.world_laws.specs.kernel_invariant.specs.Edits.{Edit, Fill, Switch, Cache, Flush, Charge, Merge, edited, after_edits}
+use Rattle.world_laws.specs.kernel_invariant.specs.Edits.{Edit, Fill, Switch, Cache, Flush, Charge, Merge, Give, edited, after_edits}
 use Rattle.world_laws.specs.kernel_invariant.proofs.SoundCalls.{IsOpen}
 use Rattle.world_laws.specs.kernel_invariant.proofs.SoundRuns.{opened, open_is, open_limits}
 use Rattle.world_laws.specs.kernel_invariant.proofs.Edited.{AreLater, Calm, found_by}
@@ -42,6 +42,7 @@ module _ (call : Call) (w : World) (s : State) (c : ℕ) (b : Bool) (on : WorksO
   edit_stays (Cache t) by = own_core s _ refl on.thread
   edit_stays Flush by = own_core s _ refl on.thread
   edit_stays (Charge n) by = own_core s _ refl on.thread
+  edit_stays (Give f m) by = own_core s _ refl on.thread
   edit_stays _ by = on.thread
 
   later_stays : (t : State) (es : List Edit) → AreLater es → Stays t → Stays (after_edits c t es)
@@ -80,7 +81,7 @@ module _ (setting : Setting) (lim : IsSetting setting) (events : List Event) (c 
   thread_stays w split =
       let on : WorksOn w s c (side w s c) = works_on w s c (opened events) open_call split in
       decided_from s c (opened events) open_call call (λ u. w.frame (u.core c).thread ≡ side w s c) on.thread
-      (λ u k thread spent h. own_core call w s c (side w s c) on u k thread h) (λ u g h. h)
+      (λ u k thread left h. own_core call w s c (side w s c) on u k thread h) (λ u g h. h)
       (λ es calm by. edits_stay call w s c (side w s c) on es calm by) r run.1.permitted
       ∙ sym on.thread
 

@@ -28,7 +28,7 @@ abbrev five : World
 five = record { frame = λ f. f == 5; number = λ l. l == 1 }
 
 abbrev idle : Core
-idle = record { inside = false; thread = 0; tcap = 0; cached = []; spent = 0; owed = 0; counted = 0 }
+idle = record { inside = false; thread = 0; tcap = 0; cached = []; spent = 0; back = 0; owed = 0; counted = 0; grant = (0, 0) }
 
 abbrev nothing : State
 nothing = record {

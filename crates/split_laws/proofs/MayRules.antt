@@ -1,8 +1,8 @@
 -- Each call of core c may be refused alike in a state in which it finds the same, but for a refusal that tells of a frame outside.
-use Rattle.std.proofs.Common.{◌≡◌, ℕ, ◌==◌, Bool, true, false, not, ◌&&◌, refl, sym, ◌∙◌, ap, subst, nat_lt, nat_le, length}
+use Rattle.std.proofs.Common.{◌≡◌, ℕ, ◌==◌, Bool, true, false, not, ◌&&◌, refl, sym, ◌∙◌, ap, subst, nat_lt, nat_le, length, min}
 use Rattle.std.proofs.Common.{inl, inr, Option, Some, None, IsTrue}
 use Rattle.std.proofs.lemmas.Bool.{false≢true}
-use Rattle.world_laws.specs.spk_nums.specs.Merging.{merged}
+use Rattle.world_laws.specs.spk_nums.specs.Merging.{merged, covers}
 use Rattle.world_laws.specs.spk_nums.specs.declared.kinds.Kind.{Kind}
 use Rattle.world_laws.specs.spk_nums.specs.declared.kinds.Kind.TheVariants as kind
 use Rattle.world_laws.specs.spk_nums.specs.declared.kinds.FrameKind.{FrameKind}
@@ -13,12 +13,12 @@ use Rattle.world_laws.specs.spk_nums.specs.declared.calls.Make.TheVariants as ma
 use Rattle.world_laws.specs.spk_nums.specs.declared.calls.Call.{Call}
 use Rattle.world_laws.specs.spk_nums.specs.declared.calls.Call.TheVariants.{Look, Copy, Remove, Grow, Shrink, Retype, Make as make_call}
 use Rattle.world_laws.specs.spk_nums.specs.declared.calls.Call.TheVariants.{Map, Unmap, Touch, Flush, Gate, Kill, Call as call_gate}
-use Rattle.world_laws.specs.spk_nums.specs.declared.calls.Call.TheVariants.{Ret, Switch, Tick, Transfer, Delegate, Test, Part}
+use Rattle.world_laws.specs.spk_nums.specs.declared.calls.Call.TheVariants.{Ret, Switch, Tick, Transfer, Delegate, Test, Part, Replenish}
 use Rattle.world_laws.specs.spk_nums.specs.declared.translations.Translation.{Translation}
 use Rattle.world_laws.specs.spk_nums.specs.declared.replies.Reply.{Reply}
 use Rattle.world_laws.specs.spk_nums.specs.declared.replies.Reply.TheVariants as reply
 use Rattle.world_laws.specs.kernel_rules.specs.State.{CompFields, ThreadFields, TcapFields, Object, Table, Leaf, Pages, Pleaf, Frame}
-use Rattle.world_laws.specs.kernel_rules.specs.State.{Limits}
+use Rattle.world_laws.specs.kernel_rules.specs.State.{Core, Limits, outstanding}
 use Rattle.world_laws.specs.kernel_rules.specs.State.{State, thread_in, comp_in, tcap_in, comp_of}
 use Rattle.world_laws.specs.kernel_rules.specs.References.{refs}
 use Rattle.world_laws.specs.kernel_rules.specs.Access.{only, root, to_use, Named, capability}
@@ -30,7 +30,7 @@ use Rattle.world_laws.specs.kernel_rules.specs.CapabilityCalls.{make_tcap, make_
 use Rattle.world_laws.specs.kernel_rules.specs.MemoryCalls.{is_untyped, is_user, is_empty, retype_rule, map_rule, unmap_rule}
 use Rattle.world_laws.specs.kernel_rules.specs.MemoryCalls.{translation_of, touch_by, touch_rule}
 use Rattle.world_laws.specs.kernel_rules.specs.InvocationCalls.{gate_rule, kill_rule, call_rule, ret_rule, switch_to, switch_rule}
-use Rattle.world_laws.specs.kernel_rules.specs.TimeCalls.{tcap_at, are_alike, transfer_rule, delegate_rule, test_rule}
+use Rattle.world_laws.specs.kernel_rules.specs.TimeCalls.{tcap_at, are_alike, transfer_rule, delegate_rule, test_rule, replenish_rule}
 use Rattle.world_laws.specs.kernel_rules.specs.CallRelation.{rule_of}
 use Rattle.world_laws.specs.kernel_rules.specs.Fitting.{fits}
 use Rattle.world_laws.specs.kernel_invariant.proofs.Facts.{named_fit}
@@ -447,6 +447,27 @@ module _ {w : Region} {t s : State} {o : ℕ → Bool} {c : ℕ} (l : TwinsOn w 
   test_alike : (a b : ℕ) → RuleAlike w s c r (test_rule t a b) (test_rule s a b)
   test_alike a b = (refl, refl, λ x one. (refl, refl, λ y two. ((λ on is. (on, refl)), λ none. none)))
 
+  replenish_alike : (a m : ℕ) → RuleAlike w s c r (replenish_rule t c a m) (replenish_rule s c a m)
+  replenish_alike a m = (
+    refl,
+    refl,
+    λ x led. (
+      (λ on is. (
+        where_found x.found (not (covers (tcap_at t x.frame).qualities (t.core c).grant))
+            (not (covers (tcap_at s x.frame).qualities (s.core c).grant))
+            (λ f i. not (covers (tcap_same a x led f i).qualities (core_agree l i).grant)) on,
+        refl,
+      )),
+      (
+        (λ on is. (
+          ap (λ (k : Core). nat_lt (outstanding k) m) (core_agree l) ∙ on,
+          ap (λ (k : Core). reply.Short (min (outstanding k) m)) (core_agree l),
+        )),
+        λ none. none,
+      ),
+    ),
+  )
+
   pub rule_alike : (call : Call) → NamesIn w call → TellsOwn w.frame true call r → RuleAlike w s c r (rule_of t c call) (rule_of s c call)
   rule_alike (Look a) names tells = look_alike a
   rule_alike (Copy a x b rights) names tells = copy_alike a x b rights.0
@@ -468,6 +489,7 @@ module _ {w : Region} {t s : State} {o : ℕ → Bool} {c : ℕ} (l : TwinsOn w 
   rule_alike (Transfer a b m) names tells = transfer_alike a b m
   rule_alike (Delegate a b m) names tells = delegate_alike a b m
   rule_alike (Test a b) names tells = test_alike a b
+  rule_alike (Replenish a m) names tells = replenish_alike a m
   rule_alike (Part range f n x b) names tells = part_alike range f n x b
 
 -- A refusal of core c's call by its rule comes of the same in both states.

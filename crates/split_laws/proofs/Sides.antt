@@ -217,4 +217,6 @@ module _ (w : World) (s : State) (c : ℕ) (o : ℕ → Bool) (open_call : IsOpe
   rule_sides (call.Delegate a d m) own = λ j e k f calm.
       tcap_sides w _ s.core n (tcap_sides w _ s.core n (tcap_sides w s.frame s.core n h j.frame _) k.frame _) k.frame _
   rule_sides (call.Test a d) own = λ j e k f calm. h
+  rule_sides (call.Replenish a m) own = λ j e calm.
+      core_same w _ s.core n (tcap_sides w s.frame s.core n h j.frame _) c _ refl refl refl
   rule_sides (call.Part r f count t at) own = λ k e table g slot v calm. h

@@ -161,10 +161,11 @@ fn time(draws: &mut Draws) -> Call {
     let a = draw_cap(draws, Role::Tcap);
     let b = draw_cap(draws, Role::Tcap);
     let m = u32::from(draws.below(500));
-    match draws.below(4) {
+    match draws.below(5) {
         0 => Call::Tick { n: m },
         1 => Call::Transfer { a, b, m },
         2 => Call::Delegate { a, b, m },
+        3 => Call::Replenish { a, m },
         _ => Call::Test { a, b },
     }
 }

@@ -57,7 +57,7 @@ pair_is_in s p h = by_at p.at h.at where
   by_at StoreB a = (h.b, omega arith)
   by_at (StoreA moved v) a = (h.a, omega arith)
 
-noted_fits : (old : HeadWord) (found : ℕ) (o : Option HeadWord) → head_of_word found ≡ o → VersionFits old → VersionFits (noted old o)
+pub noted_fits : (old : HeadWord) (found : ℕ) (o : Option HeadWord) → head_of_word found ≡ o → VersionFits old → VersionFits (noted old o)
 noted_fits old found None is h = h
 noted_fits old found (Some v) is h = (heads.spelling.spells found v is).0.2
 
@@ -93,7 +93,7 @@ by_head_fits : (going refused : PairAt) (o : Option HeadWord) → AtFits going �
 by_head_fits going refused None g r = r
 by_head_fits going refused (Some v) g r = by_mark_fits going refused v.mark g r
 
-first_fits : EntryFits 1
+pub first_fits : EntryFits 1
 first_fits = (omega arith, omega arith)
 
 budget_fits : (short : Bool) → AtFits (at_by_budget short)
@@ -108,7 +108,7 @@ read_fits : (o : Option QualityWord) (next : PairAt) → AtFits next → AtFits 
 read_fits None next h = tt
 read_fits (Some v) next h = h
 
-more_fits : (entry : ℕ) → true ≡ nat_lt entry 8 → EntryFits (entry + 1)
+pub more_fits : (entry : ℕ) → true ≡ nat_lt entry 8 → EntryFits (entry + 1)
 more_fits entry is = let below : entry < 8 = ltb-true entry 8 (sym is) in (omega arith, omega (arith, below))
 
 a_next_fits : (more : Bool) (entry : ℕ) → more ≡ nat_lt entry 8 → AtFits (a_next more entry)

@@ -5,3 +5,4 @@ pub mod Heads
 pub mod Lists
 pub mod Charging
 pub mod Pairs
+pub mod Refilling

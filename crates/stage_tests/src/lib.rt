@@ -28,6 +28,8 @@ mod pairs;
 #[cfg(test)]
 mod pins;
 #[cfg(test)]
+mod refills;
+#[cfg(test)]
 mod scans;
 #[cfg(test)]
 mod settles;

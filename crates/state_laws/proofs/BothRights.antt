@@ -14,7 +14,7 @@ use Rattle.spk_nums.specs.declared.calls.Make.TheVariants as make
 use Rattle.spk_nums.specs.declared.calls.Call.{Call}
 use Rattle.spk_nums.specs.declared.calls.Call.TheVariants.{Look, Copy, Remove, Grow, Shrink, Retype, Make as make_call}
 use Rattle.spk_nums.specs.declared.calls.Call.TheVariants.{Map, Unmap, Touch, Flush, Gate, Kill, Call as call_gate}
-use Rattle.spk_nums.specs.declared.calls.Call.TheVariants.{Ret, Switch, Tick, Transfer, Delegate, Test, Part}
+use Rattle.spk_nums.specs.declared.calls.Call.TheVariants.{Ret, Switch, Tick, Transfer, Delegate, Test, Part, Replenish}
 use Rattle.spk_nums.specs.declared.translations.Translation.{Translation}
 use Rattle.spk_nums.specs.declared.replies.Reply.{Reply}
 use Rattle.spk_nums.specs.declared.replies.Reply.TheVariants as reply
@@ -127,6 +127,7 @@ module _ (s : State) (c : ℕ) (h : AllBoth s) where
   rule_both (Transfer a b m) keep = λ j e k f calm. h
   rule_both (Delegate a b m) keep = λ j e k f calm. h
   rule_both (Test a b) keep = λ j e k f calm. h
+  rule_both (Replenish a m) keep = λ j e calm. h
   rule_both (Part r f n t b) keep = λ k e table g at v calm.
       placed s.place at.node at.index (Holds (part_of k f n)) (named_both r (to_part (only kind.Range)) k e) h
 
@@ -214,6 +215,7 @@ met s c (Switch a b) = (refl, (refl, tt))
 met s c (Transfer a b m) = (refl, (refl, tt))
 met s c (Delegate a b m) = (refl, (refl, tt))
 met s c (Test a b) = (refl, (refl, tt))
+met s c (Replenish a m) = (refl, tt)
 met s c (Part r f n t b) = (refl, (refl, tt))
 met s c _ = tt
 

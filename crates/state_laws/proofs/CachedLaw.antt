@@ -32,7 +32,7 @@ use Rattle.kernel_invariant.proofs.SoundCalls.{IsOpen}
 use Rattle.kernel_invariant.proofs.SoundRuns.{opened, open_is, open_limits, inside_is, limits_stay}
 use Rattle.found_stays.proofs.SparesRuns.{core_same_refs}
 use Rattle.kernel_invariant.proofs.Refs.{grace_refs}
-use Rattle.kernel_invariant.specs.Edits.{Edit, Fill, Merge, Switch, Cache, Flush, Charge, edited, after_edits, is_flush, flush_in}
+use Rattle.kernel_invariant.specs.Edits.{Edit, Fill, Merge, Give, Switch, Cache, Flush, Charge, edited, after_edits, is_flush, flush_in}
 use Rattle.kernel_invariant.proofs.Edited.{Tested, Each, AreLater, later_core, Calm, after_ok}
 use Rattle.kernel_invariant.proofs.Facts.{then_parts, or_found, some_inj, none_some, found_inj, refused_found}
 use Rattle.found_stays.proofs.Stays.{link_of, fields, pages_relies, usable_guarded, place_named}
@@ -234,6 +234,10 @@ module _ (s : State) (o : ℕ → Bool) (c : ℕ) (h : IsOpen s o c) (w : IsFitt
     }
     edit_caches (Charge n) tested = record {
       stand = core_stand s s.core c (record (s.core c) { spent = _; owed = _ }) own_list all;
+      flushed = λ is. absurd (false≢true is);
+    }
+    edit_caches (Give f m) tested = record {
+      stand = core_stand s s.core c (record (s.core c) { back = _ }) own_list all;
       flushed = λ is. absurd (false≢true is);
     }
     edit_caches _ tested = record { stand = all; flushed = λ is. absurd (false≢true is) }

@@ -21,7 +21,7 @@ use Rattle.kernel_rules.specs.Fitting.{fits}
 use Rattle.kernel_rules.specs.Relies.{is_node}
 use Rattle.kernel_rules.specs.Runs.{Event, Enters, Decides, Returns, after, IsRun}
 use Rattle.kernel_rules.proofs.Within.{put_same, put_other}
-use Rattle.kernel_invariant.specs.Edits.{Edit, Node, Become, Untype, Component, Deaden, Push, Pop, Switch, Charge, Move, Merge}
+use Rattle.kernel_invariant.specs.Edits.{Edit, Node, Become, Untype, Component, Deaden, Push, Pop, Switch, Charge, Move, Merge, Give}
 use Rattle.kernel_invariant.specs.Edits.{edited, after_edits}
 use Rattle.kernel_invariant.proofs.Sound.{put_all}
 use Rattle.kernel_invariant.proofs.SoundStart.{choose}
@@ -183,6 +183,7 @@ edit_apart c s (Charge n) tested lim w = tcaps_back s.frame s.number (s.core c).
 edit_apart c s (Move a b m) tested lim w =
     tcaps_back (with_budget s a ((tcap_at s a).budget - m)).frame s.number b _ (tcaps_back s.frame s.number a _ w)
 edit_apart c s (Merge f qs) tested lim w = tcaps_back s.frame s.number f _ w
+edit_apart c s (Give f m) tested lim w = tcaps_back s.frame s.number f _ w
 edit_apart c s _ tested lim w = w
 
 edits_apart : (c : ℕ) (s : State) (es : List Edit) → Each Tested c s es → Each Limited c s es → Apart s → Apart (after_edits c s es)

@@ -14,7 +14,7 @@ use Rattle.spk_nums.specs.declared.calls.Make.TheVariants as make
 use Rattle.spk_nums.specs.declared.calls.Call.{Call}
 use Rattle.spk_nums.specs.declared.calls.Call.TheVariants.{Look, Copy, Remove, Grow, Shrink, Retype, Make as make_call}
 use Rattle.spk_nums.specs.declared.calls.Call.TheVariants.{Map, Unmap, Touch, Flush, Gate, Kill, Call as call_gate}
-use Rattle.spk_nums.specs.declared.calls.Call.TheVariants.{Ret, Switch, Tick, Transfer, Delegate, Test, Part}
+use Rattle.spk_nums.specs.declared.calls.Call.TheVariants.{Ret, Switch, Tick, Transfer, Delegate, Test, Part, Replenish}
 use Rattle.spk_nums.specs.declared.translations.Translation.{Translation}
 use Rattle.spk_nums.specs.declared.replies.Value.{Value}
 use Rattle.spk_nums.specs.declared.replies.Reply.{Reply}
@@ -167,6 +167,7 @@ module _ (s : State) (o : ℕ → Bool) (c : ℕ) (h : IsOpen s o c) (w : AreGat
   rule_gates (Transfer a b m) = λ j e k f calm. stays s _ (λ f i. refl)
   rule_gates (Delegate a b m) = λ j e k f calm. stays s _ (λ f i. refl)
   rule_gates (Test a b) = λ j e k f calm. stays s _ (λ f i. refl)
+  rule_gates (Replenish a m) = λ j e calm. stays s _ (λ f i. refl)
   rule_gates (Part r f n t b) = λ k e table g at v calm. other s s _ at (part_of k f n) (λ f i j e. e) (λ f i. refl) refl
 
 -- A decision.

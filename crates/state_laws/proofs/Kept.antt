@@ -23,7 +23,7 @@ use Rattle.kernel_rules.specs.CallRelation.{change_of, changed, owed_by, state_b
 use Rattle.kernel_rules.specs.CallRelation.{begins_in as begun_in}
 use Rattle.kernel_rules.proofs.Changes.{IfFound}
 use Rattle.kernel_invariant.specs.Edits.{Edit, Fill, Remove, Node, Become, Untype, Component, Deaden}
-use Rattle.kernel_invariant.specs.Edits.{Push, Pop, Switch, Charge, Move, Merge}
+use Rattle.kernel_invariant.specs.Edits.{Push, Pop, Switch, Charge, Move, Merge, Give}
 use Rattle.kernel_invariant.specs.Edits.{edited, after_edits, begins_in, begins_all, ends_in, ends_all}
 use Rattle.kernel_invariant.proofs.Sound.{put_all}
 use Rattle.kernel_invariant.proofs.SoundSteps.{place_all, free_quiescing, holds_quiescing, quiescing_inj}
@@ -226,6 +226,7 @@ edit_keeps c s (Move a b m) known = placed s _ _ _ (λ f i. refl)
     (put_kept (with_budget s a ((tcap_at s a).budget - m)) b _
     (tcap_kept ((with_budget s a ((tcap_at s a).budget - m)).frame b) _)) f kept)) (λ f i. refl)
 edit_keeps c s (Merge f qs) known = frame_kept s _ _ f _ (λ g i. refl) (tcap_kept (s.frame f) _) _ refl refl
+edit_keeps c s (Give f m) known = frame_kept s _ _ f _ (λ g i. refl) (tcap_kept (s.frame f) _) _ refl refl
 edit_keeps c s _ known = placed s _ _ _ (λ f i. refl) (λ f kept. inl refl) (λ f i. refl)
 
 later_keep : (c : ℕ) (s : State) (es : List Edit) → AreLater es → Each Known c s es

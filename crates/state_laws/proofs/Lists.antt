@@ -12,7 +12,7 @@ use Rattle.kernel_rules.specs.Rules.{Change, Judged, Refused, Found}
 use Rattle.kernel_rules.specs.MemoryCalls.{caching}
 use Rattle.kernel_rules.specs.CallRelation.{change_of, changed, counted, owed_by, state_by, flushes, flushes_by}
 use Rattle.kernel_rules.proofs.Changes.{IfFound}
-use Rattle.kernel_invariant.specs.Edits.{Edit, Switch, Cache, Flush, Charge, edited, after_edits, is_flush, flush_in}
+use Rattle.kernel_invariant.specs.Edits.{Edit, Switch, Cache, Flush, Charge, Give, edited, after_edits, is_flush, flush_in}
 use Rattle.kernel_invariant.proofs.Sound.{put_all}
 use Rattle.kernel_invariant.proofs.Edited.{Edits, found_by}
 use Rattle.state_laws.specs.Cached.{Begins}
@@ -68,6 +68,7 @@ edit_goes c s (Switch h q) = kept s c (record (s.core c) { thread = h; tcap = q 
 edit_goes c s (Cache t) = puts s c false s.core _ (λ none. begins_caching (s.core c).cached t) (stay s c false)
 edit_goes c s Flush = puts s c true s.core (record (s.core c) { cached = [] }) (λ none. absurd (false≢true (sym none))) (stay s c true)
 edit_goes c s (Charge n) = kept s c (record (s.core c) { spent = _; owed = _ }) refl
+edit_goes c s (Give f m) = kept s c (record (s.core c) { back = _ }) refl
 edit_goes c s _ = stay s c false
 
 edits_go : (c : ℕ) (s : State) (es : List Edit) → GoOn s c (flush_in es) (after_edits c s es).core

@@ -16,7 +16,7 @@ use Rattle.kernel_rules.specs.CallRelation.{change_of, changed, counted, owed_by
 use Rattle.kernel_rules.specs.Runs.{Event, Enters, Decides, Returns, after, is_open, IsRun}
 use Rattle.kernel_rules.proofs.Within.{put_same, put_other}
 use Rattle.kernel_invariant.specs.Edits.{Edit, Node, Become, Untype, Component, Push, Pop, Switch, Cache, Flush}
-use Rattle.kernel_invariant.specs.Edits.{Charge, Move, Merge, edited, after_edits}
+use Rattle.kernel_invariant.specs.Edits.{Charge, Move, Merge, Give, edited, after_edits}
 use Rattle.kernel_invariant.proofs.Sound.{put_all}
 use Rattle.kernel_invariant.proofs.SoundStart.{choose}
 use Rattle.kernel_invariant.proofs.SoundCalls.{IsOpen}
@@ -124,6 +124,9 @@ edit_back c s (Move a b m) k w =
     { budget = (tcap_at s b).budget + m })
     (tcap_back s s.limits.cores a (record (tcap_at s a) { budget = (tcap_at s a).budget - m }) w)
 edit_back c s (Merge g qs) k w = tcap_back s s.limits.cores g (record (tcap_at s g) { qualities = qs }) w
+edit_back c s (Give g m) k w =
+    core_back s s.limits.cores c (record (s.core c) { back = (s.core c).back + m }) (with_budget s g ((tcap_at s g).budget + m)).frame refl
+    (tcap_back s s.limits.cores g (record (tcap_at s g) { budget = (tcap_at s g).budget + m }) w)
 edit_back c s _ k w = w
 
 edits_back : (c : ℕ) (s : State) (es : List Edit) → Each Known c s es → Back s → Back (after_edits c s es)

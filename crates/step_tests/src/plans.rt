@@ -114,6 +114,10 @@ fn calls_have_their_plans(rt: HostRuntime) {
             },
             (true, 2, place, 0, Decides::Target, 13),
         ),
+        (
+            Call::Replenish { a, m: 1 },
+            (true, 1, nowhere, 0, Decides::Head, 17),
+        ),
     ];
     for (call, wanted) in rows {
         assert!(rt; row(call) == wanted, "{call:?}");

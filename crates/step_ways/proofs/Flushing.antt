@@ -15,7 +15,7 @@ use Rattle.kept_facts.specs.act_states.specs.declared.kills.KillingAt.TheVariant
 use Rattle.kept_facts.specs.act_states.specs.declared.makings.MakingAt.TheVariants.{Load, Fill as making_fill}
 use Rattle.kept_facts.specs.act_states.specs.declared.work.Act.{Act as ActOf}
 use Rattle.kept_facts.specs.act_states.specs.declared.work.Act.TheVariants.{Remove, Retype, Make, Map, Tick, Flush, Kill}
-use Rattle.kept_facts.specs.act_states.specs.declared.work.Act.TheVariants.{Touch, Share as share_act}
+use Rattle.kept_facts.specs.act_states.specs.declared.work.Act.TheVariants.{Touch, Share as share_act, Refill as refill_act}
 use Rattle.kept_facts.specs.act_states.specs.declared.work.Act.TheVariants.{Switch as switch_act}
 use Rattle.kept_facts.specs.act_states.specs.declared.comps.CompAt.TheVariants as comp_at
 use Rattle.kept_facts.specs.act_states.specs.declared.work.Work.TheVariants.{Act as act_work}
@@ -114,6 +114,7 @@ act_flush (Invoke m) h c = refl
 act_flush (Return m) h c = refl
 act_flush (MakeComp m) h c = comp_flush m m.at h c
 act_flush (share_act p) h c = share_flush p p.at h c
+act_flush (refill_act r) h c = refl
 act_flush (switch_act m) h c = switching_flush m m.at h c
 
 work_flush : (work : Work) (h : Holding) (c : ℕ) → (holds_work work h).stands (FlushAt c) ≡ h.stands (FlushAt c)

@@ -27,7 +27,8 @@ use Rattle.kept_facts.specs.act_states.specs.declared.work.Act.TheVariants.{Make
 use Rattle.kept_facts.specs.act_states.specs.declared.work.Act.TheVariants.{Kill as kill_act, Untype as untype_act, Map as map_act}
 use Rattle.kept_facts.specs.act_states.specs.declared.work.Act.TheVariants.{MakeComp as comp_act, Invoke as invoke_act}
 use Rattle.kept_facts.specs.act_states.specs.declared.work.Act.TheVariants.{Return as return_act}
-use Rattle.kept_facts.specs.act_states.specs.declared.work.Act.TheVariants.{Touch as touch_act, Share as share_act, Switch as switch_act}
+use Rattle.kept_facts.specs.act_states.specs.declared.work.Act.TheVariants.{Touch as touch_act, Share as share_act, Refill as refill_act}
+use Rattle.kept_facts.specs.act_states.specs.declared.work.Act.TheVariants.{Switch as switch_act}
 use Rattle.kept_facts.specs.act_states.specs.declared.work.Act.{Act as ActOf}
 use Rattle.std.proofs.lemmas.Bool.{true≢false}
 use Rattle.kept_facts.specs.kernel_history.specs.Bounds.{IsWithin}
@@ -182,6 +183,7 @@ filled_act setup t c f call plan ks (flush_act by) h knows is = absurd (false≢
 filled_act setup t c f call plan ks (kill_act m) h knows is = absurd (false≢true is)
 filled_act setup t c f call plan ks (untype_act m) h knows is = absurd (false≢true is)
 filled_act setup t c f call plan ks (share_act p) h knows is = absurd (false≢true is)
+filled_act setup t c f call plan ks (refill_act r) h knows is = absurd (false≢true is)
 filled_act setup t c f call plan ks (switch_act m) h knows is = absurd (false≢true is)
 filled_act setup t c f call plan ks (comp_act m) h knows is = filled_comp setup t c f m m.at h knows.at is
 filled_act setup t c f call plan ks (invoke_act m) h knows is = absurd (false≢true is)
@@ -205,6 +207,7 @@ scans_nothing (flush_act by) f starts = refl
 scans_nothing (kill_act m) f starts = refl
 scans_nothing (untype_act m) f starts = refl
 scans_nothing (share_act p) f starts = refl
+scans_nothing (refill_act r) f starts = refl
 scans_nothing (switch_act m) f starts = refl
 scans_nothing (comp_act m) f starts = by (comp_is_marked m.at) starts
   where
@@ -276,6 +279,8 @@ works_on setup t e core c on is = record {
   cached = is.cached ∙ ap (λ k. k.cached) (sym on.core);
   owed = is.owed ∙ ap (λ k. k.owed) (sym on.core);
   spent = is.spent ∙ ap (λ k. k.spent) (sym on.core);
+  back = is.back ∙ ap (λ k. k.back) (sym on.core);
+  grant = is.grant ∙ ap (λ k. k.grant) (sym on.core);
   made = is.made ∙ ap (λ k. k.counted) (sym on.core);
 }
 
@@ -453,7 +458,10 @@ module _ (setup : Setting) (setting : IsSetting setup) (cores : ℕ → Core) (t
       alive_on setup setting t e stands.legal c a.call at (open_carries follows time c a.call other at) a.call alive has
   knows_other follows time blanks c users shares table a other (Undecided work) held typed claims at has =
       undecided_on setup setting t e stands.legal c a.call at (open_carries follows time c a.call other at) table a work
-      (λ act is p share of ks has. shares.undecided (ap is_in at) of ks p has)
+      (λ act is. record {
+        shares = λ p share of ks has. shares.undecided (ap is_in at) of ks p has;
+        refills = λ r refill of ks has. shares.refilling (ap is_in at) of ks r has;
+      })
       (λ w. own_read-other c e t other w)
       (λ f i is. filled_stays follows blanks c (holds_at (Undecided work) a.counts) other held f
       (filled_work setup t c table f a work (holds_counts (is_done (Undecided work)) a.counts) has.knows is) i) users

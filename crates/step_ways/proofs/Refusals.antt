@@ -11,7 +11,7 @@ use Rattle.kept_facts.proofs.Common.{told_by, marked_by, holds_counts, phase_at,
 use Rattle.kept_facts.proofs.Common.{KnowsUndecided, KnowsAt, holds_in, held_by, Invariant, holds_tail, decided_in, returned_in}
 use Rattle.kept_facts.proofs.Common.{limits_of, marker_inside, acts, asks_life, lives, inl, inr, IsTrue}
 use Rattle.kept_facts.specs.trace_laws.proofs.AloneCalls.{dead_first}
-use Rattle.kept_facts.specs.spk_nums.specs.declared.calls.Call.TheVariants.{Look, Make, Part}
+use Rattle.kept_facts.specs.spk_nums.specs.declared.calls.Call.TheVariants.{Look, Make, Part, Replenish}
 use Rattle.kept_facts.specs.spk_nums.specs.declared.calls.Call.TheVariants.{Call as call_gate}
 use Rattle.kept_facts.specs.spk_nums.specs.declared.replies.Reply.TheVariants as reply
 use Rattle.kept_facts.specs.kernel_rules.specs.CallRelation.{owed_by}
@@ -23,7 +23,8 @@ use Rattle.kept_facts.specs.act_states.specs.declared.work.Act.TheVariants.{Make
 use Rattle.kept_facts.specs.act_states.specs.declared.work.Act.TheVariants.{Kill as kill_act, Untype as untype_act, Map as map_act}
 use Rattle.kept_facts.specs.act_states.specs.declared.work.Act.TheVariants.{MakeComp as comp_act, Invoke as invoke_act}
 use Rattle.kept_facts.specs.act_states.specs.declared.work.Act.TheVariants.{Return as return_act}
-use Rattle.kept_facts.specs.act_states.specs.declared.work.Act.TheVariants.{Touch as touch_act, Share as share_act, Switch as switch_act}
+use Rattle.kept_facts.specs.act_states.specs.declared.work.Act.TheVariants.{Touch as touch_act, Share as share_act, Refill as refill_act}
+use Rattle.kept_facts.specs.act_states.specs.declared.work.Act.TheVariants.{Switch as switch_act}
 use Rattle.step_ways.proofs.Good.{IsGood}
 use Rattle.step_ways.proofs.Loads.{Lands, OnlyLooks, step_to, next_at, core_in_call, core_is}
 use Rattle.step_ways.proofs.Loads.{call_is, is_active, inner, decides_on, decides_with}
@@ -46,6 +47,7 @@ NobodyWaits s = (x : Thing) (d : ℕ) → (s.grace x).waits d ≡ false
 pub only_tick_owes : (s : State) (c : ℕ) (call : Call) → ((n : ℕ) → call ≢ Tick n) → owed_by s c call ≡ s
 only_tick_owes s c (Look a) other = refl
 only_tick_owes s c (Copy a u b rights) other = refl
+only_tick_owes s c (Replenish x m) other = refl
 only_tick_owes s c (Part r f n u b) other = refl
 only_tick_owes s c (Remove u b) other = refl
 only_tick_owes s c (Grow u i l) other = refl
@@ -83,6 +85,7 @@ ticks_in (comp_act m) = false
 ticks_in (invoke_act m) = false
 ticks_in (return_act m) = false
 ticks_in (share_act p) = false
+ticks_in (refill_act r) = false
 ticks_in (switch_act m) = false
 
 abbrev pub ticks_work : Work → Bool
@@ -132,6 +135,7 @@ module _ (setup : Setting) (t : Trace) (c table n : ℕ) where
       no_return : Tick n ≡ Ret → ⊥
       no_return h = cc
   act_ticks plan ks upto (share_act p) has is = has.shares
+  act_ticks plan ks upto (refill_act r) has is = has.refills
   act_ticks plan ks upto (switch_act m) has is = has.switches
 
   look_ticks : (ks : List Capability) (look : LookOf) → NamesAre setup t c table (plan_for (Tick n)) ks
@@ -278,6 +282,22 @@ module _ (setup : Setting) (setting : IsSetting setup) (cores : ℕ → Core) (t
       decides_on setup setting cores t stands c here a active move reply.Dead a.found looks lands (still None refl) opens refl refl
       (λ x. refl) (λ x. refl) refl (unspent, inr may) tt
       (first_of reply.Dead may_act first)
+
+  pub refuses_unlike : IsTrue (acts (state_after setup t) c a.call)
+      → RuleMay (state_after setup t) c (rule_of (state_after setup t) c a.call) reply.Unlike → IsFirstCause reply.Unlike
+      → RefusedWith reply.Unlike
+  refuses_unlike may_act may first lands =
+      decides_on setup setting cores t stands c here a active move reply.Unlike a.found looks lands (still None refl) opens refl refl
+      (λ x. refl) (λ x. refl) refl (unspent, may) tt
+      (first_of reply.Unlike may_act first)
+
+  pub refuses_short : (n : ℕ) → IsTrue (acts (state_after setup t) c a.call)
+      → RuleMay (state_after setup t) c (rule_of (state_after setup t) c a.call) (reply.Short n) → IsFirstCause (reply.Short n)
+      → RefusedWith (reply.Short n)
+  refuses_short n may_act may first lands =
+      decides_on setup setting cores t stands c here a active move (reply.Short n) a.found looks lands (still None refl) opens refl refl
+      (λ x. refl) (λ x. refl) refl (unspent, may) tt
+      (first_of (reply.Short n) may_act first)
 
   pub refuses_running : (d : ℕ) → IsTrue (acts (state_after setup t) c a.call)
       → RuleMay (state_after setup t) c (rule_of (state_after setup t) c a.call) (reply.Running d)

@@ -31,7 +31,7 @@ use Rattle.freeze_invariant.specs.act_states.specs.declared.untypings.UntypingAt
 use Rattle.freeze_invariant.specs.act_states.specs.declared.switches.SwitchAt.TheVariants as switch_at
 use Rattle.freeze_invariant.specs.act_states.specs.declared.work.Act.{Act as ActOf}
 use Rattle.freeze_invariant.specs.act_states.specs.declared.work.Act.TheVariants.{Remove, Retype, Make, Tick, Flush, Kill}
-use Rattle.freeze_invariant.specs.act_states.specs.declared.work.Act.TheVariants.{Map as map_act, Touch, Share}
+use Rattle.freeze_invariant.specs.act_states.specs.declared.work.Act.TheVariants.{Map as map_act, Touch, Share, Refill}
 use Rattle.freeze_invariant.specs.act_states.specs.declared.work.Act.TheVariants.{Switch}
 use Rattle.freeze_invariant.specs.act_states.specs.declared.work.Tail.TheVariants.{Share as share_tail}
 use Rattle.freeze_invariant.specs.act_states.specs.declared.work.Work.TheVariants.{Act as act_work}
@@ -168,6 +168,7 @@ module _ (setup : Setting) (setting : IsSetting setup) (cores : ℕ → Core) (t
       act_entry call is_open plan found upto (MakeComp m) knows h = comp_entry f i m m.at h
       act_entry call is_open plan found upto (Invoke m) knows h = refl
       act_entry call is_open plan found upto (Return m) knows h = refl
+      act_entry call is_open plan found upto (Refill r) knows h = refl
       act_entry call is_open plan found upto (Share p) knows h = share_entry f i p p.at h (apart p.a knows.tcap_a.guarded)
       act_entry call is_open plan found upto (Switch m) knows h =
           switch_entry f i m m.at h (λ same. no_thread d here (sym knows.leaves.thread ∙ same))

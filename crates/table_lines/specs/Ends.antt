@@ -5,4 +5,14 @@ use Rattle.kernel_rules.specs.State.{Core}
 
 -- What the end of a core shows.
 abbrev pub core_shown : CoreEnd → Core
-core_shown e = record { inside = false; thread = e.thread; tcap = e.tcap; cached = e.cached; spent = e.spent; owed = e.owed; counted = 0 }
+core_shown e = record {
+  inside = false;
+  thread = e.thread;
+  tcap = e.tcap;
+  cached = e.cached;
+  spent = e.spent;
+  back = e.back;
+  owed = e.owed;
+  counted = 0;
+  grant = (0, 0);
+}

@@ -3,7 +3,7 @@
 ghost use Rattle.std.specs.Prelude.{◌≡◌, ◌++◌, OnOk, string_bytes, codes};
 ghost use Rattle.std.specs.List.{flat_map};
 ghost use Rattle.kernel_rules.specs.State.{Live, Dead};
-ghost use Rattle.kernel_history.specs.Tables.{number, number_line, translation_line, core_lines, total_line};
+ghost use Rattle.kernel_history.specs.Tables.{number, number_line, translation_line, back_words, core_lines, total_line};
 ghost use Rattle.table_lines.specs.Ends.{core_shown};
 
 use crate::sorting::ascending;
@@ -62,12 +62,23 @@ fn push_names(text: &mut String, core: usize, end: &CoreEnd) -> Result<(), Alloc
 fn push_times(text: &mut String, end: &CoreEnd) -> Result<(), AllocError>
     ensures { OnOk result (string_bytes text.new ≡ string_bytes text.old
         ++ (codes " comp" ++ (number end.now.comp
-        ++ (codes " spent" ++ (number end.now.spent ++ (codes " owed" ++ (number end.now.owed ++ codes "\n"))))))) }
+        ++ (codes " spent" ++ (number end.now.spent ++ (codes " owed" ++ number end.now.owed)))))) }
 {
     let comp = end.comp;
     let spent = end.spent;
     let owed = end.owed;
-    write!(text, " comp {comp} spent {spent} owed {owed}\n")
+    write!(text, " comp {comp} spent {spent} owed {owed}")
+}
+
+// Ends a core's line: with what it has had back, where that is something.
+fn push_back(text: &mut String, back: u64) -> Result<(), AllocError>
+    ensures { OnOk result (string_bytes text.new ≡ string_bytes text.old ++ (back_words back ++ codes "\n")) }
+{
+    if back == 0 {
+        write!(text, "\n")
+    } else {
+        write!(text, " back {back}\n")
+    }
 }
 
 /// Appends the line of a core, and those of its translations, ascending by page root, then by page.
@@ -82,6 +93,7 @@ pub fn push_core(
     let sorted = ascending(alloc, &end.cached)?;
     push_names(text, core, end)?;
     push_times(text, end)?;
+    push_back(text, end.back)?;
     push_translations(text, &sorted)
 }
 

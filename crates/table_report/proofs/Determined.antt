@@ -10,6 +10,7 @@ use Rattle.frame_words.specs.declared.live_word.LiveWord.{LiveWord}
 use Rattle.word_map.specs.Word.{LiveAt}
 use Rattle.word_map.specs.Places.{Shape}
 use Rattle.kernel_rules.specs.State.{Place, Free, Holds, Quiescing, Object, Blank, Table, Leaf, Pages, Pleaf, Comp, Thread, Tcap, Frame}
+use Rattle.kernel_rules.specs.State.{outstanding}
 use Rattle.kernel_rules.specs.State.{Untyped, User, Kernel, Liveness, Unused, Live, Dead, State, first_of_stack, thread_of, tcap_in}
 use Rattle.kernel_rules.specs.References.{sum_below, refs}
 use Rattle.kernel_rules.specs.Laws.{ticks}
@@ -142,10 +143,10 @@ module _ (shape : Shape) (words : List ℕ) (ends : List CoreEnd) (s : State)
   ticks_told =
       let a = sum_same (λ f. (tcap_in (frame_at shape words f)).budget) (λ f. (tcap_in (s.frame f)).budget) shape.frames
       (λ f below. ap (λ x. (tcap_in x).budget) (frame_told f below) ∙ told_budget (s.frame f)) in
-      let b = sum_same (λ c. (core_shown_at ends c).spent) (λ c. (s.core c).spent) shape.cores
-      (λ c below. ap (λ e. (core_shown e).spent) (h.ends c (omega (arith, below, cores)))) in
+      let b = sum_same (λ c. outstanding (core_shown_at ends c)) (λ c. outstanding (s.core c)) shape.cores
+      (λ c below. ap (λ e. outstanding (core_shown e)) (h.ends c (omega (arith, below, cores)))) in
       let fa = ap (sum_below (λ f. (tcap_in (s.frame f)).budget)) frames in
-      let fb = ap (sum_below (λ c. (s.core c).spent)) cores in
+      let fb = ap (sum_below (λ c. outstanding (s.core c))) cores in
       omega (arith, a, b, fa, fb)
 
   numbers_told : numbers_text shape words 64 ≡ lines_below (λ l. number_line l (s.number l)) 64

@@ -2,6 +2,7 @@
 
 ghost use Rattle.std.specs.Prelude.{◌≡◌, ◌≤◌, ◌^◌, ◌++◌, length, OnOk, Some, string_bytes, codes};
 ghost use Rattle.std.specs.List.{flat_map};
+ghost use Rattle.kernel_rules.specs.State.{outstanding};
 ghost use Rattle.kernel_rules.specs.References.{sum_below};
 ghost use Rattle.kernel_history.specs.Tables.{number, number_line, translation_line, core_lines, total_line};
 ghost use Rattle.table_lines.specs.Ends.{core_shown};
@@ -54,15 +55,15 @@ pub fn push_cores(alloc: Global, text: &mut String, ends: &[CoreEnd]) -> Result<
     Ok(())
 }
 
-/// The sum of the ticks that the cores have spent.
+/// The sum of the ticks that the cores have spent and have not had back.
 pub fn spent(ends: &[CoreEnd]) -> u128
     requires { length ends.now ≤ 8 }
-    ensures sum { result ≡ sum_below (λ c. (core_shown_at ends.now c).spent) (length ends.now) }
+    ensures sum { result ≡ sum_below (λ c. outstanding (core_shown_at ends.now c)) (length ends.now) }
     ensures most { result ≤ 2 ^ 67 }
 {
     let mut sum: u128 = 0;
     'cores: for core in 0..ends.len() {
-        sum += u128::from(ends[core].spent);
+        sum += u128::from(ends[core].spent.saturating_sub(ends[core].back));
     }
     sum
 }

@@ -271,6 +271,8 @@ module _ (setup : Setting) (setting : IsSetting setup) (cores : ℕ → Core) (t
         cached = was_in.cached ∙ ap (λ x. x.cached) (sym core);
         owed = was_in.owed ∙ ap (λ x. x.owed) (sym core);
         spent = was_in.spent ∙ ap (λ x. x.spent) (sym core);
+        back = was_in.back ∙ ap (λ x. x.back) (sym core);
+        grant = was_in.grant ∙ ap (λ x. x.grant) (sym core);
         made = (let own = was_in.made in let more : (s'.core c).counted ≡ (s.core c).counted + 1 = ap (λ x. x.counted) core in
             omega (arith, own, more));
       }

@@ -37,6 +37,7 @@ use Rattle.live_invariant.specs.act_states.specs.declared.work.Act.TheVariants.{
 use Rattle.live_invariant.specs.act_states.specs.declared.work.Act.TheVariants.{Flush as flush_act, Kill as kill_act, Untype as untype_act}
 use Rattle.live_invariant.specs.act_states.specs.declared.work.Act.TheVariants.{Map as map_act, MakeComp as comp_act, Invoke as invoke_act}
 use Rattle.live_invariant.specs.act_states.specs.declared.work.Act.TheVariants.{Return as return_act, Share as share_act}
+use Rattle.live_invariant.specs.act_states.specs.declared.work.Act.TheVariants.{Refill as refill_act}
 use Rattle.live_invariant.specs.act_states.specs.declared.work.Act.TheVariants.{Switch as switch_act}
 use Rattle.thread_invariant.proofs.OwnStack.{own_thread}
 
@@ -209,6 +210,7 @@ module _ (setup : Setting) (setting : IsSetting setup) (cores : ℕ → Core) (t
     by_act (comp_act m) h opens has free = apart (holds_comp m m.at h) h (comp m m.at h) free
     by_act (invoke_act m) h opens has free = none h free
     by_act (return_act m) h opens has free = none h free
+    by_act (refill_act r) h opens has free = none h free
     by_act (share_act p) h opens has free = shares p p.at h (tcap_no_thread ((state_after setup t).frame p.a) has.tcap_a.tcap) (none h free)
     by_act (switch_act m) h opens has free = switching m m.at h has.leaves.thread (none h free)
 

@@ -295,6 +295,8 @@ module _ (setup : Setting) (setting : IsSetting setup) (cores : ℕ → Core) (t
         cached = was_in.cached ∙ ap (λ k. k.cached) (sym core);
         owed = was_in.owed ∙ ap (λ k. k.owed) (sym core);
         spent = was_in.spent ∙ ap (λ k. k.spent) (sym core);
+        back = was_in.back ∙ ap (λ k. k.back) (sym core);
+        grant = was_in.grant ∙ ap (λ k. k.grant) (sym core);
         made = (let own = was_in.made in let more : (s'.core c).counted ≡ (s.core c).counted + 1 = ap (λ k. k.counted) core in
             omega (arith, own, more));
       }

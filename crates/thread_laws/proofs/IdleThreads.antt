@@ -12,7 +12,7 @@ use Rattle.trace_laws.specs.spk_nums.specs.declared.calls.Make.TheVariants as ma
 use Rattle.trace_laws.specs.spk_nums.specs.declared.calls.Call.{Call}
 use Rattle.trace_laws.specs.spk_nums.specs.declared.calls.Call.TheVariants.{Look, Copy, Remove, Grow, Shrink, Retype, Make as make_call}
 use Rattle.trace_laws.specs.spk_nums.specs.declared.calls.Call.TheVariants.{Map, Unmap, Touch, Flush, Gate, Kill, Call as call_gate}
-use Rattle.trace_laws.specs.spk_nums.specs.declared.calls.Call.TheVariants.{Ret, Switch, Tick, Transfer, Delegate, Test, Part}
+use Rattle.trace_laws.specs.spk_nums.specs.declared.calls.Call.TheVariants.{Ret, Switch, Tick, Transfer, Delegate, Test, Part, Replenish}
 use Rattle.trace_laws.specs.spk_nums.specs.declared.translations.Translation.{Translation}
 use Rattle.trace_laws.specs.spk_nums.specs.declared.replies.Reply.{Reply}
 use Rattle.trace_laws.specs.spk_nums.specs.declared.replies.Reply.TheVariants as reply
@@ -227,6 +227,8 @@ rule_rests s o d opens runs (Delegate a b m) = λ j e k g calm f. still (Delegat
     (still_then s (moved s j.frame k.frame m) (with_qualities (moved s j.frame k.frame m) k.frame (merged_list s j.frame k.frame))
     (moved_still s j.frame k.frame m) (qualities_still (moved s j.frame k.frame m) k.frame (merged_list s j.frame k.frame)) f)
 rule_rests s o d opens runs (Test a b) = λ j e k g calm f. rests_same (Test a b) f (s.frame f)
+rule_rests s o d opens runs (Replenish a m) =
+    λ j e calm f. still (Replenish a m) f (s.frame f) _ (budget_still s j.frame _ f)
 rule_rests s o d opens runs (Part r f n t b) = λ k e table g at v calm h. rests_same (Part r f n t b) h (s.frame h)
 
 found_rests : (s : State) (call : Call) (x : Judged Change) → IfFound x (RestsBy s call) → (f : ℕ)

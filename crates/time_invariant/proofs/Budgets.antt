@@ -18,12 +18,13 @@ tcap_is _ fit = absurd (false≢true fit)
 pub ranges_of : (setup : Setting) → IsSetting setup → (t : Trace) → IsLegal setup t → InRanges (state_after setup t)
 ranges_of setup setting t legal = subst InRanges (sym (state_is setup t)) (ranges_hold setup setting (events_of t) (run_of setup t legal))
 
--- A core of the machine has counted no more calls than a core may, owes at most 1,000,000 ticks for each, and has spent fewer than 2^32;
--- and its temporal capability is one.
+-- A core of the machine has counted no more calls than a core may, has spent and owes at most 1,000,000 ticks for each, and has had back no
+-- more than it has spent; and its temporal capability is one.
 pub record Numbers (s : State) (c : ℕ) : Type 0 where
   pub counted : (s.core c).counted ≤ 2 ^ 40 - 1
   pub owed : (s.core c).owed ≤ 1000000 * (s.core c).counted
-  pub spent : (s.core c).spent < 2 ^ 32
+  pub spent : (s.core c).spent ≤ 1000000 * (s.core c).counted
+  pub back : (s.core c).back ≤ (s.core c).spent
   pub tcap : IsTrue (fits kind.Tcap (s.frame (s.core c).tcap))
 
 pub numbers_of : (setup : Setting) → IsSetting setup → (t : Trace) → IsLegal setup t → (c : ℕ) → c < setup.cores
@@ -35,9 +36,11 @@ numbers_of setup setting t legal c here =
     let limit : (state_after setup t).limits.calls ≡ setup.calls = ap (λ l. l.calls) (limits_of setup t) in
     let most = setting.most_calls in
     let counted = ranges.counted in
+    let charged = ranges.charged in
     record {
       counted = omega arith;
-      owed = ranges.owed;
-      spent = ranges.spent;
+      owed = omega (arith, charged);
+      spent = omega (arith, charged);
+      back = ranges.back;
       tcap = ((sound_of setup setting t legal).cores c below).1;
     }

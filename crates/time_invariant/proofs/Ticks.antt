@@ -217,6 +217,7 @@ module _ (setup : Setting) (setting : IsSetting setup) (cores : ℕ → Core) (t
         let own : (cores c).own.spent ≡ (s.core c).spent = (stands.each c here).works.spent in
         let kept : (s'.core c).spent ≡ (s.core c).spent = ap (λ k. k.spent) core_now in
         let low = numbers.spent in
+        let most = numbers.counted in
         omega arith
 
     made_is : after.own.made ≡ (s'.core c).counted
@@ -245,6 +246,8 @@ module _ (setup : Setting) (setting : IsSetting setup) (cores : ℕ → Core) (t
           cached = was_in.cached ∙ ap (λ k. k.cached) (sym core_now);
           owed = owed_is;
           spent = spent_is;
+          back = (stands.each c here).works.back ∙ ap (λ k. k.back) (sym core_now);
+          grant = (stands.each c here).works.grant ∙ ap (λ k. k.grant) (sym core_now);
           made = made_is;
         }
 
@@ -539,6 +542,8 @@ module _ (setup : Setting) (setting : IsSetting setup) (cores : ℕ → Core) (t
           cached = was_in.cached ∙ ap (λ k. k.cached) (sym core_won);
           owed = ap (λ (m : ℕ). m - charged) ticks_is ∙ ap (λ k. k.owed) (sym core_won);
           spent = spent_won;
+          back = was_in.back ∙ ap (λ k. k.back) (sym core_won);
+          grant = was_in.grant ∙ ap (λ k. k.grant) (sym core_won);
           made = made_won;
         }
       where
@@ -547,6 +552,7 @@ module _ (setup : Setting) (setting : IsSetting setup) (cores : ℕ → Core) (t
             let own : (cores c).own.spent ≡ (s.core c).spent = (stands.each c here).works.spent in
             let more : (s_won.core c).spent ≡ (s.core c).spent + charged = ap (λ k. k.spent) core_won in
             let low = numbers.spent in
+            let most = numbers.counted in
             let small = met.fits.0 in
             omega arith
 

@@ -25,7 +25,8 @@ use Rattle.flight.specs.act_states.specs.declared.work.Act.TheVariants.{Fill as 
 use Rattle.flight.specs.act_states.specs.declared.work.Act.TheVariants.{Make as make_act, Tick as tick_act, Touch as touch_act}
 use Rattle.flight.specs.act_states.specs.declared.work.Act.TheVariants.{Flush as flush_act, Kill as kill_act, Untype as untype_act}
 use Rattle.flight.specs.act_states.specs.declared.work.Act.TheVariants.{Map as map_act, MakeComp as comp_act, Invoke as invoke_act}
-use Rattle.flight.specs.act_states.specs.declared.work.Act.TheVariants.{Return as return_act, Share as share_act, Switch as switch_act}
+use Rattle.flight.specs.act_states.specs.declared.work.Act.TheVariants.{Return as return_act, Share as share_act, Refill as refill_act}
+use Rattle.flight.specs.act_states.specs.declared.work.Act.TheVariants.{Switch as switch_act}
 use Rattle.flight.specs.kept_facts.proofs.Tcaps.{is_tcap}
 use Rattle.flight.specs.pair_invariant.proofs.ShareSteps.{marked_says}
 use Rattle.flight.specs.thread_invariant.proofs.EntryMarks.{counts_apart, holder_below}
@@ -166,6 +167,7 @@ module _ (setup : Setting) (setting : IsSetting setup) (cores : ℕ → Core) (t
     by_act (comp_act m) h opens has free = none (holds_comp m m.at h) (comp m m.at h ∙ free)
     by_act (invoke_act m) h opens has free = none h free
     by_act (return_act m) h opens has free = none h free
+    by_act (refill_act r) h opens has free = none h free
     by_act (share_act p) h opens has free = shares p p.at h has.at has.core free
     by_act (switch_act m) h opens has free = none (holds_switching m m.at h) (switching m m.at h (own_no_tcap m.old has.leaves.thread)
         (thread_no_tcap (s.frame (claimed_by m.at)) has.thread.thread) free)

@@ -24,6 +24,8 @@ use Rattle.flight.specs.stage_tcap.specs.Charging.{end_by_mark}
 use Rattle.flight.specs.stage_tcap.specs.Pairs.{noted_by, pair_after, pair_move}
 use Rattle.flight.specs.stage_tcap.specs.Pairs.{at_decided, compared_after, at_by_mark, at_by_head, at_marked, at_read}
 use Rattle.flight.specs.stage_tcap.specs.Pairs.{b_next, a_next, marked_end, decided_by_mark, b_end, list_end, again_value}
+use Rattle.flight.specs.stage_tcap.specs.declared.refill.Refill.{Refill}
+use Rattle.flight.specs.act_states.specs.Refills.{took_refilled}
 use Rattle.flight.specs.act_states.specs.declared.refusals.Refusal.{Refusal}
 use Rattle.flight.specs.act_states.specs.declared.refusals.Refusal.TheVariants as refusal
 use Rattle.flight.specs.act_states.specs.declared.typings.Typing.{Typing}
@@ -32,7 +34,8 @@ use Rattle.flight.specs.act_states.specs.declared.work.Act.TheVariants.{Fill as 
 use Rattle.flight.specs.act_states.specs.declared.work.Act.TheVariants.{Make as make_act, Tick as tick_act, Touch as touch_act}
 use Rattle.flight.specs.act_states.specs.declared.work.Act.TheVariants.{Flush as flush_act, Kill as kill_act, Untype as untype_act}
 use Rattle.flight.specs.act_states.specs.declared.work.Act.TheVariants.{Map as map_act, MakeComp as comp_act, Invoke as invoke_act}
-use Rattle.flight.specs.act_states.specs.declared.work.Act.TheVariants.{Return as return_act, Share as share_act, Switch as switch_act}
+use Rattle.flight.specs.act_states.specs.declared.work.Act.TheVariants.{Return as return_act, Share as share_act, Refill as refill_act}
+use Rattle.flight.specs.act_states.specs.declared.work.Act.TheVariants.{Switch as switch_act}
 use Rattle.flight.specs.act_states.specs.Acts.{took_act}
 use Rattle.flight.specs.act_states.specs.Refusals.{reply_of, refusal_of}
 use Rattle.flight.specs.act_states.specs.Shares.{shared, is_carried}
@@ -58,11 +61,13 @@ use Rattle.time_laws.proofs.ShareTails.{tail_on, landed_none, enter_none, alive_
 abbrev pub IsBudgetAct : ActOf → Type 0
 IsBudgetAct (tick_act charge) = Unit {0}
 IsBudgetAct (share_act p) = Unit {0}
+IsBudgetAct (refill_act r) = Unit {0}
 IsBudgetAct act = ⊥
 
 puts_none : (call : Call) (ks : List Capability) (read : Option ℕ) (k : Capability) → changes_budgets call ≡ true
     → put_by call ks read ≡ Some k → ⊥
 puts_none (call_as.Tick n) ks read k budgets h = absurd (cc)
+puts_none (call_as.Replenish x m) ks read k budgets h = absurd (cc)
 puts_none (call_as.Transfer x y m) ks read k budgets h = absurd (cc)
 puts_none (call_as.Delegate x y m) ks read k budgets h = absurd (cc)
 puts_none (call_as.Test x y) ks read k budgets h = absurd (cc)
@@ -132,11 +137,13 @@ module _ (setup : Setting) (t : Trace) (c : ℕ) (call : Call) (plan : Plan) (ks
   budget_acts (invoke_act m) has = absurd (invokes_none call ks m budgets has.invokes)
   budget_acts (return_act m) has = absurd (false≢true (sym (ap changes_budgets has.call_is) ∙ budgets))
   budget_acts (share_act p) has = tt
+  budget_acts (refill_act r) has = tt
   budget_acts (switch_act m) has = absurd (switches_none call ks _ _ budgets has.switches)
 
 undo_none : (act : ActOf) → IsBudgetAct act → StoresNone (undo act)
 undo_none (tick_act charge) is = tt
 undo_none (share_act p) is = tt
+undo_none (refill_act r) is = tt
 undo_none act is = absurd is
 
 count_none : (core n : ℕ) (change : Rattle.std.specs.Prelude.ℤ) (act : ActOf) (pin : Pin) (end : StageEnd Pinned) → IsBudgetAct act
@@ -151,6 +158,12 @@ tick_none due charge ends.Going = tt
 tick_none due charge (ends.Decided r) = tt
 tick_none due charge (ends.Done v) = tt
 tick_none due charge (ends.Refuse r) = tt
+
+refill_none : (r : Refill) (end : StageEnd Value) → LeavesNone (took_refilled r end)
+refill_none r ends.Going = tt
+refill_none r (ends.Decided reply) = tt
+refill_none r (ends.Done v) = tt
+refill_none r (ends.Refuse reply) = tt
 
 -- What a decision owes
 
@@ -341,6 +354,9 @@ module _ (setup : Setting) (setting : IsSetting setup) (cores : ℕ → Core) (t
   act_owes (tick_act charge) is has =
       landed_none s before c a (took_act (cores c).own.layout (tick_act charge) (FoundAt (Act (tick_act charge))))
       (λ budgets. tick_none (ticks_of charge) _ _)
+  act_owes (refill_act r) is has =
+      landed_none s before c a (took_act (cores c).own.layout (refill_act r) (FoundAt (Act (refill_act r))))
+      (λ budgets. refill_none _ _)
   act_owes act is has =
       landed_none s before c a (took_act (cores c).own.layout act (FoundAt (Act act)))
       (λ budgets. absurd (budget_acts setup t c a.call a.plan a.found setup.cores budgets act has.knows.knows))

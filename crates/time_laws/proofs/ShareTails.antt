@@ -26,6 +26,7 @@ use Rattle.flight.specs.act_states.specs.declared.work.WorkStep.TheVariants.{Acq
 use Rattle.flight.specs.act_states.specs.Lookups.{looks_under, looks_entry, looks_at, read_first, next_step, met_name, met_free, met_held}
 use Rattle.flight.specs.act_states.specs.Refusals.{reply_of, refusal_of}
 use Rattle.flight.specs.act_states.specs.Shares.{shares_if, shares_at, after_share}
+use Rattle.flight.specs.act_states.specs.Refills.{refills_at}
 use Rattle.flight.specs.act_states.specs.Touches.{touches_if}
 use Rattle.flight.specs.act_states.specs.Untypings.{after_store, release_after}
 use Rattle.flight.specs.call_stages.specs.Steps.{next_by}
@@ -182,10 +183,15 @@ shares_none core what (Some a) (Some b) = share_none (a.frame == b.frame) core w
 shares_none core what None b = tt
 shares_none core what (Some a) None = tt
 
+refills_none : (own : Own) (m : ℕ) (o : Option Capability) → LeavesNone (refills_at own m o)
+refills_none own m None = tt
+refills_none own m (Some k) = tt
+
 -- A call that changes budgets begins its act.
 begun_none : (own : Own) (call : Call) (ks : List Capability) (read : Option ℕ) (target : Option Found) → changes_budgets call ≡ true
     → LeavesNone (act_begun own call ks read target)
 begun_none own (Tick n) ks read target budgets = tt
+begun_none own (Replenish x m) ks read target budgets = refills_none own m (at_place ks First)
 begun_none own (Transfer x y m) ks read target budgets = shares_none own.core (share.Transfer m) (at_place ks First) (at_place ks Second)
 begun_none own (Delegate x y m) ks read target budgets = shares_none own.core (share.Delegate m) (at_place ks First) (at_place ks Second)
 begun_none own (Test x y) ks read target budgets = shares_none own.core share.Test (at_place ks First) (at_place ks Second)

@@ -1,5 +1,5 @@
 -- The time of a machine is that of the sequential kernel, whose laws hold of each legal trace; and heads say it.
-use Rattle.flight.proofs.Common.{to_use, not_exclusive_head_value, ◌≡◌, ℕ, ◌+◌, ◌∷◌, [], ◌&&◌, ◌==◌, Bool, true, false, Some, None}
+use Rattle.flight.proofs.Common.{to_use, not_exclusive_head_value, ◌≡◌, ◌≤◌, ℕ, ◌+◌, ◌∷◌, [], ◌&&◌, ◌==◌, Bool, true, false, Some, None}
 use Rattle.flight.proofs.Common.{if◌then◌else◌, refl, sym, ◌∙◌, ap, subst, Setting, IsSetting, head_of_word, EntryAt, PlaceOf, State}
 use Rattle.flight.proofs.Common.{events_of, IsLegal, MayDecide, stamp, Trace, state_after, last_left, Step, Open, phase, after_enter}
 use Rattle.flight.proofs.Common.{state_before, state_is, run_of, settled_by, settled, held_by, Invariant, HeadIs, IsFrameWord}
@@ -8,8 +8,9 @@ use Rattle.flight.proofs.Common.{first_of, answers, tcap_at, change_of, MayReply
 use Rattle.flight.specs.kernel_rules.specs.Laws.{ticks}
 use Rattle.flight.specs.kernel_laws.proofs.TicksLaw.{ticks_kept}
 use Rattle.flight.specs.kernel_laws.proofs.Spending.{spending_sums}
+use Rattle.flight.specs.kernel_laws.proofs.Back.{back_sums}
 use Rattle.flight.specs.Made.{IsMade, cores_after}
-use Rattle.history_laws.specs.Time.{TimeIsKept, TicksAreCounted, HeadsSay, ListsSay, TellsOf, TestsTell}
+use Rattle.history_laws.specs.Time.{TimeIsKept, TicksAreCounted, BackIsCounted, HeadsSay, ListsSay, TellsOf, TestsTell}
 use Rattle.flight.proofs.Made.{made_stands}
 use Rattle.flight.specs.pair_invariant.proofs.ShareSteps.{list_plain}
 use Rattle.flight.specs.spk_nums.specs.declared.kinds.Kind.TheVariants as kind
@@ -27,6 +28,13 @@ pub ticks_counted : (setup : Setting) → IsSetting setup → (t : Trace) → Is
 ticks_counted setup setting t made c =
     ap (λ s. (s.core c).spent + (s.core c).owed) (state_is setup t)
     ∙ spending_sums setup (events_of t) (run_of setup t (legal_of setup setting t made)) c
+
+pub back_counted : (setup : Setting) → IsSetting setup → (t : Trace) → IsMade setup t → BackIsCounted setup t
+back_counted setup setting t made c =
+    let has = back_sums setup setting (events_of t) (run_of setup t (legal_of setup setting t made)) c in record {
+      is = ap (λ s. (s.core c).back) (state_is setup t) ∙ has.is;
+      within = subst (λ s. (s.core c).back ≤ (s.core c).spent) (sym (state_is setup t)) has.within;
+    }
 
 pub heads_say : (setup : Setting) → IsSetting setup → (t : Trace) → IsMade setup t → HeadsSay setup t
 heads_say setup setting t made f q is unmarked = record { version = says.version; says = says.says }

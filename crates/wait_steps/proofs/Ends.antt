@@ -61,6 +61,10 @@ use Rattle.call_stages.specs.act_states.specs.stage_tcap.specs.declared.pair.Pai
 use Rattle.call_stages.specs.act_states.specs.stage_tcap.specs.declared.pair.PairAt.{PairAt}
 use Rattle.call_stages.specs.act_states.specs.stage_tcap.specs.declared.pair.PairAt.TheVariants as pair
 use Rattle.call_stages.specs.act_states.specs.stage_tcap.specs.declared.pair.PairWork.{PairWork}
+use Rattle.call_stages.specs.act_states.specs.stage_tcap.specs.Refilling.{weighed, word_end, won, again, refill_end_at}
+use Rattle.call_stages.specs.act_states.specs.stage_tcap.specs.declared.refill.Refill.{Refill}
+use Rattle.call_stages.specs.act_states.specs.stage_tcap.specs.declared.refill.RefillAt.{RefillAt}
+use Rattle.call_stages.specs.act_states.specs.stage_tcap.specs.declared.refill.RefillAt.TheVariants as refill
 use Rattle.call_stages.specs.act_states.specs.declared.refusals.Refusal.{Refusal}
 use Rattle.call_stages.specs.act_states.specs.declared.refusals.Refusal.TheVariants as refusal
 use Rattle.call_stages.specs.act_states.specs.declared.own.Own.{Own}
@@ -80,6 +84,7 @@ use Rattle.call_stages.specs.act_states.specs.Refusals.{reply_of, refusal_of}
 use Rattle.call_stages.specs.act_states.specs.Lookups.{looks_under, looks_entry, looks_at, read_first, next_step, met_right, met_cap, met_name, met_free, met_held}
 use Rattle.call_stages.specs.act_states.specs.Touches.{fault_of, touches_if}
 use Rattle.call_stages.specs.act_states.specs.Shares.{shared, took_shared, shares_if, shares_at}
+use Rattle.call_stages.specs.act_states.specs.Refills.{refills_at, took_refilled}
 use Rattle.call_stages.specs.act_states.specs.Acts.{looked, scans, starts, fills_with, removes_held, removes_at, types_if, types_at, makes_at}
 use Rattle.call_stages.specs.act_states.specs.Acts.{maps_if, maps_at, comps_at, made_begun, kills_in, kills_at, invokes_if, invokes_in, invokes_at, returns_if, switches_at, act_begun}
 use Rattle.call_stages.specs.act_states.specs.Acts.{parts_at}
@@ -281,6 +286,35 @@ module _ (w : Word) where
   took_shared_at p (ends.Done v) h = tt
   took_shared_at p (ends.Refuse r) h = refused_at w r h
 
+  -- a temporal capability that is given ticks
+  pub weighed_at : (b : Bool) (n : ℕ) → EndAt w (weighed b n)
+  weighed_at true n = tt
+  weighed_at false n = tt
+
+  pub word_end_at : (o : Option QualityWord) (end : StageEnd Value) → EndAt w end → EndAt w (word_end o end)
+  word_end_at None end h = tt
+  word_end_at (Some v) end h = h
+
+  pub won_at : (b : Bool) → EndAt w (won b)
+  won_at true = tt
+  won_at false = tt
+
+  pub again_seen_at : (b : Bool) → EndAt w (again b)
+  again_seen_at true = tt
+  again_seen_at false = tt
+
+  pub refill_at : (r : Refill) (at : RefillAt) (found : ℕ) → EndAt w (refill_end_at r at found)
+  refill_at r refill.Load found = head_at _
+  refill_at r (refill.List n) found = word_end_at _ _ (weighed_at _ _)
+  refill_at r refill.Compare found = won_at _
+  refill_at r refill.Again found = again_seen_at _
+
+  pub took_refilled_at : (r : Refill) (end : StageEnd Value) → EndAt w end → StepAt w (took_refilled r end)
+  took_refilled_at r ends.Going h = tt
+  took_refilled_at r (ends.Decided q) h = refused_at w q h
+  took_refilled_at r (ends.Done v) h = tt
+  took_refilled_at r (ends.Refuse q) h = refused_at w q h
+
   -- what begins
   pub under_at : (b : Bool) (top n : ℕ) → StepAt w (looks_under b top n)
   under_at true top n = tt
@@ -414,6 +448,10 @@ module _ (w : Word) where
   shares_found core what (Some a) None = tt
   shares_found core what None b = tt
 
+  pub refills_found : (own : Own) (m : ℕ) (o : Option Capability) → StepAt w (refills_at own m o)
+  refills_found own m None = tt
+  refills_found own m (Some k) = tt
+
   pub begun_at : (own : Own) (call : Call) (ks : List Capability) (read : Option ℕ) (f : Option Found) → StepAt w (act_begun own call ks read f)
   begun_at own (call_as.Look a) ks read f = looked_at _
   begun_at own (call_as.Copy a t b rights) ks read f = fills_at own _ _ f
@@ -434,6 +472,7 @@ module _ (w : Word) where
   begun_at own (call_as.Transfer a b m) ks read f = shares_found own.core (share.Transfer m) (at_place ks First) (at_place ks Second)
   begun_at own (call_as.Delegate a b m) ks read f = shares_found own.core (share.Delegate m) (at_place ks First) (at_place ks Second)
   begun_at own (call_as.Test a b) ks read f = shares_found own.core share.Test (at_place ks First) (at_place ks Second)
+  begun_at own (call_as.Replenish a m) ks read f = refills_found own m (at_place ks First)
   begun_at own (call_as.Part r g n t b) ks read f = parts_found own _ _ _ f
   begun_at own (call_as.Touch v) ks read f = tt
 

@@ -93,6 +93,7 @@ use Rattle.call_stages.specs.act_states.specs.stage_sweep.specs.Counters.{counte
 use Rattle.call_stages.specs.act_states.specs.stage_sweep.specs.Counters.{sum_of_counts}
 use Rattle.call_stages.specs.act_states.specs.call_plans.specs.Plans.{pushed}
 use Rattle.call_stages.specs.act_states.specs.stage_tcap.specs.Pairs.{pair_move, pair_after, pair_end, noted_by}
+use Rattle.call_stages.specs.act_states.specs.stage_tcap.specs.Refilling.{refill_move, refill_after, refill_end, refill_noted}
 use Rattle.call_stages.specs.act_states.specs.declared.work.Act.{Act as ActType}
 use Rattle.call_stages.specs.act_states.specs.declared.work.Act.TheVariants as act_as
 use Rattle.call_stages.specs.act_states.specs.declared.work.Work.{Work}
@@ -119,7 +120,8 @@ use Rattle.call_stages.specs.declared.stages.ActiveCall.{ActiveCall}
 use Rattle.call_stages.specs.Steps.{found_more, landed, next_by, took_first, took_enter, took_alive, named_one, took_found}
 use Rattle.call_stages.specs.Steps.{took_end, took_read, took_count, took_scan, took_work, took_at, stage_move, work_move, is_spent}
 use Rattle.wait_steps.specs.Waits.{StepAt, EndAt, MayAt, TookAt, AgainIn, AgainOf, AgainAt}
-use Rattle.wait_steps.proofs.Ends.{refused_at, replied_at, fault_at, quiet_at, look_at, alive_at, claim_at, pin_at, charge_end_at, pair_at, took_shared_at, starts_at, next_at, name_at, free_at, held_at, MetAt}
+use Rattle.wait_steps.proofs.Ends.{refused_at, replied_at, fault_at, quiet_at, look_at, alive_at, claim_at, pin_at, charge_end_at, pair_at}
+use Rattle.wait_steps.proofs.Ends.{took_shared_at, refill_at, took_refilled_at, starts_at, next_at, name_at, free_at, held_at, MetAt}
 
 module _ (w : Word) where
   -- the acts
@@ -528,6 +530,8 @@ act_step s (act_as.Invoke m) found h = invoking_step _ m m.at found
 act_step s (act_as.Return m) found h = returning_step _ m m.at found
 act_step s (act_as.Share p) found h = took_shared_at (word_of (pair_move p)) (pair_after p found) (pair_end p found)
     (pair_at (word_of (pair_move p)) (noted_by p found) p.at found h)
+act_step s (act_as.Refill r) found h = took_refilled_at (word_of (refill_move r)) (refill_after r found) (refill_end r found)
+    (refill_at (word_of (refill_move r)) (refill_noted r found) r.at found)
 act_step s (act_as.Switch m) found h = switching_step _ m m.at found
 
 -- A step of a call.

@@ -13,7 +13,7 @@ use Rattle.comp_invariant.proofs.Common.{NewObject, Outside, object_made, put_by
 use Rattle.comp_invariant.proofs.Common.{ReadIs, IsSpot, KnowsAct, goes_on, limits_of, WorkStep, ◌+◌, ◌-◌}
 use Rattle.comp_invariant.specs.spk_nums.specs.declared.kinds.FrameKind.TheVariants as frame_kind
 use Rattle.comp_invariant.specs.spk_nums.specs.declared.kinds.Kind.TheVariants as kind
-use Rattle.comp_invariant.specs.spk_nums.specs.declared.calls.Call.TheVariants.{Look as look_call, Part}
+use Rattle.comp_invariant.specs.spk_nums.specs.declared.calls.Call.TheVariants.{Look as look_call, Part, Replenish}
 use Rattle.comp_invariant.specs.spk_nums.specs.declared.calls.Call.TheVariants.{Make as make_call}
 use Rattle.comp_invariant.specs.spk_nums.specs.declared.calls.Call.TheVariants.{Call as call_gate}
 use Rattle.comp_invariant.specs.spk_nums.specs.declared.calls.Make.TheVariants as make
@@ -403,6 +403,7 @@ begins_free own Ret limits small spot to s plan ks read c core none leads fits w
   where
     not_target : Nowhere ≡ Free spot → ⊥
     not_target h = cc
+begins_free own (Replenish x m) limits small spot to s plan ks read c core none leads fits within reads at = absurd (not_target to)
 begins_free own (Transfer x y m) limits small spot to s plan ks read c core none leads fits within reads at = absurd (not_target to)
   where
     not_target : Nowhere ≡ Free spot → ⊥

@@ -6,7 +6,7 @@ use Rattle.comp_invariant.proofs.Common.{Make, State, Thing, Holds, PlaceOf, Slo
 use Rattle.comp_invariant.proofs.Common.{Refused, IsFoundAnd, Does, outcome, answers, and_then, or_refuse, unless, not_vacant, named}
 use Rattle.comp_invariant.proofs.Common.{vacant, change_of, changed, counted, begins_in, some_inj, First, Second, Name, Spot, Nowhere}
 use Rattle.comp_invariant.proofs.Common.{plan_for, names_after, removes_by, act_begun, Own, to_look}
-use Rattle.comp_invariant.specs.spk_nums.specs.declared.calls.Call.TheVariants.{Look as look_call, Part}
+use Rattle.comp_invariant.specs.spk_nums.specs.declared.calls.Call.TheVariants.{Look as look_call, Part, Replenish}
 use Rattle.comp_invariant.specs.spk_nums.specs.declared.calls.Call.TheVariants.{Make as make_call}
 use Rattle.comp_invariant.specs.spk_nums.specs.declared.calls.Call.TheVariants.{Call as call_gate}
 use Rattle.comp_invariant.specs.spk_nums.specs.declared.calls.Make.TheVariants as make
@@ -75,6 +75,7 @@ make_target (make.Comp table pages live) r u b = refl
 pub own_unnamed : (call : Call) (v : ℕ) → (plan_for call).target ≡ own_page v → (plan_for call).names ≡ []
 own_unnamed (look_call a) v is = absurd (cc)
 own_unnamed (Copy a u b rights) v is = absurd (cc)
+own_unnamed (Replenish x m) v is = absurd (cc)
 own_unnamed (Part r f n u b) v is = absurd (cc)
 own_unnamed (Grow u i l) v is = absurd (cc)
 own_unnamed (Remove u b) v is = absurd (cc)
@@ -140,6 +141,7 @@ begins_removal own (Copy a u b rights) spot to ks = absurd (not_held to)
   where
     not_held : Free (spot_of.Under Second b) ≡ Held spot → ⊥
     not_held h = cc
+begins_removal own (Replenish x m) spot to ks = absurd (not_held to)
 begins_removal own (Part r f n u b) spot to ks = absurd (not_held to)
   where
     not_held : Free (spot_of.Under Second b) ≡ Held spot → ⊥

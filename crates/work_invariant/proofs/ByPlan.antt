@@ -16,7 +16,7 @@ use Rattle.comp_invariant.proofs.Common.{MayFill, KnowsAct, LooksUp, own_in, Has
 use Rattle.comp_invariant.proofs.Common.{Quiet, quiet_scan, clock, stamp, landed, found_more, Core, holds_at, holds_in}
 use Rattle.comp_invariant.proofs.Common.{Invariant, names_on, limits_of, Want, has_rights, neither, to_look}
 use Rattle.switch_invariant.specs.thread_invariant.proofs.InvokeStarts.{invokes_good}
-use Rattle.comp_invariant.specs.spk_nums.specs.declared.calls.Call.TheVariants.{Look as look_call, Part}
+use Rattle.comp_invariant.specs.spk_nums.specs.declared.calls.Call.TheVariants.{Look as look_call, Part, Replenish}
 use Rattle.comp_invariant.specs.spk_nums.specs.declared.calls.Call.TheVariants.{Make as make_call}
 use Rattle.comp_invariant.specs.spk_nums.specs.declared.calls.Call.TheVariants.{Call as call_gate}
 use Rattle.comp_invariant.specs.spk_nums.specs.declared.replies.Reply.TheVariants as reply
@@ -42,6 +42,7 @@ use Rattle.comp_invariant.specs.spk_nums.specs.declared.kinds.Kind.TheVariants.{
 use Rattle.work_invariant.proofs.AtName.{IsTypedBy, one_name, ranges_good, looked_good}
 use Rattle.switch_invariant.specs.live_invariant.proofs.KillStarts.{kills_good}
 use Rattle.share_invariant.specs.pair_invariant.proofs.ShareStarts.{transfers_good, delegates_good, tests_good}
+use Rattle.share_invariant.specs.pair_invariant.proofs.RefillStarts.{refills_good}
 use Rattle.switch_invariant.proofs.SwitchStarts.{switches_good}
 use Rattle.comp_invariant.specs.act_states.specs.declared.work.Act.{Act as ActOf}
 use Rattle.comp_invariant.specs.act_states.specs.Acts.{scans, removing}
@@ -236,6 +237,9 @@ module _ (setup : Setting) (setting : IsSetting setup) (cores : ℕ → Core) (t
         (looked_good setup setting cores t stands c here a active opens held_is no_counts room at looks n
         (subst (λ (m : ℕ). Arrives setup t c (own_in table m) at) (ap (λ (x : Name). x.number) only_one.1) arrives) k named_it is has.acts)
     acts_at_name (Copy b u v rights) is nowhere none = absurd (free_somewhere (spot_of.Under Second v) nowhere)
+    acts_at_name (Replenish x m) is nowhere none =
+        refills_good setup setting cores t stands c here a active opens held_is no_counts room goes_by (LoadOf (EntryAt at.node at.index))
+        looks has.acts more leads_then none names_then x m is
     acts_at_name (Part r f n u v) is nowhere none = absurd (free_somewhere (spot_of.Under Second v) nowhere)
     acts_at_name (Grow u i l) is nowhere none = absurd (free_somewhere (spot_of.InRoot First i) nowhere)
     acts_at_name (Remove u v) is nowhere none = absurd (held_somewhere (spot_of.Under First v) nowhere)

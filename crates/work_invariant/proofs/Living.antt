@@ -16,7 +16,8 @@ use Rattle.comp_invariant.proofs.Common.{RuleMay, Refused, rule_of, change_of, f
 use Rattle.comp_invariant.proofs.Common.{Map, Unmap, Flush, Gate, Kill, Ret, Switch, Tick, Transfer, Delegate, Test, Relies, Capability}
 use Rattle.comp_invariant.proofs.Common.{false≢true}
 use Rattle.comp_invariant.specs.spk_nums.specs.declared.kinds.FrameKind.TheVariants.{Untyped, User, Kernel as to_kernel}
-use Rattle.comp_invariant.specs.spk_nums.specs.declared.calls.Call.TheVariants.{Look as look_call, Make as make_call, Call as call_gate, Part}
+use Rattle.comp_invariant.specs.spk_nums.specs.declared.calls.Call.TheVariants.{Look as look_call, Make as make_call, Call as call_gate}
+use Rattle.comp_invariant.specs.spk_nums.specs.declared.calls.Call.TheVariants.{Part, Replenish}
 use Rattle.comp_invariant.specs.spk_nums.specs.declared.calls.Make.TheVariants as make
 use Rattle.comp_invariant.specs.spk_nums.specs.declared.replies.Reply.TheVariants as reply
 use Rattle.comp_invariant.specs.frame_words.specs.declared.live_word.LiveWord.TheVariants as live_word
@@ -44,6 +45,7 @@ use Rattle.work_invariant.proofs.NextLooks.{next_good}
 named_or_touch : (call : Call) → IsTrue (asks_life call) → ((plan_for call).names ≡ [] → ⊥) ⊎ ((v : ℕ) × (call ≡ Touch v))
 named_or_touch (look_call n) asks = inl (λ h. cc)
 named_or_touch (Copy n u b rights) asks = inl (λ h. cc)
+named_or_touch (Replenish x m) asks = inl (λ h. cc)
 named_or_touch (Part r f n u b) asks = inl (λ h. cc)
 named_or_touch (Grow u i l) asks = inl (λ h. cc)
 named_or_touch (Remove u b) asks = inl (λ h. cc)

@@ -11,6 +11,7 @@ use Rattle.comp_invariant.specs.act_states.specs.declared.work.Act.TheVariants.{
 use Rattle.comp_invariant.specs.act_states.specs.declared.work.Act.TheVariants.{MakeComp as comp_act, Invoke as invoke_act}
 use Rattle.comp_invariant.specs.act_states.specs.declared.work.Act.TheVariants.{Return as return_act}
 use Rattle.comp_invariant.specs.act_states.specs.declared.work.Act.TheVariants.{Touch as touch_act, Share as share_act}
+use Rattle.comp_invariant.specs.act_states.specs.declared.work.Act.TheVariants.{Refill as refill_act}
 use Rattle.comp_invariant.specs.act_states.specs.declared.work.Act.TheVariants.{Switch as switch_act}
 use Rattle.comp_invariant.specs.call_stages.specs.Steps.{work_move, took_look, took_work}
 use Rattle.comp_invariant.specs.step_ways.proofs.Refusals.{GoodTook}
@@ -31,6 +32,7 @@ use Rattle.switch_invariant.specs.live_invariant.proofs.Killed.{killing_good}
 use Rattle.page_invariant.proofs.Flushes.{flush_good}
 use Rattle.page_invariant.proofs.Touches.{touch_good}
 use Rattle.share_invariant.proofs.Shares.{share_good}
+use Rattle.share_invariant.specs.pair_invariant.proofs.RefillStarts.{refill_good}
 use Rattle.switch_invariant.proofs.Switches.{switch_good}
 
 look_good : (setup : Setting) → IsSetting setup → (cores : ℕ → Core) (t : Trace) → Invariant setup cores t → (c : ℕ) → c < setup.cores
@@ -89,6 +91,8 @@ work_good setup setting cores t stands c here a active (Act (untype_act m)) is k
     untype_good setup setting cores t stands c here a active m is knows
 work_good setup setting cores t stands c here a active (Act (share_act p)) is knows =
     share_good setup setting cores t stands c here a active p is knows
+work_good setup setting cores t stands c here a active (Act (refill_act r)) is knows =
+    refill_good setup setting cores t stands c here a active r is knows
 work_good setup setting cores t stands c here a active (Act (switch_act m)) is knows =
     switch_good setup setting cores t stands c here a active m is knows
 work_good setup setting cores t stands c here a active (Act (comp_act m)) is knows =

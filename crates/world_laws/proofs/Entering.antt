@@ -17,7 +17,7 @@ use Rattle.authority_laws.specs.kernel_rules.specs.TimeCalls.{tcap_at, with_tcap
 use Rattle.authority_laws.specs.kernel_rules.specs.Runs.{Event, Decides, after, is_open, IsRun}
 use Rattle.authority_laws.specs.kernel_rules.proofs.Within.{put_same}
 use Rattle.authority_laws.specs.kernel_invariant.specs.Edits.{Edit, Fill, Node, Become, Untype, Component, Push, Pop, Switch, Cache, Flush}
-use Rattle.authority_laws.specs.kernel_invariant.specs.Edits.{Charge, Move, Merge, edited, after_edits}
+use Rattle.authority_laws.specs.kernel_invariant.specs.Edits.{Charge, Move, Merge, Give, edited, after_edits}
 use Rattle.authority_laws.specs.kernel_invariant.proofs.Sound.{put_all}
 use Rattle.authority_laws.specs.kernel_invariant.proofs.SoundCalls.{IsOpen}
 use Rattle.authority_laws.specs.kernel_invariant.proofs.SoundRuns.{opened, open_is, runs_sound, limits_stay}
@@ -166,6 +166,9 @@ module _ (act : Call) (s : State) (c : ℕ) (own : IsTrue (fits kind.Thread (s.f
             ∙ tcaps_stack s.frame a q (s.core c).thread;
       })
   edit_goes (Merge f qs) by = inl (tcap_goes f (record (tcap_at s f) { qualities = qs }))
+  edit_goes (Give f m) by =
+      let r = tcap_goes f (record (tcap_at s f) { budget = (tcap_at s f).budget + m }) in
+      inl (record { thread = core_goes s _ refl; stack = r.stack })
   edit_goes _ by = inl (record { thread = refl; stack = λ stays. refl })
 
   -- what changes no core, and no stack

@@ -22,7 +22,7 @@ nothing = record {
   place = λ f i. Free;
   frame = λ f. Untyped;
   number = λ l. Unused;
-  core = λ c. record { inside = false; thread = 0; tcap = 0; cached = []; spent = 0; owed = 0; counted = 0 };
+  core = λ c. record { inside = false; thread = 0; tcap = 0; cached = []; spent = 0; back = 0; owed = 0; counted = 0; grant = (0, 0) };
   grace = λ x. no_grace;
   limits = record { cores = 3; frames = 8; calls = 8; epochs = 8 };
 }

@@ -20,7 +20,7 @@ use Rattle.authority_laws.specs.kernel_rules.specs.TimeCalls.{tcap_at, with_tcap
 use Rattle.authority_laws.specs.kernel_rules.specs.CallRelation.{begins, ends, flushes, state_by, MayReply}
 use Rattle.authority_laws.specs.kernel_invariant.specs.Edits.{Edit, Fill, Remove, Node, Become, Untype, Component, Deaden, Push, Pop}
 use Rattle.authority_laws.specs.kernel_invariant.specs.Edits.{Switch}
-use Rattle.authority_laws.specs.kernel_invariant.specs.Edits.{Charge, Move, Merge, edited, after_edits}
+use Rattle.authority_laws.specs.kernel_invariant.specs.Edits.{Charge, Move, Merge, Give, edited, after_edits}
 use Rattle.authority_laws.specs.kernel_invariant.proofs.Sound.{put_all}
 use Rattle.authority_laws.specs.kernel_invariant.proofs.SoundSteps.{place_all, free_holds, quiescing_holds, holds_inj}
 use Rattle.authority_laws.specs.kernel_invariant.proofs.SoundCalls.{IsOpen}
@@ -141,6 +141,9 @@ module _ (call : Call) (s : State) (c : ℕ) where
       tcap_put u b (record (tcap_at u b) { budget = (tcap_at s b).budget + m })
       (tcap_put s a (record (tcap_at s a) { budget = (tcap_at s a).budget - m }) same_put)
   edit_put (Merge f qs) by = tcap_put s f (record (tcap_at s f) { qualities = qs }) same_put
+  edit_put (Give f m) by =
+      let h = tcap_put s f (record (tcap_at s f) { budget = (tcap_at s f).budget + m }) same_put in
+      record { held = h.held; comp = h.comp; live = h.live }
   edit_put _ by = record { held = λ f i k e. inl e; comp = λ f k e. inl e; live = λ l e f q. inl q }
 
   later_put : (t : State) (es : List Edit) → AreLater es → EachBy call s c es → PutFrom call s c t → PutFrom call s c (after_edits c t es)

@@ -10,6 +10,7 @@ use Rattle.authority_laws.specs.spk_nums.specs.declared.calls.Call.TheVariants.{
 use Rattle.authority_laws.specs.spk_nums.specs.declared.replies.Reply.{Reply}
 use Rattle.authority_laws.specs.spk_nums.specs.declared.replies.Reply.TheVariants as reply
 use Rattle.authority_laws.specs.kernel_rules.specs.State.{ThreadFields, TcapFields, Blank, Comp, Thread, Tcap, Frame, Untyped, Kernel, Core}
+use Rattle.authority_laws.specs.kernel_rules.specs.State.{outstanding}
 use Rattle.authority_laws.specs.kernel_rules.specs.State.{State}
 use Rattle.authority_laws.specs.kernel_rules.specs.State.{put, with_frame, with_core, tcap_in}
 use Rattle.authority_laws.specs.kernel_rules.specs.Access.{only}
@@ -20,7 +21,7 @@ use Rattle.authority_laws.specs.kernel_rules.specs.CallRelation.{owed_by, state_
 use Rattle.authority_laws.specs.kernel_rules.specs.Runs.{Event, Enters, Decides, Returns, after, IsRun}
 use Rattle.authority_laws.specs.kernel_rules.proofs.Within.{put_same, put_other}
 use Rattle.authority_laws.specs.kernel_invariant.specs.Edits.{Edit, Fill, Node, Become, Untype, Component, Push, Pop, Switch, Cache, Flush}
-use Rattle.authority_laws.specs.kernel_invariant.specs.Edits.{Charge, Move, Merge, edited, after_edits}
+use Rattle.authority_laws.specs.kernel_invariant.specs.Edits.{Charge, Move, Merge, Give, edited, after_edits}
 use Rattle.authority_laws.specs.kernel_invariant.proofs.Sums.{sum_same, sum_one}
 use Rattle.authority_laws.specs.kernel_invariant.proofs.Sound.{put_all, only_is}
 use Rattle.authority_laws.specs.kernel_invariant.proofs.SoundCalls.{IsOpen, tcap_below}
@@ -29,6 +30,7 @@ use Rattle.authority_laws.specs.kernel_invariant.proofs.Facts.{usable_good}
 use Rattle.authority_laws.specs.kernel_invariant.proofs.Edited.{is_bare, AreLater, Calm}
 use Rattle.authority_laws.proofs.Acts.{LedTo, By, EachBy, used_at}
 use Rattle.authority_laws.proofs.DecidedParts.{decided_from}
+use Rattle.authority_laws.specs.kernel_laws.proofs.Back.{within_spent}
 use Rattle.world_laws.specs.Worlds.{works_in, gates, OnlyGates, AreApart}
 use Rattle.world_laws.specs.Time.{counted_if, ticks_in, RunsAcross, ActsAcross, TimeOfWorlds}
 use Rattle.world_laws.proofs.Outside.{sealed_for_gates, led_frame}
@@ -74,24 +76,26 @@ module _ (w : ℕ → Bool) where
       ap (λ x. counted_if (w f) (budget x)) (put_same u.frame f y f refl) in
       omega (arith, a, b)
 
-  core_same : (u : State) (c : ℕ) (k : Core) → w k.thread ≡ w (u.core c).thread → k.spent ≡ (u.core c).spent
+  core_same : (u : State) (c : ℕ) (k : Core) → w k.thread ≡ w (u.core c).thread → outstanding k ≡ outstanding (u.core c)
       → ticks_in w (with_core u c k) ≡ ticks_in w u
-  core_same u c k side spent =
-      let a = sum_same (λ d. counted_if (w (u.core d).thread) (u.core d).spent)
-      (λ d. counted_if (w (put u.core c k d).thread) (put u.core c k d).spent) u.limits.cores
-      (λ d below. put_all (λ d x. counted_if (w x.thread) x.spent ≡ counted_if (w (u.core d).thread) (u.core d).spent) u.core c k d
-      (λ same. ap (λ b. counted_if b k.spent) side ∙ ap (counted_if (w (u.core c).thread)) spent
-      ∙ ap (λ n. counted_if (w (u.core n).thread) (u.core n).spent) (sym same)) (λ other. refl)) in
+  core_same u c k side left =
+      let a = sum_same (λ d. counted_if (w (u.core d).thread) (outstanding (u.core d)))
+      (λ d. counted_if (w (put u.core c k d).thread) (outstanding (put u.core c k d))) u.limits.cores
+      (λ d below. put_all (λ d x. counted_if (w x.thread) (outstanding x) ≡ counted_if (w (u.core d).thread) (outstanding (u.core d)))
+      u.core c k d
+      (λ same. ap (λ b. counted_if b (outstanding k)) side ∙ ap (counted_if (w (u.core c).thread)) left
+      ∙ ap (λ n. counted_if (w (u.core n).thread) (outstanding (u.core n))) (sym same)) (λ other. refl)) in
       omega (arith, a)
 
   core_put : (u : State) (c : ℕ) (k : Core) → c < u.limits.cores
-      → ticks_in w (with_core u c k) + counted_if (w (u.core c).thread) (u.core c).spent ≡ ticks_in w u + counted_if (w k.thread) k.spent
+      → ticks_in w (with_core u c k) + counted_if (w (u.core c).thread) (outstanding (u.core c))
+      ≡ ticks_in w u + counted_if (w k.thread) (outstanding k)
   core_put u c k below =
-      let a = sum_one (λ d. counted_if (w (u.core d).thread) (u.core d).spent)
-      (λ d. counted_if (w (put u.core c k d).thread) (put u.core c k d).spent) u.limits.cores c below
-      (λ d other. ap (λ (x : Core). counted_if (w x.thread) x.spent) (put_other u.core c k d other)) in
-      let b : counted_if (w (put u.core c k c).thread) (put u.core c k c).spent ≡ counted_if (w k.thread) k.spent =
-      ap (λ (x : Core). counted_if (w x.thread) x.spent) (put_same u.core c k c refl) in
+      let a = sum_one (λ d. counted_if (w (u.core d).thread) (outstanding (u.core d)))
+      (λ d. counted_if (w (put u.core c k d).thread) (outstanding (put u.core c k d))) u.limits.cores c below
+      (λ d other. ap (λ (x : Core). counted_if (w x.thread) (outstanding x)) (put_other u.core c k d other)) in
+      let b : counted_if (w (put u.core c k c).thread) (outstanding (put u.core c k c)) ≡ counted_if (w k.thread) (outstanding k) =
+      ap (λ (x : Core). counted_if (w x.thread) (outstanding x)) (put_same u.core c k c refl) in
       omega (arith, a, b)
 
 -- Ticks that are charged on one side, and ticks that move on one side.
@@ -104,11 +108,16 @@ moved_sum : (b : Bool) (t u s from left had m : ℕ) → u + counted_if b from �
     → t + counted_if b had ≡ u + counted_if b (had + m) → left + m ≡ from → t ≡ s
 moved_sum = charged_sum
 
+given_sum : (b : Bool) (t u s all left m : ℕ) → u + counted_if b all ≡ s + counted_if b (all + m)
+    → t + counted_if b left ≡ u + counted_if b (left - m) → m ≤ left → t ≡ s
+given_sum true t u s all left m p q enough = omega (arith, p, q, enough)
+given_sum false t u s all left m p q enough = omega (arith, p, q)
+
 -- ---- edits
 
 module _ (w : ℕ → Bool) (call : Call) (s : State) (c : ℕ) (o : ℕ → Bool) (h : IsOpen s o c) (b : Bool)
     (side : (j : Kind) (f : ℕ) → gates j ≡ false → only kind.Range j ≡ false → LedTo call s c (only j) f → w f ≡ b)
-    (of_thread : w (s.core c).thread ≡ b) (of_tcap : w (s.core c).tcap ≡ b) where
+    (of_thread : w (s.core c).thread ≡ b) (of_tcap : w (s.core c).tcap ≡ b) (within : (s.core c).back ≤ (s.core c).spent) where
   below : c < s.limits.cores
   below = (h.sound.inside c h.is).1
 
@@ -138,11 +147,34 @@ module _ (w : ℕ → Bool) (call : Call) (s : State) (c : ℕ) (o : ℕ → Boo
       let r = core_put w u c k below in
       let small : m ≤ all = least due all in
       let e : budget (with_tcap (s.frame q) fields) ≡ all - m = put_budget (s.frame q) fields own_fit in
-      charged_sum b (ticks_in w (with_core u c k)) (ticks_in w u) (ticks_in w s) all (all - m) (s.core c).spent m
+      let left : ℕ = outstanding (s.core c) in
+      let more : outstanding k ≡ left + m = omega (arith, within) in
+      charged_sum b (ticks_in w (with_core u c k)) (ticks_in w u) (ticks_in w s) all (all - m) left m
       (subst (λ x. ticks_in w u + counted_if x all ≡ ticks_in w s + counted_if x (all - m)) of_tcap
       (p ∙ ap (λ n. ticks_in w s + counted_if (w q) n) e))
-      (subst (λ x. ticks_in w (with_core u c k) + counted_if x (s.core c).spent ≡ ticks_in w u + counted_if x ((s.core c).spent + m)) of_thread r)
+      (subst (λ x. ticks_in w (with_core u c k) + counted_if x left ≡ ticks_in w u + counted_if x (left + m)) of_thread
+      (r ∙ ap (λ n. ticks_in w u + counted_if (w (s.core c).thread) n) more))
       (omega (arith, small))
+
+  give_ticks : (f m : ℕ) → By call s c (Give f m) → ticks_in w (edited c s (Give f m)) ≡ ticks_in w s
+  give_ticks f m by =
+      let all : ℕ = (tcap_at s f).budget in
+      let fields : TcapFields = record (tcap_at s f) { budget = all + m } in
+      let u : State = with_budget s f (all + m) in
+      let k : Core = record (s.core c) { back = (s.core c).back + m } in
+      let left : ℕ = outstanding (s.core c) in
+      let fit = tcap_fit f by.0 in
+      let p = frame_put w s f (with_tcap (s.frame f) fields) (tcap_below s o f h.sound fit) in
+      let r = core_put w u c k below in
+      let e : budget (with_tcap (s.frame f) fields) ≡ all + m = put_budget (s.frame f) fields fit in
+      let enough = by.1 in
+      let less : outstanding k ≡ left - m = omega (arith, enough) in
+      given_sum b (ticks_in w (with_core u c k)) (ticks_in w u) (ticks_in w s) all left m
+      (subst (λ x. ticks_in w u + counted_if x all ≡ ticks_in w s + counted_if x (all + m)) (side kind.Tcap f refl refl by.0)
+      (p ∙ ap (λ n. ticks_in w s + counted_if (w f) n) e))
+      (subst (λ x. ticks_in w (with_core u c k) + counted_if x left ≡ ticks_in w u + counted_if x (left - m)) of_thread
+      (r ∙ ap (λ n. ticks_in w u + counted_if (w (s.core c).thread) n) less))
+      enough
 
   move_ticks : (a d m : ℕ) → By call s c (Move a d m) → ticks_in w (edited c s (Move a d m)) ≡ ticks_in w s
   move_ticks a d m by =
@@ -187,6 +219,7 @@ module _ (w : ℕ → Bool) (call : Call) (s : State) (c : ℕ) (o : ℕ → Boo
   edit_ticks (Charge n) by = charge_ticks n
   edit_ticks (Move a d m) by = move_ticks a d m by
   edit_ticks (Merge f qs) by = frame_same w s f _ (same_budget (s.frame f) qs)
+  edit_ticks (Give f m) by = give_ticks f m by
   edit_ticks _ by = refl
 
   later_ticks : (t : State) (es : List Edit) → AreLater es → ticks_in w (after_edits c t es) ≡ ticks_in w t
@@ -242,7 +275,7 @@ module _ (setting : Setting) (lim : IsSetting setting) (events : List Event) (c 
   one_side : w (now.core c).thread ≡ w (works_in now c) → w (now.core c).tcap ≡ w (works_in now c)
       → ticks_in w (after setting (Decides c call r ∷ events)) ≡ ticks_in w now
   one_side thread tcap = decided_ticks w call now c (opened events) (open_at (w (works_in now c)) refl) (w (works_in now c))
-      (side_of (w (works_in now c)) refl) thread tcap r run.1.permitted
+      (side_of (w (works_in now c)) refl) thread tcap (within_spent setting lim events run.0 c) r run.1.permitted
 
 more_across : (setting : Setting) (w : ℕ → Bool) (before later : List Event) (e : Event) → ActsAcross setting w before later
     → ActsAcross setting w before (e ∷ later)

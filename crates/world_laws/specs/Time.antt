@@ -5,19 +5,19 @@ use Rattle.authority_laws.specs.spk_nums.specs.declared.calls.Call.{Call}
 use Rattle.authority_laws.specs.spk_nums.specs.declared.kinds.Kind.{Kind}
 use Rattle.authority_laws.specs.spk_nums.specs.declared.replies.Value.{Value}
 use Rattle.authority_laws.specs.spk_nums.specs.declared.replies.Reply.TheVariants.{Ok}
-use Rattle.authority_laws.specs.kernel_rules.specs.State.{State, tcap_in}
+use Rattle.authority_laws.specs.kernel_rules.specs.State.{State, outstanding, tcap_in}
 use Rattle.authority_laws.specs.kernel_rules.specs.References.{sum_below}
 use Rattle.authority_laws.specs.kernel_rules.specs.Runs.{Event, Decides, after, IsRun}
 use Rattle.world_laws.specs.Worlds.{works_in, OnlyGates, AreApart}
 
--- The ticks of a world: the budgets of its frames, and what the cores have spent whose threads are in it.
+-- The ticks of a world: the budgets of its frames, and what the cores have spent and have not had back whose threads are in it.
 abbrev pub counted_if : Bool → ℕ → ℕ
 counted_if b n = cond b n 0
 
 abbrev pub ticks_in : (ℕ → Bool) → State → ℕ
 ticks_in w s =
     sum_below (λ f. counted_if (w f) (tcap_in (s.frame f)).budget) s.limits.frames
-    + sum_below (λ c. counted_if (w (s.core c).thread) (s.core c).spent) s.limits.cores
+    + sum_below (λ c. counted_if (w (s.core c).thread) (outstanding (s.core c))) s.limits.cores
 
 -- A core runs across: its thread, or its temporal capability, is on another side than the component in which it works.
 abbrev pub RunsAcross : (ℕ → Bool) → State → ℕ → Type 0

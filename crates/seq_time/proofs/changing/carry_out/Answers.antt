@@ -23,3 +23,6 @@ returns-in-Delegate c = rw c.in-Delegate.is (c.delegate.ensures c.args.core c.in
 
 pub returns-in-Test : goal.returns-in-Test
 returns-in-Test c = rw c.in-Test.is (c.test.ensures c.args.core c.in-Test.a c.in-Test.b)
+
+pub returns-in-Replenish : goal.returns-in-Replenish
+returns-in-Replenish c = rw c.in-Replenish.is (c.replenish.ensures c.in-Replenish.a)

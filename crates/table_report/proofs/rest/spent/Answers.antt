@@ -4,15 +4,19 @@ use Rattle.table_lines.specs.Ends.{core_shown}
 use Rattle.table_report.specs.Shown.{core_shown_at}
 use Rattle.table_report.proofs.Lines.{ends_read}
 use Rattle.table_report.proofs.rest.spent.Goals as goal
+use Rattle.kernel_rules.specs.State.{outstanding}
 
 pub cores-init : goal.cores-init
 cores-init c = record { sum = sym (sum_none _); most = omega arith }
 
 pub cores-preserved : goal.cores-preserved
 cores-preserved c =
-    let e : (core_shown_at c.args.ends.now c.cores.core).spent ≡ c.index-ends-core.result.spent =
-    ap (λ e. (core_shown e).spent)
+    let e : outstanding (core_shown_at c.args.ends.now c.cores.core) ≡ c.index-ends-core.result.spent - c.index-ends-core.result.back =
+    ap (λ e. outstanding (core_shown e))
     (ends_read c.args.ends.now c.cores.core c.index-ends-core.result (omega arith) c.index-ends-core.is) in
-    let m = sum_more (λ k. (core_shown_at c.args.ends.now k).spent) c.cores.core in
-    let r = ap (λ e. e.spent) c.index-ends-core.is in
-    record { sum = omega (arith, m, e, r, c.from-sum.ensures); most = omega (arith, c.index-ends-core.element_fits, c.from-sum.ensures) }
+    let m = sum_more (λ k. outstanding (core_shown_at c.args.ends.now k)) c.cores.core in
+    let r = ap (λ e. e.spent - e.back) c.index-ends-core.is in
+    record {
+      sum = omega (arith, m, e, r, c.from-saturating_sub.ensures);
+      most = omega (arith, c.index-ends-core.element_fits, c.from-saturating_sub.ensures);
+    }

@@ -1,0 +1,116 @@
+-- Where the steps lead to by which ticks are given back fits their machine, and leaves fewer steps.
+use Rattle.std.proofs.Common.{◌≡◌, ℕ, nat_lt, ◌+◌, ◌-◌, ◌<◌, ◌≤◌, ◌==◌, ◌&&◌, not, Bool, true, false}
+use Rattle.std.proofs.Common.{length, Option, Some, None, refl, sym, arith}
+use Rattle.std.proofs.lemmas.Bool.{ltb-true}
+use Rattle.call_stages.specs.spk_nums.specs.Merging.{covers}
+use Rattle.call_stages.specs.spk_nums.specs.declared.replies.Reply.TheVariants as reply
+use Rattle.call_stages.specs.spk_nums.specs.declared.replies.Value.TheVariants as value
+use Rattle.call_stages.specs.tcap_words.specs.Head.{word_of_head, head_of_word}
+use Rattle.call_stages.specs.tcap_words.specs.Quality.{quality_of_word}
+use Rattle.call_stages.specs.tcap_words.specs.declared.head_word.HeadWord.{HeadWord}
+use Rattle.call_stages.specs.tcap_words.specs.declared.quality_word.QualityWord.{QualityWord}
+use Rattle.call_stages.specs.word_map.specs.Places.{Shape}
+use Rattle.call_stages.specs.stage_tcap.specs.Charging.{end_by_mark, head_end}
+use Rattle.call_stages.specs.stage_tcap.specs.Lists.{in_order}
+use Rattle.call_stages.specs.stage_tcap.specs.Refilling.{RefillAtFits, RefillFits, from_mark, from_head, weighed_at, next_in, from_word}
+use Rattle.call_stages.specs.stage_tcap.specs.Refilling.{refill_noted, refill_after, weighed, at_word, word_end, won, again}
+use Rattle.call_stages.specs.stage_tcap.specs.declared.refill.Refill.{Refill}
+use Rattle.call_stages.specs.stage_tcap.specs.declared.refill.RefillAt.{RefillAt}
+use Rattle.call_stages.specs.stage_tcap.specs.declared.refill.RefillAt.TheVariants.{Load, List as at_list, Compare, Again}
+use Rattle.call_stages.specs.stage_tcap.proofs.RefillLemmas.{refill_after_fits}
+use Rattle.call_stages.specs.act_states.specs.declared.own.Own.{Own}
+use Rattle.call_stages.specs.act_states.specs.declared.own.OwnChange.TheVariants.{GivesBack}
+use Rattle.call_stages.specs.act_states.specs.declared.refusals.Refusal.{Refusal}
+use Rattle.call_stages.specs.act_states.specs.declared.refusals.Refusal.TheVariants as refusal
+use Rattle.call_stages.specs.act_states.specs.declared.work.Act.TheVariants.{Refill as refill_act}
+use Rattle.call_stages.specs.act_states.specs.declared.work.Tail.TheVariants.{Nothing}
+use Rattle.call_stages.specs.act_states.specs.declared.work.Work.TheVariants.{Act}
+use Rattle.call_stages.specs.act_states.specs.declared.work.WorkStep.TheVariants.{Goes, Changes as work_changes}
+use Rattle.call_stages.specs.act_states.specs.Refills.{took_refill, took_refilled, refill_left}
+use Rattle.call_stages.specs.act_states.specs.WorkSteps.{refuse}
+use Rattle.call_stages.specs.declared.stages.ActiveCall.{ActiveCall}
+use Rattle.call_stages.specs.Steps.{landed}
+use Rattle.act_fits.proofs.LandsFit.{Facts, TookFits, landed_fits}
+
+-- It fits where it stands elsewhere.
+placed : (s : Shape) (r : Refill) (at : RefillAt) → RefillFits s r → RefillAtFits at → RefillFits s (record r { at = at })
+placed s r at fits stands = record { tcap = fits.tcap; head = fits.head; at = stands }
+
+module _ (own : Own) (a : ActiveCall) (facts : Facts own a) (room : own.made < own.limit) (none : length a.counts ≡ 0) where
+  refused : (left : ℕ) (r : Refusal) → 0 < left → TookFits own (2 + length a.counts + left) a (landed a (refuse r))
+  refused left r some =
+      landed_fits own a a refl refl refl facts.found facts.acquired room 0 (2 + length a.counts + left) (refuse r) (omega arith, tt)
+      (omega arith)
+
+  goes : (left : ℕ) (r : Refill) → RefillFits own.layout r → refill_left r.at < left
+      → TookFits own (2 + length a.counts + left) a (landed a (Goes (Act (refill_act r))))
+  goes left r fits fewer =
+      landed_fits own a a refl refl refl facts.found facts.acquired room (refill_left r.at) (2 + length a.counts + left)
+      (Goes (Act (refill_act r))) (fits, omega arith, none) (omega (arith, fewer))
+
+  pub refill_fits : (r : Refill) (at : RefillAt) (found : ℕ) → RefillFits own.layout (record r { at = at })
+      → TookFits own (2 + length a.counts + refill_left at) a (landed a (took_refill (record r { at = at }) found))
+  refill_fits r Load found fits = by (head_of_word found)
+    where
+      next : Refill
+      next = refill_after (record r { at = Load }) found
+
+      on : RefillFits own.layout next
+      on = refill_after_fits own.layout (record r { at = Load }) found fits
+
+      by_mark : (mark : Option ℕ) → TookFits own (2 + length a.counts + 10) a
+          (landed a (took_refilled (record next { at = from_mark mark }) (end_by_mark mark)))
+      by_mark None = goes _ (record next { at = at_list 1 })
+          (placed own.layout next (at_list 1) on (omega arith, omega arith)) (omega arith)
+      by_mark (Some d) = refused _ (refusal.Busy d) (omega arith)
+
+      by : (o : Option HeadWord) → TookFits own (2 + length a.counts + 10) a
+          (landed a (took_refilled (record next { at = from_head o }) (head_end o)))
+      by None = refused _ refusal.Raced (omega arith)
+      by (Some h) = by_mark h.mark
+  refill_fits r (at_list entry) found fits = by (quality_of_word found)
+    where
+      known : Refill
+      known = refill_noted (record r { at = at_list entry }) found
+
+      next : Refill
+      next = refill_after (record r { at = at_list entry }) found
+
+      on : RefillFits own.layout next
+      on = refill_after_fits own.layout (record r { at = at_list entry }) found fits
+
+      weighs : (covered less : Bool) → TookFits own (2 + length a.counts + (10 - entry)) a
+          (landed a (took_refilled (record next { at = weighed_at covered }) (weighed (covered && less) known.left)))
+      weighs true true = let most = fits.at.1 in refused _ (refusal.Short known.left) (omega (arith, most))
+      weighs true false =
+          let most = fits.at.1 in goes _ (record next { at = Compare }) (placed own.layout next Compare on tt) (omega (arith, most))
+      weighs false less =
+          let most = fits.at.1 in goes _ (record next { at = Again }) (placed own.layout next Again on tt) (omega (arith, most))
+
+      by_more : (more : Bool) → nat_lt entry 8 ≡ more → TookFits own (2 + length a.counts + (10 - entry)) a
+          (landed a (took_refilled (record next { at = next_in more entry known }) (at_word more known)))
+      by_more true is =
+          let low = ltb-true entry 8 is in
+          goes _ (record next { at = at_list (entry + 1) })
+          (placed own.layout next (at_list (entry + 1)) on (omega arith, omega (arith, low))) (omega (arith, low))
+      by_more false is = weighs (covers (in_order known.list) known.grant) (nat_lt known.left known.ticks)
+
+      by : (o : Option QualityWord) → TookFits own (2 + length a.counts + (10 - entry)) a
+          (landed a (took_refilled (record next { at = from_word o entry (next_in (nat_lt entry 8) entry known) })
+          (word_end o (at_word (nat_lt entry 8) known))))
+      by None = let most = fits.at.1 in refused _ refusal.Raced (omega (arith, most))
+      by (Some v) = by_more (nat_lt entry 8) refl
+  refill_fits r Compare found fits = by (found == word_of_head r.head)
+    where
+      by : (same : Bool) → TookFits own (2 + length a.counts + 1) a
+          (landed a (took_refilled (refill_after (record r { at = Compare }) found) (won same)))
+      by true =
+          landed_fits own a a refl refl refl facts.found facts.acquired room 0 (2 + length a.counts + 1)
+          (work_changes (reply.Ok value.Nothing) (GivesBack r.ticks) None Nothing) (omega arith, tt, tt) (omega arith)
+      by false = refused _ refusal.Raced (omega arith)
+  refill_fits r Again found fits = by (found == word_of_head r.head)
+    where
+      by : (same : Bool) → TookFits own (2 + length a.counts + 1) a
+          (landed a (took_refilled (refill_after (record r { at = Again }) found) (again same)))
+      by true = refused _ refusal.Unlike (omega arith)
+      by false = refused _ refusal.Raced (omega arith)
