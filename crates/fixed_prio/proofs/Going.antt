@@ -1,6 +1,8 @@
 -- Turn after turn, to the end of a schedule.
 use Rattle.std.proofs.Common.{◌≡◌, ℕ, zero, suc, ◌+◌, ◌*◌, ◌<◌, ◌≤◌, refl, sym, ◌∙◌, ap, subst, arith, append_assoc, append-nil}
-use Rattle.std.proofs.Common.{List, [], ◌∷◌, ◌++◌, map, length, Option, Some, None, All}
+use Rattle.std.proofs.Common.{List, [], ◌∷◌, ◌++◌, map, length, Option, Some, None, All, Bool, true, false, nat_le, if◌then◌else◌}
+use Rattle.std.proofs.Common.{IfSome}
+use Rattle.std.proofs.lemmas.Bool.{leb-true}
 use Rattle.std.specs.Prelude.{slice_get}
 use Rattle.std.proofs.lemmas.List.{length-map, get_or-map}
 use Rattle.std.proofs.lemmas.Option.{slice_get_within, get_or_from_slice_get}
@@ -11,10 +13,10 @@ use Rattle.sched_rules.specs.declared.tasks.Task.{Task}
 use Rattle.sched_rules.specs.declared.tasks.Rule.{Rule}
 use Rattle.sched_rules.specs.declared.tasks.Job.{Job}
 use Rattle.sched_rules.specs.declared.turns.Turn.{Turn}
-use Rattle.sched_rules.specs.Schedule.{Progress, Step, turn_of, new_job, at_first, turns_of, calls_of, IsSchedule, TaskFits, RuleFits}
+use Rattle.sched_rules.specs.Schedule.{Progress, Step, turn_of, job_after, new_job, at_first, turns_of, calls_of, IsSchedule, TaskFits, RuleFits}
 use Rattle.fixed_prio.specs.declared.course.Course.{Course}
 use Rattle.fixed_prio.specs.Machines.{after_calls, Beside}
-use Rattle.fixed_prio.specs.Courses.{progress, work_left, Arrives, Fits, CourseFits, Takes, Ends, TakesTurn, HasScheduled}
+use Rattle.fixed_prio.specs.Courses.{progress, yet_from, yet, all_yet, ComesNext, Arrives, Fits, CourseFits, Takes, Ends, TakesTurn, HasScheduled}
 use Rattle.fixed_prio.proofs.ToGo.{to_go, goes_on}
 
 -- The schedule has come from x to y by these turns.
@@ -129,22 +131,47 @@ takes_at setting setting' rule now now' course course' k' o same takes =
 
 -- ---- before the first turn
 
-work_most : (tasks : List Task) → ((k : ℕ) (t : Task) → slice_get tasks k ≡ Some t → t.work ≤ 10000)
-    → work_left (map new_job tasks) ≤ 10000 * length tasks
-work_most [] each = omega arith
-work_most (task ∷ tasks) each =
-    let first = each zero task refl in
-    let rest = work_most tasks (λ k t at. each (suc k) t at) in
+-- The next job of a task before the first turn.
+next_fits : (task : Task) → TaskFits task → IfSome (new_job task).next (ComesNext 0 (new_job task))
+next_fits task fits = by_period task.period
+  where
+    by_last : (p : ℕ) (b : Bool) → nat_le (task.arrival + p) 1000000 ≡ b
+        → IfSome (if b then Some (task.arrival + p) else None) (ComesNext 0 (new_job task))
+    by_last p true on = record { most = leb-true (task.arrival + p) 1000000 on; first = omega arith; coming = λ h. omega arith }
+    by_last p false off = tt
+
+    by_period : (o : Option ℕ) → IfSome (job_after task.arrival o) (ComesNext 0 (new_job task))
+    by_period None = tt
+    by_period (Some p) = by_last p (nat_le (task.arrival + p) 1000000) refl
+
+yet_one : (task : Task) → TaskFits task → yet (new_job task) ≤ 10000020000
+yet_one task fits =
+    let most = fits.most in
+    let from = by_next (new_job task).next in
+    omega (arith, most, from)
+  where
+    by_next : (o : Option ℕ) → yet_from o ≤ 10000010000
+    by_next None = omega arith
+    by_next (Some at) = omega arith
+
+yet_most : (tasks : List Task) → ((k : ℕ) (t : Task) → slice_get tasks k ≡ Some t → TaskFits t)
+    → all_yet (map new_job tasks) ≤ 10000020000 * length tasks
+yet_most [] each = omega arith
+yet_most (task ∷ tasks) each =
+    let first = yet_one task (each zero task refl) in
+    let rest = yet_most tasks (λ k t at. each (suc k) t at) in
     omega (arith, first, rest)
 
 pub first_fits : (tasks : List Task) → All TaskFits tasks → length tasks ≤ 32 → Fits 0 (map new_job tasks)
 first_fits tasks all few =
-    let work = work_most tasks (λ k t at. (fits_one k t at).most) in
+    let work = yet_most tasks fits_one in
     let n = length-map tasks new_job in
     record {
       few = omega (arith, few, n);
-      arrivals = λ k job below. subst Arrives (sym (get_or-map new_job tasks k job.task job (omega (arith, below, n))))
-          (all k job.task (omega (arith, below, n))).arrival;
+      arrivals = λ k job below.
+          let task = all k job.task (omega (arith, below, n)) in
+          subst (Arrives 0) (sym (get_or-map new_job tasks k job.task job (omega (arith, below, n))))
+          (record { task = task; next = next_fits _ task; used = omega arith });
       work = omega (arith, work, few);
       time = omega (arith, work, few);
     }

@@ -1,5 +1,6 @@
 pub mod Alike
 pub mod Calling
-pub mod Taking
 pub mod ToGo
+pub mod Taking
+pub mod Coming
 pub mod Going

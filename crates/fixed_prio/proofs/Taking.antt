@@ -12,45 +12,56 @@ use Rattle.seq_state.specs.Maps.{Maps, state_of}
 use Rattle.sched_rules.specs.declared.tasks.Rule.{Rule}
 use Rattle.sched_rules.specs.declared.tasks.Job.{Job}
 use Rattle.sched_rules.specs.declared.tasks.Choice.{Choice}
+use Rattle.sched_rules.specs.declared.tasks.Renewal.{Renewal}
 use Rattle.sched_rules.specs.declared.turns.Turn.{Turn}
-use Rattle.sched_rules.specs.declared.turns.Turn.TheVariants.{Ran, Idle, Refused}
+use Rattle.sched_rules.specs.declared.turns.Turn.TheVariants.{Ran, Idle, Back, Refused}
 use Rattle.sched_rules.specs.Schedule.{Progress, Step, chosen, next_arrival, cut_at, length_of, reply_to, state_past, is_done, is_place}
-use Rattle.sched_rules.specs.Schedule.{refused, ran, ticks, switches, switch_for, goes_on, runs, idles, turn_by, turn_of, RuleFits}
+use Rattle.sched_rules.specs.Schedule.{refused, ran, ticks, switches, switch_for, goes_on, runs, idles, turn_by, turn_for, turn_of, RuleFits}
+use Rattle.sched_rules.specs.Schedule.{put_out, begun, renewal, gives_back, renews, replenish_for}
 use Rattle.sched_laws.proofs.Picks.{place_of}
 use Rattle.sched_laws.proofs.Arriving.{cut_most}
 use Rattle.fixed_prio.specs.declared.course.Course.{Course}
 use Rattle.fixed_prio.specs.Machines.{after_calls, Beside, MakesBoth}
-use Rattle.fixed_prio.specs.Courses.{progress, Takes, Ends, TakesTurn, IdlesTo, IsChosen, CourseFits, Fits}
+use Rattle.fixed_prio.specs.Courses.{progress, Takes, Ends, TakesTurn, IdlesTo, IsChosen, IsRenewal, CourseFits, Fits}
 use Rattle.fixed_prio.proofs.Alike.{chosen_reached, core_reached}
 use Rattle.fixed_prio.proofs.Calling.{after_more}
+use Rattle.fixed_prio.proofs.ToGo.{arrives_at, come_is, left_most, on_time_now}
+use Rattle.sched_laws.proofs.Turns.{come_at}
 
 -- The task has run on.
 pub record RunsOn (course : Course) (c : Choice) (n : ℕ) (taken : Turn) (course' : Course) : Type 0 where
   pub turn : taken ≡ Ran course.time (c.index + 1) n
   pub time : course'.time ≡ course.time + n
   pub last : course'.last ≡ Some c.index
-  pub jobs : course'.jobs.items ≡ slice_set course.jobs.items c.index (record c.job { left = c.job.left - n })
+  pub jobs : course'.jobs.items ≡ slice_set course.jobs.items c.index (record c.job { left = c.job.left - n; used = c.job.used + n })
 
 -- The task is out.
-pub record IsOut (course : Course) (c : Choice) (r : Reply) (taken : Turn) (course' : Course) : Type 0 where
-  pub turn : taken ≡ Refused course.time (c.index + 1) r
+pub record IsOut (course : Course) (i : ℕ) (job : Job) (r : Reply) (taken : Turn) (course' : Course) : Type 0 where
+  pub turn : taken ≡ Refused course.time (i + 1) r
   pub time : course'.time ≡ course.time
   pub last : course'.last ≡ course.last
-  pub jobs : course'.jobs.items ≡ slice_set course.jobs.items c.index (record c.job { out = true })
+  pub jobs : course'.jobs.items ≡ slice_set course.jobs.items i (record job { out = true })
 
-refused_at : (setting : Setting) (made made' : List Call) (course course' : Course) (c : Choice) (call : Call) (r : Reply)
+-- A further job of it has come.
+pub record HasBegun (course : Course) (r : Renewal) (taken : Turn) (course' : Course) : Type 0 where
+  pub turn : taken ≡ Back course.time (r.index + 1) r.job.used
+  pub time : course'.time ≡ course.time
+  pub last : course'.last ≡ course.last
+  pub jobs : course'.jobs.items ≡ slice_set course.jobs.items r.index (begun r.job)
+
+refused_at : (setting : Setting) (made made' : List Call) (course course' : Course) (i : ℕ) (job : Job) (call : Call) (r : Reply)
     (turn : Turn) (k' : Maps)
-    → MakesBoth setting made call r made' k' → IsOut course c r turn course'
-    → Takes setting made (refused (progress setting made course) c (state_past (after_calls setting made) call) (call ∷ [])
+    → MakesBoth setting made call r made' k' → IsOut course i job r turn course'
+    → Takes setting made (put_out (progress setting made course) i job (state_past (after_calls setting made) call) (call ∷ [])
     (reply_to (after_calls setting made) call)) turn made' course' k'
-refused_at setting made made' course course' c call r turn k' b o = record {
-  turn = ap (Refused course.time (c.index + 1)) (sym b.reply) ∙ sym o.turn;
+refused_at setting made made' course course' i job call r turn k' b o = record {
+  turn = ap (Refused course.time (i + 1)) (sym b.reply) ∙ sym o.turn;
   made = b.made;
-  next = λ i. record {
-    time = sym o.time i;
-    state = after_more setting made made' call b.made i;
-    jobs = sym o.jobs i;
-    last = sym o.last i;
+  next = λ j. record {
+    time = sym o.time j;
+    state = after_more setting made made' call b.made j;
+    jobs = sym o.jobs j;
+    last = sym o.last j;
   };
   beside = b.beside;
 }
@@ -84,7 +95,7 @@ tick_runs setting made made' course course' c n r turn k' b done o =
 
 pub tick_refused : (setting : Setting) (made made' : List Call) (course course' : Course) (c : Choice) (n : ℕ) (r : Reply)
     (turn : Turn) (k' : Maps)
-    → MakesBoth setting made (Tick n) r made' k' → is_done r ≡ false → IsOut course c r turn course'
+    → MakesBoth setting made (Tick n) r made' k' → is_done r ≡ false → IsOut course c.index c.job r turn course'
     → Takes setting made (ticks (progress setting made course) c (after_calls setting made) [] n) turn made' course' k'
 tick_refused setting made made' course course' c n r turn k' b done o =
     let x = progress setting made course in
@@ -93,7 +104,7 @@ tick_refused setting made made' course course' c n r turn k' b done o =
     (if d then ran x c (state_past s (Tick n)) (Tick n ∷ []) n else refused x c (state_past s (Tick n)) (Tick n ∷ []) (reply_to s (Tick n)))
     turn made' course' k')
     (sym (is_done_so setting made made' (Tick n) r k' false b done))
-    (refused_at setting made made' course course' c (Tick n) r turn k' b o)
+    (refused_at setting made made' course course' c.index c.job (Tick n) r turn k' b o)
 
 -- A step with one call more in front.
 record Longer (call : Call) (a b : Step) : Type 0 where
@@ -142,7 +153,7 @@ switch_ticks setting made made1 made' course course' c call n r turn k1 k' b don
 
 pub switch_refused : (setting : Setting) (made made' : List Call) (course course' : Course) (c : Choice) (call : Call) (n : ℕ) (r : Reply)
     (turn : Turn) (k' : Maps)
-    → MakesBoth setting made call r made' k' → is_done r ≡ false → IsOut course c r turn course'
+    → MakesBoth setting made call r made' k' → is_done r ≡ false → IsOut course c.index c.job r turn course'
     → Takes setting made (switches (progress setting made course) c call n) turn made' course' k'
 switch_refused setting made made' course course' c call n r turn k' b done o =
     let x = progress setting made course in
@@ -151,7 +162,7 @@ switch_refused setting made made' course course' c call n r turn k' b done o =
     (if d then ticks x c (state_past s call) (call ∷ []) n else refused x c (state_past s call) (call ∷ []) (reply_to s call))
     turn made' course' k')
     (sym (is_done_so setting made made' call r k' false b done))
-    (refused_at setting made made' course course' c call r turn k' b o)
+    (refused_at setting made made' course course' c.index c.job call r turn k' b o)
 
 -- The turn of the chosen task, by whether it goes on.
 pub runs_on : (setting : Setting) (made made' : List Call) (course course' : Course) (c : Choice) (n : ℕ) (turn : Turn) (k' : Maps)
@@ -172,26 +183,75 @@ runs_anew setting made made' course course' c n turn k' off t =
     subst (λ d. Takes setting made (if d then ticks x c x.state [] n else switches x c (switch_for c.job.task) n) turn made' course' k')
     (sym off) t
 
+-- The turn in which a further job of a task has come.
+pub renew_gives : (setting : Setting) (made made' : List Call) (course course' : Course) (r : Renewal) (reply : Reply) (turn : Turn)
+    (k' : Maps)
+    → MakesBoth setting made (replenish_for r.job) reply made' k' → is_done reply ≡ true → HasBegun course r turn course'
+    → Takes setting made (renews (progress setting made course) r (replenish_for r.job)) turn made' course' k'
+renew_gives setting made made' course course' r reply turn k' b done o =
+    let x = progress setting made course in
+    let s = after_calls setting made in
+    let call = replenish_for r.job in
+    subst (λ d. Takes setting made
+    (if d then gives_back x r call else put_out x r.index r.job (state_past s call) (call ∷ []) (reply_to s call)) turn made' course' k')
+    (sym (is_done_so setting made made' call reply k' true b done))
+    (record {
+      turn = sym o.turn;
+      made = b.made;
+      next = λ i. record {
+        time = sym o.time i;
+        state = after_more setting made made' call b.made i;
+        jobs = sym o.jobs i;
+        last = sym o.last i;
+      };
+      beside = b.beside;
+    })
+
+pub renew_refused : (setting : Setting) (made made' : List Call) (course course' : Course) (r : Renewal) (reply : Reply) (turn : Turn)
+    (k' : Maps)
+    → MakesBoth setting made (replenish_for r.job) reply made' k' → is_done reply ≡ false → IsOut course r.index r.job reply turn course'
+    → Takes setting made (renews (progress setting made course) r (replenish_for r.job)) turn made' course' k'
+renew_refused setting made made' course course' r reply turn k' b off o =
+    let x = progress setting made course in
+    let s = after_calls setting made in
+    let call = replenish_for r.job in
+    subst (λ d. Takes setting made
+    (if d then gives_back x r call else put_out x r.index r.job (state_past s call) (call ∷ []) (reply_to s call)) turn made' course' k')
+    (sym (is_done_so setting made made' call reply k' false b off))
+    (refused_at setting made made' course course' r.index r.job call reply turn k' b o)
+
+pub turn_renews : (setting : Setting) (made made' : List Call) (course course' : Course) (rule : Rule) (r : Renewal) (turn : Turn) (k' : Maps)
+    → renewal course.time 0 course.jobs.items ≡ Some r
+    → Takes setting made (renews (progress setting made course) r (replenish_for r.job)) turn made' course' k'
+    → TakesTurn setting made course (turn_of rule (progress setting made course)) (Some turn) made' course' k'
+turn_renews setting made made' course course' rule r turn k' is t =
+    let x = progress setting made course in
+    subst (λ o. TakesTurn setting made course (turn_for rule x o) (Some turn) made' course' k') (sym is) t
+
 -- The next turn, by what is chosen.
 pub turn_runs : (setting : Setting) (made made' : List Call) (course course' : Course) (rule : Rule) (c : Choice) (n : ℕ)
     (turn : Turn) (k' : Maps)
+    → renewal course.time 0 course.jobs.items ≡ None
     → chosen (after_calls setting made) rule course.time 0 course.jobs.items ≡ Some c
     → n ≡ length_of rule (progress setting made course) c
     → Takes setting made (runs (progress setting made course) c n) turn made' course' k'
     → TakesTurn setting made course (turn_of rule (progress setting made course)) (Some turn) made' course' k'
-turn_runs setting made made' course course' rule c n turn k' is long t =
+turn_runs setting made made' course course' rule c n turn k' no_job is long t =
     let x = progress setting made course in
-    subst (λ o. TakesTurn setting made course (turn_by rule x o) (Some turn) made' course' k') (sym is)
-    (subst (λ u. Takes setting made (runs x c u) turn made' course' k') long t)
+    subst (λ o. TakesTurn setting made course (turn_for rule x o) (Some turn) made' course' k') (sym no_job)
+    (subst (λ o. TakesTurn setting made course (turn_by rule x o) (Some turn) made' course' k') (sym is)
+    (subst (λ u. Takes setting made (runs x c u) turn made' course' k') long t))
 
 pub turn_idles : (setting : Setting) (made made' : List Call) (course course' : Course) (rule : Rule) (turn : Option Turn) (k' : Maps)
+    → renewal course.time 0 course.jobs.items ≡ None
     → chosen (after_calls setting made) rule course.time 0 course.jobs.items ≡ None
     → IdlesTo (next_arrival course.time course.jobs.items) course turn course' → made' ≡ made → Beside setting made' k'
     → TakesTurn setting made course (turn_of rule (progress setting made course)) turn made' course' k'
-turn_idles setting made made' course course' rule turn k' none idle same b =
+turn_idles setting made made' course course' rule turn k' no_job none idle same b =
     let x = progress setting made course in
-    subst (λ o. TakesTurn setting made course (turn_by rule x o) turn made' course' k') (sym none)
-    (by_arrival (next_arrival course.time course.jobs.items) idle)
+    subst (λ o. TakesTurn setting made course (turn_for rule x o) turn made' course' k') (sym no_job)
+    (subst (λ o. TakesTurn setting made course (turn_by rule x o) turn made' course' k') (sym none)
+    (by_arrival (next_arrival course.time course.jobs.items) idle))
   where
     by_arrival : (a : Option ℕ) → IdlesTo a course turn course'
         → TakesTurn setting made course (idles (progress setting made course) a) turn made' course' k'
@@ -225,7 +285,27 @@ is_chosen s rule course c n fits_rule fits is long =
       few = fits.few;
       work = omega (arith, small, long);
       ticks = omega (arith, small, long, quantum);
+      used = (arrives_at course.time course.jobs.items c.index c.job (place_of s rule course.time course.jobs.items c is) fits.arrivals).used;
       time = omega (arith, time);
+    }
+
+-- A task of which a job has come is one of the tasks, and what it has run since its last one is in range.
+pub is_renewal : (course : Course) (r : Renewal) → CourseFits course → renewal course.time 0 course.jobs.items ≡ Some r
+    → IsRenewal course r
+is_renewal course r fits is =
+    let here = come_at course.time course.jobs.items r is in
+    let mine = arrives_at course.time course.jobs.items r.index r.job here fits.arrivals in
+    let on = come_is course.time 0 course.jobs.items r is in
+    let left = left_most course.jobs.items r.index r.job here in
+    let all = fits.work in
+    let work = mine.task.most in
+    let used = mine.used in
+    let now = on_time_now course.time r.job mine on in
+    record {
+      place = here;
+      few = fits.few;
+      work = omega (arith, left, all, work);
+      used = omega (arith, used, now);
     }
 
 -- What the plain kernel says is so in the state after the machine's calls.

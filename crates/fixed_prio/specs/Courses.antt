@@ -1,5 +1,5 @@
 -- What a turn, and a whole schedule, make of a machine and of where the schedule has come to.
-use Rattle.std.specs.Prelude.{◌≡◌, ◌<◌, ◌≤◌, ℕ, ◌+◌, ◌-◌, List, [], ◌∷◌, ◌++◌, length, slice_get, All, Option, Some, None}
+use Rattle.std.specs.Prelude.{◌≡◌, ◌<◌, ◌≤◌, ◌^◌, ◌*◌, IfSome, ℕ, ◌+◌, ◌-◌, List, [], ◌∷◌, ◌++◌, length, slice_get, All, false, Option, Some, None}
 use Rattle.spk_nums.specs.Setting.{Setting}
 use Rattle.spk_nums.specs.declared.calls.Call.{Call}
 use Rattle.seq_state.specs.Maps.{Maps}
@@ -7,9 +7,10 @@ use Rattle.sched_rules.specs.declared.tasks.Task.{Task}
 use Rattle.sched_rules.specs.declared.tasks.Rule.{Rule}
 use Rattle.sched_rules.specs.declared.tasks.Job.{Job}
 use Rattle.sched_rules.specs.declared.tasks.Choice.{Choice}
+use Rattle.sched_rules.specs.declared.tasks.Renewal.{Renewal}
 use Rattle.sched_rules.specs.declared.turns.Turn.{Turn}
 use Rattle.sched_rules.specs.declared.turns.Turn.TheVariants.{Idle}
-use Rattle.sched_rules.specs.Schedule.{Progress, Step, at_first, turns_of, calls_of, IsSchedule}
+use Rattle.sched_rules.specs.Schedule.{Progress, Step, TaskFits, at_first, turns_of, calls_of, IsSchedule}
 use Rattle.fixed_prio.specs.declared.course.Course.{Course}
 use Rattle.fixed_prio.specs.Machines.{after_calls, Beside}
 
@@ -18,21 +19,36 @@ abbrev pub progress : Setting → List Call → Course → Progress
 progress setting made course =
     record { time = course.time; state = after_calls setting made; jobs = course.jobs.items; last = course.last }
 
--- The work that tasks have left in all.
-abbrev pub work_left : List Job → ℕ
-work_left [] = 0
-work_left (job ∷ jobs) = job.left + work_left jobs
+-- What a task may have to run yet: what it has left, and for each tick up to the last at which a job may arrive the most work of one.
+abbrev pub yet_from : Option ℕ → ℕ
+yet_from None = 0
+yet_from (Some at) = 10000 * (1000001 - at)
 
--- A task arrives in range.
-abbrev pub Arrives : Job → Type 0
-Arrives job = job.task.arrival ≤ 1000000
+abbrev pub yet : Job → ℕ
+yet job = job.left + yet_from job.next
+
+abbrev pub all_yet : List Job → ℕ
+all_yet [] = 0
+all_yet (job ∷ jobs) = yet job + all_yet jobs
+
+-- A job arrives in range, after the first one, and, unless its task is out, no earlier than now.
+pub record ComesNext (now : ℕ) (job : Job) (at : ℕ) : Type 0 where
+  pub most : at ≤ 1000000
+  pub first : job.task.arrival ≤ at
+  pub coming : job.out ≡ false → now ≤ at
+
+-- A task is in range, and so is its next job; and it has run no longer than the schedule.
+pub record Arrives (now : ℕ) (job : Job) : Type 0 where
+  pub task : TaskFits job.task
+  pub next : IfSome job.next (ComesNext now job)
+  pub used : job.used ≤ now
 
 -- Times of turns are in range, up to the end.
 pub record Fits (now : ℕ) (jobs : List Job) : Type 0 where
   pub few : length jobs ≤ 32
-  pub arrivals : All Arrives jobs
-  pub work : work_left jobs ≤ 320000
-  pub time : now + work_left jobs ≤ 1320000
+  pub arrivals : All (Arrives now) jobs
+  pub work : all_yet jobs ≤ 32 * 10000020000
+  pub time : now + all_yet jobs ≤ 1000000 + 32 * 10000020000
 
 abbrev pub CourseFits : Course → Type 0
 CourseFits course = Fits course.time course.jobs.items
@@ -43,7 +59,15 @@ pub record IsChosen (course : Course) (c : Choice) (n : ℕ) : Type 0 where
   pub few : length course.jobs.items ≤ 32
   pub work : n ≤ c.job.left
   pub ticks : n ≤ 1000000
-  pub time : course.time ≤ 1320000
+  pub used : c.job.used ≤ course.time
+  pub time : course.time ≤ 1000000 + 32 * 10000020000
+
+-- A task of which a further job has arrived is one of those listed.
+pub record IsRenewal (course : Course) (r : Renewal) : Type 0 where
+  pub place : slice_get course.jobs.items r.index ≡ Some r.job
+  pub few : length course.jobs.items ≤ 32
+  pub work : r.job.left + r.job.task.work < 2 ^ 64
+  pub used : r.job.used ≤ 1000000
 
 -- The turn that was taken is that of this step: the machine has made its calls, and the plain kernel has gone along.
 pub record Takes (setup : Setting) (before : List Call) (step : Step) (taken : Turn) (after : List Call) (course : Course) (k : Maps)

@@ -5,18 +5,21 @@ ghost use Rattle.sched_rules.specs.Schedule.{later, sooner, next_arrival, cut_at
 
 use sched_rules::{Choice, Job, Rule};
 
-// When a task arrives that is still to come, and was not refused.
-fn later(now: u32, job: &Job) -> Option<u32>
+// When the next job of a task arrives that is still to come, and was not refused.
+fn later(now: u64, job: &Job) -> Option<u64>
     ensures { result ≡ later now job.now }
 {
-    if now < job.task.arrival && !job.out {
-        Some(job.task.arrival)
-    } else {
+    let arrival = u64::from(job.task.arrival);
+    if job.out {
         None
+    } else if now < arrival {
+        Some(arrival)
+    } else {
+        job.next
     }
 }
 
-fn sooner(a: Option<u32>, b: Option<u32>) -> Option<u32>
+fn sooner(a: Option<u64>, b: Option<u64>) -> Option<u64>
     ensures { result ≡ sooner a b }
 {
     match a {
@@ -28,8 +31,8 @@ fn sooner(a: Option<u32>, b: Option<u32>) -> Option<u32>
     }
 }
 
-/// The next later arrival of a task that was not refused.
-pub fn next_arrival(now: u32, jobs: &[Job]) -> Option<u32>
+/// The next later arrival of a job of a task that was not refused.
+pub fn next_arrival(now: u64, jobs: &[Job]) -> Option<u64>
     ensures { result ≡ next_arrival now jobs.now }
 {
     let mut next = None;
@@ -42,19 +45,20 @@ pub fn next_arrival(now: u32, jobs: &[Job]) -> Option<u32>
 }
 
 // A stretch of ticks, cut at an arrival.
-fn cut_at(arrival: Option<u32>, now: u32, ticks: u32) -> u32
+fn cut_at(arrival: Option<u64>, now: u64, ticks: u32) -> u32
     ensures { result ≡ cut_at arrival now ticks }
 {
     match arrival {
         None => ticks,
-        Some(at) => ticks.min(at.saturating_sub(now)),
+        Some(at) => u64::from(ticks).min(at.saturating_sub(now)) as u32,
     }
 }
 
 /// The ticks of a turn of the chosen task.
-pub fn length_of(rule: &Rule, now: u32, jobs: &[Job], choice: &Choice) -> u32
+pub fn length_of(rule: &Rule, now: u64, jobs: &[Job], choice: &Choice) -> u32
     ensures { result ≡ cut_at (next_arrival now jobs.now) now (min rule.now.quantum (min choice.now.job.left choice.now.ready.budget)) }
 {
-    let most = rule.quantum.min(choice.job.left.min(choice.ready.budget));
+    let budget = u64::from(choice.ready.budget);
+    let most = u64::from(rule.quantum).min(choice.job.left.min(budget)) as u32;
     cut_at(next_arrival(now, jobs), now, most)
 }

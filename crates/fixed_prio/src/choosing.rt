@@ -50,14 +50,14 @@ fn time_of(k: &SeqKernel, sched: u8, cap: Option<Cap>) -> Option<Ready>
 }
 
 // Whether a task has arrived, has work left, and was not refused.
-fn is_due(now: u32, job: &Job) -> bool
+fn is_due(now: u64, job: &Job) -> bool
     ensures { result ≡ is_due now job.now }
 {
-    job.task.arrival <= now && 0 < job.left && !job.out
+    u64::from(job.task.arrival) <= now && 0 < job.left && !job.out
 }
 
 // What makes a task ready, if it is.
-fn ready(k: &SeqKernel, rule: &Rule, now: u32, job: &Job) -> Option<Ready>
+fn ready(k: &SeqKernel, rule: &Rule, now: u64, job: &Job) -> Option<Ready>
     requires { 1 ≤ (state_of k.now).limits.cores }
     ensures { result ≡ ready (state_of k.now) rule.now now job.now }
 {
@@ -90,7 +90,7 @@ fn lesser(index: usize, job: &Job, ready: Option<Ready>, after: Option<Choice>) 
 }
 
 /// The task that is chosen at a time: the ready one of the least number, the first listed among equals.
-pub fn choose(k: &SeqKernel, rule: &Rule, now: u32, jobs: &[Job]) -> Option<Choice>
+pub fn choose(k: &SeqKernel, rule: &Rule, now: u64, jobs: &[Job]) -> Option<Choice>
     requires { 1 ≤ (state_of k.now).limits.cores }
     ensures { result ≡ chosen (state_of k.now) rule.now now 0 jobs.now }
 {

@@ -1,6 +1,6 @@
 //! A fixed-priority scheduler for one core, over temporal capabilities.
 //!
-//! **A scheduler as a user of the kernel.** It makes calls of core 0, `switch` and `tick` alone, and keeps a plain kernel beside the
+//! **A scheduler as a user of the kernel.** It makes calls of core 0, `switch`, `tick` and `replenish` alone, and keeps a plain kernel beside the
 //! machine, in which it reads what names reach, budgets and lists. With one core each reply of the machine is the sequential kernel's, so
 //! the two agree.
 //!
@@ -16,6 +16,7 @@
 mod arrivals;
 mod choosing;
 mod course;
+mod jobs;
 mod machine;
 mod scheduling;
 mod turning;

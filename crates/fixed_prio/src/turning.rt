@@ -4,15 +4,17 @@ ghost use Rattle.std.specs.Prelude.{◌≡◌, ◌≤◌, ◌&&◌, ◌==◌, []
 ghost use Rattle.kernel_rules.specs.State.{State};
 ghost use Rattle.seq_state.specs.Maps.{state_of};
 ghost use Rattle.sched_rules.specs.Schedule.{is_place, is_done, ticks, switches, switch_for, runs, turn_of, idles, next_arrival, RuleFits};
+ghost use Rattle.sched_rules.specs.Schedule.{renews, replenish_for};
 ghost use Rattle.fixed_prio.specs.Machines.{after_calls, Beside};
-ghost use Rattle.fixed_prio.specs.Courses.{progress, Takes, TakesTurn, IdlesTo, IsChosen, CourseFits};
+ghost use Rattle.fixed_prio.specs.Courses.{progress, Takes, TakesTurn, IdlesTo, IsChosen, IsRenewal, CourseFits};
 
 use crate::arrivals::{length_of, next_arrival};
 use crate::choosing::choose;
-use crate::course::{Course, put_out, run_on};
+use crate::course::{Course, begin_job, put_out, run_on};
+use crate::jobs::renewal;
 use crate::machine::{Machine, call_both};
 use plain_kernel::SeqKernel;
-use sched_rules::{Choice, Rule, Turn};
+use sched_rules::{Choice, Renewal, Rule, Turn};
 use spk_nums::{Call, CoreNo, Reply};
 use std::alloc::Global;
 
@@ -65,7 +67,7 @@ fn tick<M: Machine>(
     if is_done(&reply) {
         run_on(course, choice, n)
     } else {
-        put_out(course, choice, reply)
+        put_out(course, choice.index, &choice.job, reply)
     }
 }
 
@@ -93,7 +95,7 @@ fn switch<M: Machine>(
     if is_done(&reply) {
         tick(alloc, m, k, course, choice, n)
     } else {
-        put_out(course, choice, reply)
+        put_out(course, choice.index, &choice.job, reply)
     }
 }
 
@@ -116,6 +118,33 @@ fn run<M: Machine>(
         tick(alloc, m, k, course, choice, n)
     } else {
         switch(alloc, m, k, course, choice, n)
+    }
+}
+
+// A further job of a task has arrived: what the task has run since its last one is given back.
+fn renew<M: Machine>(
+    alloc: Global,
+    m: &mut M,
+    k: &mut SeqKernel,
+    course: &mut Course,
+    renewal: &Renewal,
+) -> Turn
+    requires beside { Beside (M.setup m.old) (M.made m.old) k.old }
+    requires renewed { IsRenewal course.old renewal.now }
+    ensures setup { M.setup m.new ≡ M.setup m.old }
+    ensures takes { Takes (M.setup m.old) (M.made m.old)
+        (renews (progress (M.setup m.old) (M.made m.old) course.old) renewal.now (replenish_for renewal.now.job))
+        result (M.made m.new) course.new k.new }
+{
+    let call = Call::Replenish {
+        a: renewal.job.task.tcap,
+        m: renewal.job.used as u32,
+    };
+    let reply = call_both(alloc, m, k, call);
+    if is_done(&reply) {
+        begin_job(course, renewal)
+    } else {
+        put_out(course, renewal.index, &renewal.job, reply)
     }
 }
 
@@ -151,6 +180,9 @@ pub fn take_turn<M: Machine>(
     ensures takes { TakesTurn (M.setup m.old) (M.made m.old) course.old
         (turn_of rule.now (progress (M.setup m.old) (M.made m.old) course.old)) result (M.made m.new) course.new k.new }
 {
+    if let Some(come) = renewal(course.time, &course.jobs) {
+        return Some(renew(alloc, m, k, course, &come));
+    }
     match choose(k, rule, course.time, &course.jobs) {
         Some(choice) => {
             let n = length_of(rule, course.time, &course.jobs, &choice);

@@ -15,6 +15,10 @@ use Rattle.line_forms.specs.Calls.{is_at, verb_of}
 abbrev pub copy_form : ℕ → List ℕ
 copy_form version = if nat_le 2 version then codes "copy A T B, or copy A T B R" else codes "copy A T B"
 
+-- `task`, from version 3 on with a period where one is given
+abbrev pub task_form : ℕ → List ℕ
+task_form version = if nat_le 3 version then codes "task H Q A N, or task H Q A N P" else codes "task H Q A N"
+
 -- by what is made
 abbrev pub make_form : List (List ℕ) → List ℕ
 make_form words =
@@ -67,7 +71,7 @@ start_form version start.Ends words = codes "ends"
 start_form version start.Send words = codes "send A"
 start_form version start.Recv words = codes "recv A"
 start_form version start.Sched words = codes "sched S U"
-start_form version start.Task words = codes "task H Q A N"
+start_form version start.Task words = task_form version
 start_form version start.Enter words = codes "enter C CALL"
 start_form version start.Decide words = codes "decide C REPLY"
 start_form version start.Return words = codes "return C"

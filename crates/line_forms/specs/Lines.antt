@@ -1,5 +1,5 @@
 -- What may stand at each place of a line.
-use Rattle.std.specs.Prelude.{ℕ, ◌+◌, ◌*◌, ◌-◌, ◌==◌, not, nat_le, nat_lt, List, [], ◌∷◌, length, drop, Bool, true, false, Option, Some, None}
+use Rattle.std.specs.Prelude.{ℕ, ◌+◌, ◌*◌, ◌-◌, ◌==◌, ◌&&◌, not, nat_le, nat_lt, List, [], ◌∷◌, length, drop, Bool, true, false, Option, Some, None}
 use Rattle.std.specs.Prelude.{codes, if◌then◌else◌}
 use Rattle.line_reader.specs.Arguments.{is_word}
 use Rattle.call_reader.specs.declared.first_words.FirstWord.{FirstWord}
@@ -13,7 +13,7 @@ use Rattle.line_forms.specs.declared.context.Context.{Context}
 use Rattle.line_forms.specs.declared.starts.Start.{Start}
 use Rattle.line_forms.specs.declared.starts.Start.TheVariants as start
 use Rattle.line_forms.specs.declared.slots.Slot.{Slot}
-use Rattle.line_forms.specs.declared.slots.Slot.TheVariants.{First, Number, Core, Item, Equals, End}
+use Rattle.line_forms.specs.declared.slots.Slot.TheVariants.{First, Number, MayNumber, Core, Item, Equals, End}
 use Rattle.line_forms.specs.Slots.{name, names, number_then, core_then, fits_end}
 use Rattle.line_forms.specs.Starts.{start_of}
 use Rattle.line_forms.specs.Calls.{call_slot}
@@ -23,12 +23,17 @@ use Rattle.line_forms.specs.Replies.{reply_slot}
 abbrev pub sched_slot : ℕ → Slot
 sched_slot place = if place == 1 then Number 0 63 else number_then place 2 1 1000000
 
--- `task H Q A N`
-abbrev pub task_slot : ℕ → Slot
-task_slot place =
+-- what may stand behind the work of a task: from version 3 on its period
+abbrev pub period_slot : ℕ → ℕ → Slot
+period_slot version place = if nat_le 3 version && place == 5 then MayNumber 1 1000000 else End
+
+-- `task H Q A N`, and from version 3 on also `task H Q A N P`
+abbrev pub task_slot : ℕ → ℕ → Slot
+task_slot version place =
     if nat_le place 2 then name
     else (if place == 3 then Number 0 1000000
-    else number_then place 4 1 10000)
+    else (if place == 4 then Number 1 10000
+    else period_slot version place))
 
 -- `grant B S W`
 abbrev pub grant_slot : ℕ → Slot
@@ -91,7 +96,7 @@ slot_after context start.Ends words place = End
 slot_after context start.Send words place = names place 1
 slot_after context start.Recv words place = names place 1
 slot_after context start.Sched words place = sched_slot place
-slot_after context start.Task words place = task_slot place
+slot_after context start.Task words place = task_slot context.version place
 slot_after context start.Enter words place = enter_slot context words place
 slot_after context start.Decide words place = decide_slot context words place
 slot_after context start.Return words place = core_then place 1 context.cores

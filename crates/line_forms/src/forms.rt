@@ -2,7 +2,7 @@
 
 ghost use Rattle.std.specs.Prelude.{◌≡◌};
 ghost use Rattle.line_reader.specs.Arguments.{texts};
-ghost use Rattle.line_forms.specs.Forms.{copy_form, make_form, verb_form, head_form, start_form, items_form, form_of, call_form};
+ghost use Rattle.line_forms.specs.Forms.{copy_form, make_form, verb_form, task_form, head_form, start_form, items_form, form_of, call_form};
 ghost use Rattle.line_forms.specs.Forms.{call_form_of};
 
 use crate::calls::{is_at, verb_of};
@@ -67,6 +67,17 @@ fn verb_form(version: u8, verb: Verb, words: &[Token]) -> &'static str
     }
 }
 
+// `task`, from version 3 on with a period where one is given.
+fn task_form(version: u8) -> &'static str
+    ensures { result.now ≡ task_form version }
+{
+    if 3 <= version {
+        "task H Q A N, or task H Q A N P"
+    } else {
+        "task H Q A N"
+    }
+}
+
 // A line of a script.
 fn head_form(version: u8, first: FirstWord, words: &[Token]) -> &'static str
     ensures { result.now ≡ head_form version first (texts words.now) }
@@ -94,7 +105,7 @@ fn start_form(version: u8, start: Start, words: &[Token]) -> &'static str
         Start::Send => "send A",
         Start::Recv => "recv A",
         Start::Sched => "sched S U",
-        Start::Task => "task H Q A N",
+        Start::Task => task_form(version),
         Start::Enter => "enter C CALL",
         Start::Decide => "decide C REPLY",
         Start::Return => "return C",

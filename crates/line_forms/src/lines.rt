@@ -2,7 +2,7 @@
 
 ghost use Rattle.std.specs.Prelude.{◌≡◌, ◌≤◌, length};
 ghost use Rattle.line_reader.specs.Arguments.{texts};
-ghost use Rattle.line_forms.specs.Lines.{sched_slot, task_slot, grant_slot, cores_most, least_frames, head_slot, before_equals, close_slot};
+ghost use Rattle.line_forms.specs.Lines.{sched_slot, period_slot, task_slot, grant_slot, cores_most, least_frames, head_slot, before_equals, close_slot};
 ghost use Rattle.line_forms.specs.Lines.{whole_slot, enter_slot, decide_slot, slot_after, ends_order, is_items, slot_at};
 
 use crate::calls::call_slot;
@@ -26,9 +26,23 @@ fn sched_slot(place: usize) -> Slot
     }
 }
 
-// `task H Q A N`.
-fn task_slot(place: usize) -> Slot
-    ensures { result ≡ task_slot place }
+// What may stand behind the work of a task: from version 3 on its period.
+fn period_slot(version: u8, place: usize) -> Slot
+    ensures { result ≡ period_slot version place }
+{
+    if 3 <= version && place == 5 {
+        Slot::MayNumber {
+            least: 1,
+            most: 1_000_000,
+        }
+    } else {
+        Slot::End
+    }
+}
+
+// `task H Q A N`, and from version 3 on also `task H Q A N P`.
+fn task_slot(version: u8, place: usize) -> Slot
+    ensures { result ≡ task_slot version place }
 {
     if place <= 2 {
         name()
@@ -37,8 +51,13 @@ fn task_slot(place: usize) -> Slot
             least: 0,
             most: 1_000_000,
         }
+    } else if place == 4 {
+        Slot::Number {
+            least: 1,
+            most: 10_000,
+        }
     } else {
-        number_then(place, 4, 1, 10_000)
+        period_slot(version, place)
     }
 }
 
@@ -176,7 +195,7 @@ fn slot_after(context: &Context, start: Start, words: &[Token], place: usize) ->
         Start::Ends => Slot::End,
         Start::Send | Start::Recv => names(place, 1),
         Start::Sched => sched_slot(place),
-        Start::Task => task_slot(place),
+        Start::Task => task_slot(context.version, place),
         Start::Enter => enter_slot(context, words, place),
         Start::Decide => decide_slot(context, words, place),
         Start::Return => core_then(place, 1, context.cores),

@@ -45,8 +45,9 @@ due_parts now job h =
     by_out true h = absurd (false≢true h)
 
 pub later_is : (now : ℕ) (job : Job) → now < job.task.arrival → job.out ≡ false → later now job ≡ Some job.task.arrival
-later_is now job less in_ = ap (λ b. if b then Some job.task.arrival else None)
-    (and_from (nat_lt now job.task.arrival) (not job.out) (lt-ltb now job.task.arrival less) (ap not in_))
+later_is now job less in_ =
+    ap (λ b. if b then None else (if nat_lt now job.task.arrival then Some job.task.arrival else job.next)) in_
+    ∙ ap (λ b. if b then Some job.task.arrival else job.next) (lt-ltb now job.task.arrival less)
 
 -- Up to its own arrival a task is due as it is now.
 due_same : (now t : ℕ) (job : Job) → now ≤ t → IsBefore t (later now job) → is_due t job ≡ is_due now job

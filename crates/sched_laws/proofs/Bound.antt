@@ -1,5 +1,5 @@
 -- The response bound, turn by turn.
-use Rattle.std.proofs.Common.{◌≡◌, ◌≢◌, ◌⊎◌, inl, inr, ℕ, zero, suc, ◌+◌, ◌-◌, ◌<◌, ◌≤◌, min, Bool, true, false, ◌==◌, refl, sym}
+use Rattle.std.proofs.Common.{◌≡◌, ◌≢◌, ◌⊎◌, inl, inr, ℕ, zero, suc, ◌+◌, ◌-◌, ◌<◌, ◌≤◌, min, Bool, true, false, not, ◌&&◌, ◌==◌, refl, sym}
 use Rattle.std.proofs.Common.{◌∙◌, ap, subst, arith}
 use Rattle.std.proofs.Common.{if◌then◌else◌, List, [], ◌∷◌, map, Option, Some, None, slice_set, IsSome}
 use Rattle.std.specs.Prelude.{slice_get, option_map}
@@ -12,9 +12,11 @@ use Rattle.sched_rules.specs.declared.tasks.Rule.{Rule}
 use Rattle.sched_rules.specs.declared.tasks.Job.{Job}
 use Rattle.sched_rules.specs.declared.tasks.Ready.{Ready}
 use Rattle.sched_rules.specs.declared.tasks.Choice.{Choice}
+use Rattle.sched_rules.specs.declared.tasks.Renewal.{Renewal}
 use Rattle.sched_rules.specs.declared.turns.Turn.{Turn}
 use Rattle.sched_rules.specs.declared.turns.Turn.TheVariants.{Ran, Idle, Refused}
-use Rattle.sched_rules.specs.Schedule.{Progress, Step, ready, chosen, next_arrival, length_of, turn_of, new_job, at_first, is_due}
+use Rattle.sched_rules.specs.Schedule.{Progress, Step, ready, chosen, next_arrival, length_of, turn_of, new_job, at_first, is_due, has_come, renewal}
+use Rattle.sched_rules.specs.Schedule.{job_after}
 use Rattle.sched_rules.specs.Schedule.{IsSchedule, turns_of, ran, refused}
 use Rattle.sched_rules.specs.Texts.{ran_in, ran_by}
 use Rattle.sched_laws.specs.Least.{ComesFirst}
@@ -23,7 +25,7 @@ use Rattle.sched_laws.specs.Response.{TurnsEndBy, EndsBy, ResponseBound}
 use Rattle.sched_laws.proofs.Picks.{best, none_ready, place_of, first_of_all}
 use Rattle.sched_laws.proofs.Arriving.{IsBefore, cut_most, cut_by, not_before, due_is, due_tells}
 use Rattle.sched_laws.proofs.Readiness.{ready_tells}
-use Rattle.sched_laws.proofs.Turns.{Way, Runs, Refuses, Idles, RunsOne, RefusesOne, IdlesOn, way, ends}
+use Rattle.sched_laws.proofs.Turns.{Way, Runs, Refuses, Idles, Begins, Lacks, RunsOne, RefusesOne, IdlesOn, way, ends}
 use Rattle.sched_laws.proofs.Weights.{left_not_after, all_left, left_falls, not_after_itself, first_not_after, set_here, set_apart}
 
 same_job : (x y : Job) → Some x ≡ Some y → x ≡ y
@@ -39,6 +41,41 @@ none_some : {A B : Type 0} (o : Option A) → o ≡ None → IsSome o → B
 none_some None e h = absurd (false≢true h)
 none_some (Some x) e h = absurd (cc)
 
+-- No task has a job after its first one; so none arrives, and that stays.
+abbrev NoneNext : List Job → Type 0
+NoneNext jobs = (k : ℕ) (job : Job) → slice_get jobs k ≡ Some job → job.next ≡ None
+
+none_comes : (now i : ℕ) (jobs : List Job) → NoneNext jobs → renewal now i jobs ≡ None
+none_comes now i [] single = refl
+none_comes now i (job ∷ jobs) single =
+    ap (λ o. if has_come now o && not job.out then Some (record { index = i; job = job }) else renewal now (i + 1) jobs)
+    (single zero job refl)
+    ∙ none_comes now (i + 1) jobs (λ k other at. single (suc k) other at)
+
+none_new : (tasks : List Task) → ((k : ℕ) (task : Task) → slice_get tasks k ≡ Some task → task.period ≡ None)
+    → NoneNext (map new_job tasks)
+none_new [] single zero job at = absurd (cc)
+none_new [] single (suc k) job at = absurd (cc)
+none_new (task ∷ tasks) single zero job at =
+    ap (λ (j : Job). j.next) (sym (same_job (new_job task) job at)) ∙ ap (λ o. job_after task.arrival o) (single zero task refl)
+none_new (task ∷ tasks) single (suc k) job at = none_new tasks (λ n other is. single (suc n) other is) k job at
+
+none_set : (jobs : List Job) (p : ℕ) (old new : Job) → slice_get jobs p ≡ Some old → new.next ≡ old.next → NoneNext jobs
+    → NoneNext (slice_set jobs p new)
+none_set jobs p old new at same single k job there = elim (cases_eq k p) [
+  | inl here ↦
+      let is : new ≡ job = same_job new job (sym (set_here jobs p old new at)
+      ∙ ap (slice_get (slice_set jobs p new)) (sym here) ∙ there) in
+      ap (λ (j : Job). j.next) (sym is) ∙ same ∙ single p old at
+  | inr other ↦ single k job (sym (set_apart jobs p k new other) ∙ there)
+]
+
+never_comes : {A : Type 0} (now : ℕ) (jobs : List Job) (r : Renewal) → NoneNext jobs → renewal now 0 jobs ≡ Some r → A
+never_comes {A} now jobs r single is = absurd (not_some (sym (none_comes now 0 jobs single) ∙ is))
+  where
+    not_some : None ≡ Some r → ⊥
+    not_some h = cc
+
 module _ (rule : Rule) (numbers : ℕ → ℕ) (i work arrival whole : ℕ) where
   -- The task at place i has run for so many ticks, and what it waits for fits between the time and the bound.
   record Holds (x : Progress) (done : ℕ) : Type 0 where
@@ -49,6 +86,7 @@ module _ (rule : Rule) (numbers : ℕ → ℕ) (i work arrival whole : ℕ) wher
     sum : job.left + done ≡ work
     most : left_not_after numbers i 0 x.jobs ≤ whole
     bound : arrival ≤ x.time → 0 < job.left → x.time + left_not_after numbers i 0 x.jobs ≤ arrival + whole
+    single : NoneNext x.jobs
 
   -- What a turn leaves.
   record Leaves (step : Step) (done : ℕ) : Type 0 where
@@ -76,7 +114,7 @@ module _ (rule : Rule) (numbers : ℕ → ℕ) (i work arrival whole : ℕ) wher
       let arrived : arrival ≤ x.time = subst (λ n. n ≤ x.time) arrives tells.0 in
       let some : 0 < h.job.left = subst (λ n. 0 < n) left tells.1 in
       let small : u ≤ c.job.left = length_most rule x c in
-      let new : Job = record (c.job) { left = c.job.left - u } in
+      let new : Job = record (c.job) { left = c.job.left - u; used = c.job.used + u } in
       let falls = left_falls numbers i 0 x.jobs i c.job new u here (omega (arith, small)) in
       let at_i : 0 + i ≡ i = omega arith in
       let own : (if is_not_after numbers i (0 + i) then u else 0) ≡ u =
@@ -99,6 +137,7 @@ module _ (rule : Rule) (numbers : ℕ → ℕ) (i work arrival whole : ℕ) wher
           sum = omega (arith, ran_u, sum, small, left);
           most = omega (arith, fallen, most);
           bound = λ arr more. omega (arith, fallen, bound);
+          single = none_set x.jobs c.index c.job new (place_of x.state rule x.time x.jobs c w.is_chosen) refl h.single;
         };
         ends_by = λ at v is.
             let time : x.time ≡ at = cc in
@@ -114,7 +153,7 @@ module _ (rule : Rule) (numbers : ℕ → ℕ) (i work arrival whole : ℕ) wher
       let u : ℕ = length_of rule x c in
       let here : slice_get x.jobs c.index ≡ Some c.job = place_of x.state rule x.time x.jobs c w.is_chosen in
       let small : u ≤ c.job.left = length_most rule x c in
-      let new : Job = record (c.job) { left = c.job.left - u } in
+      let new : Job = record (c.job) { left = c.job.left - u; used = c.job.used + u } in
       let falls = left_falls numbers i 0 x.jobs c.index c.job new u here (omega (arith, small)) in
       let most = h.most in
       let sum = h.sum in
@@ -141,13 +180,15 @@ module _ (rule : Rule) (numbers : ℕ → ℕ) (i work arrival whole : ℕ) wher
           sum = omega (arith, ran_u, sum);
           most = omega (arith, falls, most);
           bound = later;
+          single = none_set x.jobs c.index c.job new here refl h.single;
         };
         ends_by = λ at v is. absurd (other (let place : c.index + 1 ≡ i + 1 = cc in omega (arith, place)));
       })
     where
       by_ready : arrival ≤ x.time → 0 < h.job.left → (o : Option Ready) → ready x.state rule x.time h.job ≡ o → IsSome o
           → (x.time + length_of rule x w.choice) + left_not_after numbers i 0
-          (slice_set x.jobs w.choice.index (record (w.choice.job) { left = w.choice.job.left - length_of rule x w.choice }))
+          (slice_set x.jobs w.choice.index (record (w.choice.job)
+          { left = w.choice.job.left - length_of rule x w.choice; used = w.choice.job.used + length_of rule x w.choice }))
           ≤ arrival + whole
       by_ready arrived some None is none = absurd (false≢true none)
       by_ready arrived some (Some r) is got =
@@ -155,7 +196,7 @@ module _ (rule : Rule) (numbers : ℕ → ℕ) (i work arrival whole : ℕ) wher
           let u : ℕ = length_of rule x c in
           let here = place_of x.state rule x.time x.jobs c w.is_chosen in
           let small : u ≤ c.job.left = length_most rule x c in
-          let new : Job = record (c.job) { left = c.job.left - u } in
+          let new : Job = record (c.job) { left = c.job.left - u; used = c.job.used + u } in
           let falls = left_falls numbers i 0 x.jobs c.index c.job new u here (omega (arith, small)) in
           let first = first_of_all x.state rule x.time x.jobs c w.is_chosen i h.job r h.listed is in
           let own = numbered c.index c.job c.ready here (best x.state rule x.time 0 x.jobs c w.is_chosen).is_ready in
@@ -186,6 +227,7 @@ module _ (rule : Rule) (numbers : ℕ → ℕ) (i work arrival whole : ℕ) wher
           sum = omega (arith, sum);
           most = omega (arith, falls, nothing, most);
           bound = λ arr some. let b = h.bound arr some in omega (arith, falls, nothing, b);
+          single = none_set x.jobs c.index c.job new here refl h.single;
         };
         ends_by = λ at v is. absurd (cc);
       })
@@ -214,6 +256,7 @@ module _ (rule : Rule) (numbers : ℕ → ℕ) (i work arrival whole : ℕ) wher
             | inr arrived ↦ none_some (ready x.state rule x.time h.job)
                 (none_ready x.state rule x.time 0 x.jobs w.none i h.job h.listed) (has_time x done h supplied arrived some)
           ];
+          single = h.single;
         };
         ends_by = λ at v is. absurd (cc);
       })
@@ -237,6 +280,8 @@ module _ (rule : Rule) (numbers : ℕ → ℕ) (i work arrival whole : ℕ) wher
       by_way (Refuses w) = refusal x step done w h
           (λ same. never x.time w.reply (sym (ap (λ s. s.turn) w.is_step) ∙ ap (λ k. Refused x.time (k + 1) w.reply) same))
       by_way (Idles w) = idling x step done w h supplied
+      by_way (Begins w) = never_comes x.time x.jobs w.come h.single w.has_come
+      by_way (Lacks w) = never_comes x.time x.jobs w.come h.single w.has_come
 
   -- At the end no work is left.
   at_end : (x : Progress) (done : ℕ) → turn_of rule x ≡ None → Holds x done → IsSupplied rule i x → done ≡ work
@@ -269,7 +314,7 @@ module _ (rule : Rule) (numbers : ℕ → ℕ) (i work arrival whole : ℕ) wher
       record { turns = (one.ends_by, rest.turns); sum = omega (arith, sum) }
 
 pub response_bound : ResponseBound
-response_bound rule s tasks steps is numbers numbered i task at supplied never =
+response_bound rule s tasks steps single is numbers numbered i task at supplied never =
     let whole : ℕ = work_not_after numbers i 0 tasks in
     let same = all_left numbers i 0 tasks in
     let listed : slice_get (map new_job tasks) i ≡ Some (new_job task) =
@@ -283,6 +328,7 @@ response_bound rule s tasks steps is numbers numbered i task at supplied never =
       sum = omega arith;
       most = omega (arith, same);
       bound = λ arrived some. omega (arith, same, arrived);
+      single = none_new tasks single;
     })
     numbered supplied never in
     let sum = rest.sum in

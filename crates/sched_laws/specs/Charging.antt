@@ -1,12 +1,18 @@
--- What the turns of a schedule charge, and to which temporal capability.
-use Rattle.std.specs.Prelude.{◌≡◌, ◌≢◌, ℕ, ◌+◌, List, [], ◌∷◌, Some}
+-- What the turns of a schedule charge and give back, and to which temporal capability.
+use Rattle.std.specs.Prelude.{◌≡◌, ◌≢◌, ℕ, ◌+◌, List, [], ◌∷◌, Some, IsTrue}
+use Rattle.spk_nums.specs.Capability.{Capability}
+use Rattle.spk_nums.specs.declared.kinds.Kind.TheVariants as kind
 use Rattle.kernel_rules.specs.State.{State}
+use Rattle.kernel_rules.specs.Access.{only, to_use}
+use Rattle.kernel_rules.specs.Rules.{Found, named}
+use Rattle.kernel_rules.specs.Fitting.{fits}
 use Rattle.kernel_rules.specs.TimeCalls.{tcap_at}
 use Rattle.sched_rules.specs.declared.tasks.Rule.{Rule}
 use Rattle.sched_rules.specs.declared.tasks.Choice.{Choice}
+use Rattle.sched_rules.specs.declared.tasks.Renewal.{Renewal}
 use Rattle.sched_rules.specs.declared.turns.Turn.{Turn}
-use Rattle.sched_rules.specs.declared.turns.Turn.TheVariants.{Ran, Idle, Refused}
-use Rattle.sched_rules.specs.Schedule.{Progress, Step, chosen, IsSchedule}
+use Rattle.sched_rules.specs.declared.turns.Turn.TheVariants.{Ran, Idle, Back, Refused}
+use Rattle.sched_rules.specs.Schedule.{Progress, Step, chosen, renewal, IsSchedule}
 
 -- From state s to the new one core 0 has spent so many ticks, all of the temporal capability in a frame, and owes none.
 pub record Charges (s new : State) (f ticks : ℕ) : Type 0 where
@@ -28,10 +34,31 @@ pub record ChargesChosen (rule : Rule) (x : Progress) (new : State) (i ticks : �
   pub task : choice.index + 1 ≡ i
   pub charges : Charges x.state new choice.ready.tcap ticks
 
--- A turn charges exactly its ticks.
+-- From state s to the new one core 0 has had back so many ticks, all in the temporal capability in a frame, where it has one, as in every
+-- state that the kernel reaches.
+pub record Restores (s new : State) (f ticks : ℕ) : Type 0 where
+  pub budget : IsTrue (fits kind.Tcap (s.frame f)) → (tcap_at new f).budget ≡ (tcap_at s f).budget + ticks
+  pub others : (g : ℕ) → g ≢ f → (tcap_at new g).budget ≡ (tcap_at s g).budget
+  pub spent : (new.core 0).spent ≡ (s.core 0).spent
+  pub back : (new.core 0).back ≡ (s.core 0).back + ticks
+  pub owed : (new.core 0).owed ≡ 0
+
+-- The turn in which a job of a task arrives, counted from 1, gives back what the task has run since its last job, to the temporal capability
+-- that its name leads to.
+pub record RestoresTask (x : Progress) (new : State) (i ticks : ℕ) : Type 0 where
+  pub come : Renewal
+  pub has_come : renewal x.time 0 x.jobs ≡ Some come
+  pub task : come.index + 1 ≡ i
+  pub used : come.job.used ≡ ticks
+  pub tcap : Capability
+  pub led : named x.state 0 come.job.task.tcap (to_use (only kind.Tcap)) ≡ Found tcap
+  pub restores : Restores x.state new tcap.frame ticks
+
+-- A turn charges exactly its ticks, or gives them back.
 abbrev pub TurnCharges : Rule → Progress → State → Turn → Type 0
 TurnCharges rule x new (Ran at i ticks) = ChargesChosen rule x new i ticks
 TurnCharges rule x new (Idle at ticks) = ChargesNothing x.state new
+TurnCharges rule x new (Back at i ticks) = RestoresTask x new i ticks
 TurnCharges rule x new (Refused at i r) = ChargesNothing x.state new
 
 -- Each turn does.
@@ -39,7 +66,7 @@ abbrev pub TurnsCharge : Rule → Progress → List Step → Type 0
 TurnsCharge rule x [] = Unit {0}
 TurnsCharge rule x (step ∷ steps) = TurnCharges rule x step.next.state step.turn × TurnsCharge rule step.next steps
 
--- In a schedule that begins where core 0 owes nothing, the ticks of each turn are exactly those charged in it.
+-- In a schedule that begins where core 0 owes nothing, the ticks of each turn are exactly those charged, or given back, in it.
 abbrev pub ExactTicks : Type 0
 ExactTicks = (rule : Rule) (x : Progress) (steps : List Step) → IsSchedule rule x steps → (x.state.core 0).owed ≡ 0
     → TurnsCharge rule x steps

@@ -3,5 +3,6 @@ pub use Rattle.sched_rules
 -- Its own.
 pub mod Least
 pub mod Response
+pub mod Periods
 pub mod Charging
 pub mod Work

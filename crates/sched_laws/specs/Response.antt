@@ -1,6 +1,6 @@
 -- When a task ends.
 use Rattle.std.specs.Prelude.{◌≡◌, ◌≢◌, ◌≤◌, ℕ, ◌+◌, Bool, true, ◌||◌, ◌&&◌, ◌==◌, nat_lt, nat_le, if◌then◌else◌}
-use Rattle.std.specs.Prelude.{List, [], ◌∷◌, slice_get, Option, Some, IsSome}
+use Rattle.std.specs.Prelude.{List, [], ◌∷◌, slice_get, Option, Some, None, IsSome}
 use Rattle.spk_nums.specs.declared.replies.Reply.{Reply}
 use Rattle.kernel_rules.specs.State.{State}
 use Rattle.sched_rules.specs.declared.tasks.Task.{Task}
@@ -52,10 +52,11 @@ pub record EndsBy (i work bound : ℕ) (steps : List Step) : Type 0 where
   pub turns : TurnsEndBy i bound steps
   pub whole : ran_by i (turns_of steps) ≡ work
 
--- A task that is supplied whenever it is due, and is not refused, ends by its arrival and the work of all tasks that are not after it,
--- itself included. Nothing is asked of the others but that each has one number throughout: they may be refused, or run out of budget.
+-- Where no task has a period, one that is supplied whenever it is due, and is not refused, ends by its arrival and the work of all tasks that
+-- are not after it, itself included. Nothing is asked of the others but that each has one number throughout: they may be refused, or run out of budget.
 abbrev pub ResponseBound : Type 0
-ResponseBound = (rule : Rule) (s : State) (tasks : List Task) (steps : List Step) → IsSchedule rule (at_first s tasks) steps
+ResponseBound = (rule : Rule) (s : State) (tasks : List Task) (steps : List Step)
+    → ((k : ℕ) (other : Task) → slice_get tasks k ≡ Some other → other.period ≡ None) → IsSchedule rule (at_first s tasks) steps
     → (numbers : ℕ → ℕ) → Throughout (HasNumbers rule numbers) (at_first s tasks) steps
     → (i : ℕ) (task : Task) → slice_get tasks i ≡ Some task
     → Throughout (IsSupplied rule i) (at_first s tasks) steps → NeverRefused (i + 1) steps

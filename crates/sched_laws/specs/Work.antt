@@ -5,7 +5,7 @@ use Rattle.sched_rules.specs.declared.tasks.Task.{Task}
 use Rattle.sched_rules.specs.declared.tasks.Rule.{Rule}
 use Rattle.sched_rules.specs.declared.tasks.Job.{Job}
 use Rattle.sched_rules.specs.Schedule.{Progress, Step, at_first, turns_of, last_of, IsSchedule}
-use Rattle.sched_rules.specs.Texts.{ran_by}
+use Rattle.sched_rules.specs.Texts.{ran_by, work_by}
 
 -- The task at place i has this work left, and has run for the rest of it.
 pub record HasLeft (x : Progress) (i ran work : ℕ) : Type 0 where
@@ -13,8 +13,8 @@ pub record HasLeft (x : Progress) (i ran work : ℕ) : Type 0 where
   pub listed : slice_get x.jobs i ≡ Some job
   pub sum : ran + job.left ≡ work
 
--- At the end of a schedule each task has left what of its work it did not run.
+-- At the end of a schedule each task has left what it did not run of the work of its jobs that arrived.
 abbrev pub WorkIsKept : Type 0
 WorkIsKept = (rule : Rule) (s : State) (tasks : List Task) (steps : List Step) → IsSchedule rule (at_first s tasks) steps
     → (i : ℕ) (task : Task) → slice_get tasks i ≡ Some task
-    → HasLeft (last_of (at_first s tasks) steps) i (ran_by (i + 1) (turns_of steps)) task.work
+    → HasLeft (last_of (at_first s tasks) steps) i (ran_by (i + 1) (turns_of steps)) (work_by (i + 1) (turns_of steps) task)

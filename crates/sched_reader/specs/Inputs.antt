@@ -76,7 +76,7 @@ with_task d task = if length d.tasks == 32 then Err S9 else Ok (record d { tasks
 
 -- the line of a task
 abbrev pub task_line_of : Sched_draft → ℕ → List (List ℕ) → Result Sched_draft First_fault
-task_line_of d line words = at_line line (task_line words >>= with_task d)
+task_line_of d line words = at_line line (task_line d.script.head.version words >>= with_task d)
 
 -- a line before the line `sched`, or that line
 abbrev pub head_line : Sched_draft → ℕ → List (List ℕ) → Result Sched_draft First_fault

@@ -146,7 +146,7 @@ fn take_task_line(draft: &mut SchedDraft, line: u32, words: &[Token]) -> Result<
     ensures value { Leads result (draft_seen draft.new) (task_line_of (draft_seen draft.old) line (texts words.now)) }
     ensures input { OnOk result (IsInput (draft_seen draft.new)) }
 {
-    match task_line(words) {
+    match task_line(draft.script.version(), words) {
         Ok(task) => {
             if draft.tasks.len() == MOST_TASKS {
                 return Err(ReadFault::Script {

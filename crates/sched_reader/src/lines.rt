@@ -1,9 +1,9 @@
 //! The line `sched`, the lines of tasks, and which lines of a script are kept in mind.
 
-ghost use Rattle.std.specs.Prelude.{◌≡◌, ◌≤◌, IfOk};
+ghost use Rattle.std.specs.Prelude.{◌≡◌, ◌≤◌, IfOk, IfSome};
 ghost use Rattle.line_reader.specs.Arguments.{texts, number_at};
-ghost use Rattle.sched_rules.specs.Schedule.{TaskFits, RuleFits};
-ghost use Rattle.sched_reader.specs.Lines.{begins, rule_at, task_at, task_line};
+ghost use Rattle.sched_rules.specs.Schedule.{PeriodFits, TaskFits, RuleFits};
+ghost use Rattle.sched_reader.specs.Lines.{begins, rule_at, period_at, task_at, task_line};
 
 use call_reader::capability_at;
 use line_reader::{Cause, end_at, is_word, read_number};
@@ -51,33 +51,50 @@ pub fn rule_at(words: &[Token]) -> Result<Rule, Cause>
     Ok(Rule { sched, quantum })
 }
 
+// The period behind a task's work, from version 3 on, if one stands there; and nothing after it.
+#[tactic(auto, unfolding(crate::specs::Lines::period_at))]
+fn period_at(version: u8, words: &[Token]) -> Result<Option<u32>, Cause>
+    ensures value { result ≡ period_at version (texts words.now) }
+    ensures fits { IfOk result (λ period. IfSome period PeriodFits) }
+{
+    if 3 <= version && 5 < words.len() {
+        let period = number_at(words, 5, 1, 1_000_000)?;
+        end_at(words, 6)?;
+        Ok(Some(period))
+    } else {
+        end_at(words, 5)?;
+        Ok(None)
+    }
+}
+
 // What the line of a task says.
 #[tactic(auto, unfolding(crate::specs::Lines::task_at))]
-fn task_at(words: &[Token]) -> Result<Task, Cause>
-    ensures value { result ≡ task_at (texts words.now) }
+fn task_at(version: u8, words: &[Token]) -> Result<Task, Cause>
+    ensures value { result ≡ task_at version (texts words.now) }
     ensures fits { IfOk result TaskFits }
 {
     let thread = capability_at(words, 1)?;
     let tcap = capability_at(words, 2)?;
     let arrival = number_at(words, 3, 0, 1_000_000)?;
     let work = number_at(words, 4, 1, 10_000)?;
-    end_at(words, 5)?;
+    let period = period_at(version, words)?;
     Ok(Task {
         thread,
         tcap,
         arrival,
         work,
+        period,
     })
 }
 
 /// What a line after the line `sched` says: its first word is judged for S2, then its arguments.
 #[tactic(auto, unfolding(crate::specs::Lines::task_line))]
-pub fn task_line(words: &[Token]) -> Result<Task, Cause>
-    ensures value { result ≡ task_line (texts words.now) }
+pub fn task_line(version: u8, words: &[Token]) -> Result<Task, Cause>
+    ensures value { result ≡ task_line version (texts words.now) }
     ensures fits { IfOk result TaskFits }
 {
     if begins(words, "task") {
-        task_at(words)
+        task_at(version, words)
     } else {
         Err(Cause::S2)
     }

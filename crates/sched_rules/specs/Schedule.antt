@@ -1,13 +1,13 @@
--- Fixed-priority scheduling on core 0: which task is ready, which is chosen, what a turn is, and the schedule that turns make. It is said
--- of the states of the sequential kernel, whose calls core 0 makes alone.
+-- Fixed-priority scheduling on core 0: which task is ready, which is chosen, what a turn is, and the schedule that turns make; and what is
+-- given back to a task as its further jobs arrive. It is said of the states of the sequential kernel, whose calls core 0 makes alone.
 use Rattle.std.specs.Prelude.{◌≡◌, ◌<◌, ◌≤◌, ℕ, ◌+◌, ◌-◌, min, Bool, true, false, not, ◌&&◌, ◌==◌, nat_lt, nat_le, if◌then◌else◌}
-use Rattle.std.specs.Prelude.{List, [], ◌∷◌, ◌++◌, map, slice_set, Option, Some, None}
+use Rattle.std.specs.Prelude.{List, [], ◌∷◌, ◌++◌, map, slice_set, Option, Some, None, IfSome}
 use Rattle.std.specs.Option.{option_and_then}
 use Rattle.spk_nums.specs.Capability.{Capability}
 use Rattle.spk_nums.specs.Merging.{number_of}
 use Rattle.spk_nums.specs.declared.kinds.Kind.TheVariants as kind
 use Rattle.spk_nums.specs.declared.calls.Call.{Call}
-use Rattle.spk_nums.specs.declared.calls.Call.TheVariants.{Switch, Tick}
+use Rattle.spk_nums.specs.declared.calls.Call.TheVariants.{Switch, Tick, Replenish}
 use Rattle.spk_nums.specs.declared.replies.Reply.{Reply}
 use Rattle.spk_nums.specs.declared.replies.Reply.TheVariants.{Ok as ok_reply}
 use Rattle.kernel_rules.specs.State.{TcapFields, State}
@@ -19,8 +19,9 @@ use Rattle.sched_rules.specs.declared.tasks.Rule.{Rule}
 use Rattle.sched_rules.specs.declared.tasks.Job.{Job}
 use Rattle.sched_rules.specs.declared.tasks.Ready.{Ready}
 use Rattle.sched_rules.specs.declared.tasks.Choice.{Choice}
+use Rattle.sched_rules.specs.declared.tasks.Renewal.{Renewal}
 use Rattle.sched_rules.specs.declared.turns.Turn.{Turn}
-use Rattle.sched_rules.specs.declared.turns.Turn.TheVariants.{Ran, Idle, Refused}
+use Rattle.sched_rules.specs.declared.turns.Turn.TheVariants.{Ran, Idle, Back, Refused}
 
 -- Where a schedule has come to: the time, the kernel's state, the tasks in the order listed, and the place in that list of the task that
 -- ran last.
@@ -72,18 +73,49 @@ abbrev pub chosen : State → Rule → ℕ → ℕ → List Job → Option Choic
 chosen s rule now i [] = None
 chosen s rule now i (job ∷ jobs) = lesser i job (ready s rule now job) (chosen s rule now (i + 1) jobs)
 
+-- ---- further jobs
+
+-- When the job after one of a task arrives, by its period; none arrives after 1,000,000.
+abbrev pub within_last : ℕ → Option ℕ
+within_last at = if nat_le at 1000000 then Some at else None
+
+abbrev pub job_after : ℕ → Option ℕ → Option ℕ
+job_after at None = None
+job_after at (Some period) = within_last (at + period)
+
+-- The next job of a task has arrived, and the task was not refused.
+abbrev pub has_come : ℕ → Option ℕ → Bool
+has_come now None = false
+has_come now (Some at) = nat_le at now
+
+abbrev pub is_renewed : ℕ → Job → Bool
+is_renewed now job = has_come now job.next && not job.out
+
+-- The first of the tasks listed from place i on of which it has.
+abbrev pub renewal : ℕ → ℕ → List Job → Option Renewal
+renewal now i [] = None
+renewal now i (job ∷ jobs) = if is_renewed now job then Some (record { index = i; job = job }) else renewal now (i + 1) jobs
+
+-- Its work is added to what the task has left, and the task has run nothing since.
+abbrev pub next_of : Option ℕ → Option ℕ → Option ℕ
+next_of None period = None
+next_of (Some at) period = job_after at period
+
+abbrev pub begun : Job → Job
+begun job = record job { left = job.left + job.task.work; next = next_of job.next job.task.period; used = 0 }
+
 -- ---- how long a turn is
 
--- When a task arrives that is still to come, and was not refused.
+-- When the next job of a task arrives that is still to come, and was not refused.
 abbrev pub later : ℕ → Job → Option ℕ
-later now job = if nat_lt now job.task.arrival && not job.out then Some job.task.arrival else None
+later now job = if job.out then None else (if nat_lt now job.task.arrival then Some job.task.arrival else job.next)
 
 abbrev pub sooner : Option ℕ → Option ℕ → Option ℕ
 sooner None b = b
 sooner (Some a) None = Some a
 sooner (Some a) (Some b) = Some (min a b)
 
--- The next later arrival of a task that was not refused.
+-- The next later arrival of a job of a task that was not refused.
 abbrev pub next_arrival : ℕ → List Job → Option ℕ
 next_arrival now [] = None
 next_arrival now (job ∷ jobs) = sooner (later now job) (next_arrival now jobs)
@@ -118,15 +150,18 @@ pub record Step : Type 0 where
   pub calls : List Call
   pub next : Progress
 
--- The task was refused: it is out, and no time has passed.
-abbrev pub refused : Progress → Choice → State → List Call → Reply → Step
-refused x c s calls r = record {
-  turn = Refused x.time (c.index + 1) r;
+-- The task at place i was refused: it is out, and no time has passed.
+abbrev pub put_out : Progress → ℕ → Job → State → List Call → Reply → Step
+put_out x i job s calls r = record {
+  turn = Refused x.time (i + 1) r;
   calls = calls;
-  next = record x { state = s; jobs = slice_set x.jobs c.index (record c.job { out = true }) };
+  next = record x { state = s; jobs = slice_set x.jobs i (record job { out = true }) };
 }
 
--- The task ran: its work falls and the time rises by the ticks.
+abbrev pub refused : Progress → Choice → State → List Call → Reply → Step
+refused x c s calls r = put_out x c.index c.job s calls r
+
+-- The task ran: its work falls, and the time and what it has run rise by the ticks.
 abbrev pub ran : Progress → Choice → State → List Call → ℕ → Step
 ran x c s calls u = record {
   turn = Ran x.time (c.index + 1) u;
@@ -134,7 +169,7 @@ ran x c s calls u = record {
   next = record {
     time = x.time + u;
     state = s;
-    jobs = slice_set x.jobs c.index (record c.job { left = c.job.left - u });
+    jobs = slice_set x.jobs c.index (record c.job { left = c.job.left - u; used = c.job.used + u });
     last = Some c.index;
   };
 }
@@ -176,15 +211,35 @@ abbrev pub turn_by : Rule → Progress → Option Choice → Option Step
 turn_by rule x None = idles x (next_arrival x.time x.jobs)
 turn_by rule x (Some c) = Some (runs x c (length_of rule x c))
 
--- The next turn; None where the schedule ends.
+-- The turn in which a further job of a task arrives: what the task has run since its last job is given back to its temporal capability.
+abbrev pub replenish_for : Job → Call
+replenish_for job = Replenish job.task.tcap job.used
+
+abbrev pub gives_back : Progress → Renewal → Call → Step
+gives_back x r call = record {
+  turn = Back x.time (r.index + 1) r.job.used;
+  calls = call ∷ [];
+  next = record x { state = state_past x.state call; jobs = slice_set x.jobs r.index (begun r.job) };
+}
+
+abbrev pub renews : Progress → Renewal → Call → Step
+renews x r call =
+    if is_done (reply_to x.state call) then gives_back x r call
+    else put_out x r.index r.job (state_past x.state call) (call ∷ []) (reply_to x.state call)
+
+abbrev pub turn_for : Rule → Progress → Option Renewal → Option Step
+turn_for rule x None = turn_by rule x (chosen x.state rule x.time 0 x.jobs)
+turn_for rule x (Some r) = Some (renews x r (replenish_for r.job))
+
+-- The next turn; None where the schedule ends. Jobs that have arrived come first.
 abbrev pub turn_of : Rule → Progress → Option Step
-turn_of rule x = turn_by rule x (chosen x.state rule x.time 0 x.jobs)
+turn_of rule x = turn_for rule x (renewal x.time 0 x.jobs)
 
 -- ---- the schedule
 
--- Before the first turn, in a state of the kernel: the time is 0, each task has all its work, and none has run.
+-- Before the first turn, in a state of the kernel: the time is 0, each task has the work of its first job, and none has run.
 abbrev pub new_job : Task → Job
-new_job task = record { task = task; left = task.work; out = false }
+new_job task = record { task = task; left = task.work; out = false; next = job_after task.arrival task.period; used = 0 }
 
 abbrev pub at_first : State → List Task → Progress
 at_first s tasks = record { time = 0; state = s; jobs = map new_job tasks; last = None }
@@ -209,11 +264,15 @@ last_of x (step ∷ steps) = last_of step.next steps
 
 -- ---- ranges
 
--- A task's arrival and work are in range.
+-- A task's arrival, work and period are in range.
+abbrev pub PeriodFits : ℕ → Type 0
+PeriodFits period = (1 ≤ period) × (period ≤ 1000000)
+
 pub record TaskFits (task : Task) : Type 0 where
   pub arrival : task.arrival ≤ 1000000
   pub least : 1 ≤ task.work
   pub most : task.work ≤ 10000
+  pub period : IfSome task.period PeriodFits
 
 -- A rule's scheduler and quantum are in range.
 pub record RuleFits (rule : Rule) : Type 0 where

@@ -6,11 +6,14 @@
 //! **Turns.** Core 0 gives one turn after another. A task runs for a turn of at most the quantum, its work, its budget and the time to the
 //! next arrival, so whatever arrives is judged at once. A task that the kernel refuses is out for good.
 //!
+//! **Periods.** A task with a period has a further job each period. As it arrives, the scheduler itself gives back to the task's temporal
+//! capability what the task has run since its last job (`replenish`), so that each job has the task's whole budget.
+//!
 //! The definitions stand in `specs/Schedule.antt`, over the sequential kernel alone. See docs/SCHEDULER.md.
 #![tactic(auto)]
 
 mod tasks;
 mod turns;
 
-pub use tasks::{Choice, Job, Ready, Rule, Task};
+pub use tasks::{Choice, Job, Ready, Renewal, Rule, Task};
 pub use turns::Turn;

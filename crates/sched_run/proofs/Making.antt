@@ -17,7 +17,7 @@ use Rattle.sched_rules.specs.declared.tasks.Task.{Task}
 use Rattle.sched_rules.specs.declared.tasks.Rule.{Rule}
 use Rattle.sched_rules.specs.declared.turns.Turn.{Turn}
 use Rattle.sched_rules.specs.Schedule.{Step, at_first, turns_of, IsSchedule, TaskFits}
-use Rattle.sched_rules.specs.Texts.{ran_by}
+use Rattle.sched_rules.specs.Texts.{ran_by, work_by}
 use Rattle.fixed_prio.specs.sched_laws.proofs.Working.{work_is_kept}
 use Rattle.sched_text.specs.Fitting.{RunsFit}
 use Rattle.fixed_prio.specs.Machines.{after_calls, Beside, MakesBoth}
@@ -39,17 +39,17 @@ one_more before made made' calls i call below is so_far more =
     more ∙ ap (λ l. l ++ call ∷ []) so_far ∙ append_assoc before (take i calls) (call ∷ [])
     ∙ ap (λ l. before ++ l) (ap (λ c. take i calls ++ c ∷ []) is ∙ sym (take_more calls i call below))
 
--- No task runs for longer than its work.
+-- No task runs for longer than the work of its jobs, of which no more than 1,000,001 arrive.
 pub runs_fit : (rule : Rule) (s : State) (tasks : List Task) (steps : List Step) (turns : List Turn)
-    → IsSchedule rule (at_first s tasks) steps → turns ≡ turns_of steps → All TaskFits tasks → RunsFit turns tasks
-runs_fit rule s tasks steps turns is same fit i below =
-    let none : Task = record { thread = 0; tcap = 0; arrival = 0; work = 0 } in
-    let task : Task = get_or tasks i none in
-    let kept = work_is_kept rule s tasks steps is i task (slice_get-get_or tasks i none below) in
+    → IsSchedule rule (at_first s tasks) steps → turns ≡ turns_of steps → All TaskFits tasks
+    → ((i : ℕ) (task : Task) → slice_get tasks i ≡ Some task → work_by (i + 1) turns task < 2 ^ 64) → RunsFit turns tasks
+runs_fit rule s tasks steps turns is same fit few i task at =
+    let kept = work_is_kept rule s tasks steps is i task at in
     let sum = kept.sum in
-    let most = (fit i none below).most in
+    let most = few i task at in
     let ran : ran_by (i + 1) turns ≡ ran_by (i + 1) (turns_of steps) = ap (ran_by (i + 1)) same in
-    omega (arith, sum, most, ran)
+    let work : work_by (i + 1) turns task ≡ work_by (i + 1) (turns_of steps) task = ap (λ l. work_by (i + 1) l task) same in
+    (omega (arith, sum, most, ran, work), most)
 
 -- The list of core 0.
 pub list_0 : (lists : List (Vec Call)) (v : Vec Call) → 0 < length lists → v ≡ get_or lists 0 v

@@ -4,7 +4,7 @@ use Rattle.std.proofs.Common.{List, [], ◌∷◌, ◌++◌, length, drop, get_o
 use Rattle.std.proofs.lemmas.List.{drop_more}
 use Rattle.sched_rules.specs.declared.tasks.Task.{Task}
 use Rattle.sched_rules.specs.declared.turns.Turn.{Turn}
-use Rattle.sched_rules.specs.Texts.{ran_in, ran_by, turn_text, turn_lines, task_line, task_lines}
+use Rattle.sched_rules.specs.Texts.{ran_in, ran_by, work_by, turn_text, turn_lines, task_line, task_lines}
 
 pub one_ran : (i : ℕ) (turns : List Turn) (n : ℕ) (turn : Turn) → n < length turns → turn ≡ get_or turns n turn
     → ran_by i (drop n turns) ≡ ran_in i turn + ran_by i (drop (n + 1) turns)
@@ -23,10 +23,11 @@ one_line turns n turn below is =
     ap turn_lines (drop_more turns n turn below) ∙ ap (λ t. turn_text t ++ (10 ∷ []) ++ turn_lines (drop (n + 1) turns)) (sym is)
 
 pub one_task : (turns : List Turn) (tasks : List Task) (n i : ℕ) (task : Task) → n < length tasks → task ≡ get_or tasks n task
-    → task_lines turns i (drop n tasks) ≡ task_line i (ran_by i turns) task.work ++ task_lines turns (i + 1) (drop (n + 1) tasks)
+    → task_lines turns i (drop n tasks)
+    ≡ task_line i (ran_by i turns) (work_by i turns task) ++ task_lines turns (i + 1) (drop (n + 1) tasks)
 one_task turns tasks n i task below is =
     ap (task_lines turns i) (drop_more tasks n task below)
-    ∙ ap (λ (t : Task). task_line i (ran_by i turns) t.work ++ task_lines turns (i + 1) (drop (n + 1) tasks)) (sym is)
+    ∙ ap (λ (t : Task). task_line i (ran_by i turns) (work_by i turns t) ++ task_lines turns (i + 1) (drop (n + 1) tasks)) (sym is)
 
 -- What has been added up, with the turn before, is no more than the whole.
 pub sum_most : (i : ℕ) (turns : List Turn) (k : ℕ) (turn : Turn) (ran u : ℕ) → 0 < k → k ≤ length turns → turn ≡ get_or turns (k - 1) turn

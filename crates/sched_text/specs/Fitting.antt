@@ -1,9 +1,10 @@
 -- That the ticks of each task can be added up.
-use Rattle.std.specs.Prelude.{◌<◌, ◌^◌, ℕ, ◌+◌, List, length}
+use Rattle.std.specs.Prelude.{◌≡◌, ◌<◌, ◌^◌, ℕ, ◌+◌, List, slice_get, Some}
 use Rattle.sched_rules.specs.declared.tasks.Task.{Task}
 use Rattle.sched_rules.specs.declared.turns.Turn.{Turn}
-use Rattle.sched_rules.specs.Texts.{ran_by}
+use Rattle.sched_rules.specs.Texts.{ran_by, work_by}
 
--- Each task ran for fewer than 2^32 ticks.
+-- Each task ran, and was to run, for fewer than 2^64 ticks.
 abbrev pub RunsFit : List Turn → List Task → Type 0
-RunsFit turns tasks = (i : ℕ) → i < length tasks → ran_by (i + 1) turns < 2 ^ 32
+RunsFit turns tasks = (i : ℕ) (task : Task) → slice_get tasks i ≡ Some task
+    → (ran_by (i + 1) turns < 2 ^ 64) × (work_by (i + 1) turns task < 2 ^ 64)
