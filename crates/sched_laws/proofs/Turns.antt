@@ -52,17 +52,18 @@ pub record IdlesOn (rule : Rule) (x : Progress) (step : Step) : Type 0 where
 come_from : (now i : ℕ) (jobs : List Job) (r : Renewal) → renewal now i jobs ≡ Some r
     → (i ≤ r.index) × (slice_get jobs (r.index - i) ≡ Some r.job)
 come_from now i [] r is = absurd (cc)
-come_from now i (job ∷ jobs) r is = by_test (is_renewed now job) is
+come_from now i (job ∷ jobs) r is = by_test (is_renewed now job) is (λ h. come_from now (i + 1) jobs r h)
   where
     by_test : (b : Bool) → (if b then Some (record { index = i; job = job }) else renewal now (i + 1) jobs) ≡ Some r
+        → (renewal now (i + 1) jobs ≡ Some r → (i + 1 ≤ r.index) × (slice_get jobs (r.index - (i + 1)) ≡ Some r.job))
         → (i ≤ r.index) × (slice_get (job ∷ jobs) (r.index - i) ≡ Some r.job)
-    by_test true h =
+    by_test true h after =
         let same : record { index = i; job = job } ≡ r = cc in
         let index : i ≡ r.index = ap (λ (x : Renewal). x.index) same in
         let none : r.index - i ≡ 0 = omega (arith, index) in
         (omega (arith, index), ap (slice_get (job ∷ jobs)) none ∙ ap (λ (x : Renewal). Some x.job) same)
-    by_test false h =
-        let rest = come_from now (i + 1) jobs r h in
+    by_test false h after =
+        let rest = after h in
         let low : i + 1 ≤ r.index = rest.0 in
         let next : r.index - i ≡ suc (r.index - (i + 1)) = omega (arith, low) in
         (omega (arith, low), ap (slice_get (job ∷ jobs)) next ∙ rest.1)
