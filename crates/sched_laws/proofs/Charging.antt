@@ -1,6 +1,6 @@
 -- What the calls `switch` and `tick` of core 0, made alone, do to budgets and to what the core has spent, has had back, and owes.
-use Rattle.std.proofs.Common.{◌≡◌, ◌≢◌, ℕ, ◌+◌, ◌-◌, ◌<◌, ◌≤◌, min, Bool, true, false, ◌==◌, refl, sym, ◌∙◌, ap, subst, arith}
-use Rattle.std.proofs.Common.{if◌then◌else◌, List, [], ◌∷◌, Option, Some, None}
+use Rattle.std.proofs.Common.{◌≡◌, ◌≢◌, ℕ, ◌+◌, ◌-◌, ◌<◌, ◌≤◌, Bool, true, false, ◌==◌, refl, sym, ◌∙◌, ap, subst, arith}
+use Rattle.std.proofs.Common.{if◌then◌else◌, Option, Some, None}
 use Rattle.std.specs.Option.{option_and_then}
 use Rattle.std.proofs.lemmas.Bool.{eqb-true, eq-eqb, ne_eqb, false≢true, true≢false}
 use Rattle.spk_nums.specs.Capability.{Capability}
@@ -10,15 +10,15 @@ use Rattle.spk_nums.specs.declared.calls.Call.{Call}
 use Rattle.spk_nums.specs.declared.calls.Call.TheVariants.{Switch, Tick}
 use Rattle.spk_nums.specs.declared.replies.Reply.{Reply}
 use Rattle.spk_nums.specs.declared.replies.Reply.TheVariants as reply
-use Rattle.kernel_rules.specs.State.{ThreadFields, TcapFields, Frame, Kernel, Thread, Tcap, Core, State, tcap_in, thread_in, put}
+use Rattle.kernel_rules.specs.State.{ThreadFields, TcapFields, Frame, Kernel, Thread, Tcap, State, tcap_in, thread_in, put}
 use Rattle.kernel_rules.specs.Access.{Slot, Want, only, to_use, usable, reached, own, found}
-use Rattle.kernel_rules.specs.GracePeriods.{entered, returned, begun}
+use Rattle.kernel_rules.specs.GracePeriods.{entered, returned}
 use Rattle.kernel_rules.specs.Life.{acts}
 use Rattle.kernel_rules.specs.Rules.{Change, Judged, Refused, Found, named, of_kind, with_rights, and_then, or_refuse, outcome}
 use Rattle.kernel_rules.specs.InvocationCalls.{with_thread, running, switches, switch_to, switch_rule}
-use Rattle.kernel_rules.specs.TimeCalls.{tcap_at, with_tcap, with_budget, charge, charges}
+use Rattle.kernel_rules.specs.TimeCalls.{tcap_at, with_tcap, charge}
 use Rattle.kernel_rules.specs.CallRelation.{are_calls_spent, change_of, changed, counted, state_by}
-use Rattle.kernel_rules.specs.Alone.{reply_in, first_reply, alone, plain_step, plain_reply}
+use Rattle.kernel_rules.specs.Alone.{reply_in, first_reply, plain_reply}
 use Rattle.kernel_rules.proofs.Changes.{IfFound, AllChanges, outcome_all}
 use Rattle.sched_rules.specs.Schedule.{reach, reply_to, state_past, is_done}
 use Rattle.sched_laws.specs.Charging.{Charges}

@@ -1,6 +1,6 @@
 -- What the call `replenish` of core 0, made alone, does to budgets and to what the core has spent, has had back, and owes.
-use Rattle.std.proofs.Common.{◌≡◌, ◌≢◌, ℕ, ◌+◌, Bool, true, false, ◌==◌, refl, sym, ◌∙◌, ap, subst}
-use Rattle.std.proofs.Common.{if◌then◌else◌, [], ◌∷◌, Option, Some, None}
+use Rattle.std.proofs.Common.{◌≡◌, ◌≢◌, ℕ, ◌+◌, Bool, true, false, refl, sym, ◌∙◌, ap, subst}
+use Rattle.std.proofs.Common.{if◌then◌else◌, [], ◌∷◌, Some, None}
 use Rattle.std.specs.Prelude.{IsTrue}
 use Rattle.std.proofs.lemmas.Bool.{eq-eqb, ne_eqb, false≢true, true≢false}
 use Rattle.spk_nums.specs.Capability.{Capability}
@@ -12,8 +12,8 @@ use Rattle.kernel_rules.specs.State.{TcapFields, Frame, Kernel, Tcap, State, tca
 use Rattle.kernel_rules.specs.Access.{only, to_use, found}
 use Rattle.kernel_rules.specs.GracePeriods.{entered, returned}
 use Rattle.kernel_rules.specs.Life.{acts}
-use Rattle.kernel_rules.specs.Rules.{Cause, Change, Judged, Refused, Found, named, and_then, unless, refusal_of, first_of, first_cause}
-use Rattle.kernel_rules.specs.Rules.{outcome, leaves}
+use Rattle.kernel_rules.specs.Rules.{Change, Judged, Refused, Found, named, and_then, unless, first_of, first_cause}
+use Rattle.kernel_rules.specs.Rules.{leaves}
 use Rattle.kernel_rules.specs.Fitting.{fits}
 use Rattle.kernel_rules.specs.TimeCalls.{tcap_at, with_tcap, is_finer, is_less, given_back}
 use Rattle.kernel_rules.specs.CallRelation.{are_calls_spent, change_of, changed, counted, state_by}

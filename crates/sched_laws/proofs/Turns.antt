@@ -1,7 +1,7 @@
 -- What a turn comes to: a further job of a task arrives, a task runs, or is refused, or nothing is ready.
-use Rattle.std.proofs.Common.{◌≡◌, ◌≢◌, ◌⊎◌, inl, inr, ℕ, zero, suc, ◌+◌, ◌-◌, ◌<◌, ◌≤◌, Bool, true, false, refl, sym}
+use Rattle.std.proofs.Common.{◌≡◌, ℕ, suc, ◌+◌, ◌-◌, ◌<◌, ◌≤◌, Bool, true, false, refl, sym}
 use Rattle.std.proofs.Common.{◌∙◌, ap, subst, arith}
-use Rattle.std.proofs.Common.{min, if◌then◌else◌, List, [], ◌∷◌, ◌++◌, Option, Some, None, slice_set}
+use Rattle.std.proofs.Common.{min, if◌then◌else◌, List, [], ◌∷◌, ◌++◌, Option, Some, None}
 use Rattle.std.specs.Prelude.{slice_get}
 use Rattle.spk_nums.specs.declared.calls.Call.{Call}
 use Rattle.spk_nums.specs.declared.calls.Call.TheVariants.{Tick}
@@ -9,15 +9,13 @@ use Rattle.spk_nums.specs.declared.replies.Reply.{Reply}
 use Rattle.kernel_rules.specs.State.{State}
 use Rattle.sched_rules.specs.declared.tasks.Rule.{Rule}
 use Rattle.sched_rules.specs.declared.tasks.Job.{Job}
-use Rattle.sched_rules.specs.declared.tasks.Ready.{Ready}
 use Rattle.sched_rules.specs.declared.tasks.Choice.{Choice}
 use Rattle.sched_rules.specs.declared.tasks.Renewal.{Renewal}
-use Rattle.sched_rules.specs.declared.turns.Turn.{Turn}
 use Rattle.sched_rules.specs.declared.turns.Turn.TheVariants.{Ran, Idle, Back, Refused}
-use Rattle.sched_rules.specs.Schedule.{Progress, Step, ready, chosen, next_arrival, cut_at, length_of, reply_to, state_past, is_done}
-use Rattle.sched_rules.specs.Schedule.{refused, ran, ticks, switches, switch_for, goes_on, runs, idles, turn_by, turn_for, turn_of}
+use Rattle.sched_rules.specs.Schedule.{Progress, Step, chosen, next_arrival, length_of, reply_to, state_past, is_done}
+use Rattle.sched_rules.specs.Schedule.{refused, ran, ticks, switches, switch_for, goes_on, idles, turn_by, turn_for, turn_of}
 use Rattle.sched_rules.specs.Schedule.{is_renewed, renewal, put_out, gives_back, replenish_for}
-use Rattle.sched_laws.specs.Least.{ComesFirst, IsLeast, NoneReady, LeastRuns, WaitsForNone, NoneWaits}
+use Rattle.sched_laws.specs.Least.{IsLeast, NoneReady, LeastRuns, NoneWaits}
 use Rattle.sched_laws.proofs.Picks.{best, none_ready, place_of, first_of_all}
 use Rattle.sched_laws.proofs.Arriving.{IsBefore, ready_same, tick_before}
 
