@@ -166,7 +166,8 @@ judged_sets s h q k at = by_thread (named s 0 h (to_use (only kind.Thread))) ref
     by_thread (Refused r) is done = absurd (false≢true (sym (name_refused s h (to_use (only kind.Thread)) r is) ∙ done))
     by_thread (Found t) is done = by_tcap t (named s 0 q (to_use (only kind.Tcap))) refl done
 
-pub done_value : (r : Reply) → is_done r ≡ true → (s : State) (call : Call) → state_by s 0 call r ≡ counted (changed s (change_of s 0 call)) 0
+pub done_value : (r : Reply) → is_done r ≡ true → (s : State) (call : Call)
+    → state_by s 0 call r ≡ counted (changed s (change_of s 0 call)) 0
 done_value (reply.Ok v) done s call = refl
 done_value _ done s call = absurd (false≢true done)
 

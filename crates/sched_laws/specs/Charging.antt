@@ -14,7 +14,8 @@ use Rattle.sched_rules.specs.declared.turns.Turn.{Turn}
 use Rattle.sched_rules.specs.declared.turns.Turn.TheVariants.{Ran, Idle, Back, Refused}
 use Rattle.sched_rules.specs.Schedule.{Progress, Step, chosen, renewal, IsSchedule}
 
--- From state s to the new one core 0 has spent so many ticks, all of the temporal capability in a frame; it has had none back, and owes none.
+-- From state s to the new one core 0 has spent so many ticks, all of the temporal capability in a frame; it has had none back, and owes
+-- none.
 pub record Charges (s new : State) (f ticks : ℕ) : Type 0 where
   pub budget : (tcap_at new f).budget + ticks ≡ (tcap_at s f).budget
   pub others : (g : ℕ) → g ≢ f → (tcap_at new g).budget ≡ (tcap_at s g).budget
@@ -45,8 +46,8 @@ pub record Restores (s new : State) (f ticks : ℕ) : Type 0 where
   pub back : (new.core 0).back ≡ (s.core 0).back + ticks
   pub owed : (new.core 0).owed ≡ 0
 
--- The turn in which a job of a task arrives, counted from 1, gives back what the task has run since its last job, to the temporal capability
--- that its name leads to.
+-- The turn in which a job of a task arrives, counted from 1, gives back what the task has run since its last job, to the temporal
+-- capability that its name leads to.
 pub record RestoresTask (x : Progress) (new : State) (i ticks : ℕ) : Type 0 where
   pub come : Renewal
   pub has_come : renewal x.time 0 x.jobs ≡ Some come
