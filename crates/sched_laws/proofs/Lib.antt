@@ -6,5 +6,6 @@ pub mod Preempting
 pub mod Weights
 pub mod Bound
 pub mod Charging
+pub mod Restoring
 pub mod Exactly
 pub mod Working

@@ -52,8 +52,9 @@ pub record EndsBy (i work bound : ℕ) (steps : List Step) : Type 0 where
   pub turns : TurnsEndBy i bound steps
   pub whole : ran_by i (turns_of steps) ≡ work
 
--- Where no task has a period, one that is supplied whenever it is due, and is not refused, ends by its arrival and the work of all tasks that
--- are not after it, itself included. Nothing is asked of the others but that each has one number throughout: they may be refused, or run out of budget.
+-- Where no task has a period, one that is supplied whenever it is due, and is not refused, ends by its arrival and the work of all tasks
+-- that are not after it, itself included. Nothing is asked of the others but that each has one number throughout: they may be refused, or
+-- run out of budget.
 abbrev pub ResponseBound : Type 0
 ResponseBound = (rule : Rule) (s : State) (tasks : List Task) (steps : List Step)
     → ((k : ℕ) (other : Task) → slice_get tasks k ≡ Some other → other.period ≡ None) → IsSchedule rule (at_first s tasks) steps

@@ -32,19 +32,21 @@ pub fn others_stay()
     ensures { OthersStay }
 {}
 
-/// The response bound: a task that has time of its own whenever it is due, and is not refused, has made all its work by the end of the
-/// schedule, and each of its turns ends no later than its arrival and the work of all tasks that are not after it.
+/// The response bound, where no task has a period: one that has time of its own whenever it is due, and is not refused, has made all its
+/// work by the end of the schedule, and each of its turns ends no later than its arrival and the work of all tasks that are not after it.
 pub fn response_bound()
     ensures { ResponseBound }
 {}
 
-/// Exact ticks: in a schedule that begins where core 0 owes nothing, the ticks of each turn of a task are exactly those charged in it, to
-/// the temporal capability that the task's name reached when it was chosen for that turn; other turns charge nothing.
+/// Exact ticks: in a schedule that begins where core 0 owes nothing, the ticks of each turn in which a task runs are exactly those charged in
+/// it, to the temporal capability that the task's name reached when it was chosen for that turn. Those of a turn in which a job arrives are
+/// exactly what its task has run since its last job, and are given back to the temporal capability that the task's name leads to. Other
+/// turns charge nothing and give nothing back.
 pub fn exact_ticks()
     ensures { ExactTicks }
 {}
 
-/// At the end of a schedule each task has left what of its work it did not run: what is written of it is so.
+/// At the end of a schedule each task has left what it did not run of the work of its jobs that arrived: what is written of it is so.
 pub fn work_is_kept()
     ensures { WorkIsKept }
 {}
