@@ -1,6 +1,6 @@
 -- The compare that finds the head as it was read, with a list that covers the grant: it puts the ticks into the budget, and the core has
 -- had so many more back.
-use Rattle.count_invariant.proofs.Common.{Want, ◌≡◌, ◌≢◌, inl, inr, ℕ, zero, suc, ◌+◌, ◌^◌, ◌<◌, ◌≤◌, ◌==◌, true, false, List, [], ◌∷◌}
+use Rattle.count_invariant.proofs.Common.{Want, ◌≡◌, ◌≢◌, inl, inr, ℕ, zero, suc, ◌+◌, ◌^◌, ◌<◌, ◌≤◌, ◌==◌, Bool, true, false, List, [], ◌∷◌}
 use Rattle.count_invariant.proofs.Common.{length, Option, Some, None, arith, refl, sym, ◌∙◌, ap, subst, eqb-true, cases_eq, false≢true}
 use Rattle.count_invariant.proofs.Common.{All-nil, Setting, IsSetting, left_if, Capability, HeadFits, word_of_head, head_of_word}
 use Rattle.count_invariant.proofs.Common.{HeadWord, spelling, Word, EntryAt, FrameAt, CountAt, CoreAt, FlushAt, LiveAt, ClockAt, Move}
