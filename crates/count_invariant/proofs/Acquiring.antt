@@ -662,6 +662,8 @@ acquire_good setup setting cores t stands c here a active pin change (untype_act
     (sweep_spares setup setting cores t stands c here a active pin change m is has) refl
 acquire_good setup setting cores t stands c here a active pin change (share_act p) is has =
     absurd (no_due (map due_of a.counts) (record { frame = pin_frame pin; change = change }) has.knows.rest has.knows.due)
+acquire_good setup setting cores t stands c here a active pin change (refill_act r) is has =
+    absurd (no_due (map due_of a.counts) (record { frame = pin_frame pin; change = change }) has.knows.rest has.knows.due)
 acquire_good setup setting cores t stands c here a active pin change (switch_act m) is has =
     let call = switch_of a.call a.found (claimed_by m.at) m.tcap has.knows.knows.switches in
     acquire_footprint setup setting cores t stands c here a active pin change (switch_act m) is has
