@@ -1,8 +1,8 @@
 -- The compare that finds the head as it was read, with a list that covers the grant: it puts the ticks into the budget, and the core has
 -- had so many more back.
-use Rattle.count_invariant.proofs.Common.{Want, ◌≡◌, ◌≢◌, inl, inr, ℕ, zero, suc, ◌+◌, ◌^◌, ◌<◌, ◌≤◌, ◌==◌, Bool, true, false, List, [], ◌∷◌}
-use Rattle.count_invariant.proofs.Common.{length, Option, Some, None, arith, refl, sym, ◌∙◌, ap, subst, eqb-true, cases_eq, false≢true}
-use Rattle.count_invariant.proofs.Common.{All-nil, Setting, IsSetting, left_if, Capability, HeadFits, word_of_head, head_of_word}
+use Rattle.count_invariant.proofs.Common.{Want, ◌≡◌, ◌≢◌, inl, inr, ℕ, zero, suc, ◌+◌, ◌-◌, ◌^◌, ◌<◌, ◌≤◌, ◌==◌, Bool, true, false}
+use Rattle.count_invariant.proofs.Common.{List, [], ◌∷◌, length, Option, Some, None, arith, refl, sym, ◌∙◌, ap, subst, eqb-true, cases_eq}
+use Rattle.count_invariant.proofs.Common.{false≢true, All-nil, Setting, IsSetting, left_if, Capability, HeadFits, word_of_head, head_of_word}
 use Rattle.count_invariant.proofs.Common.{HeadWord, spelling, Word, EntryAt, FrameAt, CountAt, CoreAt, FlushAt, LiveAt, ClockAt, Move}
 use Rattle.count_invariant.proofs.Common.{left_of, Slot, own, Kernel, Tcap, TcapFields, PlaceOf, NumberOf, State}
 use Rattle.count_invariant.proofs.Common.{tcap_in, put, with_frame, thread_in, comp_in, thread_of, comp_of, first_of_stack}
@@ -17,12 +17,13 @@ use Rattle.count_invariant.proofs.Common.{Invariant, IsUntimed, plain_begins, pl
 use Rattle.count_invariant.proofs.Common.{list_changed, TurnsHead, SparesTcap, limits_of, sums_keep, SameFor, ReadsAlike, StaysSaid}
 use Rattle.count_invariant.proofs.Common.{marks_own, word_stays, carry_marks, carry_words, others_settled, own_kept, TcapOf, counts_bare}
 use Rattle.count_invariant.proofs.Common.{not_exclusive_head_value, not_exclusive_head_word, exclusive_none, exclusive_free}
-use Rattle.count_invariant.proofs.Common.{Acquired, HeadIs, Open, Reply, phase_at}
+use Rattle.count_invariant.proofs.Common.{Acquired, HeadIs, Open, Reply, phase_at, ends, flushes}
 use Rattle.std.proofs.Common.{IsSome, min}
 use Rattle.quality_lists.specs.Rank.{rank}
 use Rattle.quality_lists.specs.spk_nums.specs.declared.replies.Reply.TheVariants as reply
 use Rattle.quality_lists.specs.spk_nums.specs.declared.replies.Value.TheVariants as value
 use Rattle.kernel_laws.specs.kernel_rules.specs.State.{Core as CoreFields, with_core}
+use Rattle.kernel_laws.specs.kernel_rules.specs.CallRelation.{begins_in as begun_by}
 use Rattle.kernel_laws.specs.kernel_rules.specs.TimeCalls.{with_tcap, given_back}
 use Rattle.count_invariant.proofs.Findings.{found_named, own_is, way_gone}
 use Rattle.count_invariant.specs.plan_ways.proofs.Ways.{all_ways}
@@ -281,7 +282,7 @@ module _ (setup : Setting) (setting : IsSetting setup) (cores : ℕ → Core) (t
 
     plain_won : IsUntimed setup t e_won
     plain_won = record {
-      begins = λ x. ap (λ p. begins_in (Some done) p s c x) is_open ∙ ap (λ y. begins s c y done x) is.call_is;
+      begins = λ x. ap (λ p. begins_in (Some done) p s c x) is_open ∙ ap (λ j. begun_by j x) found_is;
       ends = λ x. ap (λ p. ends_in (Some done) p x) is_open ∙ ap (λ y. ends y done x) is.call_is;
       flushes = ap (flushes_in (Some done)) is_open ∙ ap (λ y. flushes y done) is.call_is;
       apart = λ d. refl;
