@@ -2,9 +2,9 @@
 -- had so many more back.
 use Rattle.count_invariant.proofs.Common.{Want, ◌≡◌, ◌≢◌, inl, inr, ℕ, zero, suc, ◌+◌, ◌-◌, ◌^◌, ◌<◌, ◌≤◌, ◌==◌, Bool, true, false}
 use Rattle.count_invariant.proofs.Common.{List, [], ◌∷◌, length, Option, Some, None, arith, refl, sym, ◌∙◌, ap, subst, eqb-true, cases_eq}
-use Rattle.count_invariant.proofs.Common.{false≢true, All-nil, Setting, IsSetting, left_if, Capability, HeadFits, word_of_head, head_of_word}
-use Rattle.count_invariant.proofs.Common.{HeadWord, spelling, Word, EntryAt, FrameAt, CountAt, CoreAt, FlushAt, LiveAt, ClockAt, Move}
-use Rattle.count_invariant.proofs.Common.{left_of, Slot, own, Kernel, Tcap, TcapFields, PlaceOf, NumberOf, State}
+use Rattle.count_invariant.proofs.Common.{false≢true, All-nil, Setting, IsSetting, left_if, Capability, HeadFits, word_of_head}
+use Rattle.count_invariant.proofs.Common.{head_of_word, HeadWord, spelling, Word, EntryAt, FrameAt, CountAt, CoreAt, FlushAt, LiveAt, ClockAt}
+use Rattle.count_invariant.proofs.Common.{Move, left_of, Slot, own, Kernel, Tcap, TcapFields, PlaceOf, NumberOf, State}
 use Rattle.count_invariant.proofs.Common.{tcap_in, put, with_frame, thread_in, comp_in, thread_of, comp_of, first_of_stack}
 use Rattle.count_invariant.proofs.Common.{refs, frame_names, times, Found, IsFoundAnd, tcap_at, rule_of, change_of, changed, counted}
 use Rattle.count_invariant.proofs.Common.{MayReply, frame_refs, sum_one, core_same_refs, put_same, put_other, mark_of, mark_in_frame}
