@@ -366,6 +366,8 @@ module _ (setup : Setting) (setting : IsSetting setup) (cores : ℕ → Core) (t
       none_due (map due_of a.counts) (record { frame = pin_frame pin; change = change }) has.knows.rest has.knows.due
   spares_frame (share_act p) is has by =
       none_due (map due_of a.counts) (record { frame = pin_frame pin; change = change }) has.knows.rest has.knows.due
+  spares_frame (refill_act r) is has by =
+      none_due (map due_of a.counts) (record { frame = pin_frame pin; change = change }) has.knows.rest has.knows.due
 
 module _ (setup : Setting) (setting : IsSetting setup) (cores : ℕ → Core) (t : Trace) (stands : Invariant setup cores t) (c : ℕ)
     (here : c < setup.cores) (f k : ℕ) where
