@@ -1,10 +1,10 @@
 -- What a call that gives ticks back knows of itself: its name, its rule, its machine, and what refuses it.
-use Rattle.count_invariant.proofs.Common.{◌≡◌, inl, inr, ℕ, ◌+◌, ◌*◌, ◌^◌, ◌<◌, ◌≤◌, not, nat_lt, Bool, true, false, List, Option}
-use Rattle.count_invariant.proofs.Common.{[], ◌∷◌, Some, None, map, if◌then◌else◌, arith, refl, sym, ◌∙◌, ap, subst, le-ltb, Setting}
-use Rattle.count_invariant.proofs.Common.{IsSetting, Capability, Call, Reply, State, Change, Cause, Does, Judged, Found, Refused, RuleMay}
-use Rattle.count_invariant.proofs.Common.{tcap_in, leaves, outcome, unless, first_of, first_cause, tcap_at, rule_of, change_of}
-use Rattle.count_invariant.proofs.Common.{changes_budgets, is_one_of, footprint_frames, Trace, Open, phase, state_after, First, Plan}
-use Rattle.count_invariant.proofs.Common.{at_place, plan_for, GoesBy, own_pages, rule_after, Leads, LeadsIn, leads_by, outcome_left, left_may, calls_go}
+use Rattle.count_invariant.proofs.Common.{◌≡◌, inl, inr, ℕ, ◌+◌, ◌*◌, ◌^◌, ◌<◌, ◌≤◌, not, nat_lt, Bool, true, false, List, Option, [], ◌∷◌}
+use Rattle.count_invariant.proofs.Common.{Some, None, map, if◌then◌else◌, arith, refl, sym, ◌∙◌, ap, subst, le-ltb, Setting, IsSetting}
+use Rattle.count_invariant.proofs.Common.{Capability, Call, Reply, State, Change, Cause, Does, Judged, Found, Refused, RuleMay, tcap_in}
+use Rattle.count_invariant.proofs.Common.{leaves, outcome, unless, first_of, first_cause, tcap_at, rule_of, change_of, changes_budgets}
+use Rattle.count_invariant.proofs.Common.{is_one_of, footprint_frames, Trace, Open, phase, state_after, First, Plan, at_place, plan_for}
+use Rattle.count_invariant.proofs.Common.{GoesBy, own_pages, rule_after, Leads, LeadsIn, leads_by, outcome_left, left_may, calls_go}
 use Rattle.count_invariant.proofs.Common.{Acquired, Act, Undecided, ActiveCall, StageFits, HasRoom, Core, holds_counts, due_of}
 use Rattle.count_invariant.proofs.Common.{KnowsUndecided, phase_at, HasFound, own_in, holds_at, holds_in, Invariant, TcapOf, in_order}
 use Rattle.count_invariant.proofs.Common.{IsRefill, RefillsBy, EntryAt, LoadOf, limits_of}
