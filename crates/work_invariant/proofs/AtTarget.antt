@@ -404,6 +404,9 @@ begins_free own Ret limits small spot to s plan ks read c core none leads fits w
     not_target : Nowhere ≡ Free spot → ⊥
     not_target h = cc
 begins_free own (Replenish x m) limits small spot to s plan ks read c core none leads fits within reads at = absurd (not_target to)
+  where
+    not_target : Nowhere ≡ Free spot → ⊥
+    not_target h = cc
 begins_free own (Transfer x y m) limits small spot to s plan ks read c core none leads fits within reads at = absurd (not_target to)
   where
     not_target : Nowhere ≡ Free spot → ⊥
