@@ -1,4 +1,4 @@
-use Rattle.std.proofs.Common.{sym, ap, arith, ◌≡◌}
+use Rattle.std.proofs.Common.{◌-◌, sym, ap, arith, ◌≡◌}
 use Rattle.kernel_history.proofs.Sums.{sum_none, sum_more}
 use Rattle.table_lines.specs.Ends.{core_shown}
 use Rattle.table_report.specs.Shown.{core_shown_at}
