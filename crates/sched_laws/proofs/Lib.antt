@@ -9,3 +9,6 @@ pub mod Charging
 pub mod Restoring
 pub mod Exactly
 pub mod Working
+pub mod Jobs
+pub mod Counting
+pub mod Highest

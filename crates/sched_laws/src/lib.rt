@@ -8,6 +8,7 @@
 
 ghost use Rattle.sched_laws.specs.Least.{LeastChosen, LeastRuns, NoneWaits, OthersStay};
 ghost use Rattle.sched_laws.specs.Response.{ResponseBound};
+ghost use Rattle.sched_laws.specs.Periods.{HighestIsDone};
 ghost use Rattle.sched_laws.specs.Charging.{ExactTicks};
 ghost use Rattle.sched_laws.specs.Work.{WorkIsKept};
 
@@ -49,4 +50,10 @@ pub fn exact_ticks()
 /// At the end of a schedule each task has left what it did not run of the work of its jobs that arrived: what is written of it is so.
 pub fn work_is_kept()
     ensures { WorkIsKept }
+{}
+
+/// A job of the highest priority: of a task with a period that no other comes before, that has time of its own whenever it is due, and is
+/// not refused, each job is done within its work of ticks.
+pub fn highest_is_done()
+    ensures { HighestIsDone }
 {}
