@@ -95,7 +95,7 @@ before_both t None b h k = k
 before_both t (Some a) None h k = h
 before_both t (Some a) (Some b) h k = omega (arith, h, k)
 
-none_come : (now i : ℕ) (jobs : List Job) → renewal now i jobs ≡ None → IsBefore now (next_arrival now jobs)
+pub none_come : (now i : ℕ) (jobs : List Job) → renewal now i jobs ≡ None → IsBefore now (next_arrival now jobs)
 none_come now i [] none = tt
 none_come now i (job ∷ jobs) none = by_test (none_come now (i + 1) jobs) (is_renewed now job) refl none
   where
@@ -114,7 +114,7 @@ idles_on rule x step w = subst (IsBefore x.time) w.next (none_come x.time 0 x.jo
 within_is : (at : ℕ) → at ≤ 1000000 → within_last at ≡ Some at
 within_is at le = ap (λ b. if b then Some at else None) (le-leb at 1000000 le)
 
-within_tells : (at b : ℕ) → within_last at ≡ Some b → (at ≤ 1000000) × (at ≡ b)
+pub within_tells : (at b : ℕ) → within_last at ≡ Some b → (at ≤ 1000000) × (at ≡ b)
 within_tells at b is = elim (cases_lt 1000000 at) [
   | inl past ↦ absurd (none (sym (ap (λ c. if c then Some at else None) (lt-leb at 1000000 past)) ∙ is))
   | inr le ↦ (le, same at b (sym (within_is at le) ∙ is))

@@ -12,3 +12,7 @@ pub mod Working
 pub mod Jobs
 pub mod Counting
 pub mod Highest
+pub mod Above
+pub mod Pausing
+pub mod Loads
+pub mod Periodic

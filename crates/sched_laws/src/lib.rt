@@ -8,7 +8,7 @@
 
 ghost use Rattle.sched_laws.specs.Least.{LeastChosen, LeastRuns, NoneWaits, OthersStay};
 ghost use Rattle.sched_laws.specs.Response.{ResponseBound};
-ghost use Rattle.sched_laws.specs.Periods.{HighestIsDone};
+ghost use Rattle.sched_laws.specs.Periods.{HighestIsDone, PeriodicBound};
 ghost use Rattle.sched_laws.specs.Charging.{ExactTicks};
 ghost use Rattle.sched_laws.specs.Work.{WorkIsKept};
 
@@ -56,4 +56,10 @@ pub fn work_is_kept()
 /// not refused, each job is done within its work of ticks.
 pub fn highest_is_done()
     ensures { HighestIsDone }
+{}
+
+/// The response bound of tasks with periods: where a number of ticks, at most the task's period, is enough for its work and for all that
+/// the tasks before it ask for in so many ticks, each of its jobs is done within that number of ticks.
+pub fn periodic_bound()
+    ensures { PeriodicBound }
 {}
