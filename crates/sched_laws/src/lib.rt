@@ -1,5 +1,5 @@
 //! Laws of fixed-priority scheduling, each of the definitions alone and the contract of a function of this crate: which task runs, that
-//! nothing else runs in its place, and when a task ends.
+//! nothing else runs in its place, what turns charge and give back, and when a task ends or a job of it is done.
 //!
 //! A schedule of `schedule` is the definitions', so these hold of every schedule that a machine has run.
 //!
@@ -39,8 +39,8 @@ pub fn response_bound()
     ensures { ResponseBound }
 {}
 
-/// Exact ticks: in a schedule that begins where core 0 owes nothing, the ticks of each turn in which a task runs are exactly those charged in
-/// it, to the temporal capability that the task's name reached when it was chosen for that turn. Those of a turn in which a job arrives are
+/// Exact ticks: in a schedule that begins where core 0 owes nothing, the ticks of each turn in which a task runs are exactly those charged
+/// in it, to the temporal capability that the task's name reached when it was chosen for that turn. Those of a turn in which a job arrives are
 /// exactly what its task has run since its last job, and are given back to the temporal capability that the task's name leads to. Other
 /// turns charge nothing and give nothing back.
 pub fn exact_ticks()
