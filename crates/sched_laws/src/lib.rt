@@ -40,8 +40,8 @@ pub fn response_bound()
 {}
 
 /// Exact ticks: in a schedule that begins where core 0 owes nothing, the ticks of each turn in which a task runs are exactly those charged
-/// in it, to the temporal capability that the task's name reached when it was chosen for that turn. Those of a turn in which a job arrives are
-/// exactly what its task has run since its last job, and are given back to the temporal capability that the task's name leads to. Other
+/// in it, to the temporal capability that the task's name reached when it was chosen for that turn. Those of a turn in which a job arrives
+/// are exactly what its task has run since its last job, and are given back to the temporal capability that the task's name leads to. Other
 /// turns charge nothing and give nothing back.
 pub fn exact_ticks()
     ensures { ExactTicks }
