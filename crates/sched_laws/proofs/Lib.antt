@@ -9,3 +9,10 @@ pub mod Charging
 pub mod Restoring
 pub mod Exactly
 pub mod Working
+pub mod Jobs
+pub mod Counting
+pub mod Highest
+pub mod Above
+pub mod Pausing
+pub mod Loads
+pub mod Periodic

@@ -1,13 +1,12 @@
 -- When a task ends.
 use Rattle.std.specs.Prelude.{◌≡◌, ◌≢◌, ◌≤◌, ℕ, ◌+◌, Bool, true, ◌||◌, ◌&&◌, ◌==◌, nat_lt, nat_le, if◌then◌else◌}
-use Rattle.std.specs.Prelude.{List, [], ◌∷◌, slice_get, Option, Some, None, IsSome}
+use Rattle.std.specs.Prelude.{List, [], ◌∷◌, slice_get, Some, None, IsSome}
 use Rattle.spk_nums.specs.declared.replies.Reply.{Reply}
 use Rattle.kernel_rules.specs.State.{State}
 use Rattle.sched_rules.specs.declared.tasks.Task.{Task}
 use Rattle.sched_rules.specs.declared.tasks.Rule.{Rule}
 use Rattle.sched_rules.specs.declared.tasks.Job.{Job}
 use Rattle.sched_rules.specs.declared.tasks.Ready.{Ready}
-use Rattle.sched_rules.specs.declared.turns.Turn.{Turn}
 use Rattle.sched_rules.specs.declared.turns.Turn.TheVariants.{Ran, Refused}
 use Rattle.sched_rules.specs.Schedule.{Progress, Step, is_due, ready, at_first, turns_of, IsSchedule}
 use Rattle.sched_rules.specs.Texts.{ran_by}

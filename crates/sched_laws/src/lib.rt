@@ -1,5 +1,5 @@
 //! Laws of fixed-priority scheduling, each of the definitions alone and the contract of a function of this crate: which task runs, that
-//! nothing else runs in its place, and when a task ends.
+//! nothing else runs in its place, what turns charge and give back, and when a task ends or a job of it is done.
 //!
 //! A schedule of `schedule` is the definitions', so these hold of every schedule that a machine has run.
 //!
@@ -8,6 +8,7 @@
 
 ghost use Rattle.sched_laws.specs.Least.{LeastChosen, LeastRuns, NoneWaits, OthersStay};
 ghost use Rattle.sched_laws.specs.Response.{ResponseBound};
+ghost use Rattle.sched_laws.specs.Periods.{HighestIsDone, PeriodicBound};
 ghost use Rattle.sched_laws.specs.Charging.{ExactTicks};
 ghost use Rattle.sched_laws.specs.Work.{WorkIsKept};
 
@@ -38,9 +39,9 @@ pub fn response_bound()
     ensures { ResponseBound }
 {}
 
-/// Exact ticks: in a schedule that begins where core 0 owes nothing, the ticks of each turn in which a task runs are exactly those charged in
-/// it, to the temporal capability that the task's name reached when it was chosen for that turn. Those of a turn in which a job arrives are
-/// exactly what its task has run since its last job, and are given back to the temporal capability that the task's name leads to. Other
+/// Exact ticks: in a schedule that begins where core 0 owes nothing, the ticks of each turn in which a task runs are exactly those charged
+/// in it, to the temporal capability that the task's name reached when it was chosen for that turn. Those of a turn in which a job arrives
+/// are exactly what its task has run since its last job, and are given back to the temporal capability that the task's name leads to. Other
 /// turns charge nothing and give nothing back.
 pub fn exact_ticks()
     ensures { ExactTicks }
@@ -49,4 +50,16 @@ pub fn exact_ticks()
 /// At the end of a schedule each task has left what it did not run of the work of its jobs that arrived: what is written of it is so.
 pub fn work_is_kept()
     ensures { WorkIsKept }
+{}
+
+/// A job of the highest priority: of a task with a period that no other comes before, that has time of its own whenever it is due, and is
+/// not refused, each job is done within its work of ticks.
+pub fn highest_is_done()
+    ensures { HighestIsDone }
+{}
+
+/// The response bound of tasks with periods: where a number of ticks, at most the task's period, is enough for its work and for all that
+/// the tasks before it ask for in so many ticks, each of its jobs is done within that number of ticks.
+pub fn periodic_bound()
+    ensures { PeriodicBound }
 {}
