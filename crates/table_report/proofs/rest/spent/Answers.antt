@@ -17,6 +17,6 @@ cores-preserved c =
     let m = sum_more (λ k. outstanding (core_shown_at c.args.ends.now k)) c.cores.core in
     let r = ap (λ e. e.spent - e.back) c.index-ends-core.is in
     record {
-      sum = omega (arith, m, e, r, c.from-saturating_sub.ensures);
-      most = omega (arith, c.index-ends-core.element_fits, c.from-saturating_sub.ensures);
+      sum = omega (arith, m, e, r, c.saturating_sub.ensures);
+      most = omega (arith, c.index-ends-core.element_fits, c.saturating_sub.ensures);
     }
