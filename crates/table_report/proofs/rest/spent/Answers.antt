@@ -18,5 +18,5 @@ cores-preserved c =
     let r = ap (λ e. e.spent - e.back) c.index-ends-core.is in
     record {
       sum = omega (arith, m, e, r, c.saturating_sub.ensures);
-      most = omega (arith, c.index-ends-core.element_fits, c.saturating_sub.ensures);
+      most = omega (arith, c.saturating_sub.ensures);
     }
