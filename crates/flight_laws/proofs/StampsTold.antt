@@ -15,7 +15,7 @@ use Rattle.time_laws.specs.spk_nums.specs.declared.kinds.FrameKind.TheVariants a
 use Rattle.time_laws.specs.spk_nums.specs.declared.replies.Reply.{Reply}
 use Rattle.time_laws.specs.spk_nums.specs.declared.replies.Reply.TheVariants as reply
 use Rattle.time_laws.specs.spk_nums.specs.declared.replies.Value.{Value}
-use Rattle.time_laws.specs.frame_words.specs.Count.{CountFits, NumberFits, count_of_word, word_of_count}
+use Rattle.time_laws.specs.frame_words.specs.Count.{CountFits, count_of_word, word_of_count}
 use Rattle.time_laws.specs.frame_words.specs.declared.count_word.CountWord.{CountWord}
 use Rattle.time_laws.specs.frame_words.specs.declared.count_word.Hold.{Hold}
 use Rattle.time_laws.specs.frame_words.specs.declared.count_word.Hold.TheVariants.{Unheld, Pinned, Closed}
