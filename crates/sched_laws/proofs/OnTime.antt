@@ -22,6 +22,7 @@ use Rattle.sched_laws.proofs.Arriving.{IsBefore, before_each, later_is, cut_by}
 use Rattle.sched_laws.proofs.Turns.{Way, Runs, Refuses, Idles, Begins, Lacks, RunsOne, IdlesOn, BeginsOne, way, ends, come_at}
 use Rattle.sched_laws.proofs.Weights.{set_here, set_apart}
 use Rattle.sched_laws.proofs.Jobs.{the_job, has_come_of, later_next, within_is, within_tells, times_next}
+use Rattle.sched_laws.proofs.Pausing.{Kept, kept_on, kept_first}
 
 -- ---- when the next job is due
 
@@ -133,6 +134,33 @@ began rule x step e = by_way (way rule x step e)
     by_way (Begins w) = sym (ap (λ s. begins_at s.turn) w.is_step)
     by_way (Lacks w) = sym (ap (λ s. begins_at s.turn) w.is_step)
 
+-- A turn in which a further job of a task arrives.
+pub record Comes (rule : Rule) (x : Progress) (step : Step) (at i : ℕ) : Type 0 where
+  pub begins : BeginsOne rule x step
+  pub place : begins.come.index + 1 ≡ i
+  pub time : x.time ≡ at
+
+pub comes_by : (rule : Rule) (x : Progress) (step : Step) → turn_of rule x ≡ Some step → (at i ticks : ℕ) → step.turn ≡ Back at i ticks
+    → Comes rule x step at i
+comes_by rule x step e at i ticks is = by_way (way rule x step e)
+  where
+    by_way : Way rule x step → Comes rule x step at i
+    by_way (Runs w) =
+        let turn : Ran x.time (w.choice.index + 1) (length_of rule x w.choice) ≡ Back at i ticks = ap (λ s. s.turn) w.is_step ∙ is in
+        absurd (cc)
+    by_way (Refuses w) =
+        let turn : Refused x.time (w.choice.index + 1) w.reply ≡ Back at i ticks = ap (λ s. s.turn) w.is_step ∙ is in
+        absurd (cc)
+    by_way (Idles w) =
+        let turn : Idle x.time (w.at - x.time) ≡ Back at i ticks = ap (λ s. s.turn) w.is_step ∙ is in
+        absurd (cc)
+    by_way (Begins w) =
+        let turn : Back x.time (w.come.index + 1) w.come.job.used ≡ Back at i ticks = ap (λ s. s.turn) w.is_step ∙ is in
+        record { begins = w; place = cc; time = cc }
+    by_way (Lacks w) =
+        let turn : Refused x.time (w.come.index + 1) w.reply ≡ Back at i ticks = ap (λ s. s.turn) w.is_step ∙ is in
+        absurd (cc)
+
 -- ---- one task
 
 module _ (i : ℕ) (task : Task) where
@@ -230,7 +258,7 @@ module _ (i : ℕ) (task : Task) where
       ])
 
   -- A job of it comes when it is due.
-  comes_now : (x : Progress) (n : ℕ) (o : Bool) (r : Renewal) → renewal x.time 0 x.jobs ≡ Some r → r.index ≡ i → Expects x n o
+  pub comes_now : (x : Progress) (n : ℕ) (o : Bool) (r : Renewal) → renewal x.time 0 x.jobs ≡ Some r → r.index ≡ i → Expects x n o
       → Due task n x.time × (o ≡ false)
   comes_now x n o r is same h =
       let has = has_come_of x.time x.jobs r is in
@@ -272,7 +300,7 @@ module _ (i : ℕ) (task : Task) where
             (set_apart x.jobs r.index i new (λ q. other (sym q)) ∙ h.listed) refl refl refl h.until
       ])
 
-  expects_on : (rule : Rule) (x : Progress) (step : Step) (n : ℕ) (o : Bool) → turn_of rule x ≡ Some step → Expects x n o
+  pub expects_on : (rule : Rule) (x : Progress) (step : Step) (n : ℕ) (o : Bool) → turn_of rule x ≡ Some step → Expects x n o
       → ExpectsOn step n o
   expects_on rule x step n o e h = by_way (way rule x step e)
     where
@@ -288,7 +316,7 @@ module _ (i : ℕ) (task : Task) where
           (puts_out x (put_out x w.come.index w.come.job w.state w.calls w.reply) n o h
           w.come.index w.come.job (come_at x.time x.jobs w.come w.has_come) refl refl refl refl)
 
-  expects_first : (s : State) (tasks : List Task) → slice_get tasks i ≡ Some task → Expects (at_first s tasks) 0 false
+  pub expects_first : (s : State) (tasks : List Task) → slice_get tasks i ≡ Some task → Expects (at_first s tasks) 0 false
   expects_first s tasks at = record {
     job = new_job task;
     listed = slice_get-map new_job tasks i ∙ ap (option_map new_job) at;
@@ -324,28 +352,11 @@ module _ (i : ℕ) (task : Task) where
     -- The first of these turns.
     first_comes : (x : Progress) (step : Step) (n : ℕ) (o : Bool) → turn_of rule x ≡ Some step → Expects x n o
         → (at ticks : ℕ) → step.turn ≡ Back at (i + 1) ticks → DueAfter n o [] at
-    first_comes x step n o e h at ticks is = by_way (way rule x step e)
-      where
-        by_way : Way rule x step → DueAfter n o [] at
-        by_way (Runs w) =
-            let turn : Ran x.time (w.choice.index + 1) (length_of rule x w.choice) ≡ Back at (i + 1) ticks =
-            ap (λ s. s.turn) w.is_step ∙ is in
-            absurd (cc)
-        by_way (Refuses w) =
-            let turn : Refused x.time (w.choice.index + 1) w.reply ≡ Back at (i + 1) ticks = ap (λ s. s.turn) w.is_step ∙ is in
-            absurd (cc)
-        by_way (Idles w) =
-            let turn : Idle x.time (w.at - x.time) ≡ Back at (i + 1) ticks = ap (λ s. s.turn) w.is_step ∙ is in
-            absurd (cc)
-        by_way (Begins w) =
-            let turn : Back x.time (w.come.index + 1) w.come.job.used ≡ Back at (i + 1) ticks = ap (λ s. s.turn) w.is_step ∙ is in
-            let time : x.time ≡ at = cc in
-            let place : w.come.index + 1 ≡ i + 1 = cc in
-            let now = comes_now x n o w.come w.has_come (omega (arith, place)) h in
-            (subst (λ m. Due task m at) (sym (no_more n)) (subst (Due task n) time now.0), or_none o ∙ now.1)
-        by_way (Lacks w) =
-            let turn : Refused x.time (w.come.index + 1) w.reply ≡ Back at (i + 1) ticks = ap (λ s. s.turn) w.is_step ∙ is in
-            absurd (cc)
+    first_comes x step n o e h at ticks is =
+        let c = comes_by rule x step e at (i + 1) ticks is in
+        let place = c.place in
+        let now = comes_now x n o c.begins.come c.begins.has_come (omega (arith, place)) h in
+        (subst (λ m. Due task m at) (sym (no_more n)) (subst (Due task n) c.time now.0), or_none o ∙ now.1)
 
     all_come : (x : Progress) (steps : List Step) (n : ℕ) (o : Bool) → IsSchedule rule x steps → Expects x n o
         → (before after : List Turn) (at ticks : ℕ) → turns_of steps ≡ before ++ Back at (i + 1) ticks ∷ after → DueAfter n o before at
@@ -389,48 +400,10 @@ module _ (i : ℕ) (task : Task) where
 -- ---- all tasks
 
 -- Each job is that of the task listed at its place.
-abbrev pub AreOf : List Task → List Job → Type 0
-AreOf tasks jobs = (k : ℕ) (job : Job) → slice_get jobs k ≡ Some job → slice_get tasks k ≡ Some job.task
-
-are_set : (tasks : List Task) (jobs : List Job) (p : ℕ) (old new : Job) → slice_get jobs p ≡ Some old → new.task ≡ old.task
-    → AreOf tasks jobs → AreOf tasks (slice_set jobs p new)
-are_set tasks jobs p old new here same of k job at = elim (cases_eq k p) [
-  | inl is ↦
-      let mine : new ≡ job = the_job new job (sym (set_here jobs p old new here) ∙ ap (slice_get (slice_set jobs p new)) (sym is) ∙ at) in
-      ap (slice_get tasks) is ∙ of p old here ∙ ap Some (sym same) ∙ ap (λ (j : Job). Some j.task) mine
-  | inr other ↦ of k job (sym (set_apart jobs p k new other) ∙ at)
-]
-
-pub are_on : (rule : Rule) (tasks : List Task) (x : Progress) (step : Step) → turn_of rule x ≡ Some step → AreOf tasks x.jobs
-    → AreOf tasks step.next.jobs
-are_on rule tasks x step e of = by_way (way rule x step e)
-  where
-    by_way : Way rule x step → AreOf tasks step.next.jobs
-    by_way (Runs w) =
-        let c : Choice = w.choice in
-        subst (λ s. AreOf tasks s.next.jobs) w.is_step (are_set tasks x.jobs c.index c.job
-        (record (c.job) { left = c.job.left - length_of rule x c; used = c.job.used + length_of rule x c })
-        (place_of x.state rule x.time x.jobs c w.is_chosen) refl of)
-    by_way (Refuses w) =
-        let c : Choice = w.choice in
-        subst (λ s. AreOf tasks s.next.jobs) w.is_step (are_set tasks x.jobs c.index c.job (record (c.job) { out = true })
-        (place_of x.state rule x.time x.jobs c w.is_chosen) refl of)
-    by_way (Idles w) = subst (λ s. AreOf tasks s.next.jobs) w.is_step of
-    by_way (Begins w) =
-        let r : Renewal = w.come in
-        subst (λ s. AreOf tasks s.next.jobs) w.is_step (are_set tasks x.jobs r.index r.job (begun r.job)
-        (come_at x.time x.jobs r w.has_come) refl of)
-    by_way (Lacks w) =
-        let r : Renewal = w.come in
-        subst (λ s. AreOf tasks s.next.jobs) w.is_step (are_set tasks x.jobs r.index r.job (record (r.job) { out = true })
-        (come_at x.time x.jobs r w.has_come) refl of)
-
-pub are_first : (s : State) (tasks : List Task) → AreOf tasks (at_first s tasks).jobs
-are_first s tasks k job at = by_task (slice_get tasks k) refl (sym (slice_get-map new_job tasks k) ∙ at)
-  where
-    by_task : (o : Option Task) → slice_get tasks k ≡ o → option_map new_job o ≡ Some job → slice_get tasks k ≡ Some job.task
-    by_task None is e = absurd (cc)
-    by_task (Some task) is e = is ∙ ap (λ (j : Job). Some j.task) (the_job (new_job task) job e)
+pub is_of : (tasks : List Task) (x : Progress) → Kept tasks x → (k : ℕ) (job : Job) → slice_get x.jobs k ≡ Some job
+    → slice_get tasks k ≡ Some job.task
+is_of tasks x kept k job at =
+    ap (λ l. slice_get l k) (sym kept.same) ∙ slice_get-map (λ (j : Job). j.task) x.jobs k ∙ ap (option_map (λ (j : Job). j.task)) at
 
 -- A further job is one of a task that is listed.
 record IsOne (tasks : List Task) (i : ℕ) : Type 0 where
@@ -439,40 +412,21 @@ record IsOne (tasks : List Task) (i : ℕ) : Type 0 where
   task : Task
   listed : slice_get tasks place ≡ Some task
 
-first_one : (rule : Rule) (tasks : List Task) (x : Progress) (step : Step) → turn_of rule x ≡ Some step → AreOf tasks x.jobs
-    → (at i ticks : ℕ) → step.turn ≡ Back at i ticks → IsOne tasks i
-first_one rule tasks x step e of at i ticks is = by_way (way rule x step e)
-  where
-    by_way : Way rule x step → IsOne tasks i
-    by_way (Runs w) =
-        let turn : Ran x.time (w.choice.index + 1) (length_of rule x w.choice) ≡ Back at i ticks = ap (λ s. s.turn) w.is_step ∙ is in
-        absurd (cc)
-    by_way (Refuses w) =
-        let turn : Refused x.time (w.choice.index + 1) w.reply ≡ Back at i ticks = ap (λ s. s.turn) w.is_step ∙ is in
-        absurd (cc)
-    by_way (Idles w) =
-        let turn : Idle x.time (w.at - x.time) ≡ Back at i ticks = ap (λ s. s.turn) w.is_step ∙ is in
-        absurd (cc)
-    by_way (Begins w) =
-        let turn : Back x.time (w.come.index + 1) w.come.job.used ≡ Back at i ticks = ap (λ s. s.turn) w.is_step ∙ is in
-        record {
-          place = w.come.index;
-          counted = cc;
-          task = w.come.job.task;
-          listed = of w.come.index w.come.job (come_at x.time x.jobs w.come w.has_come);
-        }
-    by_way (Lacks w) =
-        let turn : Refused x.time (w.come.index + 1) w.reply ≡ Back at i ticks = ap (λ s. s.turn) w.is_step ∙ is in
-        absurd (cc)
-
-one_of : (rule : Rule) (tasks : List Task) (x : Progress) (steps : List Step) → IsSchedule rule x steps → AreOf tasks x.jobs
+one_of : (rule : Rule) (tasks : List Task) (x : Progress) (steps : List Step) → IsSchedule rule x steps → Kept tasks x
     → (before after : List Turn) (at i ticks : ℕ) → turns_of steps ≡ before ++ Back at i ticks ∷ after → IsOne tasks i
-one_of rule tasks x [] is of [] after at i ticks e = absurd (cc)
-one_of rule tasks x [] is of (turn ∷ before) after at i ticks e = absurd (cc)
-one_of rule tasks x (step ∷ steps) is of [] after at i ticks e =
-    first_one rule tasks x step is.0 of at i ticks (head_is step.turn (Back at i ticks) (turns_of steps) after e)
-one_of rule tasks x (step ∷ steps) is of (turn ∷ before) after at i ticks e =
-    one_of rule tasks step.next steps is.1 (are_on rule tasks x step is.0 of) before after at i ticks
+one_of rule tasks x [] is kept [] after at i ticks e = absurd (cc)
+one_of rule tasks x [] is kept (turn ∷ before) after at i ticks e = absurd (cc)
+one_of rule tasks x (step ∷ steps) is kept [] after at i ticks e =
+    let c = comes_by rule x step is.0 at i ticks (head_is step.turn (Back at i ticks) (turns_of steps) after e) in
+    let r : Renewal = c.begins.come in
+    record {
+      place = r.index;
+      counted = c.place;
+      task = r.job.task;
+      listed = is_of tasks x kept r.index r.job (come_at x.time x.jobs r c.begins.has_come);
+    }
+one_of rule tasks x (step ∷ steps) is kept (turn ∷ before) after at i ticks e =
+    one_of rule tasks step.next steps is.1 (kept_on tasks rule x step is.0 kept) before after at i ticks
     (rest_is step.turn turn (turns_of steps) (before ++ Back at i ticks ∷ after) e)
 
 -- What is due, by its place.
@@ -510,7 +464,7 @@ next_of_one tasks turns i at one d =
 pub arrive_on_time : ArriveOnTime
 arrive_on_time rule s tasks steps is = record {
   comes = λ before after at i ticks e.
-      let one = one_of rule tasks (at_first s tasks) steps is (are_first s tasks) before after at i ticks e in
+      let one = one_of rule tasks (at_first s tasks) steps is (kept_first s tasks) before after at i ticks e in
       next_of_one tasks before i at one (all_come one.place one.task rule (at_first s tasks) steps 0 false is
       (expects_first one.place one.task s tasks one.listed) before after at ticks
       (subst (λ j. turns_of steps ≡ before ++ Back at j ticks ∷ after) (sym one.counted) e));

@@ -19,7 +19,7 @@ use Rattle.sched_rules.specs.declared.tasks.Rule.{Rule}
 use Rattle.sched_rules.specs.declared.tasks.Job.{Job}
 use Rattle.sched_rules.specs.declared.tasks.Choice.{Choice}
 use Rattle.sched_rules.specs.declared.tasks.Renewal.{Renewal}
-use Rattle.sched_rules.specs.declared.turns.Turn.TheVariants.{Ran, Idle, Back, Refused as Refused_turn}
+use Rattle.sched_rules.specs.declared.turns.Turn.TheVariants.{Back}
 use Rattle.sched_rules.specs.Schedule.{Progress, Step, reach, chosen, length_of, turn_of, begun, refused, gives_back}
 use Rattle.sched_rules.specs.Schedule.{put_out, replenish_for, new_job, at_first, IsSchedule}
 use Rattle.sched_laws.specs.Response.{Throughout}
@@ -31,7 +31,8 @@ use Rattle.sched_laws.proofs.Turns.{Way, Runs, Refuses, Idles, Begins, Lacks, Ru
 use Rattle.sched_laws.proofs.Weights.{set_here, set_apart}
 use Rattle.sched_laws.proofs.Exactly.{exact_ticks}
 use Rattle.sched_laws.proofs.Jobs.{the_job}
-use Rattle.sched_laws.proofs.OnTime.{AreOf, are_on, are_first}
+use Rattle.sched_laws.proofs.OnTime.{is_of, comes_by}
+use Rattle.sched_laws.proofs.Pausing.{Kept, kept_on, kept_first}
 use Rattle.sched_laws.proofs.Lists.{turn_keeps}
 
 -- ---- where names lead
@@ -99,9 +100,9 @@ module _ (rule : Rule) (tasks : List Task) (i f budget : ℕ) where
   abbrev LacksOn : Progress → Step → Type 0
   LacksOn x s = TurnCharges rule x s.next.state s.turn → LacksUsed i f budget s.next
 
-  by_run : (x : Progress) (step : Step) → RunsOne rule x step → AreOf tasks x.jobs → IsOwn tasks i f x → LacksUsed i f budget x
+  by_run : (x : Progress) (step : Step) → RunsOne rule x step → Kept tasks x → IsOwn tasks i f x → LacksUsed i f budget x
       → LacksOn x step
-  by_run x step w of mine lacks = subst (LacksOn x) w.is_step (λ charge job at.
+  by_run x step w kept mine lacks = subst (LacksOn x) w.is_step (λ charge job at.
       let c : Choice = w.choice in
       let u : ℕ = length_of rule x c in
       let new : Job = record (c.job) { left = c.job.left - u; used = c.job.used + u } in
@@ -114,7 +115,7 @@ module _ (rule : Rule) (tasks : List Task) (i f budget : ℕ) where
         | inl same ↦
             let is_new : new ≡ job = the_job new job
             (sym (set_here x.jobs c.index c.job new here) ∙ ap (slice_get (slice_set x.jobs c.index new)) same ∙ at) in
-            let task : slice_get tasks i ≡ Some c.job.task = ap (slice_get tasks) (sym same) ∙ of c.index c.job here in
+            let task : slice_get tasks i ≡ Some c.job.task = ap (slice_get tasks) (sym same) ∙ is_of tasks x kept c.index c.job here in
             let frame : c.ready.tcap ≡ f = leads_once x.state c.job.task.tcap c.ready.tcap f leads (mine.own c.job.task task) in
             let spent : (tcap_at w.state f).budget + u ≡ (tcap_at x.state f).budget =
             subst (λ g. (tcap_at w.state g).budget + u ≡ (tcap_at x.state g).budget) frame paid.budget in
@@ -122,16 +123,16 @@ module _ (rule : Rule) (tasks : List Task) (i f budget : ℕ) where
             let before = lacks c.job (ap (slice_get x.jobs) (sym same) ∙ here) in
             omega (arith, spent, used, before)
         | inr other ↦
-            let apart : f ≢ c.ready.tcap = λ is. mine.alone c.index c.job.task other (of c.index c.job here)
+            let apart : f ≢ c.ready.tcap = λ is. mine.alone c.index c.job.task other (is_of tasks x kept c.index c.job here)
             (subst (LeadsTo x.state c.job.task.tcap) (sym is) leads) in
             let kept = paid.others f apart in
             let before = lacks job (sym (set_apart x.jobs c.index i new (λ q. other (sym q))) ∙ at) in
             omega (arith, kept, before)
       ])
 
-  by_begin : (x : Progress) (step : Step) → BeginsOne rule x step → IsTrue (fits kind.Tcap (x.state.frame f)) → AreOf tasks x.jobs
+  by_begin : (x : Progress) (step : Step) → BeginsOne rule x step → IsTrue (fits kind.Tcap (x.state.frame f)) → Kept tasks x
       → IsOwn tasks i f x → LacksUsed i f budget x → LacksOn x step
-  by_begin x step w there of mine lacks = subst (LacksOn x) w.is_step (λ charge job at.
+  by_begin x step w there kept mine lacks = subst (LacksOn x) w.is_step (λ charge job at.
       let r : Renewal = w.come in
       let new : Job = begun r.job in
       let state : State = (gives_back x r (replenish_for r.job)).next.state in
@@ -144,7 +145,7 @@ module _ (rule : Rule) (tasks : List Task) (i f budget : ℕ) where
         | inl same ↦
             let is_new : new ≡ job = the_job new job
             (sym (set_here x.jobs r.index r.job new here) ∙ ap (slice_get (slice_set x.jobs r.index new)) same ∙ at) in
-            let task : slice_get tasks i ≡ Some r.job.task = ap (slice_get tasks) (sym same) ∙ of r.index r.job here in
+            let task : slice_get tasks i ≡ Some r.job.task = ap (slice_get tasks) (sym same) ∙ is_of tasks x kept r.index r.job here in
             let frame : charge.tcap.frame ≡ f =
             leads_once x.state r.job.task.tcap charge.tcap.frame f leads (mine.own r.job.task task) in
             let given : (tcap_at state f).budget ≡ (tcap_at x.state f).budget + r.job.used =
@@ -153,7 +154,7 @@ module _ (rule : Rule) (tasks : List Task) (i f budget : ℕ) where
             let before = lacks r.job (ap (slice_get x.jobs) (sym same) ∙ here) in
             omega (arith, given, used, before)
         | inr other ↦
-            let apart : f ≢ charge.tcap.frame = λ is. mine.alone r.index r.job.task other (of r.index r.job here)
+            let apart : f ≢ charge.tcap.frame = λ is. mine.alone r.index r.job.task other (is_of tasks x kept r.index r.job here)
             (subst (LeadsTo x.state r.job.task.tcap) (sym is) leads) in
             let kept = charge.restores.others f apart in
             let before = lacks job (sym (set_apart x.jobs r.index i new (λ q. other (sym q))) ∙ at) in
@@ -180,17 +181,17 @@ module _ (rule : Rule) (tasks : List Task) (i f budget : ℕ) where
             omega (arith, kept, before)
       ]
 
-  lacks_on : (x : Progress) (step : Step) → turn_of rule x ≡ Some step → IsTrue (fits kind.Tcap (x.state.frame f)) → AreOf tasks x.jobs
+  lacks_on : (x : Progress) (step : Step) → turn_of rule x ≡ Some step → IsTrue (fits kind.Tcap (x.state.frame f)) → Kept tasks x
       → IsOwn tasks i f x → LacksUsed i f budget x → LacksOn x step
-  lacks_on x step e there of mine lacks = by_way (way rule x step e)
+  lacks_on x step e there kept mine lacks = by_way (way rule x step e)
     where
       by_way : Way rule x step → LacksOn x step
-      by_way (Runs w) = by_run x step w of mine lacks
+      by_way (Runs w) = by_run x step w kept mine lacks
       by_way (Refuses w) = subst (LacksOn x) w.is_step (λ nothing.
           by_refusal x (refused x w.choice w.state w.calls w.reply) w.choice.index w.choice.job
           (place_of x.state rule x.time x.jobs w.choice w.is_chosen) refl nothing lacks)
       by_way (Idles w) = subst (LacksOn x) w.is_step (λ nothing job at. lacks job at)
-      by_way (Begins w) = by_begin x step w there of mine lacks
+      by_way (Begins w) = by_begin x step w there kept mine lacks
       by_way (Lacks w) = subst (LacksOn x) w.is_step (λ nothing.
           by_refusal x (put_out x w.come.index w.come.job w.state w.calls w.reply) w.come.index w.come.job
           (come_at x.time x.jobs w.come w.has_come) refl nothing lacks)
@@ -198,39 +199,27 @@ module _ (rule : Rule) (tasks : List Task) (i f budget : ℕ) where
   -- Right after its job has arrived.
   whole_on : (x : Progress) (step : Step) → turn_of rule x ≡ Some step → LacksUsed i f budget step.next
       → (at ticks : ℕ) → step.turn ≡ Back at (i + 1) ticks → (tcap_at step.next.state f).budget ≡ budget
-  whole_on x step e after at ticks is = by_way (way rule x step e) after is
-    where
-      Whole : Step → Type 0
-      Whole s = LacksUsed i f budget s.next → s.turn ≡ Back at (i + 1) ticks → (tcap_at s.next.state f).budget ≡ budget
-
-      by_way : Way rule x step → Whole step
-      by_way (Runs w) = subst Whole w.is_step (λ after turn.
-          let turns : Ran x.time (w.choice.index + 1) (length_of rule x w.choice) ≡ Back at (i + 1) ticks = turn in absurd (cc))
-      by_way (Refuses w) = subst Whole w.is_step (λ after turn.
-          let turns : Refused_turn x.time (w.choice.index + 1) w.reply ≡ Back at (i + 1) ticks = turn in absurd (cc))
-      by_way (Idles w) = subst Whole w.is_step (λ after turn.
-          let turns : Idle x.time (w.at - x.time) ≡ Back at (i + 1) ticks = turn in absurd (cc))
-      by_way (Begins w) = subst Whole w.is_step (λ after turn.
-          let r : Renewal = w.come in
-          let turns : Back x.time (r.index + 1) r.job.used ≡ Back at (i + 1) ticks = turn in
-          let place : r.index + 1 ≡ i + 1 = cc in
-          let same : r.index ≡ i = omega (arith, place) in
-          let now = after (begun r.job) (ap (slice_get (slice_set x.jobs r.index (begun r.job))) (sym same)
-          ∙ set_here x.jobs r.index r.job (begun r.job) (come_at x.time x.jobs r w.has_come)) in
-          omega (arith, now))
-      by_way (Lacks w) = subst Whole w.is_step (λ after turn.
-          let turns : Refused_turn x.time (w.come.index + 1) w.reply ≡ Back at (i + 1) ticks = turn in absurd (cc))
+  whole_on x step e after at ticks is =
+      let c = comes_by rule x step e at (i + 1) ticks is in
+      let r : Renewal = c.begins.come in
+      let place = c.place in
+      let same : r.index ≡ i = omega (arith, place) in
+      let listed : slice_get step.next.jobs i ≡ Some (begun r.job) = ap (λ s. slice_get s.next.jobs i) (sym c.begins.is_step)
+      ∙ ap (slice_get (slice_set x.jobs r.index (begun r.job))) (sym same)
+      ∙ set_here x.jobs r.index r.job (begun r.job) (come_at x.time x.jobs r c.begins.has_come) in
+      let now = after (begun r.job) listed in
+      omega (arith, now)
 
   -- ---- all turns
 
   all_lack : (x : Progress) (steps : List Step) → IsSchedule rule x steps → TurnsCharge rule x steps
-      → IsTrue (fits kind.Tcap (x.state.frame f)) → AreOf tasks x.jobs → Throughout (IsOwn tasks i f) x steps → LacksUsed i f budget x
+      → IsTrue (fits kind.Tcap (x.state.frame f)) → Kept tasks x → Throughout (IsOwn tasks i f) x steps → LacksUsed i f budget x
       → Throughout (LacksUsed i f budget) x steps
-  all_lack x [] is charge there of mine lacks = lacks
-  all_lack x (step ∷ steps) is charge there of mine lacks = (
+  all_lack x [] is charge there kept mine lacks = lacks
+  all_lack x (step ∷ steps) is charge there kept mine lacks = (
     lacks,
-    all_lack step.next steps is.1 charge.1 (((turn_keeps rule x step is.0).like f).kind ∙ there) (are_on rule tasks x step is.0 of) mine.1
-        (lacks_on x step is.0 there of mine.0 lacks charge.0),
+    all_lack step.next steps is.1 charge.1 (((turn_keeps rule x step is.0).like f).kind ∙ there) (kept_on tasks rule x step is.0 kept) mine.1
+        (lacks_on x step is.0 there kept mine.0 lacks charge.0),
   )
 
   first_lacks : (x : Progress) (steps : List Step) → Throughout (LacksUsed i f budget) x steps → LacksUsed i f budget x
@@ -254,5 +243,5 @@ first_used s tasks i f job at = by_task (slice_get tasks i) (sym (slice_get-map 
 pub own_budget_returns : OwnBudgetReturns
 own_budget_returns rule s tasks steps is owes i f there mine =
     let lacks = all_lack rule tasks i f (tcap_at s f).budget (at_first s tasks) steps is
-    (exact_ticks rule (at_first s tasks) steps is owes) there (are_first s tasks) mine (first_used s tasks i f) in
+    (exact_ticks rule (at_first s tasks) steps is owes) there (kept_first s tasks) mine (first_used s tasks i f) in
     record { whole = all_whole rule tasks i f (tcap_at s f).budget (at_first s tasks) steps is lacks; lacks = lacks }

@@ -25,7 +25,8 @@ use Rattle.sched_laws.proofs.Turns.{Way, Runs, Refuses, Idles, Begins, Lacks, wa
 use Rattle.sched_laws.proofs.Weights.{set_here, set_apart}
 use Rattle.sched_laws.proofs.Bound.{length_most}
 use Rattle.sched_laws.proofs.Jobs.{the_job}
-use Rattle.sched_laws.proofs.OnTime.{AreOf, are_on, are_first}
+use Rattle.sched_laws.proofs.OnTime.{is_of}
+use Rattle.sched_laws.proofs.Pausing.{Kept, kept_on, kept_first}
 use Rattle.sched_laws.proofs.Lists.{turn_keeps}
 use Rattle.sched_laws.proofs.Returning.{own_budget_returns}
 
@@ -127,10 +128,10 @@ ready_by s rule now job f leads some named due =
 -- A task whose own temporal capability had at first a budget of at least its work.
 module _ (rule : Rule) (tasks : List Task) (i f budget : ℕ) (task : Task) (at_i : slice_get tasks i ≡ Some task) (enough : task.work ≤ budget)
   where
-    supplied : (x : Progress) → AreOf tasks x.jobs → IsOwn tasks i f x → LacksUsed i f budget x → IsOneJob i x
+    supplied : (x : Progress) → Kept tasks x → IsOwn tasks i f x → LacksUsed i f budget x → IsOneJob i x
         → IsSome (number_of (tcap_at x.state f).qualities rule.sched) → IsSupplied rule i x
-    supplied x of mine lacks one named job at due =
-        let is : slice_get tasks i ≡ Some job.task = of i job at in
+    supplied x kept mine lacks one named job at due =
+        let is : slice_get tasks i ≡ Some job.task = is_of tasks x kept i job at in
         let work : job.task.work ≡ task.work = ap (λ (t : Task). t.work) (the_task job.task task (sym is ∙ at_i)) in
         let sum = one job at in
         let lack = lacks job at in
@@ -140,13 +141,13 @@ module _ (rule : Rule) (tasks : List Task) (i f budget : ℕ) (task : Task) (at_
         the_task : (a b : Task) → Some a ≡ Some b → a ≡ b
         the_task a b e = cc
 
-    all_supplied : (x : Progress) (steps : List Step) → IsSchedule rule x steps → AreOf tasks x.jobs → Throughout (IsOwn tasks i f) x steps
+    all_supplied : (x : Progress) (steps : List Step) → IsSchedule rule x steps → Kept tasks x → Throughout (IsOwn tasks i f) x steps
         → Throughout (LacksUsed i f budget) x steps → DoneByNext i x steps → IsOneJob i x
         → IsSome (number_of (tcap_at x.state f).qualities rule.sched) → Throughout (IsSupplied rule i) x steps
-    all_supplied x [] is of mine lacks done one named = supplied x of mine lacks one named
-    all_supplied x (step ∷ steps) is of mine lacks done one named = (
-      supplied x of mine.0 lacks.0 one named,
-      all_supplied step.next steps is.1 (are_on rule tasks x step is.0 of) mine.1 lacks.1 done.1
+    all_supplied x [] is kept mine lacks done one named = supplied x kept mine lacks one named
+    all_supplied x (step ∷ steps) is kept mine lacks done one named = (
+      supplied x kept mine.0 lacks.0 one named,
+      all_supplied step.next steps is.1 (kept_on tasks rule x step is.0 kept) mine.1 lacks.1 done.1
           (one_job_on rule i x step is.0 done.0 one)
           (subst (λ l. IsSome (number_of l rule.sched)) (sym ((turn_keeps rule x step is.0).like f).list) named),
     )
@@ -154,5 +155,5 @@ module _ (rule : Rule) (tasks : List Task) (i f budget : ℕ) (task : Task) (at_
 pub own_budget_supplies : OwnBudgetSupplies
 own_budget_supplies rule s tasks steps is owes i f task at mine enough named done =
     let back = own_budget_returns rule s tasks steps is owes i f (has_list (s.frame f) rule.sched named) mine in
-    all_supplied rule tasks i f (tcap_at s f).budget task at enough (at_first s tasks) steps is (are_first s tasks) mine back.lacks done
+    all_supplied rule tasks i f (tcap_at s f).budget task at enough (at_first s tasks) steps is (kept_first s tasks) mine back.lacks done
     (first_job s tasks i) named
