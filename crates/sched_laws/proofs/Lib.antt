@@ -20,3 +20,4 @@ pub mod OnTime
 pub mod Lists
 pub mod Returning
 pub mod Supplying
+pub mod Sufficing

@@ -93,6 +93,11 @@ chosen_leads s rule now jobs c is =
     let t = ready_tells s rule now c.job c.ready (best s rule now 0 jobs c is).is_ready in
     record { cap = t.cap; reaches = t.reaches; kind = t.kind; frame = t.frame }
 
+-- What holds throughout holds at first.
+pub first_of_all : (Holds : Progress → Type 0) (x : Progress) (steps : List Step) → Throughout Holds x steps → Holds x
+first_of_all Holds x [] t = t
+first_of_all Holds x (step ∷ steps) t = t.0
+
 -- ---- one turn
 
 module _ (rule : Rule) (tasks : List Task) (i f budget : ℕ) where
@@ -218,18 +223,15 @@ module _ (rule : Rule) (tasks : List Task) (i f budget : ℕ) where
   all_lack x [] is charge there kept mine lacks = lacks
   all_lack x (step ∷ steps) is charge there kept mine lacks = (
     lacks,
-    all_lack step.next steps is.1 charge.1 (((turn_keeps rule x step is.0).like f).kind ∙ there) (kept_on tasks rule x step is.0 kept) mine.1
-        (lacks_on x step is.0 there kept mine.0 lacks charge.0),
+    all_lack step.next steps is.1 charge.1 (((turn_keeps rule x step is.0).like f).kind ∙ there)
+        (kept_on tasks rule x step is.0 kept) mine.1 (lacks_on x step is.0 there kept mine.0 lacks charge.0),
   )
-
-  first_lacks : (x : Progress) (steps : List Step) → Throughout (LacksUsed i f budget) x steps → LacksUsed i f budget x
-  first_lacks x [] t = t
-  first_lacks x (step ∷ steps) t = t.0
 
   all_whole : (x : Progress) (steps : List Step) → IsSchedule rule x steps → Throughout (LacksUsed i f budget) x steps
       → IsWholeAfter (i + 1) f budget steps
   all_whole x [] is t = tt
-  all_whole x (step ∷ steps) is t = (whole_on x step is.0 (first_lacks step.next steps t.1), all_whole step.next steps is.1 t.1)
+  all_whole x (step ∷ steps) is t =
+      (whole_on x step is.0 (first_of_all (LacksUsed i f budget) step.next steps t.1), all_whole step.next steps is.1 t.1)
 
 first_used : (s : State) (tasks : List Task) (i f : ℕ) → LacksUsed i f (tcap_at s f).budget (at_first s tasks)
 first_used s tasks i f job at = by_task (slice_get tasks i) (sym (slice_get-map new_job tasks i) ∙ at)

@@ -50,10 +50,10 @@ set_one i x y p old new here jobs one all job at =
     ]
 
 -- A further job of it that arrives in a turn finds nothing left.
-abbrev FindsNone : ℕ → Progress → Step → Type 0
+abbrev pub FindsNone : ℕ → Progress → Step → Type 0
 FindsNone i x step = (at ticks : ℕ) (job : Job) → step.turn ≡ Back at (i + 1) ticks → slice_get x.jobs i ≡ Some job → job.left ≡ 0
 
-one_job_on : (rule : Rule) (i : ℕ) (x : Progress) (step : Step) → turn_of rule x ≡ Some step → FindsNone i x step → IsOneJob i x
+pub one_job_on : (rule : Rule) (i : ℕ) (x : Progress) (step : Step) → turn_of rule x ≡ Some step → FindsNone i x step → IsOneJob i x
     → IsOneJob i step.next
 one_job_on rule i x step e none all = by_way (way rule x step e) none
   where
@@ -88,7 +88,7 @@ one_job_on rule i x step e none all = by_way (way rule x step e) none
         set_one i x (put_out x r.index r.job w.state w.calls w.reply).next r.index r.job (record (r.job) { out = true }) here refl
         (λ same. all r.job (ap (slice_get x.jobs) (sym same) ∙ here)) all)
 
-first_job : (s : State) (tasks : List Task) (i : ℕ) → IsOneJob i (at_first s tasks)
+pub first_job : (s : State) (tasks : List Task) (i : ℕ) → IsOneJob i (at_first s tasks)
 first_job s tasks i job at = by_task (slice_get tasks i) (sym (slice_get-map new_job tasks i) ∙ at)
   where
     by_task : (o : Option Task) → option_map new_job o ≡ Some job → job.left + job.used ≡ job.task.work
@@ -102,7 +102,7 @@ first_job s tasks i job at = by_task (slice_get tasks i) (sym (slice_get-map new
 -- ---- what makes a task ready
 
 -- A list that names a scheduler is that of a temporal capability.
-has_list : (x : Frame) (sched : ℕ) → IsSome (number_of (tcap_in x).qualities sched) → IsTrue (fits kind.Tcap x)
+pub has_list : (x : Frame) (sched : ℕ) → IsSome (number_of (tcap_in x).qualities sched) → IsTrue (fits kind.Tcap x)
 has_list (Kernel (Tcap q)) sched named = refl
 has_list _ sched named = absurd (false≢true named)
 
@@ -126,31 +126,31 @@ ready_by s rule now job f leads some named due =
     ∙ ap (λ b. if b then time_in leads.cap.frame (tcap_at s leads.cap.frame) rule.sched else None) leads.kind)) time
 
 -- A task whose own temporal capability had at first a budget of at least its work.
-module _ (rule : Rule) (tasks : List Task) (i f budget : ℕ) (task : Task) (at_i : slice_get tasks i ≡ Some task) (enough : task.work ≤ budget)
-  where
-    supplied : (x : Progress) → Kept tasks x → IsOwn tasks i f x → LacksUsed i f budget x → IsOneJob i x
-        → IsSome (number_of (tcap_at x.state f).qualities rule.sched) → IsSupplied rule i x
-    supplied x kept mine lacks one named job at due =
-        let is : slice_get tasks i ≡ Some job.task = is_of tasks x kept i job at in
-        let work : job.task.work ≡ task.work = ap (λ (t : Task). t.work) (the_task job.task task (sym is ∙ at_i)) in
-        let sum = one job at in
-        let lack = lacks job at in
-        let left = (due_tells x.time job due).1 in
-        ready_by x.state rule x.time job f (mine.own job.task is) (omega (arith, work, sum, lack, left, enough)) named due
-      where
-        the_task : (a b : Task) → Some a ≡ Some b → a ≡ b
-        the_task a b e = cc
+module _ (rule : Rule) (tasks : List Task) (i f budget : ℕ) (task : Task) (at_i : slice_get tasks i ≡ Some task)
+    (enough : task.work ≤ budget) where
+  pub supplied : (x : Progress) → Kept tasks x → IsOwn tasks i f x → LacksUsed i f budget x → IsOneJob i x
+      → IsSome (number_of (tcap_at x.state f).qualities rule.sched) → IsSupplied rule i x
+  supplied x kept mine lacks one named job at due =
+      let is : slice_get tasks i ≡ Some job.task = is_of tasks x kept i job at in
+      let work : job.task.work ≡ task.work = ap (λ (t : Task). t.work) (the_task job.task task (sym is ∙ at_i)) in
+      let sum = one job at in
+      let lack = lacks job at in
+      let left = (due_tells x.time job due).1 in
+      ready_by x.state rule x.time job f (mine.own job.task is) (omega (arith, work, sum, lack, left, enough)) named due
+    where
+      the_task : (a b : Task) → Some a ≡ Some b → a ≡ b
+      the_task a b e = cc
 
-    all_supplied : (x : Progress) (steps : List Step) → IsSchedule rule x steps → Kept tasks x → Throughout (IsOwn tasks i f) x steps
-        → Throughout (LacksUsed i f budget) x steps → DoneByNext i x steps → IsOneJob i x
-        → IsSome (number_of (tcap_at x.state f).qualities rule.sched) → Throughout (IsSupplied rule i) x steps
-    all_supplied x [] is kept mine lacks done one named = supplied x kept mine lacks one named
-    all_supplied x (step ∷ steps) is kept mine lacks done one named = (
-      supplied x kept mine.0 lacks.0 one named,
-      all_supplied step.next steps is.1 (kept_on tasks rule x step is.0 kept) mine.1 lacks.1 done.1
-          (one_job_on rule i x step is.0 done.0 one)
-          (subst (λ l. IsSome (number_of l rule.sched)) (sym ((turn_keeps rule x step is.0).like f).list) named),
-    )
+  all_supplied : (x : Progress) (steps : List Step) → IsSchedule rule x steps → Kept tasks x → Throughout (IsOwn tasks i f) x steps
+      → Throughout (LacksUsed i f budget) x steps → DoneByNext i x steps → IsOneJob i x
+      → IsSome (number_of (tcap_at x.state f).qualities rule.sched) → Throughout (IsSupplied rule i) x steps
+  all_supplied x [] is kept mine lacks done one named = supplied x kept mine lacks one named
+  all_supplied x (step ∷ steps) is kept mine lacks done one named = (
+    supplied x kept mine.0 lacks.0 one named,
+    all_supplied step.next steps is.1 (kept_on tasks rule x step is.0 kept) mine.1 lacks.1 done.1
+        (one_job_on rule i x step is.0 done.0 one)
+        (subst (λ l. IsSome (number_of l rule.sched)) (sym ((turn_keeps rule x step is.0).like f).list) named),
+  )
 
 pub own_budget_supplies : OwnBudgetSupplies
 own_budget_supplies rule s tasks steps is owes i f task at mine enough named done =

@@ -1,5 +1,5 @@
 -- A temporal capability of a task's own, and how its budget comes back.
-use Rattle.std.specs.Prelude.{◌≡◌, ◌≢◌, ◌≤◌, ℕ, ◌+◌, List, [], ◌∷◌, slice_get, Some, IsSome, IsTrue}
+use Rattle.std.specs.Prelude.{◌≡◌, ◌≢◌, ◌≤◌, ℕ, ◌+◌, ◌*◌, true, List, [], ◌∷◌, slice_get, Some, IsSome, IsTrue, All}
 use Rattle.spk_nums.specs.Capability.{Capability}
 use Rattle.spk_nums.specs.Merging.{number_of}
 use Rattle.spk_nums.specs.declared.kinds.Kind.TheVariants as kind
@@ -11,8 +11,9 @@ use Rattle.sched_rules.specs.declared.tasks.Task.{Task}
 use Rattle.sched_rules.specs.declared.tasks.Rule.{Rule}
 use Rattle.sched_rules.specs.declared.tasks.Job.{Job}
 use Rattle.sched_rules.specs.declared.turns.Turn.TheVariants.{Back}
-use Rattle.sched_rules.specs.Schedule.{Progress, Step, reach, at_first, IsSchedule}
-use Rattle.sched_laws.specs.Response.{Throughout, IsSupplied}
+use Rattle.sched_rules.specs.Schedule.{Progress, Step, TaskFits, reach, at_first, turns_of, IsSchedule}
+use Rattle.sched_laws.specs.Response.{Throughout, HasNumbers, IsSupplied, NeverRefused, is_not_after}
+use Rattle.sched_laws.specs.Periods.{ran_until, work_above}
 
 -- A name of core 0 leads to the temporal capability in a frame.
 pub record LeadsTo (s : State) (name f : ℕ) : Type 0 where
@@ -62,3 +63,32 @@ OwnBudgetSupplies = (rule : Rule) (s : State) (tasks : List Task) (steps : List 
     → (s.core 0).owed ≡ 0 → (i f : ℕ) (task : Task) → slice_get tasks i ≡ Some task → Throughout (IsOwn tasks i f) (at_first s tasks) steps
     → task.work ≤ (tcap_at s f).budget → IsSome (number_of (tcap_at s f).qualities rule.sched)
     → DoneByNext i (at_first s tasks) steps → Throughout (IsSupplied rule i) (at_first s tasks) steps
+
+-- So many ticks are a bound of the task at place k, which has this period: they are at most the period, and enough for the task's work and
+-- for all that those above it ask for in so many ticks.
+pub record IsBound (numbers : ℕ → ℕ) (tasks : List Task) (k : ℕ) (task : Task) (period ticks : ℕ) : Type 0 where
+  pub short : ticks ≤ period
+  pub enough : task.work + work_above numbers k ticks 0 tasks ≤ ticks
+
+-- The task at place k has a temporal capability of its own throughout, with a budget at first of at least its work, and a list that names
+-- the scheduler; and it has a bound, if it has a period.
+pub record HasEnough (rule : Rule) (s : State) (tasks : List Task) (steps : List Step) (numbers : ℕ → ℕ) (k : ℕ) (task : Task) : Type 0 where
+  pub frame : ℕ
+  pub own : Throughout (IsOwn tasks k frame) (at_first s tasks) steps
+  pub budget : task.work ≤ (tcap_at s frame).budget
+  pub listed : IsSome (number_of (tcap_at s frame).qualities rule.sched)
+  pub ticks : ℕ
+  pub bound : (period : ℕ) → task.period ≡ Some period → IsBound numbers tasks k task period ticks
+
+-- Where a task and each that is above it has enough, and the task is not refused, each of its jobs is done within any bound of it: so many
+-- ticks after its arrival the task has run the work of this job and of all before it.
+abbrev pub OwnBudgetsSuffice : Type 0
+OwnBudgetsSuffice = (rule : Rule) (s : State) (tasks : List Task) (steps : List Step) → All TaskFits tasks
+    → IsSchedule rule (at_first s tasks) steps → (s.core 0).owed ≡ 0
+    → (numbers : ℕ → ℕ) → Throughout (HasNumbers rule numbers) (at_first s tasks) steps → (i : ℕ)
+    → ((k : ℕ) (other : Task) → is_not_after numbers i k ≡ true → slice_get tasks k ≡ Some other
+    → HasEnough rule s tasks steps numbers k other)
+    → NeverRefused (i + 1) steps → (task : Task) → slice_get tasks i ≡ Some task → (period : ℕ) → task.period ≡ Some period
+    → (ticks : ℕ) → IsBound numbers tasks i task period ticks
+    → (k : ℕ) → task.arrival + k * period ≤ 1000000
+    → ran_until (i + 1) (task.arrival + k * period + ticks) (turns_of steps) ≡ (k + 1) * task.work

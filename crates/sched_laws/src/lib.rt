@@ -12,7 +12,7 @@ ghost use Rattle.sched_laws.specs.Periods.{HighestIsDone, PeriodicBound};
 ghost use Rattle.sched_laws.specs.Charging.{ExactTicks};
 ghost use Rattle.sched_laws.specs.Work.{WorkIsKept};
 ghost use Rattle.sched_laws.specs.Arrivals.{ArriveOnTime};
-ghost use Rattle.sched_laws.specs.Budgets.{OwnBudgetReturns, OwnBudgetSupplies};
+ghost use Rattle.sched_laws.specs.Budgets.{OwnBudgetReturns, OwnBudgetSupplies, OwnBudgetsSuffice};
 
 /// The task that is chosen is ready, has the least number among the ready ones, and is the first listed among equals; where none is chosen,
 /// none is ready.
@@ -83,4 +83,12 @@ pub fn own_budget_returns()
 /// the task has time whenever it is due.
 pub fn own_budget_supplies()
     ensures { OwnBudgetSupplies }
+{}
+
+/// The response bound by budgets alone: where a task, and each that is above it, has a temporal capability of its own, with a budget at
+/// first of at least its work, and, if it has a period, a number of ticks, at most that period, that is enough for its work and for all
+/// that those above it ask for in so many ticks, each job of the task is done within that number of ticks. That they have time whenever
+/// they are due is not asked, but follows.
+pub fn own_budgets_suffice()
+    ensures { OwnBudgetsSuffice }
 {}
