@@ -72,7 +72,8 @@ pub record IsBound (numbers : ℕ → ℕ) (tasks : List Task) (k : ℕ) (task :
 
 -- The task at place k has a temporal capability of its own throughout, with a budget at first of at least its work, and a list that names
 -- the scheduler; and it has a bound, if it has a period.
-pub record HasEnough (rule : Rule) (s : State) (tasks : List Task) (steps : List Step) (numbers : ℕ → ℕ) (k : ℕ) (task : Task) : Type 0 where
+pub record HasEnough (rule : Rule) (s : State) (tasks : List Task) (steps : List Step) (numbers : ℕ → ℕ) (k : ℕ) (task : Task)
+    : Type 0 where
   pub frame : ℕ
   pub own : Throughout (IsOwn tasks k frame) (at_first s tasks) steps
   pub budget : task.work ≤ (tcap_at s frame).budget
