@@ -254,7 +254,7 @@ above_out numbers i end jobs p old new at below =
 
 -- ---- which are above
 
-not_after_tells : (numbers : ℕ → ℕ) (i k : ℕ) → is_not_after numbers i k ≡ true → ComesFirst (numbers k) k (numbers i) i
+pub not_after_tells : (numbers : ℕ → ℕ) (i k : ℕ) → is_not_after numbers i k ≡ true → ComesFirst (numbers k) k (numbers i) i
 not_after_tells numbers i k h =
     elim (or_cases (nat_lt (numbers k) (numbers i)) (numbers k == numbers i && nat_le k i) h) [
       | inl less ↦

@@ -111,7 +111,7 @@ idles_on rule x step w = subst (IsBefore x.time) w.next (none_come x.time 0 x.jo
 
 -- ---- when
 
-within_is : (at : ℕ) → at ≤ 1000000 → within_last at ≡ Some at
+pub within_is : (at : ℕ) → at ≤ 1000000 → within_last at ≡ Some at
 within_is at le = ap (λ b. if b then Some at else None) (le-leb at 1000000 le)
 
 pub within_tells : (at b : ℕ) → within_last at ≡ Some b → (at ≤ 1000000) × (at ≡ b)

@@ -16,3 +16,8 @@ pub mod Above
 pub mod Pausing
 pub mod Loads
 pub mod Periodic
+pub mod OnTime
+pub mod Lists
+pub mod Returning
+pub mod Supplying
+pub mod Sufficing

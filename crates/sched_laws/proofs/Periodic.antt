@@ -2,9 +2,10 @@
 use Rattle.std.proofs.Common.{◌≡◌, inl, inr, ℕ, zero, suc, ◌+◌, ◌*◌, ◌<◌, ◌≤◌, true}
 use Rattle.std.proofs.Common.{refl, sym, ap, subst, arith, zero-mul, one-mul}
 use Rattle.std.proofs.Common.{List, [], ◌∷◌, map, Some}
-use Rattle.std.specs.Prelude.{slice_get}
+use Rattle.std.specs.Prelude.{slice_get, All}
 use Rattle.std.proofs.lemmas.Bool.{cases_lt}
 use Rattle.std.proofs.lemmas.Option.{slice_get_within, get_or_from_slice_get}
+use Rattle.kernel_rules.specs.State.{State}
 use Rattle.sched_rules.specs.declared.tasks.Task.{Task}
 use Rattle.sched_rules.specs.declared.tasks.Rule.{Rule}
 use Rattle.sched_rules.specs.declared.tasks.Job.{Job}
@@ -73,26 +74,37 @@ new_quiet (task ∷ tasks) zero job at =
     subst (Quiet 0) (the_job (new_job task) job at) (New (record { arrives = omega arith; left = omega arith; next = refl }))
 new_quiet (task ∷ tasks) (suc k) job at = new_quiet tasks k job at
 
-pub periodic_bound : PeriodicBound
-periodic_bound rule s tasks steps all is numbers numbered i task at period own ticks short enough supplied never k le =
-    let first = follows_first i task period rule own s tasks at in
+-- At first.
+pub load_first : (rule : Rule) (numbers : ℕ → ℕ) (i : ℕ) (task : Task) (period ticks : ℕ) (tasks : List Task)
+    → task.work + work_above numbers i ticks 0 tasks ≤ ticks → (own : task.period ≡ Some period)
+    → ((q : ℕ) (other : Task) → slice_get tasks q ≡ Some other → TaskFits other) → (s : State) → (at : slice_get tasks i ≡ Some task)
+    → Load rule numbers i task period ticks tasks (at_first s tasks) (task.arrival + 0 * period)
+    (follows_first i task period rule own s tasks at).job.left
+load_first rule numbers i task period ticks tasks enough own fits s at =
     let kept = kept_first s tasks in
     let some = (fits i task at).least in
     let most = quiet_all numbers i 0 ticks 0 (map new_job tasks) tasks kept.same (omega (arith, some, enough)) fits
     (λ q job above there. new_quiet tasks q job there) in
     let none = zero-mul period in
-    let load = load_anew rule numbers i task period ticks tasks enough (at_first s tasks) (task.arrival + 0 * period) first.job.left most
-    (λ more. (omega (arith, none), left_first)) in
-    done_by i task period ticks rule (omega (arith, enough)) short (at_first s tasks) steps refl is
-    (go rule numbers i task period ticks tasks enough own short some fits (at_first s tasks) steps 0 0 is first kept load numbered supplied
-    never) k le
+    load_anew rule numbers i task period ticks tasks enough (at_first s tasks) (task.arrival + 0 * period)
+    (follows_first i task period rule own s tasks at).job.left most
+    (λ more. (omega (arith, none), left_first))
   where
-    fits : (q : ℕ) (other : Task) → slice_get tasks q ≡ Some other → TaskFits other
-    fits q other there =
-        subst TaskFits (get_or_from_slice_get tasks q other other there) (all q other (slice_get_within tasks q other there))
-
     left_first : (follows_first i task period rule own s tasks at).job.left ≤ task.work
     left_first =
         let sum = (follows_first i task period rule own s tasks at).sum in
         let work : 1 * task.work ≡ task.work = one-mul task.work in
         omega (arith, sum, work)
+
+pub each_fits : (tasks : List Task) → All TaskFits tasks → (q : ℕ) (other : Task) → slice_get tasks q ≡ Some other → TaskFits other
+each_fits tasks all q other there =
+    subst TaskFits (get_or_from_slice_get tasks q other other there) (all q other (slice_get_within tasks q other there))
+
+pub periodic_bound : PeriodicBound
+periodic_bound rule s tasks steps all is numbers numbered i task at period own ticks short enough supplied never k le =
+    let fits = each_fits tasks all in
+    let first = follows_first i task period rule own s tasks at in
+    let some = (fits i task at).least in
+    done_by i task period ticks rule (omega (arith, enough)) short (at_first s tasks) steps refl is
+    (go rule numbers i task period ticks tasks enough own short some fits (at_first s tasks) steps 0 0 is first (kept_first s tasks)
+    (load_first rule numbers i task period ticks tasks enough own fits s at) numbered supplied never) k le
