@@ -4,16 +4,16 @@ use Rattle.count_invariant.proofs.Common.{◌≡◌, ◌≢◌, ◌⊎◌, inl, 
 use Rattle.count_invariant.proofs.Common.{if◌then◌else◌, List, ◌∷◌, length, slice_get, Some, None, IsTrue, arith, refl, sym, ◌∙◌, ap}
 use Rattle.count_invariant.proofs.Common.{subst, cases_eq, Setting, IsSetting, Word, EntryAt, FrameAt, CountAt, CoreAt, FlushAt, LiveAt}
 use Rattle.count_invariant.proofs.Common.{ClockAt, Move, Frame, Kernel, Tcap, TcapFields, PlaceOf, FrameOf, NumberOf, State, put, tcap_in}
-use Rattle.count_invariant.proofs.Common.{with_frame, thread_in, comp_in, thread_of, comp_of, first_of_stack, sum_below, refs}
+use Rattle.count_invariant.proofs.Common.{with_frame, thread_in, comp_in, thread_of, comp_of, first_of_stack, refs}
 use Rattle.count_invariant.proofs.Common.{frame_names, times, IsGuarded, tcap_at, moved, counted, frame_refs, sum_one, put_same}
 use Rattle.count_invariant.proofs.Common.{put_other, mark_in_frame, frame_value, stamp, Step, Trace, phase, state_after, last_left}
 use Rattle.count_invariant.proofs.Common.{decided-inside, ActiveCall, Core, settled, WorksIn, HasTcap, held_by, times_of, counted_in}
 use Rattle.count_invariant.proofs.Common.{Invariant, IsFrameWord, IsUntimed, plain_stamp, plain_flush, plain_exit}
-use Rattle.count_invariant.proofs.Common.{counted_refs, limits_of, SameFor, ReadsAlike, StaysSaid, word_stays, fits}
+use Rattle.count_invariant.proofs.Common.{counted_refs, SameFor, ReadsAlike, StaysSaid, word_stays, fits}
 use Rattle.quality_lists.specs.spk_nums.specs.declared.replies.Reply.TheVariants as reply
 use Rattle.quality_lists.specs.spk_nums.specs.declared.replies.Value.TheVariants as value
 use Rattle.kernel_laws.specs.kernel_rules.specs.State.{Core as CoreFields}
-use Rattle.kernel_laws.specs.kernel_rules.specs.TimeCalls.{with_tcap, with_budget, with_qualities}
+use Rattle.kernel_laws.specs.kernel_rules.specs.Edits.{with_tcap, with_budget, with_qualities}
 use Rattle.count_invariant.specs.step_ways.proofs.Loads.{inner}
 use Rattle.quality_lists.specs.spk_nums.specs.declared.kinds.Kind.TheVariants.{Tcap as KindTcap}
 
@@ -180,11 +180,7 @@ module _ (setup : Setting) (setting : IsSetting setup) (cores : ℕ → Core) (t
   pub alike : ReadsAlike setup t e
   alike (EntryAt h i) = still_so _ (λ x. mark_in_frame x i (last_left setup (e ∷ t) (EntryAt h i))) (λ y z. refl) h
   alike (FrameAt h) = refl
-  alike (CountAt h d) = refl
-  alike (CoreAt d) = refl
-  alike (FlushAt d) = refl
-  alike (LiveAt l) = refl
-  alike ClockAt = refl
+  alike _ = refl
 
   -- what is said of each other word stays
   said : (w : Word) → SameFor s s' (times_of setup t) (times_of setup (e ∷ t)) w → StaysSaid setup cores t e w

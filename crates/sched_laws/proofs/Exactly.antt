@@ -1,18 +1,17 @@
 -- The ticks of each turn are exactly those charged in it.
-use Rattle.std.proofs.Common.{◌≡◌, ◌≢◌, ℕ, ◌+◌, ◌<◌, ◌≤◌, min, Bool, true, false, ◌&&◌, ◌==◌, refl, sym, ◌∙◌, ap, subst, arith}
+use Rattle.std.proofs.Common.{◌≡◌, ◌≢◌, ℕ, ◌+◌, ◌<◌, ◌≤◌, min, Bool, true, false, ◌&&◌, ◌==◌, refl, ◌∙◌, ap, subst, arith}
 use Rattle.std.proofs.Common.{if◌then◌else◌, List, [], ◌∷◌, ◌++◌, Option, Some, None}
 use Rattle.std.proofs.lemmas.Bool.{eqb-true, and_parts}
 use Rattle.spk_nums.specs.declared.calls.Call.{Call}
 use Rattle.spk_nums.specs.declared.calls.Call.TheVariants.{Tick}
 use Rattle.spk_nums.specs.declared.replies.Reply.{Reply}
-use Rattle.kernel_rules.specs.State.{TcapFields, State}
-use Rattle.kernel_rules.specs.TimeCalls.{tcap_at}
+use Rattle.kernel_rules.specs.State.{State}
+use Rattle.kernel_rules.specs.Edits.{tcap_at}
 use Rattle.sched_rules.specs.declared.tasks.Rule.{Rule}
 use Rattle.sched_rules.specs.declared.tasks.Choice.{Choice}
-use Rattle.sched_rules.specs.declared.turns.Turn.{Turn}
-use Rattle.sched_rules.specs.Schedule.{Progress, Step, chosen, next_arrival, cut_at, length_of, reply_to, state_past, is_done, is_place}
-use Rattle.sched_rules.specs.Schedule.{refused, ran, ticks, switches, switch_for, goes_on, runs, idles, turn_by, turn_of, IsSchedule}
-use Rattle.sched_laws.specs.Charging.{Charges, ChargesNothing, ChargesChosen, TurnCharges, TurnsCharge, ExactTicks}
+use Rattle.sched_rules.specs.Schedule.{Progress, Step, chosen, next_arrival, length_of, reply_to, state_past, is_done, is_place}
+use Rattle.sched_rules.specs.Schedule.{refused, ran, ticks, switches, switch_for, goes_on, runs, idles, turn_by, turn_of}
+use Rattle.sched_laws.specs.Charging.{Charges, ChargesNothing, TurnCharges, ExactTicks}
 use Rattle.sched_laws.proofs.Picks.{best}
 use Rattle.sched_laws.proofs.Arriving.{cut_most}
 use Rattle.sched_laws.proofs.Readiness.{IsReady, ready_tells}

@@ -51,7 +51,7 @@ CausesHold P s c (Name n want rest) = (k : Capability) → named s c n want ≡ 
 CausesHold P s c (Vacant target rest) = TargetsHold P × ((at : Slot) → CausesHold P s c (rest at))
 CausesHold P s c (Held target rest) = ⊥
 CausesHold P s c (Mapped table v rest) = ⊥
-CausesHold P s c (Does causes change) = (r : Reply) → first_cause s c causes ≡ Some r → P r
+CausesHold P s c (Does causes value edits) = (r : Reply) → first_cause s c causes ≡ Some r → P r
 
 then_refused : {A B : Type 0} (x : Judged A) (f : A → Judged B) (P : Reply → Type 0) → IfRefused x P
     → ((a : A) → x ≡ Found a → IfRefused (f a) P) → IfRefused (and_then x f) P
@@ -107,7 +107,7 @@ module _ (P : Reply → Type 0) (h : NamesHold P) (s : State) (c : ℕ) where
       (λ at e. refused_holds (rest at) (more.1 at))
   refused_holds (Held target rest) more = absurd more
   refused_holds (Mapped table v rest) more = absurd more
-  refused_holds (Does causes change) more = unless_refused (first_cause s c causes) change P more
+  refused_holds (Does causes value edits) more = unless_refused (first_cause s c causes) change P more
 
 -- ---- the calls that name a frame by its number
 
