@@ -9,14 +9,11 @@ use Rattle.spk_nums.specs.declared.replies.Value.{Value}
 use Rattle.spk_nums.specs.declared.replies.Reply.{Reply}
 use Rattle.spk_nums.specs.declared.replies.Reply.TheVariants as reply
 use Rattle.kernel_rules.specs.State.{Core, State, put}
-use Rattle.kernel_rules.specs.Edits.{caching}
-use Rattle.kernel_rules.specs.Edits.{charge}
+use Rattle.kernel_rules.specs.Edits.{caching, charge, Give, Edit, Switch, Cache, Flush, Charge, edited, after_edits}
 use Rattle.kernel_rules.specs.CallRelation.{change_of, changed, counted, owed_by, state_by, MayReply}
 use Rattle.kernel_rules.specs.Runs.{Event, Enters, Decides, Returns, after, is_open, IsRun}
 use Rattle.kernel_rules.proofs.Within.{put_same, put_other}
 use Rattle.kernel_invariant.specs.Edits.{charged_by, charged_in, charged_all}
-use Rattle.kernel_rules.specs.Edits.{Give}
-use Rattle.kernel_rules.specs.Edits.{Edit, Switch, Cache, Flush, Charge, edited, after_edits}
 use Rattle.kernel_invariant.proofs.Sound.{put_all}
 use Rattle.kernel_invariant.proofs.SoundCalls.{IsOpen}
 use Rattle.kernel_invariant.proofs.SoundRuns.{opened, open_is}

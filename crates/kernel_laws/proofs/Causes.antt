@@ -26,7 +26,8 @@ use Rattle.kernel_rules.specs.State.{Object, Blank, Table, Leaf, Pages, Pleaf, C
 use Rattle.kernel_rules.specs.State.{outstanding}
 use Rattle.kernel_rules.specs.State.{Liveness, Live, Thing, FrameOf, NumberOf, State, comp_in, comp_of, thread_in, tcap_in, thread_of}
 use Rattle.kernel_rules.specs.References.{refs}
-use Rattle.kernel_rules.specs.Access.{Slot, Named, found, Want, to_use, Target, Under, InRoot, held_in, usable, reached, only, root, own, to_part}
+use Rattle.kernel_rules.specs.Access.{Slot, Named, found, Want, to_use, Target, Under, InRoot, held_in, usable, reached, only, root, own}
+use Rattle.kernel_rules.specs.Access.{to_part}
 use Rattle.kernel_rules.specs.GracePeriods.{MayWait, MayBeUnflushed}
 use Rattle.kernel_rules.specs.Rules.{Judged, Refused, Found, and_then, or_refuse, of_kind, named, mapped, NameMay, VacantMay}
 use Rattle.kernel_rules.specs.Rules.{Lacks, HeldMay, MappedMay, WaitedMay, UnflushedMay, CauseMay, OneMay, RuleMay, IsFoundAnd, name_of}

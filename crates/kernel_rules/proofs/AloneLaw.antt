@@ -21,7 +21,8 @@ use Rattle.kernel_rules.specs.Start.{no_grace}
 use Rattle.kernel_rules.specs.GracePeriods.{same_thing, new_grace, entered, returned}
 use Rattle.kernel_rules.specs.Life.{lives, outlives, asks_life, acts}
 use Rattle.kernel_rules.specs.Access.{Named, found}
-use Rattle.kernel_rules.specs.Edits.{Edit, Node, Untype, Cache, Charge, Give, is_place_of, edited, Switch as switch_edit, Flush as flush_edit}
+use Rattle.kernel_rules.specs.Edits.{Edit, Node, Untype, Cache, Charge, Give, is_place_of, edited, Switch as switch_edit}
+use Rattle.kernel_rules.specs.Edits.{Flush as flush_edit}
 use Rattle.kernel_rules.specs.Rules.{Change, Judged, Refused, Found, IsFoundAnd, RuleMay}
 use Rattle.kernel_rules.specs.CapabilityCalls.{make_rule}
 use Rattle.kernel_rules.specs.MemoryCalls.{retype_rule, touch_by, translation_of}

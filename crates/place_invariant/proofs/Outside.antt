@@ -15,7 +15,7 @@ use Rattle.place_invariant.proofs.CompMakes.{IsCompMake, comp_make, comp_rest, n
 use Rattle.kernel_laws.specs.spk_nums.specs.declared.replies.Reply.TheVariants as reply
 use Rattle.kernel_laws.specs.spk_nums.specs.Rights.{part_of}
 use Rattle.kernel_laws.specs.kernel_rules.specs.MemoryCalls.{not_user}
-use Rattle.kernel_laws.specs.kernel_rules.specs.Rules.{When}
+use Rattle.kernel_laws.specs.kernel_rules.specs.Rules.{When, does}
 use Rattle.kernel_laws.specs.kernel_rules.specs.CapabilityCalls.{not_taken, has_frames}
 use Rattle.count_invariant.specs.core_invariant.specs.Knows.{OutsideBy, OutsideObject, OutsideComp}
 use Rattle.count_invariant.specs.step_ways.proofs.Loads.{step_to, call_is, is_active}
@@ -26,7 +26,6 @@ use Rattle.place_invariant.proofs.ObjectMakes.{made_by, make_rest, IsObjectMake,
 use Rattle.place_invariant.proofs.Starts.{IsRefusedOutside}
 use Rattle.place_invariant.proofs.Vacancy.{in_leaf, IsVacant, vacant_by}
 use Rattle.kernel_laws.specs.kernel_rules.specs.Edits.{Component as component_edit, Fill as fill_edit, Edit}
-use Rattle.kernel_laws.specs.kernel_rules.specs.Rules.{does}
 use Rattle.kernel_laws.specs.spk_nums.specs.declared.replies.Value.TheVariants.{Nothing as no_value}
 use Rattle.kernel_laws.specs.spk_nums.specs.declared.kinds.Kind.TheVariants as kind
 use Rattle.kernel_laws.specs.kernel_rules.specs.Start.{plain_cap}

@@ -7,7 +7,8 @@ use Rattle.kernel_rules.specs.State.{Thing, Limits, State}
 use Rattle.kernel_rules.specs.Access.{Slot, found}
 use Rattle.kernel_rules.specs.GracePeriods.{begun}
 use Rattle.kernel_rules.specs.Rules.{Change, does, Cause, When, WaitedFor, Unflushed, Rule, Name, Vacant, Held, Mapped, Does}
-use Rattle.kernel_rules.specs.Rules.{Judged, Refused, Found, and_then, unless, named, vacant, held, mapped, first_of, refusal_of, first_cause, outcome}
+use Rattle.kernel_rules.specs.Rules.{Judged, Refused, Found, and_then, unless, named, vacant, held, mapped, first_of, refusal_of}
+use Rattle.kernel_rules.specs.Rules.{first_cause, outcome}
 use Rattle.kernel_rules.proofs.Changes.{IfFound}
 use Rattle.kernel_invariant.proofs.Facts.{EditsFrom}
 use Rattle.kernel_invariant.proofs.Edited.{Edits}

@@ -1,6 +1,6 @@
 -- The calls on capabilities come to the same on a region.
 use Rattle.std.proofs.Common.{◌≡◌, ℕ, ◌+◌, ◌==◌, Bool, true, false, not, ◌&&◌, refl, ◌∙◌}
-use Rattle.std.proofs.Common.{ap, nat_lt, if◌then◌else◌, [], ◌∷◌, None, IsTrue}
+use Rattle.std.proofs.Common.{ap, nat_lt, if◌then◌else◌, [], ◌∷◌, IsTrue}
 use Rattle.std.proofs.lemmas.Bool.{ltb-true}
 use Rattle.spk_nums.specs.Capability.{Capability}
 use Rattle.spk_nums.specs.declared.kinds.Kind.{Kind}
@@ -13,8 +13,7 @@ use Rattle.kernel_rules.specs.Start.{plain_cap}
 use Rattle.kernel_rules.specs.Access.{to_use, root}
 use Rattle.kernel_rules.specs.Edits.{Fill, Component}
 use Rattle.kernel_rules.specs.Rules.{Found, named}
-use Rattle.kernel_rules.specs.CapabilityCalls.{look_rule, copy_rule, remove_rule, grow_rule, shrink_rule}
-use Rattle.kernel_rules.specs.CapabilityCalls.{is_blank, not_blank, make_node}
+use Rattle.kernel_rules.specs.CapabilityCalls.{look_rule, copy_rule, remove_rule, grow_rule, shrink_rule, is_blank, not_blank, make_node}
 use Rattle.kernel_rules.specs.CapabilityCalls.{is_live, epoch_of, make_comp, make_rule, part_rule}
 use Rattle.kernel_rules.specs.Relies.{is_node}
 use Rattle.kernel_invariant.proofs.Facts.{named_good}

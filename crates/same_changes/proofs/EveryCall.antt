@@ -61,7 +61,8 @@ module _ {r : Region} {t s : State} {o : ℕ → _} {c : ℕ} (w : TwinsOn r t s
   -- Whether the core may make the call is the same, and so is its outcome on the region.
   pub call_agrees : (call : Call) → NamesIn r call
       → (acts t c call ≡ acts s c call) × AgreeOutcome r (change_of t c call) (change_of s c call)
-  call_agrees call names = (acts_agree w call, outcome_same w call (rule_of t c call) (rule_of s c call) (rule_same call names) (rule_edits s c call))
+  call_agrees call names =
+      (acts_agree w call, outcome_same w call (rule_of t c call) (rule_of s c call) (rule_same call names) (rule_edits s c call))
 
 pub changes_agree : ChangesAgree
 changes_agree setting is events run c call opens w within names t agree referred = call_agrees (record {

@@ -1,6 +1,6 @@
 -- The calls of invocation and of time come to the same on a region.
 use Rattle.std.proofs.Common.{◌≡◌, ℕ, ◌<◌, Bool, true, not, ◌&&◌, ◌||◌, refl, sym, ◌∙◌, ap, subst}
-use Rattle.std.proofs.Common.{nat_le, nat_lt, List, [], ◌∷◌, length, Option, Some, None, IsTrue}
+use Rattle.std.proofs.Common.{nat_le, nat_lt, [], ◌∷◌, length, Option, Some, None, IsTrue}
 use Rattle.std.proofs.lemmas.Bool.{false≢true}
 use Rattle.spk_nums.specs.Merging.{merged, covers}
 use Rattle.spk_nums.specs.Capability.{Capability, cap_of}

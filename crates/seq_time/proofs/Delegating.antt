@@ -2,8 +2,7 @@
 use Rattle.std.proofs.Common.{arith, ◌≡◌, ◌≢◌, ℕ, ◌+◌, ◌-◌, ◌==◌, Bool, true, false, if◌then◌else◌, refl, sym, ap, ◌∙◌, List}
 use Rattle.std.specs.Prelude.{SomeIff, Option, Some, None, unwrap_or}
 use Rattle.std.proofs.lemmas.Bool.{ne_eqb, eq-eqb}
-use Rattle.kernel_rules.specs.State.{put, Object, Blank}
-use Rattle.kernel_rules.specs.State.{Frame, Untyped, User, Kernel, State, with_frame, tcap_in}
+use Rattle.kernel_rules.specs.State.{put, Object, Blank, Frame, Untyped, User, Kernel, State, with_frame, tcap_in}
 use Rattle.kernel_rules.specs.Edits.{with_tcap, tcap_at, moved, with_qualities}
 use Rattle.seq_state.specs.Representation.{SameState}
 use Rattle.seq_state.proofs.Same.{same_grace_by, same_then, same_frame}

@@ -15,8 +15,7 @@ use Rattle.world_laws.specs.kernel_rules.specs.Laws.{calls_counted}
 use Rattle.world_laws.specs.kernel_rules.specs.Runs.{Event, Decides, after, is_open, IsRun}
 use Rattle.world_laws.specs.kernel_rules.proofs.Changes.{IfFound}
 use Rattle.world_laws.specs.kernel_rules.proofs.Within.{put_same}
-use Rattle.world_laws.specs.kernel_rules.specs.Edits.{Give}
-use Rattle.world_laws.specs.kernel_rules.specs.Edits.{Edit, Fill, Switch, Cache, Flush, Charge, Merge, edited, after_edits}
+use Rattle.world_laws.specs.kernel_rules.specs.Edits.{Give, Edit, Fill, Switch, Cache, Flush, Charge, Merge, edited, after_edits}
 use Rattle.world_laws.specs.kernel_invariant.proofs.SoundCalls.{IsOpen}
 use Rattle.world_laws.specs.kernel_invariant.proofs.SoundRuns.{opened, open_is, open_limits}
 use Rattle.world_laws.specs.kernel_invariant.proofs.Edited.{AreLater, Calm, found_by}

@@ -17,9 +17,8 @@ use Rattle.world_laws.specs.kernel_rules.specs.State.{Place, Free, Holds, Quiesc
 use Rattle.world_laws.specs.kernel_rules.specs.Access.{Slot, Want, to_use, only, found, Target, own, place_at, reached, usable}
 use Rattle.world_laws.specs.kernel_rules.specs.GracePeriods.{other_waiting, lowest, quiescing_by, unflushed_by}
 use Rattle.world_laws.specs.kernel_rules.specs.Rules.{Cause, Change, Rule, Name, Vacant, Held, Mapped, Does, Judged, Refused, Found}
-use Rattle.world_laws.specs.kernel_rules.specs.Rules.{and_then, unless, or_refuse}
-use Rattle.world_laws.specs.kernel_rules.specs.Rules.{with_rights, of_kind, named, first_of, not_vacant, vacant}
-use Rattle.world_laws.specs.kernel_rules.specs.Rules.{first_cause, outcome}
+use Rattle.world_laws.specs.kernel_rules.specs.Rules.{and_then, unless, or_refuse, with_rights, of_kind, named, first_of, not_vacant}
+use Rattle.world_laws.specs.kernel_rules.specs.Rules.{vacant, first_cause, outcome}
 use Rattle.world_laws.specs.kernel_rules.specs.CapabilityCalls.{has_frame, outside, not_blank, not_taken, make_rule}
 use Rattle.world_laws.specs.kernel_rules.specs.MemoryCalls.{not_retyped, retype_rule, not_user, map_rule}
 use Rattle.world_laws.specs.kernel_rules.specs.Life.{acts}

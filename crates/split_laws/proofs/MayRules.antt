@@ -17,16 +17,14 @@ use Rattle.world_laws.specs.spk_nums.specs.declared.calls.Call.TheVariants.{Ret,
 use Rattle.world_laws.specs.spk_nums.specs.declared.translations.Translation.{Translation}
 use Rattle.world_laws.specs.spk_nums.specs.declared.replies.Reply.{Reply}
 use Rattle.world_laws.specs.spk_nums.specs.declared.replies.Reply.TheVariants as reply
-use Rattle.world_laws.specs.kernel_rules.specs.State.{CompFields, ThreadFields, TcapFields, Object, Table, Leaf, Pages, Pleaf, Frame}
-use Rattle.world_laws.specs.kernel_rules.specs.State.{Core, Limits, outstanding}
-use Rattle.world_laws.specs.kernel_rules.specs.State.{State, thread_in, comp_in, tcap_in, comp_of}
+use Rattle.world_laws.specs.kernel_rules.specs.State.{CompFields, ThreadFields, TcapFields, Object, Table, Leaf, Pages, Pleaf, Frame, Core}
+use Rattle.world_laws.specs.kernel_rules.specs.State.{Limits, outstanding, State, thread_in, comp_in, tcap_in, comp_of}
 use Rattle.world_laws.specs.kernel_rules.specs.References.{refs}
 use Rattle.world_laws.specs.kernel_rules.specs.Access.{only, root, to_use, Named, capability}
 use Rattle.world_laws.specs.kernel_rules.specs.Rules.{RuleMay}
 use Rattle.world_laws.specs.kernel_rules.specs.Life.{is_live_in}
 use Rattle.world_laws.specs.kernel_rules.specs.CapabilityCalls.{copy_rule, remove_rule, grow_rule, shrink_rule, part_rule, is_blank}
-use Rattle.world_laws.specs.kernel_rules.specs.CapabilityCalls.{make_node, make_thread}
-use Rattle.world_laws.specs.kernel_rules.specs.CapabilityCalls.{make_tcap, make_comp, make_rule, is_live, epoch_of}
+use Rattle.world_laws.specs.kernel_rules.specs.CapabilityCalls.{make_node, make_thread, make_tcap, make_comp, make_rule, is_live, epoch_of}
 use Rattle.world_laws.specs.kernel_rules.specs.MemoryCalls.{is_untyped, is_user, is_empty, retype_rule, map_rule, unmap_rule}
 use Rattle.world_laws.specs.kernel_rules.specs.MemoryCalls.{translation_of, touch_by, touch_rule}
 use Rattle.world_laws.specs.kernel_rules.specs.InvocationCalls.{gate_rule, kill_rule, call_rule, ret_rule, switch_to, switch_rule}

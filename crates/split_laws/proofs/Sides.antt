@@ -18,10 +18,8 @@ use Rattle.world_laws.specs.kernel_rules.specs.Access.{found}
 use Rattle.world_laws.specs.kernel_rules.specs.Rules.{Change, does}
 use Rattle.world_laws.specs.kernel_rules.specs.CapabilityCalls.{not_blank, not_taken, epoch_of, make_rule}
 use Rattle.world_laws.specs.kernel_rules.specs.MemoryCalls.{retype_rule, touch_by, translation_of}
-use Rattle.world_laws.specs.kernel_rules.specs.Edits.{caching}
+use Rattle.world_laws.specs.kernel_rules.specs.Edits.{caching, with_thread, running, Switch, with_tcap}
 use Rattle.world_laws.specs.kernel_rules.specs.InvocationCalls.{switch_to}
-use Rattle.world_laws.specs.kernel_rules.specs.Edits.{with_thread, running, Switch}
-use Rattle.world_laws.specs.kernel_rules.specs.Edits.{with_tcap}
 use Rattle.world_laws.specs.kernel_rules.specs.CallRelation.{rule_of}
 use Rattle.world_laws.specs.kernel_invariant.proofs.Sound.{put_all}
 use Rattle.world_laws.specs.kernel_invariant.proofs.SoundCalls.{IsOpen}

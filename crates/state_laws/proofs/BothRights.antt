@@ -20,7 +20,8 @@ use Rattle.spk_nums.specs.declared.replies.Reply.{Reply}
 use Rattle.spk_nums.specs.declared.replies.Reply.TheVariants as reply
 use Rattle.kernel_rules.specs.State.{Place, Free, Holds, Quiescing, PlaceOf, State, put, with_place, thread_in, comp_of}
 use Rattle.kernel_rules.specs.Start.{plain_cap, start_cap, place_with, start}
-use Rattle.kernel_rules.specs.Access.{Slot, Named, Want, Under, InRoot, found, place_at, usable_in, usable, reached, own, any, only, to_copy, to_part}
+use Rattle.kernel_rules.specs.Access.{Slot, Named, Want, Under, InRoot, found, place_at, usable_in, usable, reached, own, any, only}
+use Rattle.kernel_rules.specs.Access.{to_copy, to_part}
 use Rattle.kernel_rules.specs.Rules.{Change, Judged, Refused, Found, named, held}
 use Rattle.kernel_rules.specs.CapabilityCalls.{make_rule}
 use Rattle.kernel_rules.specs.MemoryCalls.{retype_rule, touch_by, translation_of}

@@ -12,8 +12,8 @@ use Rattle.trace_laws.specs.spk_nums.specs.declared.replies.Reply.TheVariants as
 use Rattle.trace_laws.specs.kernel_rules.specs.State.{ThreadFields, TcapFields, Blank, Comp, Thread}
 use Rattle.trace_laws.specs.kernel_rules.specs.State.{Frame, Untyped, Kernel, Thing, FrameOf, State, put, thread_in, thread_of}
 use Rattle.trace_laws.specs.kernel_rules.specs.Fitting.{fits}
-use Rattle.trace_laws.specs.kernel_rules.specs.Edits.{with_thread, running, with_tcap, with_budget, with_qualities, tcap_at, moved}
-use Rattle.trace_laws.specs.kernel_rules.specs.Edits.{Edit, Fill, Node, Become, Untype, Component, Push, Pop, Switch, Charge, Move, Merge, Give}
+use Rattle.trace_laws.specs.kernel_rules.specs.Edits.{with_thread, running, with_tcap, with_budget, with_qualities, tcap_at, moved, Edit}
+use Rattle.trace_laws.specs.kernel_rules.specs.Edits.{Fill, Node, Become, Untype, Component, Push, Pop, Switch, Charge, Move, Merge, Give}
 use Rattle.trace_laws.specs.kernel_rules.specs.Edits.{edited, after_edits}
 use Rattle.trace_laws.specs.kernel_rules.specs.Rules.{Change, does, Judged, Refused, Found}
 use Rattle.trace_laws.specs.kernel_rules.specs.CallRelation.{change_of, changed, owed_by, state_by, ends, ends_by}

@@ -15,9 +15,9 @@ use Rattle.authority_laws.specs.kernel_rules.specs.Access.{Slot, usable, usable_
 use Rattle.authority_laws.specs.kernel_rules.specs.GracePeriods.{new_grace}
 use Rattle.authority_laws.specs.kernel_rules.specs.Fitting.{fits}
 use Rattle.authority_laws.specs.kernel_rules.specs.Edits.{with_thread, running, tcap_at, with_tcap, with_budget, charge, Edit, Fill, Remove}
-use Rattle.authority_laws.specs.kernel_rules.specs.Edits.{Node, Become, Untype, Component, Deaden, Push, Pop, Switch, Charge, Move, Merge, Give}
+use Rattle.authority_laws.specs.kernel_rules.specs.Edits.{Node, Become, Untype, Component, Deaden, Push, Pop, Switch, Charge, Move, Merge}
+use Rattle.authority_laws.specs.kernel_rules.specs.Edits.{Give, edited, after_edits}
 use Rattle.authority_laws.specs.kernel_rules.specs.CallRelation.{begins, ends, flushes, state_by, MayReply}
-use Rattle.authority_laws.specs.kernel_rules.specs.Edits.{edited, after_edits}
 use Rattle.authority_laws.specs.kernel_invariant.proofs.Sound.{put_all}
 use Rattle.authority_laws.specs.kernel_invariant.proofs.SoundSteps.{place_all, free_holds, quiescing_holds, holds_inj}
 use Rattle.authority_laws.specs.kernel_invariant.proofs.SoundCalls.{IsOpen}

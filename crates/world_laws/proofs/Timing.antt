@@ -14,11 +14,11 @@ use Rattle.authority_laws.specs.kernel_rules.specs.State.{State, put, with_frame
 use Rattle.authority_laws.specs.kernel_rules.specs.Access.{only}
 use Rattle.authority_laws.specs.kernel_rules.specs.Fitting.{fits}
 use Rattle.authority_laws.specs.kernel_rules.specs.Edits.{with_thread, running, tcap_at, with_tcap, with_budget, charge, Edit, Fill, Node}
-use Rattle.authority_laws.specs.kernel_rules.specs.Edits.{Become, Untype, Component, Push, Pop, Switch, Cache, Flush, Charge, Move, Merge, Give}
+use Rattle.authority_laws.specs.kernel_rules.specs.Edits.{Become, Untype, Component, Push, Pop, Switch, Cache, Flush, Charge, Move, Merge}
+use Rattle.authority_laws.specs.kernel_rules.specs.Edits.{Give, edited, after_edits}
 use Rattle.authority_laws.specs.kernel_rules.specs.CallRelation.{owed_by, state_by, MayReply}
 use Rattle.authority_laws.specs.kernel_rules.specs.Runs.{Event, Enters, Decides, Returns, after, IsRun}
 use Rattle.authority_laws.specs.kernel_rules.proofs.Within.{put_same, put_other}
-use Rattle.authority_laws.specs.kernel_rules.specs.Edits.{edited, after_edits}
 use Rattle.authority_laws.specs.kernel_invariant.proofs.Sums.{sum_same, sum_one}
 use Rattle.authority_laws.specs.kernel_invariant.proofs.Sound.{put_all, only_is}
 use Rattle.authority_laws.specs.kernel_invariant.proofs.SoundCalls.{IsOpen, tcap_below}
