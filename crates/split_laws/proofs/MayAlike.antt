@@ -51,7 +51,7 @@ RuleAlike w s c r (Held x rest) (Held y other) = (x ≡ y) × RootIf w y
     × ((at : Slot) (k : Capability) → RuleAlike w s c r (rest at k) (other at k))
 RuleAlike w s c r (Mapped a v rest) (Mapped b u other) = (a ≡ b) × (v ≡ u) × (w.frame b ≡ true)
     × ((k : Capability) → RuleAlike w s c r (rest k) (other k))
-RuleAlike w s c r (Does xs a) (Does ys b) = CausesAlike w s c r xs ys
+RuleAlike w s c r (Does xs v a) (Does ys u b) = CausesAlike w s c r xs ys
 RuleAlike w s c r _ _ = ⊥
 
 -- ---- what is found
@@ -236,9 +236,9 @@ module _ {w : Region} {t s : State} {o : ℕ → Bool} {c : ℕ} (l : TwinsOn w 
   may_alike r (Mapped a v rest) (Mapped b u other) h (inr m) =
       inr (found_and (mapped t c a v) (mapped s c b u) ((λ i. mapped t c (h.0 i) (h.1 i)) ∙ mapped_agree l b u h.2)
       (λ k n. may_alike r (rest k) (other k) (h.3 k) n) m)
-  may_alike r (Does xs a) (Does ys b) h m = one_may r xs ys h m
+  may_alike r (Does xs v a) (Does ys u b) h m = one_may r xs ys h m
   may_alike r (Name n p rest) _ h m = absurd h
   may_alike r (Vacant x rest) _ h m = absurd h
   may_alike r (Held x rest) _ h m = absurd h
   may_alike r (Mapped a v rest) _ h m = absurd h
-  may_alike r (Does xs a) _ h m = absurd h
+  may_alike r (Does xs v a) _ h m = absurd h
