@@ -11,12 +11,13 @@ use Rattle.spk_nums.specs.declared.calls.Call.{Call}
 use Rattle.seq_state.specs.Maps.{Maps}
 use Rattle.sched_rules.specs.declared.tasks.Task.{Task}
 use Rattle.sched_rules.specs.declared.tasks.Rule.{Rule}
-use Rattle.sched_rules.specs.declared.tasks.Job.{Job}
 use Rattle.sched_rules.specs.declared.turns.Turn.{Turn}
-use Rattle.sched_rules.specs.Schedule.{Progress, Step, turn_of, job_after, new_job, at_first, turns_of, calls_of, IsSchedule, TaskFits, RuleFits}
+use Rattle.sched_rules.specs.Schedule.{Progress, Step, turn_of, job_after, new_job, at_first, turns_of, calls_of, IsSchedule}
+use Rattle.sched_rules.specs.Schedule.{TaskFits, RuleFits}
 use Rattle.fixed_prio.specs.declared.course.Course.{Course}
 use Rattle.fixed_prio.specs.Machines.{after_calls, Beside}
-use Rattle.fixed_prio.specs.Courses.{progress, yet_from, yet, all_yet, ComesNext, Arrives, Fits, CourseFits, Takes, Ends, TakesTurn, HasScheduled}
+use Rattle.fixed_prio.specs.Courses.{progress, yet_from, yet, all_yet, ComesNext, Arrives, Fits, CourseFits}
+use Rattle.fixed_prio.specs.Courses.{TakesTurn, HasScheduled}
 use Rattle.fixed_prio.proofs.ToGo.{to_go, goes_on}
 
 -- The schedule has come from x to y by these turns.

@@ -1,11 +1,10 @@
 -- What the calls of a turn come to.
 use Rattle.std.proofs.Common.{◌≡◌, ℕ, ◌+◌, ◌-◌, ◌<◌, ◌≤◌, Bool, true, false, ◌&&◌, ◌==◌, refl, sym, ◌∙◌, ap}
 use Rattle.std.proofs.Common.{subst, arith, append_assoc, append-nil}
-use Rattle.std.proofs.Common.{min, if◌then◌else◌, List, [], ◌∷◌, ◌++◌, Option, Some, None, slice_set, length, All}
-use Rattle.std.specs.Prelude.{slice_get}
+use Rattle.std.proofs.Common.{min, if◌then◌else◌, List, [], ◌∷◌, ◌++◌, Option, Some, None, slice_set}
 use Rattle.spk_nums.specs.Setting.{Setting}
 use Rattle.spk_nums.specs.declared.calls.Call.{Call}
-use Rattle.spk_nums.specs.declared.calls.Call.TheVariants.{Switch, Tick}
+use Rattle.spk_nums.specs.declared.calls.Call.TheVariants.{Tick}
 use Rattle.spk_nums.specs.declared.replies.Reply.{Reply}
 use Rattle.kernel_rules.specs.State.{Core, State}
 use Rattle.seq_state.specs.Maps.{Maps, state_of}
@@ -14,18 +13,18 @@ use Rattle.sched_rules.specs.declared.tasks.Job.{Job}
 use Rattle.sched_rules.specs.declared.tasks.Choice.{Choice}
 use Rattle.sched_rules.specs.declared.tasks.Renewal.{Renewal}
 use Rattle.sched_rules.specs.declared.turns.Turn.{Turn}
-use Rattle.sched_rules.specs.declared.turns.Turn.TheVariants.{Ran, Idle, Back, Refused}
-use Rattle.sched_rules.specs.Schedule.{Progress, Step, chosen, next_arrival, cut_at, length_of, reply_to, state_past, is_done, is_place}
-use Rattle.sched_rules.specs.Schedule.{refused, ran, ticks, switches, switch_for, goes_on, runs, idles, turn_by, turn_for, turn_of, RuleFits}
-use Rattle.sched_rules.specs.Schedule.{put_out, begun, renewal, gives_back, renews, replenish_for}
+use Rattle.sched_rules.specs.declared.turns.Turn.TheVariants.{Ran, Back, Refused}
+use Rattle.sched_rules.specs.Schedule.{Step, chosen, next_arrival, cut_at, length_of, reply_to, state_past, is_done, is_place}
+use Rattle.sched_rules.specs.Schedule.{refused, ran, ticks, switches, switch_for, goes_on, runs, idles, turn_by, turn_for, turn_of}
+use Rattle.sched_rules.specs.Schedule.{put_out, begun, renewal, gives_back, renews, replenish_for, RuleFits}
 use Rattle.sched_laws.proofs.Picks.{place_of}
 use Rattle.sched_laws.proofs.Arriving.{cut_most}
 use Rattle.fixed_prio.specs.declared.course.Course.{Course}
 use Rattle.fixed_prio.specs.Machines.{after_calls, Beside, MakesBoth}
-use Rattle.fixed_prio.specs.Courses.{progress, Takes, Ends, TakesTurn, IdlesTo, IsChosen, IsRenewal, CourseFits, Fits}
+use Rattle.fixed_prio.specs.Courses.{progress, Takes, TakesTurn, IdlesTo, IsChosen, IsRenewal, CourseFits}
 use Rattle.fixed_prio.proofs.Alike.{chosen_reached, core_reached}
 use Rattle.fixed_prio.proofs.Calling.{after_more}
-use Rattle.fixed_prio.proofs.ToGo.{arrives_at, come_is, left_most, on_time_now}
+use Rattle.fixed_prio.proofs.ToGo.{arrives_at, come_is, left_most, next_most, on_time_now}
 use Rattle.sched_laws.proofs.Turns.{come_at}
 
 -- The task has run on.
@@ -220,7 +219,8 @@ renew_refused setting made made' course course' r reply turn k' b off o =
     (sym (is_done_so setting made made' call reply k' false b off))
     (refused_at setting made made' course course' r.index r.job call reply turn k' b o)
 
-pub turn_renews : (setting : Setting) (made made' : List Call) (course course' : Course) (rule : Rule) (r : Renewal) (turn : Turn) (k' : Maps)
+pub turn_renews : (setting : Setting) (made made' : List Call) (course course' : Course) (rule : Rule) (r : Renewal)
+    (turn : Turn) (k' : Maps)
     → renewal course.time 0 course.jobs.items ≡ Some r
     → Takes setting made (renews (progress setting made course) r (replenish_for r.job)) turn made' course' k'
     → TakesTurn setting made course (turn_of rule (progress setting made course)) (Some turn) made' course' k'
@@ -280,12 +280,13 @@ is_chosen s rule course c n fits_rule fits is long =
     let small = cut_most (next_arrival course.time course.jobs.items) course.time (min rule.quantum (min c.job.left c.ready.budget)) in
     let quantum = fits_rule.most in
     let time = fits.time in
+    let here = place_of s rule course.time course.jobs.items c is in
     record {
-      place = place_of s rule course.time course.jobs.items c is;
+      place = here;
       few = fits.few;
       work = omega (arith, small, long);
       ticks = omega (arith, small, long, quantum);
-      used = (arrives_at course.time course.jobs.items c.index c.job (place_of s rule course.time course.jobs.items c is) fits.arrivals).used;
+      used = (arrives_at course.time course.jobs.items c.index c.job here fits.arrivals).used;
       time = omega (arith, time);
     }
 
@@ -306,6 +307,7 @@ is_renewal course r fits is =
       few = fits.few;
       work = omega (arith, left, all, work);
       used = omega (arith, used, now);
+      next = next_most course.time r.job mine;
     }
 
 -- What the plain kernel says is so in the state after the machine's calls.
@@ -323,6 +325,15 @@ pub chosen_so : (setting : Setting) (made : List Call) (k : Maps) (rule : Rule) 
 chosen_so setting made k rule time jobs l o b same is =
     sym (chosen_reached setting b.setting k (after_calls setting made) b.reached rule time 0 jobs)
     ∙ ap (chosen (state_of k) rule time 0) (sym same) ∙ sym is
+
+-- The task of which a job has come, or that there is none.
+pub come_so : (time : ℕ) (jobs l : List Job) (o : Option Renewal) → l ≡ jobs → o ≡ renewal time 0 l → renewal time 0 jobs ≡ o
+come_so time jobs l o same is = ap (renewal time 0) (sym same) ∙ sym is
+
+pub none_so : (time : ℕ) (jobs l : List Job) (o : Option Renewal) → l ≡ jobs → o ≡ renewal time 0 l → ((r : Renewal) → o ≡ Some r → ⊥)
+    → renewal time 0 jobs ≡ None
+none_so time jobs l None same is none = come_so time jobs l None same is
+none_so time jobs l (Some r) same is none = absurd (none r refl)
 
 pub long_so : (rule : Rule) (time : ℕ) (jobs l : List Job) (c : Choice) (n : ℕ) → l ≡ jobs
     → n ≡ cut_at (next_arrival time l) time (min rule.quantum (min c.job.left c.ready.budget))

@@ -1,7 +1,7 @@
 -- What a schedule has still to do: it falls with each turn, so the schedule ends.
 use Rattle.std.proofs.Common.{◌≡◌, ◌≢◌, inl, inr, ℕ, zero, suc, ◌+◌, ◌*◌, ◌-◌, ◌<◌, ◌≤◌, min, Bool, true, false, not, ◌&&◌, refl, sym}
 use Rattle.std.proofs.Common.{◌∙◌, ap, subst, arith, nat_le, nat_lt, if◌then◌else◌, List, [], ◌∷◌, Option, Some, None, IfSome}
-use Rattle.std.proofs.Common.{slice_set, length, length-set, get_or, All}
+use Rattle.std.proofs.Common.{slice_set, length-set, get_or, All}
 use Rattle.std.specs.Prelude.{slice_get}
 use Rattle.std.proofs.lemmas.Bool.{cases_lt, lt-ltb, le-ltb, ltb-true, leb-true, leb-false, and_parts, false≢true}
 use Rattle.std.proofs.lemmas.Option.{slice_get_within, get_or_from_slice_get, slice_get-get_or}
@@ -23,8 +23,8 @@ use Rattle.sched_laws.proofs.Bound.{length_most}
 use Rattle.sched_laws.proofs.Turns.{Way, Runs, Refuses, Idles, Begins, Lacks, RunsOne, IdlesOn, BeginsOne, way, come_at}
 use Rattle.fixed_prio.specs.Courses.{yet_from, yet, all_yet, ComesNext, Arrives, Fits}
 
--- Of a task: its work left, 1 while it is not out, 1 while it is still to come, 1 while its next job is, and for each tick up to the last at
--- which a job may arrive more than a job and that have.
+-- Of a task: its work left, 1 while it is not out, 1 while it is still to come, 1 while its next job is; and for each tick up to the last
+-- at which a job may arrive, more than the most work of a job and that 1.
 abbrev pub in_count : Bool → ℕ
 in_count true = 0
 in_count false = 1
@@ -81,7 +81,8 @@ yet_set (job ∷ jobs) (suc p) old new d at e =
 
 -- One of the tasks is in range.
 pub arrives_at : (now : ℕ) (jobs : List Job) (p : ℕ) (job : Job) → slice_get jobs p ≡ Some job → All (Arrives now) jobs → Arrives now job
-arrives_at now jobs p job at all = subst (Arrives now) (get_or_from_slice_get jobs p job job at) (all p job (slice_get_within jobs p job at))
+arrives_at now jobs p job at all =
+    subst (Arrives now) (get_or_from_slice_get jobs p job job at) (all p job (slice_get_within jobs p job at))
 
 -- A time is no later than an arrival, if one comes.
 abbrev pub IsUpTo : ℕ → Option ℕ → Type 0
@@ -113,7 +114,11 @@ on_time now t job le upto is = record {
   where
     by_next : (o : Option ℕ) → job.next ≡ o → IfSome o (ComesNext t job)
     by_next None none = tt
-    by_next (Some at) next = record { most = old.most; first = old.first; coming = λ in_. by_arrival in_ (nat_lt now job.task.arrival) refl }
+    by_next (Some at) next = record {
+      most = old.most;
+      first = old.first;
+      coming = λ in_. by_arrival in_ (nat_lt now job.task.arrival) refl;
+    }
       where
         old : ComesNext now job at
         old = subst (λ o. IfSome o (ComesNext now job)) next is.next
@@ -229,14 +234,16 @@ none_each : (now i : ℕ) (jobs : List Job) → renewal now i jobs ≡ None → 
     → is_renewed now job ≡ false
 none_each now i [] none zero job at = absurd (cc)
 none_each now i [] none (suc k) job at = absurd (cc)
-none_each now i (job ∷ jobs) none k other at = by_test (is_renewed now job) refl none k at
+none_each now i (job ∷ jobs) none k other at =
+    by_test (λ h j there. none_each now (i + 1) jobs h j other there) (is_renewed now job) refl none k at
   where
-    by_test : (b : Bool) → is_renewed now job ≡ b
+    by_test : (renewal now (i + 1) jobs ≡ None → (j : ℕ) → slice_get jobs j ≡ Some other → is_renewed now other ≡ false)
+        → (b : Bool) → is_renewed now job ≡ b
         → (if b then Some (record { index = i; job = job }) else renewal now (i + 1) jobs) ≡ None
         → (k : ℕ) → slice_get (job ∷ jobs) k ≡ Some other → is_renewed now other ≡ false
-    by_test true on h k at = absurd (cc)
-    by_test false off h zero at = ap (is_renewed now) (sym (same_job job other at)) ∙ off
-    by_test false off h (suc k) at = none_each now (i + 1) jobs h k other at
+    by_test again true on h k at = absurd (cc)
+    by_test again false off h zero at = ap (is_renewed now) (sym (same_job job other at)) ∙ off
+    by_test again false off h (suc k) at = again h k at
 
 pub attains : (now at : ℕ) (jobs : List Job) → ((k : ℕ) (job : Job) → slice_get jobs k ≡ Some job → is_renewed now job ≡ false)
     → next_arrival now jobs ≡ Some at → Attains now at jobs
@@ -297,7 +304,8 @@ length_least rule x c fits work budget none = by_arrival (next_arrival x.time x.
         omega (arith, q, work, budget, later)
 
 -- A cut stretch ends by the next arrival, of which no job has come.
-cut_upto : (now n : ℕ) (jobs : List Job) → renewal now 0 jobs ≡ None → IsUpTo (now + cut_at (next_arrival now jobs) now n) (next_arrival now jobs)
+cut_upto : (now n : ℕ) (jobs : List Job) → renewal now 0 jobs ≡ None
+    → IsUpTo (now + cut_at (next_arrival now jobs) now n) (next_arrival now jobs)
 cut_upto now n jobs none = by_arrival (next_arrival now jobs) refl
   where
     by_arrival : (a : Option ℕ) → next_arrival now jobs ≡ a → IsUpTo (now + cut_at a now n) a
@@ -360,14 +368,14 @@ out_comes now old new task out next is = subst (λ o. IfSome o (ComesNext now ne
 -- The task of which a job has come is one of which it has.
 pub come_is : (now i : ℕ) (jobs : List Job) (r : Renewal) → renewal now i jobs ≡ Some r → is_renewed now r.job ≡ true
 come_is now i [] r is = absurd (cc)
-come_is now i (job ∷ jobs) r is = by_test (is_renewed now job) refl is
+come_is now i (job ∷ jobs) r is = by_test (λ h. come_is now (i + 1) jobs r h) (is_renewed now job) refl is
   where
-    by_test : (b : Bool) → is_renewed now job ≡ b
+    by_test : (renewal now (i + 1) jobs ≡ Some r → is_renewed now r.job ≡ true) → (b : Bool) → is_renewed now job ≡ b
         → (if b then Some (record { index = i; job = job }) else renewal now (i + 1) jobs) ≡ Some r → is_renewed now r.job ≡ true
-    by_test true on h =
+    by_test again true on h =
         let same : record { index = i; job = job } ≡ r = cc in
         ap (λ (x : Renewal). is_renewed now x.job) (sym same) ∙ on
-    by_test false off h = come_is now (i + 1) jobs r h
+    by_test again false off h = again h
 
 renewed_in : (now : ℕ) (job : Job) → is_renewed now job ≡ true → job.out ≡ false
 renewed_in now job on = by_out job.out (and_parts (has_come now job.next) (not job.out) on).1
@@ -395,6 +403,14 @@ on_time_now now job is on = by_next job.next is.next (and_parts (has_come now jo
         let most = h.most in
         let coming = h.coming (renewed_in now job on) in
         omega (arith, most, coming)
+
+-- The next job of a task arrives in range.
+pub next_most : (now : ℕ) (job : Job) → Arrives now job → IfSome job.next (λ at. at ≤ 1000000)
+next_most now job is = by_next job.next is.next
+  where
+    by_next : (o : Option ℕ) → IfSome o (ComesNext now job) → IfSome o (λ at. at ≤ 1000000)
+    by_next None h = tt
+    by_next (Some at) h = h.most
 
 -- A job arrives in range.
 arrives_by : (now at : ℕ) (job : Job) → Arrives now job → later now job ≡ Some at → at ≤ 1000000
@@ -433,6 +449,10 @@ job_begins now job is on = by_next job.next refl
 
     most : job.task.work ≤ 10000
     most = is.task.most
+
+    begun_is : (o : Option ℕ) → next_of job.next job.task.period ≡ o
+        → begun job ≡ record job { left = job.left + job.task.work; next = o; used = 0 }
+    begun_is o is = ap (λ (n : Option ℕ). record job { left = job.left + job.task.work; next = n; used = 0 }) is
 
     by_next : (o : Option ℕ) → job.next ≡ o → JobBegins now job
     by_next None next = absurd (false≢true (sym (ap (has_come now) next) ∙ come))
@@ -486,19 +506,15 @@ job_begins now job is on = by_next job.next refl
             one_most false = omega arith
 
         by_period : (o : Option ℕ) → job.task.period ≡ o → JobBegins now job
-        by_period None period = last (begun_is (ap (λ n. next_of n job.task.period) next ∙ ap (job_after at) period))
+        by_period None period = last (begun_is None (ap (λ n. next_of n job.task.period) next ∙ ap (job_after at) period))
         by_period (Some p) period = by_last (nat_le (at + p) 1000000) refl
           where
             by_last : (b : Bool) → nat_le (at + p) 1000000 ≡ b → JobBegins now job
             by_last true on = more p (subst (λ o. IfSome o PeriodFits) period is.task.period).0 (leb-true (at + p) 1000000 on)
-                (begun_is (ap (λ n. next_of n job.task.period) next ∙ ap (job_after at) period
+                (begun_is (Some (at + p)) (ap (λ n. next_of n job.task.period) next ∙ ap (job_after at) period
                 ∙ ap (λ b. if b then Some (at + p) else None) on))
-            by_last false off = last (begun_is (ap (λ n. next_of n job.task.period) next ∙ ap (job_after at) period
+            by_last false off = last (begun_is None (ap (λ n. next_of n job.task.period) next ∙ ap (job_after at) period
                 ∙ ap (λ b. if b then Some (at + p) else None) off))
-
-        begun_is : {o : Option ℕ} → next_of job.next job.task.period ≡ o
-            → begun job ≡ record job { left = job.left + job.task.work; next = o; used = 0 }
-        begun_is is = ap (λ o. record job { left = job.left + job.task.work; next = o; used = 0 }) is
 
 run_on : (rule : Rule) (x : Progress) (step : Step) → RuleFits rule → Fits x.time x.jobs → RunsOne rule x step → GoesOn x step
 run_on rule x step fits_rule fits w =

@@ -1,5 +1,6 @@
 -- What a turn, and a whole schedule, make of a machine and of where the schedule has come to.
-use Rattle.std.specs.Prelude.{◌≡◌, ◌<◌, ◌≤◌, ◌^◌, ◌*◌, IfSome, ℕ, ◌+◌, ◌-◌, List, [], ◌∷◌, ◌++◌, length, slice_get, All, false, Option, Some, None}
+use Rattle.std.specs.Prelude.{◌≡◌, ◌<◌, ◌≤◌, ◌^◌, ◌*◌, ℕ, ◌+◌, ◌-◌, List, [], ◌∷◌, ◌++◌, length, slice_get, All, false}
+use Rattle.std.specs.Prelude.{Option, Some, None, IfSome}
 use Rattle.spk_nums.specs.Setting.{Setting}
 use Rattle.spk_nums.specs.declared.calls.Call.{Call}
 use Rattle.seq_state.specs.Maps.{Maps}
@@ -68,6 +69,7 @@ pub record IsRenewal (course : Course) (r : Renewal) : Type 0 where
   pub few : length course.jobs.items ≤ 32
   pub work : r.job.left + r.job.task.work < 2 ^ 64
   pub used : r.job.used ≤ 1000000
+  pub next : IfSome r.job.next (λ at. at ≤ 1000000)
 
 -- The turn that was taken is that of this step: the machine has made its calls, and the plain kernel has gone along.
 pub record Takes (setup : Setting) (before : List Call) (step : Step) (taken : Turn) (after : List Call) (course : Course) (k : Maps)

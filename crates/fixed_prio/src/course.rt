@@ -1,6 +1,7 @@
 //! Where a schedule has come to, and how a turn changes it.
 
-ghost use Rattle.std.specs.Prelude.{◌≡◌, ◌<◌, ◌≤◌, ◌+◌, ◌-◌, ◌^◌, length, slice_set, slice_get, map, Some, None, IfOk, Option};
+ghost use Rattle.std.specs.Prelude.{◌≡◌, ◌<◌, ◌≤◌, ◌+◌, ◌-◌, ◌^◌, length, slice_set, slice_get, map, true};
+ghost use Rattle.std.specs.Prelude.{Option, Some, None, IfOk, IfSome};
 ghost use Rattle.sched_rules.specs.Schedule.{new_job, begun};
 ghost use Rattle.sched_rules.specs.declared.turns.Turn.TheVariants as turned;
 
@@ -84,6 +85,7 @@ pub fn begin_job(course: &mut Course, renewal: &Renewal) -> Turn
     requires few { length course.old.jobs.items ≤ 32 }
     requires work { renewal.now.job.left + renewal.now.job.task.work < 2 ^ 64 }
     requires used { renewal.now.job.used < 2 ^ 32 }
+    requires next { IfSome renewal.now.job.next (λ at. at < 2 ^ 63) }
     ensures turn { result ≡ turned.Back course.old.time (renewal.now.index + 1) renewal.now.job.used }
     ensures time { course.new.time ≡ course.old.time }
     ensures last { course.new.last ≡ course.old.last }
@@ -126,5 +128,3 @@ pub fn put_out(course: &mut Course, index: usize, job: &Job, reply: Reply) -> Tu
         reply,
     }
 }
-
-ghost use Rattle.std.specs.Prelude.{true};

@@ -1,6 +1,6 @@
 //! Further jobs of tasks that have a period.
 
-ghost use Rattle.std.specs.Prelude.{◌≡◌, ◌<◌, ◌^◌};
+ghost use Rattle.std.specs.Prelude.{◌≡◌, ◌<◌, ◌^◌, IfSome};
 ghost use Rattle.sched_rules.specs.Schedule.{within_last, job_after, next_of, has_come, is_renewed, renewal};
 
 use sched_rules::{Job, Renewal};
@@ -25,6 +25,7 @@ pub fn job_after(at: u64, period: Option<u32>) -> Option<u64>
 
 /// When the job after the next one of a task arrives.
 pub fn next_of(next: Option<u64>, period: Option<u32>) -> Option<u64>
+    requires { IfSome next (λ at. at < 2 ^ 63) }
     ensures { result ≡ next_of next period }
 {
     match next {

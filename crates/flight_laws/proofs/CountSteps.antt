@@ -20,7 +20,7 @@ use Rattle.time_laws.specs.frame_words.proofs.CountLemmas as counts
 use Rattle.time_laws.specs.word_map.specs.Word.{CountAt}
 use Rattle.time_laws.specs.word_map.specs.Moves.{Move, word_of, left_of}
 use Rattle.time_laws.specs.kernel_history.specs.Marks.{count_mark}
-use Rattle.time_laws.specs.kernel_history.specs.Trace.{Step, Trace, Open, phase, state_after, last_left}
+use Rattle.time_laws.specs.kernel_history.specs.Trace.{Step, Trace, Open, phase, last_left}
 use Rattle.time_laws.specs.stage_look.specs.Lookup.{look_move}
 use Rattle.time_laws.specs.stage_look.specs.declared.look.Look.{Look}
 use Rattle.time_laws.specs.stage_look.specs.declared.look.Look.TheVariants.{AtRoot, AtLeaf, AtEntry}

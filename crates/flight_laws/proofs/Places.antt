@@ -35,7 +35,7 @@ use Rattle.time_laws.specs.trace_laws.proofs.Waiting.{Passed, still_past, passed
 use Rattle.time_laws.specs.stage_pins.specs.declared.pin.Pin.TheVariants.{AtCompare as pin_compare}
 use Rattle.time_laws.specs.stage_quiet.specs.Removal.{close_move}
 use Rattle.time_laws.specs.act_states.specs.declared.work.Act.TheVariants.{Remove, Retype, Make, Tick as tick_act, Flush, Kill}
-use Rattle.time_laws.specs.act_states.specs.declared.work.Act.TheVariants.{Map as map_act, Touch, Share, Refill}
+use Rattle.time_laws.specs.act_states.specs.declared.work.Act.TheVariants.{Map as map_act, Touch, Share, Refill as refill_act}
 use Rattle.time_laws.specs.act_states.specs.declared.work.Act.TheVariants.{Switch}
 use Rattle.time_laws.specs.act_states.specs.declared.typings.Typing.{Typing}
 use Rattle.time_laws.specs.act_states.specs.declared.typings.TypingAt.{TypingAt}
@@ -280,7 +280,7 @@ module _ (setup : Setting) (setting : IsSetting setup) (t : Trace) (cores : ℕ 
   by_work table a (Act (Kill m)) has on read none = by_killing m.comp m.core m.at has.knows.comp on
   by_work table a (Act (Untype m)) has on read none = absurd (some_act m none)
   by_work table a (Act (Share p)) has on read none = by_sharing p p.at has.knows.tcap_a has.knows.tcap_b has.knows.at on
-  by_work table a (Act (Refill r)) has on read none = by_refill r r.at has.knows.tcap has.knows.at on
+  by_work table a (Act (refill_act r)) has on read none = by_refill r r.at has.knows.tcap has.knows.at on
   by_work table a (Act (Switch m)) has on read none = by_switching m m.at has.knows.thread has.knows.at on read
   by_work table a (Act (MakeComp m)) has on read none = by_comp a m m.at has.knows.spot on read
   by_work table a (Act (Invoke m)) has on read none = by_invoking m.comp m.at has.knows.comp on

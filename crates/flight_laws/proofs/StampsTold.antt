@@ -15,7 +15,7 @@ use Rattle.time_laws.specs.spk_nums.specs.declared.kinds.FrameKind.TheVariants a
 use Rattle.time_laws.specs.spk_nums.specs.declared.replies.Reply.{Reply}
 use Rattle.time_laws.specs.spk_nums.specs.declared.replies.Reply.TheVariants as reply
 use Rattle.time_laws.specs.spk_nums.specs.declared.replies.Value.{Value}
-use Rattle.time_laws.specs.frame_words.specs.Count.{CountFits, NumberFits, count_of_word, word_of_count}
+use Rattle.time_laws.specs.frame_words.specs.Count.{CountFits, count_of_word, word_of_count}
 use Rattle.time_laws.specs.frame_words.specs.declared.count_word.CountWord.{CountWord}
 use Rattle.time_laws.specs.frame_words.specs.declared.count_word.Hold.{Hold}
 use Rattle.time_laws.specs.frame_words.specs.declared.count_word.Hold.TheVariants.{Unheld, Pinned, Closed}
@@ -26,8 +26,7 @@ use Rattle.time_laws.specs.kernel_rules.specs.GracePeriods.{begun}
 use Rattle.time_laws.specs.kernel_rules.specs.References.{refs}
 use Rattle.time_laws.specs.kernel_rules.specs.Rules.{Change, Found, IsFoundAnd, Judged, Refused}
 use Rattle.time_laws.specs.kernel_rules.specs.CallRelation.{MayReply, begins, begins_in as begun_in, change_of, changed as change_made}
-use Rattle.time_laws.specs.kernel_rules.specs.CallRelation.{counted}
-use Rattle.time_laws.specs.kernel_rules.specs.CallRelation.{state_by}
+use Rattle.time_laws.specs.kernel_rules.specs.CallRelation.{counted, state_by}
 use Rattle.time_laws.specs.kernel_rules.proofs.Changes.{IfFound}
 use Rattle.time_laws.specs.kernel_invariant.proofs.Edited.{found_by}
 use Rattle.time_laws.specs.kernel_invariant.proofs.Refs.{RefsBy, grace_refs, refs_by}

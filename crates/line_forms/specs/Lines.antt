@@ -1,6 +1,6 @@
 -- What may stand at each place of a line.
-use Rattle.std.specs.Prelude.{ℕ, ◌+◌, ◌*◌, ◌-◌, ◌==◌, ◌&&◌, not, nat_le, nat_lt, List, [], ◌∷◌, length, drop, Bool, true, false, Option, Some, None}
-use Rattle.std.specs.Prelude.{codes, if◌then◌else◌}
+use Rattle.std.specs.Prelude.{ℕ, ◌+◌, ◌*◌, ◌-◌, ◌==◌, ◌&&◌, not, nat_le, nat_lt, List, [], ◌∷◌, length, drop, Bool, true, false}
+use Rattle.std.specs.Prelude.{Option, Some, None, codes, if◌then◌else◌}
 use Rattle.line_reader.specs.Arguments.{is_word}
 use Rattle.call_reader.specs.declared.first_words.FirstWord.{FirstWord}
 use Rattle.call_reader.specs.declared.first_words.FirstWord.TheVariants as first

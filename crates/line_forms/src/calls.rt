@@ -3,7 +3,7 @@
 ghost use Rattle.std.specs.Prelude.{◌≡◌};
 ghost use Rattle.line_reader.specs.Arguments.{texts};
 ghost use Rattle.line_forms.specs.Calls.{verb_of, is_at, copy_slot, retype_slot, map_slot, moved_slot, tcap_slot, comp_slot, object_slot};
-ghost use Rattle.line_forms.specs.Calls.{make_slot, verb_slot, call_slot};
+ghost use Rattle.line_forms.specs.Calls.{given_slot, make_slot, verb_slot, call_slot};
 
 use crate::slots::{Slot, name, names, number_then};
 use call_reader::{FirstWord, Verb, first_word};

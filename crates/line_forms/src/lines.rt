@@ -2,8 +2,9 @@
 
 ghost use Rattle.std.specs.Prelude.{◌≡◌, ◌≤◌, length};
 ghost use Rattle.line_reader.specs.Arguments.{texts};
-ghost use Rattle.line_forms.specs.Lines.{sched_slot, period_slot, task_slot, grant_slot, cores_most, least_frames, head_slot, before_equals, close_slot};
-ghost use Rattle.line_forms.specs.Lines.{whole_slot, enter_slot, decide_slot, slot_after, ends_order, is_items, slot_at};
+ghost use Rattle.line_forms.specs.Lines.{sched_slot, period_slot, task_slot, grant_slot, cores_most, least_frames, head_slot};
+ghost use Rattle.line_forms.specs.Lines.{before_equals, close_slot, whole_slot, enter_slot, decide_slot, slot_after, ends_order};
+ghost use Rattle.line_forms.specs.Lines.{is_items, slot_at};
 
 use crate::calls::call_slot;
 use crate::context::{Context, Reading, Stage};

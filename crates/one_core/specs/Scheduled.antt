@@ -17,7 +17,7 @@ begins_at input = at_first (after_calls input.script.setup (calls_in input.scrip
 
 -- There is one history of the machine that has the script's calls and then those of the turns, and nothing else. Its replies are the
 -- sequential kernel's. The turns are those of the schedule that begins in the state after the script's calls, the ticks of each are
--- exactly those charged in it, and the text is that of the turns.
+-- exactly those charged, or given back, in it, and the text is that of the turns.
 pub record SchedTrace (input : Input) (text : List ℕ) : Type 0 where
   pub trace : Trace
   pub history : IsHistory input.script.setup trace

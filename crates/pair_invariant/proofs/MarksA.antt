@@ -1,5 +1,5 @@
 -- The compare that marks the head of the first of two temporal capabilities.
-use Rattle.count_invariant.proofs.Common.{◌≡◌, inl, inr, ℕ, ◌+◌, ◌<◌, ◌≤◌, ◌^◌, ◌==◌, ◌&&◌, not, nat_lt, Bool, true, false, if◌then◌else◌}
+use Rattle.count_invariant.proofs.Common.{◌≡◌, inl, inr, ℕ, ◌+◌, ◌<◌, ◌^◌, ◌==◌, ◌&&◌, not, nat_lt, Bool, true, false, if◌then◌else◌}
 use Rattle.count_invariant.proofs.Common.{[], ◌∷◌, Some, None, arith, refl, sym, ◌∙◌, ap, subst, eq-eqb, ne_eqb, eqb-true, eqb-false}
 use Rattle.count_invariant.proofs.Common.{ltb-true, ltb-false, Setting, IsSetting, left_if, Reply, HeadFits, word_of_head, head_of_word}
 use Rattle.count_invariant.proofs.Common.{HeadWord, spelling, Word, EntryAt, Move, CompareOf, left_of, same_same, Kernel, Tcap}

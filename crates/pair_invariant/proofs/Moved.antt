@@ -1,6 +1,6 @@
 -- A decision by which two temporal capabilities have other budgets, or another list: what else of the state it leaves, and what is said of
 -- the other words then.
-use Rattle.count_invariant.proofs.Common.{◌≡◌, ◌≢◌, ◌⊎◌, inl, inr, ℕ, zero, suc, ◌+◌, ◌-◌, ◌*◌, ◌<◌, ◌≤◌, ◌==◌, Bool, true, false}
+use Rattle.count_invariant.proofs.Common.{◌≡◌, ◌≢◌, ◌⊎◌, inl, inr, ℕ, zero, suc, ◌+◌, ◌-◌, ◌<◌, ◌≤◌, ◌==◌, Bool, true, false}
 use Rattle.count_invariant.proofs.Common.{if◌then◌else◌, List, ◌∷◌, length, slice_get, Some, None, IsTrue, arith, refl, sym, ◌∙◌, ap}
 use Rattle.count_invariant.proofs.Common.{subst, cases_eq, Setting, IsSetting, Word, EntryAt, FrameAt, CountAt, CoreAt, FlushAt, LiveAt}
 use Rattle.count_invariant.proofs.Common.{ClockAt, Move, Frame, Kernel, Tcap, TcapFields, PlaceOf, FrameOf, NumberOf, State, put, tcap_in}

@@ -1,6 +1,6 @@
 -- What a call that gives ticks back knows of itself: its name, its rule, its machine, and what refuses it.
-use Rattle.count_invariant.proofs.Common.{◌≡◌, inl, inr, ℕ, ◌+◌, ◌*◌, ◌^◌, ◌<◌, ◌≤◌, not, nat_lt, Bool, true, false, List, Option}
-use Rattle.count_invariant.proofs.Common.{[], ◌∷◌, Some, None, map, arith, refl, sym, ◌∙◌, ap, subst, le-ltb, Setting, IsSetting}
+use Rattle.count_invariant.proofs.Common.{◌≡◌, inl, inr, ℕ, ◌+◌, ◌*◌, ◌^◌, ◌<◌, ◌≤◌, not, nat_lt, Bool, true, false, List, Option, [], ◌∷◌}
+use Rattle.count_invariant.proofs.Common.{Some, None, map, if◌then◌else◌, arith, refl, sym, ◌∙◌, ap, subst, le-ltb, Setting, IsSetting}
 use Rattle.count_invariant.proofs.Common.{Capability, Call, Reply, State, Change, Cause, Does, Judged, Found, Refused, RuleMay, tcap_in}
 use Rattle.count_invariant.proofs.Common.{outcome, unless, first_of, first_cause, tcap_at, rule_of, change_of, changes_budgets}
 use Rattle.count_invariant.proofs.Common.{is_one_of, footprint_frames, Trace, Open, phase, state_after, First, Plan, at_place, plan_for}

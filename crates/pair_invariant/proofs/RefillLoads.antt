@@ -1,6 +1,6 @@
 -- The loads of a call that gives ticks back: the head, which may be marked, and the words of its list.
 use Rattle.count_invariant.proofs.Common.{◌≡◌, ◌⊎◌, inl, inr, ℕ, zero, suc, map, ◌+◌, ◌<◌, ◌≤◌, ◌&&◌, nat_lt, Bool, true, false}
-use Rattle.count_invariant.proofs.Common.{List, [], ◌∷◌, Option, Some, None, arith, refl, sym, ◌∙◌, ap, subst, eq-eqb}
+use Rattle.count_invariant.proofs.Common.{if◌then◌else◌, List, [], ◌∷◌, Option, Some, None, arith, refl, sym, ◌∙◌, ap, subst, eq-eqb}
 use Rattle.count_invariant.proofs.Common.{ltb-false, false≢true, Setting, IsSetting, Capability, Call, HeadFits, word_of_head}
 use Rattle.count_invariant.proofs.Common.{head_of_word, quality_of_word, HeadWord, spelling, Word, EntryAt, LoadOf, State, head_mark}
 use Rattle.count_invariant.proofs.Common.{marked_by, holds_node, are_calls_spent, IsAlone, Step, Trace, state_after, last_left, own_read}
@@ -49,8 +49,8 @@ module _ (setup : Setting) (setting : IsSetting setup) (cores : ℕ → Core) (t
     (a : ActiveCall) (active : (cores c).active ≡ Some a) (r : Refill)
     (stage_is : a.stage ≡ Undecided (Act (refill_act r)))
     (has : KnowsUndecided setup t c (cores c).own.table a (Act (refill_act r))) where
-  abbrev s : State
-  s = state_after setup t
+  abbrev before : State
+  before = state_after setup t
 
   abbrev loads : ℕ → Step
   loads i = step_to c None (LoadOf (EntryAt r.tcap i)) (last_left setup t (EntryAt r.tcap i)) None None
@@ -70,8 +70,8 @@ module _ (setup : Setting) (setting : IsSetting setup) (cores : ℕ → Core) (t
             a.plan a.found has.names;
         knows = record {
           knows = record {
-            refills = refills_same s c a.call a.found r q tcap ticks left grant has.knows.knows.refills;
-            tcap = subst (HasTcap s c) (sym tcap) has.knows.knows.tcap;
+            refills = refills_same before c a.call a.found r q tcap ticks left grant has.knows.knows.refills;
+            tcap = subst (HasTcap before c) (sym tcap) has.knows.knows.tcap;
             at = knows;
           };
           all = ap (λ (xs : List Acquired). map due_of xs)
@@ -167,11 +167,11 @@ module _ (setup : Setting) (setting : IsSetting setup) (cores : ℕ → Core) (t
     (a : ActiveCall) (active : (cores c).active ≡ Some a) (r : Refill) (n : ℕ)
     (stage_is : a.stage ≡ Undecided (Act (refill_act (record r { at = at_list (suc n) }))))
     (has : KnowsUndecided setup t c (cores c).own.table a (Act (refill_act (record r { at = at_list (suc n) })))) where
-  abbrev now_r : Refill
-  now_r = record r { at = at_list (suc n) }
+  abbrev list_r : Refill
+  list_r = record r { at = at_list (suc n) }
 
-  abbrev s : State
-  s = state_after setup t
+  abbrev s_list : State
+  s_list = state_after setup t
 
   abbrev word_at : Word
   word_at = EntryAt r.tcap (suc n)
@@ -179,38 +179,38 @@ module _ (setup : Setting) (setting : IsSetting setup) (cores : ℕ → Core) (t
   abbrev found : ℕ
   found = last_left setup t word_at
 
-  abbrev e : Step
-  e = step_to c None (LoadOf word_at) found None None
+  abbrev loaded : Step
+  loaded = step_to c None (LoadOf word_at) found None None
 
   abbrev next_list : Option (List (ℕ × ℕ))
   next_list = read_word r.list (quality_of_word found)
 
-  abbrev tcap_here : TcapOf (s.frame r.tcap)
-  tcap_here = calls.tcap setup setting cores t stands c here a active now_r stage_is has
+  abbrev tcap_here : TcapOf (s_list.frame r.tcap)
+  tcap_here = calls.tcap setup setting cores t stands c here a active list_r stage_is has
 
-  spares_load : (i : ℕ) → SparesTcap setup t e r.tcap i
+  spares_load : (i : ℕ) → SparesTcap setup t loaded r.tcap i
   spares_load zero = inl refl
   spares_load (suc j) = inl refl
 
   low : suc n ≤ 8
-  low = (calls.fits setup setting cores t stands c here a active now_r stage_is has).at.1
+  low = (calls.fits setup setting cores t stands c here a active list_r stage_is has).at.1
 
-  read : HasReadList setup t c now_r n
+  read : HasReadList setup t c list_r n
   read = has.knows.knows.at
 
   -- one word more of the list is read
-  reads_more : (q : Refill) → q.tcap ≡ r.tcap → q.head ≡ r.head → q.list ≡ next_list → HasReadList setup (e ∷ t) c q (suc n)
+  reads_more : (q : Refill) → q.tcap ≡ r.tcap → q.head ≡ r.head → q.list ≡ next_list → HasReadList setup (loaded ∷ t) c q (suc n)
   reads_more q tcap head list = record {
     head = record {
-      own = ap (λ f. own_read (e ∷ t) c (EntryAt f 0)) tcap
-          ∙ own_read-there c e t refl (EntryAt r.tcap 0) (λ h. absurd (apart h)) ∙ read.head.own
+      own = ap (λ f. own_read (loaded ∷ t) c (EntryAt f 0)) tcap
+          ∙ own_read-there c loaded t refl (EntryAt r.tcap 0) (λ h. absurd (apart h)) ∙ read.head.own
           ∙ ap (λ (h : HeadWord). Some (word_of_head h)) (sym head);
       fits = subst HeadFits (sym head) read.head.fits;
       bare = ap (λ (h : HeadWord). h.mark) head ∙ read.head.bare;
     };
-    seen = subst (λ f. HasSeenB setup (e ∷ t) f q.head.version q.list (suc n)) (sym tcap)
-        (subst (λ v. HasSeenB setup (e ∷ t) r.tcap v q.list (suc n)) (sym (ap (λ (h : HeadWord). h.version) head))
-        (subst (λ xs. HasSeenB setup (e ∷ t) r.tcap r.head.version xs (suc n)) (sym list) seen_next));
+    seen = subst (λ f. HasSeenB setup (loaded ∷ t) f q.head.version q.list (suc n)) (sym tcap)
+        (subst (λ v. HasSeenB setup (loaded ∷ t) r.tcap v q.list (suc n)) (sym (ap (λ (h : HeadWord). h.version) head))
+        (subst (λ xs. HasSeenB setup (loaded ∷ t) r.tcap r.head.version xs (suc n)) (sym list) seen_next));
   }
     where
       apart : EntryAt r.tcap 0 ≡ EntryAt r.tcap (suc n) → ⊥
@@ -219,11 +219,11 @@ module _ (setup : Setting) (setting : IsSetting setup) (cores : ℕ → Core) (t
           index : EntryAt r.tcap 0 ≡ EntryAt r.tcap (suc n) → 0 ≡ suc n
           index h = cc
 
-      seen_before : HasSeenB setup (e ∷ t) r.tcap r.head.version r.list n
-      seen_before = seen_on setup t e refl r.tcap r.head.version r.list n read.seen
+      seen_before : HasSeenB setup (loaded ∷ t) r.tcap r.head.version r.list n
+      seen_before = seen_on setup t loaded refl r.tcap r.head.version r.list n read.seen
           (tcap_mark setup t r.tcap tcap_here.fields tcap_here.is) (λ i h. spares_load i)
 
-      seen_next : HasSeenB setup (e ∷ t) r.tcap r.head.version next_list (suc n)
+      seen_next : HasSeenB setup (loaded ∷ t) r.tcap r.head.version next_list (suc n)
       seen_next = record {
         now = seen_before.now;
         shown = seen_before.shown;
@@ -232,13 +232,13 @@ module _ (setup : Setting) (setting : IsSetting setup) (cores : ℕ → Core) (t
         valid = seen_before.valid;
       }
         where
-          on : (r.list ≡ read_up (list_word setup (e ∷ t) r.tcap) n)
-              ⊎ ((list_changed (e ∷ t) r.tcap ≡ true) × IsSome seen_before.now.mark)
-              → (next_list ≡ read_up (list_word setup (e ∷ t) r.tcap) (suc n))
-              ⊎ ((list_changed (e ∷ t) r.tcap ≡ true) × IsSome seen_before.now.mark)
+          on : (r.list ≡ read_up (list_word setup (loaded ∷ t) r.tcap) n)
+              ⊎ ((list_changed (loaded ∷ t) r.tcap ≡ true) × IsSome seen_before.now.mark)
+              → (next_list ≡ read_up (list_word setup (loaded ∷ t) r.tcap) (suc n))
+              ⊎ ((list_changed (loaded ∷ t) r.tcap ≡ true) × IsSome seen_before.now.mark)
           on (inl is) = inl (ap (λ o. read_word o (quality_of_word found)) is
-              ∙ ap (λ (x : ℕ). read_word (read_up (list_word setup (e ∷ t) r.tcap) n) (quality_of_word x))
-              (sym (left_same setup t e refl word_at (λ h. refl))))
+              ∙ ap (λ (x : ℕ). read_word (read_up (list_word setup (loaded ∷ t) r.tcap) n) (quality_of_word x))
+              (sym (left_same setup t loaded refl word_at (λ h. refl))))
           on (inr is) = inr is
 
   -- the list is read: it covers the grant or it does not, and the core has the ticks left or is told that it has not
@@ -246,39 +246,41 @@ module _ (setup : Setting) (setting : IsSetting setup) (cores : ℕ → Core) (t
   known = record r { list = next_list; at = at_list (suc n) }
 
   weighed_knows : (covered : Bool) → covers (in_order next_list) r.grant ≡ covered → (covered ≡ true → r.ticks ≤ r.left) → suc n ≡ 8
-      → KnowsRefillAt setup (e ∷ t) c (record known { at = weighed_at covered }) (weighed_at covered)
+      → KnowsRefillAt setup (loaded ∷ t) c (record known { at = weighed_at covered }) (weighed_at covered)
   weighed_knows true is enough all = record {
-    read = subst (HasReadList setup (e ∷ t) c (record known { at = Compare })) all
+    read = subst (HasReadList setup (loaded ∷ t) c (record known { at = Compare })) all
         (reads_more (record known { at = Compare }) refl refl refl);
     is = is;
     enough = enough;
   }
   weighed_knows false is enough all = record {
-    read = subst (HasReadList setup (e ∷ t) c (record known { at = Again })) all (reads_more (record known { at = Again }) refl refl refl);
+    read = subst (HasReadList setup (loaded ∷ t) c (record known { at = Again })) all
+        (reads_more (record known { at = Again }) refl refl refl);
     is = is;
     enough = λ h. absurd (false≢true h);
   }
 
-  goes : (q : Refill) → q.tcap ≡ r.tcap → q.ticks ≡ r.ticks → q.left ≡ r.left → q.grant ≡ r.grant → KnowsRefillAt setup (e ∷ t) c q q.at
+  goes : (q : Refill) → q.tcap ≡ r.tcap → q.ticks ≡ r.ticks → q.left ≡ r.left → q.grant ≡ r.grant
+      → KnowsRefillAt setup (loaded ∷ t) c q q.at
       → GoodTook setup cores t c (LoadOf word_at) (landed a (Goes (Act (refill_act q))))
-  goes q = load_goes setup setting cores t stands c here a active now_r stage_is has (suc n) q
+  goes q = load_goes setup setting cores t stands c here a active list_r stage_is has (suc n) q
 
   -- too few ticks are left: that is the core's own number, and where the call is alone no cause comes before it
   less_good : nat_lt r.left r.ticks ≡ true → covers (in_order next_list) r.grant ≡ true → suc n ≡ 8
       → GoodTook setup cores t c (LoadOf word_at) (landed a (refuse (refusal.Short r.left)))
   less_good less covered all lands =
       decides_on setup setting cores t stands c here a active (LoadOf word_at) (reply.Short r.left) a.found
-      (calls.loading setup setting cores t stands c here a active now_r stage_is has (suc n)) lands
-      (sym (calls.held_is setup setting cores t stands c here a active now_r stage_is has))
-      (calls.opens setup setting cores t stands c here a active now_r stage_is has) refl refl (λ x. refl) (λ x. refl) refl
-      (unspent, calls.short_may setup setting cores t stands c here a active now_r stage_is has less) tt
-      (λ is_alone. refused_first s c a.call (reply.Short r.left) has.acts unspent
-      (calls.short_first setup setting cores t stands c here a active now_r stage_is has
-      (sym (calls.covered_is setup setting cores t stands c here a active now_r stage_is has next_list (listed is_alone)) ∙ covered) less))
+      (calls.loading setup setting cores t stands c here a active list_r stage_is has (suc n)) lands
+      (sym (calls.held_is setup setting cores t stands c here a active list_r stage_is has))
+      (calls.opens setup setting cores t stands c here a active list_r stage_is has) refl refl (λ x. refl) (λ x. refl) refl
+      (unspent, calls.short_may setup setting cores t stands c here a active list_r stage_is has less) tt
+      (λ is_alone. refused_first s_list c a.call (reply.Short r.left) has.acts unspent
+      (calls.short_first setup setting cores t stands c here a active list_r stage_is has
+      (sym (calls.covered_is setup setting cores t stands c here a active list_r stage_is has next_list (listed is_alone)) ∙ covered) less))
     where
-      unspent : are_calls_spent s c ≡ false
+      unspent : are_calls_spent s_list c ≡ false
       unspent = not_spent setup (cores c) t c (core_is setup setting cores t stands c here a active)
-          (calls.room setup setting cores t stands c here a active now_r stage_is has)
+          (calls.room setup setting cores t stands c here a active list_r stage_is has)
 
       -- the list that was read is the one that stands
       listed : IsAlone t (inner setup setting cores t stands c here a active (LoadOf word_at) (Some (reply.Short r.left)) None)
@@ -299,7 +301,7 @@ module _ (setup : Setting) (setting : IsSetting setup) (cores : ℕ → Core) (t
   by_more true is =
       let same : suc (suc n) ≡ suc n + 1 = omega arith in
       goes (record known { at = at_list (suc n + 1) }) refl refl refl refl
-      (subst (λ (m : ℕ). KnowsRefillAt setup (e ∷ t) c (record known { at = at_list (suc n + 1) }) (at_list m)) same
+      (subst (λ (m : ℕ). KnowsRefillAt setup (loaded ∷ t) c (record known { at = at_list (suc n + 1) }) (at_list m)) same
       (reads_more (record known { at = at_list (suc n + 1) }) refl refl refl))
   by_more false is = weighs (covers (in_order next_list) r.grant) (nat_lt r.left r.ticks) refl refl
     where
@@ -318,12 +320,12 @@ module _ (setup : Setting) (setting : IsSetting setup) (cores : ℕ → Core) (t
   none_quality : (v : QualityWord) → None ≡ Some v → ⊥
   none_quality v h = cc
 
-  by_word : (o : Option QualityWord) → quality_of_word found ≡ o
+  by_quality : (o : Option QualityWord) → quality_of_word found ≡ o
       → GoodTook setup cores t c (LoadOf word_at)
       (landed a (took_refilled (record known { at = from_word o (suc n) (next_in (nat_lt (suc n) 8) (suc n) known) })
       (word_end o (at_word (nat_lt (suc n) 8) known))))
-  by_word None shown = absurd (false≢true (ap is_some (sym shown) ∙ read.seen.valid n (let most = low in omega (arith, most))))
-  by_word (Some v) shown = by_more (nat_lt (suc n) 8) refl
+  by_quality None shown = absurd (false≢true (ap is_some (sym shown) ∙ read.seen.valid n (let most = low in omega (arith, most))))
+  by_quality (Some v) shown = by_more (nat_lt (suc n) 8) refl
 
-  pub list_good : GoodTook setup cores t c (LoadOf word_at) (landed a (took_refill now_r found))
-  list_good = by_word (quality_of_word found) refl
+  pub list_good : GoodTook setup cores t c (LoadOf word_at) (landed a (took_refill list_r found))
+  list_good = by_quality (quality_of_word found) refl

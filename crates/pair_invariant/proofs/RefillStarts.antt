@@ -1,5 +1,5 @@
 -- A call that gives ticks back begins where its name has led to a temporal capability; and each of its steps is good.
-use Rattle.count_invariant.proofs.Common.{acts, IsTrue, ◌≡◌, inl, ℕ, zero, suc, ◌<◌, map, List, [], ◌∷◌, Some, None, refl, sym, ◌∙◌, ap}
+use Rattle.count_invariant.proofs.Common.{acts, IsTrue, ◌≡◌, ℕ, zero, suc, ◌<◌, map, List, [], ◌∷◌, Some, None, refl, sym, ◌∙◌, ap}
 use Rattle.count_invariant.proofs.Common.{subst, Capability, Setting, IsSetting, Call, Move, word_of, told_of, State, only, Found, named}
 use Rattle.count_invariant.proofs.Common.{Step, Trace, Open, phase, state_after, last_left, Carries, Name, Plan, plan_for, Leads, LeadsIn}
 use Rattle.count_invariant.proofs.Common.{names_after, GoesBy, own_pages, rule_of, of_kind, Acquired, Act, Undecided, act_begun}

@@ -1,28 +1,28 @@
 -- The compare that finds the head as it was read, with a list that covers the grant: it puts the ticks into the budget, and the core has
 -- had so many more back.
-use Rattle.count_invariant.proofs.Common.{Want, ◌≡◌, ◌≢◌, inl, inr, ℕ, zero, suc, ◌+◌, ◌^◌, ◌<◌, ◌≤◌, ◌==◌, true, false, List, [], ◌∷◌}
-use Rattle.count_invariant.proofs.Common.{length, Option, Some, None, arith, refl, sym, ◌∙◌, ap, subst, eqb-true, cases_eq, false≢true}
-use Rattle.count_invariant.proofs.Common.{All-nil, Setting, IsSetting, left_if, Capability, HeadFits, word_of_head, head_of_word}
-use Rattle.count_invariant.proofs.Common.{HeadWord, spelling, Word, EntryAt, FrameAt, CountAt, CoreAt, FlushAt, LiveAt, ClockAt, Move}
-use Rattle.count_invariant.proofs.Common.{left_of, Slot, own, Kernel, Tcap, TcapFields, PlaceOf, NumberOf, State}
-use Rattle.count_invariant.proofs.Common.{tcap_in, put, with_frame, thread_in, comp_in, thread_of, comp_of, first_of_stack}
-use Rattle.count_invariant.proofs.Common.{refs, frame_names, times, Found, IsFoundAnd, tcap_at, rule_of, change_of, changed, counted}
-use Rattle.count_invariant.proofs.Common.{MayReply, frame_refs, sum_one, core_same_refs, put_same, put_other, mark_of, mark_in_frame}
-use Rattle.count_invariant.proofs.Common.{head_mark, marked_by, frame_value, way_to, ways, HasReached, IsJustified, ends_in, flushes_in}
-use Rattle.count_invariant.proofs.Common.{stamp, Step, Trace, phase, state_after, last_left, state_decided_in, own_left, ok_first}
-use Rattle.count_invariant.proofs.Common.{decided-inside, leads_by, LeadsIn, own_pages, Own, own_changed, Act, Undecided, Decided}
-use Rattle.count_invariant.proofs.Common.{ActiveCall, landed, own_decided, Core, holds_counts, settled, IsFrameWord, WordIs, HasFound}
-use Rattle.count_invariant.proofs.Common.{own_in, KnowsUndecided, WorksIn, untypes, holds_in, holds, held_by, times_of, counted_in}
-use Rattle.count_invariant.proofs.Common.{Invariant, IsUntimed, plain_begins, plain_stamp, plain_flush, plain_exit, counted_refs}
-use Rattle.count_invariant.proofs.Common.{list_changed, TurnsHead, SparesTcap, limits_of, sums_keep, SameFor, ReadsAlike, StaysSaid}
-use Rattle.count_invariant.proofs.Common.{marks_own, word_stays, carry_marks, carry_words, others_settled, own_kept, TcapOf, counts_bare}
-use Rattle.count_invariant.proofs.Common.{not_exclusive_head_value, not_exclusive_head_word, exclusive_none, exclusive_free}
-use Rattle.count_invariant.proofs.Common.{Acquired, HeadIs, Open, Reply, phase_at}
+use Rattle.count_invariant.proofs.Common.{Want, ◌≡◌, ◌≢◌, inl, inr, ℕ, zero, suc, ◌+◌, ◌-◌, ◌^◌, ◌<◌, ◌≤◌, ◌==◌, Bool, true, false, List}
+use Rattle.count_invariant.proofs.Common.{[], ◌∷◌, length, Option, Some, None, arith, refl, sym, ◌∙◌, ap, subst, eqb-true, cases_eq}
+use Rattle.count_invariant.proofs.Common.{false≢true, All-nil, Setting, IsSetting, left_if, Capability, HeadFits, word_of_head}
+use Rattle.count_invariant.proofs.Common.{head_of_word, HeadWord, spelling, Word, EntryAt, FrameAt, CountAt, CoreAt, FlushAt, LiveAt}
+use Rattle.count_invariant.proofs.Common.{ClockAt, Move, left_of, Slot, own, Kernel, Tcap, TcapFields, PlaceOf, NumberOf, State, tcap_in}
+use Rattle.count_invariant.proofs.Common.{put, with_frame, thread_in, comp_in, thread_of, comp_of, first_of_stack, refs, frame_names, times}
+use Rattle.count_invariant.proofs.Common.{Found, IsFoundAnd, tcap_at, rule_of, change_of, changed, counted, MayReply, frame_refs, sum_one}
+use Rattle.count_invariant.proofs.Common.{core_same_refs, put_same, put_other, mark_of, mark_in_frame, head_mark, marked_by, frame_value}
+use Rattle.count_invariant.proofs.Common.{way_to, ways, HasReached, IsJustified, ends_in, flushes_in, stamp, Step, Trace, phase}
+use Rattle.count_invariant.proofs.Common.{state_after, last_left, state_decided_in, own_left, ok_first, decided-inside, leads_by, LeadsIn}
+use Rattle.count_invariant.proofs.Common.{own_pages, Own, own_changed, Act, Undecided, Decided, ActiveCall, landed, own_decided, Core}
+use Rattle.count_invariant.proofs.Common.{holds_counts, settled, IsFrameWord, WordIs, HasFound, own_in, KnowsUndecided, WorksIn, untypes}
+use Rattle.count_invariant.proofs.Common.{holds_in, holds, held_by, times_of, counted_in, Invariant, IsUntimed, plain_begins, plain_stamp}
+use Rattle.count_invariant.proofs.Common.{plain_flush, plain_exit, counted_refs, list_changed, TurnsHead, SparesTcap, limits_of, sums_keep}
+use Rattle.count_invariant.proofs.Common.{SameFor, ReadsAlike, StaysSaid, marks_own, word_stays, carry_marks, carry_words, others_settled}
+use Rattle.count_invariant.proofs.Common.{own_kept, TcapOf, counts_bare, not_exclusive_head_value, not_exclusive_head_word, exclusive_none}
+use Rattle.count_invariant.proofs.Common.{exclusive_free, Acquired, HeadIs, Open, Reply, phase_at, ends, flushes}
 use Rattle.std.proofs.Common.{IsSome, min}
 use Rattle.quality_lists.specs.Rank.{rank}
 use Rattle.quality_lists.specs.spk_nums.specs.declared.replies.Reply.TheVariants as reply
 use Rattle.quality_lists.specs.spk_nums.specs.declared.replies.Value.TheVariants as value
 use Rattle.kernel_laws.specs.kernel_rules.specs.State.{Core as CoreFields, with_core}
+use Rattle.kernel_laws.specs.kernel_rules.specs.CallRelation.{begins_in as begun_by}
 use Rattle.kernel_laws.specs.kernel_rules.specs.Edits.{given_back, with_tcap}
 use Rattle.count_invariant.proofs.Findings.{found_named, own_is, way_gone}
 use Rattle.count_invariant.specs.plan_ways.proofs.Ways.{all_ways}
@@ -281,7 +281,7 @@ module _ (setup : Setting) (setting : IsSetting setup) (cores : ℕ → Core) (t
 
     plain_won : IsUntimed setup t e_won
     plain_won = record {
-      begins = λ x. ap (λ p. begins_in (Some done) p s c x) is_open ∙ ap (λ y. begins s c y done x) is.call_is;
+      begins = λ x. ap (λ p. begins_in (Some done) p s c x) is_open ∙ ap (λ j. begun_by j x) found_is;
       ends = λ x. ap (λ p. ends_in (Some done) p x) is_open ∙ ap (λ y. ends y done x) is.call_is;
       flushes = ap (flushes_in (Some done)) is_open ∙ ap (λ y. flushes y done) is.call_is;
       apart = λ d. refl;

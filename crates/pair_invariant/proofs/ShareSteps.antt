@@ -1,5 +1,5 @@
 -- What the words of two temporal capabilities say, and the ways in which a call on them goes on by a load, or is decided by one.
-use Rattle.count_invariant.proofs.Common.{◌≡◌, inl, inr, ℕ, suc, ◌+◌, ◌<◌, ◌≤◌, ◌^◌, Bool, true, false, if◌then◌else◌, List, [], ◌∷◌}
+use Rattle.count_invariant.proofs.Common.{◌≡◌, inl, inr, ℕ, suc, ◌+◌, ◌<◌, Bool, true, false, if◌then◌else◌, List, [], ◌∷◌}
 use Rattle.count_invariant.proofs.Common.{Some, None, IsTrue, map, slice_get, arith, refl, sym, ◌∙◌, ap, subst, ne_eqb, Setting}
 use Rattle.count_invariant.proofs.Common.{IsSetting, Capability, Call, Reply, Value, HeadFits, word_of_head, head_of_word}
 use Rattle.count_invariant.proofs.Common.{quality_of_word, HeadWord, spelling, Word, EntryAt, Move, LoadOf, word_of, left_of, same_same}

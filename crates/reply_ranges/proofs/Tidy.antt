@@ -264,7 +264,7 @@ module _ (s : State) (o : ℕ → Bool) (c : ℕ) (opens : IsOpen s o c) (w : Is
   rule_tidy (Transfer a b m) lim = λ j e k f calm. record { places = h.places; flags = h.flags }
   rule_tidy (Delegate a b m) lim = λ j e k f calm. record { places = h.places; flags = h.flags }
   rule_tidy (Test a b) lim = λ j e k f calm. h
-  rule_tidy (Replenish a m) lim = λ j e calm. record { places = h.places; flags = h.flags }
+  rule_tidy (Replenish a m) lim = λ j e calm. record { places = h.places; flags = core_flags s.core c _ (h.flags c) h.flags }
   rule_tidy (Part r f n t b) lim = λ k e table g at v calm.
       filled at (part_of k f n) (part_cap k f n (named_cap r (to_part (only kind.Range)) k e)
       (named_good s o c r (to_part (only kind.Range)) k opens.sound opens.is e) (within_by s c k f n calm))

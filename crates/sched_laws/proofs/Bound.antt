@@ -1,27 +1,24 @@
 -- The response bound, turn by turn.
-use Rattle.std.proofs.Common.{◌≡◌, ◌≢◌, ◌⊎◌, inl, inr, ℕ, zero, suc, ◌+◌, ◌-◌, ◌<◌, ◌≤◌, min, Bool, true, false, not, ◌&&◌, ◌==◌, refl, sym}
+use Rattle.std.proofs.Common.{◌≡◌, ◌≢◌, inl, inr, ℕ, zero, suc, ◌+◌, ◌-◌, ◌<◌, ◌≤◌, min, Bool, true, false, not, ◌&&◌, ◌==◌, refl, sym}
 use Rattle.std.proofs.Common.{◌∙◌, ap, subst, arith}
 use Rattle.std.proofs.Common.{if◌then◌else◌, List, [], ◌∷◌, map, Option, Some, None, slice_set, IsSome}
 use Rattle.std.specs.Prelude.{slice_get, option_map}
 use Rattle.std.proofs.lemmas.Bool.{cases_lt, cases_eq, eq-eqb, ne_eqb, false≢true}
 use Rattle.std.proofs.lemmas.Option.{slice_get-map}
 use Rattle.spk_nums.specs.declared.replies.Reply.{Reply}
-use Rattle.kernel_rules.specs.State.{State}
 use Rattle.sched_rules.specs.declared.tasks.Task.{Task}
 use Rattle.sched_rules.specs.declared.tasks.Rule.{Rule}
 use Rattle.sched_rules.specs.declared.tasks.Job.{Job}
 use Rattle.sched_rules.specs.declared.tasks.Ready.{Ready}
 use Rattle.sched_rules.specs.declared.tasks.Choice.{Choice}
 use Rattle.sched_rules.specs.declared.tasks.Renewal.{Renewal}
-use Rattle.sched_rules.specs.declared.turns.Turn.{Turn}
-use Rattle.sched_rules.specs.declared.turns.Turn.TheVariants.{Ran, Idle, Refused}
-use Rattle.sched_rules.specs.Schedule.{Progress, Step, ready, chosen, next_arrival, length_of, turn_of, new_job, at_first, is_due, has_come, renewal}
+use Rattle.sched_rules.specs.declared.turns.Turn.TheVariants.{Ran, Refused}
+use Rattle.sched_rules.specs.Schedule.{Progress, Step, ready, next_arrival, length_of, turn_of, new_job, at_first, has_come, renewal}
 use Rattle.sched_rules.specs.Schedule.{job_after}
-use Rattle.sched_rules.specs.Schedule.{IsSchedule, turns_of, ran, refused}
+use Rattle.sched_rules.specs.Schedule.{IsSchedule, turns_of}
 use Rattle.sched_rules.specs.Texts.{ran_in, ran_by}
-use Rattle.sched_laws.specs.Least.{ComesFirst}
 use Rattle.sched_laws.specs.Response.{Throughout, HasNumbers, IsSupplied, NeverRefused, is_not_after, work_not_after}
-use Rattle.sched_laws.specs.Response.{TurnsEndBy, EndsBy, ResponseBound}
+use Rattle.sched_laws.specs.Response.{TurnsEndBy, ResponseBound}
 use Rattle.sched_laws.proofs.Picks.{best, none_ready, place_of, first_of_all}
 use Rattle.sched_laws.proofs.Arriving.{IsBefore, cut_most, cut_by, not_before, due_is, due_tells}
 use Rattle.sched_laws.proofs.Readiness.{ready_tells}

@@ -1,6 +1,6 @@
--- What the calls `switch` and `tick` of core 0, made alone, do to budgets and to what the core has spent and owes.
+-- What the calls `switch` and `tick` of core 0, made alone, do to budgets and to what the core has spent, has had back, and owes.
 use Rattle.std.proofs.Common.{◌≡◌, ◌≢◌, ℕ, ◌+◌, ◌-◌, ◌<◌, ◌≤◌, Bool, true, false, ◌==◌, refl, sym, ◌∙◌, ap, subst, arith}
-use Rattle.std.proofs.Common.{if◌then◌else◌, [], ◌∷◌, Option, Some, None}
+use Rattle.std.proofs.Common.{if◌then◌else◌, Option, Some, None}
 use Rattle.std.specs.Option.{option_and_then}
 use Rattle.std.proofs.lemmas.Bool.{eqb-true, eq-eqb, ne_eqb, false≢true, true≢false}
 use Rattle.spk_nums.specs.Capability.{Capability}
@@ -42,14 +42,15 @@ with_tcap_in _ p some = absurd (omega (arith, some))
 
 -- ---- `switch`
 
--- No budget has changed, nor what core 0 has spent and owes.
+-- No budget has changed, nor what core 0 has spent, has had back, and owes.
 pub record Keeps (s new : State) : Type 0 where
   pub budgets : (g : ℕ) → (tcap_at new g).budget ≡ (tcap_at s g).budget
   pub spent : (new.core 0).spent ≡ (s.core 0).spent
+  pub back : (new.core 0).back ≡ (s.core 0).back
   pub owed : (new.core 0).owed ≡ (s.core 0).owed
 
-same_keeps : (s : State) → Keeps s s
-same_keeps s = record { budgets = λ g. refl; spent = refl; owed = refl }
+pub same_keeps : (s : State) → Keeps s s
+same_keeps s = record { budgets = λ g. refl; spent = refl; back = refl; owed = refl }
 
 switches_keep : (s : State) (h q : ℕ) → Keeps s (switched s 0 h q)
 switches_keep s h q = record {
@@ -58,6 +59,7 @@ switches_keep s h q = record {
       (record (thread_in ((running s (s.core 0).thread None).frame h)) { runs_on = Some 0 })
       ∙ put_thread s.frame (s.core 0).thread g (record (thread_in (s.frame (s.core 0).thread)) { runs_on = None }));
   spent = refl;
+  back = refl;
   owed = refl;
 }
 
@@ -71,23 +73,23 @@ change_keeps s h q = outcome_all (λ change. Keeps s change.next) s 0 (switch_ru
 
 found_keeps : (s : State) (j : Judged Change) → IfFound j (λ change. Keeps s change.next) → Keeps s (changed s j)
 found_keeps s (Refused r) h = same_keeps s
-found_keeps s (Found change) h = record { budgets = h.budgets; spent = h.spent; owed = h.owed }
+found_keeps s (Found change) h = record { budgets = h.budgets; spent = h.spent; back = h.back; owed = h.owed }
 
 -- Whatever the reply.
 by_reply : (s : State) (h q : ℕ) (r : Reply) → Keeps s (state_by s 0 (Switch h q) r)
 by_reply s h q (reply.Ok v) =
     let k = found_keeps s (change_of s 0 (Switch h q)) (change_keeps s h q) in
-    record { budgets = k.budgets; spent = k.spent; owed = k.owed }
+    record { budgets = k.budgets; spent = k.spent; back = k.back; owed = k.owed }
 by_reply s h q reply.CallsSpent = same_keeps s
-by_reply s h q reply.Raced = record { budgets = λ g. refl; spent = refl; owed = refl }
-by_reply s h q (reply.Busy d) = record { budgets = λ g. refl; spent = refl; owed = refl }
-by_reply s h q _ = record { budgets = λ g. refl; spent = refl; owed = refl }
+by_reply s h q reply.Raced = record { budgets = λ g. refl; spent = refl; back = refl; owed = refl }
+by_reply s h q (reply.Busy d) = record { budgets = λ g. refl; spent = refl; back = refl; owed = refl }
+by_reply s h q _ = record { budgets = λ g. refl; spent = refl; back = refl; owed = refl }
 
 pub switch_keeps : (s : State) (h q : ℕ) → Keeps s (state_past s (Switch h q))
 unfolding state_past
 switch_keeps s h q =
     let k = by_reply (entered s 0) h q (plain_reply s 0 (Switch h q)) in
-    record { budgets = k.budgets; spent = k.spent; owed = k.owed }
+    record { budgets = k.budgets; spent = k.spent; back = k.back; owed = k.owed }
 
 -- A name that reaches a capability leads to it.
 named_is : (s : State) (n : ℕ) (want : Want) (k : Capability) → reach s 0 n ≡ Some k → named s 0 n want ≡ of_kind want k
@@ -116,7 +118,7 @@ kind_found want k j e = by_kind (want.kinds k.kind) e
     by_kind false e = absurd (cc)
 
 -- A reply that a look-up refuses with is not done.
-name_refused : (s : State) (n : ℕ) (want : Want) (r : Reply) → named s 0 n want ≡ Refused r → is_done r ≡ false
+pub name_refused : (s : State) (n : ℕ) (want : Want) (r : Reply) → named s 0 n want ≡ Refused r → is_done r ≡ false
 name_refused s n want r e = by_slot (reached s 0 (own s 0 n)) e
   where
     done_not : (p : Reply) → is_done p ≡ false → (let j : Judged Capability = Refused p in j ≡ Refused r) → is_done r ≡ false
@@ -164,7 +166,8 @@ judged_sets s h q k at = by_thread (named s 0 h (to_use (only kind.Thread))) ref
     by_thread (Refused r) is done = absurd (false≢true (sym (name_refused s h (to_use (only kind.Thread)) r is) ∙ done))
     by_thread (Found t) is done = by_tcap t (named s 0 q (to_use (only kind.Tcap))) refl done
 
-done_value : (r : Reply) → is_done r ≡ true → (s : State) (call : Call) → state_by s 0 call r ≡ counted (changed s (change_of s 0 call)) 0
+pub done_value : (r : Reply) → is_done r ≡ true → (s : State) (call : Call)
+    → state_by s 0 call r ≡ counted (changed s (change_of s 0 call)) 0
 done_value (reply.Ok v) done s call = refl
 done_value _ done s call = absurd (false≢true done)
 
@@ -220,6 +223,7 @@ tick_charges s u owes some most done =
       budget = (let b = here s u (s.core 0).tcap refl some in omega (arith, b, all, most));
       others = elsewhere s u;
       spent = omega (arith, all);
+      back = refl;
       owed = omega (arith, all, owes);
     })
 
@@ -230,5 +234,5 @@ tick_keeps s u off = by_spent (are_calls_spent (entered s 0) 0) off
   where
     by_spent : (b : Bool) → is_done (if b then reply.CallsSpent else first_reply (entered s 0) 0 (Tick u)) ≡ false
         → Keeps s (returned (state_by (entered s 0) 0 (Tick u) (if b then reply.CallsSpent else first_reply (entered s 0) 0 (Tick u))) 0)
-    by_spent true e = record { budgets = λ g. refl; spent = refl; owed = refl }
+    by_spent true e = record { budgets = λ g. refl; spent = refl; back = refl; owed = refl }
     by_spent false e = absurd (true≢false e)

@@ -1,5 +1,5 @@
--- The ticks of each turn are exactly those charged in it.
-use Rattle.std.proofs.Common.{◌≡◌, ◌≢◌, ℕ, ◌+◌, ◌<◌, ◌≤◌, min, Bool, true, false, ◌&&◌, ◌==◌, refl, ◌∙◌, ap, subst, arith}
+-- The ticks of each turn are exactly those charged, or given back, in it.
+use Rattle.std.proofs.Common.{◌≡◌, ℕ, ◌≤◌, min, Bool, true, false, ◌==◌, refl, ◌∙◌, ap, subst, arith}
 use Rattle.std.proofs.Common.{if◌then◌else◌, List, [], ◌∷◌, ◌++◌, Option, Some, None}
 use Rattle.std.proofs.lemmas.Bool.{eqb-true, and_parts}
 use Rattle.spk_nums.specs.declared.calls.Call.{Call}
@@ -9,13 +9,16 @@ use Rattle.kernel_rules.specs.State.{State}
 use Rattle.kernel_rules.specs.Edits.{tcap_at}
 use Rattle.sched_rules.specs.declared.tasks.Rule.{Rule}
 use Rattle.sched_rules.specs.declared.tasks.Choice.{Choice}
+use Rattle.sched_rules.specs.declared.tasks.Renewal.{Renewal}
 use Rattle.sched_rules.specs.Schedule.{Progress, Step, chosen, next_arrival, length_of, reply_to, state_past, is_done, is_place}
 use Rattle.sched_rules.specs.Schedule.{refused, ran, ticks, switches, switch_for, goes_on, runs, idles, turn_by, turn_of}
+use Rattle.sched_rules.specs.Schedule.{renewal, put_out, gives_back, renews, replenish_for, turn_for}
 use Rattle.sched_laws.specs.Charging.{Charges, ChargesNothing, TurnCharges, ExactTicks}
 use Rattle.sched_laws.proofs.Picks.{best}
 use Rattle.sched_laws.proofs.Arriving.{cut_most}
 use Rattle.sched_laws.proofs.Readiness.{IsReady, ready_tells}
-use Rattle.sched_laws.proofs.Charging.{Keeps, switch_keeps, switch_sets, tick_charges, tick_keeps}
+use Rattle.sched_laws.proofs.Charging.{Keeps, same_keeps, switch_keeps, switch_sets, tick_charges, tick_keeps}
+use Rattle.sched_laws.proofs.Restoring.{replenish_keeps, replenish_restores}
 
 -- A turn charges exactly, and leaves nothing owed.
 record Turn_exact (rule : Rule) (x : Progress) (step : Step) : Type 0 where
@@ -35,6 +38,7 @@ charges_then s t new f u k c =
       budget = omega (arith, b, kb);
       others = λ g other. c.others g other ∙ k.budgets g;
       spent = omega (arith, sp, ks);
+      back = c.back ∙ k.back;
       owed = c.owed;
     }
 
@@ -42,11 +46,12 @@ keeps_then : (s t new : State) → Keeps s t → Keeps t new → Keeps s new
 keeps_then s t new a b = record {
   budgets = λ g. b.budgets g ∙ a.budgets g;
   spent = b.spent ∙ a.spent;
+  back = b.back ∙ a.back;
   owed = b.owed ∙ a.owed;
 }
 
 nothing : (s new : State) → (s.core 0).owed ≡ 0 → Keeps s new → ChargesNothing s new
-nothing s new owes k = record { budgets = k.budgets; spent = k.spent; owed = k.owed ∙ owes }
+nothing s new owes k = record { budgets = k.budgets; spent = k.spent; back = k.back; owed = k.owed ∙ owes }
 
 module _ (rule : Rule) (x : Progress) (owes : (x.state.core 0).owed ≡ 0) where
   module _ (c : Choice) (is : chosen x.state rule x.time 0 x.jobs ≡ Some c) where
@@ -96,7 +101,7 @@ module _ (rule : Rule) (x : Progress) (owes : (x.state.core 0).owed ≡ 0) where
         by_going : (d : Bool) → goes_on x c ≡ d
             → Turn_exact rule x
             (if d then ticks x c x.state [] (length_of rule x c) else switches x c (switch_for c.job.task) (length_of rule x c))
-        by_going true on = ticks_exact x.state [] (record { budgets = λ g. refl; spent = refl; owed = refl })
+        by_going true on = ticks_exact x.state [] (same_keeps x.state)
             (eqb-true (x.state.core 0).tcap c.ready.tcap (and_parts (is_place x.last c.index) ((x.state.core 0).tcap == c.ready.tcap) on).1)
         by_going false off = by_switch (is_done (reply_to x.state (switch_for c.job.task))) refl
           where
@@ -111,17 +116,49 @@ module _ (rule : Rule) (x : Progress) (owes : (x.state.core 0).owed ≡ 0) where
             by_switch false off = refused_exact (state_past x.state (switch_for c.job.task)) (switch_for c.job.task ∷ [])
                 (switch_keeps x.state c.job.task.thread c.job.task.tcap) (reply_to x.state (switch_for c.job.task))
 
+  -- The turn in which a job arrives.
+  renews_exact : (r : Renewal) → renewal x.time 0 x.jobs ≡ Some r → Turn_exact rule x (renews x r (replenish_for r.job))
+  renews_exact r is = by_done (is_done (reply_to x.state (replenish_for r.job))) refl
+    where
+      by_done : (d : Bool) → is_done (reply_to x.state (replenish_for r.job)) ≡ d
+          → Turn_exact rule x
+          (if d then gives_back x r (replenish_for r.job)
+          else put_out x r.index r.job (state_past x.state (replenish_for r.job)) (replenish_for r.job ∷ [])
+          (reply_to x.state (replenish_for r.job)))
+      by_done true done =
+          let given = replenish_restores x.state r.job.task.tcap r.job.used owes done in
+          record {
+            charges = record {
+              come = r;
+              has_come = is;
+              task = refl;
+              used = refl;
+              tcap = given.tcap;
+              led = given.led;
+              restores = given.restores;
+            };
+            owes = given.restores.owed;
+          }
+      by_done false off =
+          let k = replenish_keeps x.state r.job.task.tcap r.job.used off in
+          record { charges = nothing x.state (state_past x.state (replenish_for r.job)) owes k; owes = k.owed ∙ owes }
+
   turn_exact : (step : Step) → turn_of rule x ≡ Some step → Turn_exact rule x step
-  turn_exact step e = by_choice (chosen x.state rule x.time 0 x.jobs) refl e
+  turn_exact step e = by_come (renewal x.time 0 x.jobs) refl e
     where
       by_arrival : (a : Option ℕ) → idles x a ≡ Some step → Turn_exact rule x step
       by_arrival None e = absurd (cc)
       by_arrival (Some at) e = subst (Turn_exact rule x) (some_step _ step e)
-          (record { charges = nothing x.state x.state owes (record { budgets = λ g. refl; spent = refl; owed = refl }); owes = owes })
+          (record { charges = nothing x.state x.state owes (same_keeps x.state); owes = owes })
 
       by_choice : (o : Option Choice) → chosen x.state rule x.time 0 x.jobs ≡ o → turn_by rule x o ≡ Some step → Turn_exact rule x step
       by_choice None is e = by_arrival (next_arrival x.time x.jobs) e
       by_choice (Some c) is e = subst (Turn_exact rule x) (some_step (runs x c (length_of rule x c)) step e) (runs_exact c is)
+
+      by_come : (o : Option Renewal) → renewal x.time 0 x.jobs ≡ o → turn_for rule x o ≡ Some step → Turn_exact rule x step
+      by_come None is e = by_choice (chosen x.state rule x.time 0 x.jobs) refl e
+      by_come (Some r) is e =
+          subst (Turn_exact rule x) (some_step (renews x r (replenish_for r.job)) step e) (renews_exact r is)
 
 pub exact_ticks : ExactTicks
 exact_ticks rule x [] is owes = tt

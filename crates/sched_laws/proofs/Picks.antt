@@ -1,5 +1,5 @@
 -- What is chosen is the least among the ready ones.
-use Rattle.std.proofs.Common.{◌≡◌, ◌≢◌, ℕ, zero, suc, ◌+◌, ◌<◌, ◌≤◌, Bool, true, false, refl, sym, ◌∙◌, ap, subst, arith}
+use Rattle.std.proofs.Common.{◌≡◌, ℕ, zero, suc, ◌+◌, ◌<◌, ◌≤◌, Bool, true, false, refl, sym, ◌∙◌, ap, subst, arith}
 use Rattle.std.proofs.Common.{nat_le, if◌then◌else◌, List, [], ◌∷◌, Option, Some, None}
 use Rattle.std.specs.Prelude.{slice_get}
 use Rattle.std.proofs.lemmas.Bool.{leb-true, leb-false}
@@ -9,7 +9,7 @@ use Rattle.sched_rules.specs.declared.tasks.Job.{Job}
 use Rattle.sched_rules.specs.declared.tasks.Ready.{Ready}
 use Rattle.sched_rules.specs.declared.tasks.Choice.{Choice}
 use Rattle.sched_rules.specs.Schedule.{ready, lesser, chosen}
-use Rattle.sched_laws.specs.Least.{ComesFirst, IsLeast, NoneReady, ChoosesLeast, LeastChosen}
+use Rattle.sched_laws.specs.Least.{ComesFirst, NoneReady, LeastChosen}
 
 -- The choice among the tasks listed from place i on.
 pub record Best (s : State) (rule : Rule) (now i : ℕ) (jobs : List Job) (c : Choice) : Type 0 where

@@ -1,7 +1,7 @@
 -- What a turn comes to: a further job of a task arrives, a task runs, or is refused, or nothing is ready.
-use Rattle.std.proofs.Common.{◌≡◌, ◌≢◌, ◌⊎◌, inl, inr, ℕ, zero, suc, ◌+◌, ◌-◌, ◌<◌, ◌≤◌, Bool, true, false, refl, sym}
+use Rattle.std.proofs.Common.{◌≡◌, ℕ, suc, ◌+◌, ◌-◌, ◌<◌, ◌≤◌, Bool, true, false, refl, sym}
 use Rattle.std.proofs.Common.{◌∙◌, ap, subst, arith}
-use Rattle.std.proofs.Common.{min, if◌then◌else◌, List, [], ◌∷◌, ◌++◌, Option, Some, None, slice_set}
+use Rattle.std.proofs.Common.{min, if◌then◌else◌, List, [], ◌∷◌, ◌++◌, Option, Some, None}
 use Rattle.std.specs.Prelude.{slice_get}
 use Rattle.spk_nums.specs.declared.calls.Call.{Call}
 use Rattle.spk_nums.specs.declared.calls.Call.TheVariants.{Tick}
@@ -9,15 +9,13 @@ use Rattle.spk_nums.specs.declared.replies.Reply.{Reply}
 use Rattle.kernel_rules.specs.State.{State}
 use Rattle.sched_rules.specs.declared.tasks.Rule.{Rule}
 use Rattle.sched_rules.specs.declared.tasks.Job.{Job}
-use Rattle.sched_rules.specs.declared.tasks.Ready.{Ready}
 use Rattle.sched_rules.specs.declared.tasks.Choice.{Choice}
 use Rattle.sched_rules.specs.declared.tasks.Renewal.{Renewal}
-use Rattle.sched_rules.specs.declared.turns.Turn.{Turn}
 use Rattle.sched_rules.specs.declared.turns.Turn.TheVariants.{Ran, Idle, Back, Refused}
-use Rattle.sched_rules.specs.Schedule.{Progress, Step, ready, chosen, next_arrival, cut_at, length_of, reply_to, state_past, is_done}
-use Rattle.sched_rules.specs.Schedule.{refused, ran, ticks, switches, switch_for, goes_on, runs, idles, turn_by, turn_for, turn_of}
+use Rattle.sched_rules.specs.Schedule.{Progress, Step, chosen, next_arrival, length_of, reply_to, state_past, is_done}
+use Rattle.sched_rules.specs.Schedule.{refused, ran, ticks, switches, switch_for, goes_on, idles, turn_by, turn_for, turn_of}
 use Rattle.sched_rules.specs.Schedule.{is_renewed, renewal, put_out, gives_back, replenish_for}
-use Rattle.sched_laws.specs.Least.{ComesFirst, IsLeast, NoneReady, LeastRuns, WaitsForNone, NoneWaits}
+use Rattle.sched_laws.specs.Least.{IsLeast, NoneReady, LeastRuns, NoneWaits}
 use Rattle.sched_laws.proofs.Picks.{best, none_ready, place_of, first_of_all}
 use Rattle.sched_laws.proofs.Arriving.{IsBefore, ready_same, tick_before}
 
@@ -52,17 +50,18 @@ pub record IdlesOn (rule : Rule) (x : Progress) (step : Step) : Type 0 where
 come_from : (now i : ℕ) (jobs : List Job) (r : Renewal) → renewal now i jobs ≡ Some r
     → (i ≤ r.index) × (slice_get jobs (r.index - i) ≡ Some r.job)
 come_from now i [] r is = absurd (cc)
-come_from now i (job ∷ jobs) r is = by_test (is_renewed now job) is
+come_from now i (job ∷ jobs) r is = by_test (is_renewed now job) is (λ h. come_from now (i + 1) jobs r h)
   where
     by_test : (b : Bool) → (if b then Some (record { index = i; job = job }) else renewal now (i + 1) jobs) ≡ Some r
+        → (renewal now (i + 1) jobs ≡ Some r → (i + 1 ≤ r.index) × (slice_get jobs (r.index - (i + 1)) ≡ Some r.job))
         → (i ≤ r.index) × (slice_get (job ∷ jobs) (r.index - i) ≡ Some r.job)
-    by_test true h =
+    by_test true h after =
         let same : record { index = i; job = job } ≡ r = cc in
         let index : i ≡ r.index = ap (λ (x : Renewal). x.index) same in
         let none : r.index - i ≡ 0 = omega (arith, index) in
         (omega (arith, index), ap (slice_get (job ∷ jobs)) none ∙ ap (λ (x : Renewal). Some x.job) same)
-    by_test false h =
-        let rest = come_from now (i + 1) jobs r h in
+    by_test false h after =
+        let rest = after h in
         let low : i + 1 ≤ r.index = rest.0 in
         let next : r.index - i ≡ suc (r.index - (i + 1)) = omega (arith, low) in
         (omega (arith, low), ap (slice_get (job ∷ jobs)) next ∙ rest.1)

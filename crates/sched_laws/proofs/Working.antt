@@ -1,9 +1,9 @@
 -- What each task has left.
-use Rattle.std.proofs.Common.{◌≡◌, ◌≢◌, inl, inr, ℕ, zero, suc, ◌+◌, ◌*◌, ◌-◌, ◌<◌, ◌≤◌, ◌==◌, true, false, refl, sym, ◌∙◌, ap, subst, arith}
-use Rattle.std.proofs.Common.{if◌then◌else◌, List, [], ◌∷◌, map, Some, None, slice_set}
+use Rattle.std.proofs.Common.{◌≡◌, ◌≢◌, inl, inr, ℕ, suc, ◌+◌, ◌*◌, ◌-◌, ◌==◌, true, false, refl, sym, ◌∙◌, ap, subst, arith}
+use Rattle.std.proofs.Common.{if◌then◌else◌, List, [], ◌∷◌, Some, slice_set}
 use Rattle.std.specs.Prelude.{slice_get, option_map}
 use Rattle.std.proofs.lemmas.Bool.{cases_eq, eq-eqb, ne_eqb}
-use Rattle.std.proofs.Math.Nat.{suc-mul}
+use Rattle.std.proofs.Math.Nat.{suc-mul, add-mul}
 use Rattle.std.proofs.lemmas.Option.{slice_get-map}
 use Rattle.sched_rules.specs.declared.tasks.Rule.{Rule}
 use Rattle.sched_rules.specs.declared.tasks.Job.{Job}
@@ -20,14 +20,6 @@ use Rattle.sched_laws.proofs.Bound.{length_most}
 
 same_job : (a b : Job) → Some a ≡ Some b → a ≡ b
 same_job a b e = cc
-
-times_sum : (a b w : ℕ) → (a + b) * w ≡ a * w + b * w
-times_sum zero b w = refl
-times_sum (suc a) b w =
-    let rest = times_sum a b w in
-    let all : suc (a + b) * w ≡ (a + b) * w + w = suc-mul (a + b) w in
-    let first : suc a * w ≡ a * w + w = suc-mul a w in
-    omega (arith, rest, all, first)
 
 -- After a turn in which a task ran, and so many further jobs of it came, it has left what it had and their work, but for what it ran.
 record Turned (x : Progress) (i ran come : ℕ) (old : Job) : Type 0 where
@@ -154,7 +146,7 @@ module _ (rule : Rule) (i : ℕ) where
       let b = rest.sum in
       let n : ℕ = come_by (i + 1) (turns_of steps) in
       let work : n * one.job.task.work ≡ n * job.task.work = ap (λ t. n * t.work) one.task in
-      let both = times_sum (come_in (i + 1) step.turn) n job.task.work in
+      let both = add-mul (come_in (i + 1) step.turn) n job.task.work in
       record { job = rest.job; listed = rest.listed; task = rest.task ∙ one.task; sum = omega (arith, a, b, work, both) }
 
 pub work_is_kept : WorkIsKept

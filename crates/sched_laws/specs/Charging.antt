@@ -14,17 +14,20 @@ use Rattle.sched_rules.specs.declared.turns.Turn.{Turn}
 use Rattle.sched_rules.specs.declared.turns.Turn.TheVariants.{Ran, Idle, Back, Refused}
 use Rattle.sched_rules.specs.Schedule.{Progress, Step, chosen, renewal, IsSchedule}
 
--- From state s to the new one core 0 has spent so many ticks, all of the temporal capability in a frame, and owes none.
+-- From state s to the new one core 0 has spent so many ticks, all of the temporal capability in a frame; it has had none back, and owes
+-- none.
 pub record Charges (s new : State) (f ticks : ℕ) : Type 0 where
   pub budget : (tcap_at new f).budget + ticks ≡ (tcap_at s f).budget
   pub others : (g : ℕ) → g ≢ f → (tcap_at new g).budget ≡ (tcap_at s g).budget
   pub spent : (new.core 0).spent ≡ (s.core 0).spent + ticks
+  pub back : (new.core 0).back ≡ (s.core 0).back
   pub owed : (new.core 0).owed ≡ 0
 
--- No budget has changed, and core 0 has spent nothing and owes nothing.
+-- No budget has changed, and core 0 has spent nothing, has had nothing back, and owes nothing.
 pub record ChargesNothing (s new : State) : Type 0 where
   pub budgets : (g : ℕ) → (tcap_at new g).budget ≡ (tcap_at s g).budget
   pub spent : (new.core 0).spent ≡ (s.core 0).spent
+  pub back : (new.core 0).back ≡ (s.core 0).back
   pub owed : (new.core 0).owed ≡ 0
 
 -- The turn of a task, counted from 1, charges its ticks to the temporal capability that the task's name reached when it was chosen.
@@ -43,8 +46,8 @@ pub record Restores (s new : State) (f ticks : ℕ) : Type 0 where
   pub back : (new.core 0).back ≡ (s.core 0).back + ticks
   pub owed : (new.core 0).owed ≡ 0
 
--- The turn in which a job of a task arrives, counted from 1, gives back what the task has run since its last job, to the temporal capability
--- that its name leads to.
+-- The turn in which a job of a task arrives, counted from 1, gives back what the task has run since its last job, to the temporal
+-- capability that its name leads to.
 pub record RestoresTask (x : Progress) (new : State) (i ticks : ℕ) : Type 0 where
   pub come : Renewal
   pub has_come : renewal x.time 0 x.jobs ≡ Some come

@@ -6,3 +6,5 @@ pub mod Response
 pub mod Periods
 pub mod Charging
 pub mod Work
+pub mod Arrivals
+pub mod Budgets

@@ -1,13 +1,12 @@
 -- When a task ends.
 use Rattle.std.specs.Prelude.{◌≡◌, ◌≢◌, ◌≤◌, ℕ, ◌+◌, Bool, true, ◌||◌, ◌&&◌, ◌==◌, nat_lt, nat_le, if◌then◌else◌}
-use Rattle.std.specs.Prelude.{List, [], ◌∷◌, slice_get, Option, Some, None, IsSome}
+use Rattle.std.specs.Prelude.{List, [], ◌∷◌, slice_get, Some, None, IsSome}
 use Rattle.spk_nums.specs.declared.replies.Reply.{Reply}
 use Rattle.kernel_rules.specs.State.{State}
 use Rattle.sched_rules.specs.declared.tasks.Task.{Task}
 use Rattle.sched_rules.specs.declared.tasks.Rule.{Rule}
 use Rattle.sched_rules.specs.declared.tasks.Job.{Job}
 use Rattle.sched_rules.specs.declared.tasks.Ready.{Ready}
-use Rattle.sched_rules.specs.declared.turns.Turn.{Turn}
 use Rattle.sched_rules.specs.declared.turns.Turn.TheVariants.{Ran, Refused}
 use Rattle.sched_rules.specs.Schedule.{Progress, Step, is_due, ready, at_first, turns_of, IsSchedule}
 use Rattle.sched_rules.specs.Texts.{ran_by}
@@ -52,8 +51,9 @@ pub record EndsBy (i work bound : ℕ) (steps : List Step) : Type 0 where
   pub turns : TurnsEndBy i bound steps
   pub whole : ran_by i (turns_of steps) ≡ work
 
--- Where no task has a period, one that is supplied whenever it is due, and is not refused, ends by its arrival and the work of all tasks that
--- are not after it, itself included. Nothing is asked of the others but that each has one number throughout: they may be refused, or run out of budget.
+-- Where no task has a period, one that is supplied whenever it is due, and is not refused, ends by its arrival and the work of all tasks
+-- that are not after it, itself included. Nothing is asked of the others but that each has one number throughout: they may be refused, or
+-- run out of budget.
 abbrev pub ResponseBound : Type 0
 ResponseBound = (rule : Rule) (s : State) (tasks : List Task) (steps : List Step)
     → ((k : ℕ) (other : Task) → slice_get tasks k ≡ Some other → other.period ≡ None) → IsSchedule rule (at_first s tasks) steps

@@ -1,9 +1,9 @@
 -- From a booted machine to the text.
 use Rattle.std.proofs.Common.{◌≡◌, ℕ, ◌+◌, ◌<◌, ◌≤◌, ◌^◌, refl, sym, ◌∙◌, ap, subst, arith, append_assoc}
-use Rattle.std.proofs.Common.{List, [], ◌∷◌, ◌++◌, length, take, get_or, Some, All}
-use Rattle.std.specs.Prelude.{slice_get, slice_index_or}
+use Rattle.std.proofs.Common.{List, [], ◌∷◌, ◌++◌, length, take, get_or, All}
+use Rattle.std.specs.Prelude.{slice_index_or}
 use Rattle.std.specs.Global.{Vec}
-use Rattle.std.proofs.lemmas.Option.{slice_get-get_or}
+use Rattle.std.proofs.lemmas.Option.{slice_get_within, get_or_from_slice_get}
 use Rattle.std.proofs.lemmas.List.{take_more, get_or-map, length-map}
 use Rattle.spk_nums.specs.Setting.{Setting, IsSetting}
 use Rattle.spk_nums.specs.CallLimits.{InLimits}
@@ -20,8 +20,8 @@ use Rattle.sched_rules.specs.Schedule.{Step, at_first, turns_of, IsSchedule, Tas
 use Rattle.sched_rules.specs.Texts.{ran_by, work_by}
 use Rattle.fixed_prio.specs.sched_laws.proofs.Working.{work_is_kept}
 use Rattle.sched_text.specs.Fitting.{RunsFit}
-use Rattle.fixed_prio.specs.Machines.{after_calls, Beside, MakesBoth}
-use Rattle.fixed_prio.specs.Courses.{HasScheduled}
+use Rattle.fixed_prio.specs.Machines.{after_calls, Beside}
+use Rattle.sched_run.proofs.Coming.{work_most}
 
 -- The plain kernel that starts beside a machine that has made no call.
 pub begun_beside : (setup : Setting) (k : Maps) → IsSetting setup → setup.cores ≡ 1 → Represents k (start setup) → Beside setup [] k
@@ -39,17 +39,17 @@ one_more before made made' calls i call below is so_far more =
     more ∙ ap (λ l. l ++ call ∷ []) so_far ∙ append_assoc before (take i calls) (call ∷ [])
     ∙ ap (λ l. before ++ l) (ap (λ c. take i calls ++ c ∷ []) is ∙ sym (take_more calls i call below))
 
--- No task runs for longer than the work of its jobs, of which no more than 1,000,001 arrive.
+-- No task runs for longer than the work of its jobs that arrived, which can be added up.
 pub runs_fit : (rule : Rule) (s : State) (tasks : List Task) (steps : List Step) (turns : List Turn)
-    → IsSchedule rule (at_first s tasks) steps → turns ≡ turns_of steps → All TaskFits tasks
-    → ((i : ℕ) (task : Task) → slice_get tasks i ≡ Some task → work_by (i + 1) turns task < 2 ^ 64) → RunsFit turns tasks
-runs_fit rule s tasks steps turns is same fit few i task at =
+    → IsSchedule rule (at_first s tasks) steps → turns ≡ turns_of steps → All TaskFits tasks → RunsFit turns tasks
+runs_fit rule s tasks steps turns is same fits i task at =
     let kept = work_is_kept rule s tasks steps is i task at in
     let sum = kept.sum in
-    let most = few i task at in
+    let most = work_most rule s tasks steps is i task at
+    (subst TaskFits (get_or_from_slice_get tasks i task task at) (fits i task (slice_get_within tasks i task at))) in
     let ran : ran_by (i + 1) turns ≡ ran_by (i + 1) (turns_of steps) = ap (ran_by (i + 1)) same in
     let work : work_by (i + 1) turns task ≡ work_by (i + 1) (turns_of steps) task = ap (λ l. work_by (i + 1) l task) same in
-    (omega (arith, sum, most, ran, work), most)
+    (omega (arith, sum, most, ran, work), omega (arith, most, work))
 
 -- The list of core 0.
 pub list_0 : (lists : List (Vec Call)) (v : Vec Call) → 0 < length lists → v ≡ get_or lists 0 v

@@ -177,7 +177,7 @@ module _ (d : Sched_draft) (number : ℕ) (words : List (List ℕ)) (steady : Is
 
   by_rule_now : (o : Option Rule) → d.rule ≡ o → IfOk (line_by d number words o) IsSteady
   by_rule_now None e = head_steady d number words e (subst (Steady d) e steady)
-  by_rule_now (Some rule) e = by_task (task_line words)
+  by_rule_now (Some rule) e = by_task (task_line d.script.head.version words)
 
   line_steady : IfOk (line_behind d number words) IsSteady
   line_steady = by_rule_now d.rule refl

@@ -1,10 +1,12 @@
 -- Adding up what tasks ran, and appending their lines.
-use Rattle.std.proofs.Common.{◌≡◌, ℕ, zero, suc, ◌+◌, ◌-◌, ◌<◌, ◌≤◌, sym, ◌∙◌, ap, arith}
+use Rattle.std.proofs.Common.{◌≡◌, ℕ, zero, suc, ◌+◌, ◌-◌, ◌<◌, ◌≤◌, ◌^◌, refl, sym, ◌∙◌, ap, subst, arith}
 use Rattle.std.proofs.Common.{List, [], ◌∷◌, ◌++◌, length, drop, get_or}
 use Rattle.std.proofs.lemmas.List.{drop_more}
+use Rattle.std.proofs.lemmas.Option.{slice_get_read}
 use Rattle.sched_rules.specs.declared.tasks.Task.{Task}
 use Rattle.sched_rules.specs.declared.turns.Turn.{Turn}
 use Rattle.sched_rules.specs.Texts.{ran_in, ran_by, work_by, turn_text, turn_lines, task_line, task_lines}
+use Rattle.sched_text.specs.Fitting.{RunsFit}
 
 pub one_ran : (i : ℕ) (turns : List Turn) (n : ℕ) (turn : Turn) → n < length turns → turn ≡ get_or turns n turn
     → ran_by i (drop n turns) ≡ ran_in i turn + ran_by i (drop (n + 1) turns)
@@ -28,6 +30,13 @@ pub one_task : (turns : List Turn) (tasks : List Task) (n i : ℕ) (task : Task)
 one_task turns tasks n i task below is =
     ap (task_lines turns i) (drop_more tasks n task below)
     ∙ ap (λ (t : Task). task_line i (ran_by i turns) (work_by i turns t) ++ task_lines turns (i + 1) (drop (n + 1) tasks)) (sym is)
+
+-- The ticks of a task and the work of its jobs can be added up.
+pub task_fits : (turns : List Turn) (tasks : List Task) → RunsFit turns tasks → (i n : ℕ) (task : Task) → n < length tasks
+    → task ≡ get_or tasks n task → i ≡ n → (ran_by (i + 1) turns < 2 ^ 64) × (work_by (i + 1) turns task < 2 ^ 64)
+task_fits turns tasks fit i n task below is same =
+    subst (λ k. (ran_by (k + 1) turns < 2 ^ 64) × (work_by (k + 1) turns task < 2 ^ 64)) (sym same)
+    (fit n task (slice_get_read tasks (length tasks) n task refl below is))
 
 -- What has been added up, with the turn before, is no more than the whole.
 pub sum_most : (i : ℕ) (turns : List Turn) (k : ℕ) (turn : Turn) (ran u : ℕ) → 0 < k → k ≤ length turns → turn ≡ get_or turns (k - 1) turn

@@ -4,7 +4,8 @@
 #![tactic(auto)]
 
 ghost use Rattle.std.specs.Prelude.{◌≡◌, ◌<◌, ◌≤◌, ◌+◌, ◌-◌, ◌∷◌, ◌++◌, ◌^◌, [], IfOk, OnOk, string_bytes, length};
-ghost use Rattle.sched_rules.specs.Texts.{ran_in, ran_by, come_in, work_by, turn_lines, task_line, task_lines, turn_text, schedule_text};
+ghost use Rattle.sched_rules.specs.Texts.{ran_in, ran_by, come_in, come_by, work_by, turn_lines, task_line, task_lines};
+ghost use Rattle.sched_rules.specs.Texts.{turn_text, schedule_text};
 ghost use Rattle.sched_text.specs.Fitting.{RunsFit};
 
 use sched_rules::{Task, Turn};
@@ -56,19 +57,26 @@ fn come_in(task: u32, turn: &Turn) -> u64
     }
 }
 
+// The further jobs of a task that arrived in these turns.
+fn come_by(task: u32, turns: &[Turn]) -> u64
+    ensures { result ≡ come_by task turns.now }
+{
+    let mut come = 0;
+    let mut index = turns.len();
+    'turns: while 0 < index {
+        index -= 1;
+        come += come_in(task, &turns[index]);
+    }
+    come
+}
+
 // The work of all jobs of a task that arrived by these turns.
 fn work_by(number: u32, turns: &[Turn], task: &Task) -> u64
     requires { work_by number turns.now task.now < 2 ^ 64 }
     ensures { result ≡ work_by number turns.now task.now }
 {
     let work = u64::from(task.work);
-    let mut come = work;
-    let mut index = turns.len();
-    'turns: while 0 < index {
-        index -= 1;
-        come += work * come_in(number, &turns[index]);
-    }
-    come
+    come_by(number, turns) * work + work
 }
 
 // Appends a line for each turn.

@@ -188,7 +188,8 @@ copy_read false version a t b r is some most ha ht hb few one =
 call_read : (version : ℕ) (c : Call) → 1 ≤ version → version ≤ 3 → IsCallWithin version c
     → call_line version (call_words c) (call_verb c) ≡ Ok c
 unfolding call_line look_line copy_line remove_line grow_line shrink_line retype_line map_line unmap_line touch_line
-    flush_line gate_line kill_line enter_line ret_line switch_line tick_line transfer_line delegate_line test_line part_line end_at
+    flush_line gate_line kill_line enter_line ret_line switch_line tick_line transfer_line delegate_line test_line part_line replenish_line
+    end_at
 call_read version (Look a) some most h = let ws = call_words (Look a) in rw (name_back ws 1 a refl h) refl
 call_read version (Copy a t b rights) some most h = copy_read (rights.0 == 3) version a t b rights.0 refl some most h.0 h.1 h.2 h.3 h.4
 call_read version (Remove t b) some most h = let ws = call_words (Remove t b) in rw (name_back ws 1 t refl h.0, name_back ws 2 b refl h.1) refl

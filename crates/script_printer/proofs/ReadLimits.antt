@@ -7,7 +7,7 @@ use Rattle.std.proofs.lemmas.Bool.{cases_Bool, cases_lt, eqb-true, eqb-false, lt
 use Rattle.std.proofs.lemmas.List.{get_or_past, length_push, length-set, length-take-le}
 use Rattle.std.proofs.lemmas.List.Elements.{All-push, All-set, All-weaker, All-get_or, All-take, All-nil, All-replicate}
 use Rattle.spk_nums.specs.declared.calls.Call.{Call}
-use Rattle.spk_nums.specs.declared.calls.Call.TheVariants.{Copy, Part}
+use Rattle.spk_nums.specs.declared.calls.Call.TheVariants.{Copy, Part, Replenish}
 use Rattle.spk_nums.specs.declared.grants.Grant.{Grant}
 use Rattle.spk_nums.specs.declared.steps.Item.{Item}
 use Rattle.spk_nums.specs.Setting.{GrantFits, IsSetting}

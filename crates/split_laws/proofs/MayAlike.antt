@@ -10,11 +10,9 @@ use Rattle.world_laws.specs.kernel_rules.specs.Access.{Want, Slot, Named, capabi
 use Rattle.world_laws.specs.kernel_rules.specs.Access.{usable, reached, root_slot, holds_link, has_no_slot, own}
 use Rattle.world_laws.specs.kernel_rules.specs.GracePeriods.{MayWait, MayBeUnflushed}
 use Rattle.world_laws.specs.kernel_rules.specs.Rules.{Cause, When, WaitedFor, Unflushed, Rule, Name, Vacant, Held, Mapped, Does, Judged}
-use Rattle.world_laws.specs.kernel_rules.specs.Rules.{Refused, Found}
-use Rattle.world_laws.specs.kernel_rules.specs.Rules.{named, held, mapped, and_then, or_refuse, IsFoundAnd, ReachesNone, ReachesHeld}
-use Rattle.world_laws.specs.kernel_rules.specs.Rules.{ReachesOther, ReachesLacking, Lacks}
-use Rattle.world_laws.specs.kernel_rules.specs.Rules.{NameMay, VacantMay, HeldMay, MappedMay, WaitedMay, UnflushedMay, CauseMay, OneMay}
-use Rattle.world_laws.specs.kernel_rules.specs.Rules.{name_of, slot_of, RuleMay}
+use Rattle.world_laws.specs.kernel_rules.specs.Rules.{Refused, Found, named, held, mapped, and_then, or_refuse, IsFoundAnd, ReachesNone}
+use Rattle.world_laws.specs.kernel_rules.specs.Rules.{ReachesHeld, ReachesOther, ReachesLacking, Lacks, NameMay, VacantMay, HeldMay}
+use Rattle.world_laws.specs.kernel_rules.specs.Rules.{MappedMay, WaitedMay, UnflushedMay, CauseMay, OneMay, name_of, slot_of, RuleMay}
 use Rattle.world_laws.specs.kernel_invariant.proofs.Facts.{none_some, or_found}
 use Rattle.same_changes.specs.Region.{Region, IsIn}
 use Rattle.same_changes.proofs.Reaching.{TwinsOn, IsSlotIn, then_same, place_agree, usable_agree, reached_agree, slot_within, own_in}

@@ -63,7 +63,8 @@ pub fn spent(ends: &[CoreEnd]) -> u128
 {
     let mut sum: u128 = 0;
     'cores: for core in 0..ends.len() {
-        sum += u128::from(ends[core].spent.saturating_sub(ends[core].back));
+        let end = &ends[core];
+        sum += u128::from(end.spent.saturating_sub(end.back));
     }
     sum
 }

@@ -2,6 +2,7 @@
 -- lead to it: those of its act alone.
 use Rattle.flight.proofs.Common.{◌≡◌, ℕ, ◌==◌, nat_lt, nat_le, Bool, true, false, List, [], ◌∷◌, Option, Some, None, false≢true}
 use Rattle.flight.proofs.Common.{Capability, Call, Tick, Transfer, Delegate, Test, Reply, StageEnd, Entry, CompWord, Target, Under}
+use Rattle.flight.specs.spk_nums.specs.declared.calls.Call.TheVariants.{Replenish}
 use Rattle.flight.proofs.Common.{InRoot, State, changes_budgets, Look, Acquired, Quiet, Thaw, debited, credited, amount_of, Pair, PairAt}
 use Rattle.flight.proofs.Common.{LoadA, MarkA, ListA, LoadB, ListB, CompareB, AgainB, StoreList, StoreB, StoreA, PairWork, First, Second}
 use Rattle.flight.proofs.Common.{at_place, Next, NextName, NextFree, NextHeld, NextOwn, NextNothing, next_of, Own, Outside, Tail, Nothing}

@@ -1,7 +1,8 @@
 -- What is found elsewhere than in a core's word, and what begins, says of no wait.
-use Rattle.std.proofs.Common.{if◌then◌else◌, Bool, true, false, List, Option, Some, None, refl, ℕ, ◌&&◌, nat_le}
+use Rattle.std.proofs.Common.{if◌then◌else◌, Bool, true, false, not, List, Option, Some, None, refl, ℕ, ◌&&◌, nat_le, nat_lt}
 use Rattle.call_stages.specs.act_states.specs.word_map.specs.Word.{Word, CoreAt}
 use Rattle.call_stages.specs.act_states.specs.word_map.specs.Moves.{word_of}
+use Rattle.call_stages.specs.spk_nums.specs.Merging.{covers}
 use Rattle.call_stages.specs.spk_nums.specs.Capability.{Capability}
 use Rattle.call_stages.specs.spk_nums.specs.Rights.{has_rights}
 use Rattle.call_stages.specs.spk_nums.specs.declared.kinds.FrameKind.{FrameKind}
@@ -32,9 +33,9 @@ use Rattle.call_stages.specs.act_states.specs.tcap_words.specs.declared.thread_w
 use Rattle.call_stages.specs.act_states.specs.tcap_words.specs.declared.stack_word.StackWord.{StackWord}
 use Rattle.call_stages.specs.act_states.specs.tcap_words.specs.declared.head_word.HeadWord.{HeadWord}
 use Rattle.call_stages.specs.act_states.specs.tcap_words.specs.declared.quality_word.QualityWord.{QualityWord}
+use Rattle.call_stages.specs.act_states.specs.tcap_words.specs.Quality.{quality_of_word}
 use Rattle.call_stages.specs.act_states.specs.call_plans.specs.After.{Next, NextName, NextFree, NextHeld, NextOwn, NextNothing}
-use Rattle.call_stages.specs.act_states.specs.kernel_rules.specs.Access.{Target as place, Under, InRoot}
-use Rattle.call_stages.specs.act_states.specs.kernel_rules.specs.Access.{Want}
+use Rattle.call_stages.specs.act_states.specs.kernel_rules.specs.Access.{Target as place, Under, InRoot, Want}
 use Rattle.call_stages.specs.act_states.specs.stage_look.specs.declared.look.Look.{Look}
 use Rattle.call_stages.specs.act_states.specs.stage_look.specs.declared.look.Look.TheVariants as look
 use Rattle.call_stages.specs.act_states.specs.stage_look.specs.declared.look.Found.{Found}
@@ -61,7 +62,8 @@ use Rattle.call_stages.specs.act_states.specs.stage_tcap.specs.declared.pair.Pai
 use Rattle.call_stages.specs.act_states.specs.stage_tcap.specs.declared.pair.PairAt.{PairAt}
 use Rattle.call_stages.specs.act_states.specs.stage_tcap.specs.declared.pair.PairAt.TheVariants as pair
 use Rattle.call_stages.specs.act_states.specs.stage_tcap.specs.declared.pair.PairWork.{PairWork}
-use Rattle.call_stages.specs.act_states.specs.stage_tcap.specs.Refilling.{weighed, word_end, won, again, refill_end_at}
+use Rattle.call_stages.specs.act_states.specs.stage_tcap.specs.Lists.{in_order}
+use Rattle.call_stages.specs.act_states.specs.stage_tcap.specs.Refilling.{weighed, at_word, word_end, won, again, refill_end_at}
 use Rattle.call_stages.specs.act_states.specs.stage_tcap.specs.declared.refill.Refill.{Refill}
 use Rattle.call_stages.specs.act_states.specs.stage_tcap.specs.declared.refill.RefillAt.{RefillAt}
 use Rattle.call_stages.specs.act_states.specs.stage_tcap.specs.declared.refill.RefillAt.TheVariants as refill
@@ -291,6 +293,9 @@ module _ (w : Word) where
   weighed_at true n = tt
   weighed_at false n = tt
 
+  pub listed_at : (more : Bool) (r : Refill) → EndAt w (at_word more r)
+  listed_at more r = weighed_at (not more && (covers (in_order r.list) r.grant && nat_lt r.left r.ticks)) r.left
+
   pub word_end_at : (o : Option QualityWord) (end : StageEnd Value) → EndAt w end → EndAt w (word_end o end)
   word_end_at None end h = tt
   word_end_at (Some v) end h = h
@@ -305,7 +310,7 @@ module _ (w : Word) where
 
   pub refill_at : (r : Refill) (at : RefillAt) (found : ℕ) → EndAt w (refill_end_at r at found)
   refill_at r refill.Load found = head_at _
-  refill_at r (refill.List n) found = word_end_at _ _ (weighed_at _ _)
+  refill_at r (refill.List n) found = word_end_at (quality_of_word found) (at_word (nat_lt n 8) r) (listed_at (nat_lt n 8) r)
   refill_at r refill.Compare found = won_at _
   refill_at r refill.Again found = again_seen_at _
 

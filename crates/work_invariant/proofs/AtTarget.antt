@@ -1,6 +1,6 @@
 -- The act with which a call begins at a target that is to be free: it fills the place, it makes an object in a frame of its range, or this
 -- frame is out of range.
-use Rattle.comp_invariant.proofs.Common.{to_use, IsSome, ◌≡◌, inl, ℕ, ◌<◌, ◌&&◌, nat_lt, Bool, true, false, List, [], ◌∷◌, Option, Some}
+use Rattle.comp_invariant.proofs.Common.{IsSome, ◌≡◌, inl, ℕ, ◌<◌, ◌&&◌, nat_lt, Bool, true, false, List, [], ◌∷◌, Option, Some}
 use Rattle.comp_invariant.proofs.Common.{refl}
 use Rattle.comp_invariant.proofs.Common.{sym, ◌∙◌, ap, subst, IsTrue, arith, if◌then◌else◌, None, ◌≤◌, inr, lt-ltb, le-leb, false≢true}
 use Rattle.comp_invariant.proofs.Common.{kept, right_to_copy, Capability, cap_of, Setting, IsSetting, Kind, Call, Copy, Remove, Shrink}
@@ -30,7 +30,6 @@ use Rattle.comp_invariant.specs.call_plans.specs.declared.plans.Nth.{Nth}
 use Rattle.comp_invariant.specs.call_plans.specs.declared.plans.Spot.TheVariants as spot_of
 use Rattle.comp_invariant.specs.call_plans.specs.declared.plans.Target.TheVariants.{Free, Held, Own as own_page}
 use Rattle.comp_invariant.specs.call_plans.specs.PlanOf.{any_cap, a_root, a_leaf, a_whole}
-use Rattle.comp_invariant.specs.act_states.specs.declared.objects.NewObject.TheVariants as objects
 use Rattle.comp_invariant.specs.act_states.specs.declared.work.Act.{Act as ActOf}
 use Rattle.comp_invariant.specs.act_states.specs.Acts.{gate_if, gate_to, fills_with, scans, stamp_in}
 use Rattle.comp_invariant.specs.act_states.specs.Acts.{stamp_of_act, filling, making, making_if, makes_at}
@@ -404,6 +403,9 @@ begins_free own Ret limits small spot to s plan ks read c core none leads fits w
     not_target : Nowhere ≡ Free spot → ⊥
     not_target h = cc
 begins_free own (Replenish x m) limits small spot to s plan ks read c core none leads fits within reads at = absurd (not_target to)
+  where
+    not_target : Nowhere ≡ Free spot → ⊥
+    not_target h = cc
 begins_free own (Transfer x y m) limits small spot to s plan ks read c core none leads fits within reads at = absurd (not_target to)
   where
     not_target : Nowhere ≡ Free spot → ⊥

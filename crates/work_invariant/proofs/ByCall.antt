@@ -135,6 +135,9 @@ begins_removal own (Copy a u b rights) spot to ks = absurd (not_held to)
     not_held : Free (spot_of.Under Second b) ≡ Held spot → ⊥
     not_held h = cc
 begins_removal own (Replenish x m) spot to ks = absurd (not_held to)
+  where
+    not_held : Nowhere ≡ Held spot → ⊥
+    not_held h = cc
 begins_removal own (Part r f n u b) spot to ks = absurd (not_held to)
   where
     not_held : Free (spot_of.Under Second b) ≡ Held spot → ⊥

@@ -13,7 +13,7 @@ use Rattle.comp_invariant.proofs.Common.{NextOwn, NextNothing, next_of, NextMay,
 use Rattle.comp_invariant.proofs.Common.{ActiveCall, FrameKind, only_is, Goes, Acquired, reads_of, dues, next_work, starts, stamp_shown}
 use Rattle.comp_invariant.proofs.Common.{act_begun, fills_page, CountsAt, HasRoom, holds_counts, due_of, ReadIs, ReadBefore}
 use Rattle.comp_invariant.proofs.Common.{MayFill, KnowsAct, LooksUp, own_in, HasFound, NamesAre, LooksFor, KnowsUndecided, phase_at}
-use Rattle.comp_invariant.proofs.Common.{Quiet, quiet_scan, clock, stamp, landed, found_more, Core, holds_at, holds_in}
+use Rattle.comp_invariant.proofs.Common.{Quiet, quiet_scan, clock, landed, found_more, Core, holds_at, holds_in}
 use Rattle.comp_invariant.proofs.Common.{Invariant, names_on, limits_of, Want, has_rights, neither, to_look}
 use Rattle.switch_invariant.specs.thread_invariant.proofs.InvokeStarts.{invokes_good}
 use Rattle.comp_invariant.specs.spk_nums.specs.declared.calls.Call.TheVariants.{Look as look_call, Part, Replenish}

@@ -14,4 +14,4 @@ cores-preserved c =
     let back : c.core-value.result.now.back ≡ ((state_of c.args.k.now).core c.cores.core).back =
     ap (λ (k : Core). k.back) (rw c.new.ensures at c.core-value.ensures) in
     let m = sum_more (λ d. outstanding ((state_of c.args.k.now).core d)) c.cores.core in
-    record { sum = omega (arith, m, spent, back, c.from-saturating_sub.ensures); most = omega arith }
+    record { sum = omega (arith, m, spent, back, c.saturating_sub.ensures); most = omega arith }

@@ -1,4 +1,4 @@
-use Rattle.std.proofs.Common.{sym, ap, arith, ◌≡◌}
+use Rattle.std.proofs.Common.{◌-◌, sym, ap, arith, ◌≡◌}
 use Rattle.kernel_history.proofs.Sums.{sum_none, sum_more}
 use Rattle.table_lines.specs.Ends.{core_shown}
 use Rattle.table_report.specs.Shown.{core_shown_at}
@@ -17,6 +17,6 @@ cores-preserved c =
     let m = sum_more (λ k. outstanding (core_shown_at c.args.ends.now k)) c.cores.core in
     let r = ap (λ e. e.spent - e.back) c.index-ends-core.is in
     record {
-      sum = omega (arith, m, e, r, c.from-saturating_sub.ensures);
-      most = omega (arith, c.index-ends-core.element_fits, c.from-saturating_sub.ensures);
+      sum = omega (arith, m, e, r, c.saturating_sub.ensures);
+      most = omega (arith, c.saturating_sub.ensures);
     }
