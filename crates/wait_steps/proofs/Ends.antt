@@ -35,7 +35,8 @@ use Rattle.call_stages.specs.act_states.specs.tcap_words.specs.declared.head_wor
 use Rattle.call_stages.specs.act_states.specs.tcap_words.specs.declared.quality_word.QualityWord.{QualityWord}
 use Rattle.call_stages.specs.act_states.specs.tcap_words.specs.Quality.{quality_of_word}
 use Rattle.call_stages.specs.act_states.specs.call_plans.specs.After.{Next, NextName, NextFree, NextHeld, NextOwn, NextNothing}
-use Rattle.call_stages.specs.act_states.specs.kernel_rules.specs.Access.{Target as place, Under, InRoot, Want}
+use Rattle.call_stages.specs.act_states.specs.kernel_rules.specs.Access.{Target as place, Under, InRoot}
+use Rattle.call_stages.specs.act_states.specs.kernel_rules.specs.Access.{Want}
 use Rattle.call_stages.specs.act_states.specs.stage_look.specs.declared.look.Look.{Look}
 use Rattle.call_stages.specs.act_states.specs.stage_look.specs.declared.look.Look.TheVariants as look
 use Rattle.call_stages.specs.act_states.specs.stage_look.specs.declared.look.Found.{Found}
