@@ -34,7 +34,7 @@ module _ {r : Region} {t s : State} {o : ℕ → Bool} {c : ℕ} (w : TwinsOn r 
       refl,
       refl,
       λ table is_table.
-          (refl, (λ on. table_at w x table is_table), λ at is_free. (tt, λ none. (refl, refl, tt, tt))),
+          (refl, (λ on. table_at w x table is_table), λ at is_free. (tt, λ none. (refl, refl, (tt, tt)))),
     ),
   )
 
@@ -48,7 +48,7 @@ module _ {r : Region} {t s : State} {o : ℕ → Bool} {c : ℕ} (w : TwinsOn r 
       λ table is_table. (
         refl,
         (λ on. table_at w x table is_table),
-        λ at is_free. (((refl, λ on. refl), λ calm. tt), λ none. (refl, refl, tt, tt)),
+        λ at is_free. (((refl, λ on. refl), λ calm. tt), λ none. (refl, refl, (tt, tt))),
       ),
     ),
   )
@@ -58,7 +58,7 @@ module _ {r : Region} {t s : State} {o : ℕ → Bool} {c : ℕ} (w : TwinsOn r 
     refl,
     refl,
     λ table is_table.
-        (refl, (λ on. table_at w x table is_table), λ at cap is_held. (tt, λ none. (refl, refl, tt, tt))),
+        (refl, (λ on. table_at w x table is_table), λ at cap is_held. (tt, λ none. (refl, refl, (tt, tt)))),
   )
 
   pub grow_same : (x i l : ℕ) → SameRule r s c (grow_rule x i l) (grow_rule x i l)
@@ -69,7 +69,7 @@ module _ {r : Region} {t s : State} {o : ℕ → Bool} {c : ℕ} (w : TwinsOn r 
       refl,
       refl,
       λ leaf is_leaf.
-          (refl, root_within w x table is_table, λ at is_free. (tt, λ none. (refl, refl, tt, tt))),
+          (refl, root_within w x table is_table, λ at is_free. (tt, λ none. (refl, refl, (tt, tt)))),
     ),
   )
 
@@ -78,7 +78,7 @@ module _ {r : Region} {t s : State} {o : ℕ → Bool} {c : ℕ} (w : TwinsOn r 
     refl,
     refl,
     λ table is_table.
-        (refl, root_within w x table is_table, λ at link is_held. (tt, λ none. (refl, refl, tt, tt))),
+        (refl, root_within w x table is_table, λ at link is_held. (tt, λ none. (refl, refl, (tt, tt)))),
   )
 
   -- ---- making
@@ -99,7 +99,7 @@ module _ {r : Region} {t s : State} {o : ℕ → Bool} {c : ℕ} (w : TwinsOn r 
         (λ on. table_at w x table is_table),
         λ at is_free. (
           ((refl, λ on. refl), λ inside. (not_blank_same f (range_at w p range f is inside), λ calm. tt)),
-          λ none. (refl, refl, tt, tt, tt),
+          λ none. (refl, refl, (tt, (tt, tt))),
         ),
       ),
     ),
@@ -140,9 +140,7 @@ module _ {r : Region} {t s : State} {o : ℕ → Bool} {c : ℕ} (w : TwinsOn r 
                     refl,
                     ap (λ n. Component f (record { table = own_table.frame; pages = own_pages.frame; number = l; epoch = epoch_of n + 1 })
                         ∷ Fill at (plain_cap kind.Comp f) ∷ []) number,
-                    tt,
-                    tt,
-                    tt,
+                    (tt, (tt, tt)),
                   ),
                 ),
               ),
@@ -171,7 +169,7 @@ module _ {r : Region} {t s : State} {o : ℕ → Bool} {c : ℕ} (w : TwinsOn r 
           (λ on. table_at w x table is_table),
           λ at is_free. (
             ((refl, λ on. refl), λ inside. (not_blank_same f (range_at w p range f is inside), λ calm. tt)),
-            λ none. (refl, refl, tt, tt, tt),
+            λ none. (refl, refl, (tt, (tt, tt))),
           ),
         ),
       ),
@@ -188,7 +186,7 @@ module _ {r : Region} {t s : State} {o : ℕ → Bool} {c : ℕ} (w : TwinsOn r 
         (λ on. table_at w x table is_table),
         λ at is_free. (
           ((refl, λ on. refl), λ inside. (not_blank_same f (range_at w p range f is inside), λ calm. tt)),
-          λ none. (refl, refl, tt, tt, tt),
+          λ none. (refl, refl, (tt, (tt, tt))),
         ),
       ),
     ),

@@ -88,7 +88,7 @@ module _ {r : Region} {t s : State} {o : ℕ → Bool} {c : ℕ} (w : TwinsOn r 
       λ none.
           let is_in = range_at w p range f is (none_parts (refusal_of s c (outside (found range) f))
           (first_cause s c (not_retyped s f frame_kind.Untyped)) none).0 in
-          (refl, refl, is_in, tt),
+          (refl, refl, (is_in, tt)),
     ),
   )
   retype_same p f frame_kind.User = (
@@ -99,7 +99,7 @@ module _ {r : Region} {t s : State} {o : ℕ → Bool} {c : ℕ} (w : TwinsOn r 
         (refl, λ on. refl),
         λ inside. ((frame_agree w f (λ x. not (is_untyped x)) (range_at w p range f is inside), λ on. refl), λ calm. tt),
       ),
-      λ none. (refl, refl, tt, tt),
+      λ none. (refl, refl, (tt, tt)),
     ),
   )
   retype_same p f frame_kind.Kernel = (
@@ -110,7 +110,7 @@ module _ {r : Region} {t s : State} {o : ℕ → Bool} {c : ℕ} (w : TwinsOn r 
         (refl, λ on. refl),
         λ inside. ((frame_agree w f (λ x. not (is_untyped x)) (range_at w p range f is inside), λ on. refl), λ calm. tt),
       ),
-      λ none. (refl, refl, tt, tt),
+      λ none. (refl, refl, (tt, tt)),
     ),
   )
 
@@ -131,7 +131,7 @@ module _ {r : Region} {t s : State} {o : ℕ → Bool} {c : ℕ} (w : TwinsOn r 
             (refl, λ on. refl),
             λ inside. ((frame_agree w f (λ x. not (is_user x)) (range_at w p range f is inside), λ on. refl), λ calm. tt),
           ),
-          λ none. (refl, refl, tt, tt),
+          λ none. (refl, refl, (tt, tt)),
         ),
       ),
     ),
@@ -142,7 +142,7 @@ module _ {r : Region} {t s : State} {o : ℕ → Bool} {c : ℕ} (w : TwinsOn r 
     refl,
     refl,
     λ pages is_pages.
-        (refl, (λ on. pages_at w m pages is_pages), λ at mapping is_held. (tt, λ none. (refl, refl, tt, tt))),
+        (refl, (λ on. pages_at w m pages is_pages), λ at mapping is_held. (tt, λ none. (refl, refl, (tt, tt)))),
   )
 
   touched_same : (v : ℕ) (tr : Option Translation)
@@ -152,7 +152,7 @@ module _ {r : Region} {t s : State} {o : ℕ → Bool} {c : ℕ} (w : TwinsOn r 
     refl,
     refl,
     pages_in w,
-    λ mapping is. (tt, λ none. (refl, refl, tt, tt)),
+    λ mapping is. (tt, λ none. (refl, refl, (tt, tt))),
   )
 
   pub touch_same : (v : ℕ) → SameRule r s c (touch_rule t c v) (touch_rule s c v)
@@ -164,7 +164,7 @@ module _ {r : Region} {t s : State} {o : ℕ → Bool} {c : ℕ} (w : TwinsOn r 
       (touched_same v (translation_of (s.core c).cached (comp_of s c).pages v))
 
   pub flush_same : SameRule r s c flush_rule flush_rule
-  flush_same = (tt, λ none. (refl, refl, tt, tt))
+  flush_same = (tt, λ none. (refl, refl, (tt, tt)))
 
 -- ---- the whole machine
 

@@ -66,8 +66,7 @@ module _ {r : Region} {t s : State} {o : ℕ → Bool} {c : ℕ} (w : TwinsOn r 
           λ none. (
             refl,
             ap (λ (x : Frame). Fill at (cap_of kind.Gate comp.frame (comp_in x).epoch) ∷ []) (named_agrees w k kind.Comp comp refl is),
-            tt,
-            tt,
+            (tt, tt),
           ),
         ),
       ),
@@ -87,7 +86,7 @@ module _ {r : Region} {t s : State} {o : ℕ → Bool} {c : ℕ} (w : TwinsOn r 
         subst (λ x. SameRule r s c (Rattle.kernel_rules.specs.InvocationCalls.kill_comp t (found comp) (comp_in x))
         (Rattle.kernel_rules.specs.InvocationCalls.kill_comp s (found comp) fields)) (sym frame) (
           ((ap (λ n. not (is_live_in n fields.epoch)) number, λ on. refl), λ calm. tt),
-          λ none. (refl, refl, (comp_parts w comp.frame inside fit).2, tt),
+          λ none. (refl, refl, ((comp_parts w comp.frame inside fit).2, tt)),
         ),
   )
 
@@ -106,14 +105,14 @@ module _ {r : Region} {t s : State} {o : ℕ → Bool} {c : ℕ} (w : TwinsOn r 
             (ap (λ (k : ThreadFields). nat_le 16 (length k.stack)) (thread_agree w), λ on. refl),
             λ calm. ((ap (λ n. not (is_live_in n gate.arg)) number, λ on. refl), λ calm. tt),
           ),
-          λ none. (refl, refl, tt, tt),
+          λ none. (refl, refl, (tt, tt)),
         ),
   )
 
   pub ret_same : SameRule r s c (ret_rule t c) (ret_rule s c)
   ret_same = (
     ((ap (λ (k : ThreadFields). nat_le (length k.stack) 1) (thread_agree w), λ on. refl), λ calm. tt),
-    λ none. (refl, refl, tt, tt),
+    λ none. (refl, refl, (tt, tt)),
   )
 
   -- ---- switching
@@ -135,13 +134,13 @@ module _ {r : Region} {t s : State} {o : ℕ → Bool} {c : ℕ} (w : TwinsOn r 
     where
       by_core : (thread tcap : Capability) → r.frame thread.frame ≡ true → (e : Option ℕ)
           → SameRule r s c (switch_to (found thread) tcap.frame e) (switch_to (found thread) tcap.frame e)
-      by_core thread tcap is None = (tt, λ none. (refl, refl, is, tt))
-      by_core thread tcap is (Some e) = (((refl, λ on. refl), λ calm. tt), λ none. (refl, refl, is, tt))
+      by_core thread tcap is None = (tt, λ none. (refl, refl, (is, tt)))
+      by_core thread tcap is (Some e) = (((refl, λ on. refl), λ calm. tt), λ none. (refl, refl, (is, tt)))
 
   -- ---- ticks
 
   pub tick_same : (n : ℕ) → SameRule r s c (tick_rule t c n) (tick_rule s c n)
-  tick_same n = (tt, λ none. (ap Amount (charge_agree w n), refl, tt, tt))
+  tick_same n = (tt, λ none. (ap Amount (charge_agree w n), refl, (tt, tt)))
 
   -- ---- moving budgets, and preemption
 
@@ -166,7 +165,7 @@ module _ {r : Region} {t s : State} {o : ℕ → Bool} {c : ℕ} (w : TwinsOn r 
                 λ calm. (((λ i. not (are_alike (one i).qualities (other i).qualities)), λ on. refl), λ calm. tt),
               ),
             ),
-            λ none. (refl, refl, (named_at w a kind.Tcap x refl is, named_at w b kind.Tcap y refl is_other), tt),
+            λ none. (refl, refl, ((named_at w a kind.Tcap x refl is, named_at w b kind.Tcap y refl is_other), tt)),
           ),
     ),
   )
@@ -191,7 +190,7 @@ module _ {r : Region} {t s : State} {o : ℕ → Bool} {c : ℕ} (w : TwinsOn r 
                 λ calm. ((ap (λ l. nat_lt 8 (length l)) list, λ on. refl), λ calm. tt),
               ),
             ),
-            λ none. (refl, ap (λ l. Move x.frame y.frame m ∷ Merge y.frame l ∷ []) list, (first, second), second, tt),
+            λ none. (refl, ap (λ l. Move x.frame y.frame m ∷ Merge y.frame l ∷ []) list, ((first, second), (second, tt))),
           ),
     ),
   )
@@ -231,7 +230,7 @@ module _ {r : Region} {t s : State} {o : ℕ → Bool} {c : ℕ} (w : TwinsOn r 
               λ calm. tt,
             ),
           ),
-          λ none. (refl, refl, named_at w a kind.Tcap x refl is, tt),
+          λ none. (refl, refl, (named_at w a kind.Tcap x refl is, tt)),
         ),
   )
 
