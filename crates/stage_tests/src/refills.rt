@@ -62,6 +62,14 @@ fn last(end: StageEnd<Value>) -> Row {
     (loads(392), 0, end)
 }
 
+fn done() -> StageEnd<Value> {
+    StageEnd::Done(Value::Nothing)
+}
+
+fn unlike() -> StageEnd<Value> {
+    StageEnd::Refuse(Reply::Unlike)
+}
+
 fn raced() -> StageEnd<Value> {
     StageEnd::Refuse(Reply::Raced)
 }
@@ -69,7 +77,6 @@ fn raced() -> StageEnd<Value> {
 #[test]
 fn gives_back_what_is_left(rt: HostRuntime) {
     let gives = compares(384, HEAD, MORE);
-    let done = StageEnd::Done(Value::Nothing);
     let short = StageEnd::Refuse(Reply::Short(7));
     let busy = StageEnd::Refuse(Reply::Busy(CoreNo::new(1)));
     if let Some(layout) = Layout::new(1, 8) {
@@ -78,7 +85,7 @@ fn gives_back_what_is_left(rt: HostRuntime) {
             goes(
                 &mut given,
                 &layout,
-                &[last(StageEnd::Going), (gives, HEAD, done)]
+                &[last(StageEnd::Going), (gives, HEAD, done())]
             )
         );
         let mut worse = read(7, &layout, WORSE);
@@ -86,7 +93,7 @@ fn gives_back_what_is_left(rt: HostRuntime) {
             goes(
                 &mut worse,
                 &layout,
-                &[last(StageEnd::Going), (gives, HEAD, done)]
+                &[last(StageEnd::Going), (gives, HEAD, done())]
             )
         );
         let mut lost = read(7, &layout, GOOD);
@@ -106,14 +113,13 @@ fn gives_back_what_is_left(rt: HostRuntime) {
 
 #[test]
 fn refuses_a_list_that_lacks_the_grant(rt: HostRuntime) {
-    let unlike = StageEnd::Refuse(Reply::Unlike);
     if let Some(layout) = Layout::new(1, 8) {
         let mut other = read(7, &layout, OTHER);
         assert!(rt;
             goes(
                 &mut other,
                 &layout,
-                &[last(StageEnd::Going), (loads(384), HEAD, unlike)]
+                &[last(StageEnd::Going), (loads(384), HEAD, unlike())]
             )
         );
         let mut more = read(8, &layout, OTHER);
@@ -121,7 +127,7 @@ fn refuses_a_list_that_lacks_the_grant(rt: HostRuntime) {
             goes(
                 &mut more,
                 &layout,
-                &[last(StageEnd::Going), (loads(384), HEAD, unlike)]
+                &[last(StageEnd::Going), (loads(384), HEAD, unlike())]
             )
         );
         let mut lost = read(7, &layout, OTHER);
