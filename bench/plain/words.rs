@@ -1,4 +1,4 @@
-//! The words of the shared table, and where they lie, as docs/FORMATS.md has them. Unproved.
+//! The words of the shared table, and where they lie, as docs/STEPS.md has them. Unproved.
 
 #[derive(Clone, Copy, PartialEq, Eq, Debug)]
 pub enum Kind {
