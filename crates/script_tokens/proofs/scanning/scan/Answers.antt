@@ -59,7 +59,8 @@ bytes-preserved c =
     let new : map span_of c.end_word-in-bytes.new.words.items ≡ map span_of c.bytes.words.items
     ++ ended (word_before c.bytes.place b) c.bytes.line c.bytes.at = c.in_ok-end_word-2.ensures.spans
     ∙ ap (λ o. map span_of c.bytes.words.items ++ ended o c.bytes.line c.bytes.at) c.word_before.ensures in
-    let whole : c.whole_after-whole.result ≡ whole_after c.bytes.whole b (length c.end_word-in-bytes.new.words.items) = c.whole_after-whole.ensures
+    let whole : c.whole_after-whole.result ≡ whole_after c.bytes.whole b (length c.end_word-in-bytes.new.words.items) =
+    c.whole_after-whole.ensures
     ∙ ap (whole_after c.bytes.whole b) (c.len.ensures ∙ c.end_word-in-bytes.new.words.ok.0) in
     rw (place, line, whole) (turns source c.bytes.at c.bytes.place c.bytes.line c.bytes.whole b c.bytes.words.items
     c.end_word-in-bytes.new.words.items c.bytes.invariant c.bytes-test.true refl
@@ -72,7 +73,8 @@ returns-clause-words c =
     let here : length source ≡ c.bytes.at = omega arith in
     let new : map span_of c.end_word-2.new.words.items ≡ map span_of c.bytes.words.items
     ++ ended (last_word c.bytes.place) c.bytes.line c.bytes.at =
-    c.in_ok-end_word-3.ensures.spans ∙ ap (λ o. map span_of c.bytes.words.items ++ ended o c.bytes.line (length source)) c.last_word-2.ensures
+    c.in_ok-end_word-3.ensures.spans
+    ∙ ap (λ o. map span_of c.bytes.words.items ++ ended o c.bytes.line (length source)) c.last_word-2.ensures
     ∙ ap (λ n. map span_of c.bytes.words.items ++ ended (last_word c.bytes.place) c.bytes.line n) here in
     told source c.end_word-2.new.words.items (new ∙ e.words) (c.in_ok-end_word-3.ensures.texts c.bytes.invariant.texts)
 
@@ -83,7 +85,8 @@ returns-clause-ascend c =
     let here : length source ≡ c.bytes.at = omega arith in
     let new : map span_of c.end_word-2.new.words.items ≡ map span_of c.bytes.words.items
     ++ ended (last_word c.bytes.place) c.bytes.line c.bytes.at =
-    c.in_ok-end_word-3.ensures.spans ∙ ap (λ o. map span_of c.bytes.words.items ++ ended o c.bytes.line (length source)) c.last_word-2.ensures
+    c.in_ok-end_word-3.ensures.spans
+    ∙ ap (λ o. map span_of c.bytes.words.items ++ ended o c.bytes.line (length source)) c.last_word-2.ensures
     ∙ ap (λ n. map span_of c.bytes.words.items ++ ended (last_word c.bytes.place) c.bytes.line n) here in
     rises source c.end_word-2.new.words.items (new ∙ e.words)
 
