@@ -21,6 +21,7 @@ use Rattle.count_invariant.specs.act_states.specs.declared.work.Act.TheVariants.
 use Rattle.count_invariant.specs.core_invariant.specs.Shares.{IsShared}
 use Rattle.count_invariant.specs.step_ways.proofs.Loads.{call_is, is_active}
 use Rattle.count_invariant.specs.kept_facts.proofs.Tcaps.{tcap_of}
+use Rattle.count_invariant.specs.call_plans.specs.PlanOf.{plan_for}
 
 -- What refuses such a call after its names, in order, and what it changes.
 abbrev pub causes_of : State → PairWork → Named → Named → List Cause
@@ -131,14 +132,15 @@ module _ (setup : Setting) (setting : IsSetting setup) (cores : ℕ → Core) (t
   pub fits : PairFits (cores c).own.layout p
   fits = subst (StageFits (cores c).own.layout) stage_is (is_active setup setting cores t stands c here a active).stage
 
-  pub leads : Leads (LeadsIn s c) a.plan.names [] a.found
+  pub leads : Leads (LeadsIn s c) (plan_for a.call).names [] a.found
   leads = leads_by (λ n wanted k. HasFound setup t c (own_in (cores c).own.table n) wanted k) (LeadsIn s c)
-      (λ n wanted k had. found_named setup t c (cores c).own.table n wanted k (stands.each c here).works.table had) a.plan.names []
+      (λ n wanted k had. found_named setup t c (cores c).own.table n wanted k (stands.each c here).works.table had)
+      (plan_for a.call).names []
       a.found has.names
 
-  pub by_plan : GoesBy (own_pages s c) a.plan (rule_of s c a.call)
+  pub by_plan : GoesBy (own_pages s c) (plan_for a.call) (rule_of s c a.call)
   by_plan = subst (λ q. GoesBy (own_pages s c) q (rule_of s c a.call))
-      (sym (is_active setup setting cores t stands c here a active).plan) (calls_go s c a.call)
+      (sym refl) (calls_go s c a.call)
 
   -- no count is acquired
   pub no_counts : a.counts ≡ []
@@ -166,7 +168,7 @@ module _ (setup : Setting) (setting : IsSetting setup) (cores : ℕ → Core) (t
 
   call_leads : Leads (LeadsIn s c) (plan_for a.call).names [] a.found
   call_leads = subst (λ (q : Plan). Leads (LeadsIn s c) q.names [] a.found)
-      (is_active setup setting cores t stands c here a active).plan leads
+      refl leads
 
   pub footprint_a : is_one_of p.a (footprint_frames s c a.call) ≡ true
   footprint_a = name_footprint s c a.call a.found call_leads First is.a
@@ -183,11 +185,11 @@ module _ (setup : Setting) (setting : IsSetting setup) (cores : ℕ → Core) (t
 
   pub change_is : change_of s c a.call
       ≡ unless (first_cause s c (causes_of s p.what (found is.a) (found is.b))) (change_by s p.what is.a.frame is.b.frame)
-  change_is = outcome_left s c (own_pages s c) a.plan (rule_of s c a.call) a.found by_plan leads ∙ ap (outcome s c) left
+  change_is = outcome_left s c (own_pages s c) (plan_for a.call) (rule_of s c a.call) a.found by_plan leads ∙ ap (outcome s c) left
 
   pub may : (r : Reply) → RuleMay s c (Does (causes_of s p.what (found is.a) (found is.b)) (change_by s p.what is.a.frame is.b.frame)) r
       → RuleMay s c (rule_of s c a.call) r
-  may r is_may = left_may s c (own_pages s c) a.plan (rule_of s c a.call) a.found by_plan leads r
+  may r is_may = left_may s c (own_pages s c) (plan_for a.call) (rule_of s c a.call) a.found by_plan leads r
       (subst (λ x. RuleMay s c x r) (sym left) is_may)
 
   -- they are not one

@@ -25,6 +25,7 @@ use Rattle.count_invariant.proofs.Next.{Rest, ANameLeft, NoneLeft, rest_of, next
 use Rattle.place_invariant.proofs.ObjectMakes.{new_object, readied, make_rest, IsObjectMake, object_make}
 use Rattle.place_invariant.proofs.Starts.{IsRefusedOutside}
 use Rattle.place_invariant.proofs.Vacancy.{in_leaf, IsVacant, vacant_by}
+use Rattle.count_invariant.specs.core_invariant.specs.call_plans.specs.PlanOf.{plan_for}
 
 -- A slot that is reached and vacant.
 pub vacant_slot : (s : State) (c : ℕ) (target : Target) (at : Slot) → reached s c target ≡ Some at
@@ -180,8 +181,8 @@ refusable s c call ks target out leads next = absurd out
 module _ (setup : Setting) (setting : IsSetting setup) (cores : ℕ → Core) (t : Trace) (stands : Invariant setup cores t) (c : ℕ)
     (here : c < setup.cores)
     (a : ActiveCall) (active : (cores c).active ≡ Some a)
-    (names : NamesAre setup t c (cores c).own.table a.plan a.found) (node index : ℕ) (target : Target)
-    (next : next_of a.plan a.found ≡ NextFree target)
+    (names : NamesAre setup t c (cores c).own.table (plan_for a.call) a.found) (node index : ℕ) (target : Target)
+    (next : next_of (plan_for a.call) a.found ≡ NextFree target)
     (reaches : reached (state_after setup t) c target ≡ Some (record { node = node; index = index }))
     (out : OutsideBy a.call a.found) (move : Move)
     (vacant_alone : IsAlone t (step_to c None move (last_left setup t (word_of move)) (Some reply.OutOfRange) None)
@@ -192,14 +193,14 @@ module _ (setup : Setting) (setting : IsSetting setup) (cores : ℕ → Core) (t
   abbrev slot : Slot
   slot = record { node = node; index = index }
 
-  leads : Leads (LeadsIn s c) a.plan.names [] a.found
+  leads : Leads (LeadsIn s c) (plan_for a.call).names [] a.found
   leads = plan_leads setup setting cores t stands c here a active names
 
-  by_plan : GoesBy (own_pages s c) a.plan (rule_of s c a.call)
+  by_plan : GoesBy (own_pages s c) (plan_for a.call) (rule_of s c a.call)
   by_plan = goes_by setup setting cores t stands c here a active names
 
-  plan_is : a.plan ≡ plan_for a.call
-  plan_is = (is_active setup setting cores t stands c here a active).plan
+  plan_is : (plan_for a.call) ≡ plan_for a.call
+  plan_is = refl
 
   is : IsRefusable s c a.call a.found target
   is = refusable s c a.call a.found target out (subst (λ (p : Plan). Leads (LeadsIn s c) p.names [] a.found) plan_is leads)
@@ -208,7 +209,7 @@ module _ (setup : Setting) (setting : IsSetting setup) (cores : ℕ → Core) (t
   first : IsAlone t (step_to c None move (last_left setup t (word_of move)) (Some reply.OutOfRange) None)
       → change_of s c a.call ≡ Refused reply.OutOfRange
   first alone =
-      outcome_left s c (own_pages s c) a.plan (rule_of s c a.call) a.found by_plan leads ∙ ap (outcome s c) is.rule
+      outcome_left s c (own_pages s c) (plan_for a.call) (rule_of s c a.call) a.found by_plan leads ∙ ap (outcome s c) is.rule
       ∙ ap (λ x. and_then x λ at. unless (first_of (if not is.has then Some reply.OutOfRange else None)
       (first_cause s c is.causes)) (is.change at))
       (vacant_slot s c target slot reaches (vacant_alone alone).vacant)
@@ -217,7 +218,7 @@ module _ (setup : Setting) (setting : IsSetting setup) (cores : ℕ → Core) (t
 
   pub refused_vacant : IsRefusedOutside setup t c a.call move
   refused_vacant = record {
-    may = left_may s c (own_pages s c) a.plan (rule_of s c a.call) a.found by_plan leads reply.OutOfRange
+    may = left_may s c (own_pages s c) (plan_for a.call) (rule_of s c a.call) a.found by_plan leads reply.OutOfRange
         (subst (λ x. RuleMay s c x reply.OutOfRange) (sym is.rule) (inr (inl (ap (λ b. not b) is.is_outside, refl))));
     first = first;
   }
@@ -237,8 +238,8 @@ stands_alone setup t c node index word own move r alone = elim (cases_eq (last_l
 module _ (setup : Setting) (setting : IsSetting setup) (cores : ℕ → Core) (t : Trace) (stands : Invariant setup cores t) (c : ℕ)
     (here : c < setup.cores)
     (a : ActiveCall) (active : (cores c).active ≡ Some a) (opens : phase_at a.call a.stage ≡ Open a.call)
-    (names : NamesAre setup t c (cores c).own.table a.plan a.found) (node index word : ℕ)
-    (spot : IsSpot setup t c a.plan a.found setup.cores node index word) where
+    (names : NamesAre setup t c (cores c).own.table (plan_for a.call) a.found) (node index word : ℕ)
+    (spot : IsSpot setup t c (plan_for a.call) a.found setup.cores node index word) where
   pub vacant_node : (index < 64) → IsTrue (is_node ((state_after setup t).frame node)) → last_left setup t (EntryAt node index) ≡ word
       → IsVacant (state_after setup t) c node index
   vacant_node small in_node same =

@@ -40,6 +40,7 @@ use Rattle.switch_invariant.specs.live_invariant.proofs.Numbers.{no_number, show
 use Rattle.switch_invariant.specs.thread_invariant.proofs.OwnStack.{top_comp, some_stack}
 use Rattle.page_invariant.proofs.TouchCalls.{past_may, past_first}
 use Rattle.work_invariant.proofs.NextLooks.{next_good}
+use Rattle.comp_invariant.specs.call_plans.specs.PlanOf.{plan_for}
 
 -- A call that asks for life looks up a name first, or touches a page.
 named_or_touch : (call : Call) → IsTrue (asks_life call) → ((plan_for call).names ≡ [] → ⊥) ⊎ ((v : ℕ) × (call ≡ Touch v))
@@ -103,8 +104,8 @@ module _ (setup : Setting) (setting : IsSetting setup) (cores : ℕ → Core) (t
   room : (cores c).own.made < (cores c).own.limit
   room = subst (HasRoom (cores c).own.made (cores c).own.limit) stage_is (is_active setup setting cores t stands c here a active).room
 
-  plan_is : a.plan ≡ plan_for a.call
-  plan_is = (is_active setup setting cores t stands c here a active).plan
+  plan_is : (plan_for a.call) ≡ plan_for a.call
+  plan_is = refl
 
   has_comp : HasComp s c comp
   has_comp = top_comp setup setting t stands.legal c here
@@ -209,7 +210,7 @@ module _ (setup : Setting) (setting : IsSetting setup) (cores : ℕ → Core) (t
       its_core_acts = ap (λ b. not b || may_act s c) has.asks ∙ ap (λ b. b || outlives s c) live
 
       -- to its first name
-      names_good : (a.plan.names ≡ [] → ⊥) → GoodTook setup cores t c (LoadOf at) (landed a (what_next (cores c).own a))
+      names_good : ((plan_for a.call).names ≡ [] → ⊥) → GoodTook setup cores t c (LoadOf at) (landed a (what_next (cores c).own a))
       names_good named =
           subst (λ (ks : List Capability). GoodTook setup cores t c (LoadOf at)
           (landed (found_more a ks) (what_next (cores c).own (found_more a ks)))) (sym none_found)
@@ -227,7 +228,7 @@ module _ (setup : Setting) (setting : IsSetting setup) (cores : ℕ → Core) (t
             (λ carries. record {
               acts = its_core_acts;
               names = subst (λ (ks : List Capability).
-                  NamesAre setup (step_to c None (LoadOf at) found None None ∷ t) c (cores c).own.table a.plan ks)
+                  NamesAre setup (step_to c None (LoadOf at) found None None ∷ t) c (cores c).own.table (plan_for a.call) ks)
                   (sym none_found) tt;
               knows = record {
                 knows = record {

@@ -20,6 +20,7 @@ use Rattle.comp_invariant.specs.step_ways.proofs.Refusals.{GoodTook}
 use Rattle.switch_invariant.specs.live_invariant.proofs.KillStarts.{comp_named}
 use Rattle.switch_invariant.specs.live_invariant.proofs.Numbers.{comp_is}
 use Rattle.comp_invariant.specs.count_invariant.proofs.Acquiring.{plan_leads}
+use Rattle.comp_invariant.specs.call_plans.specs.PlanOf.{plan_for}
 
 -- It is a component, which no other core may retype.
 pub reads_comp : (setup : Setting) → IsSetting setup → (t : Trace) → IsLegal setup t → (c : ℕ) (call : Call) → phase t c ≡ Open call
@@ -89,7 +90,7 @@ module _ (setup : Setting) (setting : IsSetting setup) (cores : ℕ → Core) (t
   life_fits = (comp_spells (Some life) was (sym says_life)).0
 
   leads : Leads (LeadsIn s c) (plan_for a.call).names [] a.found
-  leads = subst (λ (p : Plan). Leads (LeadsIn s c) p.names [] a.found) (is_active setup setting cores t stands c here a active).plan
+  leads = subst (λ (p : Plan). Leads (LeadsIn s c) p.names [] a.found) refl
       (plan_leads setup setting cores t stands c here a active has.names)
 
   loading : OnlyLooks setup t c a.call (LoadOf (EntryAt f 2))
@@ -109,7 +110,7 @@ module _ (setup : Setting) (setting : IsSetting setup) (cores : ℕ → Core) (t
       loading lands (sym (ap (λ s. holds_at s a.counts) stage_is)) opens
       (λ carries. record {
         acts = has.acts;
-        names = names_on setup setting t e stands.legal c a.call is_open carries (cores c).own.table a.plan a.found has.names;
+        names = names_on setup setting t e stands.legal c a.call is_open carries (cores c).own.table (plan_for a.call) a.found has.names;
         knows = record {
           looks = subst (λ (x : Next). LooksFor setup (e ∷ t) c (cores c).own.table x look) (sym has.knows.next)
               (looks_on setup setting t e stands.legal c a.call is_open carries has.knows.target look has.knows.looks);

@@ -28,14 +28,14 @@ pub record ScanStarts (setup : Setting) (t : Trace) (c : ℕ) (a : ActiveCall) (
 module _ (setup : Setting) (setting : IsSetting setup) (cores : ℕ → Core) (t : Trace) (stands : Invariant setup cores t) (c : ℕ)
     (here : c < setup.cores)
     (a : ActiveCall) (active : (cores c).active ≡ Some a) (is_open : phase t c ≡ Open a.call)
-    (leads : Leads (LeadsIn (state_after setup t) c) a.plan.names [] a.found) (target : place)
-    (next_free : next_of a.plan a.found ≡ NextFree target) (at : Slot) (arrives : Arrives setup t c target at) (x : ℕ)
+    (leads : Leads (LeadsIn (state_after setup t) c) (plan_for a.call).names [] a.found) (target : place)
+    (next_free : next_of (plan_for a.call) a.found ≡ NextFree target) (at : Slot) (arrives : Arrives setup t c target at) (x : ℕ)
     (reads : entry_of_word (last_left setup t (EntryAt at.node at.index)) ≡ Some (entry.Quiescing x)) where
   abbrev removed : Thing
   removed = PlaceOf at.node at.index
 
-  plan_is : a.plan ≡ plan_for a.call
-  plan_is = (is_active setup setting cores t stands c here a active).plan
+  plan_is : (plan_for a.call) ≡ plan_for a.call
+  plan_is = refl
 
   since : ShowsSince ((state_after setup t).place at.node at.index) (stamp setup t removed) x
   since = since_is setup.frames ((state_after setup t).place at.node at.index) (stamp setup t removed) x _ arrives.plain.says reads
