@@ -1,14 +1,12 @@
 -- What holds of a call after a step of its work: it fits its core, and fewer steps are to come.
-use Rattle.std.proofs.Common.{◌≡◌, ℕ, ◌+◌, ◌<◌, ◌≤◌, [], length, sym, ap, subst, arith}
+use Rattle.std.proofs.Common.{◌≡◌, ℕ, ◌+◌, ◌<◌, ◌≤◌, [], length, ap, arith}
 use Rattle.call_stages.specs.stage_pins.specs.Held.{AllFit}
 use Rattle.call_stages.specs.spk_nums.specs.declared.replies.Reply.{Reply}
 use Rattle.call_stages.specs.spk_nums.specs.declared.replies.Reply.TheVariants as reply
 use Rattle.call_stages.specs.kernel_rules.specs.Laws.{calls_counted}
 use Rattle.call_stages.specs.spk_nums.specs.CallLimits.{InLimits}
-use Rattle.call_stages.specs.call_plans.specs.declared.plans.Plan.{Plan}
 use Rattle.call_stages.specs.call_plans.specs.PlanOf.{plan_for}
 use Rattle.call_stages.specs.call_plans.specs.Bounds.{look_steps, act_steps}
-use Rattle.call_stages.specs.call_plans.specs.Rooted.{IsRooted}
 use Rattle.call_stages.specs.call_plans.proofs.RootedTargets.{rooted}
 use Rattle.call_stages.specs.act_states.specs.declared.own.Own.{Own}
 use Rattle.call_stages.specs.declared.stages.ActiveCall.{ActiveCall}
@@ -68,52 +66,25 @@ next_fits own a facts =
 
 module _ (own : Own) (old a : ActiveCall) (call : a.call ≡ old.call) (steps : a.steps ≡ old.steps)
     (found : FoundFits own.layout.frames (plan_for a.call) a.found) (acquired : AllFit own.layout a.counts) (room : own.made < own.limit)
-    where
-  pub landed_fits : (most left : ℕ) (step : WorkStep) → StepFits own.layout a.counts (steps_later own.layout.cores a) most step
-      → 2 + length a.counts + most < left → TookFits own left old (landed a step)
-  landed_fits most left (Goes work) fits some = record {
-    call = call;
-    found = found;
-    first = tt;
-    stage = fits.0;
-    acquired = acquired;
-    counts = fits.2;
-    room = room;
-    counted = omega arith;
-    steps = ap (λ n. n + 1) steps;
-    fewer = let most_left = fits.1 in omega arith;
-  }
-  landed_fits most left (Acquires count work) fits some = absurd fits
-  landed_fits most left (Refuses r tail) fits some =
-      let few = fits.0 in
-      let one : calls_counted (reply_of r) ≤ 1 = counted_most (reply_of r) in record {
-        call = call;
-        found = found;
-        first = tt;
-        stage = fits.1;
-        acquired = acquired;
-        counts = tt;
-        room = tt;
-        counted = omega arith;
-        steps = ap (λ n. n + 1) steps;
-        fewer = omega arith;
-      }
-  landed_fits most left (Answers v drawn tail) fits some = record {
-    call = call;
-    found = found;
-    first = tt;
-    stage = fits.1;
-    acquired = acquired;
-    counts = tt;
-    room = tt;
-    counted = omega arith;
-    steps = ap (λ n. n + 1) steps;
-    fewer = let few = fits.0 in omega arith;
-  }
-  landed_fits most left (work_changes r change drawn tail) fits some =
-      let few = fits.0 in
-      let one : calls_counted r ≤ 1 = counted_most r in (
-        record {
+  where
+    pub landed_fits : (most left : ℕ) (step : WorkStep) → StepFits own.layout a.counts (steps_later own.layout.cores a) most step
+        → 2 + length a.counts + most < left → TookFits own left old (landed a step)
+    landed_fits most left (Goes work) fits some = record {
+      call = call;
+      found = found;
+      first = tt;
+      stage = fits.0;
+      acquired = acquired;
+      counts = fits.2;
+      room = room;
+      counted = omega arith;
+      steps = ap (λ n. n + 1) steps;
+      fewer = let most_left = fits.1 in omega arith;
+    }
+    landed_fits most left (Acquires count work) fits some = absurd fits
+    landed_fits most left (Refuses r tail) fits some =
+        let few = fits.0 in
+        let one : calls_counted (reply_of r) ≤ 1 = counted_most (reply_of r) in record {
           call = call;
           found = found;
           first = tt;
@@ -124,6 +95,33 @@ module _ (own : Own) (old a : ActiveCall) (call : a.call ≡ old.call) (steps : 
           counted = omega arith;
           steps = ap (λ n. n + 1) steps;
           fewer = omega arith;
-        },
-        fits.2,
-      )
+        }
+    landed_fits most left (Answers v drawn tail) fits some = record {
+      call = call;
+      found = found;
+      first = tt;
+      stage = fits.1;
+      acquired = acquired;
+      counts = tt;
+      room = tt;
+      counted = omega arith;
+      steps = ap (λ n. n + 1) steps;
+      fewer = let few = fits.0 in omega arith;
+    }
+    landed_fits most left (work_changes r change drawn tail) fits some =
+        let few = fits.0 in
+        let one : calls_counted r ≤ 1 = counted_most r in (
+          record {
+            call = call;
+            found = found;
+            first = tt;
+            stage = fits.1;
+            acquired = acquired;
+            counts = tt;
+            room = tt;
+            counted = omega arith;
+            steps = ap (λ n. n + 1) steps;
+            fewer = omega arith;
+          },
+          fits.2,
+        )

@@ -7,8 +7,6 @@ use Rattle.act_fits.specs.spk_nums.specs.CallLimits.{InLimits}
 use Rattle.act_fits.specs.spk_nums.specs.Capability.{Capability}
 use Rattle.act_fits.specs.spk_nums.specs.declared.calls.Call.{Call}
 use Rattle.act_fits.specs.kernel_rules.specs.Access.{found}
-use Rattle.act_fits.specs.call_plans.specs.declared.plans.Plan.{Plan}
-use Rattle.act_fits.specs.call_plans.specs.PlanOf.{plan_for}
 use Rattle.act_fits.specs.call_plans.proofs.StepsOfPlans.{bound_is}
 use Rattle.act_fits.specs.act_states.specs.declared.own.Own.{Own}
 use Rattle.act_fits.specs.call_stages.specs.Fits.{IsOwn, IsCore}

@@ -5,7 +5,6 @@ use Rattle.act_fits.specs.spk_nums.specs.CallLimits.{InLimits}
 use Rattle.act_fits.specs.spk_nums.specs.declared.replies.Reply.{Reply}
 use Rattle.act_fits.specs.kernel_rules.specs.Laws.{calls_counted}
 use Rattle.act_fits.specs.kernel_rules.specs.Access.{found}
-use Rattle.act_fits.specs.call_plans.specs.PlanOf.{plan_for}
 use Rattle.act_fits.specs.act_states.specs.declared.own.Own.{Own}
 use Rattle.act_fits.specs.act_states.specs.declared.own.OwnChange.{OwnChange}
 use Rattle.act_fits.specs.act_states.specs.declared.own.OwnChange.TheVariants.{Ticks, GivesBack, Empties, Works, Switches, Caches}

@@ -18,7 +18,6 @@ use Rattle.act_fits.specs.call_plans.specs.declared.plans.Nth.TheVariants.{First
 use Rattle.act_fits.specs.call_plans.specs.declared.plans.Name.{Name}
 use Rattle.act_fits.specs.call_plans.specs.declared.plans.Target.{Target}
 use Rattle.act_fits.specs.call_plans.specs.declared.plans.Target.TheVariants.{Nowhere, Free, Held, Own as own_page}
-use Rattle.act_fits.specs.call_plans.specs.declared.plans.Plan.{Plan}
 use Rattle.act_fits.specs.call_plans.specs.Plans.{at_place, pushed}
 use Rattle.act_fits.specs.call_plans.specs.GoesBy.{want_of, wants}
 use Rattle.act_fits.specs.call_plans.specs.After.{with_found, names_after, next_in}

@@ -345,7 +345,7 @@ one_found frames own a [] is one fits not f =
     absurd (last_one _ _ first count not)
 one_found frames own a (k ∷ ks) is one fits not f =
     subst (λ (names : List Name). Refuses (took_found own a (next_in (with_found [] (k ∷ ks)) (names_after names (k ∷ ks))
-        (plan_for a.call).target)
+    (plan_for a.call).target)
     f)) (sym one.names)
     (subst (λ (names : List Name). Refuses (took_found own a (next_in (with_found [] (k ∷ ks)) names (plan_for a.call).target) f))
     (sym (none_after ks))

@@ -86,8 +86,8 @@ module _ (setup : Setting) (setting : IsSetting setup) (cores : ℕ → Core) (t
   pub by_plan : GoesBy (own_pages s c) (plan_for a.call) (rule_of s c a.call)
   by_plan = goes_by setup setting cores t stands c here a active has.names
 
-  plan_call : (plan_for a.call) ≡ plan_for (make_call (make_of.Comp is.x is.p m.number) is.name m.frame is.root is.slot)
-  plan_call = refl ∙ ap plan_for is.call_is
+  plan_call : plan_for a.call ≡ plan_for (make_call (make_of.Comp is.x is.p m.number) is.name m.frame is.root is.slot)
+  plan_call = ap plan_for is.call_is
 
   pub make : IsCompMake s c is.name m.frame is.root is.slot is.x is.p m.number a.found
   make = comp_make s c is.name m.frame is.root is.slot is.x is.p m.number a.found

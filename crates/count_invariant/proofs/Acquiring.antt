@@ -553,8 +553,7 @@ module _ (setup : Setting) (setting : IsSetting setup) (cores : ℕ → Core) (t
       refl plan_leads
 
   pub goes_by : GoesBy (own_pages now c) (plan_for a.call) (rule_of now c a.call)
-  goes_by = subst (λ p. GoesBy (own_pages now c) p (rule_of now c a.call))
-      (sym refl) (calls_go now c a.call)
+  goes_by = calls_go now c a.call
 
   -- the frame of what is removed is in the footprint
   removed_footprint : (node index : ℕ) (cap : Capability) → IsRemoval setup t c a.call (plan_for a.call) a.found node index cap → (f : ℕ)

@@ -3,7 +3,7 @@ use Rattle.count_invariant.proofs.Common.{◌≡◌, inl, ℕ, ◌<◌, ◌==◌
 use Rattle.count_invariant.proofs.Common.{Some, None, refl, sym, ◌∙◌, ap, subst, eq-eqb, Setting, IsSetting, Kill}
 use Rattle.count_invariant.proofs.Common.{CompFields, Comp, Kernel, State, comp_in, found, Cause, Does, RuleMay, outcome, unless}
 use Rattle.count_invariant.proofs.Common.{first_of, is_live_in, rule_of, change_of, is_one_of, footprint_frames, Trace, Open, phase}
-use Rattle.count_invariant.proofs.Common.{state_after, Plan, GoesBy, own_pages, rule_after, Leads, LeadsIn, outcome_left, left_may}
+use Rattle.count_invariant.proofs.Common.{state_after, GoesBy, own_pages, rule_after, Leads, LeadsIn, outcome_left, left_may}
 use Rattle.count_invariant.proofs.Common.{KillingAt, Act, Undecided, ActiveCall, StageFits, HasRoom, Core, KnowsUndecided, phase_at}
 use Rattle.count_invariant.proofs.Common.{Invariant}
 use Rattle.state_laws.specs.spk_nums.specs.declared.replies.Reply.TheVariants as reply
@@ -85,7 +85,7 @@ module _ (setup : Setting) (setting : IsSetting setup) (cores : ℕ → Core) (t
   -- the component and its number are in the footprint
   pub footprint : is_one_of f (footprint_frames s c a.call) ≡ true
   footprint = kill_footprint s c a.call a.found f has.knows.knows.kills
-      (subst (λ (p : Plan). Leads (LeadsIn s c) p.names [] a.found) refl leads)
+      leads
 
   pub number_footprint : (l : ℕ) → fields.number ≡ l → is_one_of l (footprint_numbers s c a.call) ≡ true
   number_footprint l same = one_right l (number_argument a.call) _

@@ -3,7 +3,7 @@ use Rattle.count_invariant.proofs.Common.{◌≡◌, inl, inr, ℕ, ◌+◌, ◌
 use Rattle.count_invariant.proofs.Common.{Some, None, map, if◌then◌else◌, arith, refl, sym, ◌∙◌, ap, subst, le-ltb, Setting, IsSetting}
 use Rattle.count_invariant.proofs.Common.{Capability, Call, Reply, State, Change, Cause, Does, Judged, Found, Refused, RuleMay, tcap_in}
 use Rattle.count_invariant.proofs.Common.{leaves, outcome, unless, first_of, first_cause, tcap_at, rule_of, change_of, changes_budgets}
-use Rattle.count_invariant.proofs.Common.{is_one_of, footprint_frames, Trace, Open, phase, state_after, First, Plan, at_place, plan_for}
+use Rattle.count_invariant.proofs.Common.{is_one_of, footprint_frames, Trace, Open, phase, state_after, First, at_place, plan_for}
 use Rattle.count_invariant.proofs.Common.{GoesBy, own_pages, rule_after, Leads, LeadsIn, leads_by, outcome_left, left_may, calls_go}
 use Rattle.count_invariant.proofs.Common.{Acquired, Act, Undecided, ActiveCall, StageFits, HasRoom, Core, holds_counts, due_of}
 use Rattle.count_invariant.proofs.Common.{KnowsUndecided, phase_at, HasFound, own_in, holds_at, holds_in, Invariant, TcapOf, in_order}
@@ -71,8 +71,7 @@ module _ (setup : Setting) (setting : IsSetting setup) (cores : ℕ → Core) (t
       a.found has.names
 
   pub by_plan : GoesBy (own_pages s c) (plan_for a.call) (rule_of s c a.call)
-  by_plan = subst (λ q. GoesBy (own_pages s c) q (rule_of s c a.call))
-      (sym refl) (calls_go s c a.call)
+  by_plan = calls_go s c a.call
 
   -- no count is acquired, and no word is held
   pub no_counts : a.counts ≡ []
@@ -89,8 +88,7 @@ module _ (setup : Setting) (setting : IsSetting setup) (cores : ℕ → Core) (t
   tcap = tcap_of (s.frame r.tcap) has.knows.knows.tcap.tcap
 
   call_leads : Leads (LeadsIn s c) (plan_for a.call).names [] a.found
-  call_leads = subst (λ (q : Plan). Leads (LeadsIn s c) q.names [] a.found)
-      refl leads
+  call_leads = leads
 
   pub footprint : is_one_of r.tcap (footprint_frames s c a.call) ≡ true
   footprint = name_footprint s c a.call a.found call_leads First is.cap

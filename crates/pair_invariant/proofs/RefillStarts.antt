@@ -14,7 +14,7 @@ use Rattle.count_invariant.specs.stage_tcap.specs.declared.refill.RefillAt.{Refi
 use Rattle.count_invariant.specs.stage_tcap.specs.declared.refill.RefillAt.TheVariants.{Load, List as at_list, Compare, Again}
 use Rattle.count_invariant.specs.act_states.specs.Refills.{left_among, refilling, took_refill}
 use Rattle.count_invariant.specs.act_states.specs.declared.work.Act.TheVariants.{Refill as refill_act}
-use Rattle.count_invariant.specs.step_ways.proofs.Loads.{OnlyLooks, step_to, call_is, is_active, loads_on}
+use Rattle.count_invariant.specs.step_ways.proofs.Loads.{OnlyLooks, step_to, call_is, loads_on}
 use Rattle.count_invariant.specs.step_ways.proofs.Refusals.{GoodTook}
 use Rattle.pair_invariant.proofs.RefillEnds.{again_good}
 use Rattle.pair_invariant.proofs.RefillLoads.{load_good, list_good}
@@ -89,7 +89,7 @@ module _ (setup : Setting) (setting : IsSetting setup) (cores : ℕ → Core) (t
     pub refills_good : GoodTook setup cores t c move (landed (found_more a ks) (act_begun (cores c).own (Replenish x m) ks None None))
     refills_good =
         let plan_names : (plan_for a.call).names ≡ of_kind kind.Tcap x ∷ [] =
-        ap (λ (p : Plan). p.names) (refl ∙ ap plan_for call_so) in
+        ap (λ (p : Plan). p.names) (ap plan_for call_so) in
         let led = one_led s c x ks (subst (λ (ns : List Name). Leads (LeadsIn s c) ns [] ks) plan_names leads)
         (subst (λ (ns : List Name). names_after ns ks ≡ []) plan_names none) in
         subst (λ (zs : List Capability).

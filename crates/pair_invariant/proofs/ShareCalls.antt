@@ -4,7 +4,7 @@ use Rattle.count_invariant.proofs.Common.{ap, subst, eq-eqb, ne_eqb, Setting, Is
 use Rattle.count_invariant.proofs.Common.{Named, found, named_by, Change, Cause, Does, RuleMay, answers, leaves, outcome, unless}
 use Rattle.count_invariant.proofs.Common.{first_cause, tcap_at, moved, is_short, are_unlike, are_many, rule_of, change_of, ends_by}
 use Rattle.count_invariant.proofs.Common.{flushes_by, changes_budgets, is_one_of, footprint_frames, Trace, Open, phase, state_after, First}
-use Rattle.count_invariant.proofs.Common.{Second, Plan, at_place, plan_for, GoesBy, own_pages, rule_after, Leads, LeadsIn, leads_by}
+use Rattle.count_invariant.proofs.Common.{Second, at_place, plan_for, GoesBy, own_pages, rule_after, Leads, LeadsIn, leads_by}
 use Rattle.count_invariant.proofs.Common.{outcome_left, left_may, calls_go, Acquired, Pair, PairWork, Act, Undecided, ActiveCall}
 use Rattle.count_invariant.proofs.Common.{StageFits, HasRoom, Core, holds_counts, due_of, KnowsUndecided, phase_at, HasFound, own_in}
 use Rattle.count_invariant.proofs.Common.{SharesBy, holds_share, holds_at, holds_in, Invariant, TcapOf}
@@ -139,8 +139,7 @@ module _ (setup : Setting) (setting : IsSetting setup) (cores : ℕ → Core) (t
       a.found has.names
 
   pub by_plan : GoesBy (own_pages s c) (plan_for a.call) (rule_of s c a.call)
-  by_plan = subst (λ q. GoesBy (own_pages s c) q (rule_of s c a.call))
-      (sym refl) (calls_go s c a.call)
+  by_plan = calls_go s c a.call
 
   -- no count is acquired
   pub no_counts : a.counts ≡ []
@@ -167,8 +166,7 @@ module _ (setup : Setting) (setting : IsSetting setup) (cores : ℕ → Core) (t
   names = is.a ∷ is.b ∷ []
 
   call_leads : Leads (LeadsIn s c) (plan_for a.call).names [] a.found
-  call_leads = subst (λ (q : Plan). Leads (LeadsIn s c) q.names [] a.found)
-      refl leads
+  call_leads = leads
 
   pub footprint_a : is_one_of p.a (footprint_frames s c a.call) ≡ true
   footprint_a = name_footprint s c a.call a.found call_leads First is.a

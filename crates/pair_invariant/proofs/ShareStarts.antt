@@ -18,7 +18,7 @@ use Rattle.count_invariant.specs.stage_tcap.specs.declared.pair.PairWork.TheVari
 use Rattle.count_invariant.specs.act_states.specs.declared.work.Act.TheVariants.{Share as share_act}
 use Rattle.count_invariant.specs.act_states.specs.Shares.{sharing, shares_if}
 use Rattle.count_invariant.specs.core_invariant.specs.Shares.{IsShared}
-use Rattle.count_invariant.specs.step_ways.proofs.Loads.{OnlyLooks, step_to, call_is, core_is, is_active, loads_on, decides_on}
+use Rattle.count_invariant.specs.step_ways.proofs.Loads.{OnlyLooks, step_to, call_is, core_is, loads_on, decides_on}
 use Rattle.count_invariant.specs.step_ways.proofs.Refusals.{GoodTook, not_spent}
 use Rattle.pair_invariant.proofs.ShareCalls.{causes_of, change_by}
 use Rattle.count_invariant.specs.act_states.specs.call_plans.specs.PlanOf.{plan_for}
@@ -177,7 +177,7 @@ module _ (setup : Setting) (setting : IsSetting setup) (cores : ℕ → Core) (t
       ≡ Does (causes_of s what (named_by_found j) (named_by_found k)) (change_by s what j.frame k.frame))
       (shares_so : (j k : Capability) (p : Pair) → IsShared j k what p → SharesBy call (j ∷ k ∷ []) p) where
     plan_names : (plan_for a.call).names ≡ two_names x y
-    plan_names = ap (λ (p : Plan). p.names) (refl ∙ ap plan_for call_so) ∙ names_so
+    plan_names = ap (λ (p : Plan). p.names) (ap plan_for call_so) ∙ names_so
 
     led : TwoLed s c x y ks
     led = two_led s c x y ks (subst (λ (ns : List Name). Leads (LeadsIn s c) ns [] ks) plan_names leads)

@@ -17,7 +17,7 @@ use Rattle.count_invariant.proofs.Common.{calls_counted, is_node, put_same, slot
 use Rattle.count_invariant.proofs.Common.{state_after, state_decided_in, last_left, capability_in, root_passed, way_to, wide_way_to, ways}
 use Rattle.count_invariant.proofs.Common.{wide_ways, target_of, changes_places, changes_in_frame, is_slot_in, HasReached, IsSlot}
 use Rattle.count_invariant.proofs.Common.{ok_first, entry_mark, mark_in_frame, mark_of, marked_by, ends_in, flushes_in, stamp}
-use Rattle.count_invariant.proofs.Common.{CapNames, Plan, of_kind, plan_for, GoesBy, own_pages, calls_go, leads_by, outcome_left}
+use Rattle.count_invariant.proofs.Common.{CapNames, of_kind, plan_for, GoesBy, own_pages, calls_go, leads_by, outcome_left}
 use Rattle.count_invariant.proofs.Common.{rule_after, names_after, Leads, LeadsIn, NextName, NextFree, next_of, Act, Undecided, Decided}
 use Rattle.count_invariant.proofs.Common.{ActiveCall, put_by, reads_of, page_cap, named_by, times, refs, reads_alike, IsCalm}
 use Rattle.count_invariant.proofs.Common.{IsUntimed, plain_stamp, limits_of, holds_counts, landed, Core, StageFits, HasRoom}
@@ -170,8 +170,7 @@ module _ (setup : Setting) (setting : IsSetting setup) (cores : ℕ → Core) (t
   table_is = (stands.each c here).works.table
 
   goes_by : GoesBy (own_pages s c) (plan_for a.call) (rule_of s c a.call)
-  goes_by = subst (λ p. GoesBy (own_pages s c) p (rule_of s c a.call)) (sym refl)
-      (calls_go s c a.call)
+  goes_by = calls_go s c a.call
 
   leads : Leads (LeadsIn s c) (plan_for a.call).names [] a.found
   leads = leads_by (λ n wanted q. HasFound setup t c (own_in (cores c).own.table n) wanted q) (LeadsIn s c)
@@ -573,9 +572,6 @@ module _ (setup : Setting) (setting : IsSetting setup) (cores : ℕ → Core) (t
     (here : c < setup.cores)
     (a : ActiveCall) (fill : Fill) (active : (cores c).active ≡ Some a) (stage_is : a.stage ≡ Undecided (Act (fill_act fill)))
     (has : KnowsUndecided setup t c (cores c).own.table a (Act (fill_act fill))) where
-  plan_is : (plan_for a.call) ≡ plan_for a.call
-  plan_is = refl
-
   none_left : names_after (plan_for a.call).names a.found ≡ []
   none_left = by (rest_of (plan_for a.call) a.found)
     where
@@ -591,9 +587,8 @@ module _ (setup : Setting) (setting : IsSetting setup) (cores : ℕ → Core) (t
       (filled_if (last_left setup t (EntryAt fill.node fill.entry) == fill.word)))
   fill_good = compare_good setup setting cores t stands c here a fill.node fill.entry fill.word fill.cap active stage_is has
       (puts_by (state_after setup t) c has.knows.knows.target fill.cap a.call a.found
-      (subst (λ (p : Plan). Leads (LeadsIn (state_after setup t) c) p.names [] a.found) plan_is
-      (plan_leads setup setting cores t stands c here a active has.names))
-      (subst (λ (p : Plan). names_after p.names a.found ≡ []) plan_is none_left)
-      (ap (λ p. next_of p a.found) (sym plan_is) ∙ has.knows.knows.next)
+      (plan_leads setup setting cores t stands c here a active has.names)
+      none_left
+      has.knows.knows.next
       has.knows.knows.read has.knows.knows.has_read has.knows.knows.puts
       (maps_user setup t c a.call has.knows.knows.user))

@@ -9,7 +9,7 @@ use Rattle.count_invariant.proofs.Common.{is_frame, Change, RuleMay, Refused, Va
 use Rattle.count_invariant.proofs.Common.{outcome, rule_of, change_of, are_calls_spent}
 use Rattle.count_invariant.proofs.Common.{IsAlone, looks_at_frames, is_one_of, footprint_frames}
 use Rattle.count_invariant.proofs.Common.{frame_argument, marked_by, count_mark, frame_mark, frame_value, Step, Trace, Open, phase}
-use Rattle.count_invariant.proofs.Common.{state_after, last_left, refused_first, own_read-there, last_left-there, Plan, plan_for, GoesBy}
+use Rattle.count_invariant.proofs.Common.{state_after, last_left, refused_first, own_read-there, last_left-there, plan_for, GoesBy}
 use Rattle.count_invariant.proofs.Common.{own_pages, Leads, LeadsIn, NextFree, rule_after, next_of, left_may, outcome_left, Second}
 use Rattle.count_invariant.proofs.Common.{at_place, Due, Act, Goes, refuse, Acquired, named_by, is_node, reads_of, put_by, page_cap}
 use Rattle.count_invariant.proofs.Common.{Undecided, ActiveCall, StageFits, HasRoom, landed, Core, holds_counts, settled_by, ReadIs}
@@ -160,9 +160,6 @@ module _ (setup : Setting) (setting : IsSetting setup) (cores : ℕ → Core) (t
   by_plan : GoesBy (own_pages s c) (plan_for a.call) (rule_of s c a.call)
   by_plan = goes_by setup setting cores t stands c here a active has.names
 
-  plan_is : (plan_for a.call) ≡ plan_for a.call
-  plan_is = refl
-
   below : f < s.limits.frames
   below = subst (λ (n : ℕ). f < n) (ap (λ x. x.frames) (stands.each c here).shape ∙ sym (ap (λ l. l.frames) (limits_of setup t))) fits.1
 
@@ -177,8 +174,8 @@ module _ (setup : Setting) (setting : IsSetting setup) (cores : ℕ → Core) (t
       (subst (λ x. MapRule s c x a.found is.frame knows.spot.target) (sym is.call_is)
       (map_rule_of s c is.pages is.page is.name is.frame is.flags a.found fill.cap knows.spot.target
       (subst (λ x. Leads (LeadsIn s c) (plan_for x).names [] a.found) is.call_is
-      (subst (λ (p : Plan). Leads (LeadsIn s c) p.names [] a.found) plan_is leads))
-      (ap (λ x. next_of (plan_for x) a.found) (sym is.call_is) ∙ ap (λ p. next_of p a.found) (sym plan_is) ∙ knows.spot.next)
+      leads)
+      (ap (λ x. next_of (plan_for x) a.found) (sym is.call_is) ∙ knows.spot.next)
       (subst (λ x. put_by x a.found None ≡ Some fill.cap) is.call_is knows.puts)))
 
   footprint : is_one_of f (footprint_frames s c a.call) ≡ true
@@ -263,7 +260,7 @@ module _ (setup : Setting) (setting : IsSetting setup) (cores : ℕ → Core) (t
       loads_on setup setting cores t stands c here a active load a.found (Undecided (Act (fill_act fill))) looks lands (sym held_is) opens
       (λ carries.
       let spot = spot_on setup setting t e stands.legal c a.call is_open carries (plan_for a.call) a.found setup.cores fill.node
-          fill.entry fill.word
+      fill.entry fill.word
       (own_read-there c e t refl (EntryAt fill.node fill.entry) (entry_apart fill.node fill.entry)) knows.spot in
       record {
         acts = has.acts;

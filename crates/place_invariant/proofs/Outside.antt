@@ -18,7 +18,7 @@ use Rattle.kernel_laws.specs.kernel_rules.specs.MemoryCalls.{not_user}
 use Rattle.kernel_laws.specs.kernel_rules.specs.Rules.{fills, When}
 use Rattle.kernel_laws.specs.kernel_rules.specs.CapabilityCalls.{not_taken, has_frames}
 use Rattle.count_invariant.specs.core_invariant.specs.Knows.{OutsideBy, OutsideObject, OutsideComp}
-use Rattle.count_invariant.specs.step_ways.proofs.Loads.{step_to, call_is, is_active}
+use Rattle.count_invariant.specs.step_ways.proofs.Loads.{step_to, call_is}
 use Rattle.count_invariant.specs.step_ways.proofs.Places.{IsMarked, IsUnmarked, place_reads}
 use Rattle.count_invariant.proofs.Acquiring.{plan_leads, goes_by}
 use Rattle.count_invariant.proofs.Next.{Rest, ANameLeft, NoneLeft, rest_of, next_name}
@@ -199,12 +199,9 @@ module _ (setup : Setting) (setting : IsSetting setup) (cores : ℕ → Core) (t
   by_plan : GoesBy (own_pages s c) (plan_for a.call) (rule_of s c a.call)
   by_plan = goes_by setup setting cores t stands c here a active names
 
-  plan_is : (plan_for a.call) ≡ plan_for a.call
-  plan_is = refl
-
   is : IsRefusable s c a.call a.found target
-  is = refusable s c a.call a.found target out (subst (λ (p : Plan). Leads (LeadsIn s c) p.names [] a.found) plan_is leads)
-      (ap (λ p. next_of p a.found) (sym plan_is) ∙ next)
+  is = refusable s c a.call a.found target out leads
+      next
 
   first : IsAlone t (step_to c None move (last_left setup t (word_of move)) (Some reply.OutOfRange) None)
       → change_of s c a.call ≡ Refused reply.OutOfRange

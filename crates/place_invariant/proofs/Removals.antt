@@ -15,7 +15,7 @@ use Rattle.count_invariant.proofs.Common.{state_decided_in, last_left, way_to, w
 use Rattle.count_invariant.proofs.Common.{marked_by, ends_in, flushes_in, begins_at, ends_at, flushes_at, stamp, clock, flush_stored}
 use Rattle.count_invariant.proofs.Common.{is_in, ok_first, was_now, was_stays, decided-inside, cases_word, same_word-other, stamp-begins}
 use Rattle.count_invariant.proofs.Common.{stamp-kept, flush_stored-own, flush_stored-other, Close, AtCompare, AtDraw, AtStore}
-use Rattle.count_invariant.proofs.Common.{drawn_stamp, Plan, of_kind, plan_for, GoesBy, own_pages, rule_after, names_after, Leads}
+use Rattle.count_invariant.proofs.Common.{drawn_stamp, of_kind, plan_for, GoesBy, own_pages, rule_after, names_after, Leads}
 use Rattle.count_invariant.proofs.Common.{LeadsIn, NextName, NextHeld, next_of, leads_by, outcome_left, later, Act, Nothing, Quiesce}
 use Rattle.count_invariant.proofs.Common.{Undecided, Decided, ActiveCall, removes_by, StageFits, HasRoom, GoesOn, landed, went_with, Core}
 use Rattle.count_invariant.proofs.Common.{Holding, holds_counts, settled_by, settled, PlaceIs, WordIs, HasFound}
@@ -528,15 +528,11 @@ remove_good setup setting cores t stands c here a active (AtStore node index x) 
 remove_good setup setting cores t stands c here a active (AtDraw node index) cap is has =
     draw_good setup setting cores t stands c here a active node index cap is has
     (takes_by (state_after setup t) c has.knows.knows.target a.call a.found
-    (subst (λ (p : Plan). Leads (LeadsIn (state_after setup t) c) p.names [] a.found) plan_is
-    (plan_leads setup setting cores t stands c here a active has.names))
-    (subst (λ (p : Plan). names_after p.names a.found ≡ []) plan_is none_left)
-    (ap (λ p. next_of p a.found) (sym plan_is) ∙ has.knows.knows.next)
+    (plan_leads setup setting cores t stands c here a active has.names)
+    none_left
+    has.knows.knows.next
     has.knows.knows.removes)
   where
-    plan_is : (plan_for a.call) ≡ plan_for a.call
-    plan_is = refl
-
     none_left : names_after (plan_for a.call).names a.found ≡ []
     none_left = by (rest_of (plan_for a.call) a.found)
       where

@@ -9,10 +9,10 @@ use Rattle.place_invariant.proofs.Common.{RuleMay, IsRemoved, IsWaiting, exit_of
 use Rattle.place_invariant.proofs.Common.{waited_in, Carries, not_inside, own_read-there, last_left-there, out_passed}
 use Rattle.place_invariant.proofs.Common.{later_passed, may_wait, Quiet, AtCore, AtFlush, next_other, core_scan, flush_scan}
 use Rattle.place_invariant.proofs.Common.{core_refuses, scan_end, scan_after, quiet_next, quiet_end, quiet_after, GoesBy, own_pages}
-use Rattle.place_invariant.proofs.Common.{Leads, LeadsIn, rule_after, NextMay, next_of, next_may, Scan, Undecided}
+use Rattle.place_invariant.proofs.Common.{Leads, LeadsIn, rule_after, NextMay, next_may, Scan, Undecided}
 use Rattle.place_invariant.proofs.Common.{ActiveCall, Goes, refuse, stamp_shown, starts, StageFits, CountsAt, HasRoom, landed, took_scan}
 use Rattle.place_invariant.proofs.Common.{Core, holds_counts, MayFill, KnowsAct, KnowsUndecided, phase_at, IsSpot, HasFlushed}
-use Rattle.place_invariant.proofs.Common.{holds_at, holds_in, Invariant, names_on, slot_relies, limits_of, is_node, Plan, plan_for}
+use Rattle.place_invariant.proofs.Common.{holds_at, holds_in, Invariant, names_on, slot_relies, limits_of, is_node, plan_for}
 use Rattle.place_invariant.proofs.Starts.{IsRefusedOutside as RefusedOutside, starts_good}
 use Rattle.std.specs.Prelude.{◌==◌, ◌||◌}
 use Rattle.place_invariant.specs.spk_nums.specs.declared.replies.Reply.TheVariants as reply
@@ -96,14 +96,11 @@ module _ (setup : Setting) (setting : IsSetting setup) (cores : ℕ → Core) (t
   by_plan : GoesBy (own_pages s c) (plan_for a.call) (rule_of s c a.call)
   by_plan = goes_by setup setting cores t stands c here a active has.names
 
-  plan_is : (plan_for a.call) ≡ plan_for a.call
-  plan_is = refl
-
   -- the place is one of a page table where flush words are scanned too
   paging : is_paging (s.frame node) ≡ page
   paging = paging_by setup setting t stands.legal c spot.target slot spot.way.reached a.call is_open a.found
-      (subst (λ (p : Plan). Leads (LeadsIn s c) p.names [] a.found) plan_is leads)
-      (ap (λ p. next_of p a.found) (sym plan_is) ∙ spot.next) ∙ sym has.knows.pages
+      leads
+      spot.next ∙ sym has.knows.pages
 
   in_node : IsTrue (is_node (s.frame node))
   in_node = (slot_relies setup setting t stands.legal c a.call is_open spot.target slot spot.way).node

@@ -10,8 +10,8 @@ use Rattle.place_invariant.proofs.Common.{MayBeUnflushed, is_node, RuleMay, Refu
 use Rattle.place_invariant.proofs.Common.{vacant, rule_of, change_of, IsAlone, IsRemoved, IsUnflushed, awaits_flushes, flush_of}
 use Rattle.place_invariant.proofs.Common.{flush_stored, stamp, Step, Trace, Out, Open, phase, state_after, last_left, flushed_in}
 use Rattle.place_invariant.proofs.Common.{refused_first, nobody_waits, awaits_are, Carries, own_read-there, last_left-there, Quiet}
-use Rattle.place_invariant.proofs.Common.{AtFlush, flush_refuses, scan_end, scan_after, quiet_next, quiet_end, quiet_after, Plan}
-use Rattle.place_invariant.proofs.Common.{plan_for, GoesBy, own_pages, Leads, LeadsIn, rule_after, next_of, NextMay, next_may}
+use Rattle.place_invariant.proofs.Common.{AtFlush, flush_refuses, scan_end, scan_after, quiet_next, quiet_end, quiet_after}
+use Rattle.place_invariant.proofs.Common.{plan_for, GoesBy, own_pages, Leads, LeadsIn, rule_after, NextMay, next_may}
 use Rattle.place_invariant.proofs.Common.{Scan, Goes, refuse, stamp_shown, starts, Undecided, ActiveCall, StageFits, CountsAt, HasRoom}
 use Rattle.place_invariant.proofs.Common.{landed, took_scan, Core, holds_counts, PlaceIs, HasFlushed, MayFill, KnowsAct, KnowsUndecided}
 use Rattle.place_invariant.proofs.Common.{phase_at, IsSpot, CallIs, holds_at, holds_in, Invariant, slot_relies, names_on, limits_of}
@@ -158,14 +158,11 @@ module _ (setup : Setting) (setting : IsSetting setup) (cores : ℕ → Core) (t
   by_plan : GoesBy (own_pages s c) (plan_for a.call) (rule_of s c a.call)
   by_plan = goes_by setup setting cores t stands c here a active has.names
 
-  plan_is : (plan_for a.call) ≡ plan_for a.call
-  plan_is = refl
-
   -- the place is one of a page table, and its grace period waits for flushes
   paging : is_paging (s.frame node) ≡ true
   paging = paging_by setup setting t stands.legal c spot.target slot spot.way.reached a.call is_open a.found
-      (subst (λ (p : Plan). Leads (LeadsIn s c) p.names [] a.found) plan_is leads)
-      (ap (λ p. next_of p a.found) (sym plan_is) ∙ spot.next) ∙ sym has.knows.pages
+      leads
+      spot.next ∙ sym has.knows.pages
 
   in_node : IsTrue (is_node (s.frame node))
   in_node = (slot_relies setup setting t stands.legal c a.call is_open spot.target slot spot.way).node

@@ -1,5 +1,5 @@
 -- What the plan of a call asks first, and what is looked up next of one or two names, by how many have led to capabilities.
-use Rattle.std.proofs.Common.{◌≡◌, ⊥, ℕ, length, List, [], ◌∷◌, refl}
+use Rattle.std.proofs.Common.{◌≡◌, ⊥, length, List, [], ◌∷◌, refl}
 use Rattle.spk_nums.specs.Capability.{Capability}
 use Rattle.spk_nums.specs.declared.calls.Call.{Call}
 use Rattle.step_starts.specs.kernel_rules.specs.Life.{asks_life}

@@ -31,7 +31,6 @@ use Rattle.step_ways.proofs.Users.{spares_none}
 use Rattle.kept_facts.proofs.Calm.{calm_same, calm_own, stored_by}
 use Rattle.kept_facts.proofs.Calm.{none_flushed}
 use Rattle.kept_facts.proofs.Exclusive.{keeps_loads, exclusive_still}
-use Rattle.kept_facts.specs.call_plans.specs.PlanOf.{plan_for}
 
 -- A step of core c.
 abbrev pub step_to : ℕ → Option Call → Move → ℕ → Option Reply → Option Reply → Step
@@ -47,7 +46,7 @@ step_to c enters move found decides returns = record {
 -- A call after one step more, whose names have led to these, which has read this, and which stands at this stage.
 abbrev pub next_with : ActiveCall → List Capability → Option ℕ → Stage → ActiveCall
 next_with a found read stage =
-    record { steps = a.steps + 1; stage = stage; found = found; read = read; counts = a.counts; call = a.call; plan = (plan_for a.call) }
+    record { steps = a.steps + 1; stage = stage; found = found; read = read; counts = a.counts; call = a.call }
 
 -- A call after a step that has read nothing more.
 abbrev pub next_at : ActiveCall → List Capability → Stage → ActiveCall

@@ -27,7 +27,7 @@ use Rattle.kept_facts.specs.act_states.specs.declared.work.Act.TheVariants.{Touc
 use Rattle.kept_facts.specs.act_states.specs.declared.work.Act.TheVariants.{Switch as switch_act}
 use Rattle.step_ways.proofs.Good.{IsGood}
 use Rattle.step_ways.proofs.Loads.{Lands, OnlyLooks, step_to, next_at, core_in_call, core_is}
-use Rattle.step_ways.proofs.Loads.{call_is, is_active, inner, decides_on, decides_with}
+use Rattle.step_ways.proofs.Loads.{call_is, inner, decides_on, decides_with}
 use Rattle.kept_facts.specs.act_states.specs.call_plans.specs.PlanOf.{plan_for}
 
 -- The step of core c from which this was taken.

@@ -6,7 +6,7 @@ use Rattle.thread_invariant.proofs.Common.{fits, frame_names, named_by, Rule, Ch
 use Rattle.thread_invariant.proofs.Common.{change_of, named_fit, IsSound, opened, changes_in_frame, changes_threads, raises_clock}
 use Rattle.thread_invariant.proofs.Common.{events_of, is_one_of, frames_named, footprint_frames, frames_own, frame_argument, frame_at_slot}
 use Rattle.thread_invariant.proofs.Common.{Step, Trace, Open, phase, state_after, last_left, target_of, wide_ways, opened_is}
-use Rattle.thread_invariant.proofs.Common.{sound_of, calls_go, First, plan_for, GoesBy, own_pages, rule_after, Leads, LeadsIn, Plan}
+use Rattle.thread_invariant.proofs.Common.{sound_of, calls_go, First, plan_for, GoesBy, own_pages, rule_after, Leads, LeadsIn}
 use Rattle.thread_invariant.proofs.Common.{outcome_left, left_may, dues, Switching, SwitchAt, Act, Goes, Undecided, ActiveCall, StageFits}
 use Rattle.thread_invariant.proofs.Common.{HasRoom, landed, Core, holds_counts, due_of, KnowsUndecided, phase_at, holds, holds_at}
 use Rattle.thread_invariant.proofs.Common.{holds_in, Invariant, HasThread, SwitchesBy, claimed_by, holds_switching, counts_bare, names_on}
@@ -83,8 +83,7 @@ module _ (setup : Setting) (setting : IsSetting setup) (cores : ℕ → Core) (t
   by_plan = goes_by setup setting cores t stands c here a active has.names
 
   pub call_leads : Leads (LeadsIn (state_after setup t) c) (plan_for a.call).names [] a.found
-  call_leads = subst (λ (p : Plan). Leads (LeadsIn (state_after setup t) c) p.names [] a.found)
-      refl leads
+  call_leads = leads
 
   pub threads_change : changes_threads a.call ≡ true
   threads_change = ap changes_threads is_switch.call_is

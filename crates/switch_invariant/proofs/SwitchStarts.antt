@@ -12,7 +12,7 @@ use Rattle.thread_invariant.specs.spk_nums.specs.declared.replies.Reply.TheVaria
 use Rattle.thread_invariant.specs.kernel_rules.specs.Rules.{of_kind as has_kind}
 use Rattle.thread_invariant.specs.act_states.specs.Acts.{switching}
 use Rattle.thread_invariant.specs.act_states.specs.declared.work.Act.TheVariants.{Switch as switch_act}
-use Rattle.thread_invariant.specs.step_ways.proofs.Loads.{OnlyLooks, step_to, call_is, is_active, loads_on}
+use Rattle.thread_invariant.specs.step_ways.proofs.Loads.{OnlyLooks, step_to, call_is, loads_on}
 use Rattle.thread_invariant.specs.step_ways.proofs.Refusals.{GoodTook}
 use Rattle.thread_invariant.specs.act_states.specs.call_plans.specs.PlanOf.{plan_for}
 
@@ -73,7 +73,7 @@ module _ (setup : Setting) (setting : IsSetting setup) (cores : ℕ → Core) (t
   open_now = (call_is setup setting cores t stands c here a active).phase ∙ opens
 
   plan_names : (plan_for a.call).names ≡ two_names x y
-  plan_names = ap (λ (p : Plan). p.names) (refl ∙ ap plan_for call_so)
+  plan_names = ap (λ (p : Plan). p.names) (ap plan_for call_so)
 
   led : TwoLed s c x y ks
   led = two_led s c x y ks (subst (λ (ns : List Name). Leads (LeadsIn s c) ns [] ks) plan_names leads)

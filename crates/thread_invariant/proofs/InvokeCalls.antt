@@ -5,7 +5,7 @@ use Rattle.live_invariant.proofs.Common.{[], ◌∷◌, length, Some, None, arit
 use Rattle.live_invariant.proofs.Common.{lt-leb, All-nil, Capability, Setting, IsSetting, EntryAt, CompFields, Comp, Kernel, State}
 use Rattle.live_invariant.proofs.Common.{comp_in, thread_of, Slot, found, own, Rule, When, Does, RuleMay, outcome, unless, first_of}
 use Rattle.live_invariant.proofs.Common.{is_live_in, pushes, rule_of, change_of, is_one_of, footprint_frames, HasReached, Step, Trace, Open}
-use Rattle.live_invariant.proofs.Common.{phase, state_after, own_left, way_to, ways, Plan, GoesBy, own_pages, rule_after, Leads, LeadsIn}
+use Rattle.live_invariant.proofs.Common.{phase, state_after, own_left, way_to, ways, GoesBy, own_pages, rule_after, Leads, LeadsIn}
 use Rattle.live_invariant.proofs.Common.{outcome_left, left_may, leads_by, Invoking, Act, Undecided, ActiveCall, StageFits, HasRoom, Core}
 use Rattle.live_invariant.proofs.Common.{HasFound, KnowsUndecided, own_in, phase_at, Invariant, own_kept}
 use Rattle.live_invariant.specs.spk_nums.specs.declared.calls.Call.TheVariants.{Call as call_gate}
@@ -97,7 +97,7 @@ module _ (setup : Setting) (setting : IsSetting setup) (cores : ℕ → Core) (t
   -- the component and its number are in the footprint
   pub footprint : is_one_of m.comp (footprint_frames s c a.call) ≡ true
   footprint = invoke_footprint s c a.call a.found m has.knows.knows.invokes
-      (subst (λ (p : Plan). Leads (LeadsIn s c) p.names [] a.found) refl leads)
+      leads
 
   pub number_footprint : (l : ℕ) → fields.number ≡ l → is_one_of l (footprint_numbers s c a.call) ≡ true
   number_footprint l same = one_right l (number_argument a.call) _

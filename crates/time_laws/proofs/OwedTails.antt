@@ -45,7 +45,6 @@ use Rattle.flight.specs.call_stages.specs.Steps.{took_at, took_count, is_spent}
 use Rattle.flight.specs.stage_thread.specs.Living.{alive_move, alive_end, alive_after}
 use Rattle.flight.specs.core_invariant.specs.Knows.{TypesBy}
 use Rattle.flight.specs.core_invariant.specs.Knows.{OutsideBy, KillsBy, MakesCompBy, is_mapping}
-use Rattle.flight.specs.step_ways.proofs.Loads.{is_active}
 use Rattle.flight.specs.share_invariant.proofs.Compared as compared
 use Rattle.flight.specs.pair_invariant.proofs.ShareCalls as calls
 use Rattle.flight.specs.pair_invariant.proofs.ShareSteps.{shares_same}
@@ -285,8 +284,7 @@ module _ (setup : Setting) (setting : IsSetting setup) (cores : ℕ → Core) (t
   module _ (p : Pair) (stage_is : a.stage ≡ Undecided (Act (share_act p)))
       (has : KnowsUndecided setup t c (cores c).own.table a (Act (share_act p))) where
     leads : Leads (LeadsIn s c) (plan_for a.call).names [] a.found
-    leads = subst (λ (q : Plan). Leads (LeadsIn s c) q.names [] a.found) refl
-        (calls.leads setup setting cores t stands c here a active p stage_is has)
+    leads = calls.leads setup setting cores t stands c here a active p stage_is has
 
   compare_owes : (p : Pair) → a.stage ≡ Undecided (Act (share_act (record p { at = CompareB })))
       → KnowsUndecided setup t c (cores c).own.table a (Act (share_act (record p { at = CompareB })))

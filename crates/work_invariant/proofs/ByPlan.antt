@@ -87,9 +87,6 @@ module _ (setup : Setting) (setting : IsSetting setup) (cores : ℕ → Core) (t
   table_is : table ≡ (comp_of s c).table
   table_is = (stands.each c here).works.table
 
-  plan_is : (plan_for a.call) ≡ plan_for a.call
-  plan_is = refl
-
   room : (cores c).own.made < (cores c).own.limit
   room = subst (HasRoom (cores c).own.made (cores c).own.limit) stage_is (is_active setup setting cores t stands c here a active).room
 
@@ -109,7 +106,7 @@ module _ (setup : Setting) (setting : IsSetting setup) (cores : ℕ → Core) (t
   still fate = ap (holds_counts fate) no_counts ∙ sym (ap (holds_counts None) no_counts) ∙ sym held_is
 
   goes_by : GoesBy (own_pages s c) (plan_for a.call) (rule_of s c a.call)
-  goes_by = subst (λ p. GoesBy (own_pages s c) p (rule_of s c a.call)) (sym plan_is) (calls_go s c a.call)
+  goes_by = calls_go s c a.call
 
   leads : Leads (LeadsIn s c) (plan_for a.call).names [] a.found
   leads = leads_by (λ n wanted k. HasFound setup t c (own_in table n) wanted k) (LeadsIn s c)
@@ -212,7 +209,7 @@ module _ (setup : Setting) (setting : IsSetting setup) (cores : ℕ → Core) (t
         (landed (found_more a more) (act_begun (cores c).own (Retype r f j) more None None))
     range_at_name r f j is one to =
         let only_one = one_name (plan_for a.call).names (of_kind range_kind r) name rest a.found k.kind
-        (ap (λ (p : Plan). p.names) (plan_is ∙ ap plan_for is) ∙ one) left wanted in
+        (ap (λ (p : Plan). p.names) (ap plan_for is) ∙ one) left wanted in
         let more_is : more ≡ k ∷ [] = ap (λ ks. ks ++ k ∷ []) only_one.0 in
         subst (λ ks. GoodTook setup cores t c (LoadOf (EntryAt at.node at.index))
         (landed (found_more a ks) (act_begun (cores c).own (Retype r f j) ks None None))) (sym more_is)
@@ -230,9 +227,9 @@ module _ (setup : Setting) (setting : IsSetting setup) (cores : ℕ → Core) (t
         → GoodTook setup cores t c (LoadOf (EntryAt at.node at.index))
         (landed (found_more a more) (act_begun (cores c).own call more None None))
     acts_at_name (look_call n) is nowhere none =
-        let plan_look : (plan_for a.call) ≡ plan_for (look_call n) = plan_is ∙ ap plan_for is in
+        let plan_look : plan_for a.call ≡ plan_for (look_call n) = ap plan_for is in
         let only_one = one_name (plan_for a.call).names (any_cap neither n) name rest a.found k.kind
-            (ap (λ (p : Plan). p.names) plan_look) left
+        (ap (λ (p : Plan). p.names) plan_look) left
         wanted in
         let more_is : more ≡ k ∷ [] = ap (λ ks. ks ++ k ∷ []) only_one.0 in
         let named_it : named s c n (to_look any) ≡ Found_it k =
@@ -262,9 +259,9 @@ module _ (setup : Setting) (setting : IsSetting setup) (cores : ℕ → Core) (t
         absurd (free_somewhere (spot_of.Under Second b) (sym (make_target what r u b) ∙ nowhere))
     acts_at_name (Gate n u b) is nowhere none = absurd (free_somewhere (spot_of.Under Second b) nowhere)
     acts_at_name (Kill n) is nowhere none =
-        let plan_kill : (plan_for a.call) ≡ plan_for (Kill n) = plan_is ∙ ap plan_for is in
+        let plan_kill : plan_for a.call ≡ plan_for (Kill n) = ap plan_for is in
         let only_one = one_name (plan_for a.call).names (of_kind comp_kind n) name rest a.found k.kind
-            (ap (λ (p : Plan). p.names) plan_kill) left
+        (ap (λ (p : Plan). p.names) plan_kill) left
         wanted in
         let more_is : more ≡ k ∷ [] = ap (λ ks. ks ++ k ∷ []) only_one.0 in
         subst (λ ks. GoodTook setup cores t c (LoadOf (EntryAt at.node at.index))
@@ -276,9 +273,9 @@ module _ (setup : Setting) (setting : IsSetting setup) (cores : ℕ → Core) (t
         (λ carries. subst (λ (ks : List Capability). NamesAre setup (e ∷ t) c table (plan_for a.call) ks) more_is (names_then carries))
         has.acts)
     acts_at_name (call_gate n) is nowhere none =
-        let plan_call : (plan_for a.call) ≡ plan_for (call_gate n) = plan_is ∙ ap plan_for is in
+        let plan_call : plan_for a.call ≡ plan_for (call_gate n) = ap plan_for is in
         let only_one = one_name (plan_for a.call).names (of_kind gate_kind n) name rest a.found k.kind
-            (ap (λ (p : Plan). p.names) plan_call) left
+        (ap (λ (p : Plan). p.names) plan_call) left
         wanted in
         let more_is : more ≡ k ∷ [] = ap (λ ks. ks ++ k ∷ []) only_one.0 in
         subst (λ ks. GoodTook setup cores t c (LoadOf (EntryAt at.node at.index))
@@ -290,10 +287,10 @@ module _ (setup : Setting) (setting : IsSetting setup) (cores : ℕ → Core) (t
         (subst (λ (ks : List Capability). Leads (LeadsIn s c) (plan_for a.call).names [] ks) more_is leads_then)
         (λ carries. subst (λ (ks : List Capability). NamesAre setup (e ∷ t) c table (plan_for a.call) ks) more_is (names_then carries))
         has.acts)
-    acts_at_name Ret is nowhere none = absurd (is_named (ap (λ (p : Plan). p.names) (plan_is ∙ ap plan_for is)))
+    acts_at_name Ret is nowhere none = absurd (is_named (ap (λ (p : Plan). p.names) (ap plan_for is)))
     acts_at_name (Touch v) is nowhere none = absurd (own_somewhere v nowhere)
-    acts_at_name Flush is nowhere none = absurd (is_named (ap (λ (p : Plan). p.names) (plan_is ∙ ap plan_for is)))
-    acts_at_name (Tick n) is nowhere none = absurd (is_named (ap (λ (p : Plan). p.names) (plan_is ∙ ap plan_for is)))
+    acts_at_name Flush is nowhere none = absurd (is_named (ap (λ (p : Plan). p.names) (ap plan_for is)))
+    acts_at_name (Tick n) is nowhere none = absurd (is_named (ap (λ (p : Plan). p.names) (ap plan_for is)))
     acts_at_name (Transfer x y m) is nowhere none =
         transfers_good setup setting cores t stands c here a active opens held_is no_counts room goes_by (LoadOf (EntryAt at.node at.index))
         looks has.acts more leads_then none names_then x y m is
@@ -313,14 +310,14 @@ module _ (setup : Setting) (setting : IsSetting setup) (cores : ℕ → Core) (t
         (landed (found_more a ks) (what_next (cores c).own (found_more a ks)))) (sym (pushed_one a.found k few))
         (next_good setup setting cores t stands c here a active opens held_is
         no_counts room (LoadOf (EntryAt at.node at.index)) looks has.acts more leads_then uses_then names_then is_named
-        (λ nowhere none. acts_at_name a.call refl (ap (λ (p : Plan). p.target) (sym plan_is) ∙ nowhere) none))
+        (λ nowhere none. acts_at_name a.call refl nowhere none))
       where
         few : length a.found < 4
         few =
             let counted : length a.found + length (names_after (plan_for a.call).names a.found)
-                ≡ length (plan_for a.call).names = count_led (LeadsIn s c)
+            ≡ length (plan_for a.call).names = count_led (LeadsIn s c)
             (plan_for a.call).names [] a.found leads in
-            let most : length (plan_for a.call).names ≤ 4 = subst (λ (p : Plan). length p.names ≤ 4) (sym plan_is) (few_names a.call) in
+            let most : length (plan_for a.call).names ≤ 4 = few_names a.call in
             let one : length (names_after (plan_for a.call).names a.found) ≡ suc (length rest) = ap length left in
             omega arith
 
@@ -413,9 +410,9 @@ module _ (setup : Setting) (setting : IsSetting setup) (cores : ℕ → Core) (t
         (found_at at.node at.index (last_left setup t (EntryAt at.node at.index)) v)
     begins_with at v = begins_free (cores c).own a.call (is_active setup setting cores t stands c here a active).limits
         (subst (λ (n : ℕ). n ≤ 512) (sym (ap (λ x. x.frames) (stands.each c here).shape)) setting.most_frames)
-        spot (ap (λ (p : Plan). p.target) (sym plan_is) ∙ to) s (plan_for a.call) a.found a.read c (stands.each c here).number
-        (subst (λ (p : Plan). names_after p.names a.found ≡ []) plan_is none)
-        (subst (λ (p : Plan). Leads (LeadsIn s c) p.names [] a.found) plan_is leads)
+        spot to s (plan_for a.call) a.found a.read c (stands.each c here).number
+        none
+        leads
         (λ nth k is. found_fits setup t c table (plan_for a.call).names [] a.found nth k has.names is)
         (λ needs r f range is in_range. subst (λ (n : ℕ). f < n) (sym (ap (λ x. x.frames) (stands.each c here).shape))
         (range_within setup setting t stands.legal c a.call is_open needs r f range is in_range)) has_read
@@ -595,7 +592,7 @@ module _ (setup : Setting) (setting : IsSetting setup) (cores : ℕ → Core) (t
 
     begins_by : BeginsRemoval (cores c).own a.call a.found
     begins_by = begins_removal (cores c).own a.call spot
-        (ap (λ (p : Plan). p.target) (sym plan_is) ∙ to) a.found
+        to a.found
 
     removes_next : (at : Slot) (arrives : Arrives setup t c held_target at) (k : Capability)
         → entry_of_word (last_left setup t (EntryAt at.node at.index)) ≡ Some (entry.Held k)

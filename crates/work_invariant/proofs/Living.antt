@@ -31,6 +31,8 @@ use Rattle.switch_invariant.specs.thread_invariant.specs.stage_thread.specs.Livi
 use Rattle.comp_invariant.specs.act_states.specs.declared.refusals.Refusal.TheVariants as refusal
 use Rattle.comp_invariant.specs.act_states.specs.declared.work.Act.TheVariants.{Touch as touch_act}
 use Rattle.comp_invariant.specs.act_states.specs.Touches.{touching, touches, touches_if}
+use Rattle.comp_invariant.specs.act_states.specs.Lookups.{next_step}
+use Rattle.comp_invariant.specs.call_plans.specs.After.{next_of}
 use Rattle.comp_invariant.specs.call_stages.specs.Fits.{IsFirst}
 use Rattle.comp_invariant.specs.call_stages.specs.Steps.{next_by as what_next, took_alive}
 use Rattle.comp_invariant.specs.step_ways.proofs.Loads.{OnlyLooks, step_to, call_is, is_active, loads_on}
@@ -103,9 +105,6 @@ module _ (setup : Setting) (setting : IsSetting setup) (cores : ℕ → Core) (t
 
   room : (cores c).own.made < (cores c).own.limit
   room = subst (HasRoom (cores c).own.made (cores c).own.limit) stage_is (is_active setup setting cores t stands c here a active).room
-
-  plan_is : (plan_for a.call) ≡ plan_for a.call
-  plan_is = refl
 
   has_comp : HasComp s c comp
   has_comp = top_comp setup setting t stands.legal c here
@@ -266,12 +265,12 @@ module _ (setup : Setting) (setting : IsSetting setup) (cores : ℕ → Core) (t
 
         touches_next : what_next (cores c).own a ≡ touches (cores c).own v
         touches_next =
-            ap (λ (p : Plan). what_next (cores c).own (record a { plan = p })) (plan_is ∙ ap plan_for is)
-            ∙ ap (λ (ks : List Capability). what_next (cores c).own (record a { plan = plan_for (Touch v); found = ks })) none_found
+            ap (λ (p : Plan). next_step (cores c).own a.call a.found (next_of p a.found)) (ap plan_for is)
+            ∙ ap (λ (ks : List Capability). next_step (cores c).own a.call ks (next_of (plan_for (Touch v)) ks)) none_found
 
       live_good : GoodTook setup cores t c (LoadOf at) (landed a (what_next (cores c).own a))
       live_good = elim (named_or_touch a.call has.asks) [
-        | inl named ↦ names_good (λ none. named (ap (λ (p : Plan). p.names) (sym plan_is) ∙ none))
+        | inl named ↦ names_good (λ none. named none)
         | inr touch ↦ subst (λ step. GoodTook setup cores t c (LoadOf at) (landed a step)) (sym (touches_next touch.0 touch.1))
             (touch_good touch.0 touch.1)
       ]

@@ -5,7 +5,7 @@ use Rattle.comp_invariant.proofs.Common.{◌≡◌, ℕ, ◌<◌, nat_le, Bool, 
 use Rattle.comp_invariant.proofs.Common.{◌∙◌, ap, subst, leb-true, Capability, Setting, IsSetting, Reply, State, comp_of}
 use Rattle.comp_invariant.proofs.Common.{Named, found, root_at, reached, has_no_slot, own, Under, InRoot, RuleMay, Refused, rule_of}
 use Rattle.comp_invariant.proofs.Common.{change_of, are_calls_spent, Step, Trace, Open, phase, state_after, last_left, refused_first}
-use Rattle.comp_invariant.proofs.Common.{Carries, Look, AtRoot, AtEntry, Spot, Nowhere, Plan, plan_for, GoesBy, own_pages}
+use Rattle.comp_invariant.proofs.Common.{Carries, Look, AtRoot, AtEntry, Spot, Nowhere, plan_for, GoesBy, own_pages}
 use Rattle.comp_invariant.proofs.Common.{with_found, names_after, Leads, LeadsIn, Next, NextName, NextFree, NextHeld, next_of, NextMay}
 use Rattle.comp_invariant.proofs.Common.{calls_go, next_may, Lookup, Read, Undecided, ActiveCall, Goes, WorkStep, refuse, reads_of}
 use Rattle.comp_invariant.proofs.Common.{act_begun, holds_counts, ReadIs, ReadBefore, LooksUp, own_in, NamesAre, LooksFor, phase_at}
@@ -25,7 +25,7 @@ use Rattle.comp_invariant.specs.plan_ways.proofs.Ways.{next_first}
 use Rattle.comp_invariant.specs.act_states.specs.declared.refusals.Refusal.TheVariants as refusal
 use Rattle.comp_invariant.specs.act_states.specs.Lookups.{read_first, looks_under, looks_entry, looks_at, next_step}
 use Rattle.comp_invariant.specs.call_stages.specs.Steps.{next_by as what_next}
-use Rattle.comp_invariant.specs.step_ways.proofs.Loads.{OnlyLooks, core_is, call_is, is_active, loads_on, decides_on, step_to}
+use Rattle.comp_invariant.specs.step_ways.proofs.Loads.{OnlyLooks, core_is, call_is, loads_on, decides_on, step_to}
 use Rattle.comp_invariant.specs.step_ways.proofs.Refusals.{GoodTook, not_spent}
 use Rattle.comp_invariant.specs.count_invariant.proofs.Findings.{own_is, past_slot, past_unreached, named_no_slot}
 use Rattle.comp_invariant.specs.count_invariant.proofs.Next.{MayUse, spot_relies, Rest, ANameLeft, NoneLeft, rest_of, next_name, next_end}
@@ -56,9 +56,6 @@ module _ (setup : Setting) (setting : IsSetting setup) (cores : ℕ → Core) (t
   table_is : table ≡ (comp_of s c).table
   table_is = (stands.each c here).works.table
 
-  plan_is : (plan_for a.call) ≡ plan_for a.call
-  plan_is = refl
-
   is_open : phase t c ≡ Open a.call
   is_open = (call_is setup setting cores t stands c here a active).phase ∙ opens
 
@@ -66,7 +63,7 @@ module _ (setup : Setting) (setting : IsSetting setup) (cores : ℕ → Core) (t
   still fate = ap (holds_counts fate) no_counts ∙ sym (ap (holds_counts None) no_counts) ∙ sym held_is
 
   goes_by : GoesBy (own_pages s c) (plan_for a.call) (rule_of s c a.call)
-  goes_by = subst (λ p. GoesBy (own_pages s c) p (rule_of s c a.call)) (sym plan_is) (calls_go s c a.call)
+  goes_by = calls_go s c a.call
 
   may : (r : Reply) → NextMay s c (own_pages s c) (next_of (plan_for a.call) more) r → RuleMay s c (rule_of s c a.call) r
   may r h = next_may s c (own_pages s c) (plan_for a.call) (rule_of s c a.call) more goes_by leads r h
@@ -121,7 +118,7 @@ module _ (setup : Setting) (setting : IsSetting setup) (cores : ℕ → Core) (t
           looks = up;
           reads = reads;
           comp = reads_comp setup setting t stands.legal c a.call is_open more
-              (subst (λ (p : Plan). Leads (LeadsIn s c) p.names [] more) plan_is leads) f reads;
+              leads f reads;
         };
       })
 
@@ -167,7 +164,7 @@ module _ (setup : Setting) (setting : IsSetting setup) (cores : ℕ → Core) (t
 
   -- the target is looked up next
   is_rooted : (target : Target) → (plan_for a.call).target ≡ target → IsRooted (plan_for a.call).names target
-  is_rooted target to = subst (IsRooted (plan_for a.call).names) to (subst (λ p. IsRooted p.names p.target) (sym plan_is) (rooted a.call))
+  is_rooted target to = subst (IsRooted (plan_for a.call).names) to (rooted a.call)
 
   -- one that is to be free, after the load of what the call reads
   free_first : (o : Option ℕ) → reads_of a.call more ≡ o → (target : place) → next_of (plan_for a.call) more ≡ NextFree target
@@ -226,8 +223,7 @@ module _ (setup : Setting) (setting : IsSetting setup) (cores : ℕ → Core) (t
   target_good named (Free spot) to none acts = free_good spot to none (next_end (plan_for a.call) more (Free spot) none to)
   target_good named (Held spot) to none acts = held_good spot to none (next_end (plan_for a.call) more (Held spot) none to)
   target_good named (own_page v) to none acts =
-      absurd (named (ap (λ (p : Plan). p.names) plan_is
-      ∙ own_unnamed a.call v (ap (λ (p : Plan). p.target) (sym plan_is) ∙ to)))
+      absurd (named (own_unnamed a.call v to))
 
   pub next_good : ((plan_for a.call).names ≡ [] → ⊥) → ((plan_for a.call).target ≡ Nowhere → names_after (plan_for a.call).names more ≡ []
       → GoodTook setup cores t c move
