@@ -7,7 +7,7 @@ use Rattle.act_states.specs.stage_pins.specs.declared.pin.Pinned.{Pinned}
 use Rattle.act_states.specs.stage_pins.specs.declared.held.Acquired.{Acquired}
 use Rattle.act_states.specs.stage_pins.specs.Acquire.{pin_after, pin_end}
 use Rattle.std.proofs.Common.{◌≡◌, ℕ, ℤ, ◌+◌, ◌==◌, ◌&&◌, Bool, true, false, List, [], ◌∷◌, length, Option}
-use Rattle.std.proofs.Common.{Some, None, refl, sym, ◌∙◌, ap, subst, arith, eqb-true, nat_le, ◌||◌}
+use Rattle.std.proofs.Common.{Some, None, refl, sym, ap, subst, arith, eqb-true, nat_le, ◌||◌}
 use Rattle.act_states.specs.call_plans.specs.Plans.{pushed}
 use Rattle.spk_nums.specs.Capability.{Capability}
 use Rattle.spk_nums.specs.Rights.{neither}
