@@ -46,7 +46,7 @@ use Rattle.step_ways.specs.kept_facts.proofs.WordFrames.{load_marks, load_words}
 use Rattle.step_ways.proofs.Writes.{same_marks}
 use Rattle.time_invariant.proofs.Budgets.{tcap_is, IsTcap, Numbers, numbers_of}
 use Rattle.time_invariant.proofs.TickCalls.{IsTick, tick_of, own_footprint, raced_head}
-use Rattle.step_ways.specs.call_plans.specs.PlanOf.{plan_for}
+use Rattle.step_ways.specs.act_states.specs.call_plans.specs.PlanOf.{plan_for}
 
 -- The change of a tick of which so many ticks are charged.
 abbrev charges : State → ℕ → ℕ → ℕ → Change
