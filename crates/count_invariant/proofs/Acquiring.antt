@@ -549,8 +549,7 @@ module _ (setup : Setting) (setting : IsSetting setup) (cores : ℕ → Core) (t
       a.found names
 
   call_leads : Leads (LeadsIn now c) (plan_for a.call).names [] a.found
-  call_leads = subst (λ (p : Plan). Leads (LeadsIn now c) p.names [] a.found)
-      refl plan_leads
+  call_leads = plan_leads
 
   pub goes_by : GoesBy (own_pages now c) (plan_for a.call) (rule_of now c a.call)
   goes_by = calls_go now c a.call
