@@ -1,6 +1,6 @@
 -- What a decision changes of what its core has of its own, beside the calls that it has made.
 use Rattle.std.specs.Prelude.{ℕ, ◌+◌, ◌-◌, ◌^◌, min, []}
-use Rattle.call_plans.specs.kernel_invariant.specs.kernel_rules.specs.MemoryCalls.{caching}
+use Rattle.call_plans.specs.kernel_invariant.specs.kernel_rules.specs.Edits.{caching}
 use Rattle.act_states.specs.declared.own.Own.{Own}
 use Rattle.act_states.specs.declared.own.OwnChange.{OwnChange}
 use Rattle.act_states.specs.declared.own.OwnChange.TheVariants.{Ticks, GivesBack, Empties, Works, Switches, Caches}

@@ -1,7 +1,7 @@
 //! What a core has of its own, beside its call, and what a decision changes of it.
 
 ghost use Rattle.std.specs.Prelude.{◌≡◌};
-ghost use Rattle.call_plans.specs.kernel_invariant.specs.kernel_rules.specs.MemoryCalls.{caching};
+ghost use Rattle.call_plans.specs.kernel_invariant.specs.kernel_rules.specs.Edits.{caching};
 ghost use Rattle.act_states.specs.OwnChanges.{own_changed};
 
 use spk_nums::{CoreNo, FrameNo, Stamp, Translation, Translations};

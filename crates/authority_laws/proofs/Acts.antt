@@ -13,8 +13,6 @@ use Rattle.state_laws.specs.spk_nums.specs.declared.calls.Make.TheVariants as ma
 use Rattle.state_laws.specs.spk_nums.specs.declared.calls.Call.{Call}
 use Rattle.state_laws.specs.spk_nums.specs.declared.calls.Call.TheVariants as call
 use Rattle.state_laws.specs.spk_nums.specs.declared.translations.Translation.{Translation}
-use Rattle.state_laws.specs.spk_nums.specs.declared.replies.Value.{Value}
-use Rattle.state_laws.specs.spk_nums.specs.declared.replies.Value.TheVariants.{Nothing, Amount}
 use Rattle.state_laws.specs.spk_nums.specs.declared.replies.Reply.TheVariants as reply
 use Rattle.state_laws.specs.kernel_rules.specs.State.{Holds, CompFields, Object, Blank, Table, Leaf, Pages, Pleaf, Thread, Tcap}
 use Rattle.state_laws.specs.kernel_rules.specs.State.{outstanding}
@@ -24,23 +22,21 @@ use Rattle.state_laws.specs.kernel_rules.specs.Access.{Want, to_use, to_copy, an
 use Rattle.state_laws.specs.kernel_rules.specs.Access.{linked, slot_in, usable, reached, own, place_at, root_slot, to_part}
 use Rattle.state_laws.specs.kernel_rules.specs.Fitting.{fits}
 use Rattle.state_laws.specs.kernel_rules.specs.References.{refs}
-use Rattle.state_laws.specs.kernel_rules.specs.Rules.{waits_of, flushes_of, WaitedFor, Unflushed, Change, Cause, When, Found, name_of}
-use Rattle.state_laws.specs.kernel_rules.specs.Rules.{named, vacant, held, fills, removes, answers, first_cause, refusal_of}
-use Rattle.state_laws.specs.kernel_rules.specs.CapabilityCalls.{has_frame, outside, not_blank, makes, make_node, make_rule, not_taken}
-use Rattle.state_laws.specs.kernel_rules.specs.CapabilityCalls.{is_live, epoch_of}
-use Rattle.state_laws.specs.kernel_rules.specs.CapabilityCalls.{leaf_of, leaf_for, has_frames}
+use Rattle.state_laws.specs.kernel_rules.specs.Rules.{waits_of, flushes_of, WaitedFor, Unflushed, Cause, When, Found, name_of}
+use Rattle.state_laws.specs.kernel_rules.specs.Rules.{named, vacant, held, first_cause, refusal_of}
+use Rattle.state_laws.specs.kernel_rules.specs.CapabilityCalls.{has_frame, outside, not_blank, make_node, make_rule, not_taken, is_live}
+use Rattle.state_laws.specs.kernel_rules.specs.CapabilityCalls.{epoch_of, leaf_of, leaf_for, has_frames}
 use Rattle.state_laws.specs.kernel_rules.specs.MemoryCalls.{not_user, not_untyped, not_retyped, retype_rule, touch_by, translation_of}
-use Rattle.state_laws.specs.kernel_rules.specs.MemoryCalls.{translated, is_empty, is_untyped_now}
+use Rattle.state_laws.specs.kernel_rules.specs.MemoryCalls.{is_empty, is_untyped_now}
 use Rattle.state_laws.specs.kernel_rules.specs.Life.{is_live_in}
 use Rattle.state_laws.specs.kernel_rules.specs.InvocationCalls.{not_live, switch_to}
-use Rattle.state_laws.specs.kernel_rules.specs.TimeCalls.{merged_list, tcap_at, are_same, is_short, are_unlike, are_many, is_finer, is_less}
+use Rattle.state_laws.specs.kernel_rules.specs.TimeCalls.{merged_list, are_same, is_short, are_unlike, are_many, is_finer, is_less}
+use Rattle.state_laws.specs.kernel_rules.specs.Edits.{tcap_at, Edit, Fill, Remove, Node, Become, Untype, Component, Deaden, Push, Pop}
 use Rattle.state_laws.specs.kernel_rules.specs.CallRelation.{rule_of}
-use Rattle.state_laws.specs.kernel_invariant.specs.Edits.{Edit, Fill, Remove, Node, Become, Untype, Component, Deaden, Push, Pop, Switch}
-use Rattle.state_laws.specs.kernel_invariant.specs.Edits.{Cache, Flush}
-use Rattle.state_laws.specs.kernel_invariant.specs.Edits.{Charge, Move, Merge, Give, begins_in, does}
+use Rattle.state_laws.specs.kernel_rules.specs.Edits.{Switch, Cache, Flush, Charge, Move, Merge, Give, begins_in}
 use Rattle.state_laws.specs.kernel_invariant.proofs.Sound.{only_is}
 use Rattle.state_laws.specs.kernel_invariant.proofs.SoundCalls.{IsOpen, blank_by, untyped_by, within_by}
-use Rattle.state_laws.specs.kernel_invariant.proofs.Facts.{ChangesFrom, Suits, suits, none_some, some_inj, some_none, vacant_facts}
+use Rattle.state_laws.specs.kernel_invariant.proofs.Facts.{EditsFrom, Suits, suits, none_some, some_inj, some_none, vacant_facts}
 use Rattle.state_laws.specs.kernel_invariant.proofs.Facts.{held_facts, none_parts, when_not, not_not, first_two}
 use Rattle.state_laws.specs.kernel_invariant.proofs.Edited.{is_bare, Calm}
 use Rattle.state_laws.specs.found_stays.proofs.Stays.{name_parts}
@@ -176,10 +172,8 @@ Quiet c s [] = Unit {0}
 Quiet c s (e ∷ []) = Unit {0}
 Quiet c s (e ∷ (x ∷ es)) = begins_in c s e ≡ []
 
--- The change of a call of core c is that of a list of edits, each with what it is made by.
-pub record Acts (call : Call) (c : ℕ) (s : State) (change : Change) : Type 0 where
-  pub list : List Edit
-  pub is : change ≡ does c s change.value list
+-- By what the edits of a call of core c are made.
+pub record Acts (call : Call) (c : ℕ) (s : State) (list : List Edit) : Type 0 where
   pub calm : Calm c s list
   pub quiet : Quiet c s list
   pub by : EachBy call s c list
@@ -212,7 +206,8 @@ used_at s c k m = named_at s c m.number (to_use m.kinds) k m.leads
 
 module _ (s : State) (c : ℕ) where
   -- what is reached under a number of a table is in a leaf of it
-  pub under_leaf : (table : Capability) (n : ℕ) (at : Slot) → reached s c (Under (found table) n) ≡ Some at → IsUnder s c table.frame at.node
+  pub under_leaf : (table : Capability) (n : ℕ) (at : Slot) → reached s c (Under (found table) n) ≡ Some at
+      → IsUnder s c table.frame at.node
   under_leaf table n at e = inr (n / 64, by_number (nat_le n 4095) e)
     where
       by_slot : (l : Option ℕ) → slot_in l (n % 64) ≡ Some at → l ≡ Some at.node
@@ -304,21 +299,21 @@ module _ (call : Call) (s : State) (c : ℕ) where
 -- ---- lists of one edit, and of two
 
 module _ (call : Call) (s : State) (c : ℕ) where
-  nothing : {v : Value} → Acts call c s (answers s v)
-  nothing = record { list = []; is = refl; calm = tt; quiet = tt; by = tt }
+  nothing : Acts call c s []
+  nothing = record { calm = tt; quiet = tt; by = tt }
 
-  one : (e : Edit) (v : Value) → By call s c e → Acts call c s (does c s v (e ∷ []))
-  one e v by = record { list = e ∷ []; is = refl; calm = (refl, λ x. refl, tt); quiet = tt; by = (by, tt) }
+  one : (e : Edit) → By call s c e → Acts call c s (e ∷ [])
+  one e by = record { calm = (refl, λ x. refl, tt); quiet = tt; by = (by, tt) }
 
-  two : (e x : Edit) (v : Value) → Calm c s (e ∷ x ∷ []) → begins_in c s e ≡ [] → By call s c e → By call s c x → Acts call c s (does c s v (e ∷ x ∷ []))
-  two e x v calm quiet by next = record { list = e ∷ x ∷ []; is = refl; calm = calm; quiet = quiet; by = (by, (next, tt)) }
+  two : (e x : Edit) → Calm c s (e ∷ x ∷ []) → begins_in c s e ≡ [] → By call s c e → By call s c x → Acts call c s (e ∷ x ∷ [])
+  two e x calm quiet by next = record { calm = calm; quiet = quiet; by = (by, (next, tt)) }
 
-  filled : (at : Slot) (k : Capability) → InNode call s c at.node → IsTaken s c k ⊎ IsGiven call s c k → Acts call c s (fills s at k)
-  filled at k node from = one (Fill at k) Nothing (node, from)
+  filled : (at : Slot) (k : Capability) → InNode call s c at.node → IsTaken s c k ⊎ IsGiven call s c k → Acts call c s (Fill at k ∷ [])
+  filled at k node from = one (Fill at k) (node, from)
 
   removed : (target : Target) (at : Slot) (k : Capability) → InNode call s c at.node → held s c target ≡ Found (at, k)
-      → Acts call c s (removes s at k)
-  removed target at k node e = one (Remove at k) Nothing (node, (held_facts s c target at k e).1)
+      → Acts call c s (Remove at k ∷ [])
+  removed target at k node e = one (Remove at k) (node, (held_facts s c target at k e).1)
 
 -- ---- the calls
 
@@ -336,11 +331,12 @@ module _ (s : State) (c : ℕ) (o : ℕ → Bool) (h : IsOpen s o c) where
   bare_untyped r f range e calm = subst (λ x. IsTrue (is_bare x)) (sym (untyped_by s o c r f range h e calm).1) refl
 
   node_acts : (call : Call) (object : Object) (k : Kind) (r f t b : ℕ) → Uses call s c r (only kind.Range)
-      → Uses call s c t (only kind.Table) → IsFresh (Kernel object) → only kind.Range k ≡ false → ((at : Slot) → Calm c s (Node f object ∷ Fill at (plain_cap k f) ∷ []))
-      → ChangesFrom (Acts call c s) s c (make_node s object k r f t b)
+      → Uses call s c t (only kind.Table) → IsFresh (Kernel object) → only kind.Range k ≡ false
+      → ((at : Slot) → Calm c s (Node f object ∷ Fill at (plain_cap k f) ∷ []))
+      → EditsFrom (λ x es. Acts call c s es) s c (make_node s object k r f t b)
   node_acts call object k r f t b by_range by_table none other calm_at = λ range e table g at v calm.
       let within = range_by call s c r f range (not_blank s f ∷ []) by_range e calm in
-      two call s c (Node f object) (Fill at (plain_cap k f)) Nothing (calm_at at) refl
+      two call s c (Node f object) (Fill at (plain_cap k f)) (calm_at at) refl
       (within, bare_blank r f range [] e calm, none)
       (place_by call s c t b table at by_table g v, made_cap call s c k f other within)
 
@@ -348,10 +344,11 @@ module _ (s : State) (c : ℕ) (o : ℕ → Bool) (h : IsOpen s o c) where
       → Uses call s c r (only kind.Range) → Uses call s c t (only kind.Table) → IsFresh (Kernel object) → only kind.Range k ≡ false
       → named s c r (to_use (only kind.Range)) ≡ Found range → named s c t (to_use (only kind.Table)) ≡ Found table
       → vacant s c (Under (found table) b) ≡ Found at
-      → first_cause s c (outside (found range) f ∷ not_blank s f ∷ []) ≡ None → Acts call c s (makes s f object k at)
+      → first_cause s c (outside (found range) f ∷ not_blank s f ∷ []) ≡ None
+      → Acts call c s (Become f (Kernel object) ∷ Fill at (plain_cap k f) ∷ [])
   made_acts call object k r f t b range table at by_range by_table none other e g v calm =
       let within = range_by call s c r f range (not_blank s f ∷ []) by_range e calm in
-      two call s c (Become f (Kernel object)) (Fill at (plain_cap k f)) Nothing (refl, λ x. refl, tt) refl
+      two call s c (Become f (Kernel object)) (Fill at (plain_cap k f)) (refl, λ x. refl, tt) refl
       (within, bare_blank r f range [] e calm, none)
       (place_by call s c t b table at by_table g v, made_cap call s c k f other within)
 
@@ -362,7 +359,7 @@ module _ (s : State) (c : ℕ) (o : ℕ → Bool) (h : IsOpen s o c) where
   second : {m n : ℕ} {other want : Want} {A : Type 0} → ((n ≡ m) × (want ≡ other)) ⊎ (((n ≡ n) × (want ≡ want)) ⊎ A)
   second = inr (inl (refl, refl))
 
-  make_acts : (what : Make) (r f t b : ℕ) → ChangesFrom (Acts (call.Make what r f t b) c s) s c (make_rule s what r f t b)
+  make_acts : (what : Make) (r f t b : ℕ) → EditsFrom (λ x es. Acts (call.Make what r f t b) c s es) s c (make_rule s what r f t b)
   make_acts make.Table r f t b = node_acts (call.Make make.Table r f t b) Table kind.Table r f t b first second
       (record { no_comp = refl; poor = refl }) refl
       (λ at. (refl, λ x. refl, tt))
@@ -389,7 +386,7 @@ module _ (s : State) (c : ℕ) (o : ℕ → Bool) (h : IsOpen s o c) where
       let q3 = none_parts (refusal_of s c (When (is_live (s.number l)) reply.Occupied)) _ q2.1 in
       let fields : CompFields =
       record { table = own_table.frame; pages = own_pages.frame; number = l; epoch = epoch_of (s.number l) + 1 } in
-      two act s c (Component f fields) (Fill at (plain_cap kind.Comp f)) Nothing (refl, λ x. refl, tt) refl (
+      two act s c (Component f fields) (Fill at (plain_cap kind.Comp f)) (refl, λ x. refl, tt) refl (
         within,
         bare_blank r f range (not_taken s l) e calm,
         record {
@@ -400,15 +397,15 @@ module _ (s : State) (c : ℕ) (o : ℕ → Bool) (h : IsOpen s o c) where
       )
       (place_by act s c t b table at second g v, made_cap act s c kind.Comp f refl within)
 
-  retype_acts : (r f : ℕ) (k : FrameKind) → ChangesFrom (Acts (call.Retype r f k) c s) s c (retype_rule s r f k)
+  retype_acts : (r f : ℕ) (k : FrameKind) → EditsFrom (λ x es. Acts (call.Retype r f k) c s es) s c (retype_rule s r f k)
   retype_acts r f frame_kind.User = λ range e calm.
-      one (call.Retype r f frame_kind.User) s c (Become f User) Nothing (
+      one (call.Retype r f frame_kind.User) s c (Become f User) (
         range_by (call.Retype r f frame_kind.User) s c r f range (not_untyped s f ∷ []) first e calm,
         bare_untyped r f range e calm,
         record { no_comp = refl; poor = refl },
       )
   retype_acts r f frame_kind.Kernel = λ range e calm.
-      one (call.Retype r f frame_kind.Kernel) s c (Become f (Kernel Blank)) Nothing (
+      one (call.Retype r f frame_kind.Kernel) s c (Become f (Kernel Blank)) (
         range_by (call.Retype r f frame_kind.Kernel) s c r f range (not_untyped s f ∷ []) first e calm,
         bare_untyped r f range e calm,
         record { no_comp = refl; poor = refl },
@@ -425,23 +422,23 @@ module _ (s : State) (c : ℕ) (o : ℕ → Bool) (h : IsOpen s o c) where
       let p5 = none_parts (refusal_of s c full) None p4.1 in
       let empty : is_empty s f (s.frame f) ≡ true =
       not_not (is_empty s f (s.frame f)) (when_not (not (is_empty s f (s.frame f))) reply.NotEmpty p5.0) in
-      one (call.Retype r f frame_kind.Untyped) s c (Untype f) Nothing (
+      one (call.Retype r f frame_kind.Untyped) s c (Untype f) (
         range_by (call.Retype r f frame_kind.Untyped) s c r f range (not_retyped s f frame_kind.Untyped) first e calm,
         empty_budget s f (s.frame f) empty,
       )
 
-  touch_acts : (v : ℕ) (t : Option Translation) → ChangesFrom (Acts (call.Touch v) c s) s c (touch_by s c (comp_of s c).pages v t)
+  touch_acts : (v : ℕ) (t : Option Translation) → EditsFrom (λ x es. Acts (call.Touch v) c s es) s c (touch_by (comp_of s c).pages v t)
   touch_acts v None = λ mapping e calm.
       let t : Translation = record { pages = (comp_of s c).pages; page = v; frame = mapping.frame; flags = record { 0 = mapping.arg } } in
-      one (call.Touch v) s c (Cache t) (translated t) tt
+      one (call.Touch v) s c (Cache t) tt
   touch_acts v (Some t) = λ calm. nothing (call.Touch v) s c
 
   switch_acts : (a b : ℕ) (j k : Capability) → named s c a (to_use (only kind.Thread)) ≡ Found j
       → named s c b (to_use (only kind.Tcap)) ≡ Found k → (e : Option ℕ) → (thread_in (s.frame j.frame)).runs_on ≡ e
-      → ChangesFrom (Acts (call.Switch a b) c s) s c (switch_to s c (found j) k.frame e)
+      → EditsFrom (λ x es. Acts (call.Switch a b) c s es) s c (switch_to (found j) k.frame e)
   switch_acts a b j k g q (Some e) is = λ calm. absurd (some_none (reply.Running e) (none_parts (Some (reply.Running e)) None calm).0)
   switch_acts a b j k g q None is = λ calm.
-      one (call.Switch a b) s c (Switch j.frame k.frame) Nothing (record {
+      one (call.Switch a b) s c (Switch j.frame k.frame) (record {
         first = a;
         second = b;
         is = refl;
@@ -469,7 +466,7 @@ module _ (s : State) (c : ℕ) (o : ℕ → Bool) (h : IsOpen s o c) where
       let left : ℕ = outstanding (s.core c) in
       ltb-false left m (when_not (nat_lt left m) (reply.Short (min left m)) p.1)
 
-  pub rule_acts : (call : Call) → ChangesFrom (Acts call c s) s c (rule_of s c call)
+  pub rule_acts : (call : Call) → EditsFrom (λ x es. Acts call c s es) s c (rule_of s c call)
   rule_acts (call.Look a) = λ k e calm. nothing (call.Look a) s c
   rule_acts (call.Copy a t b rights) = λ k e table g at v calm.
       let x = named_at s c a (to_copy any) k e in
@@ -511,7 +508,7 @@ module _ (s : State) (c : ℕ) (o : ℕ → Bool) (h : IsOpen s o c) where
       (pages_node (call.Unmap p v) s c p pages at.node first e
       (under_leaf s c pages v at (held_facts s c (Under (found pages) v) at k g).0)) g
   rule_acts (call.Touch v) = touch_acts v (translation_of (s.core c).cached (comp_of s c).pages v)
-  rule_acts call.Flush = λ calm. one call.Flush s c Flush Nothing tt
+  rule_acts call.Flush = λ calm. one call.Flush s c Flush tt
   rule_acts (call.Gate k t b) = λ comp e table g at v calm.
       filled (call.Gate k t b) s c at (cap_of kind.Gate comp.frame (comp_in (s.frame comp.frame)).epoch)
       (place_by (call.Gate k t b) s c t b table at second g v)
@@ -521,18 +518,19 @@ module _ (s : State) (c : ℕ) (o : ℕ → Bool) (h : IsOpen s o c) where
           → LedTo (call.Gate k t b) s c is_given comp.frame
       comp_led k t b comp e =
           let p = may_by (call.Gate k t b) s c k (only kind.Comp) comp first e in
-          record { cap = comp; may = p.0; kind = subst (λ j. IsTrue (is_given j)) (sym (only_is kind.Comp comp.kind p.1)) refl; frame = refl }
+          let given = subst (λ j. IsTrue (is_given j)) (sym (only_is kind.Comp comp.kind p.1)) refl in
+          record { cap = comp; may = p.0; kind = given; frame = refl }
   rule_acts (call.Kill k) = λ comp e calm.
       let fields = comp_in (s.frame comp.frame) in
       let p = none_parts (refusal_of s c (not_live s (found comp) fields.number fields.epoch)) None calm in
       let live : is_live_in (s.number fields.number) fields.epoch ≡ true = not_not _ (when_not _ reply.Dead p.0) in
       let q = may_by (call.Kill k) s c k (only kind.Comp) comp first e in
-      one (call.Kill k) s c (Deaden fields.number fields.epoch) Nothing (comp, q.0, only_is kind.Comp comp.kind q.1, (refl, live))
+      one (call.Kill k) s c (Deaden fields.number fields.epoch) (comp, q.0, only_is kind.Comp comp.kind q.1, (refl, live))
   rule_acts (call.Call g) = λ gate e calm.
       let p = none_parts (refusal_of s c (When (nat_le 16 (length (thread_of s c).stack)) reply.Deep)) _ calm in
       let q = none_parts (refusal_of s c (not_live s (found gate) (comp_in (s.frame gate.frame)).number gate.arg)) None p.1 in
       let m = may_by (call.Call g) s c g (only kind.Gate) gate first e in
-      one (call.Call g) s c (Push gate.frame) Nothing (record {
+      one (call.Call g) s c (Push gate.frame) (record {
         number = g;
         is = refl;
         gate = gate;
@@ -542,18 +540,18 @@ module _ (s : State) (c : ℕ) (o : ℕ → Bool) (h : IsOpen s o c) where
         frame = refl;
         lives = not_not _ (when_not _ reply.Dead q.0);
       })
-  rule_acts call.Ret = λ calm. one call.Ret s c Pop Nothing refl
+  rule_acts call.Ret = λ calm. one call.Ret s c Pop refl
   rule_acts (call.Switch f q) = λ thread e tcap g.
       switch_acts f q thread tcap e g (thread_in (s.frame thread.frame)).runs_on refl
-  rule_acts (call.Tick n) = λ calm. one (call.Tick n) s c (Charge n) (Amount _) refl
+  rule_acts (call.Tick n) = λ calm. one (call.Tick n) s c (Charge n) refl
   rule_acts (call.Transfer a b m) = λ j e k f calm.
-      one (call.Transfer a b m) s c (Move j.frame k.frame m) Nothing (
+      one (call.Transfer a b m) s c (Move j.frame k.frame m) (
         led_by (call.Transfer a b m) s c a (only kind.Tcap) j first e,
         led_by (call.Transfer a b m) s c b (only kind.Tcap) k second f,
         affords m j k (are_unlike s (found j) (found k) ∷ []) calm,
       )
   rule_acts (call.Delegate a b m) = λ j e k f calm.
-      two (call.Delegate a b m) s c (Move j.frame k.frame m) (Merge k.frame (merged_list s j.frame k.frame)) Nothing
+      two (call.Delegate a b m) s c (Move j.frame k.frame m) (Merge k.frame (merged_list s j.frame k.frame))
       (refl, λ x. refl, tt) refl (
         led_by (call.Delegate a b m) s c a (only kind.Tcap) j first e,
         led_by (call.Delegate a b m) s c b (only kind.Tcap) k second f,
@@ -561,7 +559,7 @@ module _ (s : State) (c : ℕ) (o : ℕ → Bool) (h : IsOpen s o c) where
       ) (led_by (call.Delegate a b m) s c b (only kind.Tcap) k second f)
   rule_acts (call.Test a b) = λ j e k f calm. nothing (call.Test a b) s c
   rule_acts (call.Replenish a m) = λ j e calm.
-      one (call.Replenish a m) s c (Give j.frame m) Nothing (
+      one (call.Replenish a m) s c (Give j.frame m) (
         led_by (call.Replenish a m) s c a (only kind.Tcap) j first e,
         has_left a m j calm,
       )

@@ -6,6 +6,7 @@ use Rattle.std.specs.List.{list_any}
 use Rattle.state_laws.specs.spk_nums.specs.declared.kinds.Kind.{Kind}
 use Rattle.state_laws.specs.spk_nums.specs.declared.kinds.Kind.TheVariants as kind
 use Rattle.state_laws.specs.spk_nums.specs.declared.calls.Call.{Call}
+use Rattle.state_laws.specs.spk_nums.specs.declared.replies.Value.{Value}
 use Rattle.state_laws.specs.spk_nums.specs.declared.replies.Reply.{Reply}
 use Rattle.state_laws.specs.spk_nums.specs.declared.replies.Reply.TheVariants as reply
 use Rattle.state_laws.specs.kernel_rules.specs.State.{Place, Holds, Quiescing, Thread, Frame, Untyped, Kernel, Liveness, Unused, Live, Dead}
@@ -15,23 +16,21 @@ use Rattle.state_laws.specs.kernel_rules.specs.References.{place_names, frame_na
 use Rattle.state_laws.specs.kernel_rules.specs.Access.{only, to_use}
 use Rattle.state_laws.specs.kernel_rules.specs.Fitting.{fits}
 use Rattle.state_laws.specs.kernel_rules.specs.GracePeriods.{same_thing, begun}
-use Rattle.state_laws.specs.kernel_rules.specs.Rules.{Change, Judged, Refused, Found, frames_of}
+use Rattle.state_laws.specs.kernel_rules.specs.Rules.{Change, does, Judged, Refused, Found}
+use Rattle.state_laws.specs.kernel_rules.specs.Edits.{frames_of, with_thread, Edit, Remove, Untype, Deaden, Pop, Switch, edited}
 use Rattle.state_laws.specs.kernel_rules.specs.CapabilityCalls.{is_live}
-use Rattle.state_laws.specs.kernel_rules.specs.InvocationCalls.{with_thread}
+use Rattle.state_laws.specs.kernel_rules.specs.Edits.{after_edits, begins_in, begins_all}
 use Rattle.state_laws.specs.kernel_rules.specs.Life.{is_live_in}
-use Rattle.state_laws.specs.kernel_rules.specs.CallRelation.{rule_of, change_of, changed, counted, state_by, begins}
-use Rattle.state_laws.specs.kernel_rules.specs.CallRelation.{begins_in as begun_in}
+use Rattle.state_laws.specs.kernel_rules.specs.CallRelation.{rule_of, change_of, changed, counted, state_by, begins, begins_in as begun_in}
 use Rattle.state_laws.specs.kernel_rules.specs.Runs.{after, is_open}
 use Rattle.state_laws.specs.kernel_rules.proofs.Changes.{IfFound}
 use Rattle.state_laws.specs.kernel_rules.proofs.Within.{put_same}
-use Rattle.state_laws.specs.kernel_invariant.specs.Edits.{Edit, Remove, Untype, Deaden, Pop, Switch, edited, after_edits, begins_in}
-use Rattle.state_laws.specs.kernel_invariant.specs.Edits.{begins_all}
 use Rattle.state_laws.specs.kernel_invariant.proofs.Sums.{times_cons, times_first}
 use Rattle.state_laws.specs.kernel_invariant.proofs.Sound.{put_all, only_is}
 use Rattle.state_laws.specs.kernel_invariant.proofs.SoundRemovals.{frames_no_place}
 use Rattle.state_laws.specs.kernel_invariant.proofs.SoundCalls.{IsOpen}
 use Rattle.state_laws.specs.kernel_invariant.proofs.SoundRuns.{opened, open_is}
-use Rattle.state_laws.specs.kernel_invariant.proofs.Facts.{outcome_from, usable_good, none_some}
+use Rattle.state_laws.specs.kernel_invariant.proofs.Facts.{outcome_from, edits_map, usable_good, none_some}
 use Rattle.state_laws.specs.kernel_invariant.proofs.Edited.{Calm}
 use Rattle.state_laws.proofs.Threads.{threads_run}
 use Rattle.authority_laws.specs.Authority.{Part, PlaceIs, FrameIs, NumberIs, CoreIs}
@@ -44,7 +43,8 @@ any_frames : (f : ℕ) (fs : List ℕ) → list_any (same_thing (FrameOf f)) (fr
 any_frames f [] is = absurd (false≢true is)
 any_frames f (g ∷ fs) is = by_first (any_frames f fs) (f == g) refl is
   where
-    by_first : (list_any (same_thing (FrameOf f)) (frames_of fs) ≡ true → 1 ≤ times f fs) → (b : Bool) → (f == g) ≡ b → (b || list_any (same_thing (FrameOf f)) (frames_of fs)) ≡ true → 1 ≤ times f (g ∷ fs)
+    by_first : (list_any (same_thing (FrameOf f)) (frames_of fs) ≡ true → 1 ≤ times f fs) → (b : Bool) → (f == g) ≡ b
+        → (b || list_any (same_thing (FrameOf f)) (frames_of fs)) ≡ true → 1 ≤ times f (g ∷ fs)
     by_first rest true same is = subst (λ n. 1 ≤ times f (n ∷ fs)) (eqb-true f g same) (times_first f fs)
     by_first rest false same is = let p = times_cons f g fs in let q = rest is in omega (arith, p, q)
 
@@ -179,7 +179,8 @@ module _ (call : Call) (s : State) (c : ℕ) (o : ℕ → Bool) (h : IsOpen s o 
           (ap (λ n. is_live (s.number n)) one ∙ live_in (s.number l) _ by.3.1, ap is_live (put_same s.number l (Dead e) m one))
       by_first false same is = absurd (false≢true (sym (frames_no_number m (number_names (s.number l))) ∙ is))
   remove_cause (Deaden l e) by (FrameOf g) is =
-      lost (edited c s (Deaden l e)) g (NumberIs l) [] (number_names (s.number l)) (ap number_names (put_same s.number l (Dead e) l refl)) refl
+      lost (edited c s (Deaden l e)) g (NumberIs l) [] (number_names (s.number l)) (ap number_names (put_same s.number l (Dead e) l refl))
+      refl
       (none_left g (number_names (s.number l)) (any_frames g (number_names (s.number l)) is))
   remove_cause Pop by (PlaceOf g i) is = absurd (false≢true (sym (frames_no_place g i (take 1 (thread_of s c).stack)) ∙ is))
   remove_cause Pop by (NumberOf l) is = absurd (false≢true (sym (frames_no_number l (take 1 (thread_of s c).stack)) ∙ is))
@@ -234,18 +235,21 @@ module _ (call : Call) (s : State) (c : ℕ) (o : ℕ → Bool) (h : IsOpen s o 
   edits_cause (e ∷ (y ∷ es)) calm quiet by x is =
       absurd (false≢true (ap (list_any (same_thing x)) (sym (calm.0 ∙ quiet)) ∙ is))
 
-  change_cause : (change : Change) → Acts call c s change → (x : Thing) → list_any (same_thing x) change.begins ≡ true
+  abbrev CausedBy : Change → Type 0
+  CausedBy change = (x : Thing) → list_any (same_thing x) change.begins ≡ true
       → HasCause s (counted (begun s change.begins change.next) c) x
-  change_cause change acts x = subst
-      (λ (k : Change). list_any (same_thing x) k.begins ≡ true → HasCause s (counted (begun s k.begins k.next) c) x) (sym acts.is)
-      (λ is. cause_on (after_edits c s acts.list) _ x (edits_cause acts.list acts.calm acts.quiet acts.by x is))
+
+  change_cause : (v : Value) (es : List Edit) → Acts call c s es → CausedBy (does c s v es)
+  change_cause v es acts x is = cause_on (after_edits c s es) _ x (edits_cause es acts.calm acts.quiet acts.by x is)
 
   pub ok_cause : (x : Thing) → begun_in (change_of s c call) x ≡ true → HasCause s (counted (changed s (change_of s c call)) c) x
-  ok_cause x = by_found (change_of s c call) (outcome_from (Acts call c s) s c (rule_of s c call) (rule_acts s c o h call))
+  ok_cause x = by_found (change_of s c call) (outcome_from CausedBy s c (rule_of s c call)
+      (edits_map (λ v es. Acts call c s es) (λ v es. CausedBy (does c s v es)) s c (rule_of s c call) change_cause
+      (rule_acts s c o h call)))
     where
-      by_found : (j : Judged Change) → IfFound j (Acts call c s) → begun_in j x ≡ true → HasCause s (counted (changed s j) c) x
-      by_found (Refused r) acts is = absurd (false≢true is)
-      by_found (Found change) acts is = change_cause change acts x is
+      by_found : (j : Judged Change) → IfFound j CausedBy → begun_in j x ≡ true → HasCause s (counted (changed s j) c) x
+      by_found (Refused r) by is = absurd (false≢true is)
+      by_found (Found change) by is = by x is
 
 pub graces_have_cause : GracesHaveCause
 graces_have_cause setting lim events c call r run x is = by_reply r is

@@ -1,5 +1,5 @@
 -- What a decision changes is its core's own, or lies under a capability that it named and that has the right to use.
-use Rattle.std.proofs.Common.{◌≡◌, ◌⊎◌, inl, inr, ℕ, Bool, refl, sym, ap, subst, List}
+use Rattle.std.proofs.Common.{◌≡◌, ◌⊎◌, inl, inr, ℕ, Bool, refl, ap, List}
 use Rattle.state_laws.specs.spk_nums.specs.declared.calls.Call.{Call}
 use Rattle.state_laws.specs.spk_nums.specs.declared.calls.Call.TheVariants.{Tick}
 use Rattle.state_laws.specs.spk_nums.specs.declared.replies.Value.{Value}
@@ -7,12 +7,12 @@ use Rattle.state_laws.specs.spk_nums.specs.declared.replies.Reply.{Reply}
 use Rattle.state_laws.specs.spk_nums.specs.declared.replies.Reply.TheVariants as reply
 use Rattle.state_laws.specs.kernel_rules.specs.State.{Core, Grace, Thing, State, with_core, with_grace, outstanding}
 use Rattle.state_laws.specs.kernel_rules.specs.GracePeriods.{begun}
-use Rattle.state_laws.specs.kernel_rules.specs.Rules.{Change, Judged, Refused, Found, IsFoundAnd}
+use Rattle.state_laws.specs.kernel_rules.specs.Rules.{Change, does, Judged, Refused, Found, IsFoundAnd}
 use Rattle.state_laws.specs.kernel_rules.specs.CallRelation.{MayReply, rule_of, change_of, changed, owed_by, state_by}
 use Rattle.state_laws.specs.kernel_rules.specs.Runs.{is_open, after}
 use Rattle.state_laws.specs.kernel_rules.proofs.Changes.{IfFound}
-use Rattle.state_laws.specs.kernel_invariant.specs.Edits.{Edit, after_edits, begins_all}
-use Rattle.state_laws.specs.kernel_invariant.proofs.Facts.{outcome_from}
+use Rattle.state_laws.specs.kernel_rules.specs.Edits.{Edit, after_edits, begins_all}
+use Rattle.state_laws.specs.kernel_invariant.proofs.Facts.{outcome_from, edits_map}
 use Rattle.state_laws.specs.kernel_invariant.proofs.SoundCalls.{IsOpen}
 use Rattle.state_laws.specs.kernel_invariant.proofs.SoundRuns.{opened, open_is}
 use Rattle.state_laws.specs.kernel_invariant.proofs.Edited.{Calm}
@@ -27,12 +27,16 @@ module _ (s : State) (c : ℕ) (o : ℕ → Bool) (h : IsOpen s o c) (call : Cal
       → ((es : List Edit) → Calm c s es → EachBy call s c es → Q (begun s (begins_all c s es) (after_edits c s es)))
       → Q (changed s (change_of s c call))
   acts_ok v Q may by = found_after (change_of s c call)
-      (outcome_from (Acts call c s) s c (rule_of s c call) (rule_acts s c o h call)) may.1.1
+      (outcome_from After s c (rule_of s c call)
+      (edits_map (λ v es. Acts call c s es) (λ v es. After (does c s v es)) s c (rule_of s c call) (λ v es acts. by es acts.calm acts.by)
+      (rule_acts s c o h call))) may.1.1
     where
-      found_after : (x : Judged Change) → IfFound x (Acts call c s) → IsFoundAnd x (λ k. k.value ≡ v) → Q (changed s x)
-      found_after (Refused r) acts ok = absurd ok
-      found_after (Found change) acts ok =
-          subst (λ (k : Change). Q (begun s k.begins k.next)) (sym acts.is) (by acts.list acts.calm acts.by)
+      After : Change → Type 0
+      After change = Q (begun s change.begins change.next)
+
+      found_after : (x : Judged Change) → IfFound x After → IsFoundAnd x (λ k. k.value ≡ v) → Q (changed s x)
+      found_after (Refused r) after ok = absurd ok
+      found_after (Found change) after ok = after
 
   -- What holds before, and holds on where the core, but for its thread and what it has left to have back, or grace periods change, holds
   -- after a decision if it does after a call's edits.

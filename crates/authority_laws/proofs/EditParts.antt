@@ -4,17 +4,14 @@ use Rattle.std.proofs.lemmas.Bool.{false≢true}
 use Rattle.state_laws.specs.spk_nums.specs.declared.kinds.Kind.TheVariants as kind
 use Rattle.state_laws.specs.spk_nums.specs.declared.calls.Call.{Call}
 use Rattle.state_laws.specs.kernel_rules.specs.State.{Place, Free, Holds, Quiescing, ThreadFields, TcapFields, Blank, Comp, Thread, Tcap}
-use Rattle.state_laws.specs.kernel_rules.specs.State.{Frame}
-use Rattle.state_laws.specs.kernel_rules.specs.State.{Untyped, Kernel, Liveness, Live, Dead, Grace, Thing, Core, State}
-use Rattle.state_laws.specs.kernel_rules.specs.State.{put, with_place, with_frame, with_core, with_grace, thread_in, thread_of, tcap_in}
+use Rattle.state_laws.specs.kernel_rules.specs.State.{Frame, Untyped, Kernel, Liveness, Live, Dead, Grace, Thing, Core, State, put}
+use Rattle.state_laws.specs.kernel_rules.specs.State.{with_place, with_frame, with_core, with_grace, thread_in, thread_of, tcap_in}
 use Rattle.state_laws.specs.kernel_rules.specs.Access.{Slot, only}
 use Rattle.state_laws.specs.kernel_rules.specs.Fitting.{fits}
 use Rattle.state_laws.specs.kernel_rules.specs.CapabilityCalls.{is_live}
-use Rattle.state_laws.specs.kernel_rules.specs.InvocationCalls.{with_thread, running}
-use Rattle.state_laws.specs.kernel_rules.specs.TimeCalls.{tcap_at, with_tcap, with_budget, charge}
-use Rattle.state_laws.specs.kernel_invariant.specs.Edits.{Edit, Fill, Remove, Node, Become, Untype, Component, Deaden, Push, Pop, Switch}
-use Rattle.state_laws.specs.kernel_invariant.specs.Edits.{Cache, Flush}
-use Rattle.state_laws.specs.kernel_invariant.specs.Edits.{Charge, Move, Merge, Give, edited, after_edits}
+use Rattle.state_laws.specs.kernel_rules.specs.Edits.{with_thread, running, tcap_at, with_tcap, with_budget, charge, Edit, Fill, Remove}
+use Rattle.state_laws.specs.kernel_rules.specs.Edits.{Node, Become, Untype, Component, Deaden, Push, Pop, Switch, Cache, Flush, Charge}
+use Rattle.state_laws.specs.kernel_rules.specs.Edits.{Move, Merge, Give, edited, after_edits}
 use Rattle.state_laws.specs.kernel_invariant.proofs.Sound.{put_all, only_is}
 use Rattle.state_laws.specs.kernel_invariant.proofs.SoundSteps.{place_all}
 use Rattle.state_laws.specs.kernel_invariant.proofs.Edited.{is_bare, AreLater, Calm}
@@ -105,19 +102,32 @@ module _ (call : Call) (s : State) (c : ℕ) where
   range_place f i r = inr (record { cap = r.range; may = r.may; over = subst (λ k. Over s c k r.range (PlaceIs f i)) (sym r.kind) r.has })
 
   range_number : (f l : ℕ) → InRange call s c f → is_live (s.number l) ≡ false → MayBy call s c (NumberIs l)
-  range_number f l r none = inr (record { cap = r.range; may = r.may; over = subst (λ k. Over s c k r.range (NumberIs l)) (sym r.kind) none })
+  range_number f l r none =
+      inr (record { cap = r.range; may = r.may; over = subst (λ k. Over s c k r.range (NumberIs l)) (sym r.kind) none })
 
   thread_may : (h : ℕ) → LedTo call s c (only kind.Thread) h → MayBy call s c (RunsIs h)
   thread_may h l =
-      inr (record { cap = l.cap; may = l.may; over = subst (λ k. Over s c k l.cap (RunsIs h)) (sym (only_is kind.Thread l.cap.kind l.kind)) (sym l.frame) })
+      inr (record {
+        cap = l.cap;
+        may = l.may;
+        over = subst (λ k. Over s c k l.cap (RunsIs h)) (sym (only_is kind.Thread l.cap.kind l.kind)) (sym l.frame);
+      })
 
   budget_may : (q : ℕ) → LedTo call s c (only kind.Tcap) q → MayBy call s c (BudgetIs q)
   budget_may q l =
-      inr (record { cap = l.cap; may = l.may; over = subst (λ k. Over s c k l.cap (BudgetIs q)) (sym (only_is kind.Tcap l.cap.kind l.kind)) (sym l.frame) })
+      inr (record {
+        cap = l.cap;
+        may = l.may;
+        over = subst (λ k. Over s c k l.cap (BudgetIs q)) (sym (only_is kind.Tcap l.cap.kind l.kind)) (sym l.frame);
+      })
 
   list_may : (q : ℕ) → LedTo call s c (only kind.Tcap) q → MayBy call s c (ListIs q)
   list_may q l =
-      inr (record { cap = l.cap; may = l.may; over = subst (λ k. Over s c k l.cap (ListIs q)) (sym (only_is kind.Tcap l.cap.kind l.kind)) (sym l.frame) })
+      inr (record {
+        cap = l.cap;
+        may = l.may;
+        over = subst (λ k. Over s c k l.cap (ListIs q)) (sym (only_is kind.Tcap l.cap.kind l.kind)) (sym l.frame);
+      })
 
   -- ---- frames
 

@@ -1,8 +1,8 @@
 -- A retype of a frame that the machine does not have is refused by its range alone: nothing refers to such a frame, and its grace
 -- period never began.
 use Rattle.std.proofs.Common.{◌≡◌, ◌≢◌, ◌⊎◌, inl, inr, ℕ, zero, suc, ◌+◌, ◌<◌, ◌≤◌, ◌==◌, Bool, true, false, not, ◌&&◌, nat_lt, cond}
-use Rattle.std.proofs.Common.{if◌then◌else◌, refl, sym, ◌∙◌, ap, subst, arith, List, [], ◌∷◌, IsTrue, IsFalse}
-use Rattle.std.proofs.lemmas.Bool.{false≢true, true≢false, ne_eqb, le-ltb, ltb-false}
+use Rattle.std.proofs.Common.{if◌then◌else◌, refl, sym, ◌∙◌, ap, subst, arith, List, [], ◌∷◌, IsTrue}
+use Rattle.std.proofs.lemmas.Bool.{false≢true, ne_eqb, ltb-false}
 use Rattle.spk_nums.specs.Setting.{Setting, IsSetting}
 use Rattle.spk_nums.specs.declared.kinds.Kind.{Kind}
 use Rattle.spk_nums.specs.declared.kinds.Kind.TheVariants as kind
@@ -24,7 +24,7 @@ use Rattle.kernel_rules.specs.Fitting.{fits}
 use Rattle.kernel_invariant.proofs.Sound.{IsSound, IsStack, AreComps, IsObjectGood}
 use Rattle.kernel_invariant.proofs.SoundCalls.{IsOpen}
 use Rattle.kernel_invariant.proofs.SoundRuns.{opened, limits_stay, runs_sound}
-use Rattle.kernel_invariant.proofs.GraceChanges.{grace_by, grace_is, flushed_by}
+use Rattle.kernel_invariant.proofs.GraceChanges.{grace_is, flushed_by}
 use Rattle.kernel_invariant.proofs.FrameTurns.{is_typed}
 use Rattle.kernel_invariant.proofs.Releases.{begins_typed}
 use Rattle.plain_kernel.specs.same_changes.proofs.Reaching.{is_some_kind, fit_below}
@@ -188,7 +188,7 @@ module _ (s : State) (c r f : ℕ) (q : Reply) (past : nat_lt f s.limits.frames 
       no_flush (reply.Unflushed e) h = false≢true (sym (calm.flushed e) ∙ h.flush_unknown)
       no_flush _ h = h
 
-  beyond : Iff (RuleMay s c (retype_beyond s r f) q) (RuleMay s c (retype_rule s r f frame_kind.Untyped) q)
+  beyond : Iff (RuleMay s c (retype_beyond r f) q) (RuleMay s c (retype_rule s r f frame_kind.Untyped) q)
   beyond = record {
     there = λ h. elim h [ inl name ↦ inl name | inr own ↦ elim own [ inl outside ↦ inr (inl outside) | inr none ↦ absurd none ] ];
     back = λ h. elim h [
@@ -209,7 +209,7 @@ judged_here setting lim events run c (Retype r f frame_kind.Untyped) opens q = b
   where
     by_frame : (b : Bool) → nat_lt f (after setting events).limits.frames ≡ b
         → Iff (RuleMay (after setting events) c (if b then retype_rule (after setting events) r f frame_kind.Untyped
-        else retype_beyond (after setting events) r f) q)
+        else retype_beyond r f) q)
         (RuleMay (after setting events) c (retype_rule (after setting events) r f frame_kind.Untyped) q)
     by_frame true is = same_iff _
     by_frame false is =

@@ -1,5 +1,5 @@
 -- A call carried out with a value, or put back.
-use Rattle.std.proofs.Common.{◌≡◌, ◌≢◌, inl, inr, ℕ, ◌<◌, ◌==◌, Bool, true, false, if◌then◌else◌, refl, sym, ◌∙◌, ap, subst, List, [], ◌∷◌}
+use Rattle.std.proofs.Common.{◌≡◌, ◌≢◌, inl, inr, ℕ, ◌<◌, ◌==◌, true, false, if◌then◌else◌, refl, sym, ◌∙◌, ap, subst, [], ◌∷◌}
 use Rattle.std.proofs.Common.{Option, Some, None, IsTrue, IsFalse}
 use Rattle.std.proofs.lemmas.Bool.{cases_eq, false≢true, true≢false}
 use Rattle.spk_nums.specs.declared.calls.Make.{Make}
@@ -15,21 +15,21 @@ use Rattle.spk_nums.specs.declared.replies.Value.{Value}
 use Rattle.spk_nums.specs.declared.replies.Value.TheVariants.{Nothing}
 use Rattle.spk_nums.specs.declared.replies.Reply.{Reply}
 use Rattle.spk_nums.specs.declared.replies.Reply.TheVariants as reply
-use Rattle.kernel_rules.specs.State.{Core, Frame, Limits, State, put, with_frame, with_core, comp_of, thread_in}
+use Rattle.kernel_rules.specs.State.{Core, Frame, Limits, State, with_frame, with_core, comp_of, thread_in}
 use Rattle.kernel_rules.specs.Access.{found}
 use Rattle.kernel_rules.specs.GracePeriods.{begun}
 use Rattle.kernel_rules.specs.Laws.{IsRefusal}
-use Rattle.kernel_rules.specs.Rules.{Change, Judged, Refused, Found, Rule}
+use Rattle.kernel_rules.specs.Rules.{Change, Judged, Refused, Found}
 use Rattle.kernel_rules.specs.MemoryCalls.{translation_of, touch_by}
 use Rattle.kernel_rules.specs.InvocationCalls.{switch_to}
-use Rattle.kernel_rules.specs.CallRelation.{rule_of, change_of, changed}
+use Rattle.kernel_rules.specs.CallRelation.{rule_of, change_of}
 use Rattle.kernel_rules.specs.Alone.{reply_in}
 use Rattle.kernel_rules.proofs.AloneLaw.{core_inside}
 use Rattle.kernel_rules.proofs.Changes.{AllChanges, IfFound, outcome_all}
 use Rattle.kernel_rules.proofs.Within.{put_same, put_other}
 use Rattle.seq_state.specs.Maps.{Maps, state_of}
-use Rattle.seq_state.specs.Representation.{SameGrace, SameState, Represents}
-use Rattle.seq_state.proofs.Same.{same_by, same_then, same_grace_by, same_frame, same_core}
+use Rattle.seq_state.specs.Representation.{SameState, Represents}
+use Rattle.seq_state.proofs.Same.{same_then, same_grace_by, same_frame, same_core}
 use Rattle.seq_lookups.specs.Carried.{IsCarriedOut}
 use Rattle.call_judge.specs.Judged.{RefusesPlainly, CarriesOut, IsAnswerOf}
 use Rattle.call_judge.specs.Putting.{AgreesBut, answers_value}
@@ -42,36 +42,33 @@ value_is v u e = cc
 answers_nothing : Change → Type 0
 answers_nothing change = change.value ≡ Nothing
 
-nothing_made : (s : State) (what : Make) (r f x b : ℕ)
-    → AllChanges (λ change. change.value ≡ Nothing) (Rattle.kernel_rules.specs.CapabilityCalls.make_rule s what r f x b)
-nothing_made s make.Table r f x b = λ range table at. refl
-nothing_made s make.Leaf r f x b = λ range table at. refl
-nothing_made s make.Pages r f x b = λ range table at. refl
-nothing_made s make.Pleaf r f x b = λ range table at. refl
-nothing_made s (make.Thread comp) r f x b = λ range table comp at. refl
-nothing_made s (make.Tcap sched quality) r f x b = λ range table at. refl
-nothing_made s (make.Comp y p l) r f x b = λ range table own_table own_pages at. refl
+nothing_made : (s : State) (c : ℕ) (what : Make) (r f x b : ℕ)
+    → AllChanges s c (λ change. change.value ≡ Nothing) (Rattle.kernel_rules.specs.CapabilityCalls.make_rule s what r f x b)
+nothing_made s c make.Table r f x b = λ range table at. refl
+nothing_made s c (make.Thread comp) r f x b = λ range table comp at. refl
+nothing_made s c (make.Comp y p l) r f x b = λ range table own_table own_pages at. refl
+nothing_made s c _ r f x b = λ range table at. refl
 
-nothing_typed : (s : State) (r f : ℕ) (k : FrameKind)
-    → AllChanges (λ change. change.value ≡ Nothing) (Rattle.kernel_rules.specs.MemoryCalls.retype_rule s r f k)
-nothing_typed s r f frame_kind.Untyped = λ range. refl
-nothing_typed s r f frame_kind.User = λ range. refl
-nothing_typed s r f frame_kind.Kernel = λ range. refl
+nothing_typed : (s : State) (c : ℕ) (r f : ℕ) (k : FrameKind)
+    → AllChanges s c (λ change. change.value ≡ Nothing) (Rattle.kernel_rules.specs.MemoryCalls.retype_rule s r f k)
+nothing_typed s c r f frame_kind.Untyped = λ range. refl
+nothing_typed s c r f frame_kind.User = λ range. refl
+nothing_typed s c r f frame_kind.Kernel = λ range. refl
 
 nothing_switched : (s : State) (c : ℕ) (h : Rattle.kernel_rules.specs.Access.Named) (q : ℕ) (e : Option ℕ)
-    → AllChanges (λ change. change.value ≡ Nothing) (switch_to s c h q e)
+    → AllChanges s c (λ change. change.value ≡ Nothing) (switch_to h q e)
 nothing_switched s c h q None = refl
 nothing_switched s c h q (Some e) = refl
 
 nothing : (s : State) (c : ℕ) (call : Call) → IsFalse (answers_value call)
-    → AllChanges (λ change. change.value ≡ Nothing) (rule_of s c call)
+    → AllChanges s c (λ change. change.value ≡ Nothing) (rule_of s c call)
 nothing s c (Look a) plain = absurd (true≢false plain)
 nothing s c (Copy a x b rights) plain = λ cap table at. refl
 nothing s c (Remove x b) plain = λ table at k. refl
 nothing s c (Grow x i l) plain = λ table leaf at. refl
 nothing s c (Shrink x i) plain = λ table at k. refl
-nothing s c (Retype r f k) plain = nothing_typed s r f k
-nothing s c (make_call what r f x b) plain = nothing_made s what r f x b
+nothing s c (Retype r f k) plain = nothing_typed s c r f k
+nothing s c (make_call what r f x b) plain = nothing_made s c what r f x b
 nothing s c (Map p v r f w) plain = λ pages range at. refl
 nothing s c (Unmap p v) plain = λ pages at k. refl
 nothing s c (Touch v) plain = absurd (true≢false plain)
@@ -129,11 +126,11 @@ both_change s f c x k inside = record {
   grace = λ x is. same_grace_by s.limits.cores (s.grace x) (s.grace x) refl;
 }
 
-nearly_touched : (s : State) (c pages v : ℕ) (tr : Option Translation) → AllChanges (Nearly s c) (touch_by s c pages v tr)
+nearly_touched : (s : State) (c pages v : ℕ) (tr : Option Translation) → AllChanges s c (Nearly s c) (touch_by pages v tr)
 nearly_touched s c pages v (Some tr) = no_change s (s.core c).tcap c
 nearly_touched s c pages v None = λ mapping. core_change s (s.core c).tcap c _ refl
 
-nearly : (s : State) (c : ℕ) (call : Call) → IsTrue (answers_value call) → AllChanges (Nearly s c) (rule_of s c call)
+nearly : (s : State) (c : ℕ) (call : Call) → IsTrue (answers_value call) → AllChanges s c (Nearly s c) (rule_of s c call)
 nearly s c (Look a) some = λ cap. no_change s (s.core c).tcap c
 nearly s c (Touch v) some = nearly_touched s c (comp_of s c).pages v
     (translation_of (s.core c).cached (comp_of s c).pages v)

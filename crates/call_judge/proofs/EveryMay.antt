@@ -1,15 +1,13 @@
 -- Every call may be refused alike in two states that are one for the machine, one of them reached.
 use Rattle.std.proofs.Common.{◌≡◌, ℕ, ◌+◌, ◌<◌, ◌==◌, Bool, true, false, not, ◌&&◌, refl, sym, ◌∙◌, ap, subst}
-use Rattle.std.proofs.Common.{nat_le, nat_lt, if◌then◌else◌, arith, List, [], ◌∷◌, length, Option, Some, None, IsTrue, min}
+use Rattle.std.proofs.Common.{nat_le, nat_lt, if◌then◌else◌, arith, [], ◌∷◌, length, Option, Some, None, IsTrue, min}
 use Rattle.std.proofs.lemmas.Bool.{false≢true, ltb-true}
 use Rattle.spk_nums.specs.Capability.{Capability}
 use Rattle.spk_nums.specs.Merging.{merged, covers}
 use Rattle.spk_nums.specs.CallLimits.{InLimits, MakeInLimits}
 use Rattle.spk_nums.specs.declared.kinds.Kind.{Kind}
 use Rattle.spk_nums.specs.declared.kinds.Kind.TheVariants as kind
-use Rattle.spk_nums.specs.declared.kinds.FrameKind.{FrameKind}
 use Rattle.spk_nums.specs.declared.kinds.FrameKind.TheVariants as frame_kind
-use Rattle.spk_nums.specs.declared.kinds.PageFlags.{PageFlags}
 use Rattle.spk_nums.specs.declared.translations.Translation.{Translation}
 use Rattle.spk_nums.specs.declared.calls.Make.{Make}
 use Rattle.spk_nums.specs.declared.calls.Make.TheVariants as make
@@ -18,21 +16,20 @@ use Rattle.spk_nums.specs.declared.calls.Call.TheVariants.{Look, Copy, Remove, G
 use Rattle.spk_nums.specs.declared.calls.Call.TheVariants.{Map, Unmap, Touch, Flush, Gate, Kill, Call as call_gate}
 use Rattle.spk_nums.specs.declared.calls.Call.TheVariants.{Ret, Switch, Tick, Transfer, Delegate, Test, Part, Replenish}
 use Rattle.spk_nums.specs.declared.replies.Reply.TheVariants as reply
-use Rattle.kernel_rules.specs.State.{Limits, CompFields, Core, ThreadFields, TcapFields, Object, Frame, State, comp_in, comp_of}
+use Rattle.kernel_rules.specs.State.{Limits, CompFields, ThreadFields, TcapFields, Object, State, comp_in, comp_of, thread_in, tcap_in}
 use Rattle.kernel_rules.specs.State.{outstanding}
-use Rattle.kernel_rules.specs.State.{thread_in, tcap_in}
-use Rattle.kernel_rules.specs.Access.{to_use, Want, Named, found, not_found, only, root, own}
+use Rattle.kernel_rules.specs.Access.{to_use, Named, found, not_found, only, root}
 use Rattle.kernel_rules.specs.Rules.{Judged, Refused, Found, named, name_of}
 use Rattle.kernel_rules.specs.CapabilityCalls.{is_live, epoch_of, is_blank, not_blank}
 use Rattle.kernel_rules.specs.MemoryCalls.{is_untyped, is_user, is_empty, translation_of, touch_by, retype_rule}
 use Rattle.kernel_rules.specs.InvocationCalls.{kill_comp, switch_to}
 use Rattle.kernel_rules.specs.Life.{is_live_in}
-use Rattle.kernel_rules.specs.TimeCalls.{tcap_at, are_alike}
+use Rattle.kernel_rules.specs.TimeCalls.{are_alike}
+use Rattle.kernel_rules.specs.Edits.{tcap_at}
 use Rattle.kernel_rules.specs.CallRelation.{rule_of}
 use Rattle.kernel_rules.specs.Fitting.{fits}
 use Rattle.kernel_rules.specs.Relies.{is_node}
 use Rattle.kernel_invariant.proofs.Facts.{named_fit}
-use Rattle.seq_state.specs.Representation.{SameState}
 use Rattle.seq_state.proofs.Same.{same_refs}
 use Rattle.plain_kernel.specs.same_changes.proofs.Reaching.{Twins, is_some_kind, fit_below, core_below, pages_good, core_same, comp_same}
 use Rattle.plain_kernel.specs.same_changes.proofs.Reaching.{thread_same}
@@ -163,7 +160,7 @@ module _ {t s : State} {o : ℕ → Bool} {c : ℕ} (w : Twins t s o c) where
   kernel_may r f = (refl, refl, ((refl, λ on. refl), ((frame_test w f (λ x. not (is_untyped x)), λ on. refl), tt)))
 
   touched_may : (v : ℕ) (tr : Option Translation)
-      → SameMayRule w (touch_by t c (comp_of s c).pages v tr) (touch_by s c (comp_of s c).pages v tr)
+      → SameMayRule w (touch_by (comp_of s c).pages v tr) (touch_by (comp_of s c).pages v tr)
   touched_may v (Some tr) = ((refl, λ on. refl), tt)
   touched_may v None = (refl, refl, pages_good w, λ mapping. tt)
 
@@ -172,7 +169,7 @@ module _ {t s : State} {o : ℕ → Bool} {c : ℕ} (w : Twins t s o c) where
       let pages : (comp_of t c).pages ≡ (comp_of s c).pages = ap (λ (k : CompFields). k.pages) (comp_same w) in
       let tr : translation_of (t.core c).cached (comp_of t c).pages v ≡ translation_of (s.core c).cached (comp_of s c).pages v = λ i.
       translation_of (core_same w i).cached (pages i) v in
-      subst (λ r. SameMayRule w r (rule_of s c (Touch v))) (λ i. touch_by t c (sym pages i) v (sym tr i))
+      subst (λ r. SameMayRule w r (rule_of s c (Touch v))) (λ i. touch_by (sym pages i) v (sym tr i))
       (touched_may v (translation_of (s.core c).cached (comp_of s c).pages v))
 
   -- ---- invocation
@@ -225,7 +222,7 @@ module _ {t s : State} {o : ℕ → Bool} {c : ℕ} (w : Twins t s o c) where
     ),
   )
 
-  switch_found : (h : Named) (q : ℕ) (e : Option ℕ) → SameMayRule w (switch_to t c h q e) (switch_to s c h q e)
+  switch_found : (h : Named) (q : ℕ) (e : Option ℕ) → SameMayRule w (switch_to h q e) (switch_to h q e)
   switch_found h q None = tt
   switch_found h q (Some e) = ((refl, λ on. refl), tt)
 
@@ -238,8 +235,8 @@ module _ {t s : State} {o : ℕ → Bool} {c : ℕ} (w : Twins t s o c) where
         (
           refl,
           refl,
-          subst (λ x. SameMayRule w (switch_to t c thread tcap.frame (thread_in x).runs_on)
-              (switch_to s c thread tcap.frame (thread_in (s.frame thread.frame)).runs_on)) (sym (name_frame h kind.Thread refl))
+          subst (λ x. SameMayRule w (switch_to thread tcap.frame (thread_in x).runs_on)
+              (switch_to thread tcap.frame (thread_in (s.frame thread.frame)).runs_on)) (sym (name_frame h kind.Thread refl))
               (switch_found thread tcap.frame (thread_in (s.frame thread.frame)).runs_on),
         ),
       )
@@ -318,12 +315,12 @@ retype_judged : {t s : State} {o : ℕ → Bool} {c : ℕ} (w : Twins t s o c) (
     → SameMayRule w (judged_rule t c (Retype r f frame_kind.Untyped)) (judged_rule s c (Retype r f frame_kind.Untyped))
 retype_judged {t} {s} {o} {c} w r f =
     subst (λ (l : Limits). SameMayRule w
-    (if nat_lt f l.frames then retype_rule t r f frame_kind.Untyped else retype_beyond t r f)
+    (if nat_lt f l.frames then retype_rule t r f frame_kind.Untyped else retype_beyond r f)
     (judged_rule s c (Retype r f frame_kind.Untyped))) (sym w.same.limits) (by_frame (nat_lt f s.limits.frames) refl)
   where
     by_frame : (b : Bool) → nat_lt f s.limits.frames ≡ b
-        → SameMayRule w (if b then retype_rule t r f frame_kind.Untyped else retype_beyond t r f)
-        (if b then retype_rule s r f frame_kind.Untyped else retype_beyond s r f)
+        → SameMayRule w (if b then retype_rule t r f frame_kind.Untyped else retype_beyond r f)
+        (if b then retype_rule s r f frame_kind.Untyped else retype_beyond r f)
     by_frame true below = retype_may w r f (ltb-true f s.limits.frames below)
     by_frame false past = (refl, refl, ((refl, λ on. refl), tt))
 

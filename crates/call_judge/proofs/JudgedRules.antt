@@ -1,11 +1,11 @@
 -- The rule of a call as it is judged goes by the call's plan.
-use Rattle.std.proofs.Common.{◌≡◌, ℕ, ◌≤◌, length, Bool, true, false, nat_lt, if◌then◌else◌, refl, sym, subst, List}
+use Rattle.std.proofs.Common.{◌≡◌, ℕ, ◌≤◌, Bool, true, false, nat_lt, if◌then◌else◌, refl, subst, List}
 use Rattle.spk_nums.specs.declared.kinds.FrameKind.TheVariants as frame_kind
 use Rattle.spk_nums.specs.declared.calls.Call.{Call}
 use Rattle.spk_nums.specs.declared.calls.Call.TheVariants.{Retype}
 use Rattle.spk_nums.specs.declared.replies.Reply.{Reply}
 use Rattle.kernel_rules.specs.State.{State}
-use Rattle.kernel_rules.specs.Rules.{Rule, RuleMay, OneMay, Cause}
+use Rattle.kernel_rules.specs.Rules.{RuleMay, OneMay, Cause}
 use Rattle.kernel_rules.specs.MemoryCalls.{retype_rule}
 use Rattle.call_plans.specs.declared.plans.Plan.{Plan}
 use Rattle.call_plans.specs.PlanOf.{plan_for}
@@ -22,7 +22,7 @@ use Rattle.seq_plans.proofs.ByPlan.{refused_by_plan}
 
 untyped_goes : (s : State) (c r f : ℕ) (b : Bool)
     → GoesBy (own_pages s c) (plan_for (Retype r f frame_kind.Untyped))
-    (if b then retype_rule s r f frame_kind.Untyped else retype_beyond s r f)
+    (if b then retype_rule s r f frame_kind.Untyped else retype_beyond r f)
 untyped_goes s c r f true = calls_go s c (Retype r f frame_kind.Untyped)
 untyped_goes s c r f false = (refl, refl, λ k. tt)
 

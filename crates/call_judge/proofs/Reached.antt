@@ -1,5 +1,5 @@
 -- A decision judged in the kernel's own state is judged in every reached state that the kernel represents.
-use Rattle.std.proofs.Common.{◌≡◌, ◌⊎◌, inl, inr, ℕ, ◌+◌, ◌-◌, ◌^◌, ◌<◌, ◌≤◌, ◌==◌, ◌&&◌, Bool, true, false, not, nat_le, if◌then◌else◌, refl, sym}
+use Rattle.std.proofs.Common.{◌≡◌, ◌⊎◌, ℕ, ◌+◌, ◌-◌, ◌^◌, ◌<◌, ◌≤◌, ◌==◌, ◌&&◌, Bool, true, false, not, nat_le, if◌then◌else◌, refl, sym}
 use Rattle.std.proofs.Common.{◌∙◌, ap, subst}
 use Rattle.std.proofs.Common.{arith, List, ◌∷◌, IsTrue, IsFalse}
 use Rattle.std.proofs.lemmas.Bool.{false≢true, true≢false, eq-eqb}
@@ -14,24 +14,21 @@ use Rattle.kernel_rules.specs.State.{CompFields, Core, Limits, State, comp_of, w
 use Rattle.kernel_rules.specs.GracePeriods.{begun}
 use Rattle.kernel_rules.specs.Laws.{IsRefusal}
 use Rattle.kernel_rules.specs.Rules.{Change, Judged, Refused, Found, IsFoundAnd, RuleMay}
-use Rattle.kernel_rules.specs.TimeCalls.{owing}
+use Rattle.kernel_rules.specs.CallRelation.{rule_of, change_of, changed, owed_by, counted, state_by, are_calls_spent, MayBeDead, MayReply}
 use Rattle.kernel_rules.specs.Life.{is_live_in, lives, asks_life, acts}
-use Rattle.kernel_rules.specs.CallRelation.{rule_of, change_of, changed, owed_by, counted, state_by, are_calls_spent}
-use Rattle.kernel_rules.specs.CallRelation.{MayBeDead, MayReply}
 use Rattle.kernel_rules.specs.Alone.{reply_in}
 use Rattle.kernel_rules.specs.Runs.{Event, Decides as decides, after, Open, phase_of, IsRun}
 use Rattle.kernel_rules.proofs.Agrees.{IsBounded, IsPlain, IfRefused, rule_refused}
-use Rattle.kernel_rules.proofs.AloneLaw.{Waits, rule_waits, rule_plain, waits_inside}
-use Rattle.kernel_rules.proofs.Changes.{IfFound, outcome_all}
+use Rattle.kernel_rules.proofs.AloneLaw.{Waits, found_waits, rule_plain, waits_inside}
+use Rattle.kernel_rules.proofs.Changes.{IfFound}
 use Rattle.kernel_rules.proofs.Within.{waits_within}
 use Rattle.kernel_invariant.proofs.SoundRuns.{opened, limits_stay, open_limits}
 use Rattle.plain_kernel.specs.kernel_laws.proofs.RangesLaw.{ranges_hold}
 use Rattle.seq_state.specs.Maps.{Maps, state_of}
 use Rattle.seq_state.specs.Representation.{SameState, Represents}
 use Rattle.seq_state.proofs.Same.{same_by, same_then, same_core}
-use Rattle.seq_lookups.specs.Carried.{IsCarriedOut}
 use Rattle.seq_lookups.specs.Ranges.{IsInRange}
-use Rattle.plain_kernel.specs.same_changes.specs.Same.{SameChange, SameOutcome}
+use Rattle.plain_kernel.specs.same_changes.specs.Same.{SameOutcome}
 use Rattle.plain_kernel.specs.same_changes.proofs.Reaching.{Twins, core_below, here, here_fit, comp_same}
 use Rattle.plain_kernel.specs.same_changes.proofs.Alike.{begun_same}
 use Rattle.plain_kernel.specs.same_changes.proofs.EveryCall.{changes_same, same_acts, stays_in_range, twins}
@@ -39,7 +36,7 @@ use Rattle.plain_kernel.specs.same_changes.proofs.TimeRules.{alive_same}
 use Rattle.seq_plans.specs.OwnCauses.{judged_rule}
 use Rattle.seq_plans.specs.Refusals.{Decides, Iff}
 use Rattle.seq_plans.proofs.Deciding.{decides_true, decides_false, decides_both}
-use Rattle.call_judge.specs.Judged.{RefusesPlainly, DecidesAs, IsDecided, IsNotDecided, IsJudged, JudgesExactly}
+use Rattle.call_judge.specs.Judged.{RefusesPlainly, DecidesAs, IsDecided, IsJudged}
 use Rattle.call_judge.proofs.SameMay.{rule_iff, either_iff}
 use Rattle.call_judge.proofs.EveryMay.{every_may}
 use Rattle.call_judge.proofs.Beyond.{judged_here}
@@ -173,13 +170,13 @@ module _ (setting : Setting) (lim : IsSetting setting) (events : List Event) (ru
   lives_same = ap (λ (x : CompFields). is_live_in (t.number x.number) x.epoch) (comp_same w)
       ∙ ap (λ n. is_live_in n (comp_of s c).epoch) (alive_same w (here s c) (here_fit w))
 
-  limits_of : (j : Judged Change) → IfFound j (Waits (after setting events))
+  limits_of : (j : Judged Change) → IfFound j (λ change. Waits (after setting events) change.next)
       → IfFound j (λ change. change.next.limits ≡ (after setting events).limits)
   limits_of (Refused r) h = tt
   limits_of (Found change) h = h.limits
 
   kept_limits : IfFound (change_of (after setting events) c call) (λ change. change.next.limits ≡ (after setting events).limits)
-  kept_limits = limits_of (change_of s c call) (outcome_all (Waits s) s c (rule_of s c call) (rule_waits s c call))
+  kept_limits = limits_of (change_of s c call) (found_waits s c call)
 
   changed_limits : (j : Judged Change) → IfFound j (λ change. change.next.limits ≡ (after setting events).limits)
       → (changed (after setting events) j).limits ≡ (after setting events).limits
@@ -234,7 +231,8 @@ module _ (setting : Setting) (lim : IsSetting setting) (events : List Event) (ru
       let few : (base.core c).counted < 2 ^ 40 - 1 = one_less _ (put_here base.core c) most in
       let there : c < base.limits.cores = subst (λ (l : Limits). c < l.cores) (sym limits) below in
       let core_here : c < (state_of k2).limits.cores = subst (λ (l : Limits). c < l.cores) (sym here.limits) there in
-      let few_here : ((state_of k2).core c).counted < 2 ^ 40 - 1 = subst (λ (k : Core). k.counted < 2 ^ 40 - 1) (sym (here.core c there)) few in
+      let few_here : ((state_of k2).core c).counted < 2 ^ 40 - 1 =
+      subst (λ (k : Core). k.counted < 2 ^ 40 - 1) (sym (here.core c there)) few in
       record {
         permitted = may;
         state = subst (λ x. SameState (state_of k3) x) (sym is)

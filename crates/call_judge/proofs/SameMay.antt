@@ -1,27 +1,24 @@
 -- A call may be refused alike in two states that are one for all that the machine has, one of them reached.
 use Rattle.std.proofs.Common.{◌≡◌, ◌⊎◌, inl, inr, ℕ, ◌<◌, ◌≤◌, ◌==◌, Bool, true, false, not, ◌&&◌, ◌||◌, refl, sym, ◌∙◌, ap, subst}
-use Rattle.std.proofs.Common.{nat_le, nat_lt, if◌then◌else◌, List, [], ◌∷◌, length, Option, Some, None, is_some, IsTrue, IsFalse}
+use Rattle.std.proofs.Common.{nat_le, nat_lt, if◌then◌else◌, List, [], ◌∷◌, Option, Some, None, is_some, IsTrue, IsFalse}
 use Rattle.std.specs.Prelude.{IsSomeAnd}
-use Rattle.std.proofs.lemmas.Bool.{false≢true, true≢false, leb-true, ltb-true, le-ltb, le-leb, ltb-false}
+use Rattle.std.proofs.lemmas.Bool.{false≢true, true≢false, le-leb, ltb-false}
 use Rattle.spk_nums.specs.Capability.{Capability}
 use Rattle.spk_nums.specs.declared.replies.Reply.{Reply}
 use Rattle.spk_nums.specs.declared.replies.Reply.TheVariants as reply
-use Rattle.kernel_rules.specs.State.{Grace, Thing, PlaceOf, Limits, Core, State, comp_of}
-use Rattle.kernel_rules.specs.Access.{Want, Slot, Named, found, not_found, root_at, Target, Under, InRoot, place_at, held_in, usable}
+use Rattle.kernel_rules.specs.State.{Thing, PlaceOf, Limits, Core, State}
+use Rattle.kernel_rules.specs.Access.{Want, Slot, Named, found, root_at, Target, Under, InRoot, place_at, held_in, usable}
 use Rattle.kernel_rules.specs.Access.{reached, root_slot, holds_link, has_no_slot, own}
 use Rattle.kernel_rules.specs.GracePeriods.{MayWait, MayBeUnflushed}
 use Rattle.kernel_rules.specs.Rules.{Cause, When, WaitedFor, Unflushed, Rule, Name, Vacant, Held, Mapped, Does, Judged, Refused, Found}
 use Rattle.kernel_rules.specs.Rules.{and_then, or_refuse, named, held, mapped, IsFoundAnd, ReachesNone, ReachesHeld, ReachesOther}
-use Rattle.kernel_rules.specs.Rules.{ReachesLacking}
-use Rattle.kernel_rules.specs.Rules.{Lacks, NameMay, VacantMay, HeldMay, MappedMay, WaitedMay, UnflushedMay, CauseMay, OneMay}
-use Rattle.kernel_rules.specs.Rules.{name_of, slot_of, RuleMay}
+use Rattle.kernel_rules.specs.Rules.{ReachesLacking, Lacks, NameMay, VacantMay, HeldMay, MappedMay, WaitedMay, UnflushedMay, CauseMay}
+use Rattle.kernel_rules.specs.Rules.{OneMay, name_of, slot_of, RuleMay}
 use Rattle.kernel_rules.specs.Relies.{is_node}
-use Rattle.kernel_invariant.proofs.Sound.{IsSound}
-use Rattle.kernel_invariant.proofs.Facts.{reached_node, RootIsNode}
-use Rattle.seq_state.specs.Representation.{IsThing, SameGrace, SameState}
-use Rattle.plain_kernel.specs.same_changes.proofs.Reaching.{Twins, IsSlot, core_below, place_same, usable_same, own_good, own_same}
-use Rattle.plain_kernel.specs.same_changes.proofs.Reaching.{root_is, node_below}
-use Rattle.plain_kernel.specs.same_changes.proofs.Reaching.{found_part, number_part, named_same, held_same, mapped_same, reached_same}
+use Rattle.seq_state.specs.Representation.{IsThing}
+use Rattle.plain_kernel.specs.same_changes.proofs.Reaching.{Twins, IsSlot, place_same, usable_same, own_good, own_same}
+use Rattle.plain_kernel.specs.same_changes.proofs.Reaching.{root_is}
+use Rattle.plain_kernel.specs.same_changes.proofs.Reaching.{named_same, held_same, mapped_same, reached_same}
 use Rattle.plain_kernel.specs.same_changes.proofs.Reaching.{RootGood}
 use Rattle.seq_plans.specs.Refusals.{Iff}
 
@@ -266,7 +263,7 @@ module _ {t s : State} {o : ℕ → Bool} {c : ℕ} (w : Twins t s o c) where
   SameMayRule (Held x rest) (Held y other) = (x ≡ y) × RootMay s y × ((at : Slot) (k : Capability) → SameMayRule (rest at k) (other at k))
   SameMayRule (Mapped a v rest) (Mapped b u other) =
       (a ≡ b) × (v ≡ u) × IsTrue (is_node (s.frame b)) × ((k : Capability) → SameMayRule (rest k) (other k))
-  SameMayRule (Does xs a) (Does ys b) = SameMayCauses xs ys
+  SameMayRule (Does xs p a) (Does ys q b) = SameMayCauses xs ys
   SameMayRule _ _ = ⊥
 
   held_found : (target : Target) → RootMay s target → held t c target ≡ held s c target
@@ -301,24 +298,24 @@ module _ {t s : State} {o : ℕ → Bool} {c : ℕ} (w : Twins t s o c) where
       (subst (λ z. Iff (MappedMay t c z v r) (MappedMay s c b u r)) (sym h.0)
       (subst (λ z. Iff (MappedMay t c b z r) (MappedMay s c b u r)) (sym h.1) (mapped_iff b u r h.2)))
       (found_iff _ _ _ _ ((λ i. mapped t c (h.0 i) (h.1 i)) ∙ mapped_same w b u h.2) (λ k is. rule_iff (rest k) (other k) r (h.3 k)))
-  rule_iff (Does xs a) (Does ys b) r h = causes_iff xs ys r h
+  rule_iff (Does xs p a) (Does ys q b) r h = causes_iff xs ys r h
   rule_iff (Name n p rest) (Vacant y other) r h = absurd h
   rule_iff (Name n p rest) (Held y other) r h = absurd h
   rule_iff (Name n p rest) (Mapped b u other) r h = absurd h
-  rule_iff (Name n p rest) (Does ys b) r h = absurd h
+  rule_iff (Name n p rest) (Does ys z b) r h = absurd h
   rule_iff (Vacant x rest) (Name m q other) r h = absurd h
   rule_iff (Vacant x rest) (Held y other) r h = absurd h
   rule_iff (Vacant x rest) (Mapped b u other) r h = absurd h
-  rule_iff (Vacant x rest) (Does ys b) r h = absurd h
+  rule_iff (Vacant x rest) (Does ys z b) r h = absurd h
   rule_iff (Held x rest) (Name m q other) r h = absurd h
   rule_iff (Held x rest) (Vacant y other) r h = absurd h
   rule_iff (Held x rest) (Mapped b u other) r h = absurd h
-  rule_iff (Held x rest) (Does ys b) r h = absurd h
+  rule_iff (Held x rest) (Does ys z b) r h = absurd h
   rule_iff (Mapped a v rest) (Name m q other) r h = absurd h
   rule_iff (Mapped a v rest) (Vacant y other) r h = absurd h
   rule_iff (Mapped a v rest) (Held y other) r h = absurd h
-  rule_iff (Mapped a v rest) (Does ys b) r h = absurd h
-  rule_iff (Does xs a) (Name m q other) r h = absurd h
-  rule_iff (Does xs a) (Vacant y other) r h = absurd h
-  rule_iff (Does xs a) (Held y other) r h = absurd h
-  rule_iff (Does xs a) (Mapped b u other) r h = absurd h
+  rule_iff (Mapped a v rest) (Does ys z b) r h = absurd h
+  rule_iff (Does xs z a) (Name m q other) r h = absurd h
+  rule_iff (Does xs z a) (Vacant y other) r h = absurd h
+  rule_iff (Does xs z a) (Held y other) r h = absurd h
+  rule_iff (Does xs z a) (Mapped b u other) r h = absurd h

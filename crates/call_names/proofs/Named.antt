@@ -28,28 +28,23 @@ among s c (Name m wanted rest) n want (inr h) = inr (among s c (rest (name_of (n
 among s c (Vacant target rest) n want h = absurd h
 among s c (Held target rest) n want h = absurd h
 among s c (Mapped table v rest) n want h = absurd h
-among s c (Does causes change) n want h = absurd h
+among s c (Does causes value edits) n want h = absurd h
 
 module _ (s : State) (c : ℕ) where
   made : (what : Make) (r f t b : ℕ) → names_in s c (make_rule s what r f t b) ≡ numbers_named (call.Make what r f t b)
   made make.Table r f t b = refl
-  made make.Leaf r f t b = refl
-  made make.Pages r f t b = refl
-  made make.Pleaf r f t b = refl
-  made (make.Thread comp) r f t b = refl
-  made (make.Tcap sched quality) r f t b = refl
-  made (make.Comp table pages live) r f t b = refl
+  made _ r f t b = refl
 
   retyped : (r f : ℕ) (k : FrameKind) → names_in s c (retype_rule s r f k) ≡ r ∷ []
   retyped r f frame_kind.User = refl
   retyped r f frame_kind.Kernel = refl
   retyped r f frame_kind.Untyped = refl
 
-  touched : (pages v : ℕ) (t : Option Translation) → names_in s c (touch_by s c pages v t) ≡ []
+  touched : (pages v : ℕ) (t : Option Translation) → names_in s c (touch_by pages v t) ≡ []
   touched pages v None = refl
   touched pages v (Some t) = refl
 
-  switched : (thread : Named) (tcap : ℕ) (runs : Option ℕ) → names_in s c (switch_to s c thread tcap runs) ≡ []
+  switched : (thread : Named) (tcap : ℕ) (runs : Option ℕ) → names_in s c (switch_to thread tcap runs) ≡ []
   switched thread tcap None = refl
   switched thread tcap (Some d) = refl
 

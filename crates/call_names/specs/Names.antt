@@ -18,7 +18,7 @@ IsName s c (Name m wanted rest) n want = ((n ≡ m) × (want ≡ wanted)) ⊎ Is
 IsName s c (Vacant target rest) n want = ⊥
 IsName s c (Held target rest) n want = ⊥
 IsName s c (Mapped table v rest) n want = ⊥
-IsName s c (Does causes change) n want = ⊥
+IsName s c (Does causes value edits) n want = ⊥
 
 -- The numbers that a call names, in order.
 abbrev pub numbers_made_of : Make → List ℕ

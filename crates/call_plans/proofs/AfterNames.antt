@@ -29,7 +29,7 @@ before P Q on pages (name ∷ names) target caps (name_rule n want rest) (k ∷ 
 before P Q on pages (name ∷ names) target caps (vacant_rule t rest) (k ∷ ks) goes leads h = absurd goes
 before P Q on pages (name ∷ names) target caps (held_rule t rest) (k ∷ ks) goes leads h = absurd goes
 before P Q on pages (name ∷ names) target caps (mapped_rule t v rest) (k ∷ ks) goes leads h = absurd goes
-before P Q on pages (name ∷ names) target caps (Does causes change) (k ∷ ks) goes leads h = absurd goes
+before P Q on pages (name ∷ names) target caps (Does causes value edits) (k ∷ ks) goes leads h = absurd goes
 
 -- what is left goes by what is left of the plan
 goes_left : (P : ℕ → Want → Capability → Type 0) (pages : OwnPages) (names : List Name) (target : Target) (caps : List Named)
@@ -43,7 +43,7 @@ goes_left P pages (name ∷ names) target caps (name_rule n want rest) (k ∷ ks
 goes_left P pages (name ∷ names) target caps (vacant_rule t rest) (k ∷ ks) goes leads = absurd goes
 goes_left P pages (name ∷ names) target caps (held_rule t rest) (k ∷ ks) goes leads = absurd goes
 goes_left P pages (name ∷ names) target caps (mapped_rule t v rest) (k ∷ ks) goes leads = absurd goes
-goes_left P pages (name ∷ names) target caps (Does causes change) (k ∷ ks) goes leads = absurd goes
+goes_left P pages (name ∷ names) target caps (Does causes value edits) (k ∷ ks) goes leads = absurd goes
 
 -- What leads by one way leads by another.
 pub leads_by : (P Q : ℕ → Want → Capability → Type 0)
@@ -65,9 +65,7 @@ NextBy P NextNothing k = ⊥
 none_leads : (P : ℕ → Want → Capability → Type 0) (caps : List Named) (target : Target) (j : Capability)
     → NextBy P (next_target caps target) j → ⊥
 none_leads P caps Nowhere j next = next
-none_leads P caps (Free spot) j next = next
-none_leads P caps (Held spot) j next = next
-none_leads P caps (Own v) j next = next
+none_leads P caps _ j next = next
 
 -- One name more leads to a capability.
 pub one_more : (P : ℕ → Want → Capability → Type 0) (names : List Name) (target : Target) (caps : List Named)
@@ -80,10 +78,7 @@ one_more P (name ∷ names) target caps (k ∷ ks) j leads next = (leads.0, one_
 
 same_next : (s : State) (c : ℕ) (next : Next) (k : Capability) → NextLeads s c next k → NextBy (LeadsIn s c) next k
 same_next s c (NextName n want) k leads = leads
-same_next s c (NextFree t) k leads = leads
-same_next s c (NextHeld t) k leads = leads
-same_next s c (NextOwn v) k leads = leads
-same_next s c NextNothing k leads = leads
+same_next s c _ k leads = leads
 
 -- What a rule does that looks this up next.
 abbrev pub Begins : OwnPages → Next → Rule → Type 0
@@ -91,8 +86,8 @@ Begins pages (NextName n want) (name_rule m w rest) = (m ≡ n) × (w ≡ want)
 Begins pages (NextFree target) (vacant_rule t rest) = t ≡ target
 Begins pages (NextHeld target) (held_rule t rest) = t ≡ target
 Begins pages (NextOwn v) (mapped_rule table n rest) = (table ≡ pages.table) × (n ≡ v)
-Begins pages (NextOwn v) (Does causes change) = IsTrue (pages.cached v)
-Begins pages NextNothing (Does causes change) = Unit {0}
+Begins pages (NextOwn v) (Does causes value edits) = IsTrue (pages.cached v)
+Begins pages NextNothing (Does causes value edits) = Unit {0}
 Begins pages _ _ = ⊥
 
 begins : (pages : OwnPages) (names : List Name) (target : Target) (caps : List Named) (rule : Rule) → GoesOn pages names target caps rule
@@ -101,15 +96,15 @@ begins pages (name ∷ names) target caps (name_rule n want rest) goes = (goes.0
 begins pages (name ∷ names) target caps (vacant_rule t rest) goes = absurd goes
 begins pages (name ∷ names) target caps (held_rule t rest) goes = absurd goes
 begins pages (name ∷ names) target caps (mapped_rule t v rest) goes = absurd goes
-begins pages (name ∷ names) target caps (Does causes change) goes = absurd goes
-begins pages [] Nowhere caps (Does causes change) goes = tt
+begins pages (name ∷ names) target caps (Does causes value edits) goes = absurd goes
+begins pages [] Nowhere caps (Does causes value edits) goes = tt
 begins pages [] Nowhere caps _ goes = absurd goes
 begins pages [] (Free spot) caps (vacant_rule t rest) goes = goes.0
 begins pages [] (Free spot) caps _ goes = absurd goes
 begins pages [] (Held spot) caps (held_rule t rest) goes = goes.0
 begins pages [] (Held spot) caps _ goes = absurd goes
 begins pages [] (Own v) caps (mapped_rule table n rest) goes = (goes.0, goes.1)
-begins pages [] (Own v) caps (Does causes change) goes = goes
+begins pages [] (Own v) caps (Does causes value edits) goes = goes
 begins pages [] (Own v) caps _ goes = absurd goes
 
 both : (b : Bool) → IsTrue b → IsFalse b → ⊥
@@ -125,7 +120,7 @@ first_may s c pages (NextFree target) (vacant_rule t rest) r is may = inl (subst
 first_may s c pages (NextHeld target) (held_rule t rest) r is may = inl (subst (λ t. HeldMay s c t r) (sym is) may)
 first_may s c pages (NextOwn v) (mapped_rule table n rest) r is may =
     inl (subst (λ t. MappedMay s c t n r) (sym is.0) (subst (λ n. MappedMay s c pages.table n r) (sym is.1) may.1))
-first_may s c pages (NextOwn v) (Does causes change) r is may = absurd (both (pages.cached v) is may.0)
+first_may s c pages (NextOwn v) (Does causes value edits) r is may = absurd (both (pages.cached v) is may.0)
 first_may s c pages (NextOwn v) _ r is may = absurd is
 first_may s c pages NextNothing rule r is may = absurd may
 first_may s c pages (NextName n want) _ r is may = absurd is

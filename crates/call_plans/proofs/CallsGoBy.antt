@@ -19,12 +19,12 @@ use Rattle.spk_nums.specs.declared.kinds.FrameKind.TheVariants.{Untyped, User, K
 use Rattle.call_plans.specs.PlanOf.{plan_of_retype, plan_of_make, plan_for}
 use Rattle.call_plans.specs.GoesBy.{OwnPages, own_pages, OnlyDoes, GoesBy}
 
-switch_does : (s : State) (c : ℕ) (h : Named) (q : ℕ) (runs_on : Option ℕ) → OnlyDoes (switch_to s c h q runs_on)
+switch_does : (s : State) (c : ℕ) (h : Named) (q : ℕ) (runs_on : Option ℕ) → OnlyDoes (switch_to h q runs_on)
 switch_does s c h q None = tt
 switch_does s c h q (Some e) = tt
 
 touch_goes : (s : State) (c : ℕ) (pages : OwnPages) (v : ℕ) (o : Option Translation) → pages.cached v ≡ is_some o
-    → GoesBy pages (plan_for (Touch v)) (touch_by s c pages.table v o)
+    → GoesBy pages (plan_for (Touch v)) (touch_by pages.table v o)
 touch_goes s c pages v None is = (refl, refl, is, λ k. tt)
 touch_goes s c pages v (Some t) is = is
 
@@ -36,11 +36,8 @@ retype_goes s c pages r f Kernel = (refl, refl, λ k. tt)
 
 make_goes : (s : State) (pages : OwnPages) (what : Make) (r f t b : ℕ) → GoesBy pages (plan_of_make what r t b) (make_rule s what r f t b)
 make_goes s pages make.Table r f t b = (refl, refl, λ k. (refl, refl, λ l. (refl, λ at. tt)))
-make_goes s pages make.Leaf r f t b = (refl, refl, λ k. (refl, refl, λ l. (refl, λ at. tt)))
-make_goes s pages make.Pages r f t b = (refl, refl, λ k. (refl, refl, λ l. (refl, λ at. tt)))
-make_goes s pages make.Pleaf r f t b = (refl, refl, λ k. (refl, refl, λ l. (refl, λ at. tt)))
 make_goes s pages (make.Thread comp) r f t b = (refl, refl, λ k. (refl, refl, λ l. (refl, refl, λ m. (refl, λ at. tt))))
-make_goes s pages (make.Tcap sched quality) r f t b = (refl, refl, λ k. (refl, refl, λ l. (refl, λ at. tt)))
+make_goes s pages _ r f t b = (refl, refl, λ k. (refl, refl, λ l. (refl, λ at. tt)))
 make_goes s pages (make.Comp table own_pages live) r f t b =
     (refl, refl, λ k. (refl, refl, λ l. (refl, refl, λ m. (refl, refl, λ n. (refl, λ at. tt)))))
 

@@ -1,11 +1,10 @@
 -- The target of each call is in a table to whose root one of its names is to lead.
 use Rattle.std.proofs.Common.{Bool, true, false, ◌||◌, IsTrue}
 use Rattle.spk_nums.specs.declared.kinds.Kind.TheVariants as kind
-use Rattle.spk_nums.specs.declared.kinds.FrameKind.TheVariants.{Untyped, User, Kernel}
+use Rattle.spk_nums.specs.declared.kinds.FrameKind.TheVariants.{Untyped}
 use Rattle.spk_nums.specs.declared.calls.Make.TheVariants as make
-use Rattle.spk_nums.specs.declared.calls.Call.TheVariants.{Look, Copy, Remove, Grow, Shrink, Retype, Make as make_call}
-use Rattle.spk_nums.specs.declared.calls.Call.TheVariants.{Map, Unmap, Touch, Flush, Gate, Kill, Call as call_gate}
-use Rattle.spk_nums.specs.declared.calls.Call.TheVariants.{Ret, Switch, Tick, Transfer, Delegate, Test, Part, Replenish}
+use Rattle.spk_nums.specs.declared.calls.Call.TheVariants.{Copy, Remove, Grow, Shrink, Retype, Make as make_call}
+use Rattle.spk_nums.specs.declared.calls.Call.TheVariants.{Map, Unmap, Gate, Part}
 use Rattle.kernel_rules.specs.Access.{only}
 use Rattle.call_plans.specs.declared.plans.Wanted.TheVariants.{Only, Root}
 use Rattle.call_plans.specs.Rooted.{WantsRoot, AreRooted}
@@ -28,33 +27,17 @@ any_root : WantsRoot Root
 any_root caps k is = is
 
 pub rooted : AreRooted
-rooted (Look a) = tt
 rooted (Copy a t b rights) = table_root
 rooted (Remove t b) = table_root
 rooted (Grow t i l) = any_root
 rooted (Shrink t i) = any_root
 rooted (Retype r f Untyped) = tt
-rooted (Retype r f User) = tt
-rooted (Retype r f Kernel) = tt
-rooted (make_call make.Table r f t b) = table_root
-rooted (make_call make.Leaf r f t b) = table_root
-rooted (make_call make.Pages r f t b) = table_root
-rooted (make_call make.Pleaf r f t b) = table_root
+rooted (Retype r f _) = tt
 rooted (make_call (make.Thread comp) r f t b) = table_root
-rooted (make_call (make.Tcap sched quality) r f t b) = table_root
 rooted (make_call (make.Comp table pages live) r f t b) = table_root
+rooted (make_call _ r f t b) = table_root
 rooted (Map p v r f w) = pages_root
 rooted (Unmap p v) = pages_root
-rooted (Touch v) = tt
-rooted Flush = tt
 rooted (Gate k t b) = table_root
-rooted (Kill k) = tt
-rooted (call_gate g) = tt
-rooted Ret = tt
-rooted (Switch h q) = tt
-rooted (Tick n) = tt
-rooted (Transfer a b m) = tt
-rooted (Delegate a b m) = tt
-rooted (Test a b) = tt
 rooted (Part r f n t b) = table_root
-rooted (Replenish a m) = tt
+rooted _ = tt

@@ -44,7 +44,7 @@ place_of_spot caps (InRoot i e) = in_root (earlier caps i) e
 
 -- A rule with nothing to look up.
 abbrev pub OnlyDoes : Rule → Type 0
-OnlyDoes (Does causes change) = Unit {0}
+OnlyDoes (Does causes value edits) = Unit {0}
 OnlyDoes _ = ⊥
 
 -- The caller's own pages: their root, and whether the translation of a page is cached.
@@ -64,7 +64,7 @@ GoesTo pages (Held spot) caps (held_rule target rest) = (target ≡ place_of_spo
     × ((at : Slot) (k : Capability) → OnlyDoes (rest at k))
 GoesTo pages (Own v) caps (mapped_rule table n rest) = (table ≡ pages.table) × (n ≡ v) × IsFalse (pages.cached v)
     × ((k : Capability) → OnlyDoes (rest k))
-GoesTo pages (Own v) caps (Does causes change) = IsTrue (pages.cached v)
+GoesTo pages (Own v) caps (Does causes value edits) = IsTrue (pages.cached v)
 GoesTo pages _ caps _ = ⊥
 
 -- A rule looks up these names in order and then this target, where the names before them have led to these.

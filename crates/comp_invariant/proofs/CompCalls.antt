@@ -3,7 +3,7 @@
 use Rattle.scan_invariant.proofs.Common.{◌≡◌, ◌+◌, Bool, true, false, Option, Some, None, ℕ, ◌<◌, ◌≢◌, sym, ◌&&◌, [], ◌∷◌}
 use Rattle.scan_invariant.proofs.Common.{ap, ◌∙◌, subst, IsTrue, not, inr, lt-ltb, false≢true, Capability, Setting, IsSetting, Reply}
 use Rattle.scan_invariant.proofs.Common.{frame_of_word, live_of_word, EntryAt, FrameAt, LiveAt, found, Target, Under, Slot, reached}
-use Rattle.scan_invariant.proofs.Common.{rule_of, change_of, has_frame, not_blank, is_blank, makes_comp, fits, is_node, Found}
+use Rattle.scan_invariant.proofs.Common.{rule_of, change_of, has_frame, not_blank, is_blank, fits, is_node, Found}
 use Rattle.scan_invariant.proofs.Common.{Change, first_cause, and_then, unless, vacant, outcome, first_of, RuleMay, Blank, Kernel, State}
 use Rattle.scan_invariant.proofs.Common.{Leaf, NumberOf, named_fit, opened, events_of, sound_of, opened_is, marked_by, mark_in_frame}
 use Rattle.scan_invariant.proofs.Common.{frame_value, stamp, Trace, Open, phase, state_after, last_left, target_of, outcome_left}
@@ -17,7 +17,7 @@ use Rattle.state_laws.specs.spk_nums.specs.declared.calls.Make.TheVariants as ma
 use Rattle.state_laws.specs.spk_nums.specs.declared.kinds.Kind.TheVariants as kind
 use Rattle.state_laws.specs.spk_nums.specs.declared.replies.Reply.TheVariants as reply
 use Rattle.state_laws.specs.kernel_rules.specs.CapabilityCalls.{not_taken}
-use Rattle.state_laws.specs.kernel_rules.specs.Rules.{OneMay}
+use Rattle.state_laws.specs.kernel_rules.specs.Rules.{OneMay, does}
 use Rattle.scan_invariant.specs.plan_ways.proofs.Ways.{target_is as target_is_of}
 use Rattle.scan_invariant.specs.plan_ways.specs.Laws.{IsTargetOf}
 use Rattle.scan_invariant.specs.act_states.specs.declared.work.Act.TheVariants.{MakeComp as comp_act}
@@ -29,6 +29,9 @@ use Rattle.scan_invariant.specs.count_invariant.proofs.CompCounts.{IsCompCall, c
 use Rattle.scan_invariant.specs.place_invariant.proofs.CompMakes.{IsCompMake, comp_make, comp_rest, new_comp, comp_dues_apart}
 use Rattle.scan_invariant.specs.place_invariant.proofs.Outside.{none_left_of}
 use Rattle.scan_invariant.specs.place_invariant.proofs.Vacancy.{in_leaf}
+use Rattle.state_laws.specs.kernel_rules.specs.Start.{plain_cap}
+use Rattle.state_laws.specs.kernel_rules.specs.Edits.{Component as component_edit, Fill as fill_edit}
+use Rattle.state_laws.specs.spk_nums.specs.declared.replies.Value.TheVariants.{Nothing as no_value}
 
 module _ (setup : Setting) (setting : IsSetting setup) (cores : ℕ → Core) (t : Trace) (stands : Invariant setup cores t) (c : ℕ)
     (here : c < setup.cores)
@@ -140,7 +143,8 @@ module _ (setup : Setting) (setting : IsSetting setup) (cores : ℕ → Core) (t
 
   -- the change that it makes, and what comes of the call where its target is vacant
   abbrev pub change : Change
-  change = makes_comp s m.frame (new_comp s m.table m.pages m.number) slot
+  change = does c s no_value (component_edit m.frame (new_comp s m.table m.pages m.number) ∷ fill_edit slot (plain_cap kind.Comp m.frame)
+      ∷ [])
 
   abbrev pub taken : Option Reply
   taken = first_cause s c (not_taken s m.number)
@@ -151,7 +155,8 @@ module _ (setup : Setting) (setting : IsSetting setup) (cores : ℕ → Core) (t
       outcome_left s c (own_pages s c) a.plan (rule_of s c a.call) a.found by_plan leads ∙ ap (outcome s c) left
       ∙ ap (λ x. and_then x λ at. unless (first_of (if not (has_frame (found make.range) m.frame) then Some reply.OutOfRange else None)
       (first_cause s c (not_blank s m.frame ∷ not_taken s m.number)))
-      (makes_comp s m.frame (new_comp s m.table m.pages m.number) at)) free
+      (does c s no_value (component_edit m.frame (new_comp s m.table m.pages m.number) ∷ fill_edit at (plain_cap kind.Comp m.frame)
+      ∷ []))) free
       ∙ ap (λ b. unless (first_of (if not b then Some reply.OutOfRange else None)
       (first_cause s c (not_blank s m.frame ∷ not_taken s m.number))) change) within
       ∙ ap (λ b. unless (first_of (if b && not (is_blank (s.frame m.frame)) then Some reply.FrameKind else None) taken) change)

@@ -8,7 +8,7 @@ use Rattle.scan_invariant.proofs.Common.{IsSetting, left_if, Kind, entry_of_word
 use Rattle.scan_invariant.proofs.Common.{word_of_frame, same_same, left_of, word_of, Move, CompareOf, told_of, EntryAt, Word, same_word}
 use Rattle.scan_invariant.proofs.Common.{ClockAt, FrameAt, CountAt, CoreAt, FlushAt, LiveAt, slot_is, place_here, place_there, frame_refs}
 use Rattle.scan_invariant.proofs.Common.{IsSound, opened, put_same, put_other, events_of, Slot, own, rule_of, change_of, changed, counted}
-use Rattle.scan_invariant.proofs.Common.{MayReply, begins_in, ends_by, flushes_by, epoch_of, makes_comp, calls_counted, refs, place_names}
+use Rattle.scan_invariant.proofs.Common.{MayReply, begins_in, ends_by, flushes_by, epoch_of, calls_counted, refs, place_names}
 use Rattle.scan_invariant.proofs.Common.{times, frame_names, is_node, Found, IsFoundAnd, first_of, waits_of, Blank, Kernel, State}
 use Rattle.scan_invariant.proofs.Common.{put, comp_of, thread_in, thread_of, first_of_stack, Object, FrameOf, with_frame, Thing, NumberOf}
 use Rattle.scan_invariant.proofs.Common.{comp_in, Holds, PlaceOf, with_place, Live, Liveness, Comp, CompFields, ok_first}
@@ -77,6 +77,9 @@ use Rattle.comp_invariant.proofs.CompStores.{held_fill, at_fill, frame_marked, f
 use Rattle.comp_invariant.proofs.CompStores.{number_stands, put_of_call, put_lost, close_good, store_good}
 use Rattle.comp_invariant.proofs.CompMarks.{load_good, mark_good}
 use Rattle.scan_invariant.specs.frame_words.proofs.LiveLemmas as lives_words
+use Rattle.state_laws.specs.kernel_rules.specs.Start.{plain_cap}
+use Rattle.state_laws.specs.kernel_rules.specs.Edits.{Component as component_edit, Fill as fill_edit}
+use Rattle.state_laws.specs.kernel_rules.specs.Rules.{does}
 
 abbrev due_by : ℕ → ℕ → Due
 due_by f n = record { frame = f; change = pos n }
@@ -323,11 +326,13 @@ module _ (setup : Setting) (setting : IsSetting setup) (cores : ℕ → Core) (t
         takes.waits
         ∙ ap (λ b. first_of (if b then Some reply.EpochsSpent else None) None) not_spent_yet
 
-    change_is : change_of s c a.call ≡ Found (makes_comp s f fields slot)
+    change_is : change_of s c a.call ≡ Found (does c s Nothing (component_edit f fields ∷ fill_edit slot (plain_cap kind.Comp f) ∷ []))
     change_is = calls.by_taken setup setting cores t stands c here a active m stage_is has
         (vacant_slot s c (calls.target setup setting cores t stands c here a active m stage_is has) slot
         (calls.reached_is setup setting cores t stands c here a active m stage_is has) empty.vacant) blank None taken_none
-        ∙ ap (λ (n : ℕ). Found (makes_comp s f (record { table = m.table; pages = m.pages; number = l; epoch = n + 1 }) slot)) takes.last_is
+        ∙ ap (λ (n : ℕ). Found (does c s Nothing (component_edit f
+        (record { table = m.table; pages = m.pages; number = l; epoch = n + 1 }) ∷ fill_edit slot (plain_cap kind.Comp f) ∷ [])))
+        takes.last_is
 
     now : s' ≡ counted filled c
     now = ap (λ p. state_decided_in p (reply.Ok Nothing) s c) is_open ∙ ap (λ x. counted (changed s x) c) change_is

@@ -8,28 +8,24 @@ use Rattle.spk_nums.specs.Setting.{Setting, IsSetting}
 use Rattle.spk_nums.specs.declared.kinds.Kind.{Kind}
 use Rattle.spk_nums.specs.declared.kinds.Kind.TheVariants as kind
 use Rattle.spk_nums.specs.declared.calls.Call.TheVariants.{Flush}
-use Rattle.kernel_rules.specs.State.{CompFields, Frame, Kernel, Comp, Core, Limits, State, comp_in, tcap_in, comp_of}
-use Rattle.kernel_rules.specs.Start.{start}
-use Rattle.kernel_rules.specs.Access.{Slot, Under, Target, root_at, only, usable, reached, own}
+use Rattle.kernel_rules.specs.State.{CompFields, Frame, Kernel, Comp, Limits, State, comp_in, tcap_in, comp_of}
+use Rattle.kernel_rules.specs.Access.{Slot, Under, root_at, only, usable, reached, own}
 use Rattle.kernel_rules.specs.GracePeriods.{entered}
-use Rattle.kernel_rules.specs.TimeCalls.{tcap_at}
+use Rattle.kernel_rules.specs.Edits.{tcap_at}
 use Rattle.kernel_rules.specs.Runs.{Event, Enters, after, IsRun}
 use Rattle.kernel_rules.specs.Fitting.{fits, IsGood}
-use Rattle.kernel_rules.specs.Relies.{is_node}
 use Rattle.kernel_invariant.proofs.Sound.{IsObjectGood}
 use Rattle.kernel_invariant.proofs.Facts.{usable_good}
 use Rattle.kernel_invariant.proofs.SoundRuns.{opened, limits_stay, runs_sound}
 use Rattle.plain_kernel.specs.kernel_laws.proofs.RangesLaw.{ranges_hold}
 use Rattle.seq_state.specs.Maps.{Maps, state_of}
-use Rattle.seq_state.specs.Representation.{SameState, Represents}
+use Rattle.seq_state.specs.Representation.{Represents}
 use Rattle.plain_kernel.specs.same_changes.proofs.Reaching.{Twins, RootGood, comp_same, frame_same, here, here_fit}
 use Rattle.plain_kernel.specs.same_changes.proofs.Reaching.{table_node, reached_same, slot_good, usable_same}
 use Rattle.plain_kernel.specs.Step.{IsReached}
 use Rattle.plain_kernel.proofs.Stepping.{entered_same}
 use Rattle.sched_rules.specs.declared.tasks.Rule.{Rule}
 use Rattle.sched_rules.specs.declared.tasks.Job.{Job}
-use Rattle.sched_rules.specs.declared.tasks.Ready.{Ready}
-use Rattle.sched_rules.specs.declared.tasks.Choice.{Choice}
 use Rattle.sched_rules.specs.Schedule.{reach, time_in, time_of, is_due, ready, lesser, chosen}
 
 -- The kernel has as many cores as the setting.
@@ -45,15 +41,7 @@ comp_table s _ fit good = absurd (false≢true fit)
 is_tcap : (k : Kind) → only kind.Tcap k ≡ true → k ≡ kind.Tcap
 is_tcap kind.Tcap e = refl
 is_tcap kind.Range e = absurd (false≢true e)
-is_tcap kind.Table e = absurd (false≢true e)
-is_tcap kind.Leaf e = absurd (false≢true e)
-is_tcap kind.Pages e = absurd (false≢true e)
-is_tcap kind.Pleaf e = absurd (false≢true e)
-is_tcap kind.Comp e = absurd (false≢true e)
-is_tcap kind.Gate e = absurd (false≢true e)
-is_tcap kind.Thread e = absurd (false≢true e)
-is_tcap kind.Link e = absurd (false≢true e)
-is_tcap kind.Page e = absurd (false≢true e)
+is_tcap _ e = absurd (false≢true e)
 
 -- In two states that are one for all that the machine has, one of them reached, with core 0 in an open call.
 module _ (t s : State) (o : ℕ → Bool) (w : Twins t s o 0) where

@@ -14,7 +14,6 @@ use Rattle.work_invariant.proofs.Common.{Act, Nothing, Undecided, Decided, Core}
 use Rattle.work_invariant.proofs.Common.{refuse, core_word, Took, landed, fresh, core_after, told_by, decided_in, returned_in}
 use Rattle.work_invariant.proofs.Common.{CallIs, ChargesBy, Invariant, limits_of, calm_counted}
 use Rattle.boot_words.specs.spk_nums.specs.declared.replies.Reply.TheVariants as reply
-use Rattle.boot_words.specs.kernel_rules.specs.InvocationCalls.{pops}
 use Rattle.boot_words.specs.kernel_rules.specs.GracePeriods.{entered}
 use Rattle.work_invariant.specs.trace_laws.proofs.AloneCalls.{spent_first}
 use Rattle.call_stages.specs.act_states.specs.declared.refusals.Refusal.TheVariants as refusal
@@ -33,6 +32,9 @@ use Rattle.work_invariant.specs.kept_facts.proofs.Calm.{calm_entered, calm_then}
 use Rattle.work_invariant.specs.step_ways.proofs.Loads.{Lands, step_to}
 use Rattle.work_invariant.specs.step_ways.proofs.Writes.{enters_on}
 use Rattle.flight.specs.Made.{MayBegin}
+use Rattle.boot_words.specs.kernel_rules.specs.Edits.{Pop as pop_edit}
+use Rattle.boot_words.specs.kernel_rules.specs.Rules.{does}
+use Rattle.boot_words.specs.spk_nums.specs.declared.replies.Value.TheVariants.{Nothing as no_value}
 
 module _ (setup : Setting) (setting : IsSetting setup) (cores : ℕ → Core) (t : Trace) (stands : Invariant setup cores t) (c : ℕ)
     (here : c < setup.cores)
@@ -182,7 +184,8 @@ module _ (setup : Setting) (setting : IsSetting setup) (cores : ℕ → Core) (t
         })
         (refused_first (entered s c) c call reply.Bottom (subst (λ x. IsTrue (acts (entered s c) c x)) (sym is) refl) (spent_is ∙ unspent)
         (subst (λ x. change_of (entered s c) c x ≡ Refused reply.Bottom) (sym is)
-        (ap (λ b. unless (first_of (if b then Some reply.Bottom else None) None) (pops (entered s c) c)) (at_bottom low))))
+        (ap (λ b. unless (first_of (if b then Some reply.Bottom else None) None) (does c (entered s c) no_value (pop_edit ∷ [])))
+        (at_bottom low))))
         tt
 
     returns_on : is_spent (cores c).own ≡ false → nat_le (cores c).own.depth 1 ≡ false

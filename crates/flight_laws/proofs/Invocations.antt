@@ -2,19 +2,21 @@
 use Rattle.time_laws.proofs.Common.{to_use, ◌≡◌, ◌&&◌, ℕ, nat_le, length, not, [], ◌∷◌, ◌++◌, Bool, true, false, if◌then◌else◌}
 use Rattle.time_laws.proofs.Common.{Option, Some, None, refl, sym, ◌∙◌, ap, subst, eqb-true, false≢true, Capability, Setting, IsSetting}
 use Rattle.time_laws.proofs.Common.{Call, Value, Liveness, Unused, Live, Dead, State, comp_in, thread_of, Named, found, only, Found, Rule}
-use Rattle.time_laws.proofs.Common.{Does, When, IsFoundAnd, and_then, first_of, named, outcome, unless, is_live_in, pushes, MayReply, after}
+use Rattle.time_laws.proofs.Common.{Does, When, IsFoundAnd, and_then, first_of, named, outcome, unless, is_live_in, MayReply, after}
 use Rattle.time_laws.proofs.Common.{IsRun, events_of, MayDecide, MayFollow, Step, Trace, Open, phase, after_enter, state_before}
 use Rattle.time_laws.proofs.Common.{state_entered, state_after, state_is, run_of, open_inj, Invariant}
 use Rattle.time_laws.specs.spk_nums.specs.declared.calls.Call.TheVariants.{Call as call_gate}
 use Rattle.time_laws.specs.spk_nums.specs.declared.kinds.Kind.TheVariants as kind
 use Rattle.time_laws.specs.spk_nums.specs.declared.replies.Reply.TheVariants as reply
-use Rattle.time_laws.specs.kernel_rules.specs.Rules.{RuleAnswers}
+use Rattle.time_laws.specs.kernel_rules.specs.Rules.{RuleAnswers, does}
 use Rattle.time_laws.specs.kernel_rules.specs.InvocationCalls.{call_rule, not_live}
 use Rattle.time_laws.specs.state_laws.proofs.Lives.{dead_stays}
 use Rattle.time_laws.specs.comp_invariant.proofs.LaterEvents.{Later, later_events}
 use Rattle.time_laws.specs.history_laws.specs.Invocations.{number_through, EntersTheLiving, EntersNoneKilled}
 use Rattle.time_laws.specs.flight.specs.Made.{IsMade, cores_after}
 use Rattle.time_laws.specs.flight.proofs.Made.{made_stands}
+use Rattle.time_laws.specs.kernel_rules.specs.Edits.{Push as push_edit}
+use Rattle.time_laws.specs.spk_nums.specs.declared.replies.Value.TheVariants.{Nothing as no_value}
 
 -- What the rule of a call answers through a gate.
 module _ (s : State) (c n : ℕ) (v : Value) (gate : Capability) where
@@ -22,11 +24,12 @@ module _ (s : State) (c n : ℕ) (v : Value) (gate : Capability) where
   entering g = Does (
       When (nat_le 16 (length (thread_of s c).stack)) reply.Deep
       ∷ not_live s g (comp_in (s.frame g.frame)).number g.arg
-      ∷ []) (pushes s c g.frame)
+      ∷ []) no_value (push_edit g.frame ∷ [])
 
   by_causes : (deep lives : Bool)
       → IsFoundAnd (unless (first_of (if deep then Some reply.Deep else None)
-      (first_of (if true && not lives then Some reply.Dead else None) None)) (pushes s c gate.frame)) (λ change. change.value ≡ v)
+      (first_of (if true && not lives then Some reply.Dead else None) None)) (does c s no_value (push_edit gate.frame ∷ [])))
+      (λ change. change.value ≡ v)
       → lives ≡ true
   by_causes deep true is = refl
   by_causes true false is = absurd is

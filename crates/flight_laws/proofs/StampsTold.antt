@@ -26,8 +26,7 @@ use Rattle.time_laws.specs.kernel_rules.specs.GracePeriods.{begun}
 use Rattle.time_laws.specs.kernel_rules.specs.References.{refs}
 use Rattle.time_laws.specs.kernel_rules.specs.Rules.{Change, Found, IsFoundAnd, Judged, Refused}
 use Rattle.time_laws.specs.kernel_rules.specs.CallRelation.{MayReply, begins, begins_in as begun_in, change_of, changed as change_made}
-use Rattle.time_laws.specs.kernel_rules.specs.CallRelation.{counted}
-use Rattle.time_laws.specs.kernel_rules.specs.CallRelation.{state_by}
+use Rattle.time_laws.specs.kernel_rules.specs.CallRelation.{counted, state_by}
 use Rattle.time_laws.specs.kernel_rules.proofs.Changes.{IfFound}
 use Rattle.time_laws.specs.kernel_invariant.proofs.Edited.{found_by}
 use Rattle.time_laws.specs.kernel_invariant.proofs.Refs.{RefsBy, grace_refs, refs_by}

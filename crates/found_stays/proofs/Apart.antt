@@ -11,8 +11,7 @@ use Rattle.kernel_rules.specs.References.{place_names}
 use Rattle.kernel_rules.specs.GracePeriods.{same_thing, new_grace, begun, flushed}
 use Rattle.kernel_rules.specs.Access.{usable_in}
 use Rattle.kernel_rules.specs.Life.{is_live_in, is_dead_in}
-use Rattle.kernel_rules.specs.Rules.{frames_of}
-use Rattle.kernel_rules.specs.CapabilityCalls.{cleared}
+use Rattle.kernel_rules.specs.Edits.{frames_of, cleared}
 use Rattle.kernel_rules.proofs.Within.{put_same, put_other}
 use Rattle.kernel_rules.specs.Relies.{is_node, is_fixed}
 use Rattle.kernel_invariant.proofs.SoundRemovals.{frames_no_place}

@@ -12,10 +12,11 @@ use Rattle.spk_nums.specs.declared.kinds.FrameKind.TheVariants as frame_kind
 use Rattle.spk_nums.specs.declared.calls.Make.{Make}
 use Rattle.spk_nums.specs.declared.calls.Make.TheVariants as make
 use Rattle.spk_nums.specs.declared.calls.Call.{Call}
-use Rattle.spk_nums.specs.declared.calls.Call.TheVariants.{Look, Copy, Remove, Grow, Shrink, Retype, Make as make_call}
+use Rattle.spk_nums.specs.declared.calls.Call.TheVariants.{Look, Copy, Remove as remove_call, Grow, Shrink, Retype, Make as make_call}
 use Rattle.spk_nums.specs.declared.calls.Call.TheVariants.{Map, Unmap, Touch, Flush, Gate, Kill, Call as call_gate}
 use Rattle.spk_nums.specs.declared.calls.Call.TheVariants.{Ret, Switch, Tick, Transfer, Delegate, Test, Part, Replenish}
 use Rattle.spk_nums.specs.declared.translations.Translation.{Translation}
+use Rattle.spk_nums.specs.declared.replies.Value.TheVariants.{Nothing}
 use Rattle.spk_nums.specs.declared.replies.Reply.{Reply}
 use Rattle.spk_nums.specs.declared.replies.Reply.TheVariants as reply
 use Rattle.kernel_rules.specs.State.{Place, Free, Holds, Quiescing, CompFields, ThreadFields, TcapFields, Object, Blank, Table, Leaf}
@@ -27,13 +28,15 @@ use Rattle.kernel_rules.specs.References.{refs, times, frame_names, number_names
 use Rattle.kernel_rules.specs.Access.{Slot, found, Target, Under, InRoot, place_at, usable_in, reached}
 use Rattle.kernel_rules.specs.GracePeriods.{same_thing, new_grace, begun, flushed}
 use Rattle.kernel_rules.specs.Life.{is_live_in, is_dead_in}
-use Rattle.kernel_rules.specs.Rules.{Change, Cause, When, WaitedFor, Unflushed, Found, named, vacant, held, unless}
-use Rattle.kernel_rules.specs.Rules.{not_vacant, first_cause, refusal_of, waits_of, flushes_of, frames_of, fills, removes}
-use Rattle.kernel_rules.specs.CapabilityCalls.{is_live, not_blank, outside, epoch_of, makes, cleared, make_node, makes_comp, make_rule}
-use Rattle.kernel_rules.specs.CapabilityCalls.{not_taken}
-use Rattle.kernel_rules.specs.MemoryCalls.{is_untyped_now, is_empty, not_retyped, retypes, retype_rule, touch_by, translation_of}
-use Rattle.kernel_rules.specs.InvocationCalls.{not_live, kills, with_thread, pushes, pops, running, switches, switch_to}
-use Rattle.kernel_rules.specs.TimeCalls.{with_tcap, with_budget, with_qualities, tcap_at, moved, merged_list}
+use Rattle.kernel_rules.specs.Rules.{Change, does, Cause, When, WaitedFor, Unflushed, Found, named, vacant, held, unless}
+use Rattle.kernel_rules.specs.Rules.{not_vacant, first_cause, refusal_of, waits_of, flushes_of}
+use Rattle.kernel_rules.specs.Edits.{frames_of, cleared, with_thread, with_stack, running, switched, Fill, Remove, Node, Become, Untype}
+use Rattle.kernel_rules.specs.CapabilityCalls.{is_live, not_blank, outside, epoch_of, make_node, make_rule, not_taken}
+use Rattle.kernel_rules.specs.Edits.{Component, Deaden, Push, Pop, Switch as switch_edit, edited, after_edits, begins_in, with_tcap}
+use Rattle.kernel_rules.specs.MemoryCalls.{is_untyped_now, is_empty, not_retyped, retype_rule, touch_by, translation_of}
+use Rattle.kernel_rules.specs.InvocationCalls.{not_live, switch_to}
+use Rattle.kernel_rules.specs.Edits.{with_budget, with_qualities, tcap_at, moved}
+use Rattle.kernel_rules.specs.TimeCalls.{merged_list}
 use Rattle.kernel_rules.specs.CallRelation.{rule_of}
 use Rattle.kernel_rules.specs.Fitting.{fits}
 use Rattle.kernel_rules.proofs.Within.{put_same, put_other}
@@ -128,12 +131,14 @@ module _ (s : State) (o : ℕ → Bool) (d : ℕ) (h : HasTurn s o d) where
       by_place x (Quiescing k) n = ap (usable_in (Quiescing k))
           (none_waiting s d x (none_parts (waits_of s d x) (flushes_of s x) n).0 c (h.inside c q).1 other)
 
-  filled : (target : Target) (at : Slot) (k : Capability) → vacant s d target ≡ Found at → SparesBy s o d (fills s at k)
-  filled target at k e = plain (fills s at k).next (fill_apart s o d at.node at.index k (vacant_none target at e)) own_runs
+  filled : (target : Target) (at : Slot) (k : Capability) → vacant s d target ≡ Found at
+      → SparesBy s o d (does d s Nothing (Fill at k ∷ []))
+  filled target at k e = plain (edited d s (Fill at k)) (fill_apart s o d at.node at.index k (vacant_none target at e)) own_runs
 
-  removed : (target : Target) (at : Slot) (k : Capability) → held s d target ≡ Found (at, k) → SparesBy s o d (removes s at k)
+  removed : (target : Target) (at : Slot) (k : Capability) → held s d target ≡ Found (at, k)
+      → SparesBy s o d (does d s Nothing (Remove at k ∷ []))
   removed target at k e =
-      spares_by s (begun s (removes s at k).begins (removes s at k).next) o d
+      spares_by s (begun s (begins_in d s (Remove at k)) (edited d s (Remove at k))) o d
       (remove_apart s o d at.node at.index k inside (held_facts s d target at k e).1) own_runs
 
   -- the thread of another core is a thread
@@ -201,9 +206,9 @@ loose_put s f y g new old = put_all (λ g x. is_fixed x ≡ false) s.frame f y g
 made : (s : State) (o : ℕ → Bool) (d f : ℕ) (object : Object) (k : Kind) (at : Slot) → s.frame f ≡ Kernel Blank
     → ((c : ℕ) → c ≢ d → c < s.limits.cores → (s.core c).thread ≢ f)
     → ((c : ℕ) → c ≢ d → o c ≡ true → usable_in (s.place at.node at.index) ((s.grace (PlaceOf at.node at.index)).waits c) ≡ None)
-    → IsApart s (makes s f object k at).next o d
+    → IsApart s (after_edits d s (Become f (Kernel object) ∷ Fill at (plain_cap k f) ∷ [])) o d
 made s o d f object k at blank away none =
-    apart_then s (with_frame s f (Kernel object)) (makes s f object k at).next o d
+    apart_then s (with_frame s f (Kernel object)) (edited d (with_frame s f (Kernel object)) (Fill at (plain_cap k f))) o d
     (frame_apart s o d f (Kernel object) (ap is_fixed blank) away)
     (fill_apart (with_frame s f (Kernel object)) o d at.node at.index (plain_cap k f) none)
 
@@ -225,8 +230,8 @@ module _ (s : State) (o : ℕ → Bool) (d : ℕ) (h : HasTurn s o d) where
   node_spares : (object : Object) (k : Kind) (r f t b : ℕ) → ChangesFrom (SparesBy s o d) s d (make_node s object k r f t b)
   node_spares object k r f t b = λ range e table g at v calm.
       let blank : s.frame f ≡ Kernel Blank = (blank_by s h.opened d r f range [] h.opens e calm).1 in
-      plain s o d h (makes (cleared s f) f object k at).next
-      (apart_then s (cleared s f) (makes (cleared s f) f object k at).next o d
+      plain s o d h (after_edits d s (Node f object ∷ Fill at (plain_cap k f) ∷ []))
+      (apart_then s (cleared s f) (after_edits d s (Node f object ∷ Fill at (plain_cap k f) ∷ [])) o d
       (clear_apart s o d f (ap is_node blank))
       (made (cleared s f) o d f object k at blank (thread_away s o d h f (ap (fits kind.Thread) blank))
       (λ c other q. cleared_none s f at c (vacant_none s o d h (Under (found table) b) at v c other q))))
@@ -234,9 +239,9 @@ module _ (s : State) (o : ℕ → Bool) (d : ℕ) (h : HasTurn s o d) where
 
   object_spares : (f : ℕ) (object : Object) (k : Kind) (target : Target) (at : Slot)
       → s.frame f ≡ Kernel Blank → vacant s d target ≡ Found at
-      → Spares s (begun s [] (makes s f object k at).next) o d
+      → Spares s (begun s [] (after_edits d s (Become f (Kernel object) ∷ Fill at (plain_cap k f) ∷ []))) o d
   object_spares f object k target at blank v =
-      plain s o d h (makes s f object k at).next
+      plain s o d h (after_edits d s (Become f (Kernel object) ∷ Fill at (plain_cap k f) ∷ []))
       (made s o d f object k at blank (thread_away s o d h f (ap (fits kind.Thread) blank)) (vacant_none s o d h target at v))
       (runs_put s f (Kernel object) d (own_away s o d h f (ap (fits kind.Thread) blank)) (own_runs s o d h))
 
@@ -278,8 +283,9 @@ module _ (s : State) (o : ℕ → Bool) (d : ℕ) (h : HasTurn s o d) where
   make_spares (make.Comp x y l) r f t b = λ range e table g own_table a own_pages k at v calm.
       let blank : s.frame f ≡ Kernel Blank = (blank_by s h.opened d r f range (not_taken s l) h.opens e calm).1 in
       let comp : CompFields = record { table = own_table.frame; pages = own_pages.frame; number = l; epoch = epoch_of (s.number l) + 1 } in
-      plain s o d h (makes_comp s f comp at).next
-      (apart_then s (with_number s l (Live comp.epoch f)) (makes_comp s f comp at).next o d
+      let new : State = after_edits d s (Component f comp ∷ Fill at (plain_cap kind.Comp f) ∷ []) in
+      plain s o d h new
+      (apart_then s (with_number s l (Live comp.epoch f)) new o d
       (number_apart s o d l (Live comp.epoch f) (none_acts f range l calm))
       (made (with_number s l (Live comp.epoch f)) o d f (Comp comp) kind.Comp at blank
       (thread_away s o d h f (ap (fits kind.Thread) blank)) (vacant_none s o d h (Under (found table) b) at v)))
@@ -294,7 +300,7 @@ module _ (s : State) (o : ℕ → Bool) (d : ℕ) (h : HasTurn s o d) where
 
   -- a retype to untyped, of a frame that is not named and for which no other core waits
   untype_spares : (f : ℕ) → refs s f ≡ 0 → ((c : ℕ) → c < s.limits.cores → c ≢ d → (s.grace (FrameOf f)).waits c ≡ false)
-      → Spares s (begun s (retypes s f frame_kind.Untyped).begins (retypes s f frame_kind.Untyped).next) o d
+      → Spares s (begun s (begins_in d s (Untype f)) (edited d s (Untype f))) o d
   untype_spares f zero none = record {
     core = λ c other. refl;
     frame = λ c g other q fixed guarded. put_other s.frame f Untyped g (guarded_away c g other q guarded);
@@ -345,7 +351,7 @@ module _ (s : State) (o : ℕ → Bool) (d : ℕ) (h : HasTurn s o d) where
       let p3 = none_parts (waits_of s d (FrameOf f)) (first_cause s d (Unflushed (FrameOf f) ∷ held ∷ [])) p2.1 in
       untype_spares f (zero_refs (refs s f) (when_not (nat_lt 0 (refs s f)) (reply.Referenced (refs s f)) p2.0)) (none_waits s d f p3.0)
 
-  touch_spares : (pages v : ℕ) (t : Option Translation) → ChangesFrom (SparesBy s o d) s d (touch_by s d pages v t)
+  touch_spares : (pages v : ℕ) (t : Option Translation) → ChangesFrom (SparesBy s o d) s d (touch_by pages v t)
   touch_spares pages v None =
       λ mapping e calm. plain s o d h (with_core s d _) (core_apart s o d _) (runs_core s d _ refl (own_runs s o d h))
   touch_spares pages v (Some t) = λ calm. plain s o d h s (apart_same s o d) (own_runs s o d h)
@@ -359,10 +365,10 @@ module _ (s : State) (o : ℕ → Bool) (d : ℕ) (h : HasTurn s o d) where
   own_fits = (h.opens.sound.cores d (h.opens.sound.inside d h.opens.is).1).0
 
   -- core d's thread has another stack
-  stack_apart : (stack : List ℕ) → IsApart s (Rattle.kernel_rules.specs.InvocationCalls.with_stack s d stack) o d
+  stack_apart : (stack : List ℕ) → IsApart s (with_stack s d stack) o d
   stack_apart stack = frame_apart s o d (s.core d).thread _ (thread_loose (s.frame (s.core d).thread) own_fits) others_run
 
-  stack_runs : (stack : List ℕ) → RunsOn (Rattle.kernel_rules.specs.InvocationCalls.with_stack s d stack) d
+  stack_runs : (stack : List ℕ) → RunsOn (with_stack s d stack) d
   stack_runs stack =
       ap (λ x. (thread_in x).runs_on) (put_same s.frame (s.core d).thread _ (s.core d).thread refl)
       ∙ ap (λ (t : ThreadFields). t.runs_on) (thread_with (s.frame (s.core d).thread) (record (thread_of s d) { stack = stack }) own_fits)
@@ -370,7 +376,7 @@ module _ (s : State) (o : ℕ → Bool) (d : ℕ) (h : HasTurn s o d) where
 
   switch_spares : (j : Capability) (q : ℕ) → IsTrue (fits kind.Thread (s.frame j.frame))
       → (e : Option ℕ) → (thread_in (s.frame j.frame)).runs_on ≡ e
-      → ChangesFrom (SparesBy s o d) s d (switch_to s d (found j) q e)
+      → ChangesFrom (SparesBy s o d) s d (switch_to (found j) q e)
   switch_spares j q fit (Some e) is = λ calm. absurd (some_none (reply.Running e) (none_parts (Some (reply.Running e)) None calm).0)
   switch_spares j q fit None is = λ calm.
       let f : ℕ = j.frame in
@@ -380,11 +386,11 @@ module _ (s : State) (o : ℕ → Bool) (d : ℕ) (h : HasTurn s o d) where
       let idle_fit : IsTrue (fits kind.Thread (idle.frame f)) = put_all (λ g x. IsTrue (fits kind.Thread x))
       s.frame old (with_thread (s.frame old) (record (thread_in (s.frame old)) { runs_on = None })) f
       (λ same. with_thread_fit (s.frame old) _ own_fits) (λ other. fit) in
-      done s o d h (switches s d (s.core d) f q).next (switches s d (s.core d) f q).begins
+      done s o d h (switched s d f q) (begins_in d s (switch_edit f q))
       (λ g i. frames_no_place g i (old ∷ (if q == (s.core d).tcap then [] else (s.core d).tcap ∷ [])))
-      (apart_then s idle (switches s d (s.core d) f q).next o d
+      (apart_then s idle (switched s d f q) o d
       (frame_apart s o d old _ (thread_loose (s.frame old) own_fits) others_run)
-      (apart_then idle next (switches s d (s.core d) f q).next o d
+      (apart_then idle next (switched s d f q) o d
       (frame_apart idle o d f _ (thread_loose (idle.frame f) idle_fit)
       (λ c other below same. some_none c (sym (h.runs c below) ∙ ap (λ n. (thread_in (s.frame n)).runs_on) same ∙ is)))
       (core_apart next o d (record (s.core d) { thread = f; tcap = q }))))
@@ -427,7 +433,7 @@ module _ (s : State) (o : ℕ → Bool) (d : ℕ) (h : HasTurn s o d) where
   pub rule_spares : (call : Call) → ChangesFrom (SparesBy s o d) s d (rule_of s d call)
   rule_spares (Look a) = λ k e calm. plain s o d h s (apart_same s o d) (own_runs s o d h)
   rule_spares (Copy a t b rights) = λ k e table f at g calm. filled s o d h (Under (found table) b) at (kept k rights.0) g
-  rule_spares (Remove t b) = λ table e at k g calm. removed s o d h (Under (found table) b) at k g
+  rule_spares (remove_call t b) = λ table e at k g calm. removed s o d h (Under (found table) b) at k g
   rule_spares (Grow t i l) = λ table e leaf f at g calm. filled s o d h (InRoot (found table) i) at (plain_cap kind.Link leaf.frame) g
   rule_spares (Shrink t i) = λ table e at k g calm. removed s o d h (InRoot (found table) i) at k g
   rule_spares (Retype r f k) = retype_spares s o d h r f k
@@ -446,12 +452,12 @@ module _ (s : State) (o : ℕ → Bool) (d : ℕ) (h : HasTurn s o d) where
       let live = live_is (s.number fields.number) fields.epoch
       (not_not (is_live_in (s.number fields.number) fields.epoch)
       (when_not (not (is_live_in (s.number fields.number) fields.epoch)) reply.Dead p.0)) in
-      spares_by s (begun s (kills s fields).begins (kills s fields).next) o d
+      spares_by s (begun s (begins_in d s (Deaden fields.number fields.epoch)) (edited d s (Deaden fields.number fields.epoch))) o d
       (kill_apart s o d fields.number fields.epoch live.0 (number_names (s.number fields.number)) (inside s o d h) live.1)
       (own_runs s o d h)
-  rule_spares (call_gate g) = λ gate e calm. plain s o d h (pushes s d gate.frame).next (stack_apart s o d h _) (stack_runs s o d h _)
+  rule_spares (call_gate g) = λ gate e calm. plain s o d h (edited d s (Push gate.frame)) (stack_apart s o d h _) (stack_runs s o d h _)
   rule_spares Ret = λ calm.
-      done s o d h (pops s d).next (pops s d).begins
+      done s o d h (edited d s Pop) (begins_in d s Pop)
       (λ f i. frames_no_place f i (take 1 (thread_of s d).stack)) (stack_apart s o d h _) (stack_runs s o d h _)
   rule_spares (Switch f q) = λ thread e tcap g.
       switch_spares s o d h thread tcap.frame (named_fit s h.opened d f kind.Thread thread h.opens.sound h.opens.is e)

@@ -10,7 +10,7 @@ use Rattle.place_invariant.proofs.Common.{EntryFits, word_of_entry, Held, frame_
 use Rattle.place_invariant.proofs.Common.{CompareOf, told_of, EntryAt, Word, same_word, ClockAt, FrameAt, CountAt, CoreAt, FlushAt}
 use Rattle.place_invariant.proofs.Common.{LiveAt, slot_is, place_here, place_there, IsSound, opened, put_same, put_other, events_of, Slot}
 use Rattle.place_invariant.proofs.Common.{own, rule_of, change_of, changed, counted, MayReply, begins_in, ends_by, flushes_by, is_blank}
-use Rattle.place_invariant.proofs.Common.{makes, calls_counted, refs, place_names, times, is_node, Found, IsFoundAnd, Blank, Kernel}
+use Rattle.place_invariant.proofs.Common.{calls_counted, refs, place_names, times, is_node, Found, IsFoundAnd, Blank, Kernel}
 use Rattle.place_invariant.proofs.Common.{State, put, comp_of, thread_in, thread_of, first_of_stack, Object, FrameOf, with_frame, Thing}
 use Rattle.place_invariant.proofs.Common.{NumberOf, comp_in, Holds, PlaceOf, with_place, ok_first, decided-inside, cases_word}
 use Rattle.place_invariant.proofs.Common.{same_word-other, sound_of, last_left-there, stamp-kept, HasReached, marked_by, frame_mark}
@@ -33,7 +33,7 @@ use Rattle.place_invariant.specs.kernel_invariant.proofs.Refs.{place_refs}
 use Rattle.place_invariant.specs.found_stays.proofs.Stays.{comp_fit}
 use Rattle.place_invariant.specs.kernel_invariant.proofs.Sums as sums
 use Rattle.place_invariant.specs.kernel_rules.specs.Fitting.{fits as fits_kind}
-use Rattle.place_invariant.specs.kernel_rules.specs.CapabilityCalls.{is_place_of}
+use Rattle.place_invariant.specs.kernel_rules.specs.Edits.{is_place_of}
 use Rattle.place_invariant.specs.kernel_history.specs.Stamps.{begins_in as begins_then}
 use Rattle.place_invariant.specs.call_plans.proofs.AfterNames.{before}
 use Rattle.place_invariant.specs.plan_ways.proofs.Ways.{all_ways}
@@ -56,7 +56,7 @@ use Rattle.place_invariant.specs.count_invariant.proofs.Findings.{found_named, o
 use Rattle.place_invariant.specs.count_invariant.proofs.MakingCounts.{made_changes, made_types, made_argument}
 use Rattle.place_invariant.specs.count_invariant.proofs.CountChanges.{dues_commit, dues_sum}
 use Rattle.place_invariant.proofs.Fills.{node_word}
-use Rattle.place_invariant.proofs.ObjectMakes.{new_object, ready_place, readied}
+use Rattle.place_invariant.proofs.ObjectMakes.{new_object, ready_place, readied, makes, made_is}
 use Rattle.place_invariant.proofs.Outside.{vacant_slot, vacant_here}
 use Rattle.place_invariant.proofs.Vacancy.{IsVacant}
 use Rattle.frame_invariant.proofs.Beyond.{free_beyond}
@@ -244,6 +244,7 @@ module _ (setup : Setting) (setting : IsSetting setup) (cores : ℕ → Core) (t
     change_is = calls.by_blank setup setting cores t stands c here a active m stage_is has
         (vacant_slot s c (calls.target setup setting cores t stands c here a active m stage_is has) slot
         (calls.reached_is setup setting cores t stands c here a active m stage_is has) empty.vacant) true (ap is_blank blank)
+        ∙ ap Found (made_is c s m.object f slot)
 
     now : s' ≡ counted filled c
     now = ap (λ p. state_decided_in p (reply.Ok Nothing) s c) is_open ∙ ap (λ x. counted (changed s x) c) change_is

@@ -2,7 +2,7 @@
 use Rattle.place_invariant.proofs.Common.{◌≡◌, arith, Bool, true, false, Some, None, refl, ℕ, ◌<◌, ◌≢◌, sym, ◌&&◌, [], ◌∷◌, ap, ◌∙◌}
 use Rattle.place_invariant.proofs.Common.{subst, IsTrue, not, lt-ltb, false≢true, Capability, Setting, IsSetting, Call, Make}
 use Rattle.place_invariant.proofs.Common.{frame_of_word, same_same, EntryAt, FrameAt, found, Target, Under, Slot, reached, rule_of}
-use Rattle.place_invariant.proofs.Common.{change_of, has_frame, not_blank, is_blank, makes, is_node, Found, Change, first_cause, and_then}
+use Rattle.place_invariant.proofs.Common.{change_of, has_frame, not_blank, is_blank, is_node, Found, Change, first_cause, and_then}
 use Rattle.place_invariant.proofs.Common.{unless, vacant, outcome, first_of, Blank, Kernel, State, Leaf, opened, events_of, sound_of}
 use Rattle.place_invariant.proofs.Common.{opened_is, marked_by, mark_in_frame, frame_value, Trace, Open, phase, state_after, last_left}
 use Rattle.place_invariant.proofs.Common.{target_of, outcome_left, names_after, Leads, NextFree, next_of, rule_after, LeadsIn, own_pages}
@@ -22,10 +22,14 @@ use Rattle.place_invariant.specs.step_ways.proofs.Good.{blank_is}
 use Rattle.place_invariant.specs.step_ways.proofs.Loads.{is_active, call_is}
 use Rattle.place_invariant.specs.core_invariant.specs.Knows.{KnowsMaking}
 use Rattle.place_invariant.specs.count_invariant.proofs.Acquiring.{plan_leads, goes_by}
-use Rattle.place_invariant.proofs.ObjectMakes.{new_object, readied, make_rest, IsObjectMake, object_make, HasObjects, dues_apart}
+use Rattle.place_invariant.proofs.ObjectMakes.{made_by, make_rest, IsObjectMake, object_make, HasObjects, dues_apart}
 use Rattle.place_invariant.proofs.Outside.{none_left_of}
 use Rattle.place_invariant.proofs.Vacancy.{in_leaf}
 use Rattle.frame_invariant.proofs.NewObjects.{names_small}
+use Rattle.place_invariant.specs.spk_nums.specs.declared.replies.Value.TheVariants.{Nothing as no_value}
+use Rattle.place_invariant.specs.kernel_rules.specs.Start.{plain_cap}
+use Rattle.place_invariant.specs.kernel_rules.specs.Edits.{Fill as fill_edit}
+use Rattle.place_invariant.specs.kernel_rules.specs.Rules.{does}
 
 -- It makes this object in this frame, which the range has to which its first name has led.
 pub record IsObjectCall (call : Call) (ks : List Capability) (m : Making) : Type 0 where
@@ -156,7 +160,7 @@ module _ (setup : Setting) (setting : IsSetting setup) (cores : ℕ → Core) (t
 
   -- the change that it makes, and what comes of the call where its target is vacant
   abbrev pub change : Change
-  change = makes (readied m.object s m.frame) m.frame (new_object m.object) (object_kind m.object) slot
+  change = does c s no_value (made_by m.object m.frame ∷ fill_edit slot (plain_cap (object_kind m.object) m.frame) ∷ [])
 
   pub by_blank : vacant s c target ≡ Found slot → (blank : Bool) → is_blank (s.frame m.frame) ≡ blank
       → change_of s c a.call ≡ unless (if not blank then Some reply.FrameKind else None) change
@@ -164,7 +168,7 @@ module _ (setup : Setting) (setting : IsSetting setup) (cores : ℕ → Core) (t
       outcome_left s c (own_pages s c) a.plan (rule_of s c a.call) a.found by_plan leads ∙ ap (outcome s c) left
       ∙ ap (λ x. and_then x λ at. unless (first_of (if not (has_frame (found make.two.range) m.frame) then Some reply.OutOfRange else None)
       (first_cause s c (not_blank s m.frame ∷ [])))
-      (makes (readied m.object s m.frame) m.frame (new_object m.object) (object_kind m.object) at)) free
+      (does c s no_value (made_by m.object m.frame ∷ fill_edit at (plain_cap (object_kind m.object) m.frame) ∷ []))) free
       ∙ ap (λ b. unless (first_of (if not b then Some reply.OutOfRange else None) (first_cause s c (not_blank s m.frame ∷ []))) change)
       within
       ∙ ap (λ b. unless (first_of (if b && not (is_blank (s.frame m.frame)) then Some reply.FrameKind else None) None) change)

@@ -18,7 +18,7 @@ use Rattle.place_invariant.specs.tcap_words.proofs.QualityLemmas as qualities
 use Rattle.place_invariant.specs.tcap_words.proofs.StackLemmas as stacks
 use Rattle.place_invariant.specs.tcap_words.proofs.ThreadLemmas as threads
 use Rattle.place_invariant.specs.kernel_rules.specs.State.{Free as Vacant}
-use Rattle.place_invariant.specs.kernel_rules.specs.CapabilityCalls.{is_place_of}
+use Rattle.place_invariant.specs.kernel_rules.specs.Edits.{is_place_of}
 use Rattle.place_invariant.specs.kernel_invariant.proofs.Refs.{cleared_refs}
 use Rattle.place_invariant.specs.act_states.specs.declared.objects.NewObject.TheVariants as objects
 use Rattle.place_invariant.specs.act_states.specs.Objects.{object_cap, object_word, thread_word, tcap_word, last_word, object_names}
@@ -29,61 +29,35 @@ use Rattle.place_invariant.proofs.ObjectMakes.{new_object, ready_place, readied}
 
 pub made_value : (o : NewObject) → frame_value (Kernel (new_object o)) ≡ made o
 made_value objects.Table = refl
-made_value objects.Leaf = refl
-made_value objects.Pages = refl
-made_value objects.Pleaf = refl
-made_value (objects.Thread comp) = refl
-made_value (objects.Tcap sched quality) = refl
+made_value _ = refl
 
 pub made_fits : (o : NewObject) → FrameFits (made o)
 made_fits objects.Table = (tt, omega arith)
-made_fits objects.Leaf = (tt, omega arith)
-made_fits objects.Pages = (tt, omega arith)
-made_fits objects.Pleaf = (tt, omega arith)
-made_fits (objects.Thread comp) = (tt, omega arith)
-made_fits (objects.Tcap sched quality) = (tt, omega arith)
+made_fits _ = (tt, omega arith)
 
 made_names : (o : NewObject) → frame_names (Kernel (new_object o)) ≡ object_names o
 made_names objects.Table = refl
-made_names objects.Leaf = refl
-made_names objects.Pages = refl
-made_names objects.Pleaf = refl
-made_names (objects.Thread comp) = refl
-made_names (objects.Tcap sched quality) = refl
+made_names _ = refl
 
 pub made_cap : (o : NewObject) (f : ℕ) → f < 512 → EntryFits (Held (object_cap o f))
 made_cap objects.Table f small = (small, omega arith, omega arith, omega arith, omega arith)
-made_cap objects.Leaf f small = (small, omega arith, omega arith, omega arith, omega arith)
-made_cap objects.Pages f small = (small, omega arith, omega arith, omega arith, omega arith)
-made_cap objects.Pleaf f small = (small, omega arith, omega arith, omega arith, omega arith)
-made_cap (objects.Thread comp) f small = (small, omega arith, omega arith, omega arith, omega arith)
-made_cap (objects.Tcap sched quality) f small = (small, omega arith, omega arith, omega arith, omega arith)
+made_cap _ f small = (small, omega arith, omega arith, omega arith, omega arith)
 
 pub made_caps : (o : NewObject) (frames f : ℕ) → f < frames → CapNames frames (object_cap o f)
 made_caps objects.Table frames f below = omega (arith, below)
-made_caps objects.Leaf frames f below = omega (arith, below)
-made_caps objects.Pages frames f below = omega (arith, below)
-made_caps objects.Pleaf frames f below = omega (arith, below)
-made_caps (objects.Thread comp) frames f below = omega (arith, below)
-made_caps (objects.Tcap sched quality) frames f below = omega (arith, below)
+made_caps _ frames f below = omega (arith, below)
 
 pub cap_names : (o : NewObject) (f : ℕ) → place_names (Holds (object_cap o f)) ≡ f ∷ []
 cap_names objects.Table f = refl
-cap_names objects.Leaf f = refl
-cap_names objects.Pages f = refl
-cap_names objects.Pleaf f = refl
-cap_names (objects.Thread comp) f = refl
-cap_names (objects.Tcap sched quality) f = refl
+cap_names _ f = refl
 
 -- The decision ends no grace period but of the places of its frame.
 pub made_ends : (what : Make) (r f u b : ℕ) (x : Thing) → is_place_of f x ≡ false → ends_by (make_call what r f u b) x ≡ false
 made_ends make.Table r f u b x other = other
-made_ends make.Leaf r f u b x other = other
-made_ends make.Pages r f u b x other = other
-made_ends make.Pleaf r f u b x other = other
 made_ends (make.Thread comp) r f u b x other = refl
 made_ends (make.Tcap sched quality) r f u b x other = refl
 made_ends (make.Comp table pages live) r f u b x other = refl
+made_ends _ r f u b x other = other
 
 -- What the word i of a new object says.
 abbrev idle_in : ℕ → ThreadFields
@@ -158,11 +132,9 @@ place_says i x stored past = by (nat_lt i 64) refl
 pub says_new : (o : NewObject) (i x : ℕ) → PairFits o → NamesFit 512 o → (i ≤ last_word o → x ≡ object_word o i)
     → (64 ≤ i → entry_of_word x ≡ Some Free) → SaysNew o i x
 says_new objects.Table i x pair names stored past = place_says i x stored past
-says_new objects.Leaf i x pair names stored past = place_says i x stored past
-says_new objects.Pages i x pair names stored past = place_says i x stored past
-says_new objects.Pleaf i x pair names stored past = place_says i x stored past
 says_new (objects.Thread comp) i x pair names stored past = thread_says comp i x names stored
 says_new (objects.Tcap sched quality) i x pair names stored past = tcap_says sched quality i x pair stored
+says_new _ i x pair names stored past = place_says i x stored past
 
 -- And carry no mark.
 pub bare_new : (o : NewObject) (i x : ℕ) → SaysNew o i x → mark_in_frame (Kernel (new_object o)) i x ≡ None
@@ -194,11 +166,8 @@ word_small (objects.Tcap sched quality) (suc (suc j)) pair names =
 
 pub names_small : (o : NewObject) (frames : ℕ) → frames ≤ 512 → NamesFit frames o → NamesFit 512 o
 names_small objects.Table frames few names = tt
-names_small objects.Leaf frames few names = tt
-names_small objects.Pages frames few names = tt
-names_small objects.Pleaf frames few names = tt
 names_small (objects.Thread comp) frames few names = omega (arith, few, names)
-names_small (objects.Tcap sched quality) frames few names = tt
+names_small _ frames few names = tt
 
 -- In the state the places of a node are free.
 abbrev pub PlaceReady : NewObject → Place → Type 0
@@ -211,19 +180,15 @@ PlaceReady (objects.Tcap sched quality) p = Unit {0}
 
 pub place_ready : (o : NewObject) (s : State) (f g i : ℕ) → g ≡ f → PlaceReady o (ready_place o s f g i)
 place_ready objects.Table s f g i same = ap (λ r. r i) (put_same s.place f (λ i. Vacant) g same)
-place_ready objects.Leaf s f g i same = ap (λ r. r i) (put_same s.place f (λ i. Vacant) g same)
-place_ready objects.Pages s f g i same = ap (λ r. r i) (put_same s.place f (λ i. Vacant) g same)
-place_ready objects.Pleaf s f g i same = ap (λ r. r i) (put_same s.place f (λ i. Vacant) g same)
 place_ready (objects.Thread comp) s f g i same = tt
 place_ready (objects.Tcap sched quality) s f g i same = tt
+place_ready _ s f g i same = ap (λ r. r i) (put_same s.place f (λ i. Vacant) g same)
 
 pub ready_there : (o : NewObject) (s : State) (f g i : ℕ) → g ≢ f → ready_place o s f g i ≡ s.place g i
 ready_there objects.Table s f g i other = ap (λ r. r i) (put_other s.place f (λ i. Vacant) g other)
-ready_there objects.Leaf s f g i other = ap (λ r. r i) (put_other s.place f (λ i. Vacant) g other)
-ready_there objects.Pages s f g i other = ap (λ r. r i) (put_other s.place f (λ i. Vacant) g other)
-ready_there objects.Pleaf s f g i other = ap (λ r. r i) (put_other s.place f (λ i. Vacant) g other)
 ready_there (objects.Thread comp) s f g i other = refl
 ready_there (objects.Tcap sched quality) s f g i other = refl
+ready_there _ s f g i other = ap (λ r. r i) (put_other s.place f (λ i. Vacant) g other)
 
 place_word : (frames : ℕ) (p : Place) (stamp x : ℕ) → p ≡ Vacant → entry_of_word x ≡ Some Free → PlaceIs frames p stamp (entry_of_word x)
 place_word frames p stamp x free says = subst (λ q. PlaceIs frames q stamp (entry_of_word x)) (sym free) says
@@ -232,21 +197,17 @@ place_word frames p stamp x free says = subst (λ q. PlaceIs frames q stamp (ent
 pub word_new : (o : NewObject) (frames : ℕ) (p : Place) (stamp i x : ℕ) → PlaceReady o p → SaysNew o i x
     → IsFrameWord frames (Kernel (new_object o)) p stamp i x
 word_new objects.Table frames p stamp i x ready says = λ low. place_word frames p stamp x ready says
-word_new objects.Leaf frames p stamp i x ready says = λ low. place_word frames p stamp x ready says
-word_new objects.Pages frames p stamp i x ready says = λ low. place_word frames p stamp x ready says
-word_new objects.Pleaf frames p stamp i x ready says = λ low. place_word frames p stamp x ready says
 word_new (objects.Thread comp) frames p stamp i x ready says = says
 word_new (objects.Tcap sched quality) frames p stamp i x ready says = says
+word_new _ frames p stamp i x ready says = λ low. place_word frames p stamp x ready says
 
 -- The references change by what it names.
 ready_refs : (o : NewObject) (s : State) (f g : ℕ) → ((i : ℕ) (k : Capability) → s.place f i ≡ Holds k → ⊥)
     → refs (readied o s f) g ≡ refs s g
 ready_refs objects.Table s f g bare = cleared_refs s f g bare
-ready_refs objects.Leaf s f g bare = cleared_refs s f g bare
-ready_refs objects.Pages s f g bare = cleared_refs s f g bare
-ready_refs objects.Pleaf s f g bare = cleared_refs s f g bare
 ready_refs (objects.Thread comp) s f g bare = refl
 ready_refs (objects.Tcap sched quality) s f g bare = refl
+ready_refs _ s f g bare = cleared_refs s f g bare
 
 pub new_refs : (o : NewObject) (s : State) (f g : ℕ) → f < s.limits.frames → s.frame f ≡ Kernel Blank
     → ((i : ℕ) (k : Capability) → s.place f i ≡ Holds k → ⊥)

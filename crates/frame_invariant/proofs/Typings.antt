@@ -8,7 +8,7 @@ use Rattle.place_invariant.proofs.Common.{IsSetting, left_if, FrameKind, Call, R
 use Rattle.place_invariant.proofs.Common.{FrameWord, Word, EntryAt, FrameAt, CountAt, CoreAt, FlushAt, LiveAt, ClockAt, Move, LoadOf}
 use Rattle.place_invariant.proofs.Common.{CompareOf, word_of, left_of, told_of, Place, PlaceOf, NumberOf, Frame, Untyped, User, Kernel}
 use Rattle.place_invariant.proofs.Common.{Blank, Thing, State, put, with_frame, thread_in, comp_in, refs, frame_names, times, Slot, found}
-use Rattle.place_invariant.proofs.Common.{own, Change, Cause, Found, Does, RuleMay, outcome, unless, first_of, leaves, IsFoundAnd}
+use Rattle.place_invariant.proofs.Common.{own, Change, Cause, Found, Does, RuleMay, outcome, unless, first_of, IsFoundAnd}
 use Rattle.place_invariant.proofs.Common.{has_frame, is_frame, outside, is_untyped, retypes, rule_of, ends_by, flushes_by, change_of}
 use Rattle.place_invariant.proofs.Common.{changed, counted, begins_in, MayReply, calls_counted, frame_refs, put_same, put_other}
 use Rattle.place_invariant.proofs.Common.{frame_value, mark_of, mark_in_frame, frame_mark, marked_by, Step, Trace, Open, phase}
@@ -46,6 +46,8 @@ use Rattle.place_invariant.specs.step_ways.proofs.Refusals.{GoodTook, ticks_at, 
 use Rattle.place_invariant.specs.step_ways.proofs.Writes.{same_marks, writes_on}
 use Rattle.place_invariant.specs.count_invariant.proofs.Findings.{own_is, found_named, way_gone}
 use Rattle.place_invariant.specs.count_invariant.proofs.Acquiring.{plan_leads, goes_by}
+use Rattle.place_invariant.specs.kernel_rules.specs.Edits.{Become as become_edit}
+use Rattle.place_invariant.specs.kernel_rules.specs.Rules.{does}
 
 -- What a frame becomes, and what its word then says.
 abbrev pub typed_frame : FrameKind → Frame
@@ -106,10 +108,10 @@ typing_causes s f kind.Untyped typing = absurd (typing refl)
 typing_causes s f kind.User typing = refl
 typing_causes s f kind.Kernel typing = refl
 
-typing_change : (s : State) (f : ℕ) (k : FrameKind) → k ≢ kind.Untyped → retypes s f k ≡ leaves (with_frame s f (typed_frame k))
-typing_change s f kind.Untyped typing = absurd (typing refl)
-typing_change s f kind.User typing = refl
-typing_change s f kind.Kernel typing = refl
+typing_change : (f : ℕ) (k : FrameKind) → k ≢ kind.Untyped → retypes f k ≡ become_edit f (typed_frame k)
+typing_change f kind.Untyped typing = absurd (typing refl)
+typing_change f kind.User typing = refl
+typing_change f kind.Kernel typing = refl
 
 typing_ends : (r f : ℕ) (k : FrameKind) → k ≢ kind.Untyped → (x : Thing) → ends_by (Retype r f k) x ≡ false
 typing_ends r f kind.Untyped typing x = absurd (typing refl)
@@ -210,15 +212,15 @@ module _ (setup : Setting) (setting : IsSetting setup) (cores : ℕ → Core) (t
   causes = outside (found is.range) f ∷ not_untyped s f ∷ []
 
   abbrev change : Change
-  change = leaves (with_frame s f (typed_frame k))
+  change = does c s Nothing (become_edit f (typed_frame k) ∷ [])
 
-  left : rule_after (rule_of s c a.call) a.found ≡ Does causes change
+  left : rule_after (rule_of s c a.call) a.found ≡ Does causes Nothing (become_edit f (typed_frame k) ∷ [])
   left =
       ap (λ x. rule_after (rule_of s c x) a.found) is.call_is ∙ ap (rule_after (rule_of s c (Retype is.name f k))) is.found_is
-      ∙ ap (λ x. Does (outside (found is.range) f ∷ x) (retypes s f k)) (typing_causes s f k types)
-      ∙ ap (Does causes) (typing_change s f k types)
+      ∙ ap (λ x. Does (outside (found is.range) f ∷ x) Nothing (retypes f k ∷ [])) (typing_causes s f k types)
+      ∙ ap (λ e. Does causes Nothing (e ∷ [])) (typing_change f k types)
 
-  outcome_is : change_of s c a.call ≡ outcome s c (Does causes change)
+  outcome_is : change_of s c a.call ≡ outcome s c (Does causes Nothing (become_edit f (typed_frame k) ∷ []))
   outcome_is = outcome_left s c (own_pages s c) a.plan (rule_of s c a.call) a.found by_plan leads ∙ ap (outcome s c) left
 
   -- the range has the frame, so only what the frame is may refuse it

@@ -17,13 +17,14 @@ use Rattle.std.proofs.Common.{lt-ltb}
 use Rattle.scan_invariant.specs.spk_nums.specs.declared.kinds.FrameKind.TheVariants as kind
 use Rattle.scan_invariant.specs.spk_nums.specs.declared.replies.Reply.TheVariants as reply
 use Rattle.scan_invariant.specs.frame_words.proofs.FrameLemmas as frames
-use Rattle.scan_invariant.specs.kernel_rules.specs.Rules.{refusal_of, flushes_of, WaitedFor, Unflushed}
+use Rattle.scan_invariant.specs.kernel_rules.specs.Rules.{refusal_of, flushes_of, WaitedFor, Unflushed, does}
 use Rattle.scan_invariant.specs.kernel_rules.specs.MemoryCalls.{is_untyped_now}
 use Rattle.scan_invariant.specs.act_states.specs.declared.work.Act.TheVariants.{Untype as untype_act}
 use Rattle.scan_invariant.specs.step_ways.proofs.Loads.{OnlyLooks, call_is, core_is, is_active}
 use Rattle.scan_invariant.specs.step_ways.proofs.Refusals.{not_spent}
 use Rattle.scan_invariant.specs.count_invariant.proofs.Acquiring.{plan_leads, goes_by}
 use Rattle.scan_invariant.specs.count_invariant.proofs.MakingCounts.{argument_footprint}
+use Rattle.scan_invariant.specs.spk_nums.specs.declared.replies.Value.TheVariants.{Nothing as no_value}
 
 -- The call that makes a frame untyped.
 pub record IsUntype (call : Call) (ks : List Capability) (f : ℕ) : Type 0 where
@@ -151,13 +152,13 @@ module _ (setup : Setting) (setting : IsSetting setup) (cores : ℕ → Core) (t
       ∷ []
 
   abbrev pub change : Change
-  change = retypes s f kind.Untyped
+  change = does c s no_value (retypes f kind.Untyped ∷ [])
 
-  pub left : rule_after (rule_of s c a.call) a.found ≡ Does causes change
+  pub left : rule_after (rule_of s c a.call) a.found ≡ Does causes no_value (retypes f kind.Untyped ∷ [])
   left = ap (λ x. rule_after (rule_of s c x) a.found) is.call_is
       ∙ ap (rule_after (rule_of s c (Retype is.name f kind.Untyped))) is.found_is
 
-  pub may_refuse : (r : Reply) → RuleMay s c (Does causes change) r → RuleMay s c (rule_of s c a.call) r
+  pub may_refuse : (r : Reply) → RuleMay s c (Does causes no_value (retypes f kind.Untyped ∷ [])) r → RuleMay s c (rule_of s c a.call) r
   may_refuse r may = left_may s c (own_pages s c) a.plan (rule_of s c a.call) a.found by_plan leads r
       (subst (λ x. RuleMay s c x r) (sym left) may)
 

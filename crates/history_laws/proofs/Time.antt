@@ -6,7 +6,8 @@ use Rattle.state_laws.specs.spk_nums.specs.declared.replies.Value.TheVariants.{N
 use Rattle.state_laws.specs.kernel_rules.specs.References.{sum_below}
 use Rattle.state_laws.specs.kernel_rules.specs.Rules.{Judged, Refused, Found}
 use Rattle.state_laws.specs.kernel_rules.specs.State.{TcapFields, Kernel, Tcap}
-use Rattle.state_laws.specs.kernel_rules.specs.TimeCalls.{preemption, preempts, tcap_at}
+use Rattle.state_laws.specs.kernel_rules.specs.TimeCalls.{preemption, preempts}
+use Rattle.state_laws.specs.kernel_rules.specs.Edits.{tcap_at}
 use Rattle.state_laws.specs.spk_nums.specs.Capability.{Capability}
 use Rattle.kernel_history.specs.entry_words.specs.EntryWord.{word_of_entry, entry_of_word}
 use Rattle.kernel_history.specs.tcap_words.specs.Head.{word_of_head, head_of_word}

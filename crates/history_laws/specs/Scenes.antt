@@ -11,7 +11,7 @@ use Rattle.state_laws.specs.spk_nums.specs.declared.replies.Value.TheVariants.{P
 use Rattle.state_laws.specs.spk_nums.specs.declared.replies.Reply.TheVariants as reply
 use Rattle.state_laws.specs.kernel_rules.specs.Start.{start}
 use Rattle.state_laws.specs.kernel_rules.specs.State.{State, with_core}
-use Rattle.state_laws.specs.kernel_rules.specs.TimeCalls.{with_budget}
+use Rattle.state_laws.specs.kernel_rules.specs.Edits.{with_budget}
 use Rattle.kernel_history.specs.frame_words.specs.Count.{word_of_count}
 use Rattle.kernel_history.specs.frame_words.specs.declared.count_word.Hold.{Hold}
 use Rattle.kernel_history.specs.frame_words.specs.declared.count_word.Hold.TheVariants.{Unheld, Pinned, Closed}

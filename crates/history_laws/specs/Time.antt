@@ -17,7 +17,8 @@ use Rattle.state_laws.specs.kernel_rules.specs.Laws.{ticks}
 use Rattle.state_laws.specs.kernel_rules.specs.Rules.{Found, named}
 use Rattle.state_laws.specs.kernel_rules.specs.Start.{start}
 use Rattle.state_laws.specs.kernel_rules.specs.State.{Kernel, Tcap, TcapFields, State}
-use Rattle.state_laws.specs.kernel_rules.specs.TimeCalls.{tcap_at, preemption, preempts}
+use Rattle.state_laws.specs.kernel_rules.specs.TimeCalls.{preemption, preempts}
+use Rattle.state_laws.specs.kernel_rules.specs.Edits.{tcap_at}
 use Rattle.state_laws.specs.kernel_laws.specs.Laws.{grants_sum, decided_ticks, decided_back}
 use Rattle.kernel_history.specs.Events.{events_of}
 use Rattle.kernel_history.specs.Marking.{marked_by}

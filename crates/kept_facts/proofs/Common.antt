@@ -66,13 +66,12 @@ pub use Rattle.thread_laws.specs.kernel_rules.specs.Access.{Want, to_copy, to_lo
 pub use Rattle.thread_laws.specs.kernel_rules.specs.Alone.{alone}
 pub use Rattle.thread_laws.specs.kernel_rules.specs.CallRelation.{MayReply, are_calls_spent, begins, begins_in, change_of, changed}
 pub use Rattle.thread_laws.specs.kernel_rules.specs.CallRelation.{counted, ends, ends_by, flushes, flushes_by, rule_of, state_by}
-pub use Rattle.thread_laws.specs.kernel_rules.specs.CapabilityCalls.{epoch_of, has_frame, is_blank, is_frame, makes, makes_comp}
+pub use Rattle.thread_laws.specs.kernel_rules.specs.CapabilityCalls.{epoch_of, has_frame, is_blank, is_frame}
 pub use Rattle.thread_laws.specs.kernel_rules.specs.CapabilityCalls.{not_blank, outside}
 pub use Rattle.thread_laws.specs.kernel_rules.specs.Fitting.{fits}
 pub use Rattle.thread_laws.specs.kernel_rules.specs.GracePeriods.{MayBeUnflushed, MayWait, is_paging, is_translated, lowest, new_grace}
 pub use Rattle.thread_laws.specs.kernel_rules.specs.GracePeriods.{same_thing, unflushed_by}
 pub use Rattle.thread_laws.specs.kernel_rules.specs.Life.{acts, asks_life, is_live_in, lives, may_act}
-pub use Rattle.thread_laws.specs.kernel_rules.specs.InvocationCalls.{pushes}
 pub use Rattle.thread_laws.specs.kernel_rules.specs.Laws.{calls_counted}
 pub use Rattle.thread_laws.specs.kernel_rules.specs.MemoryCalls.{is_empty, is_untyped, retypes, translation_of}
 pub use Rattle.thread_laws.specs.kernel_rules.specs.Ranges.{InRanges}
@@ -81,7 +80,8 @@ unfoldable pub use Rattle.thread_laws.specs.kernel_rules.specs.References.{refs}
 unfoldable pub use Rattle.thread_laws.specs.kernel_rules.specs.References.{sum_below}
 pub use Rattle.thread_laws.specs.kernel_rules.specs.Relies.{IsGuarded, Relies, is_node}
 pub use Rattle.thread_laws.specs.kernel_rules.specs.Rules.{Cause, Change, Does, Found, IsFoundAnd, Judged, Refused, Rule, RuleMay, Vacant}
-pub use Rattle.thread_laws.specs.kernel_rules.specs.Rules.{When, and_then, answers, first_cause, first_of, frames_of, leaves, named}
+pub use Rattle.thread_laws.specs.kernel_rules.specs.Rules.{When, and_then, first_cause, first_of, named}
+pub use Rattle.thread_laws.specs.kernel_rules.specs.Edits.{frames_of}
 pub use Rattle.thread_laws.specs.kernel_rules.specs.Rules.{Lacks, ReachesLacking, with_rights}
 pub use Rattle.thread_laws.specs.kernel_rules.specs.Rules.{not_vacant, or_refuse, outcome, unless, vacant, waits_of}
 pub use Rattle.thread_laws.specs.kernel_rules.specs.Runs.{IsRun, after}
@@ -90,7 +90,8 @@ pub use Rattle.thread_laws.specs.kernel_rules.specs.State.{Leaf, Live, Liveness,
 pub use Rattle.thread_laws.specs.kernel_rules.specs.State.{Quiescing, State, Table, Tcap, TcapFields, Thing, Thread, ThreadFields}
 pub use Rattle.thread_laws.specs.kernel_rules.specs.State.{Untyped, Unused, User, comp_in, comp_of, first_of_stack, put, tcap_in}
 pub use Rattle.thread_laws.specs.kernel_rules.specs.State.{thread_in, thread_of, with_frame, with_grace, with_place}
-pub use Rattle.thread_laws.specs.kernel_rules.specs.TimeCalls.{are_many, are_unlike, is_short, moved, tcap_at}
+pub use Rattle.thread_laws.specs.kernel_rules.specs.TimeCalls.{are_many, are_unlike, is_short}
+pub use Rattle.thread_laws.specs.kernel_rules.specs.Edits.{moved, tcap_at}
 pub use Rattle.thread_laws.specs.kernel_invariant.proofs.Facts.{Suits, named_fit, none_some, some_inj, suits}
 pub use Rattle.thread_laws.specs.kernel_invariant.proofs.Refs.{frame_refs, grace_refs}
 pub use Rattle.thread_laws.specs.kernel_invariant.proofs.Sound.{IsObjectGood, IsSound, IsStack, only_is}

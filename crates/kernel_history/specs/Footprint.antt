@@ -34,7 +34,7 @@ frames_named s c (Name n wanted rest) = frame_of_name (named s c n wanted) ++ fr
 frames_named s c (Vacant target rest) = []
 frames_named s c (Held target rest) = []
 frames_named s c (Mapped table v rest) = []
-frames_named s c (Does causes change) = []
+frames_named s c (Does causes value edits) = []
 
 -- The frame that the entry at a slot names, also where it is removed.
 abbrev pub frame_at_slot : State → Option Slot → List ℕ

@@ -37,7 +37,7 @@ ways s c (Name n wanted rest) = way_to s c (own s c n) ++ ways s c (rest (name_o
 ways s c (Vacant target rest) = way_to s c target
 ways s c (Held target rest) = way_to s c target
 ways s c (Mapped table v rest) = []
-ways s c (Does causes change) = []
+ways s c (Does causes value edits) = []
 
 -- The places through which the names, the target and the page of a rule are reached where removed root entries lead on.
 abbrev pub wide_ways : State → ℕ → Rule → List Slot
@@ -45,7 +45,7 @@ wide_ways s c (Name n wanted rest) = wide_way_to s (own s c n) ++ wide_ways s c 
 wide_ways s c (Vacant target rest) = wide_way_to s target
 wide_ways s c (Held target rest) = wide_way_to s target
 wide_ways s c (Mapped table v rest) = wide_way_to s (Under (root_at table) v)
-wide_ways s c (Does causes change) = []
+wide_ways s c (Does causes value edits) = []
 
 -- The slot of a rule's target, if it has one that is reached.
 abbrev pub target_of : State → ℕ → Rule → Option Slot
@@ -53,7 +53,7 @@ target_of s c (Name n wanted rest) = target_of s c (rest (name_of (named s c n w
 target_of s c (Vacant target rest) = reached s c target
 target_of s c (Held target rest) = reached s c target
 target_of s c (Mapped table v rest) = None
-target_of s c (Does causes change) = None
+target_of s c (Does causes value edits) = None
 
 -- The place at a slot, as a thing.
 abbrev pub thing_at : Option Slot → List Thing
@@ -87,4 +87,4 @@ asked_of of_cause s c (Name n wanted rest) = asked_of of_cause s c (rest (name_o
 asked_of of_cause s c (Vacant target rest) = thing_at (reached s c target) ++ asked_of of_cause s c (rest (slot_of (reached s c target)))
 asked_of of_cause s c (Held target rest) = of_found (held s c target) λ p. asked_of of_cause s c (rest p.0 p.1)
 asked_of of_cause s c (Mapped table v rest) = []
-asked_of of_cause s c (Does causes change) = things_in of_cause causes
+asked_of of_cause s c (Does causes value edits) = things_in of_cause causes

@@ -1,7 +1,7 @@
--- Every call that is carried out is a list of edits, and what is known where each is made.
+-- What is known where each edit of a call is made.
 use Rattle.std.proofs.Common.{◌≡◌, ◌≢◌, ℕ, ◌+◌, ◌-◌, ◌<◌, ◌≤◌, Bool, true, false, not, refl, sym, ◌∙◌, ap, subst, cond, min}
-use Rattle.std.proofs.Common.{◌==◌, nat_lt, nat_le, length, IsTrue, List, [], ◌∷◌, Option, Some, None}
-use Rattle.std.proofs.lemmas.Bool.{false≢true, eqb-false, ltb-false, leb-false}
+use Rattle.std.proofs.Common.{◌==◌, nat_lt, nat_le, length, IsTrue, IsFalse, List, [], ◌∷◌, Option, Some, None}
+use Rattle.std.proofs.lemmas.Bool.{false≢true, true≢false, eqb-false, ltb-false, leb-false}
 use Rattle.spk_nums.specs.Capability.{Capability}
 use Rattle.spk_nums.specs.CallLimits.{InLimits}
 use Rattle.spk_nums.specs.Merging.{merged}
@@ -17,43 +17,46 @@ use Rattle.spk_nums.specs.declared.calls.Call.{Call}
 use Rattle.spk_nums.specs.declared.calls.Call.TheVariants as call
 use Rattle.spk_nums.specs.declared.translations.Translation.{Translation}
 use Rattle.spk_nums.specs.declared.replies.Value.{Value}
-use Rattle.spk_nums.specs.declared.replies.Value.TheVariants.{Nothing, Amount}
 use Rattle.spk_nums.specs.declared.replies.Reply.TheVariants as reply
-use Rattle.kernel_rules.specs.State.{Free, Holds, Object, Blank, Table, Leaf, Pages, Pleaf, Comp, Thread, Tcap, Frame, outstanding}
-use Rattle.kernel_rules.specs.State.{Untyped, User, Kernel}
-use Rattle.kernel_rules.specs.State.{CompFields, TcapFields, Liveness, Live, Grace, Thing, FrameOf, NumberOf, State}
-use Rattle.kernel_rules.specs.State.{put, tcap_in, comp_in, comp_of, thread_in, thread_of}
+use Rattle.kernel_rules.specs.State.{Free, Holds, Object, Blank, Table, Leaf, Pages, Pleaf, Comp, Thread, Tcap, Frame, Untyped, User}
+use Rattle.kernel_rules.specs.State.{Kernel, CompFields, TcapFields, Liveness, Live, Grace, Thing, FrameOf, NumberOf, State, put}
+use Rattle.kernel_rules.specs.State.{with_frame, outstanding, tcap_in, comp_in, comp_of, thread_in, thread_of}
 use Rattle.kernel_rules.specs.Start.{plain_cap, no_grace}
 use Rattle.kernel_rules.specs.References.{refs}
-use Rattle.kernel_rules.specs.Access.{to_use, Slot, Target, Under, InRoot, found, held_in, place_at, only, root}
-use Rattle.kernel_rules.specs.Fitting.{fits, IsGood}
+use Rattle.kernel_rules.specs.Access.{to_use, to_copy, to_part, any, Slot, Target, Under, InRoot, found, held_in, place_at, only, root}
+use Rattle.kernel_rules.specs.Fitting.{fits, IsGood, EndsWithin}
 use Rattle.kernel_rules.specs.Relies.{is_node}
-use Rattle.kernel_rules.specs.Rules.{Change, fills, removes, answers, Cause, When, WaitedFor, Unflushed, Found, named, vacant, held, mapped}
-use Rattle.kernel_rules.specs.Rules.{first_cause, refusal_of, waits_of, flushes_of, Judged, Refused, IsFoundAnd}
-use Rattle.kernel_rules.specs.CapabilityCalls.{outside, not_blank, makes, make_node, make_rule, not_taken, is_live, epoch_of}
-use Rattle.kernel_rules.specs.MemoryCalls.{is_untyped_now, is_empty, not_retyped, retype_rule, touch_by, translation_of, translated}
+use Rattle.kernel_rules.specs.Rules.{Change, does, Cause, When, WaitedFor, Unflushed, Found, named, vacant, held, mapped, first_cause}
+use Rattle.kernel_rules.specs.Rules.{refusal_of, waits_of, flushes_of, Judged, Refused, IsFoundAnd}
+use Rattle.kernel_rules.specs.CapabilityCalls.{leaf_of, outside, not_blank, make_node, make_rule, not_taken, is_live, epoch_of}
+use Rattle.kernel_rules.specs.MemoryCalls.{is_user, not_user, is_untyped_now, is_empty, not_retyped, retype_rule, touch_by, translation_of}
 use Rattle.kernel_rules.specs.Life.{is_live_in}
 use Rattle.kernel_rules.specs.InvocationCalls.{not_live, switch_to}
-use Rattle.kernel_rules.specs.TimeCalls.{tcap_at, with_tcap, with_budget, merged_list, are_same, is_short, are_unlike, are_many, moved}
-use Rattle.kernel_rules.specs.TimeCalls.{is_finer, is_less}
+use Rattle.kernel_rules.specs.TimeCalls.{merged_list, are_same, is_short, are_unlike, are_many, is_finer, is_less}
+use Rattle.kernel_rules.specs.Edits.{tcap_at, with_tcap, with_budget, moved, Edit, Fill, Remove, Node, Become, Untype, Component, Deaden}
 use Rattle.kernel_rules.specs.GracePeriods.{begun}
 use Rattle.kernel_rules.specs.CallRelation.{rule_of, change_of, changed, MayReply, ends_by, flushes_by}
 use Rattle.kernel_rules.proofs.Changes.{IfFound}
-use Rattle.kernel_invariant.proofs.Sound.{put_all}
+use Rattle.kernel_rules.proofs.Within.{put_same}
+use Rattle.kernel_invariant.proofs.Sound.{put_all, IsObjectGood, Extends, from_blank, from_untyped}
 use Rattle.kernel_invariant.proofs.SoundRemovals.{below_by, none_waiting}
-use Rattle.kernel_invariant.proofs.Facts.{ChangesFrom, changes_map, outcome_from, named_good, named_fit, RootIsNode, vacant_facts}
+use Rattle.kernel_invariant.proofs.Facts.{ChangesFrom, EditsFrom, edits_map, outcome_from, named_good, named_fit, RootIsNode, vacant_facts}
 use Rattle.kernel_invariant.proofs.Facts.{held_facts, none_parts, when_not, not_not, first_two, some_none}
-use Rattle.kernel_invariant.proofs.SoundCalls.{IsOpen, node_of, in_range, blank_by, untyped_by, own_thread}
-use Rattle.kernel_invariant.proofs.SoundCalls.{thread_below, tcap_below, root_node, zero_refs}
-use Rattle.kernel_invariant.specs.Edits.{Edit, Fill, Remove, Node, Become, Untype, Component, Deaden, Push, Pop, Switch, Cache, Flush}
-use Rattle.kernel_invariant.specs.Edits.{Charge, Move, Merge, Give, edited, after_edits, begins_in, ends_in, begins_all, ends_all}
-use Rattle.kernel_invariant.specs.Edits.{flush_in, kept_all, charged_by, charged_all, does}
+use Rattle.kernel_invariant.proofs.SoundCalls.{IsOpen, node_of, in_range, blank_by, untyped_by, own_thread, leaf_link, user_is, kind_by}
+use Rattle.kernel_invariant.proofs.SoundCalls.{thread_below, tcap_below, root_node, zero_refs, gate_comp, comp_gate, within_by, part_good}
+use Rattle.kernel_rules.specs.Edits.{Push, Pop, Switch, Cache, Flush, Charge, Move, Merge, Give, edited, after_edits, begins_in, begins_all}
+use Rattle.kernel_invariant.specs.Edits.{ends_in, ends_all, flush_in, kept_all, charged_by, charged_all}
 
--- A frame without an object.
+-- A frame without an object, which may become anything.
 abbrev pub is_bare : Frame → Bool
 is_bare (Kernel Blank) = true
 is_bare Untyped = true
 is_bare _ = false
+
+pub from_bare : (x y : Frame) → IsTrue (is_bare x) → Extends x y
+from_bare (Kernel Blank) y h = from_blank y
+from_bare Untyped y h = from_untyped y
+from_bare _ y h = absurd (false≢true h)
 
 -- What a call tests before an edit of its core c.
 abbrev pub Tested : ℕ → State → Edit → Type 0
@@ -150,6 +153,16 @@ Known c s (Move a b m) = Moves s a b m
 Known c s (Merge f qs) = Merges s f qs
 Known c s (Give f m) = Gives s c f m
 
+-- What keeps a sound state so, where core c makes an edit of it.
+abbrev pub Good : ℕ → State → Edit → Type 0
+Good c s (Fill at k) =
+    IsTrue (is_node (s.frame at.node)) × IsTrue (fits k.kind (s.frame k.frame)) × EndsWithin k.kind k.frame k.arg s.limits.frames
+Good c s (Become f x) = IsObjectGood s x
+Good c s (Component f k) = IsObjectGood s (Kernel (Comp k))
+Good c s (Push f) = IsTrue (fits kind.Comp (s.frame f))
+Good c s (Switch h q) = IsTrue (fits kind.Tcap (s.frame q))
+Good c s _ = Unit {0}
+
 -- Each edit of a list, in the state that it finds.
 abbrev pub Each : (ℕ → State → Edit → Type 0) → ℕ → State → List Edit → Type 0
 Each P c s [] = Unit {0}
@@ -190,15 +203,14 @@ later_number c s (Fill at k ∷ es) l = later_number c (edited c s (Fill at k)) 
 later_number c s (Merge f qs ∷ es) l = later_number c (edited c s (Merge f qs)) es l
 later_number c s (_ ∷ es) l = absurd l
 
--- The change of a call of core c is that of a list of edits.
-pub record Edits (call : Call) (c : ℕ) (s : State) (change : Change) : Type 0 where
-  pub list : List Edit
-  pub is : change ≡ does c s change.value list
+-- What is known of the edits that core c makes for a call.
+pub record Edits (call : Call) (c : ℕ) (s : State) (list : List Edit) : Type 0 where
   pub agrees : Agrees call c list
   pub calm : Calm c s list
   pub tested : Each Tested c s list
   pub limited : InLimits call → Each Limited c s list
   pub known : (o : ℕ → Bool) → IsOpen s o c → Each Known c s list
+  pub good : (o : ℕ → Bool) → IsOpen s o c → Each Good c s list
 
 -- A temporal capability in place of one.
 tcap_fits : (x : Frame) (q : TcapFields) → IsTrue (fits kind.Tcap x) → IsTrue (fits kind.Tcap (with_tcap x q))
@@ -212,6 +224,26 @@ module _ (s : State) (c : ℕ) (o : ℕ → Bool) (h : IsOpen s o c) where
 
   fill_known : (target : Target) (at : Slot) (k : Capability) → RootIsNode s target → vacant s c target ≡ Found at → Known c s (Fill at k)
   fill_known target at k node e = (node_known at (node_of s o c target at h node e), (vacant_facts s c target at e).1)
+
+  fill_good : (target : Target) (at : Slot) (k : Capability) → RootIsNode s target → vacant s c target ≡ Found at
+      → IsTrue (fits k.kind (s.frame k.frame)) → EndsWithin k.kind k.frame k.arg s.limits.frames → Good c s (Fill at k)
+  fill_good target at k node e fit within = ((node_of s o c target at h node e).0, fit, within)
+
+  -- A capability to a frame that has just been given its object.
+  fresh_good : (f : ℕ) (x : Frame) (k : Kind) (target : Target) (at : Slot) → IsTrue (is_bare (s.frame f)) → IsTrue (fits k x)
+      → IsFalse (fits k Untyped) → RootIsNode s target → vacant s c target ≡ Found at
+      → Good c (with_frame s f x) (Fill at (plain_cap k f))
+  fresh_good f x k target at bare fit real node e = (
+    put_all (λ g x. IsTrue (is_node x)) s.frame f x at.node
+        (λ same. (from_bare (s.frame f) x bare).node (subst (λ g. IsTrue (is_node (s.frame g))) same (node_of s o c target at h node e).0))
+        (λ other. (node_of s o c target at h node e).0),
+    subst (λ x. IsTrue (fits k x)) (sym (put_same s.frame f x f refl)) fit,
+    ends k real,
+  )
+    where
+      ends : (k : Kind) → IsFalse (fits k Untyped) → EndsWithin k f 0 s.limits.frames
+      ends kind.Range r = absurd (true≢false r)
+      ends _ r = tt
 
   remove_known : (target : Target) (at : Slot) (k : Capability) → held s c target ≡ Found (at, k) → Known c s (Remove at k)
   remove_known target at k e =
@@ -240,13 +272,15 @@ module _ (s : State) (c : ℕ) (o : ℕ → Bool) (h : IsOpen s o c) where
       record { below = at.0; bare = subst (λ x. IsTrue (is_bare x)) (sym at.1) bare; poor = poor; idle = idle }
 
   fresh : (r f : ℕ) (range : Capability) (causes : List Cause) (object : Object)
-      → named s c r (to_use (only kind.Range)) ≡ Found range → (tcap_in (Kernel object)).budget ≡ 0 → (thread_in (Kernel object)).runs_on ≡ None
+      → named s c r (to_use (only kind.Range)) ≡ Found range
+      → (tcap_in (Kernel object)).budget ≡ 0 → (thread_in (Kernel object)).runs_on ≡ None
       → first_cause s c (outside (found range) f ∷ not_blank s f ∷ causes) ≡ None → TakesFresh s f (Kernel object)
   fresh r f range causes object e poor idle calm =
       fresh_at f (Kernel object) (Kernel Blank) (blank_by s o c r f range causes h e calm) refl poor idle
 
   node_fresh : (r f : ℕ) (range : Capability) (object : Object) (at : Slot) (k : Capability)
-      → named s c r (to_use (only kind.Range)) ≡ Found range → (tcap_in (Kernel object)).budget ≡ 0 → (thread_in (Kernel object)).runs_on ≡ None
+      → named s c r (to_use (only kind.Range)) ≡ Found range
+      → (tcap_in (Kernel object)).budget ≡ 0 → (thread_in (Kernel object)).runs_on ≡ None
       → first_cause s c (outside (found range) f ∷ not_blank s f ∷ []) ≡ None → Known c s (Fill at k)
       → Known c s (Node f object) × Known c (edited c s (Node f object)) (Fill at k)
   node_fresh r f range object at k e poor idle calm place =
@@ -315,79 +349,100 @@ merged_moved s a b m =
 
 -- The calls.
 module _ (s : State) (c : ℕ) where
-  nothing : {v : Value} (call : Call) → Agrees call c [] → Edits call c s (answers s v)
-  nothing call agrees = record { list = []; is = refl; agrees = agrees; calm = tt; tested = tt; limited = λ lim. tt; known = λ o h. tt }
+  nothing : (call : Call) → Agrees call c [] → Edits call c s []
+  nothing call agrees =
+      record { agrees = agrees; calm = tt; tested = tt; limited = λ lim. tt; known = λ o h. tt; good = λ o h. tt }
 
-  one : (call : Call) (e : Edit) (v : Value) → Agrees call c (e ∷ []) → Tested c s e → (InLimits call → Limited c s e)
-      → ((o : ℕ → Bool) → IsOpen s o c → Known c s e) → Edits call c s (does c s v (e ∷ []))
-  one call e v agrees tested limited known = record {
-    list = e ∷ [];
-    is = refl;
+  one : (call : Call) (e : Edit) → Agrees call c (e ∷ []) → Tested c s e → (InLimits call → Limited c s e)
+      → ((o : ℕ → Bool) → IsOpen s o c → Known c s e) → ((o : ℕ → Bool) → IsOpen s o c → Good c s e) → Edits call c s (e ∷ [])
+  one call e agrees tested limited known good = record {
     agrees = agrees;
     calm = (refl, λ x. refl, tt);
     tested = (tested, tt);
     limited = λ lim. (limited lim, tt);
     known = λ o h. (known o h, tt);
+    good = λ o h. (good o h, tt);
   }
 
-  two : (call : Call) (e x : Edit) (v : Value) → Agrees call c (e ∷ x ∷ []) → Calm c s (e ∷ x ∷ [])
+  two : (call : Call) (e x : Edit) → Agrees call c (e ∷ x ∷ []) → Calm c s (e ∷ x ∷ [])
       → Tested c s e × Tested c (edited c s e) x
       → (InLimits call → Limited c s e × Limited c (edited c s e) x)
-      → ((o : ℕ → Bool) → IsOpen s o c → Known c s e × Known c (edited c s e) x) → Edits call c s (does c s v (e ∷ x ∷ []))
-  two call e x v agrees calm tested limited known = record {
-    list = e ∷ x ∷ [];
-    is = refl;
+      → ((o : ℕ → Bool) → IsOpen s o c → Known c s e × Known c (edited c s e) x)
+      → ((o : ℕ → Bool) → IsOpen s o c → Good c s e × Good c (edited c s e) x) → Edits call c s (e ∷ x ∷ [])
+  two call e x agrees calm tested limited known good = record {
     agrees = agrees;
     calm = calm;
     tested = (tested.0, (tested.1, tt));
     limited = λ lim. ((limited lim).0, ((limited lim).1, tt));
     known = λ o h. ((known o h).0, ((known o h).1, tt));
+    good = λ o h. ((good o h).0, ((good o h).1, tt));
   }
 
   filled : (call : Call) (target : Target) (at : Slot) (k : Capability) → Agrees call c (Fill at k ∷ [])
-      → ((o : ℕ → Bool) → IsOpen s o c → RootIsNode s target) → vacant s c target ≡ Found at → Edits call c s (fills s at k)
-  filled call target at k agrees node e =
-      one call (Fill at k) Nothing agrees tt (λ lim. tt) (λ o h. fill_known s c o h target at k (node o h) e)
+      → ((o : ℕ → Bool) → IsOpen s o c → RootIsNode s target) → vacant s c target ≡ Found at
+      → ((o : ℕ → Bool) → IsOpen s o c → IsTrue (fits k.kind (s.frame k.frame)) × EndsWithin k.kind k.frame k.arg s.limits.frames)
+      → Edits call c s (Fill at k ∷ [])
+  filled call target at k agrees node e good =
+      one call (Fill at k) agrees tt (λ lim. tt) (λ o h. fill_known s c o h target at k (node o h) e)
+      (λ o h. fill_good s c o h target at k (node o h) e (good o h).0 (good o h).1)
 
   removed : (call : Call) (target : Target) (at : Slot) (k : Capability) → Agrees call c (Remove at k ∷ [])
-      → held s c target ≡ Found (at, k) → Edits call c s (removes s at k)
-  removed call target at k agrees e = one call (Remove at k) Nothing agrees tt (λ lim. tt) (λ o h. remove_known s c o h target at k e)
+      → held s c target ≡ Found (at, k) → Edits call c s (Remove at k ∷ [])
+  removed call target at k agrees e =
+      one call (Remove at k) agrees tt (λ lim. tt) (λ o h. remove_known s c o h target at k e) (λ o h. tt)
 
   made_node : (call : Call) (object : Object) (k : Kind) (r f t b : ℕ) → IsTrue (is_node (Kernel object))
       → (tcap_in (Kernel object)).budget ≡ 0 → (thread_in (Kernel object)).runs_on ≡ None
+      → IsTrue (fits k (Kernel object)) → IsFalse (fits k Untyped)
       → ((at : Slot) → Agrees call c (Node f object ∷ Fill at (plain_cap k f) ∷ []))
-      → ChangesFrom (Edits call c s) s c (make_node s object k r f t b)
-  made_node call object k r f t b node poor idle agrees = λ range e table g at v calm.
-      two call (Node f object) (Fill at (plain_cap k f)) Nothing (agrees at) (refl, λ x. refl, tt) (tt, tt) (λ lim. (node, tt))
+      → EditsFrom (λ v es. Edits call c s es) s c (make_node s object k r f t b)
+  made_node call object k r f t b node poor idle fit real agrees = λ range e table g at v calm.
+      two call (Node f object) (Fill at (plain_cap k f)) (agrees at) (refl, λ x. refl, tt) (tt, tt) (λ lim. (node, tt))
       (λ o h. node_fresh s c o h r f range object at (plain_cap k f) e poor idle calm
       (fill_known s c o h (Under (found table) b) at (plain_cap k f) tt v))
+      (λ o h. (
+        tt,
+        fresh_good s c o h f (Kernel object) k (Under (found table) b) at
+            (fresh s c o h r f range [] object e poor idle calm).bare fit real tt v,
+      ))
 
   made : (call : Call) (object : Object) (k : Kind) (r f : ℕ) (range : Capability) (target : Target) (at : Slot)
       → is_node (Kernel object) ≡ false → (tcap_in (Kernel object)).budget ≡ 0 → (thread_in (Kernel object)).runs_on ≡ None
       → Agrees call c (Become f (Kernel object) ∷ Fill at (plain_cap k f) ∷ []) → (InLimits call → Limited c s (Become f (Kernel object)))
+      → ((o : ℕ → Bool) → IsOpen s o c → IsObjectGood s (Kernel object)) → IsTrue (fits k (Kernel object)) → IsFalse (fits k Untyped)
       → RootIsNode s target
       → named s c r (to_use (only kind.Range)) ≡ Found range → vacant s c target ≡ Found at
-      → first_cause s c (outside (found range) f ∷ not_blank s f ∷ []) ≡ None → Edits call c s (makes s f object k at)
-  made call object k r f range target at none poor idle agrees limited node e v calm =
-      two call (Become f (Kernel object)) (Fill at (plain_cap k f)) Nothing agrees (refl, λ x. refl, tt) (tt, tt) (λ lim. (limited lim, tt))
+      → first_cause s c (outside (found range) f ∷ not_blank s f ∷ []) ≡ None
+      → Edits call c s (Become f (Kernel object) ∷ Fill at (plain_cap k f) ∷ [])
+  made call object k r f range target at none poor idle agrees limited good fit real node e v calm =
+      two call (Become f (Kernel object)) (Fill at (plain_cap k f)) agrees (refl, λ x. refl, tt) (tt, tt) (λ lim. (limited lim, tt))
       (λ o h. ((none, fresh s c o h r f range [] object e poor idle calm), fill_known s c o h target at (plain_cap k f) node v))
+      (λ o h. (
+        good o h,
+        fresh_good s c o h f (Kernel object) k target at (fresh s c o h r f range [] object e poor idle calm).bare
+            fit real node v,
+      ))
 
-  make_edits : (what : Make) (r f t b : ℕ) → ChangesFrom (Edits (call.Make what r f t b) c s) s c (make_rule s what r f t b)
+  make_edits : (what : Make) (r f t b : ℕ) → EditsFrom (λ v es. Edits (call.Make what r f t b) c s es) s c (make_rule s what r f t b)
   make_edits make.Table r f t b =
-      made_node (call.Make make.Table r f t b) Table kind.Table r f t b refl refl refl (λ at. (λ x. refl, refl, λ x g. refl, refl))
+      made_node (call.Make make.Table r f t b) Table kind.Table r f t b refl refl refl refl refl
+      (λ at. (λ x. refl, refl, λ x g. refl, refl))
   make_edits make.Leaf r f t b =
-      made_node (call.Make make.Leaf r f t b) Leaf kind.Leaf r f t b refl refl refl (λ at. (λ x. refl, refl, λ x g. refl, refl))
+      made_node (call.Make make.Leaf r f t b) Leaf kind.Leaf r f t b refl refl refl refl refl (λ at. (λ x. refl, refl, λ x g. refl, refl))
   make_edits make.Pages r f t b =
-      made_node (call.Make make.Pages r f t b) Pages kind.Pages r f t b refl refl refl (λ at. (λ x. refl, refl, λ x g. refl, refl))
+      made_node (call.Make make.Pages r f t b) Pages kind.Pages r f t b refl refl refl refl refl
+      (λ at. (λ x. refl, refl, λ x g. refl, refl))
   make_edits make.Pleaf r f t b =
-      made_node (call.Make make.Pleaf r f t b) Pleaf kind.Pleaf r f t b refl refl refl (λ at. (λ x. refl, refl, λ x g. refl, refl))
+      made_node (call.Make make.Pleaf r f t b) Pleaf kind.Pleaf r f t b refl refl refl refl refl
+      (λ at. (λ x. refl, refl, λ x g. refl, refl))
   make_edits (make.Thread comp) r f t b = λ range e table g k j at v calm.
       made (call.Make (make.Thread comp) r f t b) (Thread (record { stack = k.frame ∷ []; runs_on = None })) kind.Thread r f range
-      (Under (found table) b) at refl refl refl (λ x. refl, refl, λ x g. refl, refl) (λ lim. refl) tt e v calm
+      (Under (found table) b) at refl refl refl (λ x. refl, refl, λ x g. refl, refl) (λ lim. refl)
+      (λ o h. (named_fit s o c comp kind.Comp k h.sound h.is j, tt)) refl refl tt e v calm
   make_edits (make.Tcap sched quality) r f t b = λ range e table g at v calm.
       made (call.Make (make.Tcap sched quality) r f t b) (Tcap (record { budget = 0; qualities = (sched, quality) ∷ [] }))
       kind.Tcap r f range (Under (found table) b) at refl refl refl (λ x. refl, refl, λ x g. refl, refl)
-      (λ lim. (refl, (lim, tt, tt))) tt e v calm
+      (λ lim. (refl, (lim, tt, tt))) (λ o h. tt) refl refl tt e v calm
   make_edits (make.Comp x p l) r f t b = λ range e table g own_table a own_pages d at v calm.
       let q1 = none_parts (refusal_of s c (outside (found range) f)) (first_cause s c (not_blank s f ∷ not_taken s l)) calm in
       let q2 = none_parts (refusal_of s c (not_blank s f)) (first_cause s c (not_taken s l)) q1.1 in
@@ -396,7 +451,7 @@ module _ (s : State) (c : ℕ) where
       let q5 = none_parts (refusal_of s c (When (epoch_of (s.number l) == s.limits.epochs) reply.EpochsSpent)) None q4.1 in
       let fields : CompFields =
       record { table = own_table.frame; pages = own_pages.frame; number = l; epoch = epoch_of (s.number l) + 1 } in
-      two (call.Make (make.Comp x p l) r f t b) (Component f fields) (Fill at (plain_cap kind.Comp f)) Nothing
+      two (call.Make (make.Comp x p l) r f t b) (Component f fields) (Fill at (plain_cap kind.Comp f))
       (λ x. refl, refl, λ x g. refl, refl) (refl, λ x. refl, tt) (
         (
           when_not (is_live (s.number l)) reply.Occupied q3.0,
@@ -409,14 +464,19 @@ module _ (s : State) (c : ℕ) where
         fresh s c o h r f range (not_taken s l) (Comp fields) e refl refl calm,
         fill_known s c o h (Under (found table) b) at (plain_cap kind.Comp f) tt v,
       ))
+      (λ o h. (
+        (named_fit s o c x kind.Table own_table h.sound h.is a, named_fit s o c p kind.Pages own_pages h.sound h.is d),
+        fresh_good s c o h f (Kernel (Comp fields)) kind.Comp (Under (found table) b) at
+            (fresh s c o h r f range (not_taken s l) (Comp fields) e refl refl calm).bare refl refl tt v,
+      ))
 
-  retype_edits : (r f : ℕ) (k : FrameKind) → ChangesFrom (Edits (call.Retype r f k) c s) s c (retype_rule s r f k)
+  retype_edits : (r f : ℕ) (k : FrameKind) → EditsFrom (λ v es. Edits (call.Retype r f k) c s es) s c (retype_rule s r f k)
   retype_edits r f frame_kind.User = λ range e calm.
-      one (call.Retype r f frame_kind.User) (Become f User) Nothing (λ x. refl, refl, λ x g. refl, refl) tt (λ lim. tt)
-      (λ o h. (refl, fresh_at s c o h f User Untyped (untyped_by s o c r f range h e calm) refl refl refl))
+      one (call.Retype r f frame_kind.User) (Become f User) (λ x. refl, refl, λ x g. refl, refl) tt (λ lim. tt)
+      (λ o h. (refl, fresh_at s c o h f User Untyped (untyped_by s o c r f range h e calm) refl refl refl)) (λ o h. tt)
   retype_edits r f frame_kind.Kernel = λ range e calm.
-      one (call.Retype r f frame_kind.Kernel) (Become f (Kernel Blank)) Nothing (λ x. refl, refl, λ x g. refl, refl) tt (λ lim. tt)
-      (λ o h. (refl, fresh_at s c o h f (Kernel Blank) Untyped (untyped_by s o c r f range h e calm) refl refl refl))
+      one (call.Retype r f frame_kind.Kernel) (Become f (Kernel Blank)) (λ x. refl, refl, λ x g. refl, refl) tt (λ lim. tt)
+      (λ o h. (refl, fresh_at s c o h f (Kernel Blank) Untyped (untyped_by s o c r f range h e calm) refl refl refl)) (λ o h. tt)
   retype_edits r f frame_kind.Untyped = λ range e calm.
       let full : Cause = When (not (is_empty s f (s.frame f))) reply.NotEmpty in
       let referenced : Cause = When (nat_lt 0 (refs s f)) (reply.Referenced (refs s f)) in
@@ -427,83 +487,90 @@ module _ (s : State) (c : ℕ) where
       let p3 = none_parts (waits_of s c (FrameOf f)) (first_cause s c (Unflushed (FrameOf f) ∷ full ∷ [])) p2.1 in
       let p4 = none_parts (flushes_of s (FrameOf f)) (first_cause s c (full ∷ [])) p3.1 in
       let p5 = none_parts (refusal_of s c full) None p4.1 in
-      one (call.Retype r f frame_kind.Untyped) (Untype f) Nothing (λ x. refl, refl, λ x g. refl, refl) p4.0 (λ lim. tt) (λ o h. record {
+      one (call.Retype r f frame_kind.Untyped) (Untype f) (λ x. refl, refl, λ x g. refl, refl) p4.0 (λ lim. tt) (λ o h. record {
         below = in_range s o c r f range h e p.0;
         empty = not_not (is_empty s f (s.frame f)) (when_not (not (is_empty s f (s.frame f))) reply.NotEmpty p5.0);
         unnamed = zero_refs (refs s f) (when_not (nat_lt 0 (refs s f)) (reply.Referenced (refs s f)) p2.0);
         unwaited = none_waiting s c (FrameOf f) p3.0;
-      })
+      }) (λ o h. tt)
 
-  touch_edits : (v : ℕ) (t : Option Translation) → ChangesFrom (Edits (call.Touch v) c s) s c (touch_by s c (comp_of s c).pages v t)
+  touch_edits : (v : ℕ) (t : Option Translation) → EditsFrom (λ x es. Edits (call.Touch v) c s es) s c (touch_by (comp_of s c).pages v t)
   touch_edits v None = λ mapping e calm.
       let t : Translation = record { pages = (comp_of s c).pages; page = v; frame = mapping.frame; flags = record { 0 = mapping.arg } } in
-      one (call.Touch v) (Cache t) (translated t) (λ x. refl, refl, λ x g. refl, refl) (mapping, e, refl) (λ lim. tt)
-      (λ o h. own_core s c o h)
+      one (call.Touch v) (Cache t) (λ x. refl, refl, λ x g. refl, refl) (mapping, e, refl) (λ lim. tt)
+      (λ o h. own_core s c o h) (λ o h. tt)
   touch_edits v (Some t) = λ calm. nothing (call.Touch v) (λ x. refl, refl, λ x g. refl, refl)
 
-  switch_edits : (a b : ℕ) (j k : Capability) → named s c a (to_use (only kind.Thread)) ≡ Found j → (e : Option ℕ)
-      → (thread_in (s.frame j.frame)).runs_on ≡ e
-      → ChangesFrom (Edits (call.Switch a b) c s) s c (switch_to s c (found j) k.frame e)
-  switch_edits a b j k g (Some e) is = λ calm. absurd (some_none (reply.Running e) (none_parts (Some (reply.Running e)) None calm).0)
-  switch_edits a b j k g None is = λ calm.
-      one (call.Switch a b) (Switch j.frame k.frame) Nothing (λ x. refl, refl, λ x g. refl, refl) tt (λ lim. tt)
+  switch_edits : (a b : ℕ) (j k : Capability) → named s c a (to_use (only kind.Thread)) ≡ Found j
+      → named s c b (to_use (only kind.Tcap)) ≡ Found k → (e : Option ℕ) → (thread_in (s.frame j.frame)).runs_on ≡ e
+      → EditsFrom (λ v es. Edits (call.Switch a b) c s es) s c (switch_to (found j) k.frame e)
+  switch_edits a b j k g d (Some e) is = λ calm. absurd (some_none (reply.Running e) (none_parts (Some (reply.Running e)) None calm).0)
+  switch_edits a b j k g d None is = λ calm.
+      one (call.Switch a b) (Switch j.frame k.frame) (λ x. refl, refl, λ x g. refl, refl) tt (λ lim. tt)
       (λ o h. let fit = named_fit s o c a kind.Thread j h.sound h.is g in record {
         core = own_core s c o h;
         old = own_known s c o h;
         new = record { fit = fit; below = thread_below s o j.frame h.sound fit };
         idle = is;
-      })
+      }) (λ o h. named_fit s o c b kind.Tcap k h.sound h.is d)
 
-  pub rule_edits : (call : Call) → ChangesFrom (Edits call c s) s c (rule_of s c call)
+  pub rule_edits : (call : Call) → EditsFrom (λ v es. Edits call c s es) s c (rule_of s c call)
   rule_edits (call.Look a) = λ k e calm. nothing (call.Look a) (λ x. refl, refl, λ x g. refl, refl)
   rule_edits (call.Copy a t b rights) = λ k e table f at g calm.
       filled (call.Copy a t b rights) (Under (found table) b) at (kept k rights.0) (λ x. refl, refl, λ x g. refl, refl) (λ o h. tt) g
+      (λ o h. let good = (named_good s o c a (to_copy any) k h.sound h.is e).0 in (good.fit, good.within))
   rule_edits (call.Remove t b) = λ table e at k g calm.
       removed (call.Remove t b) (Under (found table) b) at k (λ x. refl, refl, λ x g. refl, refl) g
   rule_edits (call.Grow t i l) = λ table e leaf f at g calm.
       filled (call.Grow t i l) (InRoot (found table) i) at (plain_cap kind.Link leaf.frame) (λ x. refl, refl, λ x g. refl, refl)
       (λ o h. let a : IsGood s table × IsTrue (root table.kind) = named_good s o c t (to_use root) table h.sound h.is e in
       root_node table.kind (s.frame table.frame) a.1 a.0.fit) g
+      (λ o h. (leaf_link table.kind (s.frame leaf.frame) (named_fit s o c l (leaf_of table.kind) leaf h.sound h.is f), tt))
   rule_edits (call.Shrink t i) = λ table e at k g calm.
       removed (call.Shrink t i) (InRoot (found table) i) at k (λ x. refl, refl, λ x g. refl, refl) g
   rule_edits (call.Retype r f k) = retype_edits r f k
   rule_edits (call.Make what r f t b) = make_edits what r f t b
   rule_edits (call.Map p v r f w) = λ pages e range g at u calm.
-      filled (call.Map p v r f w) (Under (found pages) v) at _ (λ x. refl, refl, λ x g. refl, refl) (λ o h. tt) u
+      filled (call.Map p v r f w) (Under (found pages) v) at _ (λ x. refl, refl, λ x g. refl, refl) (λ o h. tt) u (λ o h.
+      let q = first_two s c (outside (found range) f) (not_user s f) [] calm in
+      let user = user_is (s.frame f) (kind_by s f (is_user (s.frame f)) (in_range s o c r f range h g q.0) q.1) in
+      (subst (λ x. IsTrue (fits kind.Page x)) (sym user) refl, tt))
   rule_edits (call.Unmap p v) = λ pages e at k g calm.
       removed (call.Unmap p v) (Under (found pages) v) at k (λ x. refl, refl, λ x g. refl, refl) g
   rule_edits (call.Touch v) = touch_edits v (translation_of (s.core c).cached (comp_of s c).pages v)
   rule_edits call.Flush = λ calm.
-      one call.Flush Flush Nothing (λ x. refl, refl, λ x g. refl, refl) tt (λ lim. tt) (λ o h. own_core s c o h)
+      one call.Flush Flush (λ x. refl, refl, λ x g. refl, refl) tt (λ lim. tt) (λ o h. own_core s c o h) (λ o h. tt)
   rule_edits (call.Gate k t b) = λ comp e table f at g calm.
       filled (call.Gate k t b) (Under (found table) b) at _ (λ x. refl, refl, λ x g. refl, refl) (λ o h. tt) g
+      (λ o h. (comp_gate (s.frame comp.frame) (named_fit s o c k kind.Comp comp h.sound h.is e), tt))
   rule_edits (call.Kill k) = λ comp e calm.
       let fields = comp_in (s.frame comp.frame) in
       let p = none_parts (refusal_of s c (not_live s (found comp) fields.number fields.epoch)) None calm in
       let live : is_live_in (s.number fields.number) fields.epoch ≡ true = not_not _ (when_not _ reply.Dead p.0) in
-      one (call.Kill k) (Deaden fields.number fields.epoch) Nothing (λ x. refl, refl, λ x g. refl, refl) live (λ lim. tt)
-      (λ o h. number_small s c o h fields.number fields.epoch (s.number fields.number) refl live)
+      one (call.Kill k) (Deaden fields.number fields.epoch) (λ x. refl, refl, λ x g. refl, refl) live (λ lim. tt)
+      (λ o h. number_small s c o h fields.number fields.epoch (s.number fields.number) refl live) (λ o h. tt)
   rule_edits (call.Call g) = λ gate e calm.
       let p = none_parts (refusal_of s c (When (nat_le 16 (length (thread_of s c).stack)) reply.Deep)) _ calm in
-      one (call.Call g) (Push gate.frame) Nothing (λ x. refl, refl, λ x g. refl, refl)
+      one (call.Call g) (Push gate.frame) (λ x. refl, refl, λ x g. refl, refl)
       (leb-false 16 (length (thread_of s c).stack) (when_not _ reply.Deep p.0)) (λ lim. tt) (λ o h. own_known s c o h)
+      (λ o h. gate_comp (s.frame gate.frame) (named_fit s o c g kind.Gate gate h.sound h.is e))
   rule_edits call.Ret = λ calm.
       let p = none_parts (refusal_of s c (When (nat_le (length (thread_of s c).stack) 1) reply.Bottom)) None calm in
-      one call.Ret Pop Nothing (λ x. refl, refl, λ x g. refl, refl)
-      (leb-false (length (thread_of s c).stack) 1 (when_not _ reply.Bottom p.0)) (λ lim. tt) (λ o h. own_known s c o h)
+      one call.Ret Pop (λ x. refl, refl, λ x g. refl, refl)
+      (leb-false (length (thread_of s c).stack) 1 (when_not _ reply.Bottom p.0)) (λ lim. tt) (λ o h. own_known s c o h) (λ o h. tt)
   rule_edits (call.Switch f q) = λ thread e tcap g.
-      switch_edits f q thread tcap e (thread_in (s.frame thread.frame)).runs_on refl
+      switch_edits f q thread tcap e g (thread_in (s.frame thread.frame)).runs_on refl
   rule_edits (call.Tick n) = λ calm.
-      one (call.Tick n) (Charge n) (Amount _) (λ x. refl, refl, λ x g. refl, refl) tt (λ lim. lim)
-      (λ o h. (own_core s c o h, charge_known s c o h))
+      one (call.Tick n) (Charge n) (λ x. refl, refl, λ x g. refl, refl) tt (λ lim. lim)
+      (λ o h. (own_core s c o h, charge_known s c o h)) (λ o h. tt)
   rule_edits (call.Transfer a b m) = λ j e k f calm.
-      one (call.Transfer a b m) (Move j.frame k.frame m) Nothing (λ x. refl, refl, λ x g. refl, refl) tt (λ lim. tt)
-      (λ o h. moves_known s c o h a b m j k (are_unlike s (found j) (found k) ∷ []) e f calm)
+      one (call.Transfer a b m) (Move j.frame k.frame m) (λ x. refl, refl, λ x g. refl, refl) tt (λ lim. tt)
+      (λ o h. moves_known s c o h a b m j k (are_unlike s (found j) (found k) ∷ []) e f calm) (λ o h. tt)
   rule_edits (call.Delegate a b m) = λ j e k f calm.
       let p = none_parts (refusal_of s c (are_same (found j) (found k))) _ calm in
       let q = none_parts (refusal_of s c (is_short s (found j) m)) _ p.1 in
       let r = none_parts (refusal_of s c (are_many s (found j) (found k))) None q.1 in
-      two (call.Delegate a b m) (Move j.frame k.frame m) (Merge k.frame (merged_list s j.frame k.frame)) Nothing
+      two (call.Delegate a b m) (Move j.frame k.frame m) (Merge k.frame (merged_list s j.frame k.frame))
       (λ x. refl, refl, λ x g. refl, refl) (refl, λ x. refl, tt) (tt, tt) (λ lim. (tt, tt)) (λ o h. (
         moves_known s c o h a b m j k (are_many s (found j) (found k) ∷ []) e f calm,
         record {
@@ -513,30 +580,31 @@ module _ (s : State) (c : ℕ) where
           is = merged_moved s j.frame k.frame m;
           few = ltb-false 8 (length (merged_list s j.frame k.frame)) (when_not _ reply.TooMany r.0);
         },
-      ))
+      )) (λ o h. (tt, tt))
   rule_edits (call.Test a b) = λ j e k f calm. nothing (call.Test a b) (λ x. refl, refl, λ x g. refl, refl)
   rule_edits (call.Replenish a m) = λ j e calm.
-      one (call.Replenish a m) (Give j.frame m) Nothing (λ x. refl, refl, λ x g. refl, refl) tt (λ lim. tt)
-      (λ o h. gives_known s c o h a m j e calm)
+      one (call.Replenish a m) (Give j.frame m) (λ x. refl, refl, λ x g. refl, refl) tt (λ lim. tt)
+      (λ o h. gives_known s c o h a m j e calm) (λ o h. tt)
   rule_edits (call.Part r f n t b) = λ k e table g at u calm.
       filled (call.Part r f n t b) (Under (found table) b) at (part_of k f n) (λ x. refl, refl, λ x g. refl, refl) (λ o h. tt) u
+      (λ o h. let a : IsGood s k × IsTrue (only kind.Range k.kind) = named_good s o c r (to_part (only kind.Range)) k h.sound h.is e in
+      let good = part_good s k f n a.0 a.1 (within_by s c k f n calm) in (good.fit, good.within))
 
-  -- What holds of every change that is a list of edits holds of a call's.
-  pub rule_by : (call : Call) (P : Change → Type 0) → ((change : Change) → Edits call c s change → P change)
+  -- What holds of such edits holds of a call's change.
+  pub rule_by : (call : Call) (P : Change → Type 0) → ((v : Value) (es : List Edit) → Edits call c s es → P (does c s v es))
       → ChangesFrom P s c (rule_of s c call)
-  rule_by call P by = changes_map (Edits call c s) P s c (rule_of s c call) by (rule_edits call)
+  rule_by call P by = edits_map (λ v es. Edits call c s es) (λ v es. P (does c s v es)) s c (rule_of s c call) by (rule_edits call)
 
-  pub found_by : (call : Call) (P : Change → Type 0) → ((change : Change) → Edits call c s change → P change)
+  pub found_by : (call : Call) (P : Change → Type 0) → ((v : Value) (es : List Edit) → Edits call c s es → P (does c s v es))
       → IfFound (change_of s c call) P
   found_by call P by = outcome_from P s c (rule_of s c call) (rule_by call P by)
 
   -- What holds after the edits of a call, whose grace periods begin, holds after its answer `ok`.
   pub after_ok : (call : Call) (v : Value) (Q : State → Type 0) → MayReply s c call (reply.Ok v)
-      → ((change : Change) (e : Edits call c s change) → Q (begun s (begins_all c s e.list) (after_edits c s e.list)))
+      → ((es : List Edit) → Edits call c s es → Q (begun s (begins_all c s es) (after_edits c s es)))
       → Q (changed s (change_of s c call))
-  after_ok call v Q may by = found_after (change_of s c call)
-      (found_by call (λ change. Q (begun s change.begins change.next))
-      (λ change e. subst (λ (k : Change). Q (begun s k.begins k.next)) (sym e.is) (by change e))) may.1.1
+  after_ok call v Q may by =
+      found_after (change_of s c call) (found_by call (λ change. Q (begun s change.begins change.next)) (λ x es e. by es e)) may.1.1
     where
       found_after : (x : Judged Change) → IfFound x (λ change. Q (begun s change.begins change.next))
           → IsFoundAnd x (λ k. k.value ≡ v) → Q (changed s x)

@@ -9,7 +9,8 @@ use Rattle.kernel_rules.specs.References.{refs}
 use Rattle.kernel_rules.specs.Rules.{Judged, Refused, Found, IsFoundAnd}
 use Rattle.kernel_rules.specs.CallRelation.{change_of, ends, MayReply}
 use Rattle.kernel_rules.proofs.Changes.{IfFound}
-use Rattle.kernel_invariant.specs.Edits.{Edit, Node, Untype, ends_in, ends_all}
+use Rattle.kernel_invariant.specs.Edits.{ends_in, ends_all}
+use Rattle.kernel_rules.specs.Edits.{Edit, Node, Untype}
 use Rattle.kernel_invariant.proofs.Edited.{Known, Each, Calm, found_by}
 use Rattle.kernel_invariant.proofs.SoundCalls.{IsOpen}
 
@@ -39,5 +40,5 @@ pub ends_by_rule : (s : State) (o : ℕ → Bool) (d : ℕ) → IsOpen s o d
     → (call : Call) (r : Reply) (x : Thing) → MayReply s d call r → ends call r x ≡ true → MayEnd s d x
 ends_by_rule s o d opens call (reply.Ok v) x may h =
     found_fact (change_of s d call) (λ k. k.value ≡ v) (found_by s d call (λ change. MayEnd s d x)
-    (λ change e. edits_end d s e.list e.calm (e.known o opens) x (sym (e.agrees.0 x) ∙ h))) may.1.1
+    (λ v es e. edits_end d s es e.calm (e.known o opens) x (sym (e.agrees.0 x) ∙ h))) may.1.1
 ends_by_rule s o d opens call _ x may h = absurd (false≢true h)

@@ -6,13 +6,14 @@ use Rattle.spk_nums.specs.Capability.{Capability}
 use Rattle.spk_nums.specs.Rights.{has_rights}
 use Rattle.spk_nums.specs.declared.kinds.Kind.{Kind}
 use Rattle.spk_nums.specs.declared.kinds.Kind.TheVariants as kind
+use Rattle.spk_nums.specs.declared.replies.Value.{Value}
 use Rattle.spk_nums.specs.declared.replies.Reply.{Reply}
 use Rattle.spk_nums.specs.declared.replies.Reply.TheVariants as reply
-use Rattle.kernel_rules.specs.State.{Place, Free, Holds, Quiescing, Frame, Kernel}
-use Rattle.kernel_rules.specs.State.{Leaf, Pleaf, PlaceOf, State}
+use Rattle.kernel_rules.specs.State.{Place, Free, Holds, Quiescing, Frame, Kernel, Leaf, Pleaf, PlaceOf, State}
 use Rattle.kernel_rules.specs.Access.{Slot, found, Want, to_use, Target, Under, InRoot, place_at, held_in, usable_in}
 use Rattle.kernel_rules.specs.Access.{usable, linked, slot_in, reached, root_slot, only, own}
-use Rattle.kernel_rules.specs.Rules.{Change, Cause, Rule, Name, Vacant, Held, Mapped, Does, Judged}
+use Rattle.kernel_rules.specs.Edits.{Edit}
+use Rattle.kernel_rules.specs.Rules.{Change, does, Cause, Rule, Name, Vacant, Held, Mapped, Does, Judged}
 use Rattle.kernel_rules.specs.Rules.{Refused, Found, and_then, unless, or_refuse, with_rights, of_kind, named, first_of}
 use Rattle.kernel_rules.specs.Rules.{not_vacant, vacant, held, mapped, refusal_of, first_cause, outcome}
 use Rattle.kernel_rules.proofs.Changes.{IfFound}
@@ -20,21 +21,25 @@ use Rattle.kernel_rules.specs.Fitting.{fits, IsGood}
 use Rattle.kernel_rules.specs.Relies.{is_node}
 use Rattle.kernel_invariant.proofs.Sound.{IsSound, only_is}
 
+-- P holds of the value and the edits of a rule where it is carried out.
+abbrev pub EditsFrom : (Value → List Edit → Type 0) → State → ℕ → Rule → Type 0
+EditsFrom P s c (Name n want rest) = (k : Capability) → named s c n want ≡ Found k → EditsFrom P s c (rest (found k))
+EditsFrom P s c (Vacant target rest) = (at : Slot) → vacant s c target ≡ Found at → EditsFrom P s c (rest at)
+EditsFrom P s c (Held target rest) = (at : Slot) (k : Capability) → held s c target ≡ Found (at, k) → EditsFrom P s c (rest at k)
+EditsFrom P s c (Mapped table v rest) = (k : Capability) → mapped s c table v ≡ Found k → EditsFrom P s c (rest k)
+EditsFrom P s c (Does causes value edits) = first_cause s c causes ≡ None → P value edits
+
+pub edits_map : (P Q : Value → List Edit → Type 0) (s : State) (c : ℕ) (rule : Rule) → ((v : Value) (es : List Edit) → P v es → Q v es)
+    → EditsFrom P s c rule → EditsFrom Q s c rule
+edits_map P Q s c (Name n want rest) f h = λ k e. edits_map P Q s c (rest (found k)) f (h k e)
+edits_map P Q s c (Vacant target rest) f h = λ at e. edits_map P Q s c (rest at) f (h at e)
+edits_map P Q s c (Held target rest) f h = λ at k e. edits_map P Q s c (rest at k) f (h at k e)
+edits_map P Q s c (Mapped table v rest) f h = λ k e. edits_map P Q s c (rest k) f (h k e)
+edits_map P Q s c (Does causes value edits) f h = λ calm. f value edits (h calm)
+
 -- P holds of the change that a rule makes where it is carried out.
 abbrev pub ChangesFrom : (Change → Type 0) → State → ℕ → Rule → Type 0
-ChangesFrom P s c (Name n want rest) = (k : Capability) → named s c n want ≡ Found k → ChangesFrom P s c (rest (found k))
-ChangesFrom P s c (Vacant target rest) = (at : Slot) → vacant s c target ≡ Found at → ChangesFrom P s c (rest at)
-ChangesFrom P s c (Held target rest) = (at : Slot) (k : Capability) → held s c target ≡ Found (at, k) → ChangesFrom P s c (rest at k)
-ChangesFrom P s c (Mapped table v rest) = (k : Capability) → mapped s c table v ≡ Found k → ChangesFrom P s c (rest k)
-ChangesFrom P s c (Does causes change) = first_cause s c causes ≡ None → P change
-
-pub changes_map : (P Q : Change → Type 0) (s : State) (c : ℕ) (rule : Rule) → ((x : Change) → P x → Q x)
-    → ChangesFrom P s c rule → ChangesFrom Q s c rule
-changes_map P Q s c (Name n want rest) f h = λ k e. changes_map P Q s c (rest (found k)) f (h k e)
-changes_map P Q s c (Vacant target rest) f h = λ at e. changes_map P Q s c (rest at) f (h at e)
-changes_map P Q s c (Held target rest) f h = λ at k e. changes_map P Q s c (rest at k) f (h at k e)
-changes_map P Q s c (Mapped table v rest) f h = λ k e. changes_map P Q s c (rest k) f (h k e)
-changes_map P Q s c (Does causes change) f h = λ calm. f change (h calm)
+ChangesFrom P s c rule = EditsFrom (λ v es. P (does c s v es)) s c rule
 
 then_found : {A B : Type 0} (x : Judged A) (f : A → Judged B) (P : B → Type 0)
     → ((a : A) → x ≡ Found a → IfFound (f a) P) → IfFound (and_then x f) P
@@ -54,7 +59,7 @@ outcome_from P s c (Held target rest) h =
     then_found (held s c target) (λ p. outcome s c (rest p.0 p.1)) P λ p e. outcome_from P s c (rest p.0 p.1) (h p.0 p.1 e)
 outcome_from P s c (Mapped table v rest) h =
     then_found (mapped s c table v) (λ k. outcome s c (rest k)) P λ k e. outcome_from P s c (rest k) (h k e)
-outcome_from P s c (Does causes change) h = unless_found (first_cause s c causes) change P h
+outcome_from P s c (Does causes value edits) h = unless_found (first_cause s c causes) (does c s value edits) P h
 
 pub some_inj : {A : Type 0} (x y : A) → Some x ≡ Some y → x ≡ y
 some_inj x y e = cc

@@ -4,21 +4,21 @@ use Rattle.std.proofs.Common.{◌≡◌, ◌⊎◌, inl, inr, ℕ, ◌-◌, Bool
 use Rattle.std.proofs.lemmas.Bool.{false≢true, eq-eqb}
 use Rattle.spk_nums.specs.declared.calls.Call.{Call}
 use Rattle.spk_nums.specs.declared.calls.Call.TheVariants.{Tick}
+use Rattle.spk_nums.specs.declared.replies.Value.{Value}
 use Rattle.spk_nums.specs.declared.replies.Reply.{Reply}
 use Rattle.spk_nums.specs.declared.replies.Reply.TheVariants as reply
 use Rattle.kernel_rules.specs.State.{ThreadFields, TcapFields, Blank, Comp, Thread, Tcap}
 use Rattle.kernel_rules.specs.State.{Frame, Untyped, Kernel, Thing, PlaceOf, FrameOf, State, put}
 use Rattle.kernel_rules.specs.GracePeriods.{is_translated}
-use Rattle.kernel_rules.specs.Rules.{Change, Judged, Refused, Found}
-use Rattle.kernel_rules.specs.InvocationCalls.{with_thread, running}
-use Rattle.kernel_rules.specs.TimeCalls.{with_tcap, with_budget, tcap_at}
+use Rattle.kernel_rules.specs.Rules.{Change, does, Judged, Refused, Found}
+use Rattle.kernel_rules.specs.Edits.{with_thread, running, with_tcap, with_budget, tcap_at, Edit, Node, Become, Untype, Component, Push}
+use Rattle.kernel_rules.specs.Edits.{Pop, Switch, Charge, Move, Merge, Give, edited, after_edits}
 use Rattle.kernel_rules.specs.CallRelation.{change_of, changed, owed_by, state_by, ends, ends_by}
 use Rattle.kernel_rules.specs.Relies.{is_node}
 use Rattle.kernel_rules.proofs.Changes.{IfFound}
 use Rattle.kernel_invariant.proofs.Sound.{put_all}
 use Rattle.kernel_invariant.proofs.SoundCalls.{IsOpen}
-use Rattle.kernel_invariant.specs.Edits.{Edit, Node, Become, Untype, Component, Push, Pop, Switch, Charge, Move, Merge, Give}
-use Rattle.kernel_invariant.specs.Edits.{edited, after_edits, ends_in, ends_all}
+use Rattle.kernel_invariant.specs.Edits.{ends_in, ends_all}
 use Rattle.kernel_invariant.proofs.Edited.{is_bare, Known, Each, Edits, found_by}
 
 -- Whether a frame is something: a user frame, or has an object.
@@ -111,22 +111,20 @@ edit_turns c s _ k = λ f. turns_same _ f (s.frame f)
 edits_turn : (c : ℕ) (s : State) (es : List Edit) → Each Known c s es
     → (f : ℕ) → Turns (ends_all es) f (s.frame f) ((after_edits c s es).frame f)
 edits_turn c s [] k f = turns_same _ f (s.frame f)
-edits_turn c s (e ∷ []) k f = edit_turns c s e k.0 f
-edits_turn c s (e ∷ (x ∷ es)) k f = turns_then _ _ f (s.frame f) ((edited c s e).frame f) _ (edit_turns c s e k.0 f)
-    (edits_turn c (edited c s e) (x ∷ es) k.1 f)
+edits_turn c s (e ∷ es) k f =
+    turns_then _ _ f (s.frame f) ((edited c s e).frame f) _ (edit_turns c s e k.0 f) (edits_turn c (edited c s e) es k.1 f)
 
 -- The change of a call turns frames so.
 abbrev TurnsBy : State → Call → Change → Type 0
 TurnsBy s call change = (f : ℕ) → Turns (ends_by call) f (s.frame f) (change.next.frame f)
 
-turns_by : (s : State) (o : ℕ → Bool) (d : ℕ) → IsOpen s o d → (call : Call) (change : Change) → Edits call d s change
-    → TurnsBy s call change
-turns_by s o d h call change e f =
-    let t : Turns (ends_all e.list) f (s.frame f) (change.next.frame f) =
-    subst (λ (k : Change). Turns (ends_all e.list) f (s.frame f) (k.next.frame f)) (sym e.is) (edits_turn d s e.list (e.known o h) f) in
+turns_by : (s : State) (o : ℕ → Bool) (d : ℕ) → IsOpen s o d → (call : Call) (v : Value) (es : List Edit) → Edits call d s es
+    → TurnsBy s call (does d s v es)
+turns_by s o d h call v es e f =
+    let t : Turns (ends_all es) f (s.frame f) ((after_edits d s es).frame f) = edits_turn d s es (e.known o h) f in
     record { node = λ i n. ends (PlaceOf f i) (t.node i n); typed = λ h. ends (FrameOf f) (t.typed h) }
   where
-    ends : {P : Type 0} (x : Thing) → (ends_all e.list x ≡ true) ⊎ P → (ends_by call x ≡ true) ⊎ P
+    ends : {P : Type 0} (x : Thing) → (ends_all es x ≡ true) ⊎ P → (ends_by call x ≡ true) ⊎ P
     ends x (inl is) = inl (e.agrees.0 x ∙ is)
     ends x (inr p) = inr p
 

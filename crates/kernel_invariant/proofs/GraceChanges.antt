@@ -9,12 +9,13 @@ use Rattle.spk_nums.specs.declared.replies.Reply.{Reply}
 use Rattle.spk_nums.specs.declared.replies.Reply.TheVariants as reply
 use Rattle.kernel_rules.specs.State.{Grace, Thing, State, put}
 use Rattle.kernel_rules.specs.Start.{no_grace}
-use Rattle.kernel_rules.specs.GracePeriods.{same_thing, new_grace}
-use Rattle.kernel_rules.specs.Rules.{Change, Judged, Refused, Found, IsFoundAnd}
+use Rattle.kernel_rules.specs.GracePeriods.{same_thing, new_grace, begun}
+use Rattle.kernel_rules.specs.Rules.{Change, does, Judged, Refused, Found, IsFoundAnd}
 use Rattle.kernel_rules.specs.CallRelation.{change_of, changed, owed_by, state_by, MayReply}
 use Rattle.kernel_rules.specs.CallRelation.{begins, begins_in, ends, ends_by, flushes, flushes_by}
 use Rattle.kernel_rules.proofs.Changes.{IfFound}
-use Rattle.kernel_invariant.specs.Edits.{Edit, Node, edited, after_edits, kept_in, kept_all}
+use Rattle.kernel_invariant.specs.Edits.{kept_in, kept_all}
+use Rattle.kernel_rules.specs.Edits.{Edit, Node, edited, after_edits, begins_all}
 use Rattle.kernel_invariant.proofs.Edited.{Edits, found_by}
 
 -- A grace period as core c flushes.
@@ -38,13 +39,20 @@ abbrev pub grace_by : State → ℕ → Call → Reply → Thing → Grace
 grace_by s c call r x = cond (begins s c call r x) (new_grace s x)
     (cond (ends call r x) no_grace (cond (flushes call r) (flushed_by c (s.grace x)) (s.grace x)))
 
+-- The grace periods after a change that a call makes.
+abbrev GraceBy : State → ℕ → Call → Change → Type 0
+GraceBy s c call change = (x : Thing) → (begun s change.begins change.next).grace x
+    ≡ cond (list_any (same_thing x) change.begins) (new_grace s x) (kept_by call c x (s.grace x))
+
 changed_grace : (s : State) (c : ℕ) (call : Call) (v : Value) (found : Judged Change)
-    → IfFound found (Edits call c s) → IsFoundAnd found (λ k. k.value ≡ v)
+    → IfFound found (GraceBy s c call) → IsFoundAnd found (λ k. k.value ≡ v)
     → (x : Thing) → (changed s found).grace x ≡ cond (begins_in found x) (new_grace s x) (kept_by call c x (s.grace x))
 changed_grace s c call v (Refused r) by ok x = absurd ok
-changed_grace s c call v (Found change) by ok x =
-    ap (cond (list_any (same_thing x) change.begins) (new_grace s x))
-    (ap (λ (k : Change). k.next.grace x) by.is ∙ edits_grace c s by.list x ∙ by.agrees.2 x (s.grace x))
+changed_grace s c call v (Found change) by ok x = by x
+
+grace_by_edits : (s : State) (c : ℕ) (call : Call) (v : Value) (es : List Edit) → Edits call c s es → GraceBy s c call (does c s v es)
+grace_by_edits s c call v es e x =
+    ap (cond (list_any (same_thing x) (begins_all c s es)) (new_grace s x)) (edits_grace c s es x ∙ e.agrees.2 x (s.grace x))
 
 owed_grace : (s : State) (c : ℕ) (call : Call) (x : Thing) → (owed_by s c call).grace x ≡ s.grace x
 owed_grace s c (Tick n) x = refl
@@ -53,7 +61,7 @@ owed_grace s c _ x = refl
 pub grace_is : (s : State) (c : ℕ) (call : Call) (r : Reply) → MayReply s c call r
     → (x : Thing) → (state_by s c call r).grace x ≡ grace_by s c call r x
 grace_is s c call (reply.Ok v) may x =
-    changed_grace s c call v (change_of s c call) (found_by s c call (Edits call c s) (λ change e. e)) may.1.1 x
+    changed_grace s c call v (change_of s c call) (found_by s c call (GraceBy s c call) (grace_by_edits s c call)) may.1.1 x
 grace_is s c call reply.CallsSpent may x = refl
 grace_is s c call reply.Raced may x = owed_grace s c call x
 grace_is s c call (reply.Busy d) may x = owed_grace s c call x

@@ -9,10 +9,10 @@ pub mod Sound
 pub mod SoundSteps
 pub mod SoundRemovals
 pub mod SoundCalls
+pub mod Edited
+pub mod SoundEdits
 pub mod SoundStart
 pub mod SoundRuns
--- Changes as lists of edits.
-pub mod Edited
 -- References.
 pub mod Sums
 pub mod Refs

@@ -1,29 +1,28 @@
 -- Every edit changes the references to a frame by those that it takes less those that it releases.
 use Rattle.std.proofs.Common.{◌≡◌, ℕ, ◌+◌, ◌-◌, ◌<◌, Bool, true, false, refl, sym, ◌∙◌, ap, arith}
-use Rattle.std.proofs.Common.{◌==◌, if◌then◌else◌, IsTrue, List, [], ◌∷◌, ◌++◌, subst, take, drop, Option, Some, None}
+use Rattle.std.proofs.Common.{◌==◌, if◌then◌else◌, IsTrue, List, [], ◌∷◌, ◌++◌, take, drop, Option, Some, None}
 use Rattle.std.proofs.lemmas.Bool.{false≢true, true≢false, eqb-true}
 use Rattle.spk_nums.specs.Capability.{Capability}
 use Rattle.spk_nums.specs.CallLimits.{InLimits}
 use Rattle.spk_nums.specs.declared.calls.Call.{Call}
 use Rattle.spk_nums.specs.declared.kinds.Kind.TheVariants as kind
-use Rattle.kernel_rules.specs.State.{Place, Free, Holds, Quiescing, ThreadFields, TcapFields, Comp, Blank}
-use Rattle.kernel_rules.specs.State.{Thread, Tcap, Frame, Untyped, Kernel, Liveness}
-use Rattle.kernel_rules.specs.State.{Live, Dead, Core, Thing, FrameOf, State, put, with_place, with_frame}
-use Rattle.kernel_rules.specs.State.{with_number, with_core, with_grace, Grace, thread_in, thread_of}
+use Rattle.kernel_rules.specs.State.{Place, Free, Holds, Quiescing, ThreadFields, TcapFields, Comp, Blank, Thread, Tcap, Frame, Untyped}
+use Rattle.kernel_rules.specs.State.{Kernel, Liveness, Live, Dead, Core, Thing, FrameOf, State, put, with_place, with_frame, with_number}
+use Rattle.kernel_rules.specs.State.{with_core, with_grace, Grace, thread_in, thread_of}
 use Rattle.kernel_rules.specs.References.{place_names, frame_names, number_names, core_names, sum_below, times, node_refs, refs}
 use Rattle.kernel_rules.specs.Access.{held_in}
-use Rattle.kernel_rules.specs.Rules.{Change, frames_of}
-use Rattle.kernel_rules.specs.CapabilityCalls.{cleared, is_live}
+use Rattle.spk_nums.specs.declared.replies.Value.{Value}
+use Rattle.kernel_rules.specs.Rules.{Change, does}
+use Rattle.kernel_rules.specs.Edits.{frames_of, cleared, with_thread, with_stack, running, tcap_at, with_tcap, with_budget, Edit, Fill}
+use Rattle.kernel_rules.specs.CapabilityCalls.{is_live}
+use Rattle.kernel_rules.specs.Edits.{Remove, Node, Become, Untype, Component, Deaden, Push, Pop, Switch, Cache, Flush, Charge, Move, Merge}
 use Rattle.kernel_rules.specs.CallRelation.{rule_of}
-use Rattle.kernel_rules.specs.InvocationCalls.{with_thread, with_stack, running}
-use Rattle.kernel_rules.specs.TimeCalls.{tcap_at, with_tcap, with_budget}
+use Rattle.kernel_rules.specs.Edits.{Give, edited, after_edits, takes_in, begins_in, takes_all, begins_all}
 use Rattle.kernel_rules.specs.Laws.{released}
 use Rattle.kernel_rules.specs.Fitting.{fits}
 use Rattle.kernel_rules.proofs.Within.{put_same, put_other}
 use Rattle.kernel_invariant.proofs.Sums.{sum_same, sum_one, times_cons, times_append}
 use Rattle.kernel_invariant.proofs.Sound.{put_all}
-use Rattle.kernel_invariant.specs.Edits.{Edit, Fill, Remove, Node, Become, Untype, Component, Deaden, Push, Pop, Switch, Cache, Flush}
-use Rattle.kernel_invariant.specs.Edits.{Charge, Move, Merge, Give, edited, after_edits, takes_in, begins_in, takes_all, begins_all}
 use Rattle.kernel_invariant.proofs.Facts.{ChangesFrom, some_none}
 use Rattle.kernel_invariant.proofs.SoundCalls.{IsOpen}
 use Rattle.kernel_invariant.proofs.Edited.{is_bare, Tested, Limited, Known, Each, Edits, HasThread, rule_by}
@@ -249,19 +248,16 @@ times_released f (_ ∷ xs) ys = times_released f xs ys
 edits_refs : (c : ℕ) (s : State) (es : List Edit) → Each Tested c s es → Each Limited c s es → Each Known c s es → (f : ℕ)
     → refs (after_edits c s es) f + times f (released (begins_all c s es)) ≡ refs s f + times f (takes_all c s es)
 edits_refs c s [] tested lim h f = refl
-edits_refs c s (e ∷ []) tested lim h f = edit_refs c s e tested.0 lim.0 h.0 f
-edits_refs c s (e ∷ (x ∷ es)) tested lim h f =
+edits_refs c s (e ∷ es) tested lim h f =
     let a = edit_refs c s e tested.0 lim.0 h.0 f in
-    let b = edits_refs c (edited c s e) (x ∷ es) tested.1 lim.1 h.1 f in
-    let d = times_append f (takes_all c (edited c s e) (x ∷ es)) (takes_in c s e) in
-    let g = times_released f (begins_in c s e) (begins_all c (edited c s e) (x ∷ es)) in
+    let b = edits_refs c (edited c s e) es tested.1 lim.1 h.1 f in
+    let d = times_append f (takes_all c (edited c s e) es) (takes_in c s e) in
+    let g = times_released f (begins_all c (edited c s e) es) (begins_in c s e) in
     omega (arith, a, b, d, g)
 
 pub refs_by : (s : State) (o : ℕ → Bool) (c : ℕ) → IsOpen s o c → (call : Call) → InLimits call
-    → (change : Change) → Edits call c s change → RefsBy s change
-refs_by s o c h call lim change e f =
-    subst (λ (k : Change). refs k.next f + times f (released k.begins) ≡ refs s f + times f k.takes) (sym e.is)
-    (edits_refs c s e.list e.tested (e.limited lim) (e.known o h) f)
+    → (v : Value) (es : List Edit) → Edits call c s es → RefsBy s (does c s v es)
+refs_by s o c h call lim v es e f = edits_refs c s es e.tested (e.limited lim) (e.known o h) f
 
 pub rule_refs : (s : State) (o : ℕ → Bool) (c : ℕ) → IsOpen s o c
     → (call : Call) → InLimits call → ChangesFrom (RefsBy s) s c (rule_of s c call)

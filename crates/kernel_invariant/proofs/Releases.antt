@@ -6,18 +6,19 @@ use Rattle.std.specs.List.{list_any}
 use Rattle.spk_nums.specs.declared.kinds.Kind.{Kind}
 use Rattle.spk_nums.specs.declared.kinds.Kind.TheVariants as kind
 use Rattle.spk_nums.specs.declared.calls.Call.{Call}
+use Rattle.spk_nums.specs.declared.replies.Value.{Value}
 use Rattle.spk_nums.specs.declared.replies.Reply.{Reply}
 use Rattle.spk_nums.specs.declared.replies.Reply.TheVariants as reply
 use Rattle.kernel_rules.specs.State.{Untyped, Blank, Comp, Thread, Frame, Kernel, Liveness, Live, Thing}
 use Rattle.kernel_rules.specs.State.{FrameOf, State, thread_in, thread_of}
 use Rattle.kernel_rules.specs.References.{named_by, frame_names, number_names, times, refs}
 use Rattle.kernel_rules.specs.GracePeriods.{same_thing}
-use Rattle.kernel_rules.specs.Rules.{Change, Judged, Refused, Found, frames_of}
-use Rattle.kernel_rules.specs.CallRelation.{change_of, begins, ends, MayReply}
-use Rattle.kernel_rules.specs.CallRelation.{begins_in as begun_in}
+use Rattle.kernel_rules.specs.Rules.{Change, does, Judged, Refused, Found}
+use Rattle.kernel_rules.specs.Edits.{frames_of, Edit, Remove, Node, Untype, Deaden, Pop, Switch, begins_in, begins_all}
+use Rattle.kernel_rules.specs.CallRelation.{change_of, begins, ends, MayReply, begins_in as begun_in}
 use Rattle.kernel_rules.specs.Fitting.{fits}
 use Rattle.kernel_rules.proofs.Changes.{IfFound}
-use Rattle.kernel_invariant.specs.Edits.{Edit, Remove, Node, Untype, Deaden, Pop, Switch, begins_in, begins_all, ends_in, ends_all}
+use Rattle.kernel_invariant.specs.Edits.{ends_in, ends_all}
 use Rattle.kernel_invariant.proofs.Sound.{AreComps, IsStack, IsObjectGood, IsSound}
 use Rattle.kernel_invariant.proofs.SoundCalls.{IsOpen}
 use Rattle.kernel_invariant.proofs.Edited.{Known, Each, Calm, Edits, found_by}
@@ -115,9 +116,8 @@ module _ (s : State) (o : ℕ → Bool) (d : ℕ) (h : IsOpen s o d) where
   edits_release [] calm known f is = absurd (false≢true is)
   edits_release (e ∷ es) calm known f is = edit_releases e known.0 f (sym (ap (list_any (same_thing (FrameOf f))) calm.0) ∙ is)
 
-  releases_by : (call : Call) (change : Change) → Edits call d s change → ReleasesTyped s change
-  releases_by call change e f is =
-      edits_release e.list e.calm (e.known o h) f (ap (λ (k : Change). list_any (same_thing (FrameOf f)) k.begins) (sym e.is) ∙ is)
+  releases_by : (call : Call) (v : Value) (es : List Edit) → Edits call d s es → ReleasesTyped s (does d s v es)
+  releases_by call v es e f is = edits_release es e.calm (e.known o h) f is
 
   found_releases : (x : Judged Change) → IfFound x (ReleasesTyped s)
       → (f : ℕ) → begun_in x (FrameOf f) ≡ true → IsTrue (is_typed (s.frame f))
@@ -175,7 +175,6 @@ edits_begin s o d h (e ∷ es) calm k x is =
 pub ends_begins : (s : State) (o : ℕ → Bool) (d : ℕ) (call : Call) (r : Reply) (x : Thing)
     → IsOpen s o d → MayReply s d call r → ends call r x ≡ true → begins s d call r x ≡ false
 ends_begins s o d call (reply.Ok v) x h may is =
-    found_not (change_of s d call) x (found_by s d call (BeginsNot x) (λ change e.
-    ap (λ (k : Change). list_any (same_thing x) k.begins) e.is
-    ∙ edits_begin s o d h e.list e.calm (e.known o h) x (sym (e.agrees.0 x) ∙ is)))
+    found_not (change_of s d call) x (found_by s d call (BeginsNot x) (λ v es e.
+    edits_begin s o d h es e.calm (e.known o h) x (sym (e.agrees.0 x) ∙ is)))
 ends_begins s o d call _ x h may is = absurd (false≢true is)

@@ -13,7 +13,8 @@ use Rattle.kernel_rules.specs.State.{PlaceOf, FrameOf, State, put, with_place, w
 use Rattle.kernel_rules.specs.Start.{no_grace}
 use Rattle.kernel_rules.specs.References.{named_by, place_names, frame_names, number_names, core_names, times, node_refs, refs}
 use Rattle.kernel_rules.specs.GracePeriods.{same_thing, new_grace, begun, other_waiting, quiescing_by}
-use Rattle.kernel_rules.specs.Rules.{frames_of, waits_of}
+use Rattle.kernel_rules.specs.Rules.{waits_of}
+use Rattle.kernel_rules.specs.Edits.{frames_of}
 use Rattle.kernel_rules.proofs.Within.{put_same, put_other}
 use Rattle.kernel_invariant.proofs.Sums.{sum_term, times_cons, times_first}
 use Rattle.kernel_rules.specs.Fitting.{fits, IsGood}

@@ -26,7 +26,8 @@ use Rattle.kernel_invariant.proofs.SoundSteps.{waits_all}
 use Rattle.kernel_invariant.proofs.SoundStart.{start_sound}
 use Rattle.kernel_invariant.proofs.Facts.{outcome_from, usable_good}
 use Rattle.kernel_rules.specs.Laws.{CapabilitiesFit}
-use Rattle.kernel_invariant.proofs.SoundCalls.{Keeps, IsOpen, core_keeps, rule_keeps}
+use Rattle.kernel_invariant.proofs.SoundCalls.{IsOpen, core_keeps}
+use Rattle.kernel_invariant.proofs.SoundEdits.{Keeps, rule_keeps}
 
 -- The cores whose calls are open.
 abbrev pub opened : List Event → ℕ → Bool

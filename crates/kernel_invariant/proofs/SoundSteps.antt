@@ -7,7 +7,7 @@ use Rattle.kernel_rules.specs.State.{Place, Free, Holds, Quiescing, Live, Dead, 
 use Rattle.kernel_rules.specs.State.{FrameOf, State, put, with_place, with_number, with_core, with_grace}
 use Rattle.kernel_rules.specs.Start.{no_grace}
 use Rattle.kernel_rules.specs.References.{named_by}
-use Rattle.kernel_rules.specs.CapabilityCalls.{cleared}
+use Rattle.kernel_rules.specs.Edits.{cleared}
 use Rattle.kernel_rules.specs.Fitting.{fits, IsGood}
 use Rattle.kernel_rules.specs.Relies.{is_node}
 use Rattle.kernel_invariant.proofs.Sound.{WaitsForAll, IsSound, put_all}

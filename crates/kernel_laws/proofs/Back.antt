@@ -9,12 +9,11 @@ use Rattle.spk_nums.specs.declared.replies.Value.{Value}
 use Rattle.spk_nums.specs.declared.replies.Reply.{Reply}
 use Rattle.spk_nums.specs.declared.replies.Reply.TheVariants as reply
 use Rattle.kernel_rules.specs.State.{Core, State, put}
-use Rattle.kernel_rules.specs.MemoryCalls.{caching}
-use Rattle.kernel_rules.specs.TimeCalls.{charge}
+use Rattle.kernel_rules.specs.Edits.{caching, charge, Give, Edit, Switch, Cache, Flush, Charge, edited, after_edits}
 use Rattle.kernel_rules.specs.CallRelation.{change_of, changed, counted, owed_by, state_by, MayReply}
 use Rattle.kernel_rules.specs.Runs.{Event, Enters, Decides, Returns, after, is_open, IsRun}
 use Rattle.kernel_rules.proofs.Within.{put_same, put_other}
-use Rattle.kernel_invariant.specs.Edits.{Edit, Switch, Cache, Flush, Charge, Give, edited, after_edits, charged_by, charged_in, charged_all}
+use Rattle.kernel_invariant.specs.Edits.{charged_by, charged_in, charged_all}
 use Rattle.kernel_invariant.proofs.Sound.{put_all}
 use Rattle.kernel_invariant.proofs.SoundCalls.{IsOpen}
 use Rattle.kernel_invariant.proofs.SoundRuns.{opened, open_is}
@@ -69,9 +68,9 @@ given_ticks _ = refl
 
 changed_back : (s : State) (o : ℕ → Bool) (c : ℕ) (call : Call) (v : Value) → IsOpen s o c → MayReply s c call (reply.Ok v)
     → Gets s c (given_of call) (changed s (change_of s c call)).core
-changed_back s o c call v h may = after_ok s c call v (λ t. Gets s c (given_of call) t.core) may (λ change e.
-    subst (λ n. Gets s c n (after_edits c s e.list).core) (ap (λ (p : ℕ × ℕ). p.1) (sym e.agrees.3) ∙ given_ticks call)
-    (edits_back c s e.list (e.known o h)))
+changed_back s o c call v h may = after_ok s c call v (λ t. Gets s c (given_of call) t.core) may (λ es e.
+    subst (λ n. Gets s c n (after_edits c s es).core) (ap (λ (p : ℕ × ℕ). p.1) (sym e.agrees.3) ∙ given_ticks call)
+    (edits_back c s es (e.known o h)))
 
 -- A core is counted.
 counts : (s : State) (c n : ℕ) (t : State) → Gets s c n t.core → Gets s c n (counted t c).core

@@ -26,8 +26,8 @@ use Rattle.kernel_rules.specs.State.{Object, Blank, Table, Leaf, Pages, Pleaf, C
 use Rattle.kernel_rules.specs.State.{outstanding}
 use Rattle.kernel_rules.specs.State.{Liveness, Live, Thing, FrameOf, NumberOf, State, comp_in, comp_of, thread_in, tcap_in, thread_of}
 use Rattle.kernel_rules.specs.References.{refs}
-use Rattle.kernel_rules.specs.Access.{Slot, Named, found, Want, to_use, Target, Under, InRoot, held_in}
-use Rattle.kernel_rules.specs.Access.{usable, reached, only, root, own, to_part}
+use Rattle.kernel_rules.specs.Access.{Slot, Named, found, Want, to_use, Target, Under, InRoot, held_in, usable, reached, only, root, own}
+use Rattle.kernel_rules.specs.Access.{to_part}
 use Rattle.kernel_rules.specs.GracePeriods.{MayWait, MayBeUnflushed}
 use Rattle.kernel_rules.specs.Rules.{Judged, Refused, Found, and_then, or_refuse, of_kind, named, mapped, NameMay, VacantMay}
 use Rattle.kernel_rules.specs.Rules.{Lacks, HeldMay, MappedMay, WaitedMay, UnflushedMay, CauseMay, OneMay, RuleMay, IsFoundAnd, name_of}
@@ -136,7 +136,8 @@ module _ (s : State) (c : ℕ) where
   look_cause a r (inl n) = name_cause s c (Look a) r (inl n)
   look_cause a r (inr h) = absurd h
 
-  copy_cause : (a t b : ℕ) (rights : Rights) (r : Reply) → RuleMay s c (rule_of s c (Copy a t b rights)) r → HasCause s c (Copy a t b rights) r
+  copy_cause : (a t b : ℕ) (rights : Rights) (r : Reply) → RuleMay s c (rule_of s c (Copy a t b rights)) r
+      → HasCause s c (Copy a t b rights) r
   copy_cause a t b rights r (inl n) = name_cause s c (Copy a t b rights) r (inl n)
   copy_cause a t b rights r (inr (inl n)) = name_cause s c (Copy a t b rights) r (inr (inl n))
   copy_cause a t b rights r (inr (inr (inl v))) =
@@ -393,7 +394,7 @@ module _ (s : State) (c : ℕ) where
   page_cause v _ is h = absurd h
 
   touch_cause : (v : ℕ) (q : Reply) → (t : Option Translation) → translation_of (s.core c).cached (comp_of s c).pages v ≡ t
-      → RuleMay s c (touch_by s c (comp_of s c).pages v t) q → HasCause s c (Touch v) q
+      → RuleMay s c (touch_by (comp_of s c).pages v t) q → HasCause s c (Touch v) q
   touch_cause v q None is (inl h) = page_cause v q is h
   touch_cause v q None is (inr h) = absurd (page_none (mapped s c (comp_of s c).pages v) h)
   touch_cause v q (Some t) is (inl h) = when_cause s c (Touch v) _ reply.NoSlot q (λ t. inr (inr (inr (ltb-true 4095 v t)))) h
@@ -435,7 +436,7 @@ module _ (s : State) (c : ℕ) where
 
   switch_own : (h q : ℕ) (x : Named) (p : ℕ) (r : Reply) → x ≡ leads_as s c h (only kind.Thread) → (e : Option ℕ)
       → (thread_in (s.frame x.frame)).runs_on ≡ e
-      → RuleMay s c (switch_to s c x p e) r → HasCause s c (Switch h q) r
+      → RuleMay s c (switch_to x p e) r → HasCause s c (Switch h q) r
   switch_own h q x p r at None is may = absurd may
   switch_own h q x p r at (Some e) is (inl may) =
       when_cause s c (Switch h q) _ (reply.Running e) r
@@ -451,7 +452,8 @@ module _ (s : State) (c : ℕ) where
       (thread_in (s.frame (name_of (named s c h (to_use (only kind.Thread)))).frame)).runs_on refl may
 
   -- Two temporal capabilities.
-  both_are : (a b : ℕ) (P : ℕ → ℕ → Type 0) → BothAre (name_of (named s c a (to_use (only kind.Tcap)))) (name_of (named s c b (to_use (only kind.Tcap)))) P
+  both_are : (a b : ℕ) (P : ℕ → ℕ → Type 0)
+      → BothAre (name_of (named s c a (to_use (only kind.Tcap)))) (name_of (named s c b (to_use (only kind.Tcap)))) P
       → BothAre (tcap_named s c a) (tcap_named s c b) P
   both_are a b P h =
       subst (λ (x : Named). BothAre (tcap_named s c a) x P) (leads_is s c (only kind.Tcap) b)
@@ -466,7 +468,8 @@ module _ (s : State) (c : ℕ) where
 
   same_cause : (call : Call) (a b : ℕ) (r : Reply)
       → (BothAre (tcap_named s c a) (tcap_named s c b) (λ f g. f ≡ g) → HasCause s c call reply.Same)
-      → CauseMay s c (are_same (name_of (named s c a (to_use (only kind.Tcap)))) (name_of (named s c b (to_use (only kind.Tcap))))) r → HasCause s c call r
+      → CauseMay s c (are_same (name_of (named s c a (to_use (only kind.Tcap)))) (name_of (named s c b (to_use (only kind.Tcap))))) r
+      → HasCause s c call r
   same_cause call a b r f h = when_cause s c call _ reply.Same r
       (λ t. f (both_are a b (λ f g. f ≡ g) (two_found (name_of (named s c a (to_use (only kind.Tcap))))
       (name_of (named s c b (to_use (only kind.Tcap)))) _ (λ f g. f ≡ g) (eqb-true _ _) t))) h

@@ -11,8 +11,7 @@ use Rattle.kernel_rules.specs.State.{Comp, Thing, PlaceOf, FrameOf, State, put, 
 use Rattle.kernel_rules.specs.Start.{no_grace}
 use Rattle.kernel_rules.specs.References.{named_by, place_names, times}
 use Rattle.kernel_rules.specs.GracePeriods.{same_thing, new_grace, begun}
-use Rattle.kernel_rules.specs.Rules.{frames_of}
-use Rattle.kernel_rules.specs.CapabilityCalls.{cleared}
+use Rattle.kernel_rules.specs.Edits.{frames_of, cleared}
 use Rattle.kernel_rules.specs.Relies.{is_node}
 use Rattle.kernel_rules.proofs.Within.{put_same, put_other}
 use Rattle.kernel_invariant.proofs.Sums.{times_first}

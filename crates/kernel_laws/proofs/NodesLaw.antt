@@ -13,11 +13,12 @@ use Rattle.spk_nums.specs.declared.kinds.FrameKind.TheVariants as frame_kind
 use Rattle.spk_nums.specs.declared.calls.Make.{Make}
 use Rattle.spk_nums.specs.declared.calls.Make.TheVariants as make
 use Rattle.spk_nums.specs.declared.calls.Call.{Call}
-use Rattle.spk_nums.specs.declared.calls.Call.TheVariants.{Look, Copy, Remove, Grow, Shrink, Retype, Make as make_call}
+use Rattle.spk_nums.specs.declared.calls.Call.TheVariants.{Look, Copy, Remove as remove_call, Grow, Shrink, Retype, Make as make_call}
 use Rattle.spk_nums.specs.declared.calls.Call.TheVariants.{Map, Unmap, Touch, Flush, Gate, Kill, Call as call_gate}
 use Rattle.spk_nums.specs.declared.calls.Call.TheVariants.{Ret, Switch, Tick, Transfer, Delegate, Test, Part, Replenish}
 use Rattle.spk_nums.specs.declared.translations.Translation.{Translation}
 use Rattle.spk_nums.specs.declared.replies.Value.{Value}
+use Rattle.spk_nums.specs.declared.replies.Value.TheVariants.{Nothing}
 use Rattle.spk_nums.specs.declared.replies.Reply.{Reply}
 use Rattle.spk_nums.specs.declared.replies.Reply.TheVariants as reply
 use Rattle.kernel_rules.specs.State.{Place, Free, Holds, Quiescing, CompFields, ThreadFields, TcapFields, Object, Blank, Table}
@@ -28,12 +29,13 @@ use Rattle.kernel_rules.specs.References.{refs, frame_names, number_names}
 use Rattle.kernel_rules.specs.Access.{Want, any, to_copy, to_use, Slot, Named, found, root_at, Target, Under, InRoot, place_at}
 use Rattle.kernel_rules.specs.Access.{held_in, usable_in, usable, reached, root_slot, only, root}
 use Rattle.kernel_rules.specs.GracePeriods.{same_thing, begun}
-use Rattle.kernel_rules.specs.Rules.{Change, Cause, When, WaitedFor, Unflushed, Judged, Refused, Found, IsFoundAnd, named, held, mapped}
-use Rattle.kernel_rules.specs.Rules.{and_then, or_refuse, unless, first_cause, refusal_of, waits_of, flushes_of, frames_of, fills, removes}
-use Rattle.kernel_rules.specs.CapabilityCalls.{leaf_of, outside, cleared, makes, make_node, make_rule, not_taken}
-use Rattle.kernel_rules.specs.MemoryCalls.{is_untyped_now, is_empty, not_retyped, retypes, retype_rule, touch_by, translation_of}
-use Rattle.kernel_rules.specs.InvocationCalls.{kills, with_thread, pops, running, switches, switch_to}
-use Rattle.kernel_rules.specs.TimeCalls.{with_tcap, with_budget, tcap_at, moved}
+use Rattle.kernel_rules.specs.Rules.{Change, does, Cause, When, WaitedFor, Unflushed, Judged, Refused, Found, IsFoundAnd, named, held}
+use Rattle.kernel_rules.specs.Rules.{mapped, and_then, or_refuse, unless, first_cause, refusal_of, waits_of, flushes_of}
+use Rattle.kernel_rules.specs.Edits.{frames_of, cleared, with_thread, running, switched, Fill, Remove, Node, Become, Untype, Deaden, Pop}
+use Rattle.kernel_rules.specs.CapabilityCalls.{leaf_of, outside, make_node, make_rule, not_taken}
+use Rattle.kernel_rules.specs.Edits.{Switch as switch_edit, edited, after_edits, begins_in, with_tcap, with_budget, tcap_at, moved}
+use Rattle.kernel_rules.specs.MemoryCalls.{is_untyped_now, is_empty, not_retyped, retype_rule, touch_by, translation_of}
+use Rattle.kernel_rules.specs.InvocationCalls.{switch_to}
 use Rattle.kernel_rules.specs.CallRelation.{rule_of, change_of, changed, counted, owed_by, state_by, MayReply}
 use Rattle.kernel_rules.specs.Runs.{Event, Enters, Decides, Returns, after, is_in, is_open, IsRun}
 use Rattle.kernel_rules.specs.Relies.{is_node}
@@ -43,12 +45,13 @@ use Rattle.kernel_rules.proofs.Within.{put_other}
 use Rattle.kernel_rules.proofs.AloneLaw.{waits_inside}
 use Rattle.kernel_invariant.proofs.Sound.{only_is, put_all}
 use Rattle.kernel_invariant.proofs.SoundRemovals.{frames_no_place, not_chosen, unnamed, none_waits}
-use Rattle.kernel_invariant.proofs.SoundCalls.{IsOpen, closed, blank_by, untyped_by, zero_refs, nothing_held, empty_node}
+use Rattle.kernel_invariant.proofs.SoundCalls.{IsOpen, blank_by, untyped_by, zero_refs, nothing_held, empty_node}
+use Rattle.kernel_invariant.proofs.SoundEdits.{closed}
 use Rattle.kernel_invariant.proofs.SoundSteps.{free_holds, holds_inj}
 use Rattle.kernel_invariant.proofs.SoundStart.{choose}
 use Rattle.kernel_invariant.proofs.SoundRuns.{opened, open_is, inside_is, phase_own, phase_other, decided_opened}
 use Rattle.kernel_invariant.proofs.Facts.{ChangesFrom, outcome_from, suits, named_good, named_fit, vacant_facts, held_facts, none_parts}
-use Rattle.kernel_invariant.proofs.Facts.{when_not, not_not, then_parts, or_found, some_inj, some_none, none_some, found_inj, refused_found}
+use Rattle.kernel_invariant.proofs.Facts.{when_not, not_not, then_parts, or_found, some_inj, some_none, none_some}
 use Rattle.found_stays.proofs.Stays.{link_of, name_parts, fields, table_relies}
 use Rattle.kernel_laws.specs.Nodes.{takes, leads_to, FitsNode, NodesHoldWhatFits}
 use Rattle.kernel_laws.proofs.NodeSteps.{IsFitted, fewer, IsAlike, alike_same, alike_none, alike_then}
@@ -160,12 +163,12 @@ module _ (s : State) (o : ℕ → Bool) (c : ℕ) (h : IsOpen s o c) (w : IsFitt
       → IsFitted (begun s things next) (put o c false)
   framed next things apart place frame waits = done next things apart (alike_step s next o place frame waits w)
 
-  filled : (at : Slot) (k : Capability) → FitsNode (s.frame at.node) k.kind (s.frame k.frame) → Keeps (fills s at k)
-  filled at k fit = plain (fills s at k).next (fill_fits s o at.node at.index k fit w)
+  filled : (at : Slot) (k : Capability) → FitsNode (s.frame at.node) k.kind (s.frame k.frame) → Keeps (does c s Nothing (Fill at k ∷ []))
+  filled at k fit = plain (edited c s (Fill at k)) (fill_fits s o at.node at.index k fit w)
 
-  removed : (target : Target) (at : Slot) (k : Capability) → held s c target ≡ Found (at, k) → Keeps (removes s at k)
+  removed : (target : Target) (at : Slot) (k : Capability) → held s c target ≡ Found (at, k) → Keeps (does c s Nothing (Remove at k ∷ []))
   removed target at k e =
-      fewer (begun s (removes s at k).begins (removes s at k).next) o (put o c false) (closed o c)
+      fewer (begun s (begins_in c s (Remove at k)) (edited c s (Remove at k))) o (put o c false) (closed o c)
       (remove_fits s o at.node at.index k (held_facts s c target at k e).1 w)
 
   -- One frame is put that is alike.
@@ -194,9 +197,9 @@ module _ (s : State) (o : ℕ → Bool) (c : ℕ) (h : IsOpen s o c) (w : IsFitt
 
   made_fits : (f : ℕ) (object : Object) (k : Kind) (at : Slot) → s.frame f ≡ Kernel Blank → s.frame at.node ≡ Kernel Leaf
       → IsTrue (takes (Kernel Leaf) k)
-      → IsFitted (with_frame (cleared s f) f (Kernel object)) o → Keeps (makes (cleared s f) f object k at)
+      → IsFitted (with_frame (cleared s f) f (Kernel object)) o → Keeps (does c s Nothing (Node f object ∷ Fill at (plain_cap k f) ∷ []))
   made_fits f object k at blank leaf take fitted =
-      plain (makes (cleared s f) f object k at).next
+      plain (after_edits c s (Node f object ∷ Fill at (plain_cap k f) ∷ []))
       (fill_fits (with_frame (cleared s f) f (Kernel object)) o at.node at.index (plain_cap k f)
       (subst (λ x. FitsNode x k (put s.frame f (Kernel object) f))
       (sym (put_other s.frame f (Kernel object) at.node apart ∙ leaf)) (record { kind = take; leaf = refl })) fitted)
@@ -213,7 +216,7 @@ module _ (s : State) (o : ℕ → Bool) (c : ℕ) (h : IsOpen s o c) (w : IsFitt
 
   object_keeps : (f : ℕ) (object : Object) (k : Kind) (at : Slot) → is_node (Kernel object) ≡ false → s.frame f ≡ Kernel Blank
       → s.frame at.node ≡ Kernel Leaf
-      → IsTrue (takes (Kernel Leaf) k) → IsFitted (makes s f object k at).next o
+      → IsTrue (takes (Kernel Leaf) k) → IsFitted (after_edits c s (Become f (Kernel object) ∷ Fill at (plain_cap k f) ∷ [])) o
   object_keeps f object k at none blank leaf take =
       fill_fits (with_frame s f (Kernel object)) o at.node at.index (plain_cap k f)
       (subst (λ x. FitsNode x k (put s.frame f (Kernel object) f))
@@ -271,27 +274,23 @@ module _ (s : State) (o : ℕ → Bool) (c : ℕ) (h : IsOpen s o c) (w : IsFitt
       (λ i k at. let b : IsTrue (is_node (s.frame f)) × (i < 64) = h.sound.bare f i k at in
       nothing_held s f i k (empty_node s f (s.frame f) empty b.0) b.1 at)
       h.sound w in
-      alike_step (retypes s f frame_kind.Untyped).next
-      (begun s (retypes s f frame_kind.Untyped).begins (retypes s f frame_kind.Untyped).next) (put o c false)
+      alike_step (edited c s (Untype f)) (begun s (begins_in c s (Untype f)) (edited c s (Untype f))) (put o c false)
       (λ g i. refl) (λ g. alike_same _)
       (λ g i d q. not_chosen (list_any (same_thing (PlaceOf g i)) (frames_of (frame_names (s.frame f))))
       _ _ d (frames_no_place g i (frame_names (s.frame f))) q) fitted
 
-  touch_keeps : (pages v : ℕ) (t : Option Translation) → ChangesFrom Keeps s c (touch_by s c pages v t)
+  touch_keeps : (pages v : ℕ) (t : Option Translation) → ChangesFrom Keeps s c (touch_by pages v t)
   touch_keeps pages v None =
       λ mapping e calm. framed (with_core s c _) [] (λ g i. refl) (λ g i. refl) (λ g. alike_same (s.frame g)) (λ g i d q. q)
   touch_keeps pages v (Some t) = λ calm. same
 
-  switch_keeps : (j : Capability) (q : ℕ) (e : Option ℕ) → ChangesFrom Keeps s c (switch_to s c (found j) q e)
-  switch_keeps j q None = λ calm. switched j q
-    where
-      switched : (j : Capability) (q : ℕ) → Keeps (switches s c (s.core c) j.frame q)
-      switched j q =
-          let idle : State = running s (s.core c).thread None in
-          framed (switches s c (s.core c) j.frame q).next (switches s c (s.core c) j.frame q).begins
-          (λ g i. frames_no_place g i ((s.core c).thread ∷ (if q == (s.core c).tcap then [] else (s.core c).tcap ∷ []))) (λ g i. refl)
-          (λ f. alike_then (s.frame f) (idle.frame f) _ (put_alike s (s.core c).thread _ (thread_alike (s.frame (s.core c).thread) _) f)
-          (put_alike idle j.frame _ (thread_alike (idle.frame j.frame) _) f)) (λ g i d q. q)
+  switch_keeps : (j : Capability) (q : ℕ) (e : Option ℕ) → ChangesFrom Keeps s c (switch_to (found j) q e)
+  switch_keeps j q None = λ calm.
+      let idle : State = running s (s.core c).thread None in
+      framed (switched s c j.frame q) (begins_in c s (switch_edit j.frame q))
+      (λ g i. frames_no_place g i ((s.core c).thread ∷ (if q == (s.core c).tcap then [] else (s.core c).tcap ∷ []))) (λ g i. refl)
+      (λ f. alike_then (s.frame f) (idle.frame f) _ (put_alike s (s.core c).thread _ (thread_alike (s.frame (s.core c).thread) _) f)
+      (put_alike idle j.frame _ (thread_alike (idle.frame j.frame) _) f)) (λ g i d q. q)
   switch_keeps j q (Some e) = λ calm. absurd (some_none (reply.Running e) (none_parts (Some (reply.Running e)) None calm).0)
 
   -- Every call that is carried out.
@@ -300,7 +299,7 @@ module _ (s : State) (o : ℕ → Bool) (c : ℕ) (h : IsOpen s o c) (w : IsFitt
   rule_keeps (Copy a t b rights) = λ k e table f at g calm.
       filled at (kept k rights.0) (in_leaf_fits at k.kind (s.frame k.frame)
       (in_leaf t b table at f (vacant_facts s c (Under (found table) b) at g).0) (name_takes a (to_copy any) k e))
-  rule_keeps (Remove t b) = λ table e at k g calm. removed (Under (found table) b) at k g
+  rule_keeps (remove_call t b) = λ table e at k g calm. removed (Under (found table) b) at k g
   rule_keeps (Grow t i l) = λ table e leaf f at g calm. grown t l table leaf at e f (vacant_facts s c (InRoot (found table) i) at g).0
     where
       root_fits : (j : Kind) (x y : Frame) → IsTrue (root j) → IsTrue (fits j x) → IsTrue (fits (leaf_of j) y) → FitsNode x kind.Link y
@@ -321,7 +320,7 @@ module _ (s : State) (o : ℕ → Bool) (c : ℕ) (h : IsOpen s o c) (w : IsFitt
 
       grown : (t l : ℕ) (table leaf : Capability) (at : Slot) → named s c t (to_use root) ≡ Found table
           → named s c l (to_use (only (leaf_of table.kind))) ≡ Found leaf
-          → reached s c (InRoot (found table) i) ≡ Some at → Keeps (fills s at (plain_cap kind.Link leaf.frame))
+          → reached s c (InRoot (found table) i) ≡ Some at → Keeps (does c s Nothing (Fill at (plain_cap kind.Link leaf.frame) ∷ []))
       grown t l table leaf at e f r =
           let a : IsGood s table × IsTrue (root table.kind) = named_good s o c t (to_use root) table h.sound h.is e in
           let fit : IsTrue (fits (leaf_of table.kind) (s.frame leaf.frame)) = named_fit s o c l (leaf_of table.kind) leaf h.sound h.is f in
@@ -343,12 +342,13 @@ module _ (s : State) (o : ℕ → Bool) (c : ℕ) (h : IsOpen s o c) (w : IsFitt
       (in_leaf_fits at kind.Gate (s.frame comp.frame) (in_leaf t b table at f (vacant_facts s c (Under (found table) b) at g).0) refl)
   rule_keeps (Kill k) = λ comp e calm.
       let fields : CompFields = comp_in (s.frame comp.frame) in
-      framed (kills s fields).next (kills s fields).begins (λ f i. frames_no_place f i (number_names (s.number fields.number)))
+      framed (edited c s (Deaden fields.number fields.epoch)) (begins_in c s (Deaden fields.number fields.epoch))
+      (λ f i. frames_no_place f i (number_names (s.number fields.number)))
       (λ g i. refl) (λ g. alike_same (s.frame g)) (λ g i d q. q)
   rule_keeps (call_gate g) = λ gate e calm.
       framed _ [] (λ g i. refl) (λ g i. refl) (put_alike s (s.core c).thread _ (thread_alike (s.frame (s.core c).thread) _)) (λ g i d q. q)
   rule_keeps Ret = λ calm.
-      framed (pops s c).next (pops s c).begins (λ f i. frames_no_place f i (take 1 (thread_of s c).stack)) (λ g i. refl)
+      framed (edited c s Pop) (begins_in c s Pop) (λ f i. frames_no_place f i (take 1 (thread_of s c).stack)) (λ g i. refl)
       (put_alike s (s.core c).thread _ (thread_alike (s.frame (s.core c).thread) _)) (λ g i d q. q)
   rule_keeps (Switch f q) = λ thread e tcap g. switch_keeps thread tcap.frame (thread_in (s.frame thread.frame)).runs_on
   rule_keeps (Tick n) = λ calm.

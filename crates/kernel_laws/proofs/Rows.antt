@@ -17,7 +17,7 @@ use Rattle.kernel_rules.specs.State.{PlaceOf, State}
 use Rattle.kernel_rules.specs.Start.{start, plain_cap}
 use Rattle.kernel_rules.specs.References.{sum_below, node_refs, refs}
 use Rattle.kernel_rules.specs.MemoryCalls.{holds_nothing}
-use Rattle.kernel_rules.specs.TimeCalls.{tcap_at}
+use Rattle.kernel_rules.specs.Edits.{tcap_at}
 use Rattle.kernel_rules.specs.Alone.{plain_reply, plain_step, plain_replies, plain_steps}
 use Rattle.spk_nums.specs.declared.kinds.PageFlags.{PageFlags}
 

@@ -8,21 +8,20 @@ use Rattle.spk_nums.specs.declared.kinds.Kind.TheVariants as kind
 use Rattle.spk_nums.specs.declared.calls.Call.{Call}
 use Rattle.spk_nums.specs.declared.calls.Call.TheVariants.{Tick}
 use Rattle.spk_nums.specs.declared.translations.Translation.{Translation}
-use Rattle.kernel_rules.specs.State.{ThreadFields, TcapFields, Comp}
-use Rattle.kernel_rules.specs.State.{Thread, Tcap, Frame, Untyped, Kernel, Liveness, Unused, Live, Dead}
+use Rattle.kernel_rules.specs.State.{ThreadFields, TcapFields, Comp, Thread, Tcap, Frame, Untyped, Kernel, Liveness, Unused, Live, Dead}
 use Rattle.kernel_rules.specs.State.{Core, State, put, thread_in, tcap_in, thread_of}
-use Rattle.kernel_rules.specs.Rules.{Change}
+use Rattle.spk_nums.specs.declared.replies.Value.{Value}
+use Rattle.kernel_rules.specs.Rules.{Change, does}
 use Rattle.kernel_rules.specs.CapabilityCalls.{epoch_of}
-use Rattle.kernel_rules.specs.MemoryCalls.{caching}
+use Rattle.kernel_rules.specs.Edits.{caching, with_thread, with_stack, running, tcap_at, with_tcap, with_budget, charge, Edit, Fill, Node}
 use Rattle.kernel_rules.specs.Life.{is_live_in}
-use Rattle.kernel_rules.specs.InvocationCalls.{with_thread, with_stack, running}
-use Rattle.kernel_rules.specs.TimeCalls.{tcap_at, with_tcap, with_budget, charge}
+use Rattle.kernel_rules.specs.Edits.{Become, Untype, Component, Deaden, Push, Pop, Switch, Cache, Flush, Charge, Move, Merge, Give, edited}
+use Rattle.kernel_rules.specs.Edits.{after_edits}
 use Rattle.kernel_rules.specs.Ranges.{EpochInRange, CompInRange, ThreadInRange, NumberInRange}
 use Rattle.kernel_rules.specs.Fitting.{fits}
 use Rattle.kernel_rules.specs.Relies.{is_node}
 use Rattle.kernel_rules.proofs.Within.{put_same, put_other}
-use Rattle.kernel_invariant.specs.Edits.{Edit, Fill, Node, Become, Untype, Component, Deaden, Push, Pop, Switch, Cache, Flush}
-use Rattle.kernel_invariant.specs.Edits.{Charge, Move, Merge, Give, edited, after_edits, charged_by, charged_in, charged_all}
+use Rattle.kernel_invariant.specs.Edits.{charged_by, charged_in, charged_all}
 use Rattle.kernel_invariant.proofs.Sound.{put_all}
 use Rattle.kernel_invariant.proofs.SoundCalls.{IsOpen}
 use Rattle.kernel_invariant.proofs.Edited.{Tested, Limited, Known, Each, Edits}
@@ -269,8 +268,8 @@ edits_cores c s (e ∷ (x ∷ es)) =
 
 -- Every call that is carried out.
 pub shaped_by : (s : State) (o : ℕ → Bool) (c : ℕ) → IsOpen s o c → Shaped s → (call : Call) → InLimits call
-    → (change : Change) → Edits call c s change → ShapedBy s c change
-shaped_by s o c turn h call lim change e = subst (ShapedBy s c) (sym e.is) (record {
+    → (v : Value) (es : List Edit) → Edits call c s es → ShapedBy s c (does c s v es)
+shaped_by s o c turn h call lim v es e = record {
   frames = f.frames;
   numbers = f.numbers;
   own = record {
@@ -279,13 +278,13 @@ shaped_by s o c turn h call lim change e = subst (ShapedBy s c) (sym e.is) (reco
     cached = k.cached (h.cores c).cached;
   };
   others = k.others;
-})
+}
   where
-    f : Fits s.limits.epochs (after_edits c s e.list).frame (after_edits c s e.list).number
-    f = edits_fit c s e.list e.tested (e.limited lim) (e.known o turn) (record { frames = h.frames; numbers = h.numbers })
+    f : Fits s.limits.epochs (after_edits c s es).frame (after_edits c s es).number
+    f = edits_fit c s es e.tested (e.limited lim) (e.known o turn) (record { frames = h.frames; numbers = h.numbers })
 
-    k : CoresBy s c (charged_all e.list).0 (after_edits c s e.list).core
-    k = edits_cores c s e.list
+    k : CoresBy s c (charged_all es).0 (after_edits c s es).core
+    k = edits_cores c s es
 
     small : (call : Call) → InLimits call → (charged_by call).0 ≤ 1000000
     small (Tick n) lim = lim

@@ -9,13 +9,12 @@ use Rattle.spk_nums.specs.declared.replies.Reply.{Reply}
 use Rattle.spk_nums.specs.declared.replies.Reply.TheVariants as reply
 use Rattle.kernel_rules.specs.State.{Core, State, put}
 use Rattle.kernel_rules.specs.Rules.{RuleMay}
-use Rattle.kernel_rules.specs.MemoryCalls.{caching}
-use Rattle.kernel_rules.specs.TimeCalls.{tcap_at, charge}
+use Rattle.kernel_rules.specs.Edits.{caching, tcap_at, charge, Edit, Switch, Cache, Flush, Charge, Give, edited, after_edits}
 use Rattle.kernel_rules.specs.Life.{asks_life}
 use Rattle.kernel_rules.specs.CallRelation.{rule_of, change_of, changed, counted, owed_by, state_by, MayBeDead, MayReply}
 use Rattle.kernel_rules.specs.Runs.{Enters, Decides, Returns, after}
 use Rattle.kernel_rules.proofs.Within.{put_same, put_other}
-use Rattle.kernel_invariant.specs.Edits.{Edit, Switch, Cache, Flush, Charge, Give, edited, after_edits, charged_by, charged_in, charged_all}
+use Rattle.kernel_invariant.specs.Edits.{charged_by, charged_in, charged_all}
 use Rattle.kernel_invariant.proofs.Sound.{put_all}
 use Rattle.kernel_invariant.proofs.Edited.{after_ok}
 use Rattle.kernel_laws.specs.Laws.{ticks_of, ticks_counted, ticks_by, decided_ticks, SpendingSums}
@@ -70,9 +69,9 @@ charged_ticks _ = refl
 -- A decision: the counted ticks of a call by its reply.
 changed_due : (s : State) (c : ℕ) (call : Call) (v : Value) → MayReply s c call (reply.Ok v)
     → Counts s c (ticks_of call) (changed s (change_of s c call)).core
-changed_due s c call v may = after_ok s c call v (λ t. Counts s c (ticks_of call) t.core) may (λ change e.
-    subst (λ n. Counts s c n (after_edits c s e.list).core) (ap (λ (p : ℕ × ℕ). p.0) (sym e.agrees.3) ∙ charged_ticks call)
-    (edits_due c s e.list))
+changed_due s c call v may = after_ok s c call v (λ t. Counts s c (ticks_of call) t.core) may (λ es e.
+    subst (λ n. Counts s c n (after_edits c s es).core) (ap (λ (p : ℕ × ℕ). p.0) (sym e.agrees.3) ∙ charged_ticks call)
+    (edits_due c s es))
 
 -- A core is counted.
 counted_due : (s t : State) (c n : ℕ) (k : Core) → due k ≡ due (t.core c) → Counts s c n t.core → Counts s c n (put t.core c k)

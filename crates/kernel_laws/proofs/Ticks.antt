@@ -8,13 +8,11 @@ use Rattle.kernel_rules.specs.State.{Core, State, put, with_frame, with_core, tc
 use Rattle.kernel_rules.specs.Fitting.{fits}
 use Rattle.kernel_rules.specs.Laws.{ticks}
 use Rattle.kernel_rules.specs.MemoryCalls.{is_empty}
-use Rattle.kernel_rules.specs.InvocationCalls.{with_thread, running}
-use Rattle.kernel_rules.specs.TimeCalls.{tcap_at, with_tcap, with_budget, charge, moved}
+use Rattle.kernel_rules.specs.Edits.{with_thread, running, tcap_at, with_tcap, with_budget, charge, moved, Edit, Node, Become, Untype}
+use Rattle.kernel_rules.specs.Edits.{Component, Push, Pop, Switch, Cache, Flush, Charge, Move, Merge, Give, edited, after_edits}
 use Rattle.kernel_rules.proofs.Within.{put_same, put_other}
 use Rattle.kernel_invariant.proofs.Sums.{sum_same, sum_one}
 use Rattle.kernel_invariant.proofs.Sound.{put_all}
-use Rattle.kernel_invariant.specs.Edits.{Edit, Node, Become, Untype, Component, Push, Pop, Switch, Cache, Flush}
-use Rattle.kernel_invariant.specs.Edits.{Charge, Move, Merge, Give, edited, after_edits}
 use Rattle.kernel_invariant.proofs.Edited.{is_bare, Known, Each, HasTcap, Moves}
 use Rattle.kernel_laws.proofs.Back.{edit_back}
 

@@ -127,7 +127,7 @@ owed_ticks s c _ = refl
 decided_ticks : (s : State) (o : ℕ → Bool) (c : ℕ) (call : Call) (r : Reply)
     → IsOpen s o c → (s.core c).back ≤ (s.core c).spent → MayReply s c call r → ticks (state_by s c call r) ≡ ticks s
 decided_ticks s o c call (reply.Ok v) h within may = same_spent (changed s (change_of s c call)) c _ refl
-    ∙ after_ok s c call v (λ t. ticks t ≡ ticks s) may (λ change e. edits_ticks c s e.list (e.known o h) within)
+    ∙ after_ok s c call v (λ t. ticks t ≡ ticks s) may (λ es e. edits_ticks c s es (e.known o h) within)
 decided_ticks s o c call reply.CallsSpent h within may = refl
 decided_ticks s o c call reply.Raced h within may = same_spent (owed_by s c call) c _ refl ∙ owed_ticks s c call
 decided_ticks s o c call (reply.Busy e) h within may = same_spent (owed_by s c call) c _ refl ∙ owed_ticks s c call

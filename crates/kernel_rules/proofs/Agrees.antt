@@ -15,7 +15,7 @@ use Rattle.kernel_rules.specs.Access.{Slot, found, root_at, Want, Target, Under,
 use Rattle.kernel_rules.specs.Access.{usable, linked, slot_in, reached, root_slot, only, holds_link, has_no_slot, own}
 use Rattle.kernel_rules.specs.GracePeriods.{lowest, other_waiting, quiescing_by, unflushed_by, MayWait, MayBeUnflushed}
 use Rattle.kernel_rules.specs.Rules.{name_of, slot_of, Cause, When, WaitedFor, Unflushed, Rule, Name, Vacant, Held, Mapped}
-use Rattle.kernel_rules.specs.Rules.{Does, Judged, Refused, Found, and_then, unless, or_refuse, with_rights, of_kind, named, first_of}
+use Rattle.kernel_rules.specs.Rules.{Does, does, Judged, Refused, Found, and_then, unless, or_refuse, with_rights, of_kind, named, first_of}
 use Rattle.kernel_rules.specs.Rules.{waits_of, flushes_of, not_vacant, vacant, held, mapped, first_cause, outcome, IsFoundAnd}
 use Rattle.kernel_rules.specs.Rules.{Lacks, NameMay, VacantMay, HeldMay, MappedMay, WaitedMay, UnflushedMay, OneMay, RuleMay}
 
@@ -349,7 +349,7 @@ HasPlain (Name n want rest) = (k : Capability) → HasPlain (rest (found k))
 HasPlain (Vacant target rest) = IsTrue (has_root target) × ((at : Slot) → HasPlain (rest at))
 HasPlain (Held target rest) = IsTrue (has_root target) × ((at : Slot) (k : Capability) → HasPlain (rest at k))
 HasPlain (Mapped table v rest) = (k : Capability) → HasPlain (rest k)
-HasPlain (Does causes change) = ArePlain causes
+HasPlain (Does causes value edits) = ArePlain causes
 
 cause_refused : (s : State) (c : ℕ) (causes : List Cause) → IsBounded s → ArePlain causes
     → (r : Reply) → first_cause s c causes ≡ Some r → OneMay s c causes r × IsPlain r
@@ -414,5 +414,6 @@ rule_refused s c (Mapped table v rest) calm plain =
     (λ r. RuleMay s c (Mapped table v rest) r × IsPlain r)
     (λ r h. (inr (found_and (mapped s c table v) k (λ k. RuleMay s c (rest k) r) e h.0), h.1))
     (rule_refused s c (rest k) calm (plain k))
-rule_refused s c (Does causes change) calm plain =
-    unless_refused (first_cause s c causes) change (λ r. OneMay s c causes r × IsPlain r) (cause_refused s c causes calm plain)
+rule_refused s c (Does causes value edits) calm plain =
+    unless_refused (first_cause s c causes) (does c s value edits) (λ r. OneMay s c causes r × IsPlain r)
+    (cause_refused s c causes calm plain)

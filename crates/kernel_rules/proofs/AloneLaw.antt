@@ -21,16 +21,17 @@ use Rattle.kernel_rules.specs.Start.{no_grace}
 use Rattle.kernel_rules.specs.GracePeriods.{same_thing, new_grace, entered, returned}
 use Rattle.kernel_rules.specs.Life.{lives, outlives, asks_life, acts}
 use Rattle.kernel_rules.specs.Access.{Named, found}
+use Rattle.kernel_rules.specs.Edits.{Edit, Node, Untype, Cache, Charge, Give, is_place_of, edited, Switch as switch_edit}
+use Rattle.kernel_rules.specs.Edits.{Flush as flush_edit}
 use Rattle.kernel_rules.specs.Rules.{Change, Judged, Refused, Found, IsFoundAnd, RuleMay}
-use Rattle.kernel_rules.specs.CapabilityCalls.{make_rule, is_place_of}
+use Rattle.kernel_rules.specs.CapabilityCalls.{make_rule}
 use Rattle.kernel_rules.specs.MemoryCalls.{retype_rule, touch_by, translation_of}
 use Rattle.kernel_rules.specs.InvocationCalls.{switch_to}
-use Rattle.kernel_rules.specs.CallRelation.{rule_of, change_of, changed, counted, owed_by, state_by, are_calls_spent}
-use Rattle.kernel_rules.specs.CallRelation.{MayBeDead, MayReply}
+use Rattle.kernel_rules.specs.CallRelation.{rule_of, change_of, changed, counted, owed_by, state_by, are_calls_spent, MayBeDead, MayReply}
 use Rattle.kernel_rules.specs.Alone.{reply_in, first_reply, alone}
 use Rattle.kernel_rules.specs.Runs.{Event, Enters, Decides, Returns, after}
 use Rattle.kernel_rules.specs.Laws.{FirstPermitted}
-use Rattle.kernel_rules.proofs.Changes.{AllChanges, IfFound, outcome_all}
+use Rattle.kernel_rules.proofs.Changes.{IfFound, outcome_all, all_edits, each_edit}
 use Rattle.kernel_rules.proofs.Within.{put_same, put_other, waits_within}
 use Rattle.kernel_rules.proofs.Agrees.{IsBounded, IsPlain, IfRefused, HasPlain, rule_refused}
 
@@ -42,10 +43,10 @@ core_inside s c d k e = elim (cases_eq d c) [
 ]
 
 -- Who waits after a change waited before, and who is in a call was; the limits stay.
-pub record Waits (s : State) (change : Change) : Type 0 where
-  pub inside : (d : ℕ) → (change.next.core d).inside ≡ (s.core d).inside
-  pub waits : (x : Thing) (d : ℕ) → IsTrue ((change.next.grace x).waits d) → IsTrue ((s.grace x).waits d)
-  pub limits : change.next.limits ≡ s.limits
+pub record Waits (s new : State) : Type 0 where
+  pub inside : (d : ℕ) → (new.core d).inside ≡ (s.core d).inside
+  pub waits : (x : Thing) (d : ℕ) → IsTrue ((new.grace x).waits d) → IsTrue ((s.grace x).waits d)
+  pub limits : new.limits ≡ s.limits
 
 node_waits : (s : State) (f : ℕ) (b : Thing → Bool) (x : Thing) (d : ℕ)
     → IsTrue ((if b x then no_grace else s.grace x).waits d) → IsTrue ((s.grace x).waits d)
@@ -55,52 +56,27 @@ node_waits s f b x d = tested (b x)
     tested true h = absurd (false≢true h)
     tested false h = h
 
-make_waits : (s : State) (what : Make) (r f t b : ℕ) → AllChanges (Waits s) (make_rule s what r f t b)
-make_waits s make.Table r f t b = λ range table at. record { inside = λ d. refl; waits = node_waits s f (is_place_of f); limits = refl }
-make_waits s make.Leaf r f t b = λ range table at. record { inside = λ d. refl; waits = node_waits s f (is_place_of f); limits = refl }
-make_waits s make.Pages r f t b = λ range table at. record { inside = λ d. refl; waits = node_waits s f (is_place_of f); limits = refl }
-make_waits s make.Pleaf r f t b = λ range table at. record { inside = λ d. refl; waits = node_waits s f (is_place_of f); limits = refl }
-make_waits s (make.Thread comp) r f t b = λ range table k at. record { inside = λ d. refl; waits = λ x d h. h; limits = refl }
-make_waits s (make.Tcap sched quality) r f t b = λ range table at. record { inside = λ d. refl; waits = λ x d h. h; limits = refl }
-make_waits s (make.Comp x p live) r f t b = λ range table k j at. record { inside = λ d. refl; waits = λ x d h. h; limits = refl }
+edit_waits : (c : ℕ) (s : State) (e : Edit) → Waits s (edited c s e)
+edit_waits c s (Node f object) = record { inside = λ d. refl; waits = node_waits s f (is_place_of f); limits = refl }
+edit_waits c s (Untype f) = record { inside = λ d. refl; waits = node_waits s f (λ x. same_thing x (FrameOf f)); limits = refl }
+edit_waits c s (switch_edit h q) = record { inside = λ d. core_inside s c d _ refl; waits = λ x d h. h; limits = refl }
+edit_waits c s (Cache t) = record { inside = λ d. core_inside s c d _ refl; waits = λ x d h. h; limits = refl }
+edit_waits c s flush_edit = record { inside = λ d. core_inside s c d _ refl; waits = λ x d h. h; limits = refl }
+edit_waits c s (Charge n) = record { inside = λ d. core_inside s c d _ refl; waits = λ x d h. h; limits = refl }
+edit_waits c s (Give f m) = record { inside = λ d. core_inside s c d _ refl; waits = λ x d h. h; limits = refl }
+edit_waits c s _ = record { inside = λ d. refl; waits = λ x d h. h; limits = refl }
 
-retype_waits : (s : State) (r f : ℕ) (k : FrameKind) → AllChanges (Waits s) (retype_rule s r f k)
-retype_waits s r f frame_kind.Untyped =
-    λ range. record { inside = λ d. refl; waits = node_waits s f (λ x. same_thing x (FrameOf f)); limits = refl }
-retype_waits s r f frame_kind.User = λ range. record { inside = λ d. refl; waits = λ x d h. h; limits = refl }
-retype_waits s r f frame_kind.Kernel = λ range. record { inside = λ d. refl; waits = λ x d h. h; limits = refl }
+then_waits : (s t u : State) → Waits s t → Waits t u → Waits s u
+then_waits s t u first next = record {
+  inside = λ d. next.inside d ∙ first.inside d;
+  waits = λ x d h. first.waits x d (next.waits x d h);
+  limits = next.limits ∙ first.limits;
+}
 
-touch_waits : (s : State) (c pages v : ℕ) (t : Option Translation) → AllChanges (Waits s) (touch_by s c pages v t)
-touch_waits s c pages v None = λ mapping. record { inside = λ d. core_inside s c d _ refl; waits = λ x d h. h; limits = refl }
-touch_waits s c pages v (Some t) = record { inside = λ d. refl; waits = λ x d h. h; limits = refl }
-
-switch_waits : (s : State) (c : ℕ) (h : Named) (q : ℕ) (e : Option ℕ) → AllChanges (Waits s) (switch_to s c h q e)
-switch_waits s c h q None = record { inside = λ d. core_inside s c d _ refl; waits = λ x d h. h; limits = refl }
-switch_waits s c h q (Some e) = record { inside = λ d. core_inside s c d _ refl; waits = λ x d h. h; limits = refl }
-
-pub rule_waits : (s : State) (c : ℕ) (call : Call) → AllChanges (Waits s) (rule_of s c call)
-rule_waits s c (Look a) = λ k. record { inside = λ d. refl; waits = λ x d h. h; limits = refl }
-rule_waits s c (Copy a t b rights) = λ k table at. record { inside = λ d. refl; waits = λ x d h. h; limits = refl }
-rule_waits s c (Remove t b) = λ table at k. record { inside = λ d. refl; waits = λ x d h. h; limits = refl }
-rule_waits s c (Grow t i l) = λ table leaf at. record { inside = λ d. refl; waits = λ x d h. h; limits = refl }
-rule_waits s c (Shrink t i) = λ table at k. record { inside = λ d. refl; waits = λ x d h. h; limits = refl }
-rule_waits s c (Retype r f k) = retype_waits s r f k
-rule_waits s c (make_call what range frame table slot) = make_waits s what range frame table slot
-rule_waits s c (Map p v r f w) = λ pages range at. record { inside = λ d. refl; waits = λ x d h. h; limits = refl }
-rule_waits s c (Unmap p v) = λ pages at k. record { inside = λ d. refl; waits = λ x d h. h; limits = refl }
-rule_waits s c (Touch v) = touch_waits s c (comp_of s c).pages v (translation_of (s.core c).cached (comp_of s c).pages v)
-rule_waits s c Flush = record { inside = λ d. core_inside s c d _ refl; waits = λ x d h. h; limits = refl }
-rule_waits s c (Gate k t b) = λ comp table at. record { inside = λ d. refl; waits = λ x d h. h; limits = refl }
-rule_waits s c (Kill k) = λ comp. record { inside = λ d. refl; waits = λ x d h. h; limits = refl }
-rule_waits s c (call_gate g) = λ gate. record { inside = λ d. refl; waits = λ x d h. h; limits = refl }
-rule_waits s c Ret = record { inside = λ d. refl; waits = λ x d h. h; limits = refl }
-rule_waits s c (Switch h q) = λ thread tcap. switch_waits s c (found thread) tcap.frame (thread_in (s.frame thread.frame)).runs_on
-rule_waits s c (Tick n) = record { inside = λ d. core_inside s c d _ refl; waits = λ x d h. h; limits = refl }
-rule_waits s c (Transfer a b m) = λ a b. record { inside = λ d. refl; waits = λ x d h. h; limits = refl }
-rule_waits s c (Delegate a b m) = λ a b. record { inside = λ d. refl; waits = λ x d h. h; limits = refl }
-rule_waits s c (Test a b) = λ a b. record { inside = λ d. refl; waits = λ x d h. h; limits = refl }
-rule_waits s c (Replenish a m) = λ a. record { inside = λ d. core_inside s c d _ refl; waits = λ x d h. h; limits = refl }
-rule_waits s c (Part r f n t b) = λ range table at. record { inside = λ d. refl; waits = λ x d h. h; limits = refl }
+pub found_waits : (s : State) (c : ℕ) (call : Call) → IfFound (change_of s c call) (λ change. Waits s change.next)
+found_waits s c call = outcome_all (λ change. Waits s change.next) s c (rule_of s c call) (all_edits (λ change. Waits s change.next) s c
+    (λ v es. each_edit Waits c (λ s. record { inside = λ d. refl; waits = λ x d h. h; limits = refl }) then_waits (edit_waits c) s es)
+    (rule_of s c call))
 
 -- The cores that wait are in a call.
 abbrev pub AreInside : State → Type 0
@@ -109,7 +85,8 @@ AreInside s = (x : Thing) (d : ℕ) → IsTrue ((s.grace x).waits d) → IsTrue 
 counted_inside : (s : State) (c : ℕ) → AreInside s → AreInside (counted s c)
 counted_inside s c h x d w = core_inside s c d _ refl ∙ h x d w
 
-changed_inside : (s : State) (found : Judged Change) → IfFound found (Waits s) → AreInside s → AreInside (changed s found)
+changed_inside : (s : State) (found : Judged Change) → IfFound found (λ change. Waits s change.next) → AreInside s
+    → AreInside (changed s found)
 changed_inside s (Refused r) waits h x d = h x d
 changed_inside s (Found change) waits h x d = tested (list_any (same_thing x) change.begins)
   where
@@ -123,7 +100,7 @@ owed_inside s c _ h x d w = h x d w
 
 decided_inside : (s : State) (c : ℕ) (call : Call) (r : Reply) → AreInside s → AreInside (state_by s c call r)
 decided_inside s c call (reply.Ok v) h = counted_inside (changed s (change_of s c call)) c
-    (changed_inside s (change_of s c call) (outcome_all (Waits s) s c (rule_of s c call) (rule_waits s c call)) h)
+    (changed_inside s (change_of s c call) (found_waits s c call) h)
 decided_inside s c call reply.CallsSpent h = h
 decided_inside s c call reply.Raced h = counted_inside (owed_by s c call) c (owed_inside s c call h)
 decided_inside s c call (reply.Busy e) h = counted_inside (owed_by s c call) c (owed_inside s c call h)
@@ -137,7 +114,7 @@ pub record Stays (s new : State) : Type 0 where
 counted_stays : (s t : State) (c : ℕ) → Stays s t → Stays s (counted t c)
 counted_stays s t c h = record { inside = λ d. core_inside t c d _ refl ∙ h.inside d; limits = h.limits }
 
-changed_stays : (s : State) (found : Judged Change) → IfFound found (Waits s) → Stays s (changed s found)
+changed_stays : (s : State) (found : Judged Change) → IfFound found (λ change. Waits s change.next) → Stays s (changed s found)
 changed_stays s (Refused r) waits = record { inside = λ d. refl; limits = refl }
 changed_stays s (Found change) waits = record { inside = waits.inside; limits = waits.limits }
 
@@ -147,7 +124,7 @@ owed_stays s c _ = record { inside = λ d. refl; limits = refl }
 
 pub decided_stays : (s : State) (c : ℕ) (call : Call) (r : Reply) → Stays s (state_by s c call r)
 decided_stays s c call (reply.Ok v) = counted_stays s (changed s (change_of s c call)) c
-    (changed_stays s (change_of s c call) (outcome_all (Waits s) s c (rule_of s c call) (rule_waits s c call)))
+    (changed_stays s (change_of s c call) (found_waits s c call))
 decided_stays s c call reply.CallsSpent = record { inside = λ d. refl; limits = refl }
 decided_stays s c call reply.Raced = counted_stays s (owed_by s c call) c (owed_stays s c call)
 decided_stays s c call (reply.Busy e) = counted_stays s (owed_by s c call) c (owed_stays s c call)
@@ -186,11 +163,11 @@ retype_plain s r f frame_kind.Untyped = λ range. (tt, (tt, (tt, (tt, tt))))
 retype_plain s r f frame_kind.User = λ range. (tt, (tt, tt))
 retype_plain s r f frame_kind.Kernel = λ range. (tt, (tt, tt))
 
-touch_plain : (s : State) (c pages v : ℕ) (t : Option Translation) → HasPlain (touch_by s c pages v t)
+touch_plain : (s : State) (c pages v : ℕ) (t : Option Translation) → HasPlain (touch_by pages v t)
 touch_plain s c pages v None = λ mapping. tt
 touch_plain s c pages v (Some t) = (tt, tt)
 
-switch_plain : (s : State) (c : ℕ) (h : Named) (q : ℕ) (e : Option ℕ) → HasPlain (switch_to s c h q e)
+switch_plain : (s : State) (c : ℕ) (h : Named) (q : ℕ) (e : Option ℕ) → HasPlain (switch_to h q e)
 switch_plain s c h q None = tt
 switch_plain s c h q (Some e) = (tt, tt)
 

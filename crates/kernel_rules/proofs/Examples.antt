@@ -1,6 +1,6 @@
 -- Worked examples, which the checker computes, of what is easily forgotten: what an invocation may be refused with where its name
 -- leads to no gate, what waits for flushes, and what a core does whose component was killed.
-use Rattle.std.proofs.Common.{◌≡◌, ◌⊎◌, inl, inr, refl, ℕ, Bool, true, false, IsTrue}
+use Rattle.std.proofs.Common.{◌≡◌, ◌⊎◌, inl, inr, refl, Bool, true, false, IsTrue}
 use Rattle.std.proofs.lemmas.Bool.{false≢true, true≢false}
 use Rattle.std.specs.Prelude.{List, [], ◌∷◌, None}
 use Rattle.spk_nums.specs.declared.kinds.Kind.TheVariants as kind

@@ -12,35 +12,36 @@ use Rattle.spk_nums.specs.declared.replies.Reply.TheVariants as reply
 use Rattle.kernel_rules.specs.State.{Thing, FrameOf, State, with_core}
 use Rattle.kernel_rules.specs.GracePeriods.{same_thing, begun}
 use Rattle.kernel_rules.specs.Life.{lives, asks_life, acts}
+use Rattle.kernel_rules.specs.Edits.{is_place_of}
 use Rattle.kernel_rules.specs.Rules.{Change, Rule, Judged, Refused, Found, outcome, RuleMay, RuleAnswers}
-use Rattle.kernel_rules.specs.CapabilityCalls.{look_rule, copy_rule, part_rule, remove_rule, grow_rule, shrink_rule, make_rule, is_place_of}
+use Rattle.kernel_rules.specs.CapabilityCalls.{look_rule, copy_rule, part_rule, remove_rule, grow_rule, shrink_rule, make_rule}
 use Rattle.kernel_rules.specs.MemoryCalls.{retype_rule, map_rule, unmap_rule, touch_rule, flush_rule}
 use Rattle.kernel_rules.specs.InvocationCalls.{gate_rule, kill_rule, call_rule, ret_rule, switch_rule}
-use Rattle.kernel_rules.specs.TimeCalls.{owing, tick_rule, transfer_rule, delegate_rule, test_rule, replenish_rule}
+use Rattle.kernel_rules.specs.TimeCalls.{tick_rule, transfer_rule, delegate_rule, test_rule, replenish_rule}
 
 -- The rule of a call of core c.
 abbrev pub rule_of : State → ℕ → Call → Rule
-rule_of s c (Look a) = look_rule s a
-rule_of s c (Copy a t b rights) = copy_rule s a t b rights.0
-rule_of s c (Remove t b) = remove_rule s t b
-rule_of s c (Grow t i l) = grow_rule s t i l
-rule_of s c (Shrink t i) = shrink_rule s t i
+rule_of s c (Look a) = look_rule a
+rule_of s c (Copy a t b rights) = copy_rule a t b rights.0
+rule_of s c (Remove t b) = remove_rule t b
+rule_of s c (Grow t i l) = grow_rule t i l
+rule_of s c (Shrink t i) = shrink_rule t i
 rule_of s c (Retype r f k) = retype_rule s r f k
 rule_of s c (make_call what range frame table slot) = make_rule s what range frame table slot
 rule_of s c (Map p v r f w) = map_rule s p v r f w
-rule_of s c (Unmap p v) = unmap_rule s p v
+rule_of s c (Unmap p v) = unmap_rule p v
 rule_of s c (Touch v) = touch_rule s c v
-rule_of s c Flush = flush_rule s c
+rule_of s c Flush = flush_rule
 rule_of s c (Gate k t b) = gate_rule s k t b
 rule_of s c (Kill k) = kill_rule s k
 rule_of s c (call_gate g) = call_rule s c g
 rule_of s c Ret = ret_rule s c
-rule_of s c (Switch h q) = switch_rule s c h q
+rule_of s c (Switch h q) = switch_rule s h q
 rule_of s c (Tick n) = tick_rule s c n
 rule_of s c (Transfer a b m) = transfer_rule s a b m
 rule_of s c (Delegate a b m) = delegate_rule s a b m
 rule_of s c (Test a b) = test_rule s a b
-rule_of s c (Part r f n t b) = part_rule s r f n t b
+rule_of s c (Part r f n t b) = part_rule r f n t b
 rule_of s c (Replenish a m) = replenish_rule s c a m
 
 -- Whether core c has made as many calls as its limit.
@@ -108,6 +109,10 @@ flushes call _ = false
 abbrev pub changed : State → Judged Change → State
 changed s (Refused r) = s
 changed s (Found change) = begun s change.begins change.next
+
+-- The state in which core c owes n ticks more.
+abbrev pub owing : State → ℕ → ℕ → State
+owing s c n = with_core s c (record (s.core c) { owed = (s.core c).owed + n })
 
 -- The state after a call answered `raced` or `busy`: as it was, but the ticks of a `tick` are owed.
 abbrev pub owed_by : State → ℕ → Call → State

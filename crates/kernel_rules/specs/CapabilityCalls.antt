@@ -1,5 +1,6 @@
--- The calls on capabilities. Each rule reads: what the call names, in order; its target; its own causes; what it does.
-use Rattle.std.specs.Prelude.{ℕ, ◌+◌, Bool, true, false, not, ◌&&◌, ◌==◌, nat_lt, nat_le, if◌then◌else◌, List, [], ◌∷◌, ◌++◌, None}
+-- The calls on capabilities. Each rule reads: what the call names, in order; its target; its own causes, the value that it
+-- answers, and its edits.
+use Rattle.std.specs.Prelude.{ℕ, ◌+◌, Bool, true, false, not, ◌&&◌, ◌==◌, nat_lt, nat_le, if◌then◌else◌, List, [], ◌∷◌, None}
 use Rattle.spk_nums.specs.Rights.{kept, part_of}
 use Rattle.spk_nums.specs.declared.kinds.Kind.{Kind}
 use Rattle.spk_nums.specs.declared.kinds.Kind.TheVariants as kind
@@ -7,35 +8,34 @@ use Rattle.spk_nums.specs.declared.calls.Make.{Make}
 use Rattle.spk_nums.specs.declared.calls.Make.TheVariants as make
 use Rattle.spk_nums.specs.declared.replies.Value.TheVariants.{Nothing, Cap}
 use Rattle.spk_nums.specs.declared.replies.Reply.TheVariants as reply
-use Rattle.kernel_rules.specs.State.{Free, Holds, CompFields, Object, Blank, Table, Leaf, Pages, Pleaf, Comp}
-use Rattle.kernel_rules.specs.State.{Thread, Tcap, Frame, Kernel, Liveness, Unused, Live, Dead, Thing, PlaceOf}
-use Rattle.kernel_rules.specs.State.{FrameOf, NumberOf, State, put, with_place, with_frame, with_number}
-use Rattle.kernel_rules.specs.Start.{plain_cap, no_grace}
-use Rattle.kernel_rules.specs.References.{place_names, frame_names, number_names}
-use Rattle.kernel_rules.specs.Access.{Slot, Named, capability, Under, InRoot, any, only, root, to_look, to_copy, to_part, to_use}
-use Rattle.kernel_rules.specs.Rules.{Change, Cause, When, WaitedFor, Rule, Name, Vacant, Held, Does, answers, fills, removes}
+use Rattle.kernel_rules.specs.State.{Object, Blank, Table, Leaf, Pages, Pleaf, Thread, Tcap, Frame, Kernel}
+use Rattle.kernel_rules.specs.State.{Liveness, Unused, Live, Dead, NumberOf, State}
+use Rattle.kernel_rules.specs.Start.{plain_cap}
+use Rattle.kernel_rules.specs.Access.{Named, capability, Under, InRoot, any, only, root, to_look, to_copy, to_part, to_use}
+use Rattle.kernel_rules.specs.Edits.{Fill, Remove, Node, Become, Component}
+use Rattle.kernel_rules.specs.Rules.{Cause, When, WaitedFor, Rule, Name, Vacant, Held, Does}
 
 -- `look A` names any capability A, and answers it, whatever its rights.
-abbrev pub look_rule : State → ℕ → Rule
-look_rule s a =
+abbrev pub look_rule : ℕ → Rule
+look_rule a =
     Name a (to_look any) λ cap.
-    Does [] (answers s (Cap (capability cap)))
+    Does [] (Cap (capability cap)) []
 
 -- `copy A T B R` names any capability A that may be copied, and a table T; the free place B of T then holds A's capability with those
 -- of its rights that are in R.
-abbrev pub copy_rule : State → ℕ → ℕ → ℕ → ℕ → Rule
-copy_rule s a t b rights =
+abbrev pub copy_rule : ℕ → ℕ → ℕ → ℕ → Rule
+copy_rule a t b rights =
     Name a (to_copy any) λ cap.
     Name t (to_use (only kind.Table)) λ table.
     Vacant (Under table b) λ at.
-    Does [] (fills s at (kept (capability cap) rights))
+    Does [] Nothing (Fill at (kept (capability cap) rights) ∷ [])
 
 -- `remove T B` names a table T; what its place B holds is removed.
-abbrev pub remove_rule : State → ℕ → ℕ → Rule
-remove_rule s t b =
+abbrev pub remove_rule : ℕ → ℕ → Rule
+remove_rule t b =
     Name t (to_use (only kind.Table)) λ table.
     Held (Under table b) λ at cap.
-    Does [] (removes s at cap)
+    Does [] Nothing (Remove at cap ∷ [])
 
 -- The kind of the leaf that a root takes.
 abbrev pub leaf_of : Kind → Kind
@@ -47,19 +47,19 @@ abbrev pub leaf_for : Named → Kind → Bool
 leaf_for table = if table.found then only (leaf_of table.kind) else any
 
 -- `grow T I L` names a root T and a leaf L of its kind; the free root entry I of T then holds a link to L's frame.
-abbrev pub grow_rule : State → ℕ → ℕ → ℕ → Rule
-grow_rule s t i l =
+abbrev pub grow_rule : ℕ → ℕ → ℕ → Rule
+grow_rule t i l =
     Name t (to_use root) λ table.
     Name l (to_use (leaf_for table)) λ leaf.
     Vacant (InRoot table i) λ at.
-    Does [] (fills s at (plain_cap kind.Link leaf.frame))
+    Does [] Nothing (Fill at (plain_cap kind.Link leaf.frame) ∷ [])
 
 -- `shrink T I` names a root T; the link in its root entry I is removed, and the leaf keeps its entries.
-abbrev pub shrink_rule : State → ℕ → ℕ → Rule
-shrink_rule s t i =
+abbrev pub shrink_rule : ℕ → ℕ → Rule
+shrink_rule t i =
     Name t (to_use root) λ table.
     Held (InRoot table i) λ at link.
-    Does [] (removes s at link)
+    Does [] Nothing (Remove at link ∷ [])
 
 -- Whether a range has a frame.
 abbrev pub has_frame : Named → ℕ → Bool
@@ -79,12 +79,12 @@ beyond range f n = When (range.found && not (has_frames range f n)) reply.OutOfR
 
 -- `part R F N T B` names a range R that may be copied and used, and a table T; the free place B of T then holds the range of the N
 -- frames from F on, which are within R, with R's rights.
-abbrev pub part_rule : State → ℕ → ℕ → ℕ → ℕ → ℕ → Rule
-part_rule s r f n t b =
+abbrev pub part_rule : ℕ → ℕ → ℕ → ℕ → ℕ → Rule
+part_rule r f n t b =
     Name r (to_part (only kind.Range)) λ range.
     Name t (to_use (only kind.Table)) λ table.
     Vacant (Under table b) λ at.
-    Does (beyond range f n ∷ []) (fills s at (part_of (capability range) f n))
+    Does (beyond range f n ∷ []) Nothing (Fill at (part_of (capability range) f n) ∷ [])
 
 -- Whether a number is that of a frame of the machine.
 abbrev pub is_frame : State → ℕ → Bool
@@ -99,33 +99,13 @@ is_blank _ = false
 abbrev pub not_blank : State → ℕ → Cause
 not_blank s f = When (is_frame s f && not (is_blank (s.frame f))) reply.FrameKind
 
--- The change of a `make`: the frame holds the object, and the target its capability. References are taken for the capability
--- and for the object's fields.
-abbrev pub makes : State → ℕ → Object → Kind → Slot → Change
-makes s f object k at = record {
-  value = Nothing;
-  next = with_place (with_frame s f (Kernel object)) at.node at.index (Holds (plain_cap k f));
-  takes = place_names (Holds (plain_cap k f)) ++ frame_names (Kernel object);
-  begins = [];
-}
-
--- Whether a thing is a place of this node.
-abbrev pub is_place_of : ℕ → Thing → Bool
-is_place_of f (PlaceOf g i) = g == f
-is_place_of f (FrameOf g) = false
-is_place_of f (NumberOf l) = false
-
--- The state in which every place of a node is free, without a grace period.
-abbrev pub cleared : State → ℕ → State
-cleared s f = record s { place = put s.place f (λ i. Free); grace = λ x. if is_place_of f x then no_grace else s.grace x }
-
 -- `make` of an empty node: every place of it is free.
 abbrev pub make_node : State → Object → Kind → ℕ → ℕ → ℕ → ℕ → Rule
 make_node s object k r f t b =
     Name r (to_use (only kind.Range)) λ range.
     Name t (to_use (only kind.Table)) λ table.
     Vacant (Under table b) λ at.
-    Does (outside range f ∷ not_blank s f ∷ []) (makes (cleared s f) f object k at)
+    Does (outside range f ∷ not_blank s f ∷ []) Nothing (Node f object ∷ Fill at (plain_cap k f) ∷ [])
 
 -- `make thread R F T B C`: F is an idle thread whose stack holds C's frame.
 abbrev pub make_thread : State → ℕ → ℕ → ℕ → ℕ → ℕ → Rule
@@ -134,8 +114,8 @@ make_thread s r f t b c =
     Name t (to_use (only kind.Table)) λ table.
     Name c (to_use (only kind.Comp)) λ comp.
     Vacant (Under table b) λ at.
-    Does (outside range f ∷ not_blank s f ∷ [])
-    (makes s f (Thread (record { stack = comp.frame ∷ []; runs_on = None })) kind.Thread at)
+    Does (outside range f ∷ not_blank s f ∷ []) Nothing
+    (Become f (Kernel (Thread (record { stack = comp.frame ∷ []; runs_on = None }))) ∷ Fill at (plain_cap kind.Thread f) ∷ [])
 
 -- `make tcap R F T B S W`: F is a temporal capability without budget, with the list of the one pair (S, W).
 abbrev pub make_tcap : State → ℕ → ℕ → ℕ → ℕ → ℕ → ℕ → Rule
@@ -143,8 +123,8 @@ make_tcap s r f t b sched quality =
     Name r (to_use (only kind.Range)) λ range.
     Name t (to_use (only kind.Table)) λ table.
     Vacant (Under table b) λ at.
-    Does (outside range f ∷ not_blank s f ∷ [])
-    (makes s f (Tcap (record { budget = 0; qualities = (sched, quality) ∷ [] })) kind.Tcap at)
+    Does (outside range f ∷ not_blank s f ∷ []) Nothing
+    (Become f (Kernel (Tcap (record { budget = 0; qualities = (sched, quality) ∷ [] }))) ∷ Fill at (plain_cap kind.Tcap f) ∷ [])
 
 -- Whether a liveness number is live.
 abbrev pub is_live : Liveness → Bool
@@ -166,15 +146,6 @@ not_taken s l =
     ∷ When (epoch_of (s.number l) == s.limits.epochs) reply.EpochsSpent
     ∷ []
 
--- The change of `make comp`: besides, the liveness number is live for the frame in the object's epoch, and takes a reference.
-abbrev pub makes_comp : State → ℕ → CompFields → Slot → Change
-makes_comp s f comp at = record {
-  value = Nothing;
-  next = (makes (with_number s comp.number (Live comp.epoch f)) f (Comp comp) kind.Comp at).next;
-  takes = number_names (Live comp.epoch f) ++ (makes s f (Comp comp) kind.Comp at).takes;
-  begins = [];
-}
-
 -- `make comp R F T B X P L`: F is a component with the table X, the pages P and the liveness number L, whose epoch rises by 1.
 abbrev pub make_comp : State → ℕ → ℕ → ℕ → ℕ → ℕ → ℕ → ℕ → Rule
 make_comp s r f t b x p l =
@@ -183,8 +154,9 @@ make_comp s r f t b x p l =
     Name x (to_use (only kind.Table)) λ own_table.
     Name p (to_use (only kind.Pages)) λ own_pages.
     Vacant (Under table b) λ at.
-    Does (outside range f ∷ not_blank s f ∷ not_taken s l)
-    (makes_comp s f (record { table = own_table.frame; pages = own_pages.frame; number = l; epoch = epoch_of (s.number l) + 1 }) at)
+    Does (outside range f ∷ not_blank s f ∷ not_taken s l) Nothing
+    (Component f (record { table = own_table.frame; pages = own_pages.frame; number = l; epoch = epoch_of (s.number l) + 1 })
+    ∷ Fill at (plain_cap kind.Comp f) ∷ [])
 
 -- `make O R F T B ..` names a range R and a table T; the blank kernel frame F of R becomes an O, and the free place B of T
 -- holds its capability.

@@ -4,6 +4,7 @@ pub mod References
 pub mod Access
 pub mod GracePeriods
 pub mod Life
+pub mod Edits
 pub mod Rules
 pub mod CapabilityCalls
 pub mod MemoryCalls

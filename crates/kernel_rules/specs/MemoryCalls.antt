@@ -1,6 +1,6 @@
 -- The calls on memory: retyping frames, and mapping, touching and flushing pages.
-use Rattle.std.specs.Prelude.{ℕ, Bool, true, false, not, ◌&&◌, ◌==◌, nat_lt, nat_le, if◌then◌else◌}
-use Rattle.std.specs.Prelude.{List, [], ◌∷◌, ◌++◌, length, Option, Some, None, is_some, find}
+use Rattle.std.specs.Prelude.{ℕ, Bool, true, false, not, ◌&&◌, ◌==◌, nat_lt, nat_le}
+use Rattle.std.specs.Prelude.{List, [], ◌∷◌, length, Option, Some, None, is_some, find}
 use Rattle.std.specs.List.{list_any, range_with_len}
 use Rattle.spk_nums.specs.Capability.{cap_of}
 use Rattle.spk_nums.specs.declared.kinds.Kind.TheVariants as kind
@@ -11,14 +11,11 @@ use Rattle.spk_nums.specs.declared.translations.Translation.{Translation}
 use Rattle.spk_nums.specs.declared.replies.Value.{Value}
 use Rattle.spk_nums.specs.declared.replies.Value.TheVariants.{Nothing, Page}
 use Rattle.spk_nums.specs.declared.replies.Reply.TheVariants as reply
-use Rattle.kernel_rules.specs.State.{Object, Blank, Comp, Thread, Tcap, Frame, Untyped, User, Kernel}
-use Rattle.kernel_rules.specs.State.{FrameOf, State, with_frame, with_core, with_grace, comp_of}
-use Rattle.kernel_rules.specs.Start.{no_grace}
-use Rattle.kernel_rules.specs.References.{refs, frame_names}
+use Rattle.kernel_rules.specs.State.{Object, Blank, Comp, Thread, Tcap, Frame, Untyped, User, Kernel, FrameOf, State, comp_of}
+use Rattle.kernel_rules.specs.References.{refs}
 use Rattle.kernel_rules.specs.Access.{Under, only, to_use, held_in}
-use Rattle.kernel_rules.specs.GracePeriods.{same_thing, flushed}
-use Rattle.kernel_rules.specs.Rules.{Change, Cause, When, WaitedFor, Unflushed, Rule, Name, Vacant}
-use Rattle.kernel_rules.specs.Rules.{Held, Mapped, Does, answers, leaves, fills, frames_of, removes}
+use Rattle.kernel_rules.specs.Edits.{Edit, Fill, Remove, Become, Untype, Cache, Flush}
+use Rattle.kernel_rules.specs.Rules.{Cause, When, WaitedFor, Unflushed, Rule, Name, Vacant, Held, Mapped, Does}
 use Rattle.kernel_rules.specs.CapabilityCalls.{outside, is_frame}
 
 -- Whether a frame is untyped.
@@ -70,22 +67,17 @@ not_retyped s f frame_kind.Untyped =
     ∷ []
 not_retyped s f _ = not_untyped s f ∷ []
 
--- The change of a retype: to untyped it ends the frame's grace period and releases the references of its object.
-abbrev pub retypes : State → ℕ → FrameKind → Change
-retypes s f frame_kind.Untyped = record {
-  value = Nothing;
-  next = with_grace (with_frame s f Untyped) (λ x. if same_thing x (FrameOf f) then no_grace else s.grace x);
-  takes = [];
-  begins = frames_of (frame_names (s.frame f));
-}
-retypes s f frame_kind.User = leaves (with_frame s f User)
-retypes s f frame_kind.Kernel = leaves (with_frame s f (Kernel Blank))
+-- The edit of a retype: to untyped it ends the frame's grace period and releases the references of its object.
+abbrev pub retypes : ℕ → FrameKind → Edit
+retypes f frame_kind.Untyped = Untype f
+retypes f frame_kind.User = Become f User
+retypes f frame_kind.Kernel = Become f (Kernel Blank)
 
 -- `retype R F K` names a range R; its frame F becomes one of the kind K.
 abbrev pub retype_rule : State → ℕ → ℕ → FrameKind → Rule
 retype_rule s r f k =
     Name r (to_use (only kind.Range)) λ range.
-    Does (outside range f ∷ not_retyped s f k) (retypes s f k)
+    Does (outside range f ∷ not_retyped s f k) Nothing (retypes f k ∷ [])
 
 -- `frame-kind` of a `map`: the frame is one of the machine's, and no user frame.
 abbrev pub not_user : State → ℕ → Cause
@@ -97,42 +89,38 @@ map_rule s p v r f w =
     Name p (to_use (only kind.Pages)) λ pages.
     Name r (to_use (only kind.Range)) λ range.
     Vacant (Under pages v) λ at.
-    Does (outside range f ∷ not_user s f ∷ []) (fills s at (cap_of kind.Page f w.0))
+    Does (outside range f ∷ not_user s f ∷ []) Nothing (Fill at (cap_of kind.Page f w.0) ∷ [])
 
 -- `unmap P V` names pages P; the mapping of its page V is removed.
-abbrev pub unmap_rule : State → ℕ → ℕ → Rule
-unmap_rule s p v =
+abbrev pub unmap_rule : ℕ → ℕ → Rule
+unmap_rule p v =
     Name p (to_use (only kind.Pages)) λ pages.
     Held (Under pages v) λ at mapping.
-    Does [] (removes s at mapping)
+    Does [] Nothing (Remove at mapping ∷ [])
 
 -- The translation of a page of a page root that a list has, if it has one.
 abbrev pub translation_of : List Translation → ℕ → ℕ → Option Translation
 translation_of cached pages v = find (λ t. t.pages == pages && t.page == v) cached
 
--- The list with one more translation, where it has room: it keeps 64.
-abbrev pub caching : List Translation → Translation → List Translation
-caching cached t = if nat_lt (length cached) 64 then cached ++ t ∷ [] else cached
-
 -- The answer that a translation gives.
 abbrev pub translated : Translation → Value
 translated t = Page t.frame t.flags
 
--- The change of a `touch` that walked the table: it answers the translation found, and caches it.
-abbrev pub caches : State → ℕ → Translation → Change
-caches s c t = answers (with_core s c (record (s.core c) { cached = caching (s.core c).cached t })) (translated t)
+-- A `touch` that walked the table answers the translation found, and caches it.
+abbrev pub caches : Translation → Rule
+caches t = Does [] (translated t) (Cache t ∷ [])
 
 -- A `touch` answers the cached translation, or else the mapping found in the table.
-abbrev pub touch_by : State → ℕ → ℕ → ℕ → Option Translation → Rule
-touch_by s c pages v (Some t) = Does (When (nat_lt 4095 v) reply.NoSlot ∷ []) (answers s (translated t))
-touch_by s c pages v None =
+abbrev pub touch_by : ℕ → ℕ → Option Translation → Rule
+touch_by pages v (Some t) = Does (When (nat_lt 4095 v) reply.NoSlot ∷ []) (translated t) []
+touch_by pages v None =
     Mapped pages v λ mapping.
-    Does [] (caches s c (record { pages = pages; page = v; frame = mapping.frame; flags = record { 0 = mapping.arg } }))
+    caches (record { pages = pages; page = v; frame = mapping.frame; flags = record { 0 = mapping.arg } })
 
 -- `touch V` answers the frame and flags of the page V of the pages of the component that core c works in.
 abbrev pub touch_rule : State → ℕ → ℕ → Rule
-touch_rule s c v = touch_by s c (comp_of s c).pages v (translation_of (s.core c).cached (comp_of s c).pages v)
+touch_rule s c v = touch_by (comp_of s c).pages v (translation_of (s.core c).cached (comp_of s c).pages v)
 
--- `flush` empties the translations of core c.
-abbrev pub flush_rule : State → ℕ → Rule
-flush_rule s c = Does [] (leaves (flushed s c))
+-- `flush` empties the translations of its core.
+abbrev pub flush_rule : Rule
+flush_rule = Does [] Nothing (Flush ∷ [])

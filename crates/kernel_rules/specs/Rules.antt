@@ -6,23 +6,25 @@ use Rattle.std.specs.Prelude.{◌∷◌, Option, Some, None, IsSomeAnd, is_some,
 use Rattle.spk_nums.specs.Capability.{Capability}
 use Rattle.spk_nums.specs.Rights.{has_rights}
 use Rattle.spk_nums.specs.declared.replies.Value.{Value}
-use Rattle.spk_nums.specs.declared.replies.Value.TheVariants.{Nothing}
 use Rattle.spk_nums.specs.declared.replies.Reply.{Reply}
 use Rattle.spk_nums.specs.declared.replies.Reply.TheVariants as reply
-use Rattle.kernel_rules.specs.State.{Place, Free, Holds, Quiescing, Thing, PlaceOf, FrameOf, State, with_place}
-use Rattle.kernel_rules.specs.References.{place_names}
+use Rattle.kernel_rules.specs.State.{Place, Free, Holds, Quiescing, Thing, PlaceOf, State}
 use Rattle.kernel_rules.specs.Access.{Slot, Named, found, not_found, root_at, Want, Target, Under, place_at}
 use Rattle.kernel_rules.specs.Access.{held_in, usable, reached, has_no_slot, root_slot, holds_link, own}
 use Rattle.kernel_rules.specs.GracePeriods.{lowest, other_waiting, quiescing_by, unflushed_by, MayWait, MayBeUnflushed}
+use Rattle.kernel_rules.specs.Edits.{Edit, after_edits, takes_all, begins_all}
 
 -- What a call does that is carried out: the value that it answers, the state that it leaves but for the grace periods that it
--- begins, the frames to which it takes a reference, and the things whose grace periods it begins: a place that it removes, a
--- liveness number that it kills, and each frame to which it releases a reference.
+-- begins, the frames to which it takes a reference, and the things whose grace periods it begins.
 pub record Change : Type 0 where
   pub value : Value
   pub next : State
   pub takes : List ℕ
   pub begins : List Thing
+
+-- The change that core c makes by a list of edits, with the value that it answers.
+abbrev pub does : ℕ → State → Value → List Edit → Change
+does c s v es = record { value = v; next = after_edits c s es; takes = takes_all c s es; begins = begins_all c s es }
 
 -- A cause of refusal of a call's own: a condition, with its reply; a thing for which another core still waits; a thing that a
 -- core has not flushed.
@@ -32,13 +34,13 @@ pub data Cause : Type 0 where
   Unflushed : Thing → Cause
 
 -- A rule: a capability of this number, such as is wanted; a target that is to be free; a target that is to be held; a page
--- that is to be mapped, by its root; and, after them, the call's own causes in order, and the change.
+-- that is to be mapped, by its root; and, after them, the call's own causes in order, the value that it answers, and its edits.
 pub data Rule : Type 0 where
   Name : ℕ → Want → (Named → Rule) → Rule
   Vacant : Target → (Slot → Rule) → Rule
   Held : Target → (Slot → Capability → Rule) → Rule
   Mapped : ℕ → ℕ → (Capability → Rule) → Rule
-  Does : List Cause → Change → Rule
+  Does : List Cause → Value → List Edit → Rule
 
 -- What is judged is refused, or found.
 pub data Judged (A : Type 0) : Type 0 where
@@ -125,13 +127,13 @@ abbrev pub first_cause : State → ℕ → List Cause → Option Reply
 first_cause s c [] = None
 first_cause s c (cause ∷ causes) = first_of (refusal_of s c cause) (first_cause s c causes)
 
--- The outcome of a rule: the first refusal in its order, or the change.
+-- The outcome of a rule: the first refusal in its order, or the change that its edits make.
 abbrev pub outcome : State → ℕ → Rule → Judged Change
 outcome s c (Name n want rest) = and_then (named s c n want) λ k. outcome s c (rest (found k))
 outcome s c (Vacant target rest) = and_then (vacant s c target) λ at. outcome s c (rest at)
 outcome s c (Held target rest) = and_then (held s c target) λ p. outcome s c (rest p.0 p.1)
 outcome s c (Mapped table v rest) = and_then (mapped s c table v) λ k. outcome s c (rest k)
-outcome s c (Does causes change) = unless (first_cause s c causes) change
+outcome s c (Does causes value edits) = unless (first_cause s c causes) (does c s value edits)
 
 -- P holds of what is found.
 abbrev pub IsFoundAnd : {A : Type 0} → Judged A → (A → Type 0) → Type 0
@@ -226,34 +228,8 @@ RuleMay s c (Name n want rest) r = NameMay s c n want r ⊎ RuleMay s c (rest (n
 RuleMay s c (Vacant target rest) r = VacantMay s c target r ⊎ RuleMay s c (rest (slot_of (reached s c target))) r
 RuleMay s c (Held target rest) r = HeldMay s c target r ⊎ IsFoundAnd (held s c target) λ p. RuleMay s c (rest p.0 p.1) r
 RuleMay s c (Mapped table v rest) r = MappedMay s c table v r ⊎ IsFoundAnd (mapped s c table v) λ k. RuleMay s c (rest k) r
-RuleMay s c (Does causes change) r = OneMay s c causes r
+RuleMay s c (Does causes value edits) r = OneMay s c causes r
 
 -- A rule may be carried out with this value.
 abbrev pub RuleAnswers : State → ℕ → Rule → Value → Type 0
 RuleAnswers s c rule v = IsFoundAnd (outcome s c rule) λ change. change.value ≡ v
-
--- A call that only answers.
-abbrev pub answers : State → Value → Change
-answers s v = record { value = v; next = s; takes = []; begins = [] }
-
--- A call that leaves this state, and touches no reference.
-abbrev pub leaves : State → Change
-leaves next = answers next Nothing
-
--- A call that fills a place.
-abbrev pub fills : State → Slot → Capability → Change
-fills s at k = record { value = Nothing; next = with_place s at.node at.index (Holds k); takes = place_names (Holds k); begins = [] }
-
--- The frames, each as a thing.
-abbrev pub frames_of : List ℕ → List Thing
-frames_of [] = []
-frames_of (f ∷ fs) = FrameOf f ∷ frames_of fs
-
--- A removal: the place is quiescing, and the reference of what it held is released.
-abbrev pub removes : State → Slot → Capability → Change
-removes s at k = record {
-  value = Nothing;
-  next = with_place s at.node at.index (Quiescing k);
-  takes = [];
-  begins = PlaceOf at.node at.index ∷ frames_of (place_names (Holds k));
-}

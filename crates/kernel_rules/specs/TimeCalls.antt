@@ -1,55 +1,18 @@
 -- The calls of time: charging ticks, moving budgets, testing preemption, and giving back what was spent.
-use Rattle.std.specs.Prelude.{ℕ, ◌+◌, ◌-◌, Bool, true, false, not, ◌&&◌, ◌==◌, nat_lt, min, if◌then◌else◌, List, [], ◌∷◌, length}
+use Rattle.std.specs.Prelude.{ℕ, ◌+◌, Bool, true, false, not, ◌&&◌, ◌==◌, nat_lt, min, if◌then◌else◌, List, [], ◌∷◌, length}
 use Rattle.spk_nums.specs.Merging.{merged, covers, preempts_by}
 use Rattle.spk_nums.specs.declared.kinds.Kind.TheVariants as kind
 use Rattle.spk_nums.specs.declared.replies.Value.{Value}
-use Rattle.spk_nums.specs.declared.replies.Value.TheVariants.{Amount, Preempts, Stays}
+use Rattle.spk_nums.specs.declared.replies.Value.TheVariants.{Nothing, Amount, Preempts, Stays}
 use Rattle.spk_nums.specs.declared.replies.Reply.TheVariants as reply
-use Rattle.kernel_rules.specs.State.{TcapFields, Frame, Kernel, Tcap, State, with_frame, with_core, tcap_in, outstanding}
+use Rattle.kernel_rules.specs.State.{TcapFields, State, outstanding}
 use Rattle.kernel_rules.specs.Access.{Named, only, to_use}
-use Rattle.kernel_rules.specs.Rules.{Change, Cause, When, Rule, Name, Does, answers, leaves}
-
--- The temporal capability of a frame.
-abbrev pub tcap_at : State → ℕ → TcapFields
-tcap_at s f = tcap_in (s.frame f)
-
--- A frame with another temporal capability in place of its own.
-abbrev pub with_tcap : Frame → TcapFields → Frame
-with_tcap (Kernel (Tcap q)) p = Kernel (Tcap p)
-with_tcap x p = x
-
--- The state in which the temporal capability of a frame has this budget.
-abbrev pub with_budget : State → ℕ → ℕ → State
-with_budget s f budget = with_frame s f (with_tcap (s.frame f) (record (tcap_at s f) { budget = budget }))
-
--- The state in which the temporal capability of a frame has this list.
-abbrev pub with_qualities : State → ℕ → List (ℕ × ℕ) → State
-with_qualities s f qualities = with_frame s f (with_tcap (s.frame f) (record (tcap_at s f) { qualities = qualities }))
-
--- The state in which core c owes n ticks more.
-abbrev pub owing : State → ℕ → ℕ → State
-owing s c n = with_core s c (record (s.core c) { owed = (s.core c).owed + n })
-
--- The ticks that are charged of those due: as far as the current temporal capability has budget.
-abbrev pub charge : State → ℕ → ℕ → ℕ
-charge s c due = min due (tcap_at s (s.core c).tcap).budget
-
--- The change of a `tick`, of which so many ticks are due and so many are charged: the charged ticks leave the current
--- temporal capability's budget and are spent, and the rest stays owed.
-abbrev pub charges : State → ℕ → ℕ → ℕ → Change
-charges s c due charged =
-    answers (
-    with_core (with_budget s (s.core c).tcap ((tcap_at s (s.core c).tcap).budget - charged)) c
-    (record (s.core c) { spent = (s.core c).spent + charged; owed = due - charged }))
-    (Amount charged)
+use Rattle.kernel_rules.specs.Edits.{tcap_at, charge, Charge, Move, Merge, Give}
+use Rattle.kernel_rules.specs.Rules.{Cause, When, Rule, Name, Does}
 
 -- `tick N` charges the N ticks and those owed to the current temporal capability, and answers how many it charged.
 abbrev pub tick_rule : State → ℕ → ℕ → Rule
-tick_rule s c n = Does [] (charges s c (n + (s.core c).owed) (charge s c (n + (s.core c).owed)))
-
--- The state in which m ticks have moved from one temporal capability to another.
-abbrev pub moved : State → ℕ → ℕ → ℕ → State
-moved s a b m = with_budget (with_budget s a ((tcap_at s a).budget - m)) b ((tcap_at s b).budget + m)
+tick_rule s c n = Does [] (Amount (charge s c (n + (s.core c).owed))) (Charge n ∷ [])
 
 -- `same`: both names lead to one temporal capability.
 abbrev pub are_same : Named → Named → Cause
@@ -76,8 +39,7 @@ abbrev pub transfer_rule : State → ℕ → ℕ → ℕ → Rule
 transfer_rule s a b m =
     Name a (to_use (only kind.Tcap)) λ a.
     Name b (to_use (only kind.Tcap)) λ b.
-    Does (are_same a b ∷ is_short s a m ∷ are_unlike s a b ∷ [])
-    (leaves (moved s a.frame b.frame m))
+    Does (are_same a b ∷ is_short s a m ∷ are_unlike s a b ∷ []) Nothing (Move a.frame b.frame m ∷ [])
 
 -- The merged list of two temporal capabilities.
 abbrev pub merged_list : State → ℕ → ℕ → List (ℕ × ℕ)
@@ -92,8 +54,8 @@ abbrev pub delegate_rule : State → ℕ → ℕ → ℕ → Rule
 delegate_rule s a b m =
     Name a (to_use (only kind.Tcap)) λ a.
     Name b (to_use (only kind.Tcap)) λ b.
-    Does (are_same a b ∷ is_short s a m ∷ are_many s a b ∷ [])
-    (leaves (with_qualities (moved s a.frame b.frame m) b.frame (merged_list s a.frame b.frame)))
+    Does (are_same a b ∷ is_short s a m ∷ are_many s a b ∷ []) Nothing
+    (Move a.frame b.frame m ∷ Merge b.frame (merged_list s a.frame b.frame) ∷ [])
 
 -- The answer of a `test`.
 abbrev pub preemption : Bool → Value
@@ -108,7 +70,7 @@ abbrev pub test_rule : State → ℕ → ℕ → Rule
 test_rule s a b =
     Name a (to_use (only kind.Tcap)) λ a.
     Name b (to_use (only kind.Tcap)) λ b.
-    Does (are_same a b ∷ []) (answers s (preemption (preempts (tcap_at s a.frame) (tcap_at s b.frame))))
+    Does (are_same a b ∷ []) (preemption (preempts (tcap_at s a.frame) (tcap_at s b.frame))) []
 
 -- `unlike`: the list of the temporal capability does not name the scheduler of the core's grant with a number that is no smaller, so
 -- merging the grant into it would change it: time would get better by being given back.
@@ -119,14 +81,9 @@ is_finer s c a = When (a.found && not (covers (tcap_at s a.frame).qualities (s.c
 abbrev pub is_less : State → ℕ → ℕ → Cause
 is_less s c m = When (nat_lt (outstanding (s.core c)) m) (reply.Short (min (outstanding (s.core c)) m))
 
--- The state in which core c has had m ticks back, which are in the budget of a temporal capability.
-abbrev pub given_back : State → ℕ → ℕ → ℕ → State
-given_back s c f m =
-    with_core (with_budget s f ((tcap_at s f).budget + m)) c (record (s.core c) { back = (s.core c).back + m })
-
 -- `replenish A M` names a temporal capability A whose list is no better than the core's grant, and puts into its budget M of the ticks
 -- that the core has spent and has not had back.
 abbrev pub replenish_rule : State → ℕ → ℕ → ℕ → Rule
 replenish_rule s c a m =
     Name a (to_use (only kind.Tcap)) λ a.
-    Does (is_finer s c a ∷ is_less s c m ∷ []) (leaves (given_back s c a.frame m))
+    Does (is_finer s c a ∷ is_less s c m ∷ []) Nothing (Give a.frame m ∷ [])

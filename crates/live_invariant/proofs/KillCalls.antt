@@ -7,7 +7,7 @@ use Rattle.count_invariant.proofs.Common.{state_after, Plan, GoesBy, own_pages, 
 use Rattle.count_invariant.proofs.Common.{KillingAt, Act, Undecided, ActiveCall, StageFits, HasRoom, Core, KnowsUndecided, phase_at}
 use Rattle.count_invariant.proofs.Common.{Invariant}
 use Rattle.state_laws.specs.spk_nums.specs.declared.replies.Reply.TheVariants as reply
-use Rattle.state_laws.specs.kernel_rules.specs.InvocationCalls.{not_live, kills, kill_comp}
+use Rattle.state_laws.specs.kernel_rules.specs.InvocationCalls.{not_live, kill_comp}
 use Rattle.count_invariant.specs.kernel_history.specs.Footprint.{footprint_numbers, number_argument, number_in}
 use Rattle.count_invariant.specs.act_states.specs.declared.kills.Killing.{Killing}
 use Rattle.count_invariant.specs.act_states.specs.Kills.{KillingFits}
@@ -17,6 +17,9 @@ use Rattle.count_invariant.proofs.Acquiring.{plan_leads, goes_by}
 use Rattle.count_invariant.proofs.KillingCounts.{IsKill, kill_of, kill_footprint}
 use Rattle.live_invariant.proofs.Numbers.{one_of_many, comp_is}
 use Rattle.count_invariant.specs.plan_ways.proofs.InFootprint.{one_right}
+use Rattle.state_laws.specs.kernel_rules.specs.Edits.{Deaden as deaden_edit}
+use Rattle.state_laws.specs.kernel_rules.specs.Rules.{does}
+use Rattle.state_laws.specs.spk_nums.specs.declared.replies.Value.TheVariants.{Nothing as no_value}
 
 module _ (setup : Setting) (setting : IsSetting setup) (cores : ℕ → Core) (t : Trace) (stands : Invariant setup cores t) (c : ℕ)
     (here : c < setup.cores)
@@ -61,19 +64,23 @@ module _ (setup : Setting) (setting : IsSetting setup) (cores : ℕ → Core) (t
   abbrev causes : List Cause
   causes = not_live s (found is.comp) fields.number fields.epoch ∷ []
 
-  pub left : rule_after (rule_of s c a.call) a.found ≡ Does (not_live s (found is.comp) fields.number fields.epoch ∷ []) (kills s fields)
+  pub left : rule_after (rule_of s c a.call) a.found ≡ Does (not_live s (found is.comp) fields.number fields.epoch ∷ []) no_value
+      (deaden_edit fields.number fields.epoch ∷ [])
   left = ap (λ x. rule_after (rule_of s c x) a.found) is.call_is ∙ ap (rule_after (rule_of s c (Kill is.name))) is.found_is
       ∙ ap (λ (g : ℕ). kill_comp s (found is.comp) (comp_in (s.frame g))) (sym is.frame)
 
   pub by_life : (lives : Bool) → is_live_in (s.number fields.number) fields.epoch ≡ lives
-      → change_of s c a.call ≡ unless (if not lives then Some reply.Dead else None) (kills s fields)
+      → change_of s c a.call ≡ unless (if not lives then Some reply.Dead else None)
+      (does c s no_value (deaden_edit fields.number fields.epoch ∷ []))
   by_life lives so =
       outcome_left s c (own_pages s c) a.plan (rule_of s c a.call) a.found by_plan leads ∙ ap (outcome s c) left
-      ∙ ap (λ b. unless (first_of (if not b then Some reply.Dead else None) None) (kills s fields)) so
+      ∙ ap (λ b. unless (first_of (if not b then Some reply.Dead else None) None)
+      (does c s no_value (deaden_edit fields.number fields.epoch ∷ []))) so
       ∙ last lives
     where
-      last : (b : Bool) → unless (first_of (if not b then Some reply.Dead else None) None) (kills s fields)
-          ≡ unless (if not b then Some reply.Dead else None) (kills s fields)
+      last : (b : Bool) → unless (first_of (if not b then Some reply.Dead else None) None)
+          (does c s no_value (deaden_edit fields.number fields.epoch ∷ []))
+          ≡ unless (if not b then Some reply.Dead else None) (does c s no_value (deaden_edit fields.number fields.epoch ∷ []))
       last true = refl
       last false = refl
 

@@ -1,8 +1,8 @@
 -- Few calls change how the words of frames are read for marks.
-use Rattle.std.proofs.Common.{◌≡◌, ◌≢◌, ◌⊎◌, inl, inr, ℕ, ◌-◌, ◌+◌, true, false, List, ◌∷◌, drop, Option, Some, None, IsTrue, refl, sym, ◌∙◌, ap, subst}
+use Rattle.std.proofs.Common.{◌≡◌, ◌≢◌, ◌⊎◌, inl, inr, ℕ, ◌-◌, ◌+◌, true, false, List, ◌∷◌, drop, Option, Some, None, IsTrue, refl, sym}
+use Rattle.std.proofs.Common.{◌∙◌, ap}
 use Rattle.std.proofs.lemmas.Bool.{cases_eq, true≢false, false≢true}
 use Rattle.spk_nums.specs.Capability.{Capability}
-use Rattle.spk_nums.specs.declared.kinds.Kind.{Kind}
 use Rattle.spk_nums.specs.declared.calls.Make.{Make}
 use Rattle.spk_nums.specs.declared.calls.Make.TheVariants as make
 use Rattle.spk_nums.specs.declared.calls.Call.{Call}
@@ -10,21 +10,22 @@ use Rattle.spk_nums.specs.declared.calls.Call.TheVariants as call
 use Rattle.spk_nums.specs.declared.replies.Reply.{Reply}
 use Rattle.spk_nums.specs.declared.replies.Reply.TheVariants as reply
 use Rattle.spk_nums.specs.declared.translations.Translation.{Translation}
-use Rattle.kernel_rules.specs.State.{Place, Free, Holds, Quiescing, ThreadFields, TcapFields, Object, Table, Leaf, Pages, Pleaf, Thread, Tcap, Frame, Kernel, State, put}
-use Rattle.kernel_rules.specs.State.{comp_of, thread_in, thread_of}
+use Rattle.kernel_rules.specs.State.{Place, Free, Holds, Quiescing, ThreadFields, TcapFields, Object, Table, Leaf, Pages, Pleaf, Thread}
+use Rattle.kernel_rules.specs.State.{Tcap, Frame, Kernel, State, put, comp_of, thread_in, thread_of}
 use Rattle.kernel_rules.specs.Relies.{is_node}
 use Rattle.kernel_rules.specs.Rules.{Change, Rule, Judged, Refused, Found}
 use Rattle.kernel_rules.specs.Access.{Named, found}
-use Rattle.kernel_rules.specs.CapabilityCalls.{make_node, makes, cleared, make_rule}
+use Rattle.kernel_rules.specs.CapabilityCalls.{make_rule}
+use Rattle.kernel_rules.specs.Edits.{with_thread, with_stack, running, tcap_at, with_tcap, with_budget, with_qualities, moved}
 use Rattle.kernel_rules.specs.MemoryCalls.{touch_by, translation_of}
-use Rattle.kernel_rules.specs.InvocationCalls.{with_thread, with_stack, running, switch_to}
-use Rattle.kernel_rules.specs.TimeCalls.{tcap_at, with_tcap, with_budget, with_qualities, moved, merged_list}
+use Rattle.kernel_rules.specs.InvocationCalls.{switch_to}
+use Rattle.kernel_rules.specs.TimeCalls.{merged_list}
 use Rattle.kernel_rules.specs.CallRelation.{rule_of, change_of, changed, owed_by, state_by}
 use Rattle.kernel_rules.proofs.Changes.{AllChanges, IfFound, outcome_all}
 use Rattle.kernel_rules.proofs.Within.{put_same, put_other}
 use Rattle.kernel_invariant.proofs.Sound.{put_all}
 use Rattle.kernel_history.specs.Marks.{mark_in_frame}
-use Rattle.kernel_history.specs.Discipline.{changes_frames, changes_places}
+use Rattle.kernel_history.specs.Discipline.{changes_frames}
 use Rattle.mark_kinds.specs.Reads.{ReadAlike, KindsStay, NodesStay}
 
 -- A frame with another thread in place of its own, or another temporal capability, is read as before.
@@ -42,7 +43,8 @@ put_alike frame f y new g i v = put_all (λ h x. mark_in_frame x i v ≡ mark_in
     (λ same. new i v ∙ ap (λ n. mark_in_frame (frame n) i v) (sym same)) (λ other. refl)
 
 stack_alike : (s : State) (c : ℕ) (stack : List ℕ) → ReadAlike s (with_stack s c stack)
-stack_alike s c stack = put_alike s.frame (s.core c).thread _ (thread_alike (s.frame (s.core c).thread) (record (thread_of s c) { stack = stack }))
+stack_alike s c stack = put_alike s.frame (s.core c).thread _
+    (thread_alike (s.frame (s.core c).thread) (record (thread_of s c) { stack = stack }))
 
 running_alike : (s : State) (f : ℕ) (core : Option ℕ) → ReadAlike s (running s f core)
 running_alike s f core = put_alike s.frame f _ (thread_alike (s.frame f) _)
@@ -59,20 +61,20 @@ moved_alike s a b m f i v =
     ∙ budget_alike s a ((tcap_at s a).budget - m) f i v
 
 -- The changes that a rule can make leave all words read as before.
-abbrev AllAlike : State → Rule → Type 0
-AllAlike s rule = AllChanges (λ change. ReadAlike s change.next) rule
+abbrev AllAlike : State → ℕ → Rule → Type 0
+AllAlike s c rule = AllChanges s c (λ change. ReadAlike s change.next) rule
 
-touch_all : (s : State) (c pages v : ℕ) (o : Option Translation) → AllAlike s (touch_by s c pages v o)
+touch_all : (s : State) (c pages v : ℕ) (o : Option Translation) → AllAlike s c (touch_by pages v o)
 touch_all s c pages v None = λ k f i w. refl
 touch_all s c pages v (Some t) = λ f i w. refl
 
-switch_all : (s : State) (c : ℕ) (h : Named) (q : ℕ) (o : Option ℕ) → AllAlike s (switch_to s c h q o)
+switch_all : (s : State) (c : ℕ) (h : Named) (q : ℕ) (o : Option ℕ) → AllAlike s c (switch_to h q o)
 switch_all s c h q None = λ f i v.
     running_alike (running s (s.core c).thread None) h.frame (Some c) f i v ∙ running_alike s (s.core c).thread None f i v
 switch_all s c h q (Some e) = λ f i v.
     running_alike (running s (s.core c).thread None) h.frame (Some c) f i v ∙ running_alike s (s.core c).thread None f i v
 
-all_alike : (s : State) (c : ℕ) (what : Call) → changes_frames what ≡ false → AllAlike s (rule_of s c what)
+all_alike : (s : State) (c : ℕ) (what : Call) → changes_frames what ≡ false → AllAlike s c (rule_of s c what)
 all_alike s c (call.Look a) stays = λ k f i v. refl
 all_alike s c (call.Copy a t b rights) stays = λ k table at f i v. refl
 all_alike s c (call.Remove t b) stays = λ table at k f i v. refl
@@ -154,17 +156,17 @@ object_made frame place object g bare f i m node removed v = elim (cases_eq f g)
   | inl same ↦ absurd (false≢true (sym bare ∙ ap is_node (sym (put_same frame g (Kernel object) f same)) ∙ node))
 ]
 
-abbrev AllNodes : State → Rule → Type 0
-AllNodes s rule = AllChanges (λ change. NodesAlike s.frame change.next.frame change.next.place) rule
+abbrev AllNodes : State → ℕ → Rule → Type 0
+AllNodes s c rule = AllChanges s c (λ change. NodesAlike s.frame change.next.frame change.next.place) rule
 
-make_nodes : (s : State) (what : Make) (r g t b : ℕ) → AllNodes s (make_rule s what r g t b)
-make_nodes s make.Table r g t b = λ range table at. node_made s.frame s.place Table g at.node at.index _
-make_nodes s make.Leaf r g t b = λ range table at. node_made s.frame s.place Leaf g at.node at.index _
-make_nodes s make.Pages r g t b = λ range table at. node_made s.frame s.place Pages g at.node at.index _
-make_nodes s make.Pleaf r g t b = λ range table at. node_made s.frame s.place Pleaf g at.node at.index _
-make_nodes s (make.Thread comp) r g t b = λ range table own at. object_made s.frame _ _ g refl
-make_nodes s (make.Tcap sched quality) r g t b = λ range table at. object_made s.frame _ _ g refl
-make_nodes s (make.Comp x p l) r g t b = λ range table own pages at. object_made s.frame _ _ g refl
+make_nodes : (s : State) (c : ℕ) (what : Make) (r g t b : ℕ) → AllNodes s c (make_rule s what r g t b)
+make_nodes s c make.Table r g t b = λ range table at. node_made s.frame s.place Table g at.node at.index _
+make_nodes s c make.Leaf r g t b = λ range table at. node_made s.frame s.place Leaf g at.node at.index _
+make_nodes s c make.Pages r g t b = λ range table at. node_made s.frame s.place Pages g at.node at.index _
+make_nodes s c make.Pleaf r g t b = λ range table at. node_made s.frame s.place Pleaf g at.node at.index _
+make_nodes s c (make.Thread comp) r g t b = λ range table own at. object_made s.frame _ _ g refl
+make_nodes s c (make.Tcap sched quality) r g t b = λ range table at. object_made s.frame _ _ g refl
+make_nodes s c (make.Comp x p l) r g t b = λ range table own pages at. object_made s.frame _ _ g refl
 
 changed_nodes : (s : State) (x : Judged Change) → IfFound x (λ change. NodesAlike s.frame change.next.frame change.next.place)
     → NodesAlike s.frame (changed s x).frame (changed s x).place
@@ -174,7 +176,8 @@ changed_nodes s (Found change) h f i k node removed v = h f i k node removed v
 made_nodes : (s : State) (c : ℕ) (what : Make) (r g t b : ℕ) (q : Reply)
     → NodesAlike s.frame (state_by s c (call.Make what r g t b) q).frame (state_by s c (call.Make what r g t b) q).place
 made_nodes s c what r g t b (reply.Ok x) = changed_nodes s (change_of s c (call.Make what r g t b))
-    (outcome_all (λ change. NodesAlike s.frame change.next.frame change.next.place) s c (make_rule s what r g t b) (make_nodes s what r g t b))
+    (outcome_all (λ change. NodesAlike s.frame change.next.frame change.next.place) s c (make_rule s what r g t b)
+    (make_nodes s c what r g t b))
 made_nodes s c what r g t b _ = λ f i k node removed v. refl
 
 pub nodes_stay : NodesStay

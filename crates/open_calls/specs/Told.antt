@@ -11,7 +11,7 @@ use Rattle.kernel_rules.specs.State.{State, outstanding}
 use Rattle.kernel_rules.specs.Access.{only, to_use}
 use Rattle.kernel_rules.specs.References.{refs}
 use Rattle.kernel_rules.specs.Rules.{Judged, Refused, Found, named}
-use Rattle.kernel_rules.specs.TimeCalls.{tcap_at}
+use Rattle.kernel_rules.specs.Edits.{tcap_at}
 
 -- how many references a frame of the machine has
 abbrev pub referenced : State → ℕ → Option Reply

@@ -13,14 +13,15 @@ use Rattle.spk_nums.specs.declared.calls.Make.TheVariants as make
 use Rattle.spk_nums.specs.declared.calls.Call.{Call}
 use Rattle.spk_nums.specs.declared.calls.Call.TheVariants as call
 use Rattle.spk_nums.specs.declared.translations.Translation.{Translation}
+use Rattle.spk_nums.specs.declared.replies.Value.TheVariants.{Nothing}
 use Rattle.spk_nums.specs.declared.replies.Reply.TheVariants as reply
 use Rattle.kernel_rules.specs.State.{Place, Free, Holds, Quiescing, Object, Table, Leaf, Pages, Pleaf, State, put, comp_of, comp_in}
 use Rattle.kernel_rules.specs.State.{thread_in}
 use Rattle.kernel_rules.specs.Start.{plain_cap}
 use Rattle.kernel_rules.specs.Access.{Want, Slot, found, any, only, to_copy, to_use, Target, Under, InRoot, own, reached, usable, to_part}
-use Rattle.kernel_rules.specs.Rules.{Change, Cause, Found, or_refuse, and_then, of_kind, named, name_of, vacant, held, first_cause}
-use Rattle.kernel_rules.specs.Rules.{fills, removes}
-use Rattle.kernel_rules.specs.CapabilityCalls.{has_frame, outside, not_blank, cleared, make_node, make_rule, not_taken}
+use Rattle.kernel_rules.specs.Rules.{Change, does, Cause, Found, or_refuse, and_then, of_kind, named, name_of, vacant, held, first_cause}
+use Rattle.kernel_rules.specs.CapabilityCalls.{has_frame, outside, not_blank, make_node, make_rule, not_taken}
+use Rattle.kernel_rules.specs.Edits.{Fill, Remove, cleared}
 use Rattle.kernel_rules.specs.MemoryCalls.{touch_by, translation_of, retype_rule}
 use Rattle.kernel_rules.specs.InvocationCalls.{switch_to}
 use Rattle.kernel_rules.specs.CallRelation.{rule_of}
@@ -108,7 +109,7 @@ module _ (s : State) (c : ℕ) where
 
   -- a call puts nothing, and fills a place with a link or a page
   filled_with_other : (call : Call) (at : Slot) (j : Capability) → puts s c call ≡ None → is_own j.kind ≡ false
-      → Placed s c call (fills s at j)
+      → Placed s c call (does c s Nothing (Fill at j ∷ []))
   filled_with_other call at j none other = record {
     shows = λ f i. by_place s.place at.node at.index (Holds j) f i (Shows s c call f i)
         (λ here on k is owned. absurd (false≢true (sym other ∙ ap (λ (x : Capability). is_own x.kind) (some_inj j k is) ∙ owned)))
@@ -117,7 +118,7 @@ module _ (s : State) (c : ℕ) where
 
   -- a call puts nothing, and removes what a place holds
   removed_from : (call : Call) (target : Target) (at : Slot) (j : Capability) → puts s c call ≡ None → held s c target ≡ Found (at, j)
-      → Placed s c call (removes s at j)
+      → Placed s c call (does c s Nothing (Remove at j ∷ []))
   removed_from call target at j none e = record {
     shows = λ f i. by_place s.place at.node at.index (Quiescing j) f i (Shows s c call f i)
         (λ here on k is owned. inr (record {
@@ -213,12 +214,12 @@ module _ (s : State) (c : ℕ) where
   retype_placed r f frame_kind.User = λ range e calm. kept_places (call.Retype r f frame_kind.User) _ refl refl
   retype_placed r f frame_kind.Kernel = λ range e calm. kept_places (call.Retype r f frame_kind.Kernel) _ refl refl
 
-  touch_placed : (v pages : ℕ) (t : Option Translation) → ChangesFrom (Placed s c (call.Touch v)) s c (touch_by s c pages v t)
+  touch_placed : (v pages : ℕ) (t : Option Translation) → ChangesFrom (Placed s c (call.Touch v)) s c (touch_by pages v t)
   touch_placed v pages (Some t) = λ calm. kept_places (call.Touch v) _ refl refl
   touch_placed v pages None = λ mapping e calm. kept_places (call.Touch v) _ refl refl
 
   switch_placed : (h q : ℕ) (thread tcap : Capability) (on : Option ℕ)
-      → ChangesFrom (Placed s c (call.Switch h q)) s c (switch_to s c (found thread) tcap.frame on)
+      → ChangesFrom (Placed s c (call.Switch h q)) s c (switch_to (found thread) tcap.frame on)
   switch_placed h q thread tcap None = λ calm. kept_places (call.Switch h q) _ refl refl
   switch_placed h q thread tcap (Some e) = λ calm. kept_places (call.Switch h q) _ refl refl
 

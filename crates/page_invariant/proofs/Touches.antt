@@ -7,8 +7,8 @@ use Rattle.count_invariant.proofs.Common.{le-ltb, All-nil, Capability, Setting, 
 use Rattle.count_invariant.proofs.Common.{Held, Closing, EntryFits, Word, EntryAt, FrameAt, CountAt, CoreAt, FlushAt, LiveAt, ClockAt}
 use Rattle.count_invariant.proofs.Common.{Move, LoadOf, word_of, told_of, PlaceOf, NumberOf, State, Holds, put, thread_in}
 use Rattle.count_invariant.proofs.Common.{comp_in, first_of_stack, thread_of, comp_of, Slot, root_at, Target, Under, place_at, usable_in}
-use Rattle.count_invariant.proofs.Common.{usable, linked, slot_in, root_slot, reached, holds_link, held_in, refs, sum_below, Relies}
-use Rattle.count_invariant.proofs.Common.{Refused, Found, IsFoundAnd, outcome, RuleMay, answers, translation_of, rule_of, change_of}
+use Rattle.count_invariant.proofs.Common.{usable, linked, slot_in, root_slot, reached, holds_link, held_in, refs, Relies}
+use Rattle.count_invariant.proofs.Common.{Refused, Found, IsFoundAnd, outcome, RuleMay, translation_of, rule_of, change_of}
 use Rattle.count_invariant.proofs.Common.{changed, counted, begins, ends, flushes, MayReply, opened, core_same_refs, sum_one}
 use Rattle.count_invariant.proofs.Common.{put_same, put_other, events_of, is_one_of, frames_own, footprint_frames, is_slot_in, HasReached}
 use Rattle.count_invariant.proofs.Common.{IsJustified, marked_by, ends_in, flushes_in, stamp, Step, Trace, Open, phase, state_after}
@@ -19,14 +19,14 @@ use Rattle.count_invariant.proofs.Common.{own_decided, ActiveCall, Undecided, De
 use Rattle.count_invariant.proofs.Common.{due_of, LooksUp, KnowsUndecided, WorksIn, phase_at, untypes, holds_at, holds_in, holds, held_by}
 use Rattle.count_invariant.proofs.Common.{times_of, counted_in, Invariant, counts_bare, exclusive_none, exclusive_kept}
 use Rattle.count_invariant.proofs.Common.{IsUntimed, plain_begins, plain_stamp, plain_flush, plain_exit, names_on, counted_refs}
-use Rattle.count_invariant.proofs.Common.{limits_of, sums_keep, SameFor, marks_own, settled_on, capability_in}
+use Rattle.count_invariant.proofs.Common.{sums_keep, SameFor, marks_own, settled_on, capability_in}
 use Rattle.kernel_laws.specs.spk_nums.specs.declared.kinds.Kind.TheVariants as kind
 use Rattle.kernel_laws.specs.spk_nums.specs.declared.replies.Reply.TheVariants as reply
 use Rattle.count_invariant.specs.entry_words.specs.declared.entry.Entry.TheVariants.{Free, Quiescing}
-use Rattle.kernel_laws.specs.kernel_rules.specs.State.{Core as CoreFields}
-use Rattle.kernel_laws.specs.kernel_rules.specs.State.{with_core}
-use Rattle.kernel_laws.specs.kernel_rules.specs.Rules.{mapped}
-use Rattle.kernel_laws.specs.kernel_rules.specs.MemoryCalls.{caching, translated, caches, touch_by}
+use Rattle.kernel_laws.specs.kernel_rules.specs.State.{Core as CoreFields, with_core}
+use Rattle.kernel_laws.specs.kernel_rules.specs.Rules.{mapped, does}
+use Rattle.kernel_laws.specs.kernel_rules.specs.MemoryCalls.{translated, touch_by}
+use Rattle.kernel_laws.specs.kernel_rules.specs.Edits.{caching, Cache as cache_edit}
 use Rattle.kernel_laws.specs.kernel_invariant.proofs.SoundCalls.{IsOpen}
 use Rattle.kernel_laws.proofs.NodeSteps.{IsFitted}
 use Rattle.kernel_laws.proofs.NodesLaw.{runs_fit, mapped_page}
@@ -131,10 +131,10 @@ module _ (setup : Setting) (setting : IsSetting setup) (cores : ℕ → Core) (t
   still fate = ap (holds_counts fate) no_counts ∙ sym (ap (holds_counts None) no_counts) ∙ sym held_is
 
   -- the rule of the touch
-  rule_is : (cached : Option Translation) → m.cached ≡ cached → rule_of s c a.call ≡ touch_by s c m.pages m.page cached
+  rule_is : (cached : Option Translation) → m.cached ≡ cached → rule_of s c a.call ≡ touch_by m.pages m.page cached
   rule_is cached is = ap (rule_of s c) knows.call_is
-      ∙ ap (λ (p : ℕ). touch_by s c p m.page (translation_of (s.core c).cached p m.page)) (sym knows.root)
-      ∙ ap (touch_by s c m.pages m.page) (sym knows.known ∙ is)
+      ∙ ap (λ (p : ℕ). touch_by p m.page (translation_of (s.core c).cached p m.page)) (sym knows.root)
+      ∙ ap (touch_by m.pages m.page) (sym knows.known ∙ is)
 
   -- an entry on its way is loaded
   looks_at : (g i : ℕ) → is_one_of g (footprint_frames s c a.call) ≡ true → OnlyLooks setup t c a.call (LoadOf (EntryAt g i))
@@ -157,7 +157,7 @@ module _ (setup : Setting) (setting : IsSetting setup) (cores : ℕ → Core) (t
 
   -- A translation that is cached is answered.
   module _ (item : Translation) (cached : m.cached ≡ Some item) (within : m.page ≤ 4095) where
-    answers_it : change_of s c a.call ≡ Found (answers s (translated item))
+    answers_it : change_of s c a.call ≡ Found (does c s (translated item) [])
     answers_it = ap (outcome s c) (rule_is (Some item) cached) ∙ cached_first s c m.pages m.page item (le-ltb 4095 m.page within)
 
     answered_may : MayReply s c a.call (reply.Ok (translated item))
@@ -186,8 +186,8 @@ module _ (setup : Setting) (setting : IsSetting setup) (cores : ℕ → Core) (t
     way_is : wide_ways s c (rule_of s c a.call) ≡ wide_way_to s target
     way_is = ap (wide_ways s c) (rule_is None none)
 
-    faults : (g i : ℕ) → is_one_of g (footprint_frames s c a.call) ≡ true → RuleMay s c (touch_by s c m.pages m.page None) reply.Fault
-        → (NobodyWaits s → outcome s c (touch_by s c m.pages m.page None) ≡ Refused reply.Fault)
+    faults : (g i : ℕ) → is_one_of g (footprint_frames s c a.call) ≡ true → RuleMay s c (touch_by m.pages m.page None) reply.Fault
+        → (NobodyWaits s → outcome s c (touch_by m.pages m.page None) ≡ Refused reply.Fault)
         → GoodTook setup cores t c (LoadOf (EntryAt g i)) (landed a (refuse refusal.Fault))
     faults g i footprint may first =
         refuses_fault setup setting cores t stands c here a active opens held_is room (LoadOf (EntryAt g i))
@@ -354,7 +354,7 @@ module _ (setup : Setting) (setting : IsSetting setup) (cores : ℕ → Core) (t
         found_it : mapped s c m.pages m.page ≡ Found k
         found_it = mapped_is s c m.pages m.page slot k past reaches holds_it
 
-        caches_it : change_of s c a.call ≡ Found (caches s c item)
+        caches_it : change_of s c a.call ≡ Found (does c s (translated item) (cache_edit item ∷ []))
         caches_it = ap (outcome s c) (rule_is None none) ∙ mapped_first s c m.pages m.page k found_it
 
         abbrev more : CoreFields

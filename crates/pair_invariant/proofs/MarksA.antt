@@ -26,7 +26,7 @@ use Rattle.count_invariant.specs.step_ways.proofs.Loads.{IsOfCall, core_in_call,
 use Rattle.count_invariant.specs.step_ways.proofs.Refusals.{GoodTook, ticks_at, not_spent, refuses_raced}
 use Rattle.pair_invariant.proofs.Marking.{decides_marking}
 use Rattle.pair_invariant.proofs.ShareCalls as calls
-use Rattle.pair_invariant.proofs.ShareCalls.{causes_of, change_by}
+use Rattle.pair_invariant.proofs.ShareCalls.{causes_of, value_by, edits_by, change_by}
 use Rattle.pair_invariant.proofs.ShareSteps.{mark_is, head_says, now_was, counted_tcap, shares_same}
 use Rattle.count_invariant.specs.core_invariant.specs.Shares.{turns_list}
 use Rattle.count_invariant.specs.step_ways.proofs.Loads.{next_at}
@@ -187,14 +187,15 @@ module _ (setup : Setting) (setting : IsSetting setup) (cores : ℕ → Core) (t
 
     -- what is left of the rule where the budget is less than the ticks
     short_may : (what : PairWork) → nat_lt p.head_a.budget (amount_of what) ≡ true
-        → RuleMay s c (Does (causes_of s what (named_by is.a) (named_by is.b)) (change_by s what is.a.frame is.b.frame))
+        → RuleMay s c (Does (causes_of s what (named_by is.a) (named_by is.b)) (value_by s what is.a.frame is.b.frame)
+        (edits_by s what is.a.frame is.b.frame))
         (reply.Short p.head_a.budget)
     short_may (Transfer m) less = inr (inl (ap (λ (n : ℕ). nat_lt n m) (sym budget_is) ∙ less, ap (λ (n : ℕ). reply.Short n) budget_is))
     short_may (Delegate m) less = inr (inl (ap (λ (n : ℕ). nat_lt n m) (sym budget_is) ∙ less, ap (λ (n : ℕ). reply.Short n) budget_is))
     short_may Test less = absurd (let low = ltb-true p.head_a.budget 0 less in omega (arith, low))
 
     short_first : (what : PairWork) → nat_lt p.head_a.budget (amount_of what) ≡ true
-        → unless (first_cause s c (causes_of s what (named_by is.a) (named_by is.b))) (change_by s what is.a.frame is.b.frame)
+        → unless (first_cause s c (causes_of s what (named_by is.a) (named_by is.b))) (change_by c s what is.a.frame is.b.frame)
         ≡ Refused (reply.Short p.head_a.budget)
     unfolding is
     short_first Test less = absurd (let low = ltb-true p.head_a.budget 0 less in omega (arith, low))
@@ -202,21 +203,21 @@ module _ (setup : Setting) (setting : IsSetting setup) (cores : ℕ → Core) (t
         ap (λ b. unless (first_of (if b then Some reply.Same else None)
         (first_cause s c (is_short_of_timecalls s (named_by is.a) m
         ∷ are_unlike s (named_by is.a) (named_by is.b) ∷ [])))
-        (change_by s (Transfer m) is.a.frame is.b.frame))
+        (change_by c s (Transfer m) is.a.frame is.b.frame))
         (calls.not_same setup setting cores t stands c here a active mark_p stage_is has)
         ∙ ap (λ b. unless (first_of (if b then Some (reply.Short (tcap_at s is.a.frame).budget) else None)
         (first_cause s c (are_unlike s (named_by is.a) (named_by is.b) ∷ [])))
-        (change_by s (Transfer m) is.a.frame is.b.frame)) (ap (λ (n : ℕ). nat_lt n m) (sym budget_is) ∙ less)
+        (change_by c s (Transfer m) is.a.frame is.b.frame)) (ap (λ (n : ℕ). nat_lt n m) (sym budget_is) ∙ less)
         ∙ ap (λ (n : ℕ). Refused (reply.Short n)) (sym budget_is)
     short_first (Delegate m) less =
         ap (λ b. unless (first_of (if b then Some reply.Same else None)
         (first_cause s c (is_short_of_timecalls s (named_by is.a) m
         ∷ are_many s (named_by is.a) (named_by is.b) ∷ [])))
-        (change_by s (Delegate m) is.a.frame is.b.frame))
+        (change_by c s (Delegate m) is.a.frame is.b.frame))
         (calls.not_same setup setting cores t stands c here a active mark_p stage_is has)
         ∙ ap (λ b. unless (first_of (if b then Some (reply.Short (tcap_at s is.a.frame).budget) else None)
         (first_cause s c (are_many s (named_by is.a) (named_by is.b) ∷ [])))
-        (change_by s (Delegate m) is.a.frame is.b.frame)) (ap (λ (n : ℕ). nat_lt n m) (sym budget_is) ∙ less)
+        (change_by c s (Delegate m) is.a.frame is.b.frame)) (ap (λ (n : ℕ). nat_lt n m) (sym budget_is) ∙ less)
         ∙ ap (λ (n : ℕ). Refused (reply.Short n)) (sym budget_is)
 
     -- its budget is less than the ticks

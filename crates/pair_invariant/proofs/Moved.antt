@@ -13,7 +13,7 @@ use Rattle.count_invariant.proofs.Common.{counted_refs, SameFor, ReadsAlike, Sta
 use Rattle.quality_lists.specs.spk_nums.specs.declared.replies.Reply.TheVariants as reply
 use Rattle.quality_lists.specs.spk_nums.specs.declared.replies.Value.TheVariants as value
 use Rattle.kernel_laws.specs.kernel_rules.specs.State.{Core as CoreFields}
-use Rattle.kernel_laws.specs.kernel_rules.specs.TimeCalls.{with_tcap, with_budget, with_qualities}
+use Rattle.kernel_laws.specs.kernel_rules.specs.Edits.{with_tcap, with_budget, with_qualities}
 use Rattle.count_invariant.specs.step_ways.proofs.Loads.{inner}
 use Rattle.quality_lists.specs.spk_nums.specs.declared.kinds.Kind.TheVariants.{Tcap as KindTcap}
 
@@ -180,11 +180,7 @@ module _ (setup : Setting) (setting : IsSetting setup) (cores : ℕ → Core) (t
   pub alike : ReadsAlike setup t e
   alike (EntryAt h i) = still_so _ (λ x. mark_in_frame x i (last_left setup (e ∷ t) (EntryAt h i))) (λ y z. refl) h
   alike (FrameAt h) = refl
-  alike (CountAt h d) = refl
-  alike (CoreAt d) = refl
-  alike (FlushAt d) = refl
-  alike (LiveAt l) = refl
-  alike ClockAt = refl
+  alike _ = refl
 
   -- what is said of each other word stays
   said : (w : Word) → SameFor s s' (times_of setup t) (times_of setup (e ∷ t)) w → StaysSaid setup cores t e w

@@ -2,7 +2,7 @@
 use Rattle.count_invariant.proofs.Common.{◌≡◌, inl, inr, ℕ, ◌+◌, ◌*◌, ◌^◌, ◌<◌, ◌≤◌, not, nat_lt, Bool, true, false, List, Option, [], ◌∷◌}
 use Rattle.count_invariant.proofs.Common.{Some, None, map, if◌then◌else◌, arith, refl, sym, ◌∙◌, ap, subst, le-ltb, Setting, IsSetting}
 use Rattle.count_invariant.proofs.Common.{Capability, Call, Reply, State, Change, Cause, Does, Judged, Found, Refused, RuleMay, tcap_in}
-use Rattle.count_invariant.proofs.Common.{leaves, outcome, unless, first_of, first_cause, tcap_at, rule_of, change_of, changes_budgets}
+use Rattle.count_invariant.proofs.Common.{outcome, unless, first_of, first_cause, tcap_at, rule_of, change_of, changes_budgets}
 use Rattle.count_invariant.proofs.Common.{is_one_of, footprint_frames, Trace, Open, phase, state_after, First, Plan, at_place, plan_for}
 use Rattle.count_invariant.proofs.Common.{GoesBy, own_pages, rule_after, Leads, LeadsIn, leads_by, outcome_left, left_may, calls_go}
 use Rattle.count_invariant.proofs.Common.{Acquired, Act, Undecided, ActiveCall, StageFits, HasRoom, Core, holds_counts, due_of}
@@ -16,7 +16,10 @@ use Rattle.quality_lists.specs.spk_nums.specs.declared.replies.Reply.TheVariants
 use Rattle.kernel_laws.specs.kernel_rules.specs.Access.{found}
 use Rattle.kernel_laws.specs.kernel_rules.specs.State.{outstanding}
 use Rattle.kernel_laws.specs.kernel_rules.specs.Ranges.{CoreInRange}
-use Rattle.kernel_laws.specs.kernel_rules.specs.TimeCalls.{is_finer, is_less, given_back}
+use Rattle.kernel_laws.specs.kernel_rules.specs.TimeCalls.{is_finer, is_less}
+use Rattle.kernel_laws.specs.kernel_rules.specs.Edits.{Edit, Give}
+use Rattle.kernel_laws.specs.kernel_rules.specs.Rules.{does}
+use Rattle.kernel_laws.specs.spk_nums.specs.declared.replies.Value.TheVariants.{Nothing}
 use Rattle.count_invariant.proofs.Findings.{found_named}
 use Rattle.count_invariant.specs.act_states.specs.Refills.{left_among}
 use Rattle.count_invariant.specs.act_states.specs.declared.work.Act.TheVariants.{Refill as refill_act}
@@ -101,17 +104,20 @@ module _ (setup : Setting) (setting : IsSetting setup) (cores : ℕ → Core) (t
   abbrev pub causes : List Cause
   causes = is_finer s c (found is.cap) ∷ is_less s c is.amount ∷ []
 
-  abbrev pub change : Change
-  change = leaves (given_back s c is.cap.frame is.amount)
+  abbrev pub edits : List Edit
+  edits = Give is.cap.frame is.amount ∷ []
 
-  pub left : rule_after (rule_of s c a.call) a.found ≡ Does causes change
+  abbrev pub change : Change
+  change = does c s Nothing edits
+
+  pub left : rule_after (rule_of s c a.call) a.found ≡ Does causes Nothing edits
   left = ap (λ x. rule_after (rule_of s c x) a.found) is.call_is
       ∙ ap (λ xs. rule_after (rule_of s c (call_as.Replenish is.name is.amount)) xs) is.found_is
 
   pub change_is : change_of s c a.call ≡ unless (first_cause s c causes) change
   change_is = outcome_left s c (own_pages s c) a.plan (rule_of s c a.call) a.found by_plan leads ∙ ap (outcome s c) left
 
-  pub may : (q : Reply) → RuleMay s c (Does causes change) q → RuleMay s c (rule_of s c a.call) q
+  pub may : (q : Reply) → RuleMay s c (Does causes Nothing edits) q → RuleMay s c (rule_of s c a.call) q
   may q is_may = left_may s c (own_pages s c) a.plan (rule_of s c a.call) a.found by_plan leads q
       (subst (λ x. RuleMay s c x q) (sym left) is_may)
 

@@ -23,7 +23,7 @@ use Rattle.quality_lists.specs.spk_nums.specs.declared.replies.Reply.TheVariants
 use Rattle.quality_lists.specs.spk_nums.specs.declared.replies.Value.TheVariants as value
 use Rattle.kernel_laws.specs.kernel_rules.specs.State.{Core as CoreFields, with_core}
 use Rattle.kernel_laws.specs.kernel_rules.specs.CallRelation.{begins_in as begun_by}
-use Rattle.kernel_laws.specs.kernel_rules.specs.TimeCalls.{with_tcap, given_back}
+use Rattle.kernel_laws.specs.kernel_rules.specs.Edits.{given_back, with_tcap}
 use Rattle.count_invariant.proofs.Findings.{found_named, own_is, way_gone}
 use Rattle.count_invariant.specs.plan_ways.proofs.Ways.{all_ways}
 use Rattle.count_invariant.specs.kernel_history.specs.Stamps.{begins_in}

@@ -1,8 +1,8 @@
 -- What a call on two temporal capabilities knows of its rule: what is left of it after its names, and what refuses it.
 use Rattle.count_invariant.proofs.Common.{◌≡◌, ◌≢◌, ℕ, ◌<◌, ◌==◌, ◌&&◌, ◌||◌, true, false, List, [], ◌∷◌, Some, None, map, refl, sym, ◌∙◌}
 use Rattle.count_invariant.proofs.Common.{ap, subst, eq-eqb, ne_eqb, Setting, IsSetting, Capability, Call, Kind, Reply, Thing, State}
-use Rattle.count_invariant.proofs.Common.{Named, found, named_by, Change, Cause, Does, RuleMay, answers, leaves, outcome, unless}
-use Rattle.count_invariant.proofs.Common.{first_cause, tcap_at, moved, is_short, are_unlike, are_many, rule_of, change_of, ends_by}
+use Rattle.count_invariant.proofs.Common.{Named, found, named_by, Change, Cause, Does, RuleMay, outcome, unless}
+use Rattle.count_invariant.proofs.Common.{first_cause, tcap_at, is_short, are_unlike, are_many, rule_of, change_of, ends_by}
 use Rattle.count_invariant.proofs.Common.{flushes_by, changes_budgets, is_one_of, footprint_frames, Trace, Open, phase, state_after, First}
 use Rattle.count_invariant.proofs.Common.{Second, Plan, at_place, plan_for, GoesBy, own_pages, rule_after, Leads, LeadsIn, leads_by}
 use Rattle.count_invariant.proofs.Common.{outcome_left, left_may, calls_go, Acquired, Pair, PairWork, Act, Undecided, ActiveCall}
@@ -10,8 +10,8 @@ use Rattle.count_invariant.proofs.Common.{StageFits, HasRoom, Core, holds_counts
 use Rattle.count_invariant.proofs.Common.{SharesBy, holds_share, holds_at, holds_in, Invariant, TcapOf}
 use Rattle.quality_lists.specs.spk_nums.specs.declared.calls.Call.TheVariants as call_as
 use Rattle.quality_lists.specs.spk_nums.specs.declared.kinds.Kind.TheVariants as kind
-use Rattle.kernel_laws.specs.kernel_rules.specs.TimeCalls.{with_qualities, merged_list, are_same}
-use Rattle.kernel_laws.specs.kernel_rules.specs.TimeCalls.{preemption, preempts}
+use Rattle.kernel_laws.specs.kernel_rules.specs.TimeCalls.{merged_list, are_same, preemption, preempts}
+use Rattle.kernel_laws.specs.kernel_rules.specs.Edits.{Edit, Move, Merge}
 use Rattle.count_invariant.specs.call_plans.specs.declared.plans.Nth.{Nth}
 use Rattle.count_invariant.proofs.Findings.{found_named}
 use Rattle.count_invariant.specs.plan_ways.proofs.InFootprint.{footprint_found}
@@ -21,17 +21,27 @@ use Rattle.count_invariant.specs.act_states.specs.declared.work.Act.TheVariants.
 use Rattle.count_invariant.specs.core_invariant.specs.Shares.{IsShared}
 use Rattle.count_invariant.specs.step_ways.proofs.Loads.{call_is, is_active}
 use Rattle.count_invariant.specs.kept_facts.proofs.Tcaps.{tcap_of}
+use Rattle.kernel_laws.specs.spk_nums.specs.declared.replies.Value.{Value}
+use Rattle.kernel_laws.specs.spk_nums.specs.declared.replies.Value.TheVariants.{Nothing}
+use Rattle.kernel_laws.specs.kernel_rules.specs.Rules.{does}
 
--- What refuses such a call after its names, in order, and what it changes.
+-- What refuses such a call after its names, in order, what it answers, and its edits.
 abbrev pub causes_of : State → PairWork → Named → Named → List Cause
 causes_of s (Transfer m) a b = are_same a b ∷ is_short s a m ∷ are_unlike s a b ∷ []
 causes_of s (Delegate m) a b = are_same a b ∷ is_short s a m ∷ are_many s a b ∷ []
 causes_of s Test a b = are_same a b ∷ []
 
-abbrev pub change_by : State → PairWork → ℕ → ℕ → Change
-change_by s (Transfer m) a b = leaves (moved s a b m)
-change_by s (Delegate m) a b = leaves (with_qualities (moved s a b m) b (merged_list s a b))
-change_by s Test a b = answers s (preemption (preempts (tcap_at s a) (tcap_at s b)))
+abbrev pub value_by : State → PairWork → ℕ → ℕ → Value
+value_by s Test a b = preemption (preempts (tcap_at s a) (tcap_at s b))
+value_by s _ a b = Nothing
+
+abbrev pub edits_by : State → PairWork → ℕ → ℕ → List Edit
+edits_by s (Transfer m) a b = Move a b m ∷ []
+edits_by s (Delegate m) a b = Move a b m ∷ Merge b (merged_list s a b) ∷ []
+edits_by s Test a b = []
+
+abbrev pub change_by : ℕ → State → PairWork → ℕ → ℕ → Change
+change_by c s what a b = does c s (value_by s what a b) (edits_by s what a b)
 
 -- The call and what its names have led to.
 pub record IsShare (s : State) (c : ℕ) (call : Call) (ks : List Capability) (p : Pair) : Type 0 where
@@ -39,7 +49,8 @@ pub record IsShare (s : State) (c : ℕ) (call : Call) (ks : List Capability) (p
   pub b : Capability
   pub found_is : ks ≡ a ∷ b ∷ []
   pub shared : IsShared a b p.what p
-  pub left : rule_after (rule_of s c call) ks ≡ Does (causes_of s p.what (found a) (found b)) (change_by s p.what a.frame b.frame)
+  pub left : rule_after (rule_of s c call) ks ≡ Does (causes_of s p.what (found a) (found b)) (value_by s p.what a.frame b.frame)
+      (edits_by s p.what a.frame b.frame)
   pub budgets : changes_budgets call ≡ true
   pub ends_none : (x : Thing) → ends_by call x ≡ false
   pub flush_none : flushes_by call ≡ false
@@ -58,7 +69,7 @@ share_of s c (call_as.Transfer x y m) (a ∷ b ∷ []) p is = record {
     differ = is.differ;
     work = refl;
   };
-  left = ap (λ w. Does (causes_of s w (found a) (found b)) (change_by s w a.frame b.frame)) (sym is.work);
+  left = ap (λ w. Does (causes_of s w (found a) (found b)) (value_by s w a.frame b.frame) (edits_by s w a.frame b.frame)) (sym is.work);
   budgets = refl;
   ends_none = λ x. refl;
   flush_none = refl;
@@ -76,7 +87,7 @@ share_of s c (call_as.Delegate x y m) (a ∷ b ∷ []) p is = record {
     differ = is.differ;
     work = refl;
   };
-  left = ap (λ w. Does (causes_of s w (found a) (found b)) (change_by s w a.frame b.frame)) (sym is.work);
+  left = ap (λ w. Does (causes_of s w (found a) (found b)) (value_by s w a.frame b.frame) (edits_by s w a.frame b.frame)) (sym is.work);
   budgets = refl;
   ends_none = λ x. refl;
   flush_none = refl;
@@ -94,7 +105,7 @@ share_of s c (call_as.Test x y) (a ∷ b ∷ []) p is = record {
     differ = is.differ;
     work = refl;
   };
-  left = ap (λ w. Does (causes_of s w (found a) (found b)) (change_by s w a.frame b.frame)) (sym is.work);
+  left = ap (λ w. Does (causes_of s w (found a) (found b)) (value_by s w a.frame b.frame) (edits_by s w a.frame b.frame)) (sym is.work);
   budgets = refl;
   ends_none = λ x. refl;
   flush_none = refl;
@@ -178,14 +189,16 @@ module _ (setup : Setting) (setting : IsSetting setup) (cores : ℕ → Core) (t
 
   -- what is left of the rule
   pub left : rule_after (rule_of s c a.call) a.found
-      ≡ Does (causes_of s p.what (found is.a) (found is.b)) (change_by s p.what is.a.frame is.b.frame)
+      ≡ Does (causes_of s p.what (found is.a) (found is.b)) (value_by s p.what is.a.frame is.b.frame)
+      (edits_by s p.what is.a.frame is.b.frame)
   left = is.left
 
   pub change_is : change_of s c a.call
-      ≡ unless (first_cause s c (causes_of s p.what (found is.a) (found is.b))) (change_by s p.what is.a.frame is.b.frame)
+      ≡ unless (first_cause s c (causes_of s p.what (found is.a) (found is.b))) (change_by c s p.what is.a.frame is.b.frame)
   change_is = outcome_left s c (own_pages s c) a.plan (rule_of s c a.call) a.found by_plan leads ∙ ap (outcome s c) left
 
-  pub may : (r : Reply) → RuleMay s c (Does (causes_of s p.what (found is.a) (found is.b)) (change_by s p.what is.a.frame is.b.frame)) r
+  pub may : (r : Reply) → RuleMay s c (Does (causes_of s p.what (found is.a) (found is.b)) (value_by s p.what is.a.frame is.b.frame)
+      (edits_by s p.what is.a.frame is.b.frame)) r
       → RuleMay s c (rule_of s c a.call) r
   may r is_may = left_may s c (own_pages s c) a.plan (rule_of s c a.call) a.found by_plan leads r
       (subst (λ x. RuleMay s c x r) (sym left) is_may)

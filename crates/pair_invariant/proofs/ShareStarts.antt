@@ -20,7 +20,7 @@ use Rattle.count_invariant.specs.act_states.specs.Shares.{sharing, shares_if}
 use Rattle.count_invariant.specs.core_invariant.specs.Shares.{IsShared}
 use Rattle.count_invariant.specs.step_ways.proofs.Loads.{OnlyLooks, step_to, call_is, core_is, is_active, loads_on, decides_on}
 use Rattle.count_invariant.specs.step_ways.proofs.Refusals.{GoodTook, not_spent}
-use Rattle.pair_invariant.proofs.ShareCalls.{causes_of, change_by}
+use Rattle.pair_invariant.proofs.ShareCalls.{causes_of, value_by, edits_by, change_by}
 
 -- What a name leads to is of a wanted kind, and is what was found.
 same_found : (wanted : Want) (j k : Capability) → has_kind wanted j ≡ Found k → (j ≡ k) × (wanted.kinds k.kind ≡ true)
@@ -89,28 +89,29 @@ module _ (setup : Setting) (setting : IsSetting setup) (cores : ℕ → Core) (t
       (names : Carries setup t e c → NamesAre setup (e ∷ t) c (cores c).own.table a.plan (j ∷ k ∷ []))
       (first : IsNamed s c j) (second : IsNamed s c k)
       (left : rule_after (rule_of s c a.call) (j ∷ k ∷ [])
-      ≡ Does (causes_of s what (named_by_found j) (named_by_found k)) (change_by s what j.frame k.frame))
+      ≡ Does (causes_of s what (named_by_found j) (named_by_found k)) (value_by s what j.frame k.frame) (edits_by s what j.frame k.frame))
       (shares : (p : Pair) → IsShared j k what p → SharesBy a.call (j ∷ k ∷ []) p) where
     -- the causes of each begin with `same`
     same_may : (w : PairWork) → (j.frame == k.frame) ≡ true
-        → RuleMay s c (Does (causes_of s w (named_by_found j) (named_by_found k)) (change_by s w j.frame k.frame)) reply.Same
+        → RuleMay s c (Does (causes_of s w (named_by_found j) (named_by_found k)) (value_by s w j.frame k.frame)
+        (edits_by s w j.frame k.frame)) reply.Same
     same_may (share.Transfer m) same = inl (same, refl)
     same_may (share.Delegate m) same = inl (same, refl)
     same_may share.Test same = inl (same, refl)
 
     same_first : (w : PairWork) → (j.frame == k.frame) ≡ true
-        → unless (first_cause s c (causes_of s w (named_by_found j) (named_by_found k))) (change_by s w j.frame k.frame)
+        → unless (first_cause s c (causes_of s w (named_by_found j) (named_by_found k))) (change_by c s w j.frame k.frame)
         ≡ Refused reply.Same
     same_first (share.Transfer m) same = ap (λ b. unless (first_of (if b then Some reply.Same else None)
         (first_cause s c (is_short s (named_by_found j) m
         ∷ are_unlike s (named_by_found j) (named_by_found k) ∷ [])))
-        (change_by s (share.Transfer m) j.frame k.frame)) same
+        (change_by c s (share.Transfer m) j.frame k.frame)) same
     same_first (share.Delegate m) same = ap (λ b. unless (first_of (if b then Some reply.Same else None)
         (first_cause s c (is_short s (named_by_found j) m
         ∷ are_many s (named_by_found j) (named_by_found k) ∷ [])))
-        (change_by s (share.Delegate m) j.frame k.frame)) same
+        (change_by c s (share.Delegate m) j.frame k.frame)) same
     same_first share.Test same =
-        ap (λ b. unless (first_of (if b then Some reply.Same else None) None) (change_by s share.Test j.frame k.frame)) same
+        ap (λ b. unless (first_of (if b then Some reply.Same else None) None) (change_by c s share.Test j.frame k.frame)) same
 
     abbrev Begins : Bool → Type 0
     Begins same = GoodTook setup cores t c move
@@ -173,7 +174,7 @@ module _ (setup : Setting) (setting : IsSetting setup) (cores : ℕ → Core) (t
       (begun_so : (j k : Capability)
       → act_begun (cores c).own call (j ∷ k ∷ []) None None ≡ shares_if (j.frame == k.frame) (cores c).own.core what j.frame k.frame)
       (left_so : (j k : Capability) → rule_after (rule_of s c call) (j ∷ k ∷ [])
-      ≡ Does (causes_of s what (named_by_found j) (named_by_found k)) (change_by s what j.frame k.frame))
+      ≡ Does (causes_of s what (named_by_found j) (named_by_found k)) (value_by s what j.frame k.frame) (edits_by s what j.frame k.frame))
       (shares_so : (j k : Capability) (p : Pair) → IsShared j k what p → SharesBy call (j ∷ k ∷ []) p) where
     plan_names : a.plan.names ≡ two_names x y
     plan_names = ap (λ (p : Plan). p.names) ((is_active setup setting cores t stands c here a active).plan ∙ ap plan_for call_so) ∙ names_so

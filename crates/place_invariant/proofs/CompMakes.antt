@@ -2,12 +2,15 @@
 use Rattle.count_invariant.proofs.Common.{to_use, ◌≡◌, ◌≢◌, ◌+◌, ℕ, true, pos, List, [], ◌∷◌, refl, sym, ◌∙◌, ap, IsTrue}
 use Rattle.count_invariant.proofs.Common.{false≢true, All-nil, All-cons, Capability, State, Frame, Kernel, Blank, Table}
 use Rattle.count_invariant.proofs.Common.{Pages, CompFields, Target, Under, found, only, fits, Rule, Vacant, Does, Found, named, outside}
-use Rattle.count_invariant.proofs.Common.{not_blank, makes_comp, epoch_of, rule_of, of_kind, plan_for, Leads, LeadsIn}
+use Rattle.count_invariant.proofs.Common.{not_blank, epoch_of, rule_of, of_kind, plan_for, Leads, LeadsIn}
 use Rattle.count_invariant.proofs.Common.{rule_after, names_after, NextFree, next_of, comp_due_list, CompMaking, Due, AreDuesApart}
 use Rattle.kernel_laws.specs.spk_nums.specs.declared.kinds.Kind.TheVariants as kind
 use Rattle.kernel_laws.specs.spk_nums.specs.declared.calls.Call.TheVariants.{Make as make_call}
 use Rattle.kernel_laws.specs.spk_nums.specs.declared.calls.Make.TheVariants as make
 use Rattle.kernel_laws.specs.kernel_rules.specs.CapabilityCalls.{not_taken}
+use Rattle.kernel_laws.specs.kernel_rules.specs.Edits.{Component as component_edit, Fill as fill_edit}
+use Rattle.kernel_laws.specs.spk_nums.specs.declared.replies.Value.TheVariants.{Nothing as no_value}
+use Rattle.kernel_laws.specs.kernel_rules.specs.Start.{plain_cap}
 
 -- What the component has.
 abbrev pub new_comp : State → ℕ → ℕ → ℕ → CompFields
@@ -16,7 +19,8 @@ new_comp s x p l = record { table = x; pages = p; number = l; epoch = epoch_of (
 -- What is left of the rule of such a call after its names.
 abbrev pub comp_rest : State → Capability → ℕ → ℕ → ℕ → ℕ → Target → Rule
 comp_rest s range f x p l target =
-    Vacant target λ at. Does (outside (found range) f ∷ not_blank s f ∷ not_taken s l) (makes_comp s f (new_comp s x p l) at)
+    Vacant target λ at. Does (outside (found range) f ∷ not_blank s f ∷ not_taken s l) no_value
+    (component_edit f (new_comp s x p l) ∷ fill_edit at (plain_cap kind.Comp f) ∷ [])
 
 -- Its names have led to a range, a table, and the table and the pages of the component.
 pub record IsCompMake (s : State) (c r f u b x p l : ℕ) (ks : List Capability) : Type 0 where

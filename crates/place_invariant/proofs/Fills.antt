@@ -35,8 +35,7 @@ use Rattle.count_invariant.specs.entry_words.proofs.Spelling.{spelling}
 use Rattle.kernel_laws.specs.kernel_rules.specs.State.{Free as Vacant, Quiescing as Removed}
 use Rattle.kernel_laws.specs.kernel_rules.specs.Start.{plain_cap}
 use Rattle.kernel_laws.specs.kernel_rules.specs.MemoryCalls.{is_user, not_user}
-use Rattle.kernel_laws.specs.kernel_rules.specs.Rules.{Vacant as to_be_free}
-use Rattle.kernel_laws.specs.kernel_rules.specs.Rules.{fills}
+use Rattle.kernel_laws.specs.kernel_rules.specs.Rules.{Vacant as to_be_free, does}
 use Rattle.kernel_laws.specs.kernel_rules.specs.CapabilityCalls.{has_frames, beyond}
 use Rattle.count_invariant.specs.kernel_history.specs.Ways.{led_to}
 use Rattle.count_invariant.specs.kernel_history.specs.Stamps.{begins_in as begins_then}
@@ -62,6 +61,7 @@ use Rattle.count_invariant.specs.step_ways.proofs.Refusals.{GoodTook, ticks_at, 
 use Rattle.count_invariant.proofs.Lookups.{slot_right, slot_one, footprint_way}
 use Rattle.count_invariant.proofs.Findings.{own_is, found_named, way_gone}
 use Rattle.count_invariant.proofs.Next.{Rest, ANameLeft, NoneLeft, rest_of, next_name}
+use Rattle.kernel_laws.specs.kernel_rules.specs.Edits.{Fill as fill_edit}
 
 -- What a call puts at its target: what is left of its rule after its names fills the target with k, where no own cause stands, and it
 -- changes
@@ -69,7 +69,7 @@ use Rattle.count_invariant.proofs.Next.{Rest, ANameLeft, NoneLeft, rest_of, next
 record Puts (s : State) (c : ℕ) (call : Call) (ks : List Capability) (target : Target) (k : Capability) : Type 0 where
   causes : List Cause
   calm : first_cause s c causes ≡ None
-  rule : rule_after (rule_of s c call) ks ≡ to_be_free target (λ at. Does causes (fills s at k))
+  rule : rule_after (rule_of s c call) ks ≡ to_be_free target (λ at. Does causes Nothing (fill_edit at k ∷ []))
   places : changes_places call ≡ true
   ends : (x : Thing) → ends_by call x ≡ false
   flushes : flushes_by call ≡ false
@@ -78,12 +78,12 @@ record Puts (s : State) (c : ℕ) (call : Call) (ks : List Capability) (target :
 puts_it : (s : State) (c : ℕ) (target : Target) (k : Capability) (causes : List Cause) → first_cause s c causes ≡ None → (at : Slot)
     → reached s c target ≡ Some at
     → not_vacant s c (PlaceOf at.node at.index) (place_at s at) ≡ None
-    → outcome s c (to_be_free target (λ at. Does causes (fills s at k))) ≡ Found (fills s at k)
+    → outcome s c (to_be_free target (λ at. Does causes Nothing (fill_edit at k ∷ []))) ≡ Found (does c s Nothing (fill_edit at k ∷ []))
 puts_it s c target k causes calm at reached_at free =
-    ap (λ x. and_then x λ at. outcome s c (Does causes (fills s at k)))
+    ap (λ x. and_then x λ at. outcome s c (Does causes Nothing (fill_edit at k ∷ [])))
     (ap (λ o. and_then (or_refuse o reply.NoSlot) λ at. unless (not_vacant s c (PlaceOf at.node at.index) (place_at s at)) at) reached_at
     ∙ ap (λ o. unless o at) free)
-    ∙ ap (λ o. unless o (fills s at k)) calm
+    ∙ ap (λ o. unless o (does c s Nothing (fill_edit at k ∷ []))) calm
 
 -- A word that says that it is free is that of a free place.
 free_place : (n : ℕ) (p : Place) (r : ℕ) (o : Option Entry) → PlaceIs n p r o → o ≡ Some Free → p ≡ Vacant
@@ -246,7 +246,7 @@ module _ (setup : Setting) (setting : IsSetting setup) (cores : ℕ → Core) (t
     empty : IsVacant s c node index
     empty = vacant_by setup t c node index (ap (λ l. l.cores) (limits_of setup t)) setup.frames (entry_of_word was) unmarked.says may
 
-    change : change_of s c a.call ≡ Found (fills s slot k)
+    change : change_of s c a.call ≡ Found (does c s Nothing (fill_edit slot k ∷ []))
     change = outcome_left s c (own_pages s c) a.plan (rule_of s c a.call) a.found goes_by leads ∙ ap (outcome s c) puts.rule
         ∙ puts_it s c has.knows.knows.target k puts.causes puts.calm slot has.knows.knows.way.reached empty.vacant
 
@@ -398,7 +398,8 @@ module _ (setup : Setting) (setting : IsSetting setup) (cores : ℕ → Core) (t
         (subst (WordIs (state_after setup (e ∷ t)) (times_of setup (e ∷ t)) (EntryAt node index)) (sym leaves) word_now)
         held_is (λ w own. counts_commit setup setting cores t stands c here a active (pos 1) None none_small
         (named_by k.kind k.frame) few has.knows.all compare
-        (reply.Ok Nothing) after still before_count (λ f d. refl) (reads_alike setup t e calm.frame) unmarked.mark bare_now no_count w (own_marked w own))
+        (reply.Ok Nothing) after still before_count (λ f d. refl) (reads_alike setup t e calm.frame) unmarked.mark bare_now no_count w
+        (own_marked w own))
         (counts_sum setup setting cores t stands c here a active (pos 1) None none_small (named_by k.kind k.frame) few
         has.knows.all compare
         (reply.Ok Nothing) after still before_count (λ f d. refl) (reads_alike setup t e calm.frame) unmarked.mark bare_now no_count

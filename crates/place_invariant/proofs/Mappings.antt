@@ -19,7 +19,6 @@ use Rattle.std.specs.Prelude.{◌||◌}
 use Rattle.kernel_laws.specs.spk_nums.specs.declared.kinds.FrameKind.TheVariants as kind
 use Rattle.kernel_laws.specs.spk_nums.specs.declared.replies.Reply.TheVariants as reply
 use Rattle.kernel_laws.specs.kernel_rules.specs.MemoryCalls.{is_user, not_user}
-use Rattle.kernel_laws.specs.kernel_rules.specs.Rules.{fills}
 use Rattle.count_invariant.specs.act_states.specs.declared.fills.Fill.{Fill}
 use Rattle.count_invariant.specs.act_states.specs.declared.refusals.Refusal.TheVariants as refusal
 use Rattle.count_invariant.specs.act_states.specs.declared.work.Act.TheVariants.{Fill as fill_act, Map as map_act}
@@ -32,6 +31,9 @@ use Rattle.count_invariant.specs.step_ways.proofs.Refusals.{GoodTook, ticks_at, 
 use Rattle.count_invariant.proofs.Acquiring.{plan_leads, goes_by}
 use Rattle.count_invariant.proofs.MakingCounts.{argument_footprint}
 use Rattle.place_invariant.proofs.Outside.{vacant_slot, vacant_node, stands_alone}
+use Rattle.kernel_laws.specs.kernel_rules.specs.Edits.{Fill as fill_edit}
+use Rattle.kernel_laws.specs.kernel_rules.specs.Rules.{does}
+use Rattle.kernel_laws.specs.spk_nums.specs.declared.replies.Value.TheVariants.{Nothing as no_value}
 
 -- A frame that its word does not call a user frame is none.
 not_user_is : (x : Frame) (j : FrameKind) → (frame_value x).kind ≡ j → (j ≡ kind.User → ⊥) → is_user x ≡ false
@@ -99,8 +101,8 @@ record MapRule (s : State) (c : ℕ) (call : Call) (ks : List Capability) (f : �
   range : Capability
   flags : PageFlags
   within : has_frame (found range) f ≡ true
-  rule : rule_after (rule_of s c call) ks ≡ Vacant target (λ at. Does (outside (found range) f ∷ not_user s f ∷ []) (fills s at
-      (page_cap f flags)))
+  rule : rule_after (rule_of s c call) ks ≡ Vacant target (λ at. Does (outside (found range) f ∷ not_user s f ∷ []) no_value
+      (fill_edit at (page_cap f flags) ∷ []))
 
 map_rule_of : (s : State) (c p v r f : ℕ) (w : PageFlags) (ks : List Capability) (k : Capability) (target : Target)
     → Leads (LeadsIn s c) (plan_for (Map p v r f w)).names [] ks → next_of (plan_for (Map p v r f w)) ks ≡ NextFree target
@@ -226,8 +228,8 @@ module _ (setup : Setting) (setting : IsSetting setup) (cores : ℕ → Core) (t
       first : IsAlone t (step_to c None load was (Some reply.FrameKind) None) → change_of s c a.call ≡ Refused reply.FrameKind
       first alone =
           outcome_left s c (own_pages s c) a.plan (rule_of s c a.call) a.found by_plan leads ∙ ap (outcome s c) rest.rule
-          ∙ ap (λ x. and_then x λ at. outcome s c (Does (outside (found rest.range) f ∷ not_user s f ∷ []) (fills s at
-          (page_cap f rest.flags))))
+          ∙ ap (λ x. and_then x λ at. outcome s c (Does (outside (found rest.range) f ∷ not_user s f ∷ []) no_value
+          (fill_edit at (page_cap f rest.flags) ∷ [])))
           (vacant_slot s c knows.spot.target (record { node = fill.node; index = fill.entry }) knows.spot.way.reached
           (vacant_node setup setting cores t stands c here a active opens has.names fill.node fill.entry fill.word knows.spot
           fits.0.entry in_node
@@ -237,7 +239,7 @@ module _ (setup : Setting) (setting : IsSetting setup) (cores : ℕ → Core) (t
           ∙ ap (λ b. unless (first_of (if b then Some reply.FrameKind else None) None) change) stands_so
         where
           change : Change
-          change = fills s (record { node = fill.node; index = fill.entry }) (page_cap f rest.flags)
+          change = does c s no_value (fill_edit (record { node = fill.node; index = fill.entry }) (page_cap f rest.flags) ∷ [])
 
   entry_apart : (g i : ℕ) → EntryAt g i ≡ FrameAt f → ⊥
   entry_apart g i h = cc

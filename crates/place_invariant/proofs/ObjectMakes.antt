@@ -2,16 +2,23 @@
 use Rattle.count_invariant.proofs.Common.{to_use, ◌≡◌, ◌≢◌, ℕ, Bool, true, List, [], ◌∷◌, Some, None, refl, sym, ◌∙◌, ap, subst, IsTrue}
 use Rattle.count_invariant.proofs.Common.{if◌then◌else◌, false≢true, All-nil, All-cons, Capability, Make, Place, Free, Grace, Object}
 use Rattle.count_invariant.proofs.Common.{Blank, Table, Leaf, Pages, Pleaf, Thread, Tcap, Kernel, Thing, State, put, Target, Under, found}
-use Rattle.count_invariant.proofs.Common.{only, fits, Rule, Vacant, Does, Found, named, outside, not_blank, makes, rule_of, named_fit}
+use Rattle.count_invariant.proofs.Common.{only, fits, Rule, Vacant, Does, Found, named, outside, not_blank, rule_of, named_fit}
 use Rattle.count_invariant.proofs.Common.{IsSound, of_kind, plan_for, Leads, LeadsIn, rule_after, names_after, NextFree, next_of}
 use Rattle.count_invariant.proofs.Common.{NewObject, object_kind, object_made, object_dues, Due, AreDuesApart}
 use Rattle.kernel_laws.specs.spk_nums.specs.declared.kinds.Kind.TheVariants as kind
 use Rattle.kernel_laws.specs.spk_nums.specs.declared.calls.Call.TheVariants.{Make as make_call}
 use Rattle.kernel_laws.specs.spk_nums.specs.declared.calls.Make.TheVariants as make
-use Rattle.kernel_laws.specs.kernel_rules.specs.Start.{no_grace}
-use Rattle.kernel_laws.specs.kernel_rules.specs.CapabilityCalls.{is_place_of}
+use Rattle.kernel_laws.specs.kernel_rules.specs.Start.{no_grace, plain_cap}
+use Rattle.kernel_laws.specs.kernel_rules.specs.Edits.{is_place_of, Edit, Fill, Node, Become}
 use Rattle.count_invariant.specs.act_states.specs.declared.objects.NewObject.TheVariants as objects
 use Rattle.count_invariant.specs.act_states.specs.Objects.{one_more}
+use Rattle.std.specs.Prelude.{◌++◌}
+use Rattle.kernel_laws.specs.spk_nums.specs.declared.kinds.Kind.{Kind}
+use Rattle.kernel_laws.specs.spk_nums.specs.declared.replies.Value.TheVariants.{Nothing}
+use Rattle.kernel_laws.specs.kernel_rules.specs.State.{Holds, with_frame, with_place}
+use Rattle.kernel_laws.specs.kernel_rules.specs.References.{place_names, frame_names}
+use Rattle.kernel_laws.specs.kernel_rules.specs.Access.{Slot}
+use Rattle.kernel_laws.specs.kernel_rules.specs.Rules.{Change, does}
 
 -- The object that is made.
 abbrev pub new_object : NewObject → Object
@@ -42,11 +49,35 @@ ready_grace (objects.Tcap sched quality) s f = s.grace
 abbrev pub readied : NewObject → State → ℕ → State
 readied object s f = record s { place = ready_place object s f; grace = ready_grace object s f }
 
+-- The edit that makes it.
+abbrev pub made_by : NewObject → ℕ → Edit
+made_by objects.Table f = Node f Table
+made_by objects.Leaf f = Node f Leaf
+made_by objects.Pages f = Node f Pages
+made_by objects.Pleaf f = Node f Pleaf
+made_by (objects.Thread comp) f = Become f (Kernel (Thread (record { stack = comp ∷ []; runs_on = None })))
+made_by (objects.Tcap sched quality) f = Become f (Kernel (Tcap (record { budget = 0; qualities = (sched, quality) ∷ [] })))
+
+-- The change of such a call, in the state that is made ready.
+abbrev pub makes : State → ℕ → Object → Kind → Slot → Change
+makes s f object k at = record {
+  value = Nothing;
+  next = with_place (with_frame s f (Kernel object)) at.node at.index (Holds (plain_cap k f));
+  takes = place_names (Holds (plain_cap k f)) ++ frame_names (Kernel object);
+  begins = [];
+}
+
+pub made_is : (c : ℕ) (s : State) (object : NewObject) (f : ℕ) (at : Slot)
+    → does c s Nothing (made_by object f ∷ Fill at (plain_cap (object_kind object) f) ∷ [])
+    ≡ makes (readied object s f) f (new_object object) (object_kind object) at
+made_is c s objects.Table f at = refl
+made_is c s _ f at = refl
+
 -- What is left of the rule of such a call after its names.
 abbrev pub make_rest : State → Capability → ℕ → NewObject → Target → Rule
 make_rest s range f object target =
-    Vacant target λ at. Does (outside (found range) f ∷ not_blank s f ∷ [])
-    (makes (readied object s f) f (new_object object) (object_kind object) at)
+    Vacant target λ at. Does (outside (found range) f ∷ not_blank s f ∷ []) Nothing
+    (made_by object f ∷ Fill at (plain_cap (object_kind object) f) ∷ [])
 
 -- Its first two names have led to a range and a table.
 pub record TwoFound (s : State) (c r u : ℕ) (ks : List Capability) : Type 0 where
@@ -193,12 +224,9 @@ made_of (make.Comp table pages live) other r f u b ks none R by = absurd other
 pub dues_apart : (s : State) (f : ℕ) (object : NewObject) → s.frame f ≡ Kernel Blank → HasObjects s object
     → AreDuesApart (object_dues object f)
 dues_apart s f objects.Table blank names = (All-nil (λ (x : Due). f ≢ x.frame), tt)
-dues_apart s f objects.Leaf blank names = (All-nil (λ (x : Due). f ≢ x.frame), tt)
-dues_apart s f objects.Pages blank names = (All-nil (λ (x : Due). f ≢ x.frame), tt)
-dues_apart s f objects.Pleaf blank names = (All-nil (λ (x : Due). f ≢ x.frame), tt)
-dues_apart s f (objects.Tcap sched quality) blank names = (All-nil (λ (x : Due). f ≢ x.frame), tt)
 dues_apart s f (objects.Thread comp) blank names = (
   All-cons (λ (x : Due). f ≢ x.frame) (one_more comp) []
       (λ same. false≢true (sym (ap (fits kind.Comp) (sym (ap s.frame same) ∙ blank)) ∙ names)) (All-nil (λ (x : Due). f ≢ x.frame)),
   (All-nil (λ (x : Due). comp ≢ x.frame), tt),
 )
+dues_apart s f _ blank names = (All-nil (λ (x : Due). f ≢ x.frame), tt)

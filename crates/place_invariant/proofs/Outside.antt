@@ -3,9 +3,9 @@ use Rattle.count_invariant.proofs.Common.{Want, ◌≡◌, ◌⊎◌, inl, inr, 
 use Rattle.count_invariant.proofs.Common.{sym, ◌∙◌, ap, subst, if◌then◌else◌, IsSome, cases_eq, false≢true, Capability, Setting}
 use Rattle.count_invariant.proofs.Common.{IsSetting, Call, Map, Make, Reply, entry_of_word, EntryAt, Move, LoadOf, word_of, State}
 use Rattle.count_invariant.proofs.Common.{PlaceOf, Kernel, Leaf, Slot, Target, Under, found, place_at, reached, page_cap, slot_relies}
-use Rattle.count_invariant.proofs.Common.{Cause, Change, Vacant, Does, RuleMay, Refused, Found, and_then, or_refuse, unless}
+use Rattle.count_invariant.proofs.Common.{Cause, Vacant, Does, RuleMay, Refused, Found, and_then, or_refuse, unless}
 use Rattle.count_invariant.proofs.Common.{first_of, first_cause, vacant, not_vacant, outcome, is_node, has_frame, outside, not_blank}
-use Rattle.count_invariant.proofs.Common.{makes, makes_comp, rule_of, change_of, IsAlone, Trace, Open, state_after, last_left}
+use Rattle.count_invariant.proofs.Common.{rule_of, change_of, IsAlone, Trace, Open, state_after, last_left}
 use Rattle.count_invariant.proofs.Common.{own_read, not_changed, Plan, plan_for, GoesBy, own_pages, Leads, LeadsIn, rule_after}
 use Rattle.count_invariant.proofs.Common.{names_after, NextName, NextFree, next_of, left_may, outcome_left, NewObject, object_kind}
 use Rattle.count_invariant.proofs.Common.{object_made, ActiveCall, Core, IsSpot, MayFill, NamesAre, phase_at, Invariant, limits_of, Bool}
@@ -15,16 +15,20 @@ use Rattle.place_invariant.proofs.CompMakes.{IsCompMake, comp_make, comp_rest, n
 use Rattle.kernel_laws.specs.spk_nums.specs.declared.replies.Reply.TheVariants as reply
 use Rattle.kernel_laws.specs.spk_nums.specs.Rights.{part_of}
 use Rattle.kernel_laws.specs.kernel_rules.specs.MemoryCalls.{not_user}
-use Rattle.kernel_laws.specs.kernel_rules.specs.Rules.{fills, When}
+use Rattle.kernel_laws.specs.kernel_rules.specs.Rules.{When, does}
 use Rattle.kernel_laws.specs.kernel_rules.specs.CapabilityCalls.{not_taken, has_frames}
 use Rattle.count_invariant.specs.core_invariant.specs.Knows.{OutsideBy, OutsideObject, OutsideComp}
 use Rattle.count_invariant.specs.step_ways.proofs.Loads.{step_to, call_is, is_active}
 use Rattle.count_invariant.specs.step_ways.proofs.Places.{IsMarked, IsUnmarked, place_reads}
 use Rattle.count_invariant.proofs.Acquiring.{plan_leads, goes_by}
 use Rattle.count_invariant.proofs.Next.{Rest, ANameLeft, NoneLeft, rest_of, next_name}
-use Rattle.place_invariant.proofs.ObjectMakes.{new_object, readied, make_rest, IsObjectMake, object_make}
+use Rattle.place_invariant.proofs.ObjectMakes.{made_by, make_rest, IsObjectMake, object_make}
 use Rattle.place_invariant.proofs.Starts.{IsRefusedOutside}
 use Rattle.place_invariant.proofs.Vacancy.{in_leaf, IsVacant, vacant_by}
+use Rattle.kernel_laws.specs.kernel_rules.specs.Edits.{Component as component_edit, Fill as fill_edit, Edit}
+use Rattle.kernel_laws.specs.spk_nums.specs.declared.replies.Value.TheVariants.{Nothing as no_value}
+use Rattle.kernel_laws.specs.spk_nums.specs.declared.kinds.Kind.TheVariants as kind
+use Rattle.kernel_laws.specs.kernel_rules.specs.Start.{plain_cap}
 
 -- A slot that is reached and vacant.
 pub vacant_slot : (s : State) (c : ℕ) (target : Target) (at : Slot) → reached s c target ≡ Some at
@@ -89,8 +93,8 @@ none_left_of plan ks target next = by (rest_of plan ks)
 record IsRefusable (s : State) (c : ℕ) (call : Call) (ks : List Capability) (target : Target) : Type 0 where
   has : Bool
   causes : List Cause
-  change : Slot → Change
-  rule : rule_after (rule_of s c call) ks ≡ Vacant target (λ at. Does (When (not has) reply.OutOfRange ∷ causes) (change at))
+  edits : Slot → List Edit
+  rule : rule_after (rule_of s c call) ks ≡ Vacant target (λ at. Does (When (not has) reply.OutOfRange ∷ causes) no_value (edits at))
   is_outside : has ≡ false
 
 target_in : (p q : Target) → NextFree p ≡ NextFree q → p ≡ q
@@ -110,7 +114,7 @@ made_refusable s c call ks target is leads next =
     record {
       has = has_frame (found make.two.range) is.frame;
       causes = not_blank s is.frame ∷ [];
-      change = λ at. makes (readied is.object s is.frame) is.frame (new_object is.object) (object_kind is.object) at;
+      edits = λ at. made_by is.object is.frame ∷ fill_edit at (plain_cap (object_kind is.object) is.frame) ∷ [];
       rule = ap (λ x. rule_after (rule_of s c x) ks) call_is ∙ make.rule
           ∙ ap (λ x. make_rest s make.two.range is.frame is.object x) to;
       is_outside = ap (λ (k : Capability). has_frame (found k) is.frame) (first_same _ _ _ _ (sym make.two.found_is ∙ is.found_is))
@@ -130,7 +134,8 @@ comp_refusable s c (make_call (make_of.Comp x p live) r f u b) (range ∷ second
     record {
       has = has_frame (found make.range) f;
       causes = not_blank s f ∷ not_taken s live;
-      change = λ at. makes_comp s f (new_comp s make.table.frame make.pages.frame live) at;
+      edits = λ at.
+          component_edit f (new_comp s make.table.frame make.pages.frame live) ∷ fill_edit at (plain_cap kind.Comp f) ∷ [];
       rule = make.rule ∙ ap (λ to. comp_rest s make.range f make.table.frame make.pages.frame live to)
           (target_in _ _ (sym make.next ∙ next));
       is_outside = ap (λ (k : Capability). has_frame (found k) f) (first_same _ _ _ _ (sym make.found_is)) ∙ out;
@@ -156,7 +161,7 @@ refusable s c (Map p v r f w) (k ∷ j ∷ []) target out leads next =
     subst (IsRefusable s c (Map p v r f w) (k ∷ j ∷ [])) (target_in (Under (found k) v) target next) (record {
       has = has_frame (found j) f;
       causes = not_user s f ∷ [];
-      change = λ at. fills s at (page_cap f w);
+      edits = λ at. fill_edit at (page_cap f w) ∷ [];
       rule = refl;
       is_outside = out;
     })
@@ -167,7 +172,7 @@ refusable s c (Part r f n u b) (k ∷ j ∷ []) target out leads next =
     subst (IsRefusable s c (Part r f n u b) (k ∷ j ∷ [])) (target_in (Under (found j) b) target next) (record {
       has = has_frames (found k) f n;
       causes = [];
-      change = λ at. fills s at (part_of k f n);
+      edits = λ at. fill_edit at (part_of k f n) ∷ [];
       rule = refl;
       is_outside = out;
     })
@@ -210,10 +215,10 @@ module _ (setup : Setting) (setting : IsSetting setup) (cores : ℕ → Core) (t
   first alone =
       outcome_left s c (own_pages s c) a.plan (rule_of s c a.call) a.found by_plan leads ∙ ap (outcome s c) is.rule
       ∙ ap (λ x. and_then x λ at. unless (first_of (if not is.has then Some reply.OutOfRange else None)
-      (first_cause s c is.causes)) (is.change at))
+      (first_cause s c is.causes)) (does c s no_value (is.edits at)))
       (vacant_slot s c target slot reaches (vacant_alone alone).vacant)
       ∙ ap (λ b. unless (first_of (if not b then Some reply.OutOfRange else None) (first_cause s c is.causes))
-      (is.change slot)) is.is_outside
+      (does c s no_value (is.edits slot))) is.is_outside
 
   pub refused_vacant : IsRefusedOutside setup t c a.call move
   refused_vacant = record {

@@ -28,7 +28,6 @@ use Rattle.kernel_laws.specs.spk_nums.specs.declared.replies.Reply.TheVariants a
 use Rattle.kernel_laws.specs.spk_nums.specs.declared.replies.Value.TheVariants as value
 use Rattle.count_invariant.specs.entry_words.specs.declared.entry.Entry.TheVariants as entry
 use Rattle.count_invariant.specs.entry_words.proofs.Spelling.{spelling}
-use Rattle.kernel_laws.specs.kernel_rules.specs.Rules.{removes}
 use Rattle.kernel_laws.specs.kernel_rules.specs.Rules as rules
 use Rattle.kernel_laws.specs.kernel_invariant.proofs.Sums as sums
 use Rattle.count_invariant.specs.kernel_history.specs.Stamps.{begins_in as begins_then}
@@ -56,10 +55,13 @@ use Rattle.place_invariant.proofs.Fills.{node_word, target_way}
 use Rattle.count_invariant.proofs.Findings.{own_is, found_named, way_gone}
 use Rattle.count_invariant.proofs.Lookups.{footprint_way}
 use Rattle.count_invariant.proofs.Next.{Rest, ANameLeft, NoneLeft, rest_of, next_name}
+use Rattle.kernel_laws.specs.kernel_rules.specs.Edits.{Remove as remove_edit}
+use Rattle.kernel_laws.specs.kernel_rules.specs.Rules.{does}
+use Rattle.kernel_laws.specs.spk_nums.specs.declared.replies.Value.TheVariants.{Nothing as no_value}
 
 -- What a call takes away at its target: what is left of its rule after its names removes what the target holds.
 pub record TakesAway (s : State) (c : ℕ) (call : Call) (ks : List Capability) (target : Target) : Type 0 where
-  pub rule : rule_after (rule_of s c call) ks ≡ rules.Held target (λ at k. Does [] (removes s at k))
+  pub rule : rule_after (rule_of s c call) ks ≡ rules.Held target (λ at k. Does [] no_value (remove_edit at k ∷ []))
   pub ends : (x : Thing) → ends_by call x ≡ false
   pub flushes : flushes_by call ≡ false
 
@@ -98,9 +100,9 @@ takes_by s c target call ks lead none next is = absurd (false≢true is)
 
 -- The outcome of what is left of such a rule, where its target holds k.
 takes_it : (s : State) (c : ℕ) (target : Target) (at : Slot) (k : Capability) → reached s c target ≡ Some at → place_at s at ≡ Holds k
-    → outcome s c (rules.Held target (λ at k. Does [] (removes s at k))) ≡ Found (removes s at k)
+    → outcome s c (rules.Held target (λ at k. Does [] no_value (remove_edit at k ∷ []))) ≡ Found (does c s no_value (remove_edit at k ∷ []))
 takes_it s c target at k reached_at holds_k =
-    ap (λ x. and_then x λ p. outcome s c (Does [] (removes s p.0 p.1)))
+    ap (λ x. and_then x λ p. outcome s c (Does [] no_value (remove_edit p.0 p.1 ∷ [])))
     (ap (λ o. and_then (or_refuse o reply.NoSlot) λ at. and_then (or_refuse (held_in (place_at s at)) reply.Empty) λ k. Found (at, k))
     reached_at
     ∙ ap (λ p. and_then (or_refuse (held_in p) reply.Empty) λ k. Found (at, k)) holds_k)
@@ -243,7 +245,7 @@ module _ (setup : Setting) (setting : IsSetting setup) (cores : ℕ → Core) (t
       (subst (WordIs s (times_of setup t) at) stood_for (stands.words at)))
       (spelling.reads (entry.Held cap) has.knows.knows.fits)
 
-  change : change_of s c a.call ≡ Found (removes s slot cap)
+  change : change_of s c a.call ≡ Found (does c s no_value (remove_edit slot cap ∷ []))
   change = outcome_left s c (own_pages s c) a.plan (rule_of s c a.call) a.found by_plan leads ∙ ap (outcome s c) takes.rule
       ∙ takes_it s c has.knows.knows.target slot cap has.knows.knows.way.reached held_cap
 

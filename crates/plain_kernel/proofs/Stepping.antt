@@ -1,7 +1,7 @@
 -- A call made whole: from the kernel's own state to every reached state that it represents.
 use Rattle.std.proofs.Common.{◌≡◌, ◌≢◌, ℕ, ◌+◌, ◌-◌, ◌^◌, ◌<◌, ◌≤◌, ◌==◌, Bool, true, false, refl, sym}
 use Rattle.std.proofs.Common.{◌∙◌, ap, subst, arith, nat_le, if◌then◌else◌, List, ◌∷◌, IsTrue}
-use Rattle.std.proofs.lemmas.Bool.{eq-eqb, leb-false}
+use Rattle.std.proofs.lemmas.Bool.{eq-eqb}
 use Rattle.spk_nums.specs.Setting.{Setting, IsSetting}
 use Rattle.spk_nums.specs.CallLimits.{InLimits}
 use Rattle.spk_nums.specs.declared.calls.Call.{Call}
@@ -15,8 +15,8 @@ use Rattle.kernel_rules.specs.Life.{acts}
 use Rattle.kernel_rules.specs.Alone.{reply_in, first_reply, alone, plain_reply, plain_step}
 use Rattle.kernel_rules.specs.Runs.{Event, Enters, Decides, Returns, after, Phase, Open, Decided, Out, is_decided, phase_of, IsRun}
 use Rattle.kernel_rules.proofs.Agrees.{IsBounded, IsPlain, IfRefused, rule_refused}
-use Rattle.kernel_rules.proofs.AloneLaw.{Waits, rule_waits, rule_plain, waits_inside, first_permitted}
-use Rattle.kernel_rules.proofs.Changes.{IfFound, outcome_all}
+use Rattle.kernel_rules.proofs.AloneLaw.{Waits, found_waits, rule_plain, waits_inside, first_permitted}
+use Rattle.kernel_rules.proofs.Changes.{IfFound}
 use Rattle.kernel_laws.proofs.RangesLaw.{ranges_hold}
 use Rattle.kernel_rules.proofs.Within.{waits_within}
 use Rattle.kernel_invariant.proofs.SoundRuns.{limits_stay}
@@ -25,10 +25,10 @@ use Rattle.seq_state.specs.Representation.{SameGrace, SameState, Represents}
 use Rattle.seq_state.proofs.Same.{same_by, same_then, same_core}
 use Rattle.seq_lookups.specs.Carried.{IsCarriedOut}
 use Rattle.seq_lookups.specs.Ranges.{IsInRange}
-use Rattle.same_changes.specs.Same.{SameChange, SameOutcome}
+use Rattle.same_changes.specs.Same.{SameOutcome}
 use Rattle.same_changes.proofs.Alike.{begun_same}
 use Rattle.same_changes.proofs.EveryCall.{changes_same, same_acts, stays_in_range}
-use Rattle.plain_kernel.specs.Step.{IsReached, IsStep, StepsExactly}
+use Rattle.plain_kernel.specs.Step.{IsStep, StepsExactly}
 
 -- ---- the steps that are no call's own
 
@@ -95,7 +95,8 @@ over t s r k e (Found x) (Found y) same limits h = record {
 over t s r k e (Refused p) (Found y) same limits h = absurd same
 over t s r k e (Found x) (Refused q) same limits h = absurd same
 
-limits_of : (s : State) (j : Judged Change) → IfFound j (Waits s) → IfFound j (λ change. change.next.limits ≡ s.limits)
+limits_of : (s : State) (j : Judged Change) → IfFound j (λ change. Waits s change.next)
+    → IfFound j (λ change. change.next.limits ≡ s.limits)
 limits_of s (Refused r) h = tt
 limits_of s (Found change) h = h.limits
 
@@ -189,7 +190,8 @@ module _ (setting : Setting) (lim : IsSetting setting) (events : List Event) (ru
   -- A call that its core may not make is answered so, counted and returned from.
   pub dead_here : (k k1 k3 : Maps) → Represents k (after setting events) → Represents k1 (entered (state_of k) c)
       → false ≡ are_calls_spent (state_of k1) c → false ≡ acts (state_of k1) c call
-      → (c < (state_of k1).limits.cores → ((state_of k1).core c).counted < 2 ^ 40 - 1 → Represents k3 (returned (counted (state_of k1) c) c))
+      → (c < (state_of k1).limits.cores → ((state_of k1).core c).counted < 2 ^ 40 - 1
+      → Represents k3 (returned (counted (state_of k1) c) c))
       → Made (after setting events) c call reply.Dead k3
   dead_here k k1 k3 e is some dead finishes =
       let s = entered (after setting events) c in
@@ -211,7 +213,8 @@ module _ (setting : Setting) (lim : IsSetting setting) (events : List Event) (ru
       (sym (limits_stay setting (Decides c call (alone s c call) ∷ Enters c call ∷ events))) lim.most_calls)) in
       let few : (s.core c).counted < 2 ^ 40 - 1 = one_less _ (put_here s.core c) most in
       let core_here : c < (state_of k1).limits.cores = subst (λ (l : Limits). c < l.cores) (sym here.limits) core_in in
-      let few_here : ((state_of k1).core c).counted < 2 ^ 40 - 1 = subst (λ (k : Core). k.counted < 2 ^ 40 - 1) (sym (here.core c core_in)) few in
+      let few_here : ((state_of k1).core c).counted < 2 ^ 40 - 1 =
+      subst (λ (k : Core). k.counted < 2 ^ 40 - 1) (sym (here.core c core_in)) few in
       record {
         reply = replied;
         state = subst (λ x. SameState (state_of k3) (returned x c)) (sym left)
@@ -223,7 +226,8 @@ module _ (setting : Setting) (lim : IsSetting setting) (events : List Event) (ru
   pub made_here : (k k1 k2 k3 : Maps) (r : Reply) → Represents k (after setting events) → Represents k1 (entered (state_of k) c)
       → false ≡ are_calls_spent (state_of k1) c → true ≡ acts (state_of k1) c call
       → (IsInRange (state_of k1) c call → IsCarriedOut (state_of k1) (change_of (state_of k1) c call) r k2)
-      → (c < (state_of k2).limits.cores → ((state_of k2).core c).counted < 2 ^ 40 - 1 → Represents k3 (returned (counted (state_of k2) c) c))
+      → (c < (state_of k2).limits.cores → ((state_of k2).core c).counted < 2 ^ 40 - 1
+      → Represents k3 (returned (counted (state_of k2) c) c))
       → Made (after setting events) c call r k3
   made_here k k1 k2 k3 r e is some lives decides finishes =
       let s = entered (after setting events) c in
@@ -233,7 +237,7 @@ module _ (setting : Setting) (lim : IsSetting setting) (events : List Event) (ru
       let j = change_of s c call in
       let done : IsCarriedOut s j r k2 = over (state_of k1) s r k2 here (change_of (state_of k1) c call) j
       (changes_same setting lim (Enters c call ∷ events) runs c call opens (state_of k1) here)
-      (limits_of s j (outcome_all (Waits s) s c (rule_of s c call) (rule_waits s c call)))
+      (limits_of s j (found_waits s c call))
       (decides (stays_in_range setting lim (Enters c call ∷ events) runs c call opens (state_of k1) here)) in
       let replied : r ≡ alone s c call = done.reply ∙ ap (λ t. if t then reply_in j else reply.Dead) (sym may)
       ∙ ap (λ t. if t then reply.CallsSpent else first_reply s c call) (sym no) in
@@ -249,7 +253,7 @@ module _ (setting : Setting) (lim : IsSetting setting) (events : List Event) (ru
       (sym (limits_stay setting (Decides c call (alone s c call) ∷ Enters c call ∷ events))) lim.most_calls)) in
       let few : ((changed s j).core c).counted < 2 ^ 40 - 1 = one_less _ (put_here (changed s j).core c) most in
       let limits : (changed s j).limits ≡ s.limits = changed_limits s j
-      (limits_of s j (outcome_all (Waits s) s c (rule_of s c call) (rule_waits s c call))) in
+      (limits_of s j (found_waits s c call)) in
       let core_there : c < (changed s j).limits.cores = subst (λ (l : Limits). c < l.cores) (sym limits) core_in in
       let core_here : c < (state_of k2).limits.cores = subst (λ (l : Limits). c < l.cores) (sym done.state.limits) core_there in
       let few_here : ((state_of k2).core c).counted < 2 ^ 40 - 1 = subst (λ (k : Core). k.counted < 2 ^ 40 - 1)

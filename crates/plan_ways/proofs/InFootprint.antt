@@ -1,10 +1,9 @@
 -- The frames to which a call's names have led are in the call's footprint.
-use Rattle.std.proofs.Common.{◌≡◌, ℕ, Bool, true, ◌||◌, ◌==◌, List, [], ◌∷◌, ◌++◌, map, Some, None, sym, ◌∙◌, ap, subst}
+use Rattle.std.proofs.Common.{◌≡◌, ℕ, true, ◌||◌, ◌==◌, List, [], ◌∷◌, ◌++◌, map, Some, None, sym, ◌∙◌, ap, subst}
 use Rattle.std.specs.List.{flat_map}
 use Rattle.std.proofs.lemmas.List.Folds.{list_any-append}
 use Rattle.std.proofs.Math.Bool.{or-true}
 use Rattle.spk_nums.specs.Capability.{Capability}
-use Rattle.spk_nums.specs.declared.kinds.Kind.{Kind}
 use Rattle.spk_nums.specs.declared.calls.Call.{Call}
 use Rattle.kernel_rules.specs.State.{State}
 use Rattle.kernel_rules.specs.Access.{Want, Named, found}
@@ -85,7 +84,7 @@ module _ (s : State) (c : ℕ) (pages : OwnPages) (target : Target) (k : Capabil
   found_named (name ∷ names) caps (vacant_rule t rest) (j ∷ ks) at goes leads is = absurd goes
   found_named (name ∷ names) caps (held_rule t rest) (j ∷ ks) at goes leads is = absurd goes
   found_named (name ∷ names) caps (mapped_rule t v rest) (j ∷ ks) at goes leads is = absurd goes
-  found_named (name ∷ names) caps (Does causes change) (j ∷ ks) at goes leads is = absurd goes
+  found_named (name ∷ names) caps (Does causes value edits) (j ∷ ks) at goes leads is = absurd goes
 
 pub named_footprint : FoundAreNamed
 named_footprint s c pages plan rule ks goes leads at k is f names_it =

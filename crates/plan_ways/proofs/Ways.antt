@@ -47,8 +47,8 @@ first_target s c pages (NextName n wanted) rule is = tt
 first_target s c pages (NextFree t) (vacant_rule u rest) is = ap (reached s c) is
 first_target s c pages (NextHeld t) (held_rule u rest) is = ap (reached s c) is
 first_target s c pages (NextOwn v) (mapped_rule table n rest) is = refl
-first_target s c pages (NextOwn v) (Does causes change) is = refl
-first_target s c pages NextNothing (Does causes change) is = refl
+first_target s c pages (NextOwn v) (Does causes value edits) is = refl
+first_target s c pages NextNothing (Does causes value edits) is = refl
 first_target s c pages (NextFree t) _ is = absurd is
 first_target s c pages (NextHeld t) _ is = absurd is
 first_target s c pages (NextOwn v) _ is = absurd is
@@ -90,7 +90,7 @@ first_refused s c pages (NextHeld t) (held_rule u rest) r is refused =
     ap (λ x. and_then x λ p. outcome s c (rest p.0 p.1)) (ap (held s c) is ∙ refused)
 first_refused s c pages (NextOwn v) (mapped_rule table n rest) r is refused =
     ap (λ x. and_then x λ k. outcome s c (rest k)) (ap (λ t. mapped s c t n) is.0 ∙ ap (mapped s c pages.table) is.1 ∙ refused.1)
-first_refused s c pages (NextOwn v) (Does causes change) r is refused = absurd (both (pages.cached v) is refused.0)
+first_refused s c pages (NextOwn v) (Does causes value edits) r is refused = absurd (both (pages.cached v) is refused.0)
 first_refused s c pages (NextOwn v) _ r is refused = absurd is
 first_refused s c pages NextNothing rule r is refused = absurd refused
 first_refused s c pages (NextName n wanted) _ r is refused = absurd is

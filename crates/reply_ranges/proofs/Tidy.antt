@@ -30,7 +30,8 @@ use Rattle.kernel_rules.specs.Access.{Slot, Named, Want, Under, InRoot, found, r
 use Rattle.kernel_rules.specs.Access.{place_at, held_in, usable_in, usable, reached, any, to_copy, to_part, only}
 use Rattle.kernel_rules.specs.Rules.{Change, Judged, Refused, Found, and_then, or_refuse, unless, named, mapped}
 use Rattle.kernel_rules.specs.CapabilityCalls.{make_rule, has_frames}
-use Rattle.kernel_rules.specs.MemoryCalls.{retype_rule, touch_by, translation_of, caching}
+use Rattle.kernel_rules.specs.MemoryCalls.{retype_rule, touch_by, translation_of}
+use Rattle.kernel_rules.specs.Edits.{caching}
 use Rattle.kernel_rules.specs.InvocationCalls.{switch_to}
 use Rattle.kernel_rules.specs.CallRelation.{rule_of, change_of, changed, counted, owed_by, state_by}
 use Rattle.kernel_rules.specs.Fitting.{fits, IsGood, EndsWithin}
@@ -225,7 +226,7 @@ module _ (s : State) (o : ℕ → Bool) (c : ℕ) (opens : IsOpen s o c) (w : Is
   page_flags : (k : Kind) (f a : ℕ) → k ≡ kind.Page → NumberFits k f a → a < 4
   page_flags k f a is fits = subst (λ (j : Kind). NumberFits j f a) is fits
 
-  touch_tidy : (v : ℕ) (t : Option Translation) → ChangesFrom Keeps s c (touch_by s c (comp_of s c).pages v t)
+  touch_tidy : (v : ℕ) (t : Option Translation) → ChangesFrom Keeps s c (touch_by (comp_of s c).pages v t)
   touch_tidy v None = λ mapping e calm.
       let at = mapped_at s c (comp_of s c).pages v mapping e in
       let cap : IsCap mapping = held_cap at.0.node at.0.index mapping (held_is s o c opens w (place_at s at.0) mapping at.1) in
@@ -233,7 +234,7 @@ module _ (s : State) (o : ℕ → Bool) (c : ℕ) (opens : IsOpen s o c) (w : Is
       record { places = h.places; flags = core_flags s.core c _ (flags_cached (s.core c).cached _ (h.flags c) few) h.flags }
   touch_tidy v (Some t) = λ calm. h
 
-  switch_tidy : (q : ℕ) (name : Named) (e : Option ℕ) → ChangesFrom Keeps s c (switch_to s c name q e)
+  switch_tidy : (q : ℕ) (name : Named) (e : Option ℕ) → ChangesFrom Keeps s c (switch_to name q e)
   switch_tidy q name None = λ calm. record { places = h.places; flags = core_flags s.core c _ (h.flags c) h.flags }
   switch_tidy q name (Some e) = λ calm. record { places = h.places; flags = core_flags s.core c _ (h.flags c) h.flags }
 

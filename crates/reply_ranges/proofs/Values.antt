@@ -24,7 +24,8 @@ use Rattle.kernel_rules.specs.Rules.{Change, Judged, Refused, Found, IsFoundAnd,
 use Rattle.kernel_rules.specs.CapabilityCalls.{make_rule}
 use Rattle.kernel_rules.specs.MemoryCalls.{retype_rule, touch_by, translation_of}
 use Rattle.kernel_rules.specs.InvocationCalls.{switch_to}
-use Rattle.kernel_rules.specs.TimeCalls.{preemption, preempts, tcap_at}
+use Rattle.kernel_rules.specs.TimeCalls.{preemption, preempts}
+use Rattle.kernel_rules.specs.Edits.{tcap_at}
 use Rattle.kernel_rules.specs.CallRelation.{rule_of}
 use Rattle.kernel_rules.specs.Fitting.{fits, EndsWithin, IsGood}
 use Rattle.kernel_rules.specs.Ranges.{InRanges}
@@ -90,12 +91,9 @@ module _ (s : State) (o : ℕ → Bool) (c : ℕ) (opens : IsOpen s o c) (w : Is
 
   make_values : (what : Make) (r f t b : ℕ) → ChangesFrom Answers s c (make_rule s what r f t b)
   make_values make.Table r f t b = λ range e table g at v calm. tt
-  make_values make.Leaf r f t b = λ range e table g at v calm. tt
-  make_values make.Pages r f t b = λ range e table g at v calm. tt
-  make_values make.Pleaf r f t b = λ range e table g at v calm. tt
   make_values (make.Thread comp) r f t b = λ range e table g k j at v calm. tt
-  make_values (make.Tcap sched quality) r f t b = λ range e table g at v calm. tt
   make_values (make.Comp x p l) r f t b = λ range e table g own_table a own_pages d at v calm. tt
+  make_values _ r f t b = λ range e table g at v calm. tt
 
   retype_values : (r f : ℕ) (k : FrameKind) → ChangesFrom Answers s c (retype_rule s r f k)
   retype_values r f frame_kind.Untyped = λ range e calm. tt
@@ -110,7 +108,7 @@ module _ (s : State) (o : ℕ → Bool) (c : ℕ) (opens : IsOpen s o c) (w : Is
       (small kind.Page f refl (subst (λ (j : Kind). IsTrue (fits j (s.frame f))) is fit), omega arith)
 
   touch_values : (v : ℕ) (t : Option Translation) → translation_of (s.core c).cached (comp_of s c).pages v ≡ t
-      → ChangesFrom Answers s c (touch_by s c (comp_of s c).pages v t)
+      → ChangesFrom Answers s c (touch_by (comp_of s c).pages v t)
   touch_values v None is = λ mapping e calm.
       let at = mapped_at s c (comp_of s c).pages v mapping e in
       let place : s.place at.0.node at.0.index ≡ Holds mapping = held_is s o c opens w (place_at s at.0) mapping at.1 in
@@ -121,7 +119,7 @@ module _ (s : State) (o : ℕ → Bool) (c : ℕ) (opens : IsOpen s o c) (w : Is
       cached_values t (find_is (Stands s c) _ (s.core c).cached t stands is)
       (find_is (λ (t : Translation). t.flags.0 < 4) _ (s.core c).cached t (h.flags c) is)
 
-  switch_values : (q : ℕ) (name : Named) (e : Option ℕ) → ChangesFrom Answers s c (switch_to s c name q e)
+  switch_values : (q : ℕ) (name : Named) (e : Option ℕ) → ChangesFrom Answers s c (switch_to name q e)
   switch_values q name None = λ calm. tt
   switch_values q name (Some e) = λ calm. tt
 

@@ -1,7 +1,7 @@
 -- A frame that nothing names, and for which a core does not wait, rests where the core's call is carried out: it stays, with what its
 -- places hold, or it is made untyped.
 use Rattle.std.proofs.Common.{◌≡◌, ◌≢◌, ◌⊎◌, inl, inr, ℕ, ◌<◌, ◌≤◌, ◌+◌, ◌-◌, ◌==◌, ◌&&◌, nat_le, Bool, true, false}
-use Rattle.std.proofs.Common.{arith, refl, sym, ◌∙◌, ap, subst, if◌then◌else◌, IsTrue, List, [], ◌∷◌, Option, Some, None}
+use Rattle.std.proofs.Common.{arith, refl, sym, ◌∙◌, ap, subst, if◌then◌else◌, IsTrue, [], ◌∷◌, Option, Some, None}
 use Rattle.std.proofs.lemmas.Bool.{false≢true, cases_eq}
 use Rattle.trace_laws.specs.spk_nums.specs.Capability.{Capability}
 use Rattle.trace_laws.specs.spk_nums.specs.Rights.{kept, part_of}
@@ -13,24 +13,26 @@ use Rattle.trace_laws.specs.spk_nums.specs.declared.kinds.FrameKind.TheVariants 
 use Rattle.trace_laws.specs.spk_nums.specs.declared.calls.Make.{Make}
 use Rattle.trace_laws.specs.spk_nums.specs.declared.calls.Make.TheVariants as make
 use Rattle.trace_laws.specs.spk_nums.specs.declared.calls.Call.{Call}
-use Rattle.trace_laws.specs.spk_nums.specs.declared.calls.Call.TheVariants.{Look, Copy, Remove, Grow, Shrink, Retype, Make as make_call}
+use Rattle.trace_laws.specs.spk_nums.specs.declared.calls.Call.TheVariants.{Look, Copy, Remove as remove_call, Grow, Shrink, Retype}
+use Rattle.trace_laws.specs.spk_nums.specs.declared.calls.Call.TheVariants.{Make as make_call}
 use Rattle.trace_laws.specs.spk_nums.specs.declared.calls.Call.TheVariants.{Map, Unmap, Touch, Flush, Gate, Kill, Call as call_gate}
 use Rattle.trace_laws.specs.spk_nums.specs.declared.calls.Call.TheVariants.{Ret, Switch, Tick, Transfer, Delegate, Test, Part, Replenish}
 use Rattle.trace_laws.specs.spk_nums.specs.declared.translations.Translation.{Translation}
 use Rattle.trace_laws.specs.spk_nums.specs.declared.replies.Reply.{Reply}
 use Rattle.trace_laws.specs.spk_nums.specs.declared.replies.Reply.TheVariants as reply
 use Rattle.trace_laws.specs.kernel_rules.specs.State.{Place, Free, Holds, Quiescing, Object, Blank, Comp, Thread, Tcap, Frame, Untyped}
-use Rattle.trace_laws.specs.kernel_rules.specs.State.{Kernel}
-use Rattle.trace_laws.specs.kernel_rules.specs.State.{FrameOf, State, put, with_place, with_frame, with_core, with_number, comp_of}
+use Rattle.trace_laws.specs.kernel_rules.specs.State.{Kernel, FrameOf, State, put, with_place, with_frame, with_number, comp_of}
 use Rattle.trace_laws.specs.kernel_rules.specs.State.{thread_in, Live}
 use Rattle.trace_laws.specs.kernel_rules.specs.References.{named_by, core_names, times, refs}
-use Rattle.trace_laws.specs.kernel_rules.specs.Access.{Want, to_use, Slot, Named, found, Target, Under, InRoot, reached, usable, only, root}
-use Rattle.trace_laws.specs.kernel_rules.specs.Rules.{Change, Judged, Refused, Found, named, of_kind, vacant, held, fills, removes}
-use Rattle.trace_laws.specs.kernel_rules.specs.CapabilityCalls.{makes, cleared, make_node, make_rule, not_taken, epoch_of}
+use Rattle.trace_laws.specs.kernel_rules.specs.Start.{plain_cap}
+use Rattle.trace_laws.specs.kernel_rules.specs.Access.{Want, to_use, Slot, Named, found, Under, InRoot, reached, only, root}
+use Rattle.trace_laws.specs.spk_nums.specs.declared.replies.Value.TheVariants.{Nothing}
+use Rattle.trace_laws.specs.kernel_rules.specs.Rules.{Change, does, Judged, Refused, Found, named, vacant, held}
+use Rattle.trace_laws.specs.kernel_rules.specs.CapabilityCalls.{make_node, make_rule, not_taken, epoch_of}
+use Rattle.trace_laws.specs.kernel_rules.specs.Edits.{Fill, Remove, cleared, with_thread, running, with_budget, tcap_at, moved}
 use Rattle.trace_laws.specs.kernel_rules.specs.MemoryCalls.{retype_rule, touch_by, translation_of}
-use Rattle.trace_laws.specs.kernel_rules.specs.InvocationCalls.{with_thread, running, switch_to}
-use Rattle.trace_laws.specs.kernel_rules.specs.TimeCalls.{with_tcap, with_budget, tcap_at, moved}
-use Rattle.trace_laws.specs.kernel_rules.specs.CallRelation.{rule_of, change_of, changed, owed_by, state_by}
+use Rattle.trace_laws.specs.kernel_rules.specs.InvocationCalls.{switch_to}
+use Rattle.trace_laws.specs.kernel_rules.specs.CallRelation.{rule_of, change_of, changed, owed_by, state_by, counted}
 use Rattle.trace_laws.specs.kernel_rules.specs.Relies.{IsGuarded}
 use Rattle.trace_laws.specs.kernel_rules.proofs.Changes.{IfFound}
 use Rattle.trace_laws.specs.kernel_rules.proofs.Within.{put_same, put_other}
@@ -49,7 +51,6 @@ use Rattle.trace_laws.specs.kernel_history.specs.Trace.{Step, Trace, Phase, Out,
 use Rattle.trace_laws.specs.kernel_history.specs.Trace.{state_entered, state_decided, state_returned, state_before}
 use Rattle.trace_laws.specs.kernel_history.proofs.Events.{entered_events}
 use Rattle.trace_laws.proofs.Opens.{opens}
-use Rattle.trace_laws.specs.kernel_rules.specs.CallRelation.{counted}
 
 -- From s to t the frame f rests.
 pub record Rests (s t : State) (f : ℕ) : Type 0 where
@@ -80,9 +81,10 @@ cleared_rests s f g other = record {
   place = λ i. ap (λ r. r i) (put_other s.place g (λ j. Free) f (λ same. other (sym same)));
 }
 
-made_rests : (s : State) (f g : ℕ) (object : Object) (k : Kind) (at : Slot) → g ≢ f → at.node ≢ f → Rests s (makes s g object k at).next f
+made_rests : (s : State) (f g : ℕ) (object : Object) (k : Kind) (at : Slot) → g ≢ f → at.node ≢ f
+    → Rests s (with_place (with_frame s g (Kernel object)) at.node at.index (Holds (plain_cap k g))) f
 made_rests s f g object k at other away =
-    rests_then s (with_frame s g (Kernel object)) (makes s g object k at).next f (frame_rests s f g (Kernel object) other)
+    rests_then s (with_frame s g (Kernel object)) _ f (frame_rests s f g (Kernel object) other)
     (place_rests (with_frame s g (Kernel object)) f at.node at.index _ away)
 
 root_names : (k : Kind) (f : ℕ) → root k ≡ true → named_by k f ≡ f ∷ []
@@ -106,10 +108,12 @@ module _ (s : State) (o : ℕ → Bool) (d : ℕ) (h : IsOpen s o d) (f : ℕ) (
       away k.frame (usable_guarded s o d h.sound h.is parts.0 k names
       (parts.3 ∙ ap (λ (j : Capability). Some j) (suits wanted parts.2 k parts.4).is))
 
-  only_away : (n : ℕ) (wanted : Kind) (k : Capability) → ((g : ℕ) → named_by wanted g ≡ g ∷ []) → named s d n (to_use (only wanted)) ≡ Found k
+  only_away : (n : ℕ) (wanted : Kind) (k : Capability) → ((g : ℕ) → named_by wanted g ≡ g ∷ []) → named s d n (to_use (only wanted))
+      ≡ Found k
       → k.frame ≢ f
   only_away n wanted k names is = named_away n (to_use (only wanted)) k is
-      (ap (λ (j : Kind). named_by j k.frame) (only_is wanted k.kind (named_good s o d n (to_use (only wanted)) k h.sound h.is is).1) ∙ names k.frame)
+      (ap (λ (j : Kind). named_by j k.frame) (only_is wanted k.kind (named_good s o d n (to_use (only wanted)) k h.sound h.is is).1)
+      ∙ names k.frame)
 
   root_away : (n : ℕ) (k : Capability) → named s d n (to_use root) ≡ Found k → k.frame ≢ f
   root_away n k is = named_away n (to_use root) k is (root_names k.kind k.frame (named_good s o d n (to_use root) k h.sound h.is is).1)
@@ -124,11 +128,13 @@ module _ (s : State) (o : ℕ → Bool) (d : ℕ) (h : IsOpen s o d) (f : ℕ) (
       by true is same = other (ap (λ (x : Slot). x.node) (some_inj (record { node = table.frame; index = i }) at is) ∙ same)
       by false is same = none_some at is
 
-  fill_under : (table : Named) (n : ℕ) (at : Slot) (k : Capability) → vacant s d (Under table n) ≡ Found at → RestsBy (fills s at k)
+  fill_under : (table : Named) (n : ℕ) (at : Slot) (k : Capability) → vacant s d (Under table n) ≡ Found at
+      → RestsBy (does d s Nothing (Fill at k ∷ []))
   fill_under table n at k is =
       inr (place_rests s f at.node at.index (Holds k) (under_away table n at (vacant_facts s d (Under table n) at is).0))
 
-  remove_under : (table : Named) (n : ℕ) (at : Slot) (k : Capability) → held s d (Under table n) ≡ Found (at, k) → RestsBy (removes s at k)
+  remove_under : (table : Named) (n : ℕ) (at : Slot) (k : Capability) → held s d (Under table n) ≡ Found (at, k)
+      → RestsBy (does d s Nothing (Remove at k ∷ []))
   remove_under table n at k is =
       inr (place_rests s f at.node at.index (Quiescing k) (under_away table n at (held_facts s d (Under table n) at k is).0))
 
@@ -163,7 +169,7 @@ module _ (s : State) (o : ℕ → Bool) (d : ℕ) (h : IsOpen s o d) (f : ℕ) (
   node_rests object k r g t b = λ range e table v at w calm.
       let other = blank_away g (blank_by s o d r g range [] h e calm).1 in
       let there = under_away (found table) b at (vacant_facts s d (Under (found table) b) at w).0 in
-      inr (rests_then s (cleared s g) (makes (cleared s g) g object k at).next f (cleared_rests s f g other)
+      inr (rests_then s (cleared s g) _ f (cleared_rests s f g other)
       (made_rests (cleared s g) f g object k at other there))
 
   make_rests : (what : Make) (r g t b : ℕ) → ChangesFrom RestsBy s d (make_rule s what r g t b)
@@ -195,11 +201,11 @@ module _ (s : State) (o : ℕ → Bool) (d : ℕ) (h : IsOpen s o d) (f : ℕ) (
     | inr other ↦ inr (record { frame = put_other s.frame g Untyped f (λ same. other (sym same)); place = λ i. refl })
   ]
 
-  touch_rests : (pages v : ℕ) (t : Option Translation) → ChangesFrom RestsBy s d (touch_by s d pages v t)
+  touch_rests : (pages v : ℕ) (t : Option Translation) → ChangesFrom RestsBy s d (touch_by pages v t)
   touch_rests pages v None = λ mapping e calm. inr (record { frame = refl; place = λ i. refl })
   touch_rests pages v (Some t) = λ calm. inr (rests_same s f)
 
-  switch_rests : (j : Named) (q : ℕ) (e : Option ℕ) → j.frame ≢ f → ChangesFrom RestsBy s d (switch_to s d j q e)
+  switch_rests : (j : Named) (q : ℕ) (e : Option ℕ) → j.frame ≢ f → ChangesFrom RestsBy s d (switch_to j q e)
   switch_rests j q None other = λ calm.
       let idle : State = running s (s.core d).thread None in
       let first = frame_rests s f (s.core d).thread
@@ -223,7 +229,7 @@ module _ (s : State) (o : ℕ → Bool) (d : ℕ) (h : IsOpen s o d) (f : ℕ) (
   rule_rests : (call : Call) → ChangesFrom RestsBy s d (rule_of s d call)
   rule_rests (Look a) = λ k e calm. inr (rests_same s f)
   rule_rests (Copy a t b rights) = λ k e table v at w calm. fill_under (found table) b at (kept k rights.0) w
-  rule_rests (Remove t b) = λ table e at k w calm. remove_under (found table) b at k w
+  rule_rests (remove_call t b) = λ table e at k w calm. remove_under (found table) b at k w
   rule_rests (Grow t i l) = λ table e leaf v at w calm.
       inr (place_rests s f at.node at.index _ (entry_away (found table) i at (root_away t table e)
       (vacant_facts s d (InRoot (found table) i) at w).0))

@@ -1,17 +1,22 @@
--- Two rules come to the same on a region where what they look up is the same, and so are their causes and their changes.
+-- Two rules come to the same on a region where what they look up is the same, and so are their causes, their values and their edits.
 use Rattle.std.proofs.Common.{◌≡◌, ℕ, Bool, true, false, refl, sym, ◌∙◌, ap, subst, if◌then◌else◌, List, [], ◌∷◌, Option, Some, None}
 use Rattle.spk_nums.specs.Capability.{Capability}
+use Rattle.spk_nums.specs.declared.calls.Call.{Call}
 use Rattle.spk_nums.specs.declared.replies.Reply.{Reply}
 use Rattle.kernel_rules.specs.State.{Thing, Limits, State}
 use Rattle.kernel_rules.specs.Access.{Slot, found}
 use Rattle.kernel_rules.specs.GracePeriods.{begun}
-use Rattle.kernel_rules.specs.Rules.{Change, Cause, When, WaitedFor, Unflushed, Rule, Name, Vacant, Held, Mapped, Does, Judged, Refused}
-use Rattle.kernel_rules.specs.Rules.{Found, and_then, unless, named, vacant, held, mapped, first_of, refusal_of, first_cause, outcome}
+use Rattle.kernel_rules.specs.Rules.{Change, does, Cause, When, WaitedFor, Unflushed, Rule, Name, Vacant, Held, Mapped, Does}
+use Rattle.kernel_rules.specs.Rules.{Judged, Refused, Found, and_then, unless, named, vacant, held, mapped, first_of, refusal_of}
+use Rattle.kernel_rules.specs.Rules.{first_cause, outcome}
 use Rattle.kernel_rules.proofs.Changes.{IfFound}
+use Rattle.kernel_invariant.proofs.Facts.{EditsFrom}
+use Rattle.kernel_invariant.proofs.Edited.{Edits}
 use Rattle.seq_state.specs.Representation.{SameState}
 use Rattle.same_changes.specs.Same.{SameOutcome}
 use Rattle.same_changes.specs.Region.{Region, whole, IsIn, AgreeOn, AgreeChange, AgreeOutcome}
 use Rattle.same_changes.proofs.Agreeing.{on_whole, from_whole, agree_begun}
+use Rattle.same_changes.proofs.EditsAgree.{EditsIn, does_agree}
 use Rattle.same_changes.proofs.Reaching.{TwinsOn, RootIn, named_agree, vacant_agree, held_agree, mapped_agree, waits_agree, flushes_agree}
 
 -- Two causes are one: one condition with one reply, or one thing of a region.
@@ -27,7 +32,8 @@ SameCauses w s c [] [] = Unit {0}
 SameCauses w s c (x ∷ xs) (y ∷ ys) = SameCause w x y × (refusal_of s c y ≡ None → SameCauses w s c xs ys)
 SameCauses w s c _ _ = ⊥
 
--- Two rules are one in step on a region: what they name, where they look, their causes, and their changes where no cause stands.
+-- Two rules are one in step on a region: what they name, where they look, their causes, and where no cause stands their values and
+-- their edits, which look up what is there.
 abbrev pub SameRule : Region → State → ℕ → Rule → Rule → Type 0
 SameRule w s c (Name n p rest) (Name m q other) = (n ≡ m) × (p ≡ q)
     × ((k : Capability) → named s c m q ≡ Found k → SameRule w s c (rest (found k)) (other (found k)))
@@ -37,7 +43,7 @@ SameRule w s c (Held x rest) (Held y other) = (x ≡ y) × RootIn w y
     × ((at : Slot) (k : Capability) → held s c y ≡ Found (at, k) → SameRule w s c (rest at k) (other at k))
 SameRule w s c (Mapped a v rest) (Mapped b u other) = (a ≡ b) × (v ≡ u) × (w.frame b ≡ true)
     × ((k : Capability) → mapped s c b u ≡ Found k → SameRule w s c (rest k) (other k))
-SameRule w s c (Does xs a) (Does ys b) = SameCauses w s c xs ys × (first_cause s c ys ≡ None → AgreeChange w a b)
+SameRule w s c (Does xs v a) (Does ys u b) = SameCauses w s c xs ys × (first_cause s c ys ≡ None → (v ≡ u) × (a ≡ b) × EditsIn w b)
 SameRule w s c _ _ = ⊥
 
 -- What comes after a refusal is the same, as far as there is none.
@@ -86,21 +92,26 @@ module _ {r : Region} {t s : State} {o : ℕ → Bool} {c : ℕ} (w : TwinsOn r 
 
   -- ---- outcomes
 
-  pub outcome_same : (x y : Rule) → SameRule r s c x y → AgreeOutcome r (outcome t c x) (outcome s c y)
-  outcome_same (Name n p rest) (Name m q other) h =
+  pub outcome_same : (call : Call) (x y : Rule) → SameRule r s c x y → EditsFrom (λ v es. Edits call c s es) s c y
+      → AgreeOutcome r (outcome t c x) (outcome s c y)
+  outcome_same call (Name n p rest) (Name m q other) h known =
       then_alike r (named t c n p) (named s c m q) _ _ ((λ i. named t c (h.0 i) (h.1 i)) ∙ named_agree w m q)
-      (λ k is. outcome_same (rest (found k)) (other (found k)) (h.2 k is))
-  outcome_same (Vacant x rest) (Vacant y other) h =
+      (λ k is. outcome_same call (rest (found k)) (other (found k)) (h.2 k is) (known k is))
+  outcome_same call (Vacant x rest) (Vacant y other) h known =
       then_alike r (vacant t c x) (vacant s c y) _ _ (ap (vacant t c) h.0 ∙ vacant_agree w y h.1)
-      (λ at is. outcome_same (rest at) (other at) (h.2 at is))
-  outcome_same (Held x rest) (Held y other) h =
+      (λ at is. outcome_same call (rest at) (other at) (h.2 at is) (known at is))
+  outcome_same call (Held x rest) (Held y other) h known =
       then_alike r (held t c x) (held s c y) _ _ (ap (held t c) h.0 ∙ held_agree w y h.1)
-      (λ p is. outcome_same (rest p.0 p.1) (other p.0 p.1) (h.2 p.0 p.1 is))
-  outcome_same (Mapped a v rest) (Mapped b u other) h =
+      (λ p is. outcome_same call (rest p.0 p.1) (other p.0 p.1) (h.2 p.0 p.1 is) (known p.0 p.1 is))
+  outcome_same call (Mapped a v rest) (Mapped b u other) h known =
       then_alike r (mapped t c a v) (mapped s c b u) _ _ ((λ i. mapped t c (h.0 i) (h.1 i)) ∙ mapped_agree w b u h.2)
-      (λ k is. outcome_same (rest k) (other k) (h.3 k is))
-  outcome_same (Does xs a) (Does ys b) h = unless_alike r (first_cause t c xs) (first_cause s c ys) a b (causes_same xs ys h.0) h.1
-  outcome_same x y h = absurd h
+      (λ k is. outcome_same call (rest k) (other k) (h.3 k is) (known k is))
+  outcome_same call (Does xs v a) (Does ys u b) h known =
+      unless_alike r (first_cause t c xs) (first_cause s c ys) (does c t v a) (does c s u b) (causes_same xs ys h.0) λ calm.
+      let is = h.1 calm in
+      subst (λ v. AgreeChange r (does c t v a) (does c s u b)) (sym is.0)
+      (subst (λ a. AgreeChange r (does c t u a) (does c s u b)) (sym is.1) (does_agree w call u b (known calm) is.2))
+  outcome_same call x y h known = absurd h
 
 -- ---- the whole machine
 

@@ -1,75 +1,32 @@
 -- The calls on capabilities come to the same on a region.
 use Rattle.std.proofs.Common.{◌≡◌, ℕ, ◌+◌, ◌==◌, Bool, true, false, not, ◌&&◌, refl, ◌∙◌}
-use Rattle.std.proofs.Common.{ap, nat_lt, if◌then◌else◌, [], ◌∷◌, None, IsTrue}
+use Rattle.std.proofs.Common.{ap, nat_lt, if◌then◌else◌, [], ◌∷◌, IsTrue}
 use Rattle.std.proofs.lemmas.Bool.{ltb-true}
 use Rattle.spk_nums.specs.Capability.{Capability}
-use Rattle.spk_nums.specs.Rights.{kept, part_of}
 use Rattle.spk_nums.specs.declared.kinds.Kind.{Kind}
 use Rattle.spk_nums.specs.declared.kinds.Kind.TheVariants as kind
 use Rattle.spk_nums.specs.declared.calls.Make.{Make}
 use Rattle.spk_nums.specs.declared.calls.Make.TheVariants as make
 use Rattle.spk_nums.specs.declared.calls.Call.TheVariants.{Make as make_call}
-use Rattle.kernel_rules.specs.State.{Free, Holds, Quiescing, Object, Table, Leaf, Pages}
-use Rattle.kernel_rules.specs.State.{Pleaf, Comp, Thread, Tcap, Frame, Kernel, Live, Thing}
-use Rattle.kernel_rules.specs.State.{Limits, State}
-use Rattle.kernel_rules.specs.Start.{plain_cap, no_grace}
-use Rattle.kernel_rules.specs.Access.{to_use, Slot, capability, found, root}
-use Rattle.kernel_rules.specs.Rules.{Found, named, fills, removes}
-use Rattle.kernel_rules.specs.CapabilityCalls.{look_rule, copy_rule, remove_rule, grow_rule, shrink_rule}
-use Rattle.kernel_rules.specs.CapabilityCalls.{is_blank, not_blank, makes, is_place_of, cleared, make_node}
-use Rattle.kernel_rules.specs.CapabilityCalls.{is_live, epoch_of, makes_comp, make_comp, make_rule, part_rule}
+use Rattle.kernel_rules.specs.State.{Object, Table, Leaf, Pages, Pleaf, Frame, Limits, State}
+use Rattle.kernel_rules.specs.Start.{plain_cap}
+use Rattle.kernel_rules.specs.Access.{to_use, root}
+use Rattle.kernel_rules.specs.Edits.{Fill, Component}
+use Rattle.kernel_rules.specs.Rules.{Found, named}
+use Rattle.kernel_rules.specs.CapabilityCalls.{look_rule, copy_rule, remove_rule, grow_rule, shrink_rule, is_blank, not_blank, make_node}
+use Rattle.kernel_rules.specs.CapabilityCalls.{is_live, epoch_of, make_comp, make_rule, part_rule}
 use Rattle.kernel_rules.specs.Relies.{is_node}
 use Rattle.kernel_invariant.proofs.Facts.{named_good}
 use Rattle.kernel_invariant.proofs.SoundCalls.{root_node}
-use Rattle.seq_state.specs.Representation.{SameGrace}
-use Rattle.seq_state.proofs.Same.{same_grace_by}
-use Rattle.same_changes.specs.Region.{Region, AgreeOn, AgreeChange, NamesIn}
-use Rattle.same_changes.proofs.Agreeing.{agree_by, agree_then, agree_place, agree_frame, agree_number}
+use Rattle.same_changes.specs.Region.{Region, NamesIn}
 use Rattle.same_changes.proofs.Reaching.{Twins, TwinsOn, table_at, root_within, range_at, frame_agree}
 use Rattle.same_changes.proofs.Alike.{SameCause, SameRule}
 
--- ---- changes
-
-makes_agree : {r : Region} (t s : State) (f : ℕ) (object : Object) (k : Kind) (at : Slot) → AgreeOn r t s
-    → AgreeChange r (makes t f object k at) (makes s f object k at)
-makes_agree t s f object k at e = record {
-  value = refl;
-  next = agree_place _ _ at.node at.index (Holds (plain_cap k f)) (agree_frame t s f (Kernel object) e);
-  begins = refl;
-}
-
-cleared_agree : {r : Region} (t s : State) (f : ℕ) → AgreeOn r t s → AgreeOn r (cleared t f) (cleared s f)
-cleared_agree t s f e = record {
-  limits = e.limits;
-  place = λ g i is small. by_node (g == f) i (e.place g i is small);
-  frame = e.frame;
-  number = e.number;
-  core = e.core;
-  inside = e.inside;
-  grace = λ x is. by_thing (is_place_of f x) x (e.grace x is);
-}
-  where
-    by_node : (b : Bool) → {g : ℕ} (i : ℕ) → t.place g i ≡ s.place g i
-        → (if b then (λ i. Free) else t.place g) i ≡ (if b then (λ i. Free) else s.place g) i
-    by_node true i same = refl
-    by_node false i same = same
-
-    by_thing : (b : Bool) (x : Thing) → SameGrace s.limits.cores (t.grace x) (s.grace x)
-        → SameGrace s.limits.cores (if b then no_grace else t.grace x) (if b then no_grace else s.grace x)
-    by_thing true x same = same_grace_by s.limits.cores no_grace no_grace refl
-    by_thing false x same = same
-
 module _ {r : Region} {t s : State} {o : ℕ → Bool} {c : ℕ} (w : TwinsOn r t s o c) where
-  pub fills_same : (at : Slot) (k : Capability) → AgreeChange r (fills t at k) (fills s at k)
-  fills_same at k = record { value = refl; next = agree_place t s at.node at.index (Holds k) w.agree; begins = refl }
+  pub look_same : (a : ℕ) → SameRule r s c (look_rule a) (look_rule a)
+  look_same a = (refl, refl, λ cap is. (tt, λ none. (refl, refl, tt)))
 
-  pub removes_same : (at : Slot) (k : Capability) → AgreeChange r (removes t at k) (removes s at k)
-  removes_same at k = record { value = refl; next = agree_place t s at.node at.index (Quiescing k) w.agree; begins = refl }
-
-  pub look_same : (a : ℕ) → SameRule r s c (look_rule t a) (look_rule s a)
-  look_same a = (refl, refl, λ cap is. (tt, λ none. record { value = refl; next = w.agree; begins = refl }))
-
-  pub copy_same : (a x b rights : ℕ) → SameRule r s c (copy_rule t a x b rights) (copy_rule s a x b rights)
+  pub copy_same : (a x b rights : ℕ) → SameRule r s c (copy_rule a x b rights) (copy_rule a x b rights)
   copy_same a x b rights = (
     refl,
     refl,
@@ -77,11 +34,11 @@ module _ {r : Region} {t s : State} {o : ℕ → Bool} {c : ℕ} (w : TwinsOn r 
       refl,
       refl,
       λ table is_table.
-          (refl, (λ on. table_at w x table is_table), λ at is_free. (tt, λ none. fills_same at (kept (capability (found cap)) rights))),
+          (refl, (λ on. table_at w x table is_table), λ at is_free. (tt, λ none. (refl, refl, (tt, tt)))),
     ),
   )
 
-  pub part_same : (p f n x b : ℕ) → SameRule r s c (part_rule t p f n x b) (part_rule s p f n x b)
+  pub part_same : (p f n x b : ℕ) → SameRule r s c (part_rule p f n x b) (part_rule p f n x b)
   part_same p f n x b = (
     refl,
     refl,
@@ -91,20 +48,20 @@ module _ {r : Region} {t s : State} {o : ℕ → Bool} {c : ℕ} (w : TwinsOn r 
       λ table is_table. (
         refl,
         (λ on. table_at w x table is_table),
-        λ at is_free. (((refl, λ on. refl), λ calm. tt), λ none. fills_same at (part_of range f n)),
+        λ at is_free. (((refl, λ on. refl), λ calm. tt), λ none. (refl, refl, (tt, tt))),
       ),
     ),
   )
 
-  pub remove_same : (x b : ℕ) → SameRule r s c (remove_rule t x b) (remove_rule s x b)
+  pub remove_same : (x b : ℕ) → SameRule r s c (remove_rule x b) (remove_rule x b)
   remove_same x b = (
     refl,
     refl,
     λ table is_table.
-        (refl, (λ on. table_at w x table is_table), λ at cap is_held. (tt, λ none. removes_same at cap)),
+        (refl, (λ on. table_at w x table is_table), λ at cap is_held. (tt, λ none. (refl, refl, (tt, tt)))),
   )
 
-  pub grow_same : (x i l : ℕ) → SameRule r s c (grow_rule t x i l) (grow_rule s x i l)
+  pub grow_same : (x i l : ℕ) → SameRule r s c (grow_rule x i l) (grow_rule x i l)
   grow_same x i l = (
     refl,
     refl,
@@ -112,16 +69,16 @@ module _ {r : Region} {t s : State} {o : ℕ → Bool} {c : ℕ} (w : TwinsOn r 
       refl,
       refl,
       λ leaf is_leaf.
-          (refl, root_within w x table is_table, λ at is_free. (tt, λ none. fills_same at (plain_cap kind.Link leaf.frame))),
+          (refl, root_within w x table is_table, λ at is_free. (tt, λ none. (refl, refl, (tt, tt)))),
     ),
   )
 
-  pub shrink_same : (x i : ℕ) → SameRule r s c (shrink_rule t x i) (shrink_rule s x i)
+  pub shrink_same : (x i : ℕ) → SameRule r s c (shrink_rule x i) (shrink_rule x i)
   shrink_same x i = (
     refl,
     refl,
     λ table is_table.
-        (refl, root_within w x table is_table, λ at link is_held. (tt, λ none. removes_same at link)),
+        (refl, root_within w x table is_table, λ at link is_held. (tt, λ none. (refl, refl, (tt, tt)))),
   )
 
   -- ---- making
@@ -142,7 +99,7 @@ module _ {r : Region} {t s : State} {o : ℕ → Bool} {c : ℕ} (w : TwinsOn r 
         (λ on. table_at w x table is_table),
         λ at is_free. (
           ((refl, λ on. refl), λ inside. (not_blank_same f (range_at w p range f is inside), λ calm. tt)),
-          λ none. makes_agree (cleared t f) (cleared s f) f object k at (cleared_agree t s f w.agree),
+          λ none. (refl, refl, (tt, (tt, tt))),
         ),
       ),
     ),
@@ -179,21 +136,12 @@ module _ {r : Region} {t s : State} {o : ℕ → Bool} {c : ℕ} (w : TwinsOn r 
                       ),
                     ),
                   ),
-                  λ none. record {
-                    value = refl;
-                    next = agree_then _ _ _
-                        (agree_by _ _ (ap (λ n. (makes_comp t f (record
-                        { table = own_table.frame; pages = own_pages.frame; number = l; epoch = epoch_of n + 1 }) at).next) number))
-                        (agree_place _ _ at.node at.index (Holds (plain_cap kind.Comp f)) (agree_frame _ _ f
-                        (Kernel (Comp (record {
-                          table = own_table.frame;
-                          pages = own_pages.frame;
-                          number = l;
-                          epoch = epoch_of (s.number l) + 1;
-                        })))
-                        (agree_number t s l (Live (epoch_of (s.number l) + 1) f) w.agree)));
-                    begins = refl;
-                  },
+                  λ none. (
+                    refl,
+                    ap (λ n. Component f (record { table = own_table.frame; pages = own_pages.frame; number = l; epoch = epoch_of n + 1 })
+                        ∷ Fill at (plain_cap kind.Comp f) ∷ []) number,
+                    (tt, (tt, tt)),
+                  ),
                 ),
               ),
             ),
@@ -221,7 +169,7 @@ module _ {r : Region} {t s : State} {o : ℕ → Bool} {c : ℕ} (w : TwinsOn r 
           (λ on. table_at w x table is_table),
           λ at is_free. (
             ((refl, λ on. refl), λ inside. (not_blank_same f (range_at w p range f is inside), λ calm. tt)),
-            λ none. makes_agree t s f (Thread (record { stack = k.frame ∷ []; runs_on = None })) kind.Thread at w.agree,
+            λ none. (refl, refl, (tt, (tt, tt))),
           ),
         ),
       ),
@@ -238,7 +186,7 @@ module _ {r : Region} {t s : State} {o : ℕ → Bool} {c : ℕ} (w : TwinsOn r 
         (λ on. table_at w x table is_table),
         λ at is_free. (
           ((refl, λ on. refl), λ inside. (not_blank_same f (range_at w p range f is inside), λ calm. tt)),
-          λ none. makes_agree t s f (Tcap (record { budget = 0; qualities = (sched, quality) ∷ [] })) kind.Tcap at w.agree,
+          λ none. (refl, refl, (tt, (tt, tt))),
         ),
       ),
     ),

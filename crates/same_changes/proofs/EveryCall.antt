@@ -14,8 +14,9 @@ use Rattle.kernel_rules.specs.Rules.{Judged, Refused, Found, Change}
 use Rattle.kernel_rules.specs.Life.{acts}
 use Rattle.kernel_rules.specs.CallRelation.{rule_of, change_of}
 use Rattle.kernel_rules.specs.Runs.{Event, after, Open, is_open, phase_of, IsRun}
-use Rattle.kernel_rules.proofs.AloneLaw.{Waits, rule_waits}
-use Rattle.kernel_rules.proofs.Changes.{IfFound, outcome_all}
+use Rattle.kernel_rules.proofs.AloneLaw.{Waits, found_waits}
+use Rattle.kernel_rules.proofs.Changes.{IfFound}
+use Rattle.kernel_invariant.proofs.Edited.{rule_edits}
 use Rattle.kernel_invariant.proofs.SoundRuns.{opened, limits_stay, open_limits, runs_sound}
 use Rattle.kernel_laws.proofs.NodesLaw.{nodes_hold_what_fits}
 use Rattle.kernel_laws.proofs.RangesLaw.{ranges_hold}
@@ -60,7 +61,8 @@ module _ {r : Region} {t s : State} {o : ℕ → _} {c : ℕ} (w : TwinsOn r t s
   -- Whether the core may make the call is the same, and so is its outcome on the region.
   pub call_agrees : (call : Call) → NamesIn r call
       → (acts t c call ≡ acts s c call) × AgreeOutcome r (change_of t c call) (change_of s c call)
-  call_agrees call names = (acts_agree w call, outcome_same w (rule_of t c call) (rule_of s c call) (rule_same call names))
+  call_agrees call names =
+      (acts_agree w call, outcome_same w call (rule_of t c call) (rule_of s c call) (rule_same call names) (rule_edits s c call))
 
 pub changes_agree : ChangesAgree
 changes_agree setting is events run c call opens w within names t agree referred = call_agrees (record {
@@ -89,9 +91,9 @@ names_whole limits _ fits = tt
 
 -- A call leaves the limits as they are.
 limits_after : (s : State) (c : ℕ) (call : Call) → IfFound (change_of s c call) (λ change. change.next.limits ≡ s.limits)
-limits_after s c call = of (change_of s c call) (outcome_all (Waits s) s c (rule_of s c call) (rule_waits s c call))
+limits_after s c call = of (change_of s c call) (found_waits s c call)
   where
-    of : (j : Judged Change) → IfFound j (Waits s) → IfFound j (λ change. change.next.limits ≡ s.limits)
+    of : (j : Judged Change) → IfFound j (λ change. Waits s change.next) → IfFound j (λ change. change.next.limits ≡ s.limits)
     of (Refused q) h = tt
     of (Found change) h = h.limits
 

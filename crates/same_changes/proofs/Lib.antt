@@ -1,5 +1,6 @@
 pub mod Agreeing
 pub mod Reaching
+pub mod EditsAgree
 pub mod Alike
 pub mod TimeRules
 pub mod CapabilityRules

@@ -1,34 +1,28 @@
 -- The calls on memory come to the same on a region.
-use Rattle.std.proofs.Common.{◌≡◌, ℕ, ◌+◌, ◌<◌, ◌≤◌, ◌==◌, Bool, true, false, not, refl, sym, ◌∙◌, ap, subst, arith}
+use Rattle.std.proofs.Common.{◌≡◌, ℕ, ◌+◌, ◌<◌, ◌≤◌, ◌==◌, Bool, true, not, refl, sym, ◌∙◌, ap, subst, arith}
 use Rattle.std.proofs.Common.{nat_lt, if◌then◌else◌, zero, suc, [], Option, Some, None, is_some, IsTrue}
 use Rattle.std.specs.List.{list_any, range_with_len}
 use Rattle.std.proofs.lemmas.Bool.{lt-ltb}
-use Rattle.spk_nums.specs.Capability.{Capability, cap_of}
+use Rattle.spk_nums.specs.Capability.{Capability}
 use Rattle.spk_nums.specs.declared.kinds.Kind.TheVariants as kind
 use Rattle.spk_nums.specs.declared.kinds.FrameKind.{FrameKind}
 use Rattle.spk_nums.specs.declared.kinds.FrameKind.TheVariants as frame_kind
 use Rattle.spk_nums.specs.declared.kinds.PageFlags.{PageFlags}
 use Rattle.spk_nums.specs.declared.translations.Translation.{Translation}
 use Rattle.spk_nums.specs.declared.replies.Reply.TheVariants as reply
-use Rattle.kernel_rules.specs.State.{Holds, Object, Blank, Table, Leaf, Pages, Pleaf, Comp, Thread, Tcap, Frame, Untyped, User, Kernel}
-use Rattle.kernel_rules.specs.State.{Thing, FrameOf, CompFields, Core, State, with_frame, with_core, with_grace, comp_of}
-use Rattle.kernel_rules.specs.Start.{no_grace}
-use Rattle.kernel_rules.specs.References.{frame_names}
+use Rattle.kernel_rules.specs.State.{Object, Blank, Table, Leaf, Pages, Pleaf, Comp, Thread, Tcap, Frame, Untyped, User, Kernel}
+use Rattle.kernel_rules.specs.State.{CompFields, State, comp_of}
 use Rattle.kernel_rules.specs.Access.{to_use, found, only, held_in}
-use Rattle.kernel_rules.specs.GracePeriods.{same_thing, flushed}
-use Rattle.kernel_rules.specs.Rules.{Found, named, refusal_of, first_cause, frames_of}
+use Rattle.kernel_rules.specs.Rules.{Found, named, refusal_of, first_cause}
 use Rattle.kernel_rules.specs.CapabilityCalls.{outside}
 use Rattle.kernel_rules.specs.MemoryCalls.{is_untyped, is_user, holds_nothing, is_empty_object, is_empty, not_retyped, retype_rule}
-use Rattle.kernel_rules.specs.MemoryCalls.{map_rule, unmap_rule, translation_of, caching, touch_by, touch_rule, flush_rule}
+use Rattle.kernel_rules.specs.MemoryCalls.{map_rule, unmap_rule, translation_of, touch_by, touch_rule, flush_rule}
 use Rattle.kernel_rules.specs.Relies.{is_node}
 use Rattle.kernel_invariant.proofs.Facts.{named_fit, none_parts}
-use Rattle.seq_state.specs.Representation.{SameGrace}
-use Rattle.seq_state.proofs.Same.{same_grace_by}
 use Rattle.same_changes.specs.Region.{Region, whole, AgreeOn}
-use Rattle.same_changes.proofs.Agreeing.{on_whole, agree_by, agree_then, agree_place, agree_frame, agree_core}
+use Rattle.same_changes.proofs.Agreeing.{on_whole}
 use Rattle.same_changes.proofs.Reaching.{Twins, TwinsOn, pages_node, core_agree, comp_agree, pages_in, pages_at, range_at, frame_agree}
 use Rattle.same_changes.proofs.Alike.{SameRule}
-use Rattle.same_changes.proofs.CapabilityRules.{removes_same}
 
 -- ---- empty frames
 
@@ -62,26 +56,6 @@ empty_agree t s f (Kernel x) is e = object_agree t s f x is e
 
 -- ---- retyping
 
-emptied_agree : {r : Region} (t s : State) (f : ℕ) → AgreeOn r t s
-    → AgreeOn r (with_grace (with_frame t f Untyped) (λ x. if same_thing x (FrameOf f) then no_grace else t.grace x))
-    (with_grace (with_frame s f Untyped) (λ x. if same_thing x (FrameOf f) then no_grace else s.grace x))
-emptied_agree {r} t s f e =
-    let frames : AgreeOn r (with_frame t f Untyped) (with_frame s f Untyped) = agree_frame t s f Untyped e in
-    record {
-      limits = e.limits;
-      place = e.place;
-      frame = frames.frame;
-      number = e.number;
-      core = e.core;
-      inside = e.inside;
-      grace = λ x is. by_thing (same_thing x (FrameOf f)) x (e.grace x is);
-    }
-  where
-    by_thing : (b : Bool) (x : Thing) → SameGrace s.limits.cores (t.grace x) (s.grace x)
-        → SameGrace s.limits.cores (if b then no_grace else t.grace x) (if b then no_grace else s.grace x)
-    by_thing true x same = same_grace_by s.limits.cores no_grace no_grace refl
-    by_thing false x same = same
-
 module _ {r : Region} {t s : State} {o : ℕ → Bool} {c : ℕ} (w : TwinsOn r t s o c) where
   pub retype_same : (p f : ℕ) (k : FrameKind) → SameRule r s c (retype_rule t p f k) (retype_rule s p f k)
   retype_same p f frame_kind.Untyped = (
@@ -114,7 +88,7 @@ module _ {r : Region} {t s : State} {o : ℕ → Bool} {c : ℕ} (w : TwinsOn r 
       λ none.
           let is_in = range_at w p range f is (none_parts (refusal_of s c (outside (found range) f))
           (first_cause s c (not_retyped s f frame_kind.Untyped)) none).0 in
-          record { value = refl; next = emptied_agree t s f w.agree; begins = ap (λ x. frames_of (frame_names x)) (w.agree.frame f is_in) },
+          (refl, refl, (is_in, tt)),
     ),
   )
   retype_same p f frame_kind.User = (
@@ -125,7 +99,7 @@ module _ {r : Region} {t s : State} {o : ℕ → Bool} {c : ℕ} (w : TwinsOn r 
         (refl, λ on. refl),
         λ inside. ((frame_agree w f (λ x. not (is_untyped x)) (range_at w p range f is inside), λ on. refl), λ calm. tt),
       ),
-      λ none. record { value = refl; next = agree_frame t s f User w.agree; begins = refl },
+      λ none. (refl, refl, (tt, tt)),
     ),
   )
   retype_same p f frame_kind.Kernel = (
@@ -136,7 +110,7 @@ module _ {r : Region} {t s : State} {o : ℕ → Bool} {c : ℕ} (w : TwinsOn r 
         (refl, λ on. refl),
         λ inside. ((frame_agree w f (λ x. not (is_untyped x)) (range_at w p range f is inside), λ on. refl), λ calm. tt),
       ),
-      λ none. record { value = refl; next = agree_frame t s f (Kernel Blank) w.agree; begins = refl },
+      λ none. (refl, refl, (tt, tt)),
     ),
   )
 
@@ -157,44 +131,28 @@ module _ {r : Region} {t s : State} {o : ℕ → Bool} {c : ℕ} (w : TwinsOn r 
             (refl, λ on. refl),
             λ inside. ((frame_agree w f (λ x. not (is_user x)) (range_at w p range f is inside), λ on. refl), λ calm. tt),
           ),
-          λ none. record {
-            value = refl;
-            next = agree_place t s at.node at.index (Holds (cap_of kind.Page f flags.0)) w.agree;
-            begins = refl;
-          },
+          λ none. (refl, refl, (tt, tt)),
         ),
       ),
     ),
   )
 
-  pub unmap_same : (m v : ℕ) → SameRule r s c (unmap_rule t m v) (unmap_rule s m v)
+  pub unmap_same : (m v : ℕ) → SameRule r s c (unmap_rule m v) (unmap_rule m v)
   unmap_same m v = (
     refl,
     refl,
     λ pages is_pages.
-        (refl, (λ on. pages_at w m pages is_pages), λ at mapping is_held. (tt, λ none. removes_same w at mapping)),
+        (refl, (λ on. pages_at w m pages is_pages), λ at mapping is_held. (tt, λ none. (refl, refl, (tt, tt)))),
   )
 
   touched_same : (v : ℕ) (tr : Option Translation)
-      → SameRule r s c (touch_by t c (comp_of s c).pages v tr) (touch_by s c (comp_of s c).pages v tr)
-  touched_same v (Some tr) = (((refl, λ on. refl), λ calm. tt), λ none. record { value = refl; next = w.agree; begins = refl })
+      → SameRule r s c (touch_by (comp_of s c).pages v tr) (touch_by (comp_of s c).pages v tr)
+  touched_same v (Some tr) = (((refl, λ on. refl), λ calm. tt), λ none. (refl, refl, tt))
   touched_same v None = (
     refl,
     refl,
     pages_in w,
-    λ mapping is. (
-      tt,
-      λ none.
-          let tr : Translation =
-          record { pages = (comp_of s c).pages; page = v; frame = mapping.frame; flags = record { 0 = mapping.arg } } in
-          record {
-            value = refl;
-            next = agree_then _ _ _
-                (agree_by _ _ (ap (λ (k : Core). with_core t c (record k { cached = caching k.cached tr })) (core_agree w)))
-                (agree_core t s c (record (s.core c) { cached = caching (s.core c).cached tr }) w.agree);
-            begins = refl;
-          },
-    ),
+    λ mapping is. (tt, λ none. (refl, refl, (tt, tt))),
   )
 
   pub touch_same : (v : ℕ) → SameRule r s c (touch_rule t c v) (touch_rule s c v)
@@ -202,31 +160,11 @@ module _ {r : Region} {t s : State} {o : ℕ → Bool} {c : ℕ} (w : TwinsOn r 
       let pages : (comp_of t c).pages ≡ (comp_of s c).pages = ap (λ (k : CompFields). k.pages) (comp_agree w) in
       let tr : translation_of (t.core c).cached (comp_of t c).pages v ≡ translation_of (s.core c).cached (comp_of s c).pages v = λ i.
       translation_of (core_agree w i).cached (pages i) v in
-      subst (λ x. SameRule r s c x (touch_rule s c v)) (λ i. touch_by t c (sym pages i) v (sym tr i))
+      subst (λ x. SameRule r s c x (touch_rule s c v)) (λ i. touch_by (sym pages i) v (sym tr i))
       (touched_same v (translation_of (s.core c).cached (comp_of s c).pages v))
 
-  flushed_same : AgreeOn r (flushed t c) (flushed s c)
-  flushed_same =
-      let cores : AgreeOn r (with_core t c (record (t.core c) { cached = [] })) (with_core s c (record (s.core c) { cached = [] })) =
-      agree_then _ _ _ (agree_by _ _ (ap (λ (k : Core). with_core t c (record k { cached = [] })) (core_agree w)))
-      (agree_core t s c (record (s.core c) { cached = [] }) w.agree) in
-      record {
-        limits = w.agree.limits;
-        place = w.agree.place;
-        frame = w.agree.frame;
-        number = w.agree.number;
-        core = cores.core;
-        inside = cores.inside;
-        grace = λ x is. let g = w.agree.grace x is in record {
-          waits = g.waits;
-          not_passed = g.not_passed;
-          unflushed = λ d less. ap (λ b. if d == c then false else b) (g.unflushed d less);
-          flush_unknown = g.flush_unknown;
-        };
-      }
-
-  pub flush_same : SameRule r s c (flush_rule t c) (flush_rule s c)
-  flush_same = (tt, λ none. record { value = refl; next = flushed_same; begins = refl })
+  pub flush_same : SameRule r s c flush_rule flush_rule
+  flush_same = (tt, λ none. (refl, refl, (tt, tt)))
 
 -- ---- the whole machine
 

@@ -1,63 +1,32 @@
 -- The calls of invocation and of time come to the same on a region.
-use Rattle.std.proofs.Common.{◌≡◌, ℕ, ◌+◌, ◌-◌, ◌<◌, Bool, true, not, ◌&&◌, ◌||◌, refl, sym, ◌∙◌, ap, subst}
-use Rattle.std.proofs.Common.{nat_le, nat_lt, List, ◌∷◌, length, take, drop, Option, Some, None, IsTrue}
+use Rattle.std.proofs.Common.{◌≡◌, ℕ, ◌<◌, Bool, true, not, ◌&&◌, ◌||◌, refl, sym, ◌∙◌, ap, subst}
+use Rattle.std.proofs.Common.{nat_le, nat_lt, [], ◌∷◌, length, Option, Some, None, IsTrue}
 use Rattle.std.proofs.lemmas.Bool.{false≢true}
 use Rattle.spk_nums.specs.Merging.{merged, covers}
 use Rattle.spk_nums.specs.Capability.{Capability, cap_of}
 use Rattle.spk_nums.specs.declared.kinds.Kind.{Kind}
 use Rattle.spk_nums.specs.declared.kinds.Kind.TheVariants as kind
 use Rattle.spk_nums.specs.declared.calls.Call.{Call}
+use Rattle.spk_nums.specs.declared.replies.Value.TheVariants.{Amount}
 use Rattle.spk_nums.specs.declared.replies.Reply.TheVariants as reply
-use Rattle.kernel_rules.specs.State.{Frame, Kernel, Comp, CompFields, ThreadFields, TcapFields, Dead, NumberOf, Holds, Core, outstanding}
-use Rattle.kernel_rules.specs.State.{State, with_frame, with_core, with_place, comp_of, comp_in, thread_in, tcap_in, thread_of}
-use Rattle.kernel_rules.specs.References.{number_names}
+use Rattle.kernel_rules.specs.State.{Frame, Kernel, Comp, CompFields, ThreadFields, TcapFields, NumberOf, Core, outstanding}
+use Rattle.kernel_rules.specs.State.{State, comp_of, comp_in, thread_in, tcap_in}
 use Rattle.kernel_rules.specs.Access.{to_use, found, only}
-use Rattle.kernel_rules.specs.Rules.{Found, named, frames_of}
+use Rattle.kernel_rules.specs.Edits.{tcap_at, Fill, Move, Merge}
+use Rattle.kernel_rules.specs.Rules.{Found, named}
 use Rattle.kernel_rules.specs.Life.{is_live_in, is_dead_in, asks_life, acts}
-use Rattle.kernel_rules.specs.InvocationCalls.{with_thread, with_stack, kills, pushes, pops, running, switches}
 use Rattle.kernel_rules.specs.InvocationCalls.{switch_to, gate_rule, kill_rule, call_rule, ret_rule, switch_rule}
-use Rattle.kernel_rules.specs.TimeCalls.{tcap_at, with_tcap, with_budget, with_qualities, charge, charges, moved, merged_list}
-use Rattle.kernel_rules.specs.TimeCalls.{are_alike, preemption, preempts, tick_rule, transfer_rule, delegate_rule, test_rule}
-use Rattle.kernel_rules.specs.TimeCalls.{given_back, replenish_rule}
+use Rattle.kernel_rules.specs.TimeCalls.{merged_list, are_alike, preemption, preempts, tick_rule, transfer_rule, delegate_rule}
+use Rattle.kernel_rules.specs.TimeCalls.{test_rule, replenish_rule}
 use Rattle.kernel_rules.specs.Fitting.{fits}
 use Rattle.kernel_rules.specs.Relies.{is_node}
 use Rattle.kernel_rules.specs.Ranges.{FrameInRange}
 use Rattle.kernel_invariant.proofs.Facts.{named_fit}
-use Rattle.same_changes.specs.Region.{Region, AgreeOn, AgreeChange}
-use Rattle.same_changes.proofs.Agreeing.{agree_by, agree_then, agree_place, agree_frame, agree_number, agree_core}
-use Rattle.same_changes.proofs.Reaching.{Twins, is_some_kind, fit_below, table_node}
-use Rattle.same_changes.proofs.Reaching.{TwinsOn, core_agree, thread_frame_agree, tcap_frame_agree}
-use Rattle.same_changes.proofs.Reaching.{thread_agree, comp_agree, comp_parts, number_in, below_cores, named_at, named_agrees, table_at}
+use Rattle.same_changes.specs.Region.{Region}
+use Rattle.same_changes.proofs.Reaching.{Twins, TwinsOn, is_some_kind, fit_below, table_node, core_agree, thread_agree, comp_agree}
+use Rattle.same_changes.proofs.Reaching.{comp_parts, number_in, below_cores, named_at, named_agrees, table_at}
+use Rattle.same_changes.proofs.EditsAgree.{charge_agree}
 use Rattle.same_changes.proofs.Alike.{SameRule}
-
--- ---- objects of the state
-
-running_agree : {r : Region} (t s : State) (f : ℕ) (core : Option ℕ) → r.frame f ≡ true → AgreeOn r t s
-    → AgreeOn r (running t f core) (running s f core)
-running_agree t s f core is e =
-    agree_then _ _ _
-    (agree_by _ _ (ap (λ x. with_frame t f (with_thread x (record (thread_in x) { runs_on = core }))) (e.frame f is)))
-    (agree_frame t s f (with_thread (s.frame f) (record (thread_in (s.frame f)) { runs_on = core })) e)
-
-budget_agree : {r : Region} (t s : State) (f n m : ℕ) → r.frame f ≡ true → n ≡ m → AgreeOn r t s
-    → AgreeOn r (with_budget t f n) (with_budget s f m)
-budget_agree t s f n m is same e =
-    agree_then _ _ _
-    (agree_by _ _ (λ i. with_frame t f (with_tcap (e.frame f is i) (record (tcap_in (e.frame f is i)) { budget = same i }))))
-    (agree_frame t s f (with_tcap (s.frame f) (record (tcap_in (s.frame f)) { budget = m })) e)
-
-moved_agree : {r : Region} (t s : State) (a b m : ℕ) → r.frame a ≡ true → r.frame b ≡ true → AgreeOn r t s
-    → AgreeOn r (moved t a b m) (moved s a b m)
-moved_agree t s a b m one other e =
-    budget_agree _ _ b _ _ other (ap (λ x. (tcap_in x).budget + m) (e.frame b other))
-    (budget_agree t s a _ _ one (ap (λ x. (tcap_in x).budget - m) (e.frame a one)) e)
-
-list_agree : {r : Region} (t s : State) (f : ℕ) (xs ys : List (ℕ × ℕ)) → r.frame f ≡ true → xs ≡ ys → AgreeOn r t s
-    → AgreeOn r (with_qualities t f xs) (with_qualities s f ys)
-list_agree t s f xs ys is same e =
-    agree_then _ _ _
-    (agree_by _ _ (λ i. with_frame t f (with_tcap (e.frame f is i) (record (tcap_in (e.frame f is i)) { qualities = same i }))))
-    (agree_frame t s f (with_tcap (s.frame f) (record (tcap_in (s.frame f)) { qualities = ys })) e)
 
 pub gate_comp : (x : Frame) → IsTrue (fits kind.Gate x) → IsTrue (fits kind.Comp x)
 gate_comp (Kernel (Comp k)) fit = refl
@@ -94,25 +63,15 @@ module _ {r : Region} {t s : State} {o : ℕ → Bool} {c : ℕ} (w : TwinsOn r 
         (λ on. table_at w x table is_table),
         λ at is_free. (
           tt,
-          λ none. record {
-            value = refl;
-            next = agree_then _ _ _
-                (agree_by _ _ (ap (λ (x : Frame). with_place t at.node at.index
-                (Holds (cap_of kind.Gate comp.frame (comp_in x).epoch))) (named_agrees w k kind.Comp comp refl is)))
-                (agree_place t s at.node at.index (Holds (cap_of kind.Gate comp.frame (comp_in (s.frame comp.frame)).epoch)) w.agree);
-            begins = refl;
-          },
+          λ none. (
+            refl,
+            ap (λ (x : Frame). Fill at (cap_of kind.Gate comp.frame (comp_in x).epoch) ∷ []) (named_agrees w k kind.Comp comp refl is),
+            (tt, tt),
+          ),
         ),
       ),
     ),
   )
-
-  kills_same : (k : CompFields) → t.number k.number ≡ s.number k.number → AgreeChange r (kills t k) (kills s k)
-  kills_same k same = record {
-    value = refl;
-    next = agree_number t s k.number (Dead k.epoch) w.agree;
-    begins = ap (λ n. NumberOf k.number ∷ frames_of (number_names n)) same;
-  }
 
   pub kill_same : (k : ℕ) → SameRule r s c (kill_rule t k) (kill_rule s k)
   kill_same k = (
@@ -121,21 +80,17 @@ module _ {r : Region} {t s : State} {o : ℕ → Bool} {c : ℕ} (w : TwinsOn r 
     λ comp is.
         let frame = named_agrees w k kind.Comp comp refl is in
         let fit = named_fit s o c k kind.Comp comp w.sound w.is_open is in
-        let number = life_agree comp.frame (named_at w k kind.Comp comp refl is) fit in
+        let inside = named_at w k kind.Comp comp refl is in
+        let number = life_agree comp.frame inside fit in
         let fields = comp_in (s.frame comp.frame) in
         subst (λ x. SameRule r s c (Rattle.kernel_rules.specs.InvocationCalls.kill_comp t (found comp) (comp_in x))
-        (Rattle.kernel_rules.specs.InvocationCalls.kill_comp s (found comp) fields)) (sym frame)
-        (((ap (λ n. not (is_live_in n fields.epoch)) number, λ on. refl), λ calm. tt), λ none. kills_same fields number),
+        (Rattle.kernel_rules.specs.InvocationCalls.kill_comp s (found comp) fields)) (sym frame) (
+          ((ap (λ n. not (is_live_in n fields.epoch)) number, λ on. refl), λ calm. tt),
+          λ none. (refl, refl, ((comp_parts w comp.frame inside fit).2, tt)),
+        ),
   )
 
   -- ---- calling and returning
-
-  stack_same : (xs ys : List ℕ) → xs ≡ ys → AgreeOn r (with_stack t c xs) (with_stack s c ys)
-  stack_same xs ys e =
-      agree_then _ _ _
-      (agree_by _ _ (λ i. with_frame t (core_agree w i).thread
-      (with_thread (thread_frame_agree w i) (record (thread_agree w i) { stack = e i }))))
-      (agree_frame t s (s.core c).thread (with_thread (s.frame (s.core c).thread) (record (thread_of s c) { stack = ys })) w.agree)
 
   pub call_same : (g : ℕ) → SameRule r s c (call_rule t c g) (call_rule s c g)
   call_same g = (
@@ -150,36 +105,19 @@ module _ {r : Region} {t s : State} {o : ℕ → Bool} {c : ℕ} (w : TwinsOn r 
             (ap (λ (k : ThreadFields). nat_le 16 (length k.stack)) (thread_agree w), λ on. refl),
             λ calm. ((ap (λ n. not (is_live_in n gate.arg)) number, λ on. refl), λ calm. tt),
           ),
-          λ none. record {
-            value = refl;
-            next = stack_same _ _ (ap (λ (k : ThreadFields). gate.frame ∷ k.stack) (thread_agree w));
-            begins = refl;
-          },
+          λ none. (refl, refl, (tt, tt)),
         ),
   )
 
   pub ret_same : SameRule r s c (ret_rule t c) (ret_rule s c)
   ret_same = (
     ((ap (λ (k : ThreadFields). nat_le (length k.stack) 1) (thread_agree w), λ on. refl), λ calm. tt),
-    λ none. record {
-      value = refl;
-      next = stack_same _ _ (ap (λ (k : ThreadFields). drop 1 k.stack) (thread_agree w));
-      begins = ap (λ (k : ThreadFields). frames_of (take 1 k.stack)) (thread_agree w);
-    },
+    λ none. (refl, refl, (tt, tt)),
   )
 
   -- ---- switching
 
-  switches_same : (h q : ℕ) → r.frame h ≡ true → AgreeChange r (switches t c (t.core c) h q) (switches s c (s.core c) h q)
-  switches_same h q is =
-      subst (λ k. AgreeChange r (switches t c k h q) (switches s c (s.core c) h q)) (sym (core_agree w)) (record {
-        value = refl;
-        next = agree_core _ _ c (record (s.core c) { thread = h; tcap = q })
-            (running_agree _ _ h (Some c) is (running_agree t s (s.core c).thread None w.within.thread w.agree));
-        begins = refl;
-      })
-
-  pub switch_same : (h q : ℕ) → SameRule r s c (switch_rule t c h q) (switch_rule s c h q)
+  pub switch_same : (h q : ℕ) → SameRule r s c (switch_rule t h q) (switch_rule s h q)
   switch_same h q = (
     refl,
     refl,
@@ -188,43 +126,21 @@ module _ {r : Region} {t s : State} {o : ℕ → Bool} {c : ℕ} (w : TwinsOn r 
       refl,
       λ tcap is_tcap.
           let frame = named_agrees w h kind.Thread thread refl is in
-          subst (λ x. SameRule r s c (switch_to t c (found thread) tcap.frame (thread_in x).runs_on)
-          (switch_to s c (found thread) tcap.frame (thread_in (s.frame thread.frame)).runs_on)) (sym frame)
+          subst (λ x. SameRule r s c (switch_to (found thread) tcap.frame (thread_in x).runs_on)
+          (switch_to (found thread) tcap.frame (thread_in (s.frame thread.frame)).runs_on)) (sym frame)
           (by_core thread tcap (named_at w h kind.Thread thread refl is) (thread_in (s.frame thread.frame)).runs_on),
     ),
   )
     where
       by_core : (thread tcap : Capability) → r.frame thread.frame ≡ true → (e : Option ℕ)
-          → SameRule r s c (switch_to t c (found thread) tcap.frame e) (switch_to s c (found thread) tcap.frame e)
-      by_core thread tcap is None = (tt, λ none. switches_same thread.frame tcap.frame is)
-      by_core thread tcap is (Some e) = (((refl, λ on. refl), λ calm. tt), λ none. switches_same thread.frame tcap.frame is)
+          → SameRule r s c (switch_to (found thread) tcap.frame e) (switch_to (found thread) tcap.frame e)
+      by_core thread tcap is None = (tt, λ none. (refl, refl, (is, tt)))
+      by_core thread tcap is (Some e) = (((refl, λ on. refl), λ calm. tt), λ none. (refl, refl, (is, tt)))
 
   -- ---- ticks
 
-  charges_same : (due n : ℕ) → AgreeChange r (charges t c due n) (charges s c due n)
-  charges_same due n =
-      let core = s.core c in
-      record {
-        value = refl;
-        next = agree_then _ _ _
-            (agree_by _ _ (λ i. with_core (with_budget t (core_agree w i).tcap ((tcap_at t (core_agree w i).tcap).budget - n)) c
-            (record (core_agree w i) { spent = (core_agree w i).spent + n; owed = due - n })))
-            (agree_core _ _ c (record core { spent = core.spent + n; owed = due - n })
-            (budget_agree t s core.tcap _ _ w.within.tcap
-            (ap (λ x. (tcap_in x).budget - n) (w.agree.frame core.tcap w.within.tcap)) w.agree));
-        begins = refl;
-      }
-
   pub tick_same : (n : ℕ) → SameRule r s c (tick_rule t c n) (tick_rule s c n)
-  tick_same n =
-      let due : n + (t.core c).owed ≡ n + (s.core c).owed = ap (λ (k : Core). n + k.owed) (core_agree w) in
-      let charged : charge t c (n + (t.core c).owed) ≡ charge s c (n + (s.core c).owed) = λ i. Rattle.std.specs.Prelude.min (due i)
-      (tcap_in (tcap_frame_agree w i)).budget in (
-        tt,
-        λ none. subst (λ x. AgreeChange r x (charges s c (n + (s.core c).owed) (charge s c (n + (s.core c).owed))))
-            (λ i. charges t c (sym due i) (sym charged i))
-            (charges_same (n + (s.core c).owed) (charge s c (n + (s.core c).owed))),
-      )
+  tick_same n = (tt, λ none. (ap Amount (charge_agree w n), refl, (tt, tt)))
 
   -- ---- moving budgets, and preemption
 
@@ -249,11 +165,7 @@ module _ {r : Region} {t s : State} {o : ℕ → Bool} {c : ℕ} (w : TwinsOn r 
                 λ calm. (((λ i. not (are_alike (one i).qualities (other i).qualities)), λ on. refl), λ calm. tt),
               ),
             ),
-            λ none. record {
-              value = refl;
-              next = moved_agree t s x.frame y.frame m (named_at w a kind.Tcap x refl is) (named_at w b kind.Tcap y refl is_other) w.agree;
-              begins = refl;
-            },
+            λ none. (refl, refl, ((named_at w a kind.Tcap x refl is, named_at w b kind.Tcap y refl is_other), tt)),
           ),
     ),
   )
@@ -278,11 +190,7 @@ module _ {r : Region} {t s : State} {o : ℕ → Bool} {c : ℕ} (w : TwinsOn r 
                 λ calm. ((ap (λ l. nat_lt 8 (length l)) list, λ on. refl), λ calm. tt),
               ),
             ),
-            λ none. record {
-              value = refl;
-              next = list_agree _ _ y.frame _ _ second list (moved_agree t s x.frame y.frame m first second w.agree);
-              begins = refl;
-            },
+            λ none. (refl, ap (λ l. Move x.frame y.frame m ∷ Merge y.frame l ∷ []) list, ((first, second), (second, tt))),
           ),
     ),
   )
@@ -298,20 +206,12 @@ module _ {r : Region} {t s : State} {o : ℕ → Bool} {c : ℕ} (w : TwinsOn r 
           let one : tcap_at t x.frame ≡ tcap_at s x.frame = tcap_agree a x is in
           let other : tcap_at t y.frame ≡ tcap_at s y.frame = tcap_agree b y is_other in (
             ((refl, λ on. refl), λ calm. tt),
-            λ none. record { value = λ i. preemption (preempts (one i) (other i)); next = w.agree; begins = refl },
+            λ none. ((λ i. preemption (preempts (one i) (other i))), refl, tt),
           ),
     ),
   )
 
   -- ---- giving back
-
-  given_agree : (f m : ℕ) → r.frame f ≡ true → AgreeOn r (given_back t c f m) (given_back s c f m)
-  given_agree f m is =
-      agree_then _ _ _
-      (agree_by _ _ (λ i. with_core (with_budget t f ((tcap_at t f).budget + m)) c
-      (record (core_agree w i) { back = (core_agree w i).back + m })))
-      (agree_core _ _ c (record (s.core c) { back = (s.core c).back + m })
-      (budget_agree t s f _ _ is (ap (λ x. (tcap_in x).budget + m) (w.agree.frame f is)) w.agree))
 
   pub replenish_same : (a m : ℕ) → SameRule r s c (replenish_rule t c a m) (replenish_rule s c a m)
   replenish_same a m = (
@@ -330,7 +230,7 @@ module _ {r : Region} {t s : State} {o : ℕ → Bool} {c : ℕ} (w : TwinsOn r 
               λ calm. tt,
             ),
           ),
-          λ none. record { value = refl; next = given_agree x.frame m (named_at w a kind.Tcap x refl is); begins = refl },
+          λ none. (refl, refl, (named_at w a kind.Tcap x refl is, tt)),
         ),
   )
 

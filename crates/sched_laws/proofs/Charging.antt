@@ -15,8 +15,8 @@ use Rattle.kernel_rules.specs.Access.{Slot, Want, only, to_use, usable, reached,
 use Rattle.kernel_rules.specs.GracePeriods.{entered, returned}
 use Rattle.kernel_rules.specs.Life.{acts}
 use Rattle.kernel_rules.specs.Rules.{Change, Judged, Refused, Found, named, of_kind, with_rights, and_then, or_refuse, outcome}
-use Rattle.kernel_rules.specs.InvocationCalls.{with_thread, running, switches, switch_to, switch_rule}
-use Rattle.kernel_rules.specs.TimeCalls.{tcap_at, with_tcap, charge}
+use Rattle.kernel_rules.specs.InvocationCalls.{switch_to, switch_rule}
+use Rattle.kernel_rules.specs.Edits.{with_thread, running, switched, tcap_at, with_tcap, charge}
 use Rattle.kernel_rules.specs.CallRelation.{are_calls_spent, change_of, changed, counted, state_by}
 use Rattle.kernel_rules.specs.Alone.{reply_in, first_reply, plain_reply}
 use Rattle.kernel_rules.proofs.Changes.{IfFound, AllChanges, outcome_all}
@@ -52,7 +52,7 @@ pub record Keeps (s new : State) : Type 0 where
 pub same_keeps : (s : State) → Keeps s s
 same_keeps s = record { budgets = λ g. refl; spent = refl; back = refl; owed = refl }
 
-switches_keep : (s : State) (h q : ℕ) → Keeps s (switches s 0 (s.core 0) h q).next
+switches_keep : (s : State) (h q : ℕ) → Keeps s (switched s 0 h q)
 switches_keep s h q = record {
   budgets = λ g. ap (λ (x : TcapFields). x.budget)
       (put_thread (running s (s.core 0).thread None).frame h g
@@ -64,10 +64,10 @@ switches_keep s h q = record {
 }
 
 change_keeps : (s : State) (h q : ℕ) → IfFound (change_of s 0 (Switch h q)) (λ change. Keeps s change.next)
-change_keeps s h q = outcome_all (λ change. Keeps s change.next) s 0 (switch_rule s 0 h q)
+change_keeps s h q = outcome_all (λ change. Keeps s change.next) s 0 (switch_rule s h q)
     (λ k l. by_runner k l (thread_in (s.frame k.frame)).runs_on)
   where
-    by_runner : (k l : Capability) (o : Option ℕ) → AllChanges (λ change. Keeps s change.next) (switch_to s 0 (found k) l.frame o)
+    by_runner : (k l : Capability) (o : Option ℕ) → AllChanges s 0 (λ change. Keeps s change.next) (switch_to (found k) l.frame o)
     by_runner k l None = switches_keep s k.frame l.frame
     by_runner k l (Some e) = switches_keep s k.frame l.frame
 
@@ -149,12 +149,12 @@ Sets s f j = is_done (reply_in j) ≡ true → ((changed s j).core 0).tcap ≡ f
 judged_sets : (s : State) (h q : ℕ) (k : Capability) → reach s 0 q ≡ Some k → Sets s k.frame (change_of s 0 (Switch h q))
 judged_sets s h q k at = by_thread (named s 0 h (to_use (only kind.Thread))) refl
   where
-    by_runner : (t l : Capability) → l ≡ k → (o : Option ℕ) → Sets s k.frame (outcome s 0 (switch_to s 0 (found t) l.frame o))
+    by_runner : (t l : Capability) → l ≡ k → (o : Option ℕ) → Sets s k.frame (outcome s 0 (switch_to (found t) l.frame o))
     by_runner t l same None done = ap (λ (x : Capability). x.frame) same
     by_runner t l same (Some e) done = absurd (false≢true done)
 
     by_tcap : (t : Capability) (x : Judged Capability) → named s 0 q (to_use (only kind.Tcap)) ≡ x
-        → Sets s k.frame (and_then x (λ l. outcome s 0 (switch_to s 0 (found t) l.frame (thread_in (s.frame t.frame)).runs_on)))
+        → Sets s k.frame (and_then x (λ l. outcome s 0 (switch_to (found t) l.frame (thread_in (s.frame t.frame)).runs_on)))
     by_tcap t (Refused r) is done = absurd (false≢true (sym (name_refused s q (to_use (only kind.Tcap)) r is) ∙ done))
     by_tcap t (Found l) is done = by_runner t l
         (kind_found (to_use (only kind.Tcap)) k l (sym (named_is s q (to_use (only kind.Tcap)) k at) ∙ is))
@@ -162,7 +162,7 @@ judged_sets s h q k at = by_thread (named s 0 h (to_use (only kind.Thread))) ref
 
     by_thread : (x : Judged Capability) → named s 0 h (to_use (only kind.Thread)) ≡ x
         → Sets s k.frame (and_then x (λ t. and_then (named s 0 q (to_use (only kind.Tcap)))
-        (λ l. outcome s 0 (switch_to s 0 (found t) l.frame (thread_in (s.frame t.frame)).runs_on))))
+        (λ l. outcome s 0 (switch_to (found t) l.frame (thread_in (s.frame t.frame)).runs_on))))
     by_thread (Refused r) is done = absurd (false≢true (sym (name_refused s h (to_use (only kind.Thread)) r is) ∙ done))
     by_thread (Found t) is done = by_tcap t (named s 0 q (to_use (only kind.Tcap))) refl done
 

@@ -13,8 +13,9 @@ use Rattle.kernel_rules.specs.Access.{found}
 use Rattle.kernel_rules.specs.GracePeriods.{entered}
 use Rattle.kernel_rules.specs.Rules.{Change, Judged, Refused, Found}
 use Rattle.kernel_rules.specs.Fitting.{fits}
-use Rattle.kernel_rules.specs.InvocationCalls.{with_thread, running, switches, switch_to, switch_rule}
-use Rattle.kernel_rules.specs.TimeCalls.{tcap_at, with_tcap, with_budget, charge, tick_rule, replenish_rule}
+use Rattle.kernel_rules.specs.InvocationCalls.{switch_to, switch_rule}
+use Rattle.kernel_rules.specs.TimeCalls.{tick_rule, replenish_rule}
+use Rattle.kernel_rules.specs.Edits.{with_thread, running, switched, tcap_at, with_tcap, with_budget, charge}
 use Rattle.kernel_rules.specs.CallRelation.{change_of, changed, owed_by, state_by}
 use Rattle.kernel_rules.specs.Alone.{plain_reply}
 use Rattle.kernel_rules.proofs.Changes.{IfFound, AllChanges, outcome_all}
@@ -77,7 +78,7 @@ by_reply s call change owed reply.Raced = record { like = owed.like }
 by_reply s call change owed (reply.Busy d) = record { like = owed.like }
 by_reply s call change owed _ = record { like = λ g. same_like (s.frame g) }
 
-both_like : (t : State) (h q g : ℕ) → Like ((switches t 0 (t.core 0) h q).next.frame g) (t.frame g)
+both_like : (t : State) (h q g : ℕ) → Like ((switched t 0 h q).frame g) (t.frame g)
 both_like t h q g =
     let old : ℕ = (t.core 0).thread in
     let idle : ThreadFields = record (thread_in (t.frame old)) { runs_on = None } in
@@ -88,10 +89,10 @@ both_like t h q g =
     record { list = second.list ∙ first.list; kind = second.kind ∙ first.kind }
 
 switch_changes : (t : State) (h q : ℕ) → IfFound (change_of t 0 (Switch h q)) (λ change. Keeps t change.next)
-switch_changes t h q = outcome_all (λ change. Keeps t change.next) t 0 (switch_rule t 0 h q)
+switch_changes t h q = outcome_all (λ change. Keeps t change.next) t 0 (switch_rule t h q)
     (λ k l. by_runner k l (thread_in (t.frame k.frame)).runs_on)
   where
-    by_runner : (k l : Capability) (o : Option ℕ) → AllChanges (λ change. Keeps t change.next) (switch_to t 0 (found k) l.frame o)
+    by_runner : (k l : Capability) (o : Option ℕ) → AllChanges t 0 (λ change. Keeps t change.next) (switch_to (found k) l.frame o)
     by_runner k l None = record { like = both_like t k.frame l.frame }
     by_runner k l (Some e) = record { like = both_like t k.frame l.frame }
 

@@ -3,7 +3,7 @@ use Rattle.std.proofs.Common.{◌≡◌, ℕ, ◌<◌, ◌≤◌, Bool, true, fa
 use Rattle.std.proofs.Common.{nat_lt, if◌then◌else◌, List, [], ◌∷◌, Some}
 use Rattle.std.proofs.lemmas.Bool.{eqb-true, ne_eqb, le-ltb, and_right}
 use Rattle.spk_nums.specs.Merging.{number_of, is_smaller, is_better, preempts_by}
-use Rattle.kernel_rules.specs.TimeCalls.{tcap_at}
+use Rattle.kernel_rules.specs.Edits.{tcap_at}
 use Rattle.sched_laws.specs.Least.{OthersStay}
 use Rattle.sched_laws.proofs.Picks.{best, first_of_all}
 use Rattle.sched_laws.proofs.Readiness.{ready_tells}

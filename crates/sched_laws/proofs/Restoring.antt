@@ -6,16 +6,17 @@ use Rattle.std.proofs.lemmas.Bool.{eq-eqb, ne_eqb, false≢true, true≢false}
 use Rattle.spk_nums.specs.Capability.{Capability}
 use Rattle.spk_nums.specs.declared.kinds.Kind.TheVariants as kind
 use Rattle.spk_nums.specs.declared.calls.Call.TheVariants.{Replenish}
+use Rattle.spk_nums.specs.declared.replies.Value.TheVariants.{Nothing}
 use Rattle.spk_nums.specs.declared.replies.Reply.{Reply}
 use Rattle.spk_nums.specs.declared.replies.Reply.TheVariants as reply
 use Rattle.kernel_rules.specs.State.{TcapFields, Frame, Kernel, Tcap, State, tcap_in, put}
 use Rattle.kernel_rules.specs.Access.{only, to_use, found}
 use Rattle.kernel_rules.specs.GracePeriods.{entered, returned}
 use Rattle.kernel_rules.specs.Life.{acts}
-use Rattle.kernel_rules.specs.Rules.{Change, Judged, Refused, Found, named, and_then, unless, first_of, first_cause}
-use Rattle.kernel_rules.specs.Rules.{leaves}
+use Rattle.kernel_rules.specs.Rules.{Change, does, Judged, Refused, Found, named, and_then, unless, first_of, first_cause}
 use Rattle.kernel_rules.specs.Fitting.{fits}
-use Rattle.kernel_rules.specs.TimeCalls.{tcap_at, with_tcap, is_finer, is_less, given_back}
+use Rattle.kernel_rules.specs.TimeCalls.{is_finer, is_less}
+use Rattle.kernel_rules.specs.Edits.{tcap_at, with_tcap, Give}
 use Rattle.kernel_rules.specs.CallRelation.{are_calls_spent, change_of, changed, counted, state_by}
 use Rattle.kernel_rules.specs.Alone.{reply_in, first_reply, plain_reply}
 use Rattle.sched_rules.specs.Schedule.{reply_to, state_past, is_done}
@@ -36,11 +37,15 @@ replenish_keeps s a m off =
     let k = by_reply (entered s 0) a m (plain_reply s 0 (Replenish a m)) off in
     record { budgets = k.budgets; spent = k.spent; back = k.back; owed = k.owed }
 
+-- The change that gives ticks back to the temporal capability of a frame.
+abbrev gives_back : State → ℕ → ℕ → Change
+gives_back s f m = does 0 s Nothing (Give f m ∷ [])
+
 -- What is judged is that the ticks are given back to the temporal capability that the name leads to.
 record Gives (s : State) (a m : ℕ) (j : Judged Change) : Type 0 where
   tcap : Capability
   led : named s 0 a (to_use (only kind.Tcap)) ≡ Found tcap
-  is : j ≡ Found (leaves (given_back s 0 tcap.frame m))
+  is : j ≡ Found (gives_back s tcap.frame m)
 
 judged_gives : (s : State) (a m : ℕ) → is_done (reply_in (change_of s 0 (Replenish a m))) ≡ true
     → Gives s a m (change_of s 0 (Replenish a m))
@@ -48,18 +53,18 @@ judged_gives s a m done = by_name (named s 0 a (to_use (only kind.Tcap))) refl d
   where
     by_causes : (k : Capability) → named s 0 a (to_use (only kind.Tcap)) ≡ Found k → (b d : Bool) (n : ℕ)
         → is_done (reply_in (unless (first_of (if b then Some reply.Unlike else None)
-        (first_of (if d then Some (reply.Short n) else None) None)) (leaves (given_back s 0 k.frame m)))) ≡ true
+        (first_of (if d then Some (reply.Short n) else None) None)) (gives_back s k.frame m))) ≡ true
         → Gives s a m (unless (first_of (if b then Some reply.Unlike else None)
-        (first_of (if d then Some (reply.Short n) else None) None)) (leaves (given_back s 0 k.frame m)))
+        (first_of (if d then Some (reply.Short n) else None) None)) (gives_back s k.frame m))
     by_causes k led true d n done = absurd (false≢true done)
     by_causes k led false true n done = absurd (false≢true done)
     by_causes k led false false n done = record { tcap = k; led = led; is = refl }
 
     by_name : (x : Judged Capability) → named s 0 a (to_use (only kind.Tcap)) ≡ x
         → is_done (reply_in (and_then x (λ k. unless (first_cause s 0 (is_finer s 0 (found k) ∷ is_less s 0 m ∷ []))
-        (leaves (given_back s 0 k.frame m))))) ≡ true
+        (gives_back s k.frame m)))) ≡ true
         → Gives s a m (and_then x (λ k. unless (first_cause s 0 (is_finer s 0 (found k) ∷ is_less s 0 m ∷ []))
-        (leaves (given_back s 0 k.frame m))))
+        (gives_back s k.frame m)))
     by_name (Refused r) led done = absurd (false≢true (sym (name_refused s a (to_use (only kind.Tcap)) r led) ∙ done))
     by_name (Found k) led done = by_causes k led _ _ _ done
 
@@ -94,7 +99,7 @@ unfolding reply_to state_past
 replenish_restores s a m owes done =
     let gives = judged_gives (entered s 0) a m (by_spent (are_calls_spent (entered s 0) 0) done) in
     let next : State = state_by (entered s 0) 0 (Replenish a m) (plain_reply s 0 (Replenish a m)) in
-    let is : next ≡ counted (changed (entered s 0) (Found (leaves (given_back (entered s 0) 0 gives.tcap.frame m)))) 0 =
+    let is : next ≡ counted (changed (entered s 0) (Found (gives_back (entered s 0) gives.tcap.frame m))) 0 =
     done_value (plain_reply s 0 (Replenish a m)) done (entered s 0) (Replenish a m)
     ∙ ap (λ j. counted (changed (entered s 0) j) 0) gives.is in
     subst (λ x. Restored s (returned x 0) a m) (sym is) (record {

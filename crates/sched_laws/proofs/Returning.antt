@@ -13,7 +13,7 @@ use Rattle.kernel_rules.specs.State.{State}
 use Rattle.kernel_rules.specs.Access.{Slot, Want, only, to_use, usable, reached, own}
 use Rattle.kernel_rules.specs.Rules.{Refused, Found, named, of_kind, with_rights, and_then, or_refuse}
 use Rattle.kernel_rules.specs.Fitting.{fits}
-use Rattle.kernel_rules.specs.TimeCalls.{tcap_at}
+use Rattle.kernel_rules.specs.Edits.{tcap_at}
 use Rattle.sched_rules.specs.declared.tasks.Task.{Task}
 use Rattle.sched_rules.specs.declared.tasks.Rule.{Rule}
 use Rattle.sched_rules.specs.declared.tasks.Job.{Job}

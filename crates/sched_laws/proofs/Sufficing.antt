@@ -6,7 +6,7 @@ use Rattle.std.proofs.lemmas.Bool.{eq-eqb, or_parts, true≢false}
 use Rattle.spk_nums.specs.Merging.{number_of}
 use Rattle.spk_nums.specs.declared.replies.Reply.{Reply}
 use Rattle.kernel_rules.specs.State.{State}
-use Rattle.kernel_rules.specs.TimeCalls.{tcap_at}
+use Rattle.kernel_rules.specs.Edits.{tcap_at}
 use Rattle.sched_rules.specs.declared.tasks.Task.{Task}
 use Rattle.sched_rules.specs.declared.tasks.Rule.{Rule}
 use Rattle.sched_rules.specs.declared.tasks.Job.{Job}

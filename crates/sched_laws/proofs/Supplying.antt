@@ -8,7 +8,7 @@ use Rattle.spk_nums.specs.Merging.{number_of}
 use Rattle.spk_nums.specs.declared.kinds.Kind.TheVariants as kind
 use Rattle.kernel_rules.specs.State.{Frame, Kernel, Tcap, TcapFields, State, tcap_in}
 use Rattle.kernel_rules.specs.Fitting.{fits}
-use Rattle.kernel_rules.specs.TimeCalls.{tcap_at}
+use Rattle.kernel_rules.specs.Edits.{tcap_at}
 use Rattle.sched_rules.specs.declared.tasks.Task.{Task}
 use Rattle.sched_rules.specs.declared.tasks.Rule.{Rule}
 use Rattle.sched_rules.specs.declared.tasks.Job.{Job}

@@ -6,7 +6,7 @@ use Rattle.kernel_rules.specs.State.{State}
 use Rattle.kernel_rules.specs.Access.{only, to_use}
 use Rattle.kernel_rules.specs.Rules.{Found, named}
 use Rattle.kernel_rules.specs.Fitting.{fits}
-use Rattle.kernel_rules.specs.TimeCalls.{tcap_at}
+use Rattle.kernel_rules.specs.Edits.{tcap_at}
 use Rattle.sched_rules.specs.declared.tasks.Rule.{Rule}
 use Rattle.sched_rules.specs.declared.tasks.Choice.{Choice}
 use Rattle.sched_rules.specs.declared.tasks.Renewal.{Renewal}

@@ -1,7 +1,8 @@
 -- Which task runs: the least among the ready ones, at every tick.
 use Rattle.std.specs.Prelude.{◌≡◌, ◌<◌, ◌≤◌, ℕ, ◌+◌, false, List, slice_get, Some, None}
 use Rattle.kernel_rules.specs.State.{State}
-use Rattle.kernel_rules.specs.TimeCalls.{tcap_at, preempts}
+use Rattle.kernel_rules.specs.TimeCalls.{preempts}
+use Rattle.kernel_rules.specs.Edits.{tcap_at}
 use Rattle.sched_rules.specs.declared.tasks.Rule.{Rule}
 use Rattle.sched_rules.specs.declared.tasks.Job.{Job}
 use Rattle.sched_rules.specs.declared.tasks.Ready.{Ready}

@@ -12,7 +12,7 @@ use Rattle.spk_nums.specs.declared.replies.Reply.{Reply}
 use Rattle.spk_nums.specs.declared.replies.Reply.TheVariants.{Ok as ok_reply}
 use Rattle.kernel_rules.specs.State.{TcapFields, State}
 use Rattle.kernel_rules.specs.Access.{only, usable, reached, own}
-use Rattle.kernel_rules.specs.TimeCalls.{tcap_at}
+use Rattle.kernel_rules.specs.Edits.{tcap_at}
 use Rattle.kernel_rules.specs.Alone.{plain_reply, plain_step}
 use Rattle.sched_rules.specs.declared.tasks.Task.{Task}
 use Rattle.sched_rules.specs.declared.tasks.Rule.{Rule}

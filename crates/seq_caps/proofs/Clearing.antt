@@ -4,7 +4,7 @@ use Rattle.std.proofs.lemmas.Bool.{cases_eq, cases_lt, lt-ltb, le-ltb, eq-eqb, n
 use Rattle.kernel_rules.specs.State.{put, Place, Free, Grace, Thing, PlaceOf, FrameOf, NumberOf, State, with_place}
 use Rattle.kernel_rules.specs.Start.{no_grace}
 use Rattle.kernel_rules.specs.GracePeriods.{same_thing}
-use Rattle.kernel_rules.specs.CapabilityCalls.{cleared}
+use Rattle.kernel_rules.specs.Edits.{cleared}
 use Rattle.kernel_rules.proofs.Within.{put_same, put_other}
 use Rattle.seq_state.specs.Representation.{IsThing, SameState, with_grace_of}
 use Rattle.seq_state.proofs.Same.{same_grace_by, same_then, same_place, same_grace_of}

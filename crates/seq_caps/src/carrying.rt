@@ -3,18 +3,22 @@
 ghost use Rattle.std.specs.Prelude.{◌≡◌, ◌<◌, ◌≤◌, ◌+◌, ◌^◌, IsSome, [], ◌∷◌, None};
 ghost use Rattle.spk_nums.specs.Limits.{least_arg, end_of_arg};
 ghost use Rattle.spk_nums.specs.CallLimits.{InLimits, MakeInLimits};
+ghost use Rattle.spk_nums.specs.declared.kinds.Kind.TheVariants as kinds;
 ghost use Rattle.spk_nums.specs.declared.calls.Call.TheVariants.{Make as make_call};
 ghost use Rattle.spk_nums.specs.declared.replies.Reply.TheVariants.{Ok as ok};
-ghost use Rattle.kernel_rules.specs.CapabilityCalls.{cleared, makes, makes_comp, epoch_of};
+ghost use Rattle.kernel_rules.specs.State.{Comp, Live, with_number};
+ghost use Rattle.kernel_rules.specs.CapabilityCalls.{epoch_of};
+ghost use Rattle.kernel_rules.specs.Edits.{cleared};
 ghost use Rattle.kernel_rules.specs.CallRelation.{rule_of};
 ghost use Rattle.seq_state.specs.Parts.{object_of};
 ghost use Rattle.seq_state.specs.Maps.{state_of};
 ghost use Rattle.seq_state.specs.Representation.{Represents};
-ghost use Rattle.seq_lookups.specs.Carried.{IsCarriedOut};
+ghost use Rattle.seq_lookups.specs.Carried.{IsCarriedOut, removed};
 ghost use Rattle.seq_plans.specs.declared.walking.Looked.{Looked};
 ghost use Rattle.seq_plans.specs.Walks.{left_of};
 ghost use Rattle.seq_plans.specs.Carrying.{change_in, MayMake, MayCarry};
 ghost use Rattle.seq_caps.specs.Own.{IsCapCall};
+ghost use Rattle.seq_caps.specs.Holding.{holding};
 
 use crate::frames::{clear, epoch_of, plain_cap, put};
 use seq_lookups::{Slot, fill, remove};
@@ -26,7 +30,7 @@ use spk_nums::{Call, Cap, CoreNo, FrameArg, FrameNo, Kind, Make, Qualities, Righ
 fn hold(k: &mut SeqKernel, frame: FrameNo, object: Object, kind: Kind, at: Slot)
     requires least { least_arg kind ≡ 0 }
     requires end { 0 < end_of_arg kind }
-    ensures { Represents k.new (makes (state_of k.old) frame (object_of object) kind at).next }
+    ensures { Represents k.new (holding (state_of k.old) frame (object_of object) kind at) }
 {
     put(k, frame, object, plain_cap(kind, frame), at);
 }
@@ -35,7 +39,7 @@ fn hold(k: &mut SeqKernel, frame: FrameNo, object: Object, kind: Kind, at: Slot)
 fn hold_node(k: &mut SeqKernel, frame: FrameNo, object: Object, kind: Kind, at: Slot)
     requires least { least_arg kind ≡ 0 }
     requires end { 0 < end_of_arg kind }
-    ensures { Represents k.new (makes (cleared (state_of k.old) frame) frame (object_of object) kind at).next }
+    ensures { Represents k.new (holding (cleared (state_of k.old) frame) frame (object_of object) kind at) }
 {
     clear(k, frame);
     put(k, frame, object, plain_cap(kind, frame), at);
@@ -61,8 +65,8 @@ fn hold_comp(
     at: Slot,
 )
     requires { live < 64 }
-    ensures { Represents k.new (makes_comp (state_of k.old) frame
-        (record { table = table; pages = pages; number = live; epoch = epoch }) at).next }
+    ensures { Represents k.new (holding (with_number (state_of k.old) live (Live epoch frame)) frame
+        (Comp (record { table = table; pages = pages; number = live; epoch = epoch })) kinds.Comp at) }
 {
     let comp = CompFields {
         table,
@@ -84,7 +88,8 @@ fn hold_comp(
 fn make_in(k: &mut SeqKernel, what: &Make, frame: FrameNo, looked: &Looked, at: Slot)
     requires { MakeInLimits what.now }
     ensures { (core r t b : ℕ) → MayMake (state_of k.old) what.now frame looked.now → looked.now.at ≡ Some at
-        → IsCarriedOut (state_of k.old) (change_in (left_of (rule_of (state_of k.old) core (make_call what.now r frame t b)) looked.now))
+        → IsCarriedOut (state_of k.old)
+        (change_in (state_of k.old) core (left_of (rule_of (state_of k.old) core (make_call what.now r frame t b)) looked.now))
         (ok Nothing) k.new }
 {
     match *what {
@@ -127,7 +132,8 @@ fn make_in(k: &mut SeqKernel, what: &Make, frame: FrameNo, looked: &Looked, at: 
 fn make(k: &mut SeqKernel, what: &Make, frame: FrameArg, looked: &Looked) -> Value
     requires { MakeInLimits what.now }
     ensures { (core r t b : ℕ) → MayMake (state_of k.old) what.now frame looked.now
-        → IsCarriedOut (state_of k.old) (change_in (left_of (rule_of (state_of k.old) core (make_call what.now r frame t b)) looked.now))
+        → IsCarriedOut (state_of k.old)
+        (change_in (state_of k.old) core (left_of (rule_of (state_of k.old) core (make_call what.now r frame t b)) looked.now))
         (ok result) k.new }
 {
     if let Some(at) = looked.at {
@@ -152,7 +158,8 @@ fn look(looked: &Looked) -> Value
 /// `copy`: the place holds the capability, with those of its rights that are among these.
 fn copy(k: &mut SeqKernel, looked: &Looked, rights: Rights) -> Value
     ensures { (core a t b : ℕ) → MayCarry (state_of k.old) core (Copy a t b rights) looked.now
-        → IsCarriedOut (state_of k.old) (change_in (left_of (rule_of (state_of k.old) core (Copy a t b rights)) looked.now))
+        → IsCarriedOut (state_of k.old)
+        (change_in (state_of k.old) core (left_of (rule_of (state_of k.old) core (Copy a t b rights)) looked.now))
         (ok result) k.new }
 {
     if let Some(cap) = looked.first {
@@ -167,7 +174,8 @@ fn copy(k: &mut SeqKernel, looked: &Looked, rights: Rights) -> Value
 /// `part`: the place holds the range of these frames, with the rights of the range that has them.
 fn part(k: &mut SeqKernel, frame: FrameArg, count: u16, looked: &Looked) -> Value
     ensures { (core r t b : ℕ) → MayCarry (state_of k.old) core (Part r frame count t b) looked.now
-        → IsCarriedOut (state_of k.old) (change_in (left_of (rule_of (state_of k.old) core (Part r frame count t b)) looked.now))
+        → IsCarriedOut (state_of k.old)
+        (change_in (state_of k.old) core (left_of (rule_of (state_of k.old) core (Part r frame count t b)) looked.now))
         (ok result) k.new }
 {
     if let Some(range) = looked.first {
@@ -184,7 +192,8 @@ fn part(k: &mut SeqKernel, frame: FrameArg, count: u16, looked: &Looked) -> Valu
 /// `grow`: the root entry links the leaf.
 fn grow(k: &mut SeqKernel, looked: &Looked) -> Value
     ensures { (core t i l : ℕ) → MayCarry (state_of k.old) core (Grow t i l) looked.now
-        → IsCarriedOut (state_of k.old) (change_in (left_of (rule_of (state_of k.old) core (Grow t i l)) looked.now)) (ok result) k.new }
+        → IsCarriedOut (state_of k.old)
+        (change_in (state_of k.old) core (left_of (rule_of (state_of k.old) core (Grow t i l)) looked.now)) (ok result) k.new }
 {
     if let Some(leaf) = looked.second {
         if let Some(at) = looked.at {
@@ -198,7 +207,7 @@ fn grow(k: &mut SeqKernel, looked: &Looked) -> Value
 /// `remove` and `shrink`: what the place holds is removed.
 fn take_away(k: &mut SeqKernel, looked: &Looked) -> Value
     ensures { (at : slot) (k' : Capability) → looked.now.at ≡ Some at → looked.now.held ≡ Some k'
-        → (result ≡ Nothing) × Represents k.new (changed (state_of k.old) (Found (removes (state_of k.old) at k'))) }
+        → (result ≡ Nothing) × Represents k.new (removed (state_of k.old) at k') }
 {
     if let Some(at) = looked.at {
         if let Some(cap) = looked.held {
@@ -215,7 +224,7 @@ pub fn carry_out(k: &mut SeqKernel, core: CoreNo, call: &Call, looked: &Looked) 
     requires own { IsCapCall call.now }
     requires limits { InLimits call.now }
     ensures { MayCarry (state_of k.old) core call.now looked.now → IsCarriedOut (state_of k.old)
-        (change_in (left_of (rule_of (state_of k.old) core call.now) looked.now)) (ok result) k.new }
+        (change_in (state_of k.old) core (left_of (rule_of (state_of k.old) core call.now) looked.now)) (ok result) k.new }
 {
     match *call {
         Call::Look { a: _ } => look(looked),
@@ -251,5 +260,3 @@ ghost use Rattle.spk_nums.specs.Capability.{Capability};
 ghost use Rattle.spk_nums.specs.declared.calls.Call.TheVariants.{Copy, Grow, Part};
 ghost use Rattle.spk_nums.specs.declared.replies.Value.TheVariants.{Nothing, Cap as cap_value};
 ghost use Rattle.kernel_rules.specs.Access.{Slot as slot};
-ghost use Rattle.kernel_rules.specs.Rules.{Found, removes};
-ghost use Rattle.kernel_rules.specs.CallRelation.{changed};

@@ -2,10 +2,12 @@
 
 ghost use Rattle.std.specs.Prelude.{◌≡◌, ◌<◌};
 ghost use Rattle.spk_nums.specs.Limits.{least_arg, end_of_arg};
-ghost use Rattle.kernel_rules.specs.CapabilityCalls.{cleared, makes, epoch_of, is_blank, is_live};
+ghost use Rattle.kernel_rules.specs.CapabilityCalls.{epoch_of, is_blank, is_live};
+ghost use Rattle.kernel_rules.specs.Edits.{cleared};
 ghost use Rattle.seq_state.specs.Parts.{object_of, frame_of, number_of};
 ghost use Rattle.seq_state.specs.Maps.{state_of};
 ghost use Rattle.seq_state.specs.Representation.{Represents};
+ghost use Rattle.seq_caps.specs.Holding.{holding};
 
 use seq_lookups::Slot;
 use seq_state::{Frame, Liveness, Object, Place, SeqKernel, Thing};
@@ -35,7 +37,7 @@ pub(crate) fn clear(k: &mut SeqKernel, frame: FrameNo)
 /// The frame holds the object, and the place its capability.
 pub(crate) fn put(k: &mut SeqKernel, frame: FrameNo, object: Object, cap: Cap, at: Slot)
     requires { cap ≡ plain_cap cap.kind frame }
-    ensures { Represents k.new (makes (state_of k.old) frame (object_of object) cap.kind at).next }
+    ensures { Represents k.new (holding (state_of k.old) frame (object_of object) cap.kind at) }
 {
     k.set_frame(frame, Frame::Kernel(object));
     k.set_place(at.node(), at.index(), Place::Holds(cap));

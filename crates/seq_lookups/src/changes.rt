@@ -2,11 +2,11 @@
 
 ghost use Rattle.std.specs.Prelude.{◌≡◌, [], ◌∷◌};
 ghost use Rattle.kernel_rules.specs.GracePeriods.{begun, needs_flush, is_translated, is_paging};
-ghost use Rattle.kernel_rules.specs.Rules.{Found, fills, removes};
-ghost use Rattle.kernel_rules.specs.CallRelation.{changed};
+ghost use Rattle.kernel_rules.specs.State.{Holds, with_place};
 ghost use Rattle.seq_state.specs.Parts.{frame_of, thing_of};
 ghost use Rattle.seq_state.specs.Maps.{state_of};
 ghost use Rattle.seq_state.specs.Representation.{HasIndex, Represents};
+ghost use Rattle.seq_lookups.specs.Carried.{removed};
 
 use crate::slots::Slot;
 use seq_state::{Frame, Object, Place, SeqKernel, Thing};
@@ -55,7 +55,7 @@ pub fn begin(k: &mut SeqKernel, thing: Thing)
 
 /// Fills a place: it then holds the capability.
 pub fn fill(k: &mut SeqKernel, at: Slot, cap: Cap)
-    ensures { Represents k.new (changed (state_of k.old) (Found (fills (state_of k.old) at cap))) }
+    ensures { Represents k.new (with_place (state_of k.old) at.node at.index (Holds cap)) }
 {
     k.set_place(at.node(), at.index(), Place::Holds(cap));
 }
@@ -63,7 +63,7 @@ pub fn fill(k: &mut SeqKernel, at: Slot, cap: Cap)
 /// Removes what a place holds: the place is quiescing, its grace period begins, and so does that of the frame to which what it
 /// held had a reference. The place is not free before its grace period is over.
 pub fn remove(k: &mut SeqKernel, at: Slot, cap: Cap)
-    ensures { Represents k.new (changed (state_of k.old) (Found (removes (state_of k.old) at cap))) }
+    ensures { Represents k.new (removed (state_of k.old) at cap) }
 {
     begin(k, at.thing());
     match cap.kind() {

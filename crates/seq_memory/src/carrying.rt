@@ -7,16 +7,15 @@ ghost use Rattle.spk_nums.specs.declared.calls.Call.TheVariants.{Retype, Map, To
 ghost use Rattle.spk_nums.specs.declared.replies.Value.TheVariants.{Nothing};
 ghost use Rattle.spk_nums.specs.declared.replies.Reply.TheVariants.{Ok as ok};
 ghost use Rattle.kernel_rules.specs.State.{thread_in};
-ghost use Rattle.kernel_rules.specs.Rules.{Found, removes};
-ghost use Rattle.kernel_rules.specs.MemoryCalls.{retypes};
-ghost use Rattle.kernel_rules.specs.CallRelation.{rule_of, changed};
+ghost use Rattle.kernel_rules.specs.CallRelation.{rule_of};
 ghost use Rattle.seq_state.specs.Maps.{state_of};
 ghost use Rattle.seq_state.specs.Representation.{Represents};
-ghost use Rattle.seq_lookups.specs.Carried.{IsCarriedOut};
+ghost use Rattle.seq_lookups.specs.Carried.{IsCarriedOut, removed};
 ghost use Rattle.seq_plans.specs.declared.walking.Looked.{Looked};
 ghost use Rattle.seq_plans.specs.Walks.{left_of};
 ghost use Rattle.seq_plans.specs.Carrying.{change_in, MayRetype, MayCarry};
 ghost use Rattle.seq_memory.specs.Own.{IsMemoryCall};
+ghost use Rattle.seq_memory.specs.Retyped.{retyped};
 
 use crate::retyping::free;
 use crate::touching::{cache, flags_of};
@@ -30,7 +29,7 @@ use spk_nums::{
 /// Retypes a frame to untyped, unless its thread is in more than one component.
 fn free_few(k: &mut SeqKernel, frame: FrameNo)
     ensures { length (thread_in ((state_of k.old).frame frame)).stack ≤ 1
-        → Represents k.new (changed (state_of k.old) (Found (retypes (state_of k.old) frame frame_kind.Untyped))) }
+        → Represents k.new (retyped (state_of k.old) frame frame_kind.Untyped) }
 {
     if thread_at(k, frame).stack.len() <= 1 {
         free(k, frame);
@@ -40,7 +39,7 @@ fn free_few(k: &mut SeqKernel, frame: FrameNo)
 /// A frame becomes one of this kind.
 fn turn_into(k: &mut SeqKernel, frame: FrameNo, kind: FrameKind)
     ensures { MayRetype (state_of k.old) frame kind
-        → Represents k.new (changed (state_of k.old) (Found (retypes (state_of k.old) frame kind))) }
+        → Represents k.new (retyped (state_of k.old) frame kind) }
 {
     match kind {
         FrameKind::Untyped => free_few(k, frame),
@@ -52,7 +51,8 @@ fn turn_into(k: &mut SeqKernel, frame: FrameNo, kind: FrameKind)
 /// `retype`: a frame of the machine becomes one of this kind.
 fn retype(k: &mut SeqKernel, frame: FrameArg, kind: FrameKind) -> Value
     ensures { (core r : ℕ) (l : Looked) → MayRetype (state_of k.old) frame kind
-        → IsCarriedOut (state_of k.old) (change_in (left_of (rule_of (state_of k.old) core (Retype r frame kind)) l)) (ok result) k.new }
+        → IsCarriedOut (state_of k.old)
+        (change_in (state_of k.old) core (left_of (rule_of (state_of k.old) core (Retype r frame kind)) l)) (ok result) k.new }
 {
     if frame.number() < k.frames() {
         turn_into(k, FrameNo::new(frame.number()), kind);
@@ -65,7 +65,7 @@ fn retype(k: &mut SeqKernel, frame: FrameArg, kind: FrameKind) -> Value
 fn map(k: &mut SeqKernel, looked: &Looked, frame: FrameArg, flags: PageFlags) -> Value
     requires { flags.0 < 4 }
     ensures { (core p v r : ℕ) → MayCarry (state_of k.old) core (Map p v r frame flags) looked.now → IsCarriedOut (state_of k.old)
-        (change_in (left_of (rule_of (state_of k.old) core (Map p v r frame flags)) looked.now)) (ok result) k.new }
+        (change_in (state_of k.old) core (left_of (rule_of (state_of k.old) core (Map p v r frame flags)) looked.now)) (ok result) k.new }
 {
     if let Some(at) = looked.at {
         if frame.number() < k.frames() {
@@ -84,7 +84,7 @@ fn map(k: &mut SeqKernel, looked: &Looked, frame: FrameArg, flags: PageFlags) ->
 /// `unmap`: what the place holds is removed.
 fn take_away(k: &mut SeqKernel, looked: &Looked) -> Value
     ensures { (at : slot) (cap : Capability) → looked.now.at ≡ Some at → looked.now.held ≡ Some cap
-        → (result ≡ Nothing) × Represents k.new (changed (state_of k.old) (Found (removes (state_of k.old) at cap))) }
+        → (result ≡ Nothing) × Represents k.new (removed (state_of k.old) at cap) }
 {
     if let Some(at) = looked.at {
         if let Some(cap) = looked.held {
@@ -99,7 +99,7 @@ fn take_away(k: &mut SeqKernel, looked: &Looked) -> Value
 fn touch(k: &mut SeqKernel, core: CoreNo, page: PageNo, looked: &Looked) -> Value
     requires { core < (state_of k.old).limits.cores }
     ensures { MayCarry (state_of k.old) core (Touch page) looked.now → IsCarriedOut (state_of k.old)
-        (change_in (left_of (rule_of (state_of k.old) core (Touch page)) looked.now)) (ok result) k.new }
+        (change_in (state_of k.old) core (left_of (rule_of (state_of k.old) core (Touch page)) looked.now)) (ok result) k.new }
 {
     let pages = comp_of(k, core).pages;
     if let Some(item) = translation_of(&k.core(core).cached, pages, page) {
@@ -133,7 +133,7 @@ pub fn carry_out(k: &mut SeqKernel, core: CoreNo, call: &Call, looked: &Looked) 
     requires limits { InLimits call.now }
     requires core { core < (state_of k.old).limits.cores }
     ensures { MayCarry (state_of k.old) core call.now looked.now → IsCarriedOut (state_of k.old)
-        (change_in (left_of (rule_of (state_of k.old) core call.now) looked.now)) (ok result) k.new }
+        (change_in (state_of k.old) core (left_of (rule_of (state_of k.old) core call.now) looked.now)) (ok result) k.new }
 {
     match *call {
         Call::Retype { r: _, f, k: kind } => retype(k, f, kind),

@@ -5,12 +5,11 @@ ghost use Rattle.spk_nums.specs.declared.kinds.FrameKind.TheVariants as frame_ki
 ghost use Rattle.kernel_rules.specs.State.{thread_in};
 ghost use Rattle.kernel_rules.specs.References.{frame_names};
 ghost use Rattle.kernel_rules.specs.GracePeriods.{begun};
-ghost use Rattle.kernel_rules.specs.Rules.{Found, frames_of};
-ghost use Rattle.kernel_rules.specs.MemoryCalls.{retypes};
-ghost use Rattle.kernel_rules.specs.CallRelation.{changed};
+ghost use Rattle.kernel_rules.specs.Edits.{frames_of};
 ghost use Rattle.seq_state.specs.Parts.{frame_of};
 ghost use Rattle.seq_state.specs.Maps.{state_of};
 ghost use Rattle.seq_state.specs.Representation.{Represents};
+ghost use Rattle.seq_memory.specs.Retyped.{retyped};
 
 use seq_lookups::begin;
 use seq_state::{Frame, Object, SeqKernel, Stack, Thing};
@@ -50,7 +49,7 @@ fn release(k: &mut SeqKernel, value: &Frame)
 /// at most one component.
 pub(crate) fn free(k: &mut SeqKernel, frame: FrameNo)
     requires { length (thread_in ((state_of k.old).frame frame)).stack ≤ 1 }
-    ensures { Represents k.new (changed (state_of k.old) (Found (retypes (state_of k.old) frame frame_kind.Untyped))) }
+    ensures { Represents k.new (retyped (state_of k.old) frame frame_kind.Untyped) }
 {
     let value = k.frame(frame);
     k.clear(Thing::FrameOf(frame));

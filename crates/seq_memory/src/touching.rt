@@ -5,9 +5,7 @@
 
 ghost use Rattle.std.specs.Prelude.{◌≡◌, ◌<◌};
 ghost use Rattle.spk_nums.specs.declared.kinds.Kind.TheVariants as kind;
-ghost use Rattle.kernel_rules.specs.Rules.{Found};
-ghost use Rattle.kernel_rules.specs.MemoryCalls.{caching, caches};
-ghost use Rattle.kernel_rules.specs.CallRelation.{changed};
+ghost use Rattle.kernel_rules.specs.Edits.{caching, Cache, edited};
 ghost use Rattle.seq_state.specs.Maps.{state_of};
 ghost use Rattle.seq_state.specs.Representation.{Represents};
 
@@ -33,7 +31,7 @@ fn caching(cached: &Translations, item: Translation) -> Translations
 /// A core of the machine caches a translation, where it has room.
 pub(crate) fn cache(k: &mut SeqKernel, core: CoreNo, item: Translation)
     requires { core < (state_of k.old).limits.cores }
-    ensures { Represents k.new (changed (state_of k.old) (Found (caches (state_of k.old) core item))) }
+    ensures { Represents k.new (edited core (state_of k.old) (Cache item)) }
 {
     let value = *k.core(core);
     let cached = caching(&value.cached, item);

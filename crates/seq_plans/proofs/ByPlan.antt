@@ -11,9 +11,8 @@ use Rattle.kernel_rules.specs.State.{State, comp_of}
 use Rattle.kernel_rules.specs.Access.{Slot, Named, not_found, Want, Target as place, Under as under, root_at, place_at, held_in}
 use Rattle.kernel_rules.specs.Access.{usable, reached, own}
 use Rattle.kernel_rules.specs.Rules.{Cause, Rule, Name as name_rule, Vacant as vacant_rule, Held as held_rule, Mapped as mapped_rule, Does}
-use Rattle.kernel_rules.specs.Rules.{Refused, Found, and_then, or_refuse, unless, of_kind, named, held}
-use Rattle.kernel_rules.specs.Rules.{mapped, IsFoundAnd}
-use Rattle.kernel_rules.specs.Rules.{NameMay, VacantMay, HeldMay, MappedMay, OneMay, name_of, slot_of, RuleMay}
+use Rattle.kernel_rules.specs.Rules.{Refused, Found, and_then, or_refuse, unless, of_kind, named, held, mapped, IsFoundAnd, NameMay}
+use Rattle.kernel_rules.specs.Rules.{VacantMay, HeldMay, MappedMay, OneMay, name_of, slot_of, RuleMay}
 use Rattle.call_plans.specs.declared.plans.Nth.{Nth}
 use Rattle.call_plans.specs.declared.plans.Nth.TheVariants.{First, Second, Third, Fourth}
 use Rattle.call_plans.specs.declared.plans.Wanted.{Wanted}
@@ -128,27 +127,19 @@ place_same caps ks e (InRoot i n) = ap (λ k. Rattle.kernel_rules.specs.Access.I
 
 pub earlier_0 : SameEarlier [] (not_found ∷ not_found ∷ not_found ∷ not_found ∷ [])
 earlier_0 First = refl
-earlier_0 Second = refl
-earlier_0 Third = refl
-earlier_0 Fourth = refl
+earlier_0 _ = refl
 
 pub earlier_1 : (a : Named) → SameEarlier (a ∷ []) (a ∷ not_found ∷ not_found ∷ not_found ∷ [])
 earlier_1 a First = refl
-earlier_1 a Second = refl
-earlier_1 a Third = refl
-earlier_1 a Fourth = refl
+earlier_1 a _ = refl
 
 pub earlier_2 : (a b : Named) → SameEarlier (a ∷ b ∷ []) (a ∷ b ∷ not_found ∷ not_found ∷ [])
 earlier_2 a b First = refl
-earlier_2 a b Second = refl
-earlier_2 a b Third = refl
-earlier_2 a b Fourth = refl
+earlier_2 a b _ = refl
 
 pub earlier_3 : (a b d : Named) → SameEarlier (a ∷ b ∷ d ∷ []) (a ∷ b ∷ d ∷ not_found ∷ [])
 earlier_3 a b d First = refl
-earlier_3 a b d Second = refl
-earlier_3 a b d Third = refl
-earlier_3 a b d Fourth = refl
+earlier_3 a b d _ = refl
 
 -- ---- one name, and the target
 
@@ -165,11 +156,9 @@ module _ (s : State) (c : ℕ) (r : Reply) where
       (subst (λ k. Iff (RuleMay s c (rest k) r) X) (sym next) h)
 
   only : (rule : Rule) → OnlyDoes rule → Iff (RuleMay s c rule r) (OneMay s c (causes_of rule) r)
-  only (Does causes change) done = record { there = λ h. h; back = λ h. h }
+  only (Does causes value edits) done = record { there = λ h. h; back = λ h. h }
   only (name_rule n want rest) done = absurd done
-  only (vacant_rule target rest) done = absurd done
-  only (held_rule target rest) done = absurd done
-  only (mapped_rule table v rest) done = absurd done
+  only _ done = absurd done
 
   held_part : (target : place) (rest : Slot → Capability → Rule) (ks : List Named)
       → ((at : Slot) (k : Capability) → OnlyDoes (rest at k)) → (o : Option Slot)
@@ -225,7 +214,7 @@ module _ (s : State) (c : ℕ) (r : Reply) where
       → SameEarlier caps ks → GoesTo (own_pages s c) target caps rule
       → Iff (RuleMay s c rule r) (TargetMay s c target ks r ⊎ OneMay s c (causes_of (rest_by rule pad (slot_by Own s c ks target)
       (held_by s target (slot_by Own s c ks target)))) r)
-  target_part Nowhere caps ks pad (Does causes change) e goes = none_in_front _ _ (record { there = λ h. h; back = λ h. h })
+  target_part Nowhere caps ks pad (Does causes value edits) e goes = none_in_front _ _ (record { there = λ h. h; back = λ h. h })
   target_part Nowhere caps ks pad (name_rule n want rest) e goes = absurd goes
   target_part Nowhere caps ks pad (vacant_rule t rest) e goes = absurd goes
   target_part Nowhere caps ks pad (held_rule t rest) e goes = absurd goes
@@ -236,7 +225,7 @@ module _ (s : State) (c : ℕ) (r : Reply) where
       (subst (λ x. Iff (RuleMay s c (rest (slot_of (reached s c x))) r)
       (OneMay s c (causes_of (rest (slot_of (reached s c (place_of_spot ks spot))))) r)) (sym p)
       (only _ (goes.1 _)))
-  target_part (Free spot) caps ks pad (Does causes change) e goes = absurd goes
+  target_part (Free spot) caps ks pad (Does causes value edits) e goes = absurd goes
   target_part (Free spot) caps ks pad (name_rule n want rest) e goes = absurd goes
   target_part (Free spot) caps ks pad (held_rule t rest) e goes = absurd goes
   target_part (Free spot) caps ks pad (mapped_rule table v rest) e goes = absurd goes
@@ -247,7 +236,7 @@ module _ (s : State) (c : ℕ) (r : Reply) where
       (OneMay s c (causes_of (rest_by (held_rule t rest) pad (reached s c (place_of_spot ks spot))
       (option_and_then (λ at. held_in (place_at s at)) (reached s c (place_of_spot ks spot))))) r)) (sym p)
       (held_part t rest pad goes.1 (reached s c (place_of_spot ks spot))))
-  target_part (Held spot) caps ks pad (Does causes change) e goes = absurd goes
+  target_part (Held spot) caps ks pad (Does causes value edits) e goes = absurd goes
   target_part (Held spot) caps ks pad (name_rule n want rest) e goes = absurd goes
   target_part (Held spot) caps ks pad (vacant_rule t rest) e goes = absurd goes
   target_part (Held spot) caps ks pad (mapped_rule table v rest) e goes = absurd goes
@@ -262,7 +251,7 @@ module _ (s : State) (c : ℕ) (r : Reply) where
       (option_and_then (λ at. held_in (place_at s at)) (reached s c (under (root_at (comp_of s c).pages) v))))) r)) (sym goes.1)
       (in_front _ _ _ _ (record { there = λ h. (goes.2, h); back = λ h. h.1 })
       (mapped_part (comp_of s c).pages v rest pad goes.3)))
-  target_part (own_page v) caps ks pad (Does causes change) e goes = record {
+  target_part (own_page v) caps ks pad (Does causes value edits) e goes = record {
     there = λ h. inr h;
     back = λ h. elim h [ inl p ↦ absurd (true≢false (sym goes ∙ p.0)) | inr q ↦ q ];
   }
@@ -280,9 +269,7 @@ module _ (s : State) (c : ℕ) (r : Reply) where
   more target x ns caps l (name_rule n want rest) F pad at held e goes after =
       name_part caps l x n want rest _ e goes.0 goes.1 (after (rest (named_of (led_by Own s c l (Some x)))) (goes.2 _))
   more target x ns caps l (vacant_rule t rest) F pad at held e goes after = absurd goes
-  more target x ns caps l (held_rule t rest) F pad at held e goes after = absurd goes
-  more target x ns caps l (mapped_rule table v rest) F pad at held e goes after = absurd goes
-  more target x ns caps l (Does causes change) F pad at held e goes after = absurd goes
+  more target x ns caps l _ F pad at held e goes after = absurd goes
 
 -- ---- all names
 

@@ -16,7 +16,7 @@ use Rattle.spk_nums.specs.declared.calls.Call.TheVariants.{Map, Unmap, Touch, Fl
 use Rattle.spk_nums.specs.declared.calls.Call.TheVariants.{Ret, Switch, Tick, Transfer, Delegate, Test, Part, Replenish}
 use Rattle.spk_nums.specs.declared.replies.Reply.{Reply}
 use Rattle.spk_nums.specs.declared.replies.Reply.TheVariants as reply
-use Rattle.kernel_rules.specs.State.{Blank, Table, Leaf, Pages, Pleaf, Comp, Thread, Tcap, Frame, Untyped, User, Kernel, outstanding}
+use Rattle.kernel_rules.specs.State.{Table, Leaf, Pages, Pleaf, Comp, Thread, Tcap, Frame, Untyped, User, Kernel, outstanding}
 use Rattle.kernel_rules.specs.State.{State, comp_in, comp_of, thread_in, thread_of}
 use Rattle.kernel_rules.specs.Access.{Slot, Named, found, only, to_use, to_part}
 use Rattle.kernel_rules.specs.Rules.{Cause, Found, named, mapped, first_of, refusal_of, first_cause}
@@ -127,15 +127,8 @@ frame_outside s c r f (Some k) is ends past =
 
 few_in : (s : State) (f : ℕ) (x : Frame) → is_empty s f x ≡ true → length (thread_in x).stack ≤ 1
 few_in s f Untyped e = omega arith
-few_in s f User e = omega arith
-few_in s f (Kernel Blank) e = omega arith
-few_in s f (Kernel Table) e = omega arith
-few_in s f (Kernel Leaf) e = omega arith
-few_in s f (Kernel Pages) e = omega arith
-few_in s f (Kernel Pleaf) e = omega arith
-few_in s f (Kernel (Comp k)) e = omega arith
 few_in s f (Kernel (Thread t)) e = leb-true (length t.stack) 1 e
-few_in s f (Kernel (Tcap q)) e = omega arith
+few_in s f _ e = omega arith
 
 few_now : (s : State) (c f : ℕ) (range : Named) → None ≡ first_cause s c (outside range f ∷ not_retyped s f frame_kind.Untyped)
     → length (thread_in (s.frame f)).stack ≤ 1
@@ -221,7 +214,7 @@ lives_now s c h l e here calm =
     (calm_parts _ _ calm).0))
 
 idle_now : (s : State) (c : ℕ) (h : Named) (q : ℕ) (e : Option ℕ) (ks : List Named) (at : Option Slot) (held : Option Capability)
-    → h.found ≡ true → None ≡ first_cause s c (causes_of (rest_by (switch_to s c h q e) ks at held)) → e ≡ None
+    → h.found ≡ true → None ≡ first_cause s c (causes_of (rest_by (switch_to h q e) ks at held)) → e ≡ None
 idle_now s c h q None ks at held here calm = refl
 idle_now s c h q (Some d) ks at held here calm =
     absurd (true≢false (sym here ∙ calm_when h.found (reply.Running d) (calm_parts _ _ calm).0))
@@ -338,7 +331,7 @@ pub judged_alike : (s : State) (c : ℕ) (call : Call) (l : Looked) → IsInRang
 judged_alike s c (Retype r f frame_kind.Untyped) l ends is = by_frame (nat_lt f s.limits.frames) refl
   where
     by_frame : (b : Bool) → nat_lt f s.limits.frames ≡ b
-        → first_cause s c (causes_of (left_of (if b then retype_rule s r f frame_kind.Untyped else retype_beyond s r f) l))
+        → first_cause s c (causes_of (left_of (if b then retype_rule s r f frame_kind.Untyped else retype_beyond r f) l))
         ≡ first_cause s c (causes_of (left_of (retype_rule s r f frame_kind.Untyped) l))
     by_frame true within = refl
     by_frame false past =

@@ -49,7 +49,7 @@ module _ (s : State) (c : ℕ) where
   target_comes : (target : Target) (caps pad : List Named) (l : Looked) (rule : Rule) (before : List Named → List Named)
       → SameEarlier caps (names_in l) → names_in l ≡ before pad → GoesTo (own_pages s c) target caps rule
       → ComesOn before (outcome s c rule) rule (aimed_by s c target l)
-  target_comes Nowhere caps pad l (Does causes change) before e names goes = (pad, names, refl, tt)
+  target_comes Nowhere caps pad l (Does causes value edits) before e names goes = (pad, names, refl, tt)
   target_comes Nowhere caps pad l (name_rule n want rest) before e names goes = absurd goes
   target_comes Nowhere caps pad l (vacant_rule t rest) before e names goes = absurd goes
   target_comes Nowhere caps pad l (held_rule t rest) before e names goes = absurd goes
@@ -59,7 +59,7 @@ module _ (s : State) (c : ℕ) where
       subst (λ (x : place). ComesOn before (and_then (vacant s c x) (λ at. outcome s c (rest at))) (vacant_rule t rest)
       (aimed_by s c (Free spot) l)) (sym p)
       (vacant_comes t rest pad l before names goes.1 (vacant s c (place_of_spot (names_in l) spot)))
-  target_comes (Free spot) caps pad l (Does causes change) before e names goes = absurd goes
+  target_comes (Free spot) caps pad l (Does causes value edits) before e names goes = absurd goes
   target_comes (Free spot) caps pad l (name_rule n want rest) before e names goes = absurd goes
   target_comes (Free spot) caps pad l (held_rule t rest) before e names goes = absurd goes
   target_comes (Free spot) caps pad l (mapped_rule table v rest) before e names goes = absurd goes
@@ -68,7 +68,7 @@ module _ (s : State) (c : ℕ) where
       subst (λ (x : place). ComesOn before (and_then (held s c x) (λ p. outcome s c (rest p.0 p.1))) (held_rule t rest)
       (aimed_by s c (Held spot) l)) (sym p)
       (held_comes t rest pad l before names goes.1 (held s c (place_of_spot (names_in l) spot)))
-  target_comes (Held spot) caps pad l (Does causes change) before e names goes = absurd goes
+  target_comes (Held spot) caps pad l (Does causes value edits) before e names goes = absurd goes
   target_comes (Held spot) caps pad l (name_rule n want rest) before e names goes = absurd goes
   target_comes (Held spot) caps pad l (vacant_rule t rest) before e names goes = absurd goes
   target_comes (Held spot) caps pad l (mapped_rule table v rest) before e names goes = absurd goes
@@ -79,8 +79,8 @@ module _ (s : State) (c : ℕ) where
       (and_then (mapped s c (comp_of s c).pages v) (λ k. Found (record l { held = Some k }))))
       (sym (λ i. mapped s c (goes.0 i) (goes.1 i)))
       (mapped_comes table n rest pad l before names goes.3 (mapped s c (comp_of s c).pages v)))
-  target_comes (own_page v) caps pad l (Does causes change) before e names goes =
-      subst (λ (b : Bool). ComesOn before (outcome s c (Does causes change)) (Does causes change) (paged_by s c v l b))
+  target_comes (own_page v) caps pad l (Does causes value edits) before e names goes =
+      subst (λ (b : Bool). ComesOn before (outcome s c (Does causes value edits)) (Does causes value edits) (paged_by s c v l b))
       (sym goes) (pad, names, refl, tt)
   target_comes (own_page v) caps pad l (name_rule n want rest) before e names goes = absurd goes
   target_comes (own_page v) caps pad l (vacant_rule t rest) before e names goes = absurd goes
@@ -115,9 +115,7 @@ module _ (s : State) (c : ℕ) where
       (and_then (named_by s c l (Some x)) f)) (sym same)
       (named_comes n want rest before f (named s c x.number (want_of (names_in l) x)) (λ k. after k (rest (found k)) (goes.2 (found k))))
   more target x ns caps l (vacant_rule t rest) before f e goes after = absurd goes
-  more target x ns caps l (held_rule t rest) before f e goes after = absurd goes
-  more target x ns caps l (mapped_rule table v rest) before f e goes after = absurd goes
-  more target x ns caps l (Does causes change) before f e goes after = absurd goes
+  more target x ns caps l _ before f e goes after = absurd goes
 
   settled : (rule : Rule) (j : Judged Looked) → ComesOn (λ pad. pad) (outcome s c rule) rule j → Comes s c rule j
   settled rule (Refused r) h = h

@@ -5,7 +5,7 @@ use Rattle.spk_nums.specs.declared.replies.Value.{Value}
 use Rattle.spk_nums.specs.declared.replies.Reply.{Reply}
 use Rattle.spk_nums.specs.declared.replies.Reply.TheVariants as reply
 use Rattle.kernel_rules.specs.State.{State}
-use Rattle.kernel_rules.specs.Rules.{Cause, Rule, Name as name_rule, Vacant, Held as held_rule, Mapped, Does}
+use Rattle.kernel_rules.specs.Rules.{does, Cause, Rule, Name as name_rule, Does}
 use Rattle.kernel_rules.specs.Rules.{Change, Judged, Refused, Found, unless, first_cause, outcome}
 use Rattle.kernel_rules.specs.CallRelation.{rule_of, change_of}
 use Rattle.call_plans.specs.declared.plans.Plan.{Plan}
@@ -29,19 +29,15 @@ use Rattle.seq_plans.proofs.MayBeCarried.{may_carry, judged_alike}
 
 left_refused : (s : State) (c : ℕ) (rule : Rule) (r : Reply) → OnlyDoes rule → Some r ≡ first_cause s c (causes_of rule)
     → outcome s c rule ≡ Refused r
-left_refused s c (Does causes change) r done e = ap (λ (o : Option Reply). unless o change) (sym e)
+left_refused s c (Does causes value edits) r done e = ap (λ (o : Option Reply). unless o (does c s value edits)) (sym e)
 left_refused s c (name_rule n want rest) r done e = absurd done
-left_refused s c (Vacant target rest) r done e = absurd done
-left_refused s c (held_rule target rest) r done e = absurd done
-left_refused s c (Mapped table v rest) r done e = absurd done
+left_refused s c _ r done e = absurd done
 
 left_carried : (s : State) (c : ℕ) (rule : Rule) → OnlyDoes rule → None ≡ first_cause s c (causes_of rule)
-    → outcome s c rule ≡ change_in rule
-left_carried s c (Does causes change) done e = ap (λ (o : Option Reply). unless o change) (sym e)
+    → outcome s c rule ≡ change_in s c rule
+left_carried s c (Does causes value edits) done e = ap (λ (o : Option Reply). unless o (does c s value edits)) (sym e)
 left_carried s c (name_rule n want rest) done e = absurd done
-left_carried s c (Vacant target rest) done e = absurd done
-left_carried s c (held_rule target rest) done e = absurd done
-left_carried s c (Mapped table v rest) done e = absurd done
+left_carried s c _ done e = absurd done
 
 -- What comes of a call, of what was found by its plan.
 comes : (s : State) (c : ℕ) (call : Call) (plan : Plan) (j : Judged Looked) → plan ≡ plan_for call → j ≡ resolved s c plan
@@ -75,13 +71,13 @@ pub carried_out : (s : State) (k : Maps) (c : ℕ) (call : Call) (plan : Plan) (
     → plan ≡ plan_for call
     → Found l ≡ resolved s c plan → causes ≡ causes_of (left_of (judged_rule s c call) l)
     → None ≡ first_cause s c causes
-    → (MayCarry s c call l → IsCarriedOut s (change_in (left_of (rule_of s c call) l)) (reply.Ok v) k) → IsInRange s c call
+    → (MayCarry s c call l → IsCarriedOut s (change_in s c (left_of (rule_of s c call) l)) (reply.Ok v) k) → IsInRange s c call
     → IsCarriedOut s (change_of s c call) (reply.Ok v) k
 carried_out s k c call plan l causes v is e are calm carries ranges =
     let found : Found l ≡ resolved s c (plan_for call) = e ∙ ap (resolved s c) is in
     let h : Comes s c (rule_of s c call) (Found l) = comes s c call plan (Found l) is e in
     let own : None ≡ first_cause s c (causes_of (left_of (rule_of s c call) l)) =
     calm ∙ ap (first_cause s c) are ∙ judged_alike s c call l ranges found in
-    let o : change_of s c call ≡ change_in (left_of (rule_of s c call) l) =
+    let o : change_of s c call ≡ change_in s c (left_of (rule_of s c call) l) =
     h.0 ∙ left_carried s c (left_of (rule_of s c call) l) h.1 own in
     subst (λ (j : Judged Change). IsCarriedOut s j (reply.Ok v) k) (sym o) (carries (may_carry s c call l ranges found own))

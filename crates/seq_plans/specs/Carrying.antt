@@ -14,7 +14,7 @@ use Rattle.spk_nums.specs.declared.calls.Call.TheVariants.{Ret, Switch, Tick, Tr
 use Rattle.spk_nums.specs.declared.replies.Reply.TheVariants as reply
 use Rattle.kernel_rules.specs.State.{State, comp_in, comp_of, thread_in, thread_of}
 use Rattle.kernel_rules.specs.Rules.{Rule, Name as name_rule, Vacant, Held as held_rule, Mapped, Does}
-use Rattle.kernel_rules.specs.Rules.{Change, Judged, Refused, Found as Carried}
+use Rattle.kernel_rules.specs.Rules.{Change, does, Judged, Refused, Found as Carried}
 use Rattle.kernel_rules.specs.CapabilityCalls.{epoch_of}
 use Rattle.kernel_rules.specs.MemoryCalls.{translation_of}
 use Rattle.kernel_rules.specs.Life.{is_live_in}
@@ -24,13 +24,13 @@ use Rattle.seq_lookups.specs.Ranges.{TicksFit}
 use Rattle.seq_plans.specs.declared.walking.Looked.{Looked}
 use Rattle.seq_plans.specs.Reaches.{named_of}
 
--- The change of what is left of a rule, where its look-ups have been made.
-abbrev pub change_in : Rule → Judged Change
-change_in (Does causes change) = Carried change
-change_in (name_rule n want rest) = Refused reply.Raced
-change_in (Vacant target rest) = Refused reply.Raced
-change_in (held_rule target rest) = Refused reply.Raced
-change_in (Mapped table v rest) = Refused reply.Raced
+-- The change of what is left of a rule of core c, where its look-ups have been made.
+abbrev pub change_in : State → ℕ → Rule → Judged Change
+change_in s c (Does causes value edits) = Carried (does c s value edits)
+change_in s c (name_rule n want rest) = Refused reply.Raced
+change_in s c (Vacant target rest) = Refused reply.Raced
+change_in s c (held_rule target rest) = Refused reply.Raced
+change_in s c (Mapped table v rest) = Refused reply.Raced
 
 -- A frame of the machine, which is to be untyped, has a thread in at most one component.
 abbrev pub MayRetype : State → ℕ → FrameKind → Type 0

@@ -4,12 +4,14 @@ use Rattle.spk_nums.specs.declared.kinds.Kind.TheVariants as kind
 use Rattle.spk_nums.specs.declared.kinds.FrameKind.TheVariants as frame_kind
 use Rattle.spk_nums.specs.declared.calls.Call.{Call}
 use Rattle.spk_nums.specs.declared.calls.Call.TheVariants.{Retype}
+use Rattle.spk_nums.specs.declared.replies.Value.TheVariants.{Nothing}
 use Rattle.kernel_rules.specs.State.{State}
 use Rattle.kernel_rules.specs.Laws.{IsRefusal}
 use Rattle.kernel_rules.specs.Access.{only, to_use}
 use Rattle.kernel_rules.specs.CapabilityCalls.{outside}
-use Rattle.kernel_rules.specs.MemoryCalls.{retypes, retype_rule}
+use Rattle.kernel_rules.specs.MemoryCalls.{retype_rule}
 use Rattle.kernel_rules.specs.CallRelation.{rule_of}
+use Rattle.kernel_rules.specs.Edits.{Untype}
 use Rattle.kernel_rules.specs.Rules.{Cause, When, WaitedFor, Unflushed, Rule, Name, Does}
 use Rattle.seq_state.specs.Parts.{thing_of}
 use Rattle.seq_state.specs.Representation.{HasIndex}
@@ -44,11 +46,11 @@ AreFitCauses [] = Unit {0}
 AreFitCauses (cause ∷ causes) = IsFitCause cause × AreFitCauses causes
 
 -- A retype to untyped of a frame that the machine does not have is judged by its range alone.
-abbrev pub retype_beyond : State → ℕ → ℕ → Rule
-retype_beyond s r f = Name r (to_use (only kind.Range)) λ range. Does (outside range f ∷ []) (retypes s f frame_kind.Untyped)
+abbrev pub retype_beyond : ℕ → ℕ → Rule
+retype_beyond r f = Name r (to_use (only kind.Range)) λ range. Does (outside range f ∷ []) Nothing (Untype f ∷ [])
 
 -- The rule of a call of core c as it is judged.
 abbrev pub judged_rule : State → ℕ → Call → Rule
 judged_rule s c (Retype r f frame_kind.Untyped) =
-    if nat_lt f s.limits.frames then retype_rule s r f frame_kind.Untyped else retype_beyond s r f
+    if nat_lt f s.limits.frames then retype_rule s r f frame_kind.Untyped else retype_beyond r f
 judged_rule s c call = rule_of s c call

@@ -97,7 +97,7 @@ rest_by (held_rule target rest) ks (Some at) None = held_rule target rest
 rest_by (held_rule target rest) ks None held = held_rule target rest
 rest_by (Mapped table v rest) ks at (Some k) = rest k
 rest_by (Mapped table v rest) ks at None = Mapped table v rest
-rest_by (Does causes change) ks at held = Does causes change
+rest_by (Does causes value edits) ks at held = Does causes value edits
 
 -- What is left of a rule after what was looked up.
 abbrev pub left_of : Rule → Looked → Rule
@@ -105,7 +105,7 @@ left_of rule l = rest_by rule (names_in l) l.at l.held
 
 -- The own causes of what is left of a rule.
 abbrev pub causes_of : Rule → List Cause
-causes_of (Does causes change) = causes
+causes_of (Does causes value edits) = causes
 causes_of (name_rule n want rest) = []
 causes_of (Vacant target rest) = []
 causes_of (held_rule target rest) = []

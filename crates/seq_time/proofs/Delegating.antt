@@ -2,9 +2,8 @@
 use Rattle.std.proofs.Common.{arith, ◌≡◌, ◌≢◌, ℕ, ◌+◌, ◌-◌, ◌==◌, Bool, true, false, if◌then◌else◌, refl, sym, ap, ◌∙◌, List}
 use Rattle.std.specs.Prelude.{SomeIff, Option, Some, None, unwrap_or}
 use Rattle.std.proofs.lemmas.Bool.{ne_eqb, eq-eqb}
-use Rattle.kernel_rules.specs.State.{put, Object, Blank, Table, Leaf, Pages, Pleaf, Comp}
-use Rattle.kernel_rules.specs.State.{Thread, Tcap, Frame, Untyped, User, Kernel, State, with_frame, tcap_in}
-use Rattle.kernel_rules.specs.TimeCalls.{with_tcap, tcap_at, moved, with_qualities}
+use Rattle.kernel_rules.specs.State.{put, Object, Blank, Frame, Untyped, User, Kernel, State, with_frame, tcap_in}
+use Rattle.kernel_rules.specs.Edits.{with_tcap, tcap_at, moved, with_qualities}
 use Rattle.seq_state.specs.Representation.{SameState}
 use Rattle.seq_state.proofs.Same.{same_grace_by, same_then, same_frame}
 
@@ -14,13 +13,7 @@ again_in : (x : Object) (n : ℕ) (l : List (ℕ × ℕ))
     (record (tcap_in (with_tcap (Kernel x) (record (tcap_in (Kernel x)) { budget = n }))) { qualities = l })
     ≡ with_tcap (Kernel x) (record { budget = n; qualities = l })
 again_in Blank n l = refl
-again_in Table n l = refl
-again_in Leaf n l = refl
-again_in Pages n l = refl
-again_in Pleaf n l = refl
-again_in (Comp k) n l = refl
-again_in (Thread t) n l = refl
-again_in (Tcap q) n l = refl
+again_in _ n l = refl
 
 -- A budget and then a list, in a frame.
 again : (x : Frame) (n : ℕ) (l : List (ℕ × ℕ))

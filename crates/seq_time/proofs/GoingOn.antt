@@ -1,23 +1,18 @@
 -- Going on as another thread: the two frames are written from what stood there before.
 use Rattle.std.proofs.Common.{◌≡◌, ℕ, ◌==◌, Bool, true, false, if◌then◌else◌, refl, sym, ap, ◌∙◌, Some, None}
 use Rattle.std.proofs.lemmas.Bool.{eqb-true}
-use Rattle.kernel_rules.specs.State.{put, Object, Blank, Table, Leaf, Pages, Pleaf, Comp, Thread, Tcap, Frame}
+use Rattle.kernel_rules.specs.State.{put, Object, Blank, Thread, Frame}
 use Rattle.kernel_rules.specs.State.{Untyped, User, Kernel, Core, State, with_frame, with_core, thread_in}
 use Rattle.kernel_rules.specs.GracePeriods.{begun}
-use Rattle.kernel_rules.specs.InvocationCalls.{switches}
+use Rattle.kernel_rules.specs.Edits.{switched}
 use Rattle.seq_state.specs.Representation.{SameState}
 use Rattle.seq_state.proofs.Same.{same_by, same_grace_by, same_then, same_frame, same_core}
 use Rattle.seq_time.specs.Left.{run_by, left_by}
 
 idle_in : (x : Object) → (thread_in (Kernel x)).runs_on ≡ None → run_by (Kernel x) None ≡ Kernel x
 idle_in Blank h = refl
-idle_in Table h = refl
-idle_in Leaf h = refl
-idle_in Pages h = refl
-idle_in Pleaf h = refl
-idle_in (Comp k) h = refl
 idle_in (Thread t) h = λ i. Kernel (Thread (record { stack = t.stack; runs_on = sym h i }))
-idle_in (Tcap q) h = refl
+idle_in _ h = refl
 
 -- An idle thread that is made idle stays as it is.
 idle_stays : (x : Frame) → (thread_in x).runs_on ≡ None → run_by x None ≡ x
@@ -40,7 +35,7 @@ pub gone_on : (s t1 t2 t3 t4 : State) (c h q : ℕ) (idle taken : Frame) (core :
     ≡ record (s.core c) { thread = h; tcap = q }
     → SameState t1 (begun s (left_by (s.core c).thread (s.core c).tcap q) s)
     → SameState t2 (with_frame t1 (s.core c).thread idle) → SameState t3 (with_frame t2 h taken) → t4 ≡ with_core t3 c core
-    → SameState t4 (begun s (left_by (s.core c).thread (s.core c).tcap q) (switches s c (s.core c) h q).next)
+    → SameState t4 (begun s (left_by (s.core c).thread (s.core c).tcap q) (switched s c h q))
 gone_on s t1 t2 t3 t4 c h q idle taken core is_idle idle_is taken_is core_is one two three four =
     let old = (s.core c).thread in
     let left = begun s (left_by old (s.core c).tcap q) s in
@@ -50,7 +45,7 @@ gone_on s t1 t2 t3 t4 c h q idle taken core is_idle idle_is taken_is core_is one
     let fourth = same_then t4 (with_core t3 c core) (with_core (with_frame (with_frame left old idle) h taken) c core)
     (same_by t4 (with_core t3 c core) four)
     (same_core t3 (with_frame (with_frame left old idle) h taken) c core third) in
-    let goal = begun s (left_by old (s.core c).tcap q) (switches s c (s.core c) h q).next in
+    let goal = begun s (left_by old (s.core c).tcap q) (switched s c h q) in
     let next : taken ≡ run_by (put s.frame old (run_by (s.frame old) None) h) (Some c) = taken_is
     ∙ ap (λ x. run_by x (Some c)) (sym (taken_stays s old h is_idle)) in
     same_then t4 (with_core (with_frame (with_frame left old idle) h taken) c core) goal fourth

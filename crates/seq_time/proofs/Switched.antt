@@ -9,7 +9,7 @@ use Rattle.seq_plans.specs.OwnCauses.{AreFitCauses}
 use Rattle.seq_time.specs.Left.{running_by}
 
 pub switch_causes : (s : State) (c : ℕ) (h : Named) (q : ℕ) (e : Option ℕ) (ks : List Named) (at : Option Slot) (held : Option Capability)
-    → running_by h e ≡ causes_of (rest_by (switch_to s c h q e) ks at held)
+    → running_by h e ≡ causes_of (rest_by (switch_to h q e) ks at held)
 switch_causes s c h q None ks at held = refl
 switch_causes s c h q (Some e) ks at held = refl
 

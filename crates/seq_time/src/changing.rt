@@ -26,7 +26,7 @@ use spk_nums::{Call, CoreNo, Value};
 /// `gate`: the place holds a gate to the component, in the component's epoch.
 fn gate(k: &mut SeqKernel, looked: &Looked) -> Value
     ensures { (core c t b : ℕ) → MayCarry (state_of k.old) core (Gate c t b) looked.now → IsCarriedOut (state_of k.old)
-        (change_in (left_of (rule_of (state_of k.old) core (Gate c t b)) looked.now)) (ok result) k.new }
+        (change_in (state_of k.old) core (left_of (rule_of (state_of k.old) core (Gate c t b)) looked.now)) (ok result) k.new }
 {
     if let Some(comp) = looked.first {
         if let Some(at) = looked.at {
@@ -41,7 +41,7 @@ fn gate(k: &mut SeqKernel, looked: &Looked) -> Value
 /// `kill`: the liveness number of the component, which is live in the component's epoch, is dead.
 fn kill(k: &mut SeqKernel, looked: &Looked) -> Value
     ensures { (core c : ℕ) → MayCarry (state_of k.old) core (Kill c) looked.now → IsCarriedOut (state_of k.old)
-        (change_in (left_of (rule_of (state_of k.old) core (Kill c)) looked.now)) (ok result) k.new }
+        (change_in (state_of k.old) core (left_of (rule_of (state_of k.old) core (Kill c)) looked.now)) (ok result) k.new }
 {
     if let Some(cap) = looked.first {
         let comp = comp_at(k, cap.frame());
@@ -57,7 +57,7 @@ fn kill(k: &mut SeqKernel, looked: &Looked) -> Value
 fn enter(k: &mut SeqKernel, core: CoreNo, looked: &Looked) -> Value
     requires { core < (state_of k.old).limits.cores }
     ensures { (g : ℕ) → MayCarry (state_of k.old) core (call_gate g) looked.now → IsCarriedOut (state_of k.old)
-        (change_in (left_of (rule_of (state_of k.old) core (call_gate g)) looked.now)) (ok result) k.new }
+        (change_in (state_of k.old) core (left_of (rule_of (state_of k.old) core (call_gate g)) looked.now)) (ok result) k.new }
 {
     if let Some(gate) = looked.first {
         let mut stack = thread_of(k, core).stack;
@@ -74,7 +74,7 @@ fn enter(k: &mut SeqKernel, core: CoreNo, looked: &Looked) -> Value
 fn leave(k: &mut SeqKernel, core: CoreNo) -> Value
     requires { core < (state_of k.old).limits.cores }
     ensures { (l : Looked) → MayCarry (state_of k.old) core Ret l → IsCarriedOut (state_of k.old)
-        (change_in (left_of (rule_of (state_of k.old) core Ret) l)) (ok result) k.new }
+        (change_in (state_of k.old) core (left_of (rule_of (state_of k.old) core Ret) l)) (ok result) k.new }
 {
     let mut stack = thread_of(k, core).stack;
     if let Some(top) = stack.top() {
@@ -89,7 +89,7 @@ fn leave(k: &mut SeqKernel, core: CoreNo) -> Value
 fn switch(k: &mut SeqKernel, core: CoreNo, looked: &Looked) -> Value
     requires { core < (state_of k.old).limits.cores }
     ensures { (h q : ℕ) → MayCarry (state_of k.old) core (Switch h q) looked.now → IsCarriedOut (state_of k.old)
-        (change_in (left_of (rule_of (state_of k.old) core (Switch h q)) looked.now)) (ok result) k.new }
+        (change_in (state_of k.old) core (left_of (rule_of (state_of k.old) core (Switch h q)) looked.now)) (ok result) k.new }
 {
     if let Some(thread) = looked.first {
         if let Some(tcap) = looked.second {
@@ -105,7 +105,7 @@ fn switch(k: &mut SeqKernel, core: CoreNo, looked: &Looked) -> Value
 /// `transfer`: ticks move from the one temporal capability to the other.
 fn transfer(k: &mut SeqKernel, looked: &Looked, amount: u32) -> Value
     ensures { (core a b : ℕ) → MayCarry (state_of k.old) core (Transfer a b amount) looked.now → IsCarriedOut (state_of k.old)
-        (change_in (left_of (rule_of (state_of k.old) core (Transfer a b amount)) looked.now)) (ok result) k.new }
+        (change_in (state_of k.old) core (left_of (rule_of (state_of k.old) core (Transfer a b amount)) looked.now)) (ok result) k.new }
 {
     if let Some(from) = looked.first {
         if let Some(to) = looked.second {
@@ -119,7 +119,7 @@ fn transfer(k: &mut SeqKernel, looked: &Looked, amount: u32) -> Value
 /// `delegate`: ticks move, and the other temporal capability has the merged list.
 fn delegate(k: &mut SeqKernel, looked: &Looked, amount: u32) -> Value
     ensures { (core a b : ℕ) → MayCarry (state_of k.old) core (Delegate a b amount) looked.now → IsCarriedOut (state_of k.old)
-        (change_in (left_of (rule_of (state_of k.old) core (Delegate a b amount)) looked.now)) (ok result) k.new }
+        (change_in (state_of k.old) core (left_of (rule_of (state_of k.old) core (Delegate a b amount)) looked.now)) (ok result) k.new }
 {
     if let Some(from) = looked.first {
         if let Some(to) = looked.second {
@@ -133,7 +133,7 @@ fn delegate(k: &mut SeqKernel, looked: &Looked, amount: u32) -> Value
 /// `test`: whether the one temporal capability preempts the other.
 fn test(k: &SeqKernel, looked: &Looked) -> Value
     ensures { (core a b : ℕ) → MayCarry (state_of k.now) core (Test a b) looked.now → IsCarriedOut (state_of k.now)
-        (change_in (left_of (rule_of (state_of k.now) core (Test a b)) looked.now)) (ok result) k.now }
+        (change_in (state_of k.now) core (left_of (rule_of (state_of k.now) core (Test a b)) looked.now)) (ok result) k.now }
 {
     let Some(a) = looked.first else {
         return Value::Nothing;
@@ -151,7 +151,7 @@ fn test(k: &SeqKernel, looked: &Looked) -> Value
 fn replenish(k: &mut SeqKernel, core: CoreNo, looked: &Looked, amount: u32) -> Value
     requires { core < (state_of k.old).limits.cores }
     ensures { (a : ℕ) → MayCarry (state_of k.old) core (Replenish a amount) looked.now → IsCarriedOut (state_of k.old)
-        (change_in (left_of (rule_of (state_of k.old) core (Replenish a amount)) looked.now)) (ok result) k.new }
+        (change_in (state_of k.old) core (left_of (rule_of (state_of k.old) core (Replenish a amount)) looked.now)) (ok result) k.new }
 {
     if let Some(tcap) = looked.first {
         give_back(k, core, tcap.frame(), amount);
@@ -167,7 +167,7 @@ pub fn carry_out(k: &mut SeqKernel, core: CoreNo, call: &Call, looked: &Looked) 
     requires own { IsTimeCall call.now }
     requires core { core < (state_of k.old).limits.cores }
     ensures { MayCarry (state_of k.old) core call.now looked.now → IsCarriedOut (state_of k.old)
-        (change_in (left_of (rule_of (state_of k.old) core call.now) looked.now)) (ok result) k.new }
+        (change_in (state_of k.old) core (left_of (rule_of (state_of k.old) core call.now) looked.now)) (ok result) k.new }
 {
     match *call {
         Call::Gate { c: _, t: _, b: _ } => gate(k, looked),

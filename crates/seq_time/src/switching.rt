@@ -1,9 +1,10 @@
 //! Going on as another thread, with another temporal capability.
 
-ghost use Rattle.std.specs.Prelude.{◌≡◌, ◌<◌, None};
+ghost use Rattle.std.specs.Prelude.{◌≡◌, ◌<◌, None, [], ◌∷◌};
 ghost use Rattle.kernel_rules.specs.State.{thread_in};
-ghost use Rattle.kernel_rules.specs.InvocationCalls.{switches};
-ghost use Rattle.kernel_rules.specs.Rules.{Found};
+ghost use Rattle.kernel_rules.specs.Edits.{Switch};
+ghost use Rattle.kernel_rules.specs.Rules.{Found, does};
+ghost use Rattle.spk_nums.specs.declared.replies.Value.TheVariants.{Nothing};
 ghost use Rattle.kernel_rules.specs.CallRelation.{changed};
 ghost use Rattle.seq_state.specs.Maps.{state_of};
 ghost use Rattle.seq_state.specs.Representation.{Represents};
@@ -39,7 +40,7 @@ fn leave(k: &mut SeqKernel, thread: FrameNo, tcap: FrameNo, next: FrameNo)
 pub(crate) fn go_on(k: &mut SeqKernel, core: CoreNo, h: FrameNo, q: FrameNo)
     requires core { core < (state_of k.old).limits.cores }
     requires idle { (thread_in ((state_of k.old).frame h)).runs_on ≡ None }
-    ensures { Represents k.new (changed (state_of k.old) (Found (switches (state_of k.old) core ((state_of k.old).core core) h q))) }
+    ensures { Represents k.new (changed (state_of k.old) (Found (does core (state_of k.old) Nothing (Switch h q ∷ [])))) }
 {
     let old = *k.core(core);
     let idle = running(k, old.thread, None);

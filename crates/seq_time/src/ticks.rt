@@ -2,7 +2,8 @@
 
 ghost use Rattle.std.specs.Prelude.{◌≡◌, ◌<◌, ◌≤◌, ◌+◌, ◌^◌};
 ghost use Rattle.kernel_rules.specs.Rules.{outcome};
-ghost use Rattle.kernel_rules.specs.TimeCalls.{charge, with_budget, tick_rule, tcap_at, charges, given_back};
+ghost use Rattle.kernel_rules.specs.TimeCalls.{tick_rule};
+ghost use Rattle.kernel_rules.specs.Edits.{charge, with_budget, tcap_at, charging, given_back};
 ghost use Rattle.kernel_rules.specs.State.{outstanding};
 ghost use Rattle.seq_state.specs.Maps.{state_of};
 ghost use Rattle.seq_state.specs.Representation.{Represents};
@@ -47,7 +48,7 @@ fn charge(k: &mut SeqKernel, core: CoreNo, due: u64, charged: u32)
     requires core { core < (state_of k.old).limits.cores }
     requires budget { charged ≤ (tcap_at (state_of k.old) ((state_of k.old).core core).tcap).budget }
     requires due { charged ≤ due }
-    ensures { ((state_of k.old).core core).spent + charged < 2 ^ 64 → Represents k.new (charges (state_of k.old) core due charged).next }
+    ensures { ((state_of k.old).core core).spent + charged < 2 ^ 64 → Represents k.new (charging (state_of k.old) core due charged) }
 {
     let now = *k.core(core);
     let budget = tcap_at(k, now.tcap).budget - charged;

@@ -3,7 +3,7 @@ use Rattle.pair_invariant.proofs.Common.{◌≡◌, inl, inr, ℕ, ◌<◌, ◌�
 use Rattle.pair_invariant.proofs.Common.{[], ◌∷◌, length, Option, Some, None, arith, refl, sym, ◌∙◌, ap, subst, eq-eqb, eqb-true}
 use Rattle.pair_invariant.proofs.Common.{eqb-false, le-ltb, leb-false, lt-ltb, Setting, IsSetting, Reply, Value, word_of_head, Word}
 use Rattle.pair_invariant.proofs.Common.{EntryAt, LoadOf, State, Found, Refused, Does, RuleMay, IsFoundAnd, unless, first_of, first_cause}
-use Rattle.pair_invariant.proofs.Common.{answers, tcap_at, is_short, are_unlike, are_many, rule_of, change_of, changed, counted, MayReply}
+use Rattle.pair_invariant.proofs.Common.{tcap_at, is_short, are_unlike, are_many, rule_of, change_of, changed, counted, MayReply}
 use Rattle.pair_invariant.proofs.Common.{are_calls_spent, HasRacedHead, IsRaceLost, Step, Trace, state_after, last_left, ok_first}
 use Rattle.pair_invariant.proofs.Common.{refused_first, not_changed, in_order, same_list, again_end, by_alike, by_room, judged, Pair}
 use Rattle.pair_invariant.proofs.Common.{CompareB, AgainB, StoreA, PairWork, Act, took_shared, took_share, Undecided, ActiveCall, landed}
@@ -12,8 +12,7 @@ use Rattle.pair_invariant.specs.spk_nums.specs.Merging.{preempts_by}
 use Rattle.pair_invariant.specs.spk_nums.specs.declared.replies.Reply.TheVariants as reply
 use Rattle.pair_invariant.specs.spk_nums.specs.declared.replies.Value.TheVariants as value
 use Rattle.pair_invariant.specs.kernel_rules.specs.Access.{found as named_by}
-use Rattle.pair_invariant.specs.kernel_rules.specs.TimeCalls.{are_alike, merged_list}
-use Rattle.pair_invariant.specs.kernel_rules.specs.TimeCalls.{preemption, preempts}
+use Rattle.pair_invariant.specs.kernel_rules.specs.TimeCalls.{are_alike, merged_list, preemption, preempts}
 use Rattle.pair_invariant.specs.kernel_rules.specs.CallRelation.{begins_in as begun_by}
 use Rattle.pair_invariant.specs.stage_tcap.specs.Lists.{merge_of, merged_if}
 use Rattle.pair_invariant.specs.stage_tcap.specs.Pairs.{again_value, value_of, whole_b}
@@ -26,8 +25,9 @@ use Rattle.pair_invariant.proofs.HeadsB.{owes_share}
 use Rattle.pair_invariant.proofs.ListsKnown as known
 use Rattle.pair_invariant.proofs.ListsKnown.{AreRead, same_alike, all_gone}
 use Rattle.pair_invariant.proofs.ShareCalls as calls
-use Rattle.pair_invariant.proofs.ShareCalls.{causes_of, change_by}
+use Rattle.pair_invariant.proofs.ShareCalls.{causes_of, value_by, edits_by, change_by}
 use Rattle.pair_invariant.proofs.ShareSteps.{loading, load_decides}
+use Rattle.pair_invariant.specs.kernel_rules.specs.Rules.{does}
 
 -- A list that has no room is one of more than 8.
 no_room : (xs : List (ℕ × ℕ)) → merged_if (nat_le (length xs) 8) xs ≡ None → nat_lt 8 (length xs) ≡ true
@@ -140,20 +140,22 @@ module _ (setup : Setting) (setting : IsSetting setup) (cores : ℕ → Core) (t
           ∙ le-ltb p.head_a.budget m (subst (λ w. amount_of w ≤ p.head_a.budget) what_is both.a.enough)
 
       may_unlike : RuleMay s c
-          (Does (causes_of s (Transfer m) (named_by is.a) (named_by is.b)) (change_by s (Transfer m) is.a.frame is.b.frame))
+          (Does (causes_of s (Transfer m) (named_by is.a) (named_by is.b)) (value_by s (Transfer m) is.a.frame is.b.frame)
+          (edits_by s (Transfer m) is.a.frame is.b.frame))
           reply.Unlike
       may_unlike = inr (inr (inl (ap not unlike_named, refl)))
 
       first_unlike : unless (first_cause s c (causes_of s (Transfer m) (named_by is.a) (named_by is.b)))
-          (change_by s (Transfer m) is.a.frame is.b.frame) ≡ Refused reply.Unlike
+          (change_by c s (Transfer m) is.a.frame is.b.frame) ≡ Refused reply.Unlike
       first_unlike =
           ap (λ b. unless (first_of (if b then Some reply.Same else None)
           (first_cause s c (is_short s (named_by is.a) m ∷ are_unlike s (named_by is.a) (named_by is.b) ∷ [])))
-          (change_by s (Transfer m) is.a.frame is.b.frame))
+          (change_by c s (Transfer m) is.a.frame is.b.frame))
           (calls.not_same setup setting cores t stands c here a active now_p stage_is has)
           ∙ ap (λ b. unless (first_of (if b then Some (reply.Short (tcap_at s is.a.frame).budget) else None)
-          (first_cause s c (are_unlike s (named_by is.a) (named_by is.b) ∷ []))) (change_by s (Transfer m) is.a.frame is.b.frame)) not_short
-          ∙ ap (λ b. unless (first_of (if not b then Some reply.Unlike else None) None) (change_by s (Transfer m) is.a.frame is.b.frame))
+          (first_cause s c (are_unlike s (named_by is.a) (named_by is.b) ∷ []))) (change_by c s (Transfer m) is.a.frame is.b.frame))
+          not_short
+          ∙ ap (λ b. unless (first_of (if not b then Some reply.Unlike else None) None) (change_by c s (Transfer m) is.a.frame is.b.frame))
           unlike_named
 
       unlike_good : Decides value.Nothing reply.Unlike
@@ -164,12 +166,14 @@ module _ (setup : Setting) (setting : IsSetting setup) (cores : ℕ → Core) (t
             unspent,
             calls.may setup setting cores t stands c here a active now_p stage_is has reply.Unlike
                 (subst (λ w. RuleMay s c
-                (Does (causes_of s w (named_by is.a) (named_by is.b)) (change_by s w is.a.frame is.b.frame)) reply.Unlike)
+                (Does (causes_of s w (named_by is.a) (named_by is.b)) (value_by s w is.a.frame is.b.frame)
+                (edits_by s w is.a.frame is.b.frame)) reply.Unlike)
                 (sym what_is) may_unlike),
           ) tt
           (λ is_alone. refused_first s c a.call reply.Unlike has.acts unspent
           (calls.change_is setup setting cores t stands c here a active now_p stage_is has
-          ∙ ap (λ w. unless (first_cause s c (causes_of s w (named_by is.a) (named_by is.b))) (change_by s w is.a.frame is.b.frame)) what_is
+          ∙ ap (λ w. unless (first_cause s c (causes_of s w (named_by is.a) (named_by is.b))) (change_by c s w is.a.frame is.b.frame))
+          what_is
           ∙ first_unlike)) lands
 
     -- a delegation of which the merged list has no room
@@ -190,21 +194,22 @@ module _ (setup : Setting) (setting : IsSetting setup) (cores : ℕ → Core) (t
           ∙ le-ltb p.head_a.budget m (subst (λ w. amount_of w ≤ p.head_a.budget) what_is both.a.enough)
 
       may_many : RuleMay s c
-          (Does (causes_of s (Delegate m) (named_by is.a) (named_by is.b)) (change_by s (Delegate m) is.a.frame is.b.frame))
+          (Does (causes_of s (Delegate m) (named_by is.a) (named_by is.b)) (value_by s (Delegate m) is.a.frame is.b.frame)
+          (edits_by s (Delegate m) is.a.frame is.b.frame))
           reply.TooMany
       may_many = inr (inr (inl (many_named, refl)))
 
       first_many : unless (first_cause s c (causes_of s (Delegate m) (named_by is.a) (named_by is.b)))
-          (change_by s (Delegate m) is.a.frame is.b.frame) ≡ Refused reply.TooMany
+          (change_by c s (Delegate m) is.a.frame is.b.frame) ≡ Refused reply.TooMany
       first_many =
           ap (λ b. unless (first_of (if b then Some reply.Same else None)
           (first_cause s c (is_short s (named_by is.a) m ∷ are_many s (named_by is.a) (named_by is.b) ∷ [])))
-          (change_by s (Delegate m) is.a.frame is.b.frame))
+          (change_by c s (Delegate m) is.a.frame is.b.frame))
           (calls.not_same setup setting cores t stands c here a active now_p stage_is has)
           ∙ ap (λ b. unless (first_of (if b then Some (reply.Short (tcap_at s is.a.frame).budget) else None)
-          (first_cause s c (are_many s (named_by is.a) (named_by is.b) ∷ []))) (change_by s (Delegate m) is.a.frame is.b.frame)) is_enough
+          (first_cause s c (are_many s (named_by is.a) (named_by is.b) ∷ []))) (change_by c s (Delegate m) is.a.frame is.b.frame)) is_enough
           ∙ ap (λ b. unless (first_of (if b then Some reply.TooMany else None) None)
-          (change_by s (Delegate m) is.a.frame is.b.frame)) many_named
+          (change_by c s (Delegate m) is.a.frame is.b.frame)) many_named
 
       many_good : Decides value.Nothing reply.TooMany
       many_good lands =
@@ -213,13 +218,15 @@ module _ (setup : Setting) (setting : IsSetting setup) (cores : ℕ → Core) (t
           refl refl (λ x. refl) (λ x. refl) refl (
             unspent,
             calls.may setup setting cores t stands c here a active now_p stage_is has reply.TooMany
-                (subst (λ w. RuleMay s c (Does (causes_of s w (named_by is.a) (named_by is.b)) (change_by s w is.a.frame is.b.frame))
+                (subst (λ w. RuleMay s c (Does (causes_of s w (named_by is.a) (named_by is.b)) (value_by s w is.a.frame is.b.frame)
+                (edits_by s w is.a.frame is.b.frame))
                 reply.TooMany)
                 (sym what_is) may_many),
           ) tt
           (λ is_alone. refused_first s c a.call reply.TooMany has.acts unspent
           (calls.change_is setup setting cores t stands c here a active now_p stage_is has
-          ∙ ap (λ w. unless (first_cause s c (causes_of s w (named_by is.a) (named_by is.b))) (change_by s w is.a.frame is.b.frame)) what_is
+          ∙ ap (λ w. unless (first_cause s c (causes_of s w (named_by is.a) (named_by is.b))) (change_by c s w is.a.frame is.b.frame))
+          what_is
           ∙ first_many)) lands
 
     -- a test is answered
@@ -247,11 +254,12 @@ module _ (setup : Setting) (setting : IsSetting setup) (cores : ℕ → Core) (t
       no_cause = ap (λ b. first_of (if b then Some reply.Same else None) None)
           (calls.not_same setup setting cores t stands c here a active now_p stage_is has)
 
-      change_is : change_of s c a.call ≡ Found (answers s v)
+      change_is : change_of s c a.call ≡ Found (does c s v [])
       change_is = calls.change_is setup setting cores t stands c here a active now_p stage_is has
-          ∙ ap (λ w. unless (first_cause s c (causes_of s w (named_by is.a) (named_by is.b))) (change_by s w is.a.frame is.b.frame)) what_is
-          ∙ ap (λ o. unless o (change_by s Test is.a.frame is.b.frame)) no_cause
-          ∙ ap (λ b. Found (answers s (preemption b))) (sym tells_is)
+          ∙ ap (λ w. unless (first_cause s c (causes_of s w (named_by is.a) (named_by is.b))) (change_by c s w is.a.frame is.b.frame))
+          what_is
+          ∙ ap (λ o. unless o (change_by c s Test is.a.frame is.b.frame)) no_cause
+          ∙ ap (λ b. Found (does c s (preemption b) [])) (sym tells_is)
 
       permitted : MayReply s c a.call (reply.Ok v)
       permitted = (unspent, (has.acts, subst (λ x. IsFoundAnd x (λ y. y.value ≡ v)) (sym change_is) refl))

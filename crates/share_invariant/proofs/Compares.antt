@@ -1,9 +1,9 @@
 -- The compare of the head of the second of two temporal capabilities: it carries out a transfer, or is lost.
 use Rattle.pair_invariant.proofs.Common.{◌≡◌, ◌≢◌, inl, inr, ℕ, ◌+◌, ◌-◌, ◌<◌, ◌≤◌, ◌^◌, ◌==◌, not, nat_lt, Bool, true, false}
-use Rattle.pair_invariant.proofs.Common.{if◌then◌else◌, [], ◌∷◌, Some, None, arith, refl, sym, ◌∙◌, ap, subst, le-ltb, Setting, IsSetting}
+use Rattle.pair_invariant.proofs.Common.{if◌then◌else◌, [], ◌∷◌, Some, None, refl, sym, ◌∙◌, ap, subst, le-ltb, Setting, IsSetting}
 use Rattle.pair_invariant.proofs.Common.{HeadFits, word_of_head, head_of_word, HeadWord, spelling, Word, EntryAt, CountAt, same_word}
 use Rattle.pair_invariant.proofs.Common.{Move, CompareOf, left_of, same_same, Kernel, Tcap, TcapFields, PlaceOf, FrameOf, State, put}
-use Rattle.pair_invariant.proofs.Common.{tcap_in, Found, IsFoundAnd, unless, first_of, first_cause, leaves, tcap_at, moved, is_short}
+use Rattle.pair_invariant.proofs.Common.{tcap_in, Found, IsFoundAnd, unless, first_of, first_cause, tcap_at, is_short}
 use Rattle.pair_invariant.proofs.Common.{are_unlike, change_of, changed, counted, MayReply, mark_of, head_mark, marked_by, ends_in}
 use Rattle.pair_invariant.proofs.Common.{flushes_in, stamp, Step, Trace, Open, phase, state_after, last_left, state_decided_in, ok_first}
 use Rattle.pair_invariant.proofs.Common.{debited, credited, in_order, same_list, again_end, by_alike, Pair, CompareB, AgainB, StoreA, Act}
@@ -36,6 +36,8 @@ use Rattle.pair_invariant.proofs.Moved.{IsMoved, with_both}
 use Rattle.pair_invariant.proofs.ShareCalls as calls
 use Rattle.pair_invariant.proofs.ShareCalls.{causes_of, change_by}
 use Rattle.pair_invariant.proofs.ShareSteps.{mark_is, stores_a}
+use Rattle.pair_invariant.specs.kernel_rules.specs.Edits.{Move as move_edit}
+use Rattle.pair_invariant.specs.kernel_rules.specs.Rules.{does}
 
 module _ (setup : Setting) (setting : IsSetting setup) (cores : ℕ → Core) (t : Trace) (stands : Invariant setup cores t) (c : ℕ)
     (here : c < setup.cores)
@@ -182,11 +184,11 @@ module _ (setup : Setting) (setting : IsSetting setup) (cores : ℕ → Core) (t
         not_short : nat_lt (tcap_at s p.a).budget m ≡ false
         not_short = ap (λ x. nat_lt (tcap_in x).budget m) tcap_a.is ∙ le-ltb qa.budget m enough
 
-    change_is : change_of s c a.call ≡ Found (leaves (moved s p.a p.b m))
+    change_is : change_of s c a.call ≡ Found (does c s value.Nothing (move_edit p.a p.b m ∷ []))
     change_is = calls.change_is setup setting cores t stands c here a active now_p stage_is has
-        ∙ ap (λ o. unless o (change_by s (Transfer m) is.a.frame is.b.frame)) no_cause
-        ∙ ap (λ (f : ℕ). Found (leaves (moved s f is.b.frame m))) (sym is.shared.first)
-        ∙ ap (λ (f : ℕ). Found (leaves (moved s p.a f m))) (sym is.shared.second)
+        ∙ ap (λ o. unless o (change_by c s (Transfer m) is.a.frame is.b.frame)) no_cause
+        ∙ ap (λ (f : ℕ). Found (does c s value.Nothing (move_edit f is.b.frame m ∷ []))) (sym is.shared.first)
+        ∙ ap (λ (f : ℕ). Found (does c s value.Nothing (move_edit p.a f m ∷ []))) (sym is.shared.second)
 
     -- the state after it
     abbrev qa_less : TcapFields

@@ -2,14 +2,16 @@
 -- still to store the merged list and both heads.
 use Rattle.pair_invariant.proofs.Common.{◌≡◌, ◌≢◌, inl, inr, ℕ, zero, suc, ◌+◌, ◌-◌, ◌<◌, ◌≤◌, ◌^◌, ◌==◌, ◌&&◌, not, nat_lt, nat_le, Bool}
 use Rattle.pair_invariant.proofs.Common.{true, false, if◌then◌else◌, List, [], ◌∷◌, length, slice_get, Option, Some, None, arith, refl}
-use Rattle.pair_invariant.proofs.Common.{sym, ◌∙◌, ap, subst, eq-eqb, eqb-true, ne_eqb, false≢true, le-leb, leb-true, le-ltb, Setting, IsSetting, HeadFits}
+use Rattle.pair_invariant.proofs.Common.{sym, ◌∙◌, ap, subst, eq-eqb, eqb-true, ne_eqb, false≢true, le-leb, leb-true, le-ltb, Setting}
+use Rattle.pair_invariant.proofs.Common.{IsSetting, HeadFits}
 use Rattle.pair_invariant.proofs.Common.{word_of_head, head_of_word, quality_of_word, HeadWord, spelling, Word, EntryAt, CountAt}
 use Rattle.pair_invariant.proofs.Common.{same_word, Move, CompareOf, left_of, same_same, Kernel, Tcap, TcapFields, PlaceOf, FrameOf}
-use Rattle.pair_invariant.proofs.Common.{State, put, tcap_in, Found, IsFoundAnd, unless, first_of, first_cause, leaves, tcap_at, moved}
+use Rattle.pair_invariant.proofs.Common.{State, put, tcap_in, Found, IsFoundAnd, unless, first_of, first_cause, tcap_at, moved}
 use Rattle.pair_invariant.proofs.Common.{is_short, are_many, change_of, changed, counted, MayReply, IsInFootprint, mark_of, head_mark}
 use Rattle.pair_invariant.proofs.Common.{marked_by, ends_in, flushes_in, stamp, Step, Trace, Open, phase, state_after, last_left}
 use Rattle.pair_invariant.proofs.Common.{state_decided_in, WasAt, ok_first, was_stays, cases_word, same_word-other, last_left-here}
-use Rattle.pair_invariant.proofs.Common.{last_left-there, marked, debited, relisted, credited, in_order, same_list, again_end, by_room, Pair, CompareB, AgainB}
+use Rattle.pair_invariant.proofs.Common.{last_left-there, marked, debited, relisted, credited, in_order, same_list, again_end, by_room}
+use Rattle.pair_invariant.proofs.Common.{Pair, CompareB, AgainB}
 use Rattle.pair_invariant.proofs.Common.{StoreList, Act, took_shared, took_share, Stage, Undecided, Decided, ActiveCall, landed, Core}
 use Rattle.pair_invariant.proofs.Common.{holds_counts, settled, MarkIs, KnowsUndecided, list_changed, TurnsHead, SparesTcap, HasTcap}
 use Rattle.pair_invariant.proofs.Common.{HasBoth, StoresA, KnowsShared, holds_in, holds_head}
@@ -24,7 +26,8 @@ use Rattle.pair_invariant.specs.spk_nums.specs.declared.replies.Value.TheVariant
 use Rattle.pair_invariant.specs.tcap_words.specs.Quality.{QualityFits, word_of_quality}
 use Rattle.pair_invariant.specs.tcap_words.proofs.QualityLemmas as qualities
 use Rattle.pair_invariant.specs.kernel_rules.specs.Access.{found as named_by}
-use Rattle.pair_invariant.specs.kernel_rules.specs.TimeCalls.{with_qualities, merged_list}
+use Rattle.pair_invariant.specs.kernel_rules.specs.TimeCalls.{merged_list}
+use Rattle.pair_invariant.specs.kernel_rules.specs.Edits.{with_qualities, Move as move_edit, Merge as merge_edit}
 use Rattle.pair_invariant.specs.kernel_rules.specs.CallRelation.{begins_in as begun_by}
 use Rattle.pair_invariant.specs.kernel_laws.proofs.Lists.{merged_list_is}
 use Rattle.pair_invariant.specs.kernel_history.specs.Stamps.{begins_in}
@@ -54,6 +57,7 @@ use Rattle.pair_invariant.proofs.ShareCalls.{causes_of, change_by}
 use Rattle.pair_invariant.proofs.ShareSteps.{mark_is, list_bare, list_plain, now_was}
 use Rattle.share_invariant.proofs.Turned as turned
 use Rattle.share_invariant.proofs.Turned.{IsTaken}
+use Rattle.pair_invariant.specs.kernel_rules.specs.Rules.{does}
 
 -- A merged list that has room is kept, and has at most 8 pairs.
 kept_list : (xs ys zs : List (ℕ × ℕ)) → merge_of xs ys ≡ Some zs → (zs ≡ merged xs ys) × (length (merged xs ys) ≤ 8)
@@ -302,12 +306,14 @@ module _ (setup : Setting) (setting : IsSetting setup) (cores : ℕ → Core) (t
         not_short = ap (λ x. nat_lt (tcap_in x).budget m) tcap_a.is
             ∙ le-ltb qa.budget m (compared.enough setup setting cores t stands c here a active what_p stage_is has equal)
 
-    change_is : change_of s c a.call ≡ Found (leaves (with_qualities (moved s p.a p.b m) p.b (merged_list s p.a p.b)))
+    change_is : change_of s c a.call ≡ Found (does c s value.Nothing (move_edit p.a p.b m ∷ merge_edit p.b (merged_list s p.a p.b) ∷ []))
     change_is = calls.change_is setup setting cores t stands c here a active now_p stage_is has
-        ∙ ap (λ o. unless o (change_by s (Delegate m) is.a.frame is.b.frame)) no_cause
-        ∙ ap (λ (f : ℕ). Found (leaves (with_qualities (moved s f is.b.frame m) is.b.frame (merged_list s f is.b.frame))))
+        ∙ ap (λ o. unless o (change_by c s (Delegate m) is.a.frame is.b.frame)) no_cause
+        ∙ ap (λ (f : ℕ). Found (does c s value.Nothing (move_edit f is.b.frame m ∷ merge_edit is.b.frame (merged_list s f is.b.frame)
+        ∷ [])))
         (sym is.shared.first)
-        ∙ ap (λ (f : ℕ). Found (leaves (with_qualities (moved s p.a f m) f (merged_list s p.a f)))) (sym is.shared.second)
+        ∙ ap (λ (f : ℕ). Found (does c s value.Nothing (move_edit p.a f m ∷ merge_edit f (merged_list s p.a f) ∷ [])))
+        (sym is.shared.second)
 
     -- the state after it
     abbrev qa_less : TcapFields
@@ -442,11 +448,13 @@ module _ (setup : Setting) (setting : IsSetting setup) (cores : ℕ → Core) (t
     own_says w mark = elim (cases_word w at) [
       | inl head ↦ subst (λ (v : Word). WordIs s' (times_of setup (e ∷ t)) v ((holds after).stands v)) (sym head)
           (subst (WordIs s' (times_of setup (e ∷ t)) at)
-          (sym (ap (λ b. if b then word_of_head (credited (relisted p.grows p.head_b) m) else if same_word at at_a then word_of_head (debited p.head_a m)
+          (sym (ap (λ b. if b then word_of_head (credited (relisted p.grows p.head_b) m) else if same_word at at_a
+          then word_of_head (debited p.head_a m)
           else (holds_counts (Some None) a.counts).stands at) (same_same at))) credited_says)
       | inr there ↦ subst (λ (v : Word). WordIs s' (times_of setup (e ∷ t)) v ((holds after).stands v)) (sym (is_a there))
           (subst (WordIs s' (times_of setup (e ∷ t)) at_a)
-          (sym (ap (λ b. if b then word_of_head (credited (relisted p.grows p.head_b) m) else if same_word at_a at_a then word_of_head (debited p.head_a m)
+          (sym (ap (λ b. if b then word_of_head (credited (relisted p.grows p.head_b) m) else if same_word at_a at_a
+          then word_of_head (debited p.head_a m)
           else (holds_counts (Some None) a.counts).stands at_a) (same_word-other at_a at apart_heads)
           ∙ ap (λ b. if b then word_of_head (debited p.head_a m) else (holds_counts (Some None) a.counts).stands at_a) (same_same at_a)))
           debited_says)

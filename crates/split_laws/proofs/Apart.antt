@@ -15,13 +15,13 @@ use Rattle.world_laws.specs.kernel_rules.specs.Start.{no_grace}
 use Rattle.world_laws.specs.kernel_rules.specs.References.{place_names, frame_names, number_names, core_names, times}
 use Rattle.world_laws.specs.kernel_rules.specs.GracePeriods.{same_thing, new_grace}
 use Rattle.world_laws.specs.kernel_rules.specs.Rules.{Change, Judged, Refused, Found, IsFoundAnd}
-use Rattle.world_laws.specs.kernel_rules.specs.CapabilityCalls.{is_live, is_place_of, not_blank}
+use Rattle.world_laws.specs.kernel_rules.specs.CapabilityCalls.{is_live, not_blank}
+use Rattle.world_laws.specs.kernel_rules.specs.Edits.{is_place_of, Edit, Fill, Component, Deaden, Merge, edited, after_edits}
 use Rattle.world_laws.specs.kernel_rules.specs.MemoryCalls.{not_retyped}
 use Rattle.world_laws.specs.kernel_rules.specs.Life.{is_live_in}
 use Rattle.world_laws.specs.kernel_rules.specs.CallRelation.{begins, ends, ends_by, flushes, rule_of, change_of, MayReply}
 use Rattle.world_laws.specs.kernel_rules.specs.Runs.{Event, Decides, after, is_open, IsRun}
 use Rattle.world_laws.specs.kernel_rules.proofs.Changes.{IfFound}
-use Rattle.world_laws.specs.kernel_invariant.specs.Edits.{Edit, Fill, Component, Deaden, Merge, edited, after_edits}
 use Rattle.world_laws.specs.kernel_invariant.proofs.Sound.{put_all}
 use Rattle.world_laws.specs.kernel_invariant.proofs.SoundSteps.{holds_quiescing}
 use Rattle.world_laws.specs.kernel_invariant.proofs.SoundCalls.{IsOpen}

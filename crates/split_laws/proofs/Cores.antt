@@ -15,7 +15,7 @@ use Rattle.world_laws.specs.kernel_rules.specs.Laws.{calls_counted}
 use Rattle.world_laws.specs.kernel_rules.specs.Runs.{Event, Decides, after, is_open, IsRun}
 use Rattle.world_laws.specs.kernel_rules.proofs.Changes.{IfFound}
 use Rattle.world_laws.specs.kernel_rules.proofs.Within.{put_same}
-use Rattle.world_laws.specs.kernel_invariant.specs.Edits.{Edit, Fill, Switch, Cache, Flush, Charge, Merge, Give, edited, after_edits}
+use Rattle.world_laws.specs.kernel_rules.specs.Edits.{Give, Edit, Fill, Switch, Cache, Flush, Charge, Merge, edited, after_edits}
 use Rattle.world_laws.specs.kernel_invariant.proofs.SoundCalls.{IsOpen}
 use Rattle.world_laws.specs.kernel_invariant.proofs.SoundRuns.{opened, open_is, open_limits}
 use Rattle.world_laws.specs.kernel_invariant.proofs.Edited.{AreLater, Calm, found_by}
@@ -87,8 +87,8 @@ module _ (setting : Setting) (lim : IsSetting setting) (events : List Event) (c 
 
   -- a call that is carried out leaves what its core has counted
   shaped : IfFound (change_of s c call) (ShapedBy s c)
-  shaped = found_by s c call (ShapedBy s c) (λ change e. shaped_by s (opened events) c open_call (runs_shape setting lim events run.0) call
-      (open_limits setting events c call run.0 run.1.is_open) change e)
+  shaped = found_by s c call (ShapedBy s c) (shaped_by s (opened events) c open_call (runs_shape setting lim events run.0) call
+      (open_limits setting events c call run.0 run.1.is_open))
 
   pub counts_one : (t.core c).counted ≡ (s.core c).counted + calls_counted r
   counts_one = by_reply r run.1.permitted

@@ -16,10 +16,9 @@ use Rattle.world_laws.specs.spk_nums.specs.declared.replies.Reply.TheVariants as
 use Rattle.world_laws.specs.kernel_rules.specs.State.{Place, Free, Holds, Quiescing, Thing, PlaceOf, State}
 use Rattle.world_laws.specs.kernel_rules.specs.Access.{Slot, Want, to_use, only, found, Target, own, place_at, reached, usable}
 use Rattle.world_laws.specs.kernel_rules.specs.GracePeriods.{other_waiting, lowest, quiescing_by, unflushed_by}
-use Rattle.world_laws.specs.kernel_rules.specs.Rules.{Cause, Change, Rule, Name, Vacant, Held, Mapped, Does, Judged, Refused, Found}
-use Rattle.world_laws.specs.kernel_rules.specs.Rules.{and_then, unless, or_refuse}
-use Rattle.world_laws.specs.kernel_rules.specs.Rules.{with_rights, of_kind, named, first_of, not_vacant, vacant}
-use Rattle.world_laws.specs.kernel_rules.specs.Rules.{first_cause, outcome}
+use Rattle.world_laws.specs.kernel_rules.specs.Rules.{Cause, Change, does, Rule, Name, Vacant, Held, Mapped, Does, Judged, Refused, Found}
+use Rattle.world_laws.specs.kernel_rules.specs.Rules.{and_then, unless, or_refuse, with_rights, of_kind, named, first_of, not_vacant}
+use Rattle.world_laws.specs.kernel_rules.specs.Rules.{vacant, first_cause, outcome}
 use Rattle.world_laws.specs.kernel_rules.specs.CapabilityCalls.{has_frame, outside, not_blank, not_taken, make_rule}
 use Rattle.world_laws.specs.kernel_rules.specs.MemoryCalls.{not_retyped, retype_rule, not_user, map_rule}
 use Rattle.world_laws.specs.kernel_rules.specs.Life.{acts}
@@ -51,7 +50,7 @@ CausesHold P s c (Name n want rest) = (k : Capability) → named s c n want ≡ 
 CausesHold P s c (Vacant target rest) = TargetsHold P × ((at : Slot) → CausesHold P s c (rest at))
 CausesHold P s c (Held target rest) = ⊥
 CausesHold P s c (Mapped table v rest) = ⊥
-CausesHold P s c (Does causes change) = (r : Reply) → first_cause s c causes ≡ Some r → P r
+CausesHold P s c (Does causes value edits) = (r : Reply) → first_cause s c causes ≡ Some r → P r
 
 then_refused : {A B : Type 0} (x : Judged A) (f : A → Judged B) (P : Reply → Type 0) → IfRefused x P
     → ((a : A) → x ≡ Found a → IfRefused (f a) P) → IfRefused (and_then x f) P
@@ -107,7 +106,7 @@ module _ (P : Reply → Type 0) (h : NamesHold P) (s : State) (c : ℕ) where
       (λ at e. refused_holds (rest at) (more.1 at))
   refused_holds (Held target rest) more = absurd more
   refused_holds (Mapped table v rest) more = absurd more
-  refused_holds (Does causes change) more = unless_refused (first_cause s c causes) change P more
+  refused_holds (Does causes value edits) more = unless_refused (first_cause s c causes) (does c s value edits) P more
 
 -- ---- the calls that name a frame by its number
 

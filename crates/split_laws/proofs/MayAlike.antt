@@ -10,11 +10,9 @@ use Rattle.world_laws.specs.kernel_rules.specs.Access.{Want, Slot, Named, capabi
 use Rattle.world_laws.specs.kernel_rules.specs.Access.{usable, reached, root_slot, holds_link, has_no_slot, own}
 use Rattle.world_laws.specs.kernel_rules.specs.GracePeriods.{MayWait, MayBeUnflushed}
 use Rattle.world_laws.specs.kernel_rules.specs.Rules.{Cause, When, WaitedFor, Unflushed, Rule, Name, Vacant, Held, Mapped, Does, Judged}
-use Rattle.world_laws.specs.kernel_rules.specs.Rules.{Refused, Found}
-use Rattle.world_laws.specs.kernel_rules.specs.Rules.{named, held, mapped, and_then, or_refuse, IsFoundAnd, ReachesNone, ReachesHeld}
-use Rattle.world_laws.specs.kernel_rules.specs.Rules.{ReachesOther, ReachesLacking, Lacks}
-use Rattle.world_laws.specs.kernel_rules.specs.Rules.{NameMay, VacantMay, HeldMay, MappedMay, WaitedMay, UnflushedMay, CauseMay, OneMay}
-use Rattle.world_laws.specs.kernel_rules.specs.Rules.{name_of, slot_of, RuleMay}
+use Rattle.world_laws.specs.kernel_rules.specs.Rules.{Refused, Found, named, held, mapped, and_then, or_refuse, IsFoundAnd, ReachesNone}
+use Rattle.world_laws.specs.kernel_rules.specs.Rules.{ReachesHeld, ReachesOther, ReachesLacking, Lacks, NameMay, VacantMay, HeldMay}
+use Rattle.world_laws.specs.kernel_rules.specs.Rules.{MappedMay, WaitedMay, UnflushedMay, CauseMay, OneMay, name_of, slot_of, RuleMay}
 use Rattle.world_laws.specs.kernel_invariant.proofs.Facts.{none_some, or_found}
 use Rattle.same_changes.specs.Region.{Region, IsIn}
 use Rattle.same_changes.proofs.Reaching.{TwinsOn, IsSlotIn, then_same, place_agree, usable_agree, reached_agree, slot_within, own_in}
@@ -51,7 +49,7 @@ RuleAlike w s c r (Held x rest) (Held y other) = (x ≡ y) × RootIf w y
     × ((at : Slot) (k : Capability) → RuleAlike w s c r (rest at k) (other at k))
 RuleAlike w s c r (Mapped a v rest) (Mapped b u other) = (a ≡ b) × (v ≡ u) × (w.frame b ≡ true)
     × ((k : Capability) → RuleAlike w s c r (rest k) (other k))
-RuleAlike w s c r (Does xs a) (Does ys b) = CausesAlike w s c r xs ys
+RuleAlike w s c r (Does xs v a) (Does ys u b) = CausesAlike w s c r xs ys
 RuleAlike w s c r _ _ = ⊥
 
 -- ---- what is found
@@ -236,9 +234,9 @@ module _ {w : Region} {t s : State} {o : ℕ → Bool} {c : ℕ} (l : TwinsOn w 
   may_alike r (Mapped a v rest) (Mapped b u other) h (inr m) =
       inr (found_and (mapped t c a v) (mapped s c b u) ((λ i. mapped t c (h.0 i) (h.1 i)) ∙ mapped_agree l b u h.2)
       (λ k n. may_alike r (rest k) (other k) (h.3 k) n) m)
-  may_alike r (Does xs a) (Does ys b) h m = one_may r xs ys h m
+  may_alike r (Does xs v a) (Does ys u b) h m = one_may r xs ys h m
   may_alike r (Name n p rest) _ h m = absurd h
   may_alike r (Vacant x rest) _ h m = absurd h
   may_alike r (Held x rest) _ h m = absurd h
   may_alike r (Mapped a v rest) _ h m = absurd h
-  may_alike r (Does xs a) _ h m = absurd h
+  may_alike r (Does xs v a) _ h m = absurd h

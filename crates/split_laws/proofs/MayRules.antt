@@ -17,20 +17,19 @@ use Rattle.world_laws.specs.spk_nums.specs.declared.calls.Call.TheVariants.{Ret,
 use Rattle.world_laws.specs.spk_nums.specs.declared.translations.Translation.{Translation}
 use Rattle.world_laws.specs.spk_nums.specs.declared.replies.Reply.{Reply}
 use Rattle.world_laws.specs.spk_nums.specs.declared.replies.Reply.TheVariants as reply
-use Rattle.world_laws.specs.kernel_rules.specs.State.{CompFields, ThreadFields, TcapFields, Object, Table, Leaf, Pages, Pleaf, Frame}
-use Rattle.world_laws.specs.kernel_rules.specs.State.{Core, Limits, outstanding}
-use Rattle.world_laws.specs.kernel_rules.specs.State.{State, thread_in, comp_in, tcap_in, comp_of}
+use Rattle.world_laws.specs.kernel_rules.specs.State.{CompFields, ThreadFields, TcapFields, Object, Table, Leaf, Pages, Pleaf, Frame, Core}
+use Rattle.world_laws.specs.kernel_rules.specs.State.{Limits, outstanding, State, thread_in, comp_in, tcap_in, comp_of}
 use Rattle.world_laws.specs.kernel_rules.specs.References.{refs}
 use Rattle.world_laws.specs.kernel_rules.specs.Access.{only, root, to_use, Named, capability}
 use Rattle.world_laws.specs.kernel_rules.specs.Rules.{RuleMay}
 use Rattle.world_laws.specs.kernel_rules.specs.Life.{is_live_in}
 use Rattle.world_laws.specs.kernel_rules.specs.CapabilityCalls.{copy_rule, remove_rule, grow_rule, shrink_rule, part_rule, is_blank}
-use Rattle.world_laws.specs.kernel_rules.specs.CapabilityCalls.{make_node, make_thread}
-use Rattle.world_laws.specs.kernel_rules.specs.CapabilityCalls.{make_tcap, make_comp, make_rule, is_live, epoch_of}
+use Rattle.world_laws.specs.kernel_rules.specs.CapabilityCalls.{make_node, make_thread, make_tcap, make_comp, make_rule, is_live, epoch_of}
 use Rattle.world_laws.specs.kernel_rules.specs.MemoryCalls.{is_untyped, is_user, is_empty, retype_rule, map_rule, unmap_rule}
 use Rattle.world_laws.specs.kernel_rules.specs.MemoryCalls.{translation_of, touch_by, touch_rule}
 use Rattle.world_laws.specs.kernel_rules.specs.InvocationCalls.{gate_rule, kill_rule, call_rule, ret_rule, switch_to, switch_rule}
-use Rattle.world_laws.specs.kernel_rules.specs.TimeCalls.{tcap_at, are_alike, transfer_rule, delegate_rule, test_rule, replenish_rule}
+use Rattle.world_laws.specs.kernel_rules.specs.TimeCalls.{are_alike, transfer_rule, delegate_rule, test_rule, replenish_rule}
+use Rattle.world_laws.specs.kernel_rules.specs.Edits.{tcap_at}
 use Rattle.world_laws.specs.kernel_rules.specs.CallRelation.{rule_of}
 use Rattle.world_laws.specs.kernel_rules.specs.Fitting.{fits}
 use Rattle.world_laws.specs.kernel_invariant.proofs.Facts.{named_fit}
@@ -80,11 +79,11 @@ module _ {w : Region} {t s : State} {o : ℕ → Bool} {c : ℕ} (l : TwinsOn w 
   look_alike : (a : ℕ) → RuleAlike w s c r (rule_of t c (Look a)) (rule_of s c (Look a))
   look_alike a = (refl, refl, λ k is. λ none. none)
 
-  copy_alike : (a x b rights : ℕ) → RuleAlike w s c r (copy_rule t a x b rights) (copy_rule s a x b rights)
+  copy_alike : (a x b rights : ℕ) → RuleAlike w s c r (copy_rule a x b rights) (copy_rule a x b rights)
   copy_alike a x b rights =
       (refl, refl, λ k is. (refl, refl, λ table led. (refl, led_frame x kind.Table table refl led, λ at. λ none. none)))
 
-  part_alike : (a f n x b : ℕ) → RuleAlike w s c r (part_rule t a f n x b) (part_rule s a f n x b)
+  part_alike : (a f n x b : ℕ) → RuleAlike w s c r (part_rule a f n x b) (part_rule a f n x b)
   part_alike a f n x b = (
     refl,
     refl,
@@ -100,13 +99,13 @@ module _ {w : Region} {t s : State} {o : ℕ → Bool} {c : ℕ} (l : TwinsOn w 
     ),
   )
 
-  remove_alike : (x b : ℕ) → RuleAlike w s c r (remove_rule t x b) (remove_rule s x b)
+  remove_alike : (x b : ℕ) → RuleAlike w s c r (remove_rule x b) (remove_rule x b)
   remove_alike x b = (refl, refl, λ table led. (refl, led_frame x kind.Table table refl led, λ at k. λ none. none))
 
-  grow_alike : (x i a : ℕ) → RuleAlike w s c r (grow_rule t x i a) (grow_rule s x i a)
+  grow_alike : (x i a : ℕ) → RuleAlike w s c r (grow_rule x i a) (grow_rule x i a)
   grow_alike x i a = (refl, refl, λ table led. (refl, refl, λ leaf is. (refl, led_root x table led, λ at. λ none. none)))
 
-  shrink_alike : (x i : ℕ) → RuleAlike w s c r (shrink_rule t x i) (shrink_rule s x i)
+  shrink_alike : (x i : ℕ) → RuleAlike w s c r (shrink_rule x i) (shrink_rule x i)
   shrink_alike x i = (refl, refl, λ table led. (refl, led_root x table led, λ at k. λ none. none))
 
   -- ---- making
@@ -298,11 +297,11 @@ module _ {w : Region} {t s : State} {o : ℕ → Bool} {c : ℕ} (l : TwinsOn w 
     ),
   )
 
-  unmap_alike : (p v : ℕ) → RuleAlike w s c r (unmap_rule t p v) (unmap_rule s p v)
+  unmap_alike : (p v : ℕ) → RuleAlike w s c r (unmap_rule p v) (unmap_rule p v)
   unmap_alike p v = (refl, refl, λ pages led. (refl, led_frame p kind.Pages pages refl led, λ at k. λ none. none))
 
   touched_alike : (v : ℕ) (x : Option Translation)
-      → RuleAlike w s c r (touch_by t c (comp_of s c).pages v x) (touch_by s c (comp_of s c).pages v x)
+      → RuleAlike w s c r (touch_by (comp_of s c).pages v x) (touch_by (comp_of s c).pages v x)
   touched_alike v (Some x) = ((λ on is. (on, refl)), λ none. none)
   touched_alike v None = (refl, refl, pages_in l, λ k. λ none. none)
 
@@ -311,7 +310,7 @@ module _ {w : Region} {t s : State} {o : ℕ → Bool} {c : ℕ} (l : TwinsOn w 
       let pages : (comp_of t c).pages ≡ (comp_of s c).pages = ap (λ (k : CompFields). k.pages) (comp_agree l) in
       let x : translation_of (t.core c).cached (comp_of t c).pages v ≡ translation_of (s.core c).cached (comp_of s c).pages v = λ i.
       translation_of (core_agree l i).cached (pages i) v in
-      subst (λ y. RuleAlike w s c r y (touch_rule s c v)) (λ i. touch_by t c (sym pages i) v (sym x i))
+      subst (λ y. RuleAlike w s c r y (touch_rule s c v)) (λ i. touch_by (sym pages i) v (sym x i))
       (touched_alike v (translation_of (s.core c).cached (comp_of s c).pages v))
 
   -- ---- invocation
@@ -356,14 +355,14 @@ module _ {w : Region} {t s : State} {o : ℕ → Bool} {c : ℕ} (l : TwinsOn w 
   ret_alike : RuleAlike w s c r (ret_rule t c) (ret_rule s c)
   ret_alike = ((λ on is. (ap (λ (k : ThreadFields). nat_le (length k.stack) 1) (thread_agree l) ∙ on, refl)), λ none. none)
 
-  to_found : (h : Named) (q : ℕ) (o p : Option ℕ) → o ≡ p → RuleAlike w s c r (switch_to t c h q o) (switch_to s c h q p)
-  to_found h q o p same = subst (λ o. RuleAlike w s c r (switch_to t c h q o) (switch_to s c h q p)) (sym same) (by_core p)
+  to_found : (h : Named) (q : ℕ) (o p : Option ℕ) → o ≡ p → RuleAlike w s c r (switch_to h q o) (switch_to h q p)
+  to_found h q o p same = subst (λ o. RuleAlike w s c r (switch_to h q o) (switch_to h q p)) (sym same) (by_core p)
     where
-      by_core : (p : Option ℕ) → RuleAlike w s c r (switch_to t c h q p) (switch_to s c h q p)
+      by_core : (p : Option ℕ) → RuleAlike w s c r (switch_to h q p) (switch_to h q p)
       by_core None = λ none. none
       by_core (Some e) = ((λ on is. (on, refl)), λ none. none)
 
-  to_lost : (h : Named) (q : ℕ) (o p : Option ℕ) → h.found ≡ false → RuleAlike w s c r (switch_to t c h q o) (switch_to s c h q p)
+  to_lost : (h : Named) (q : ℕ) (o p : Option ℕ) → h.found ≡ false → RuleAlike w s c r (switch_to h q o) (switch_to h q p)
   to_lost h q None None lost = λ none. none
   to_lost h q (Some e) None lost = tt
   to_lost h q None (Some d) lost = λ one. elim one [
@@ -372,12 +371,12 @@ module _ {w : Region} {t s : State} {o : ℕ → Bool} {c : ℕ} (l : TwinsOn w 
   ]
   to_lost h q (Some e) (Some d) lost = ((λ on is. absurd (false≢true (sym lost ∙ on))), λ none. none)
 
-  switch_alike : (h q : ℕ) → RuleAlike w s c r (switch_rule t c h q) (switch_rule s c h q)
+  switch_alike : (h q : ℕ) → RuleAlike w s c r (switch_rule t h q) (switch_rule s h q)
   switch_alike h q = (refl, refl, λ thread led. (refl, refl, λ tcap is. by_found thread tcap led (thread.found) refl))
     where
       by_found : (thread tcap : Named) → Led s c h (to_use (only kind.Thread)) thread → (b : Bool) → thread.found ≡ b
-          → RuleAlike w s c r (switch_to t c thread tcap.frame (thread_in (t.frame thread.frame)).runs_on)
-          (switch_to s c thread tcap.frame (thread_in (s.frame thread.frame)).runs_on)
+          → RuleAlike w s c r (switch_to thread tcap.frame (thread_in (t.frame thread.frame)).runs_on)
+          (switch_to thread tcap.frame (thread_in (s.frame thread.frame)).runs_on)
       by_found thread tcap led true on = to_found thread tcap.frame (thread_in (t.frame thread.frame)).runs_on
           (thread_in (s.frame thread.frame)).runs_on
           (ap (λ x. (thread_in x).runs_on) (l.agree.frame thread.frame (led_frame h kind.Thread thread refl led on)))

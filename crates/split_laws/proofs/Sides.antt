@@ -11,14 +11,15 @@ use Rattle.world_laws.specs.spk_nums.specs.declared.calls.Make.TheVariants as ma
 use Rattle.world_laws.specs.spk_nums.specs.declared.calls.Call.{Call}
 use Rattle.world_laws.specs.spk_nums.specs.declared.calls.Call.TheVariants as call
 use Rattle.world_laws.specs.spk_nums.specs.declared.translations.Translation.{Translation}
+use Rattle.world_laws.specs.spk_nums.specs.declared.replies.Value.TheVariants.{Nothing}
 use Rattle.world_laws.specs.kernel_rules.specs.State.{CompFields, ThreadFields, TcapFields, Table, Leaf, Pages, Pleaf, Comp, Thread, Tcap}
 use Rattle.world_laws.specs.kernel_rules.specs.State.{Blank, Frame, Untyped, User, Kernel, Core, State, put, comp_of, thread_in, thread_of}
 use Rattle.world_laws.specs.kernel_rules.specs.Access.{found}
-use Rattle.world_laws.specs.kernel_rules.specs.Rules.{Change}
+use Rattle.world_laws.specs.kernel_rules.specs.Rules.{Change, does}
 use Rattle.world_laws.specs.kernel_rules.specs.CapabilityCalls.{not_blank, not_taken, epoch_of, make_rule}
-use Rattle.world_laws.specs.kernel_rules.specs.MemoryCalls.{caching, retype_rule, touch_by, translation_of}
-use Rattle.world_laws.specs.kernel_rules.specs.InvocationCalls.{with_thread, running, switches, switch_to}
-use Rattle.world_laws.specs.kernel_rules.specs.TimeCalls.{with_tcap}
+use Rattle.world_laws.specs.kernel_rules.specs.MemoryCalls.{retype_rule, touch_by, translation_of}
+use Rattle.world_laws.specs.kernel_rules.specs.Edits.{caching, with_thread, running, Switch, with_tcap}
+use Rattle.world_laws.specs.kernel_rules.specs.InvocationCalls.{switch_to}
 use Rattle.world_laws.specs.kernel_rules.specs.CallRelation.{rule_of}
 use Rattle.world_laws.specs.kernel_invariant.proofs.Sound.{put_all}
 use Rattle.world_laws.specs.kernel_invariant.proofs.SoundCalls.{IsOpen}
@@ -144,7 +145,7 @@ module _ (w : World) (s : State) (c : ℕ) (o : ℕ → Bool) (open_call : IsOpe
         own ∙ sym here,
       )
 
-  touch_sides : (v : ℕ) (t : Option Translation) → ChangesFrom (Next w s) s c (touch_by s c (comp_of s c).pages v t)
+  touch_sides : (v : ℕ) (t : Option Translation) → ChangesFrom (Next w s) s c (touch_by (comp_of s c).pages v t)
   touch_sides v (Some t) = λ calm. h
   touch_sides v None = λ k e calm.
       let t : Translation = record { pages = (comp_of s c).pages; page = v; frame = k.frame; flags = record { 0 = k.arg } } in
@@ -165,7 +166,7 @@ module _ (w : World) (s : State) (c : ℕ) (o : ℕ → Bool) (open_call : IsOpe
       by_room false t sided = own.cached
 
   switched : (j k : Capability) → w.frame k.frame ≡ w.frame j.frame → (e : Option ℕ)
-      → ChangesFrom (Next w s) s c (switch_to s c (found j) k.frame e)
+      → ChangesFrom (Next w s) s c (switch_to (found j) k.frame e)
   switched j k same = by_core
     where
       old : ℕ
@@ -174,12 +175,12 @@ module _ (w : World) (s : State) (c : ℕ) (o : ℕ → Bool) (open_call : IsOpe
       idle : Sides w (running s old None).frame s.core n
       idle = running_sides w s.frame s.core n h old None
 
-      next : Next w s (switches s c (s.core c) j.frame k.frame)
+      next : Next w s (does c s Nothing (Switch j.frame k.frame ∷ []))
       next = core_sides w (running (running s old None) j.frame (Some c)).frame s.core n
           (running_sides w (running s old None).frame s.core n idle j.frame (Some c)) c
           (record (s.core c) { thread = j.frame; tcap = k.frame }) (λ below. record { tcap = same; cached = (h.cores c below).cached })
 
-      by_core : (e : Option ℕ) → ChangesFrom (Next w s) s c (switch_to s c (found j) k.frame e)
+      by_core : (e : Option ℕ) → ChangesFrom (Next w s) s c (switch_to (found j) k.frame e)
       by_core None = λ calm. next
       by_core (Some e) = λ calm. next
 

@@ -55,7 +55,7 @@ module _ (setting : Setting) (lim : IsSetting setting) (events : List Event) (c 
   Answers change = change.value ≡ Page f flags → w.frame f ≡ side w s c
 
   by_cached : (t : Option Translation) → translation_of (s.core c).cached (comp_of s c).pages v ≡ t
-      → ChangesFrom Answers s c (touch_by s c (comp_of s c).pages v t)
+      → ChangesFrom Answers s c (touch_by (comp_of s c).pages v t)
   by_cached (Some t) is = λ calm e.
       ap w.frame (sym (answer_frame t f flags e))
       ∙ cached_on w (comp_of s c).pages v (s.core c).cached t (split.cached c on.is_core) is ∙ on.pages
@@ -71,8 +71,8 @@ module _ (setting : Setting) (lim : IsSetting setting) (events : List Event) (c 
   pub touched : w.frame f ≡ side w s c
   touched =
       let x : Option Translation = translation_of (s.core c).cached (comp_of s c).pages v in
-      answered (outcome s c (touch_by s c (comp_of s c).pages v x))
-      (outcome_from Answers s c (touch_by s c (comp_of s c).pages v x) (by_cached x refl)) run.1.permitted.1.1
+      answered (outcome s c (touch_by (comp_of s c).pages v x))
+      (outcome_from Answers s c (touch_by (comp_of s c).pages v x) (by_cached x refl)) run.1.permitted.1.1
 
 pub touches_own : TouchesOwn
 touches_own setting lim events c v f flags run w split = touched setting lim events c v f flags run w split

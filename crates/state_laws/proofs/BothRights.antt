@@ -18,23 +18,23 @@ use Rattle.spk_nums.specs.declared.calls.Call.TheVariants.{Ret, Switch, Tick, Tr
 use Rattle.spk_nums.specs.declared.translations.Translation.{Translation}
 use Rattle.spk_nums.specs.declared.replies.Reply.{Reply}
 use Rattle.spk_nums.specs.declared.replies.Reply.TheVariants as reply
-use Rattle.kernel_rules.specs.State.{Place, Free, Holds, Quiescing, PlaceOf, State, put, with_place, thread_in, thread_of, comp_of}
+use Rattle.kernel_rules.specs.State.{Place, Free, Holds, Quiescing, PlaceOf, State, put, with_place, thread_in, comp_of}
 use Rattle.kernel_rules.specs.Start.{plain_cap, start_cap, place_with, start}
-use Rattle.kernel_rules.specs.Access.{Slot, Named, Want, Under, InRoot, found, place_at, usable_in, usable, reached, own, any}
-use Rattle.kernel_rules.specs.Access.{only, to_look, to_copy, to_use, to_part}
+use Rattle.kernel_rules.specs.Access.{Slot, Named, Want, Under, InRoot, found, place_at, usable_in, usable, reached, own, any, only}
+use Rattle.kernel_rules.specs.Access.{to_copy, to_part}
 use Rattle.kernel_rules.specs.Rules.{Change, Judged, Refused, Found, named, held}
 use Rattle.kernel_rules.specs.CapabilityCalls.{make_rule}
 use Rattle.kernel_rules.specs.MemoryCalls.{retype_rule, touch_by, translation_of}
 use Rattle.kernel_rules.specs.InvocationCalls.{switch_to}
-use Rattle.kernel_rules.specs.CallRelation.{rule_of, change_of, changed, owed_by, state_by, MayReply}
+use Rattle.kernel_rules.specs.CallRelation.{rule_of, change_of, changed, owed_by, state_by}
 use Rattle.kernel_rules.specs.Runs.{Event, Enters, Decides, Returns, after}
 use Rattle.kernel_rules.proofs.Changes.{IfFound}
 use Rattle.kernel_invariant.proofs.Sound.{put_all}
 use Rattle.kernel_invariant.proofs.Facts.{ChangesFrom, outcome_from, held_facts, suits}
 use Rattle.found_stays.proofs.Stays.{name_parts}
-use Rattle.kernel_laws.specs.Causes.{OneIs, used_at, leads, Name, names_made, names_of, HasNoRight}
+use Rattle.kernel_laws.specs.Causes.{OneIs, used_at, leads, Name, names_made, names_of}
 use Rattle.kernel_laws.proofs.Causes.{causes_stand}
-use Rattle.state_laws.specs.Rights.{KeepsBoth, KeepBoth, HaveBoth, BothStay, NoRightLacks}
+use Rattle.state_laws.specs.Rights.{KeepsBoth, KeepBoth, BothStay, NoRightLacks}
 
 -- What a place holds or held has both rights; and so in each place.
 abbrev HasBoth : Place → Type 0
@@ -97,11 +97,11 @@ module _ (s : State) (c : ℕ) (h : AllBoth s) where
   retype_both r f frame_kind.Untyped = λ range e calm. h
   retype_both r f _ = λ range e calm. h
 
-  touch_both : (pages v : ℕ) (t : Option Translation) → ChangesFrom Keeps s c (touch_by s c pages v t)
+  touch_both : (pages v : ℕ) (t : Option Translation) → ChangesFrom Keeps s c (touch_by pages v t)
   touch_both pages v None = λ mapping e calm. h
   touch_both pages v (Some t) = λ calm. h
 
-  switch_both : (q : ℕ) (name : Named) (e : Option ℕ) → ChangesFrom Keeps s c (switch_to s c name q e)
+  switch_both : (q : ℕ) (name : Named) (e : Option ℕ) → ChangesFrom Keeps s c (switch_to name q e)
   switch_both q name None = λ calm. h
   switch_both q name (Some e) = λ calm. h
 

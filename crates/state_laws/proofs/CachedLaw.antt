@@ -15,11 +15,10 @@ use Rattle.spk_nums.specs.declared.replies.Reply.TheVariants as reply
 use Rattle.kernel_rules.specs.State.{Place, Free, Holds, Quiescing, Pages, Pleaf, Frame, User, Kernel, Core}
 use Rattle.kernel_rules.specs.State.{Thing, PlaceOf, FrameOf, State, put, with_core, comp_of}
 use Rattle.kernel_rules.specs.References.{named_by, times, refs}
-use Rattle.kernel_rules.specs.Access.{Slot, root_at, Under, place_at, held_in}
-use Rattle.kernel_rules.specs.Access.{usable_in, usable, linked, slot_in, reached, root_slot}
+use Rattle.kernel_rules.specs.Access.{Slot, root_at, Under, place_at, held_in, usable_in, usable, linked, slot_in, reached, root_slot}
 use Rattle.kernel_rules.specs.GracePeriods.{is_paging, is_translated, needs_flush, entered, returned}
 use Rattle.kernel_rules.specs.Rules.{Found, and_then, or_refuse, unless, mapped}
-use Rattle.kernel_rules.specs.MemoryCalls.{caching}
+use Rattle.kernel_rules.specs.Edits.{caching, Edit, Fill, Merge, Give, Switch, Cache, Flush, Charge, edited, after_edits}
 use Rattle.kernel_rules.specs.CallRelation.{change_of, changed, owed_by, state_by, MayReply, flushes, flushes_by}
 use Rattle.kernel_rules.specs.Fitting.{fits, IsGood}
 use Rattle.kernel_rules.specs.Relies.{IsGuarded}
@@ -32,7 +31,7 @@ use Rattle.kernel_invariant.proofs.SoundCalls.{IsOpen}
 use Rattle.kernel_invariant.proofs.SoundRuns.{opened, open_is, open_limits, inside_is, limits_stay}
 use Rattle.found_stays.proofs.SparesRuns.{core_same_refs}
 use Rattle.kernel_invariant.proofs.Refs.{grace_refs}
-use Rattle.kernel_invariant.specs.Edits.{Edit, Fill, Merge, Give, Switch, Cache, Flush, Charge, edited, after_edits, is_flush, flush_in}
+use Rattle.kernel_invariant.specs.Edits.{is_flush, flush_in}
 use Rattle.kernel_invariant.proofs.Edited.{Tested, Each, AreLater, later_core, Calm, after_ok}
 use Rattle.kernel_invariant.proofs.Facts.{then_parts, or_found, some_inj, none_some, found_inj, refused_found}
 use Rattle.found_stays.proofs.Stays.{link_of, fields, pages_relies, usable_guarded, place_named}
@@ -279,8 +278,8 @@ decided_lists : (s : State) (o : ℕ → Bool) (c : ℕ) (call : Call) (r : Repl
     → Lists s (state_by s c call r) c (flushes call r)
 decided_lists s o c call (reply.Ok v) h may w u all =
     same_lists s (changed s (change_of s c call)) c (flushes_by call) _ (h.sound.inside c h.is).1 refl
-    (after_ok s c call v (λ t. Lists s t c (flushes_by call)) may (λ change e.
-    subst (λ b. Caches s c b (after_edits c s e.list).core) (sym e.agrees.1) (edits_cache s o c h w u all e.list e.calm e.tested)))
+    (after_ok s c call v (λ t. Lists s t c (flushes_by call)) may (λ es e.
+    subst (λ b. Caches s c b (after_edits c s es).core) (sym e.agrees.1) (edits_cache s o c h w u all es e.calm e.tested)))
 decided_lists s o c call reply.CallsSpent h may w u all = none_flushed s c all
 decided_lists s o c call reply.Raced h may w u all =
     same_lists s (owed_by s c call) c false _ (h.sound.inside c h.is).1 refl (owed_lists s c call (h.sound.inside c h.is).1 all)

@@ -14,15 +14,13 @@ use Rattle.kernel_rules.specs.State.{Untyped, Kernel, Liveness, Live, Dead, Stat
 use Rattle.kernel_rules.specs.Start.{start}
 use Rattle.kernel_rules.specs.CapabilityCalls.{epoch_of}
 use Rattle.kernel_rules.specs.Life.{is_live_in}
-use Rattle.kernel_rules.specs.InvocationCalls.{with_thread, running}
-use Rattle.kernel_rules.specs.TimeCalls.{with_tcap, with_budget, tcap_at}
+use Rattle.kernel_rules.specs.Edits.{with_thread, running, with_tcap, with_budget, tcap_at, Edit, Node, Become, Untype, Component, Deaden}
+use Rattle.kernel_rules.specs.Edits.{Push, Pop, Switch, Charge, Move, Merge, Give, edited, after_edits}
 use Rattle.kernel_rules.specs.CallRelation.{owed_by, state_by, MayReply}
 use Rattle.kernel_rules.specs.Fitting.{fits}
 use Rattle.kernel_rules.specs.Relies.{is_node}
 use Rattle.kernel_rules.specs.Runs.{Event, Enters, Decides, Returns, after, IsRun}
 use Rattle.kernel_rules.proofs.Within.{put_same, put_other}
-use Rattle.kernel_invariant.specs.Edits.{Edit, Node, Become, Untype, Component, Deaden, Push, Pop, Switch, Charge, Move, Merge, Give}
-use Rattle.kernel_invariant.specs.Edits.{edited, after_edits}
 use Rattle.kernel_invariant.proofs.Sound.{put_all}
 use Rattle.kernel_invariant.proofs.SoundStart.{choose}
 use Rattle.kernel_invariant.proofs.SoundRuns.{open_limits}
@@ -198,7 +196,7 @@ owed_apart s c _ w = w
 decided_apart : (s : State) (c : ℕ) (call : Call) (r : Reply) → InLimits call → MayReply s c call r → Apart s
     → Apart (state_by s c call r)
 decided_apart s c call (reply.Ok v) lim may w =
-    after_ok s c call v Apart may (λ change e. edits_apart c s e.list e.tested (e.limited lim) w)
+    after_ok s c call v Apart may (λ es e. edits_apart c s es e.tested (e.limited lim) w)
 decided_apart s c call reply.CallsSpent lim may w = w
 decided_apart s c call reply.Raced lim may w = owed_apart s c call w
 decided_apart s c call (reply.Busy e) lim may w = owed_apart s c call w

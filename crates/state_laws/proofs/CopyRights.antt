@@ -1,23 +1,23 @@
 -- A copy that is carried out puts what its first name leads to, with no right that this lacks.
-use Rattle.std.proofs.Common.{◌≡◌, ℕ, Some, refl, sym, ap, ◌∙◌, subst}
+use Rattle.std.proofs.Common.{◌≡◌, ℕ, [], ◌∷◌, Some, refl, sym, ap, ◌∙◌, subst}
 use Rattle.spk_nums.proofs.KeptRights.{kept_has}
 use Rattle.spk_nums.specs.Capability.{Capability}
 use Rattle.spk_nums.specs.Rights.{kept}
 use Rattle.spk_nums.specs.declared.kinds.Kind.TheVariants as kind
-use Rattle.spk_nums.specs.declared.rights.Rights.{Rights}
 use Rattle.spk_nums.specs.declared.calls.Call.TheVariants.{Copy}
-use Rattle.spk_nums.specs.declared.replies.Value.{Value}
-use Rattle.kernel_rules.specs.State.{Place, Holds, State, put}
-use Rattle.kernel_rules.specs.Access.{Slot, Named, Want, Under, found, place_at, any, only, reached, usable, to_copy, to_use}
-use Rattle.kernel_rules.specs.Rules.{Change, Judged, Refused, Found, IsFoundAnd, fills, named, name_of, vacant, outcome}
+use Rattle.kernel_rules.specs.State.{Place, Holds, put}
+use Rattle.kernel_rules.specs.Access.{Slot, Named, Under, found, any, only, reached, to_copy, to_use}
+use Rattle.spk_nums.specs.declared.replies.Value.TheVariants.{Nothing}
+use Rattle.kernel_rules.specs.Edits.{Fill}
+use Rattle.kernel_rules.specs.Rules.{Change, does, Judged, Refused, Found, IsFoundAnd, named, name_of, vacant, outcome}
 use Rattle.kernel_rules.specs.CapabilityCalls.{copy_rule}
-use Rattle.kernel_rules.specs.CallRelation.{change_of, changed, state_by}
+use Rattle.kernel_rules.specs.CallRelation.{change_of, changed}
 use Rattle.kernel_rules.proofs.Within.{put_same}
 use Rattle.kernel_invariant.proofs.Facts.{then_parts, vacant_facts, suits}
 use Rattle.found_stays.proofs.Stays.{name_parts}
-use Rattle.kernel_laws.specs.Causes.{used_at, leads, leads_as}
+use Rattle.kernel_laws.specs.Causes.{used_at}
 use Rattle.kernel_laws.proofs.Causes.{leads_is}
-use Rattle.state_laws.specs.Rights.{PutsNoMore, CopiesPutNoMore}
+use Rattle.state_laws.specs.Rights.{CopiesPutNoMore}
 
 -- What is found, of what is found and has a property.
 record Has (j : Judged Change) : Type 0 where
@@ -33,7 +33,7 @@ found_inj x y e = cc
 
 pub copies_put_no_more : CopiesPutNoMore
 copies_put_no_more s c a u b rights v may =
-    let done : Has (outcome s c (copy_rule s a u b rights.0)) = has (outcome s c (copy_rule s a u b rights.0)) _ may.1.1 in
+    let done : Has (outcome s c (copy_rule a u b rights.0)) = has (outcome s c (copy_rule a u b rights.0)) _ may.1.1 in
     let first = then_parts (named s c a (to_copy any)) _ done.change done.is in
     let second = then_parts (named s c u (to_use (only kind.Table))) _ done.change first.2 in
     let target = then_parts (vacant s c (Under (found second.0) b)) _ done.change second.2 in
@@ -41,8 +41,8 @@ copies_put_no_more s c a u b rights v may =
     let at : Slot = target.0 in
     let parts = name_parts s c a (to_copy any) k first.1 in
     let table : name_of (named s c u (to_use (only kind.Table))) ≡ found second.0 = ap name_of second.1 in
-    let change_is : change_of s c (Copy a u b rights) ≡ Found (fills s at (kept k rights.0)) =
-    done.is ∙ ap (λ (x : Change). Found x) (sym (found_inj (fills s at (kept k rights.0)) done.change target.2)) in
+    let change_is : change_of s c (Copy a u b rights) ≡ Found (does c s Nothing (Fill at (kept k rights.0) ∷ [])) =
+    done.is ∙ ap (λ (x : Change). Found x) (sym (found_inj (does c s Nothing (Fill at (kept k rights.0) ∷ [])) done.change target.2)) in
     record {
       source = k;
       leads_there = ap (used_at s c) parts.1 ∙ parts.3 ∙ ap (λ (x : Capability). Some x) (suits (to_copy any) parts.2 k parts.4).is;

@@ -14,10 +14,8 @@ use Rattle.kernel_rules.specs.State.{Holds, Pages, Pleaf, Frame, User, Kernel, G
 use Rattle.kernel_rules.specs.Start.{no_grace}
 use Rattle.kernel_rules.specs.References.{refs}
 use Rattle.kernel_rules.specs.GracePeriods.{new_grace, begun, lowest, unflushed_by, needs_flush, is_paging, is_translated}
-use Rattle.kernel_rules.specs.Rules.{Change, Unflushed, Judged, Refused}
-use Rattle.kernel_rules.specs.Rules.{Found, IsFoundAnd, flushes_of}
-use Rattle.kernel_rules.specs.CallRelation.{change_of, changed, counted, owed_by, state_by}
-use Rattle.kernel_rules.specs.CallRelation.{MayReply, begins, begins_in, ends, flushes}
+use Rattle.kernel_rules.specs.Rules.{Change, Unflushed, Judged, Refused, Found, IsFoundAnd, flushes_of}
+use Rattle.kernel_rules.specs.CallRelation.{change_of, changed, counted, owed_by, state_by, MayReply, begins, begins_in, ends, flushes}
 use Rattle.kernel_rules.specs.Relies.{is_node}
 use Rattle.kernel_rules.proofs.Changes.{IfFound}
 use Rattle.kernel_rules.proofs.Within.{put_same, put_other}
@@ -25,7 +23,8 @@ use Rattle.kernel_invariant.proofs.Facts.{some_none}
 use Rattle.kernel_invariant.proofs.SoundRemovals.{find_not}
 use Rattle.kernel_invariant.proofs.SoundCalls.{IsOpen}
 use Rattle.kernel_invariant.proofs.Refs.{RefsBy, refs_by, grace_refs}
-use Rattle.kernel_invariant.specs.Edits.{Edit, Untype, ends_in, ends_all}
+use Rattle.kernel_invariant.specs.Edits.{ends_in, ends_all}
+use Rattle.kernel_rules.specs.Edits.{Edit, Untype}
 use Rattle.kernel_invariant.proofs.Edited.{Tested, Each, Calm, found_by}
 use Rattle.kernel_invariant.proofs.RefsLaw.{counted_refs}
 use Rattle.found_stays.proofs.SparesRuns.{among, core_same_refs}
@@ -65,7 +64,7 @@ frame_ends : (s : State) (d : ℕ) (call : Call) (r : Reply) (f : ℕ) → MayRe
     → AreFlushed s (FrameOf f)
 frame_ends s d call (reply.Ok v) f may is =
     found_fact (change_of s d call) (λ k. k.value ≡ v) (found_by s d call (λ change. AreFlushed s (FrameOf f))
-    (λ change e. edits_flushed d s e.list e.calm e.tested f (sym (e.agrees.0 (FrameOf f)) ∙ is))) may.1.1
+    (λ v es e. edits_flushed d s es e.calm e.tested f (sym (e.agrees.0 (FrameOf f)) ∙ is))) may.1.1
 frame_ends s d call _ f may is = absurd (false≢true is)
 
 pub frame_flushed : (s : State) (d : ℕ) (call : Call) (r : Reply) (f : ℕ) → MayReply s d call r → ends call r (FrameOf f) ≡ true

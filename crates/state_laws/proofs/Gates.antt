@@ -12,11 +12,12 @@ use Rattle.spk_nums.specs.declared.kinds.FrameKind.TheVariants as frame_kind
 use Rattle.spk_nums.specs.declared.calls.Make.{Make}
 use Rattle.spk_nums.specs.declared.calls.Make.TheVariants as make
 use Rattle.spk_nums.specs.declared.calls.Call.{Call}
-use Rattle.spk_nums.specs.declared.calls.Call.TheVariants.{Look, Copy, Remove, Grow, Shrink, Retype, Make as make_call}
+use Rattle.spk_nums.specs.declared.calls.Call.TheVariants.{Look, Copy, Remove as remove_call, Grow, Shrink, Retype, Make as make_call}
 use Rattle.spk_nums.specs.declared.calls.Call.TheVariants.{Map, Unmap, Touch, Flush, Gate, Kill, Call as call_gate}
 use Rattle.spk_nums.specs.declared.calls.Call.TheVariants.{Ret, Switch, Tick, Transfer, Delegate, Test, Part, Replenish}
 use Rattle.spk_nums.specs.declared.translations.Translation.{Translation}
 use Rattle.spk_nums.specs.declared.replies.Value.{Value}
+use Rattle.spk_nums.specs.declared.replies.Value.TheVariants.{Nothing}
 use Rattle.spk_nums.specs.declared.replies.Reply.{Reply}
 use Rattle.spk_nums.specs.declared.replies.Reply.TheVariants as reply
 use Rattle.kernel_rules.specs.State.{Place, Free, Holds, Quiescing, Object, Thing, PlaceOf}
@@ -25,8 +26,9 @@ use Rattle.kernel_rules.specs.Start.{start, no_grace, plain_cap, start_cap, plac
 use Rattle.kernel_rules.specs.References.{named_by, times}
 use Rattle.kernel_rules.specs.Access.{Want, any, to_copy, Slot, Named, found, place_at, held_in, usable_in, usable, only}
 use Rattle.kernel_rules.specs.GracePeriods.{new_grace}
-use Rattle.kernel_rules.specs.Rules.{Change, Judged, Refused, Found, IsFoundAnd, named, fills, removes}
-use Rattle.kernel_rules.specs.CapabilityCalls.{makes, cleared, make_rule}
+use Rattle.kernel_rules.specs.Rules.{Change, does, Judged, Refused, Found, IsFoundAnd, named}
+use Rattle.kernel_rules.specs.CapabilityCalls.{make_rule}
+use Rattle.kernel_rules.specs.Edits.{Fill, Remove, Node, cleared, edited}
 use Rattle.kernel_rules.specs.MemoryCalls.{retype_rule, touch_by, translation_of}
 use Rattle.kernel_rules.specs.InvocationCalls.{switch_to}
 use Rattle.kernel_rules.specs.CallRelation.{rule_of, change_of, changed, owed_by, state_by, begins, ends, flushes, MayReply}
@@ -41,7 +43,7 @@ use Rattle.kernel_invariant.proofs.SoundSteps.{place_all, free_holds, holds_inj,
 use Rattle.kernel_invariant.proofs.SoundStart.{choose}
 use Rattle.kernel_invariant.proofs.SoundCalls.{IsOpen, gate_comp}
 use Rattle.kernel_invariant.proofs.SoundRuns.{opened, open_is, inside_is}
-use Rattle.kernel_invariant.proofs.Facts.{ChangesFrom, outcome_from, suits, some_inj, none_some, found_inj, refused_found}
+use Rattle.kernel_invariant.proofs.Facts.{ChangesFrom, outcome_from, suits, some_inj, none_some}
 use Rattle.kernel_invariant.proofs.GraceChanges.{grace_by, grace_is, flushed_by}
 use Rattle.kernel_invariant.proofs.Ends.{ends_by_rule}
 use Rattle.found_stays.proofs.Stays.{name_parts, place_named}
@@ -97,11 +99,11 @@ other : (s t : State) (change : Change) (at : Slot) (k : Capability)
     → only kind.Gate k.kind ≡ false → NewGates s change
 other s t change at k old next none = filled s t change at k old next (no_gate change.next k none)
 
-removed : (s : State) (at : Slot) (k : Capability) → NewGates s (removes s at k)
-removed s at k = record {
+removed : (s : State) (c : ℕ) (at : Slot) (k : Capability) → NewGates s (does c s Nothing (Remove at k ∷ []))
+removed s c at k = record {
   gate =
       λ f i j. place_all (λ f i p. p ≡ Holds j
-      → (s.place f i ≡ Holds j) ⊎ IsOfEpoch (removes s at k).next j) s at.node at.index (Quiescing k) f i
+      → (s.place f i ≡ Holds j) ⊎ IsOfEpoch (edited c s (Remove at k)) j) s at.node at.index (Quiescing k) f i
       (λ same index q. absurd (quiescing_holds k j q)) (λ q. inl q);
 }
 
@@ -109,10 +111,9 @@ was_held : (s : State) (f g i : ℕ) (k : Capability) → put s.place f (λ i. F
 was_held s f g i k =
     put_all (λ g r. r i ≡ Holds k → s.place g i ≡ Holds k) s.place f (λ i. Free) g (λ same e. absurd (free_holds k e)) (λ other e. e)
 
-made : (s t : State) (f : ℕ) (object : Object) (k : Kind) (at : Slot)
-    → ((f i : ℕ) (j : Capability) → t.place f i ≡ Holds j → s.place f i ≡ Holds j)
-    → only kind.Gate k ≡ false → NewGates s (makes t f object k at)
-made s t f object k at old none = other s t (makes t f object k at) at (plain_cap k f) old (λ g i. refl) none
+node_made : (s : State) (c f : ℕ) (object : Object) (k : Kind) (at : Slot) → only kind.Gate k ≡ false
+    → NewGates s (does c s Nothing (Node f object ∷ Fill at (plain_cap k f) ∷ []))
+node_made s c f object k at none = other s (cleared s f) _ at (plain_cap k f) (was_held s f) (λ g i. refl) none
 
 module _ (s : State) (o : ℕ → Bool) (c : ℕ) (h : IsOpen s o c) (w : AreGates s o) where
   named_gate : (n : ℕ) (wanted : Want) (k : Capability) → named s c n wanted ≡ Found k → IsOfEpoch s k
@@ -121,12 +122,14 @@ module _ (s : State) (o : ℕ → Bool) (c : ℕ) (h : IsOpen s o c) (w : AreGat
       subst (IsOfEpoch s) (suits wanted p.2 k p.4).is (usable_gate s o c p.0 p.2 w h.is p.3)
 
   make_gates : (what : Make) (r f t b : ℕ) → ChangesFrom (NewGates s) s c (make_rule s what r f t b)
-  make_gates make.Table r f t b = λ range e table g at v calm. made s (cleared s f) f _ kind.Table at (was_held s f) refl
-  make_gates make.Leaf r f t b = λ range e table g at v calm. made s (cleared s f) f _ kind.Leaf at (was_held s f) refl
-  make_gates make.Pages r f t b = λ range e table g at v calm. made s (cleared s f) f _ kind.Pages at (was_held s f) refl
-  make_gates make.Pleaf r f t b = λ range e table g at v calm. made s (cleared s f) f _ kind.Pleaf at (was_held s f) refl
-  make_gates (make.Thread comp) r f t b = λ range e table g k j at v calm. made s s f _ kind.Thread at (λ f i j e. e) refl
-  make_gates (make.Tcap sched quality) r f t b = λ range e table g at v calm. made s s f _ kind.Tcap at (λ f i j e. e) refl
+  make_gates make.Table r f t b = λ range e table g at v calm. node_made s c f _ kind.Table at refl
+  make_gates make.Leaf r f t b = λ range e table g at v calm. node_made s c f _ kind.Leaf at refl
+  make_gates make.Pages r f t b = λ range e table g at v calm. node_made s c f _ kind.Pages at refl
+  make_gates make.Pleaf r f t b = λ range e table g at v calm. node_made s c f _ kind.Pleaf at refl
+  make_gates (make.Thread comp) r f t b = λ range e table g k j at v calm.
+      other s s _ at (plain_cap kind.Thread f) (λ f i j e. e) (λ g i. refl) refl
+  make_gates (make.Tcap sched quality) r f t b = λ range e table g at v calm.
+      other s s _ at (plain_cap kind.Tcap f) (λ f i j e. e) (λ g i. refl) refl
   make_gates (make.Comp x p l) r f t b = λ range e table g own_table a own_pages d at v calm.
       other s s _ at (plain_cap kind.Comp f) (λ f i j e. e) (λ g i. refl) refl
 
@@ -134,28 +137,28 @@ module _ (s : State) (o : ℕ → Bool) (c : ℕ) (h : IsOpen s o c) (w : AreGat
   retype_gates r f frame_kind.Untyped = λ range e calm. stays s _ (λ f i. refl)
   retype_gates r f _ = λ range e calm. stays s _ (λ f i. refl)
 
-  touch_gates : (pages v : ℕ) (t : Option Translation) → ChangesFrom (NewGates s) s c (touch_by s c pages v t)
+  touch_gates : (pages v : ℕ) (t : Option Translation) → ChangesFrom (NewGates s) s c (touch_by pages v t)
   touch_gates pages v None = λ mapping e calm. stays s _ (λ f i. refl)
   touch_gates pages v (Some t) = λ calm. stays s _ (λ f i. refl)
 
-  switch_gates : (q : ℕ) (name : Named) (e : Option ℕ) → ChangesFrom (NewGates s) s c (switch_to s c name q e)
+  switch_gates : (q : ℕ) (name : Named) (e : Option ℕ) → ChangesFrom (NewGates s) s c (switch_to name q e)
   switch_gates q name None = λ calm. stays s _ (λ f i. refl)
   switch_gates q name (Some e) = λ calm. stays s _ (λ f i. refl)
 
   rule_gates : (call : Call) → ChangesFrom (NewGates s) s c (rule_of s c call)
   rule_gates (Look a) = λ k e calm. stays s _ (λ f i. refl)
   rule_gates (Copy a t b rights) =
-      λ k e table f at v calm. filled s s (fills s at (kept_rights k rights.0)) at (kept_rights k rights.0) (λ f i j e. e) (λ f i. refl)
+      λ k e table f at v calm. filled s s _ at (kept_rights k rights.0) (λ f i j e. e) (λ f i. refl)
       (named_gate a (to_copy any) k e)
-  rule_gates (Remove t b) = λ table e at k g calm. removed s at k
+  rule_gates (remove_call t b) = λ table e at k g calm. removed s c at k
   rule_gates (Grow t i l) = λ table e leaf f at v calm.
       other s s _ at (plain_cap kind.Link leaf.frame) (λ f i j e. e) (λ f i. refl) refl
-  rule_gates (Shrink t i) = λ table e at k g calm. removed s at k
+  rule_gates (Shrink t i) = λ table e at k g calm. removed s c at k
   rule_gates (Retype r f k) = retype_gates r f k
   rule_gates (make_call what r f t b) = make_gates what r f t b
   rule_gates (Map p v r f w) = λ pages e range g at u calm.
       other s s _ at (cap_of kind.Page f w.0) (λ f i j e. e) (λ f i. refl) refl
-  rule_gates (Unmap p v) = λ pages e at k g calm. removed s at k
+  rule_gates (Unmap p v) = λ pages e at k g calm. removed s c at k
   rule_gates (Touch v) = touch_gates (comp_of s c).pages v (translation_of (s.core c).cached (comp_of s c).pages v)
   rule_gates Flush = λ calm. stays s _ (λ f i. refl)
   rule_gates (Gate k t b) = λ comp e table f at v calm. filled s s _ at _ (λ f i j e. e) (λ f i. refl) (λ is. refl)

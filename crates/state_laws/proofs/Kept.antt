@@ -10,21 +10,18 @@ use Rattle.spk_nums.specs.declared.calls.Call.TheVariants.{Tick}
 use Rattle.spk_nums.specs.declared.replies.Value.{Value}
 use Rattle.spk_nums.specs.declared.replies.Reply.{Reply}
 use Rattle.spk_nums.specs.declared.replies.Reply.TheVariants as reply
-use Rattle.kernel_rules.specs.State.{Place, Free, Holds, Quiescing, ThreadFields, TcapFields, Blank}
-use Rattle.kernel_rules.specs.State.{Table, Leaf, Pages, Pleaf, Comp, Thread, Tcap, Frame, Untyped, User, Kernel}
-use Rattle.kernel_rules.specs.State.{Thing, PlaceOf, FrameOf, State, put, thread_of}
+use Rattle.kernel_rules.specs.State.{Place, Free, Holds, Quiescing, ThreadFields, TcapFields, Blank, Table, Leaf, Pages, Pleaf, Comp}
+use Rattle.kernel_rules.specs.State.{Thread, Tcap, Frame, Untyped, User, Kernel, Thing, PlaceOf, FrameOf, State, put, thread_of}
 use Rattle.kernel_rules.specs.References.{place_names, frame_names, number_names}
 use Rattle.kernel_rules.specs.Access.{held_in}
 use Rattle.kernel_rules.specs.GracePeriods.{same_thing}
-use Rattle.kernel_rules.specs.Rules.{Change, Judged, Refused, Found, IsFoundAnd, frames_of}
-use Rattle.kernel_rules.specs.InvocationCalls.{with_thread, running}
-use Rattle.kernel_rules.specs.TimeCalls.{with_tcap, with_budget, tcap_at, moved}
-use Rattle.kernel_rules.specs.CallRelation.{change_of, changed, owed_by, state_by, begins, ends, ends_by, MayReply}
-use Rattle.kernel_rules.specs.CallRelation.{begins_in as begun_in}
+use Rattle.kernel_rules.specs.Rules.{Change, does, Judged, Refused, Found, IsFoundAnd}
+use Rattle.kernel_rules.specs.Edits.{frames_of, with_thread, running, with_tcap, with_budget, tcap_at, moved, Edit, Fill, Remove, Node}
+use Rattle.kernel_rules.specs.Edits.{Become, Untype, Component, Deaden, Push, Pop, Switch, Charge, Move, Merge, Give, edited, after_edits}
+use Rattle.kernel_rules.specs.Edits.{begins_in, begins_all}
+use Rattle.kernel_rules.specs.CallRelation.{change_of, changed, owed_by, state_by, begins, ends, ends_by, MayReply, begins_in as begun_in}
 use Rattle.kernel_rules.proofs.Changes.{IfFound}
-use Rattle.kernel_invariant.specs.Edits.{Edit, Fill, Remove, Node, Become, Untype, Component, Deaden}
-use Rattle.kernel_invariant.specs.Edits.{Push, Pop, Switch, Charge, Move, Merge, Give}
-use Rattle.kernel_invariant.specs.Edits.{edited, after_edits, begins_in, begins_all, ends_in, ends_all}
+use Rattle.kernel_invariant.specs.Edits.{ends_in, ends_all}
 use Rattle.kernel_invariant.proofs.Sound.{put_all}
 use Rattle.kernel_invariant.proofs.SoundSteps.{place_all, free_quiescing, holds_quiescing, quiescing_inj}
 use Rattle.kernel_invariant.proofs.SoundRemovals.{frames_no_place}
@@ -249,10 +246,10 @@ edits_keep c s (e ∷ es) calm known = kept_same s (after_edits c s (e ∷ es)) 
 abbrev KeepsBy : State → Call → Change → Type 0
 KeepsBy s call change = KeptBy s change.next (λ x. list_any (same_thing x) change.begins) (ends_by call)
 
-keeps_by : (s : State) (o : ℕ → Bool) (c : ℕ) → IsOpen s o c → (call : Call) (change : Change) → Edits call c s change
-    → KeepsBy s call change
-keeps_by s o c h call change e = subst (KeepsBy s call) (sym e.is)
-    (kept_same s (after_edits c s e.list) _ _ _ _ (λ x. refl) (λ x. sym (e.agrees.0 x)) (edits_keep c s e.list e.calm (e.known o h)))
+keeps_by : (s : State) (o : ℕ → Bool) (c : ℕ) → IsOpen s o c → (call : Call) (v : Value) (es : List Edit) → Edits call c s es
+    → KeepsBy s call (does c s v es)
+keeps_by s o c h call v es e =
+    kept_same s (after_edits c s es) _ _ _ _ (λ x. refl) (λ x. sym (e.agrees.0 x)) (edits_keep c s es e.calm (e.known o h))
 
 found_kept : (s : State) (call : Call) (v : Value) (x : Judged Change) → IfFound x (KeepsBy s call) → IsFoundAnd x (λ k. k.value ≡ v)
     → KeptBy s (changed s x) (begun_in x) (ends_by call)

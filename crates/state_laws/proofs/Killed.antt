@@ -13,13 +13,12 @@ use Rattle.kernel_rules.specs.State.{CompFields, Liveness, Unused, Live, Dead, G
 use Rattle.kernel_rules.specs.References.{place_names, frame_names, number_names}
 use Rattle.kernel_rules.specs.GracePeriods.{same_thing, new_grace, begun}
 use Rattle.kernel_rules.specs.Life.{is_live_in, is_dead_in, asks_life}
-use Rattle.kernel_rules.specs.Rules.{frames_of}
+use Rattle.kernel_rules.specs.Edits.{frames_of, Edit, Node, Remove, Untype, Component, Deaden, Pop, Switch, edited, after_edits, begins_in}
 use Rattle.kernel_rules.specs.CallRelation.{change_of, changed, owed_by, state_by, MayReply}
 use Rattle.kernel_rules.specs.Runs.{Event, Enters, Decides, Returns, Out, after, is_in, phase_of, IsRun}
 use Rattle.kernel_rules.proofs.Within.{put_same, put_other}
 use Rattle.kernel_rules.proofs.AloneLaw.{waits_inside}
-use Rattle.kernel_invariant.specs.Edits.{Edit, Node, Remove, Untype, Component, Deaden, Pop, Switch, edited, after_edits, begins_in}
-use Rattle.kernel_invariant.specs.Edits.{begins_all}
+use Rattle.kernel_rules.specs.Edits.{begins_all}
 use Rattle.kernel_invariant.proofs.SoundRuns.{inside_is}
 use Rattle.kernel_invariant.proofs.Edited.{Tested, Each, Calm, later_number, after_ok}
 use Rattle.state_laws.specs.Looking.{KilledStop}
@@ -111,7 +110,7 @@ decided_over : (s : State) (d : ℕ) (call : Call) (r : Reply) → MayReply s d 
     → IsOver (state_by s d call r) c l e
 decided_over s d call (reply.Ok v) may c l e h =
     let by : IsOver (changed s (change_of s d call)) c l e =
-    after_ok s d call v (λ t. IsOver t c l e) may (λ change es. edits_over d s es.list es.calm es.tested c l e h) in
+    after_ok s d call v (λ t. IsOver t c l e) may (λ es k. edits_over d s es k.calm k.tested c l e h) in
     record { past = by.past; left = by.left }
 decided_over s d call reply.CallsSpent may c l e h = h
 decided_over s d call reply.Raced may c l e h =

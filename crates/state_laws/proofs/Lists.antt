@@ -8,11 +8,12 @@ use Rattle.spk_nums.specs.declared.translations.Translation.{Translation}
 use Rattle.spk_nums.specs.declared.replies.Reply.{Reply}
 use Rattle.spk_nums.specs.declared.replies.Reply.TheVariants as reply
 use Rattle.kernel_rules.specs.State.{Core, State, put}
-use Rattle.kernel_rules.specs.Rules.{Change, Judged, Refused, Found}
-use Rattle.kernel_rules.specs.MemoryCalls.{caching}
+use Rattle.spk_nums.specs.declared.replies.Value.{Value}
+use Rattle.kernel_rules.specs.Rules.{Change, does, Judged, Refused, Found}
+use Rattle.kernel_rules.specs.Edits.{caching, Edit, Switch, Cache, Flush, Charge, Give, edited, after_edits}
 use Rattle.kernel_rules.specs.CallRelation.{change_of, changed, counted, owed_by, state_by, flushes, flushes_by}
 use Rattle.kernel_rules.proofs.Changes.{IfFound}
-use Rattle.kernel_invariant.specs.Edits.{Edit, Switch, Cache, Flush, Charge, Give, edited, after_edits, is_flush, flush_in}
+use Rattle.kernel_invariant.specs.Edits.{is_flush, flush_in}
 use Rattle.kernel_invariant.proofs.Sound.{put_all}
 use Rattle.kernel_invariant.proofs.Edited.{Edits, found_by}
 use Rattle.state_laws.specs.Cached.{Begins}
@@ -87,9 +88,8 @@ module _ (s : State) (c : ℕ) where
   abbrev Keeps : Call → Change → Type 0
   Keeps call change = GoOn s c (flushes_by call) change.next.core
 
-  keeps_by : (call : Call) (change : Change) → Edits call c s change → Keeps call change
-  keeps_by call change e = subst (λ (k : Change). Keeps call k) (sym e.is)
-      (subst (λ b. GoOn s c b (after_edits c s e.list).core) (sym e.agrees.1) (edits_go c s e.list))
+  keeps_by : (call : Call) (v : Value) (es : List Edit) → Edits call c s es → Keeps call (does c s v es)
+  keeps_by call v es e = subst (λ b. GoOn s c b (after_edits c s es).core) (sym e.agrees.1) (edits_go c s es)
 
   changed_keeps : (call : Call) (x : Judged Change) → IfFound x (Keeps call) → GoOn s c (flushes_by call) (changed s x).core
   changed_keeps call (Refused r) by = stay s c (flushes_by call)

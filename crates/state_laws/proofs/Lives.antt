@@ -8,13 +8,12 @@ use Rattle.spk_nums.specs.declared.calls.Call.{Call}
 use Rattle.spk_nums.specs.declared.calls.Call.TheVariants.{Tick}
 use Rattle.spk_nums.specs.declared.replies.Reply.{Reply}
 use Rattle.spk_nums.specs.declared.replies.Reply.TheVariants as reply
-use Rattle.kernel_rules.specs.State.{TcapFields, Tcap, Comp, Frame, Kernel, Liveness, Unused, Live}
-use Rattle.kernel_rules.specs.State.{Dead, FrameOf, State, put}
+use Rattle.kernel_rules.specs.State.{TcapFields, Tcap, Comp, Frame, Kernel, Liveness, Unused, Live, Dead, FrameOf, State, put}
 use Rattle.kernel_rules.specs.Start.{start}
 use Rattle.kernel_rules.specs.References.{number_names, times, refs}
 use Rattle.kernel_rules.specs.CapabilityCalls.{is_live, epoch_of}
 use Rattle.kernel_rules.specs.Life.{is_live_in}
-use Rattle.kernel_rules.specs.TimeCalls.{with_tcap}
+use Rattle.kernel_rules.specs.Edits.{with_tcap, Edit, Fill, Component, Deaden, Merge, edited, after_edits}
 use Rattle.kernel_rules.specs.CallRelation.{owed_by, state_by, ends, MayReply}
 use Rattle.kernel_rules.specs.Fitting.{fits}
 use Rattle.kernel_rules.specs.Runs.{Event, Enters, Decides, Returns, after, is_open, IsRun}
@@ -24,7 +23,6 @@ use Rattle.kernel_invariant.proofs.Sound.{IsSound, put_all}
 use Rattle.kernel_invariant.proofs.SoundRemovals.{unnamed}
 use Rattle.kernel_invariant.proofs.SoundCalls.{IsOpen}
 use Rattle.kernel_invariant.proofs.SoundRuns.{opened, open_is}
-use Rattle.kernel_invariant.specs.Edits.{Edit, Fill, Component, Deaden, Merge, edited, after_edits}
 use Rattle.kernel_invariant.proofs.Edited.{Tested, Each, AreLater, later_number, Calm, after_ok}
 use Rattle.kernel_invariant.proofs.Ends.{ends_by_rule}
 use Rattle.state_laws.specs.Lives.{IsCompOf, LiveNumbersFit, DeadStays}
@@ -128,8 +126,8 @@ owed_number s c _ l = refl
 
 decided_numbers : (s : State) (c : ℕ) (call : Call) (r : Reply) → MayReply s c call r → DecidedNumbers s (state_by s c call r)
 decided_numbers s c call (reply.Ok v) may =
-    let n = after_ok s c call v (DecidedNumbers s) may (λ change e.
-    let n = edits_numbers c s e.list e.calm e.tested in record { live = n.live; past = n.past }) in
+    let n = after_ok s c call v (DecidedNumbers s) may (λ es e.
+    let n = edits_numbers c s es e.calm e.tested in record { live = n.live; past = n.past }) in
     record { live = n.live; past = n.past }
 decided_numbers s c call reply.CallsSpent may = unchanged s _ (λ l. refl)
 decided_numbers s c call reply.Raced may = unchanged s _ (owed_number s c call)

@@ -10,13 +10,11 @@ use Rattle.spk_nums.specs.declared.replies.Reply.TheVariants as reply
 use Rattle.kernel_rules.specs.State.{ThreadFields, TcapFields, Comp, Thread, Tcap}
 use Rattle.kernel_rules.specs.State.{Frame, Untyped, Kernel, Core, State, put, thread_in, thread_of}
 use Rattle.kernel_rules.specs.Start.{start}
-use Rattle.kernel_rules.specs.InvocationCalls.{with_thread, running}
-use Rattle.kernel_rules.specs.TimeCalls.{with_tcap, with_budget, tcap_at, charge}
+use Rattle.kernel_rules.specs.Edits.{with_thread, running, with_tcap, with_budget, tcap_at, charge, Edit, Node, Become, Untype, Component}
+use Rattle.kernel_rules.specs.Edits.{Push, Pop, Switch, Cache, Flush, Charge, Move, Merge, Give, edited, after_edits}
 use Rattle.kernel_rules.specs.CallRelation.{change_of, changed, counted, owed_by, state_by, MayReply}
 use Rattle.kernel_rules.specs.Runs.{Event, Enters, Decides, Returns, after, is_open, IsRun}
 use Rattle.kernel_rules.proofs.Within.{put_same, put_other}
-use Rattle.kernel_invariant.specs.Edits.{Edit, Node, Become, Untype, Component, Push, Pop, Switch, Cache, Flush}
-use Rattle.kernel_invariant.specs.Edits.{Charge, Move, Merge, Give, edited, after_edits}
 use Rattle.kernel_invariant.proofs.Sound.{put_all}
 use Rattle.kernel_invariant.proofs.SoundStart.{choose}
 use Rattle.kernel_invariant.proofs.SoundCalls.{IsOpen}
@@ -145,7 +143,7 @@ decided_back : (s : State) (o : ℕ → Bool) (c : ℕ) (call : Call) (r : Reply
     → Back (state_by s c call r)
 decided_back s o c call (reply.Ok v) h may w =
     counted_back (changed s (change_of s c call)) c
-    (after_ok s c call v Back may (λ change e. edits_back c s e.list (e.known o h) w))
+    (after_ok s c call v Back may (λ es e. edits_back c s es (e.known o h) w))
 decided_back s o c call reply.CallsSpent h may w = w
 decided_back s o c call reply.Raced h may w = counted_back (owed_by s c call) c (owed_back s c call w)
 decided_back s o c call (reply.Busy e) h may w = counted_back (owed_by s c call) c (owed_back s c call w)

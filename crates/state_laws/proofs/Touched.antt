@@ -11,8 +11,9 @@ use Rattle.spk_nums.specs.declared.translations.Translation.{Translation}
 use Rattle.spk_nums.specs.declared.replies.Value.TheVariants.{Page}
 use Rattle.spk_nums.specs.declared.replies.Reply.TheVariants as reply
 use Rattle.kernel_rules.specs.State.{Core, State, with_core, comp_of}
-use Rattle.kernel_rules.specs.Rules.{Change, Judged, Refused, Found, Does, IsFoundAnd, and_then, unless, first_of, mapped, outcome, answers}
-use Rattle.kernel_rules.specs.MemoryCalls.{translation_of, caching, translated, caches, touch_by}
+use Rattle.kernel_rules.specs.Rules.{Change, does, Judged, Refused, Found, IsFoundAnd, and_then, unless, first_of, mapped, outcome}
+use Rattle.kernel_rules.specs.MemoryCalls.{translation_of, translated, caches, touch_by}
+use Rattle.kernel_rules.specs.Edits.{caching}
 use Rattle.kernel_rules.specs.CallRelation.{changed, counted}
 use Rattle.kernel_rules.specs.Runs.{after, is_open as is_open_phase}
 use Rattle.kernel_invariant.proofs.SoundCalls.{IsOpen}
@@ -75,18 +76,18 @@ module _ (s : State) (o : ℕ → Bool) (c : ℕ) (h : IsOpen s o c) (w : IsFitt
   after_it j = counted (changed s j) c
 
   abbrev Answered : Option Translation → Type 0
-  Answered cached = Answers s (after_it (outcome s c (touch_by s c pages v cached))) c x
+  Answered cached = Answers s (after_it (outcome s c (touch_by pages v cached))) c x
 
   abbrev IsIt : Change → Type 0
   IsIt change = change.value ≡ Page f flags
 
   -- it was cached
   by_some : (t : Translation) → translation_of (s.core c).cached pages v ≡ Some t
-      → IsFoundAnd (outcome s c (touch_by s c pages v (Some t))) IsIt → Answered (Some t)
+      → IsFoundAnd (outcome s c (touch_by pages v (Some t))) IsIt → Answered (Some t)
   by_some t found_it is = by (nat_lt 4095 v) is
     where
       judged : Bool → Judged Change
-      judged b = unless (first_of (if b then Some reply.NoSlot else None) None) (answers s (translated t))
+      judged b = unless (first_of (if b then Some reply.NoSlot else None) None) (does c s (translated t) [])
 
       by : (b : Bool) → IsFoundAnd (judged b) IsIt → Answers s (after_it (judged b)) c x
       by true is = absurd is
@@ -101,14 +102,14 @@ module _ (s : State) (o : ℕ → Bool) (c : ℕ) (h : IsOpen s o c) (w : IsFitt
           }
 
   -- a mapping was found
-  by_none : translation_of (s.core c).cached pages v ≡ None → IsFoundAnd (outcome s c (touch_by s c pages v None)) IsIt → Answered None
+  by_none : translation_of (s.core c).cached pages v ≡ None → IsFoundAnd (outcome s c (touch_by pages v None)) IsIt → Answered None
   by_none none is = by (mapped s c pages v) refl is
     where
       item : Capability → Translation
       item k = record { pages = pages; page = v; frame = k.frame; flags = record { 0 = k.arg } }
 
       judged : Judged Capability → Judged Change
-      judged j = and_then j λ k. outcome s c (Does [] (caches s c (item k)))
+      judged j = and_then j λ k. outcome s c (caches (item k))
 
       by : (j : Judged Capability) → mapped s c pages v ≡ j → IsFoundAnd (judged j) IsIt → Answers s (after_it (judged j)) c x
       by (Refused r) found_it is = absurd is
@@ -141,7 +142,7 @@ module _ (s : State) (o : ℕ → Bool) (c : ℕ) (h : IsOpen s o c) (w : IsFitt
           )
 
   pub touch_answers : (cached : Option Translation) → translation_of (s.core c).cached pages v ≡ cached
-      → IsFoundAnd (outcome s c (touch_by s c pages v cached)) IsIt → Answered cached
+      → IsFoundAnd (outcome s c (touch_by pages v cached)) IsIt → Answered cached
   touch_answers None is answer = by_none is answer
   touch_answers (Some t) is answer = by_some t is answer
 

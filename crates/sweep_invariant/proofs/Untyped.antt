@@ -66,6 +66,8 @@ use Rattle.sweep_invariant.proofs.FreeEntries.{counts_entry, entry_unmarked, no_
 use Rattle.sweep_invariant.proofs.OwnedFrames.{Differ, OwnedApart, names_differ, owned_apart}
 use Rattle.freeze_invariant.proofs.UntypeCalls as calls
 use Rattle.freeze_invariant.proofs.UntypeCalls.{typed_is}
+use Rattle.freeze_invariant.specs.kernel_rules.specs.Rules.{does}
+use Rattle.freeze_invariant.specs.spk_nums.specs.declared.replies.Value.TheVariants.{Nothing as no_value}
 
 -- A count that falls by one.
 one_less : (m n : ℕ) → n + 1 ≡ m → pos n ≡ pos m +ℤ negsuc 0
@@ -79,12 +81,7 @@ thaw_marks w h q = (thaw_all w true h q).0 ∙ frozen_same q ∙ sym (thaw_all w
     frozen_same : (u : Word) → (if is_frozen (thaw_from w true) u then true else h.marks u)
         ≡ (if is_frozen (thaw_from w false) u then true else h.marks u)
     frozen_same (EntryAt f i) = refl
-    frozen_same (FrameAt f) = refl
-    frozen_same (CountAt f d) = refl
-    frozen_same (CoreAt d) = refl
-    frozen_same (FlushAt d) = refl
-    frozen_same (LiveAt l) = refl
-    frozen_same ClockAt = refl
+    frozen_same _ = refl
 
 thaw_beside : (w : Swept) (clear : Bool) (h g : Holding) (q : Word) → h.marks q ≡ g.marks q
     → (holds_thaw (thaw_of w clear) h).marks q ≡ (holds_thaw (thaw_of w clear) g).marks q
@@ -198,7 +195,7 @@ module _ (setup : Setting) (setting : IsSetting setup) (cores : ℕ → Core) (t
 
   -- the change
   abbrev change : Change
-  change = retypes s f kind.Untyped
+  change = does c s no_value (retypes f kind.Untyped ∷ [])
 
   is_change : change_of s c a.call ≡ Found change
   is_change = calls.by_causes setup setting cores t stands c here a active m stage_is has None None None None None

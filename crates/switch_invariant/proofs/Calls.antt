@@ -13,7 +13,8 @@ use Rattle.thread_invariant.proofs.Common.{holds_in, Invariant, HasThread, Switc
 use Rattle.thread_invariant.proofs.Common.{limits_of, at_place, Call}
 use Rattle.thread_invariant.specs.spk_nums.specs.declared.kinds.Kind.TheVariants as kind
 use Rattle.thread_invariant.specs.spk_nums.specs.declared.replies.Reply.TheVariants as reply
-use Rattle.thread_invariant.specs.kernel_rules.specs.InvocationCalls.{switch_to, switches}
+use Rattle.thread_invariant.specs.kernel_rules.specs.InvocationCalls.{switch_to}
+use Rattle.thread_invariant.specs.kernel_rules.specs.Edits.{Switch as switch_edit}
 use Rattle.thread_invariant.specs.kernel_history.specs.Footprint.{frames_about}
 use Rattle.thread_invariant.specs.plan_ways.proofs.InFootprint.{named_footprint, one_left, one_right}
 use Rattle.thread_invariant.specs.act_states.specs.Switches.{SwitchingFits, switching_dues}
@@ -26,6 +27,8 @@ use Rattle.thread_invariant.specs.count_invariant.proofs.Acquiring.{plan_leads, 
 use Rattle.thread_invariant.specs.count_invariant.proofs.SwitchCounts.{IsSwitch, switch_of, thread_kind, thread_footprint, old_footprint}
 use Rattle.thread_invariant.specs.live_invariant.proofs.Numbers.{one_of_many}
 use Rattle.switch_invariant.proofs.ThreadWords.{thread_is}
+use Rattle.thread_invariant.specs.kernel_rules.specs.Rules.{does}
+use Rattle.thread_invariant.specs.spk_nums.specs.declared.replies.Value.TheVariants.{Nothing as no_value}
 
 -- The thread to which its first name has led is one of the frames that the call is about.
 thread_about : (s : State) (c : ℕ) (call : Call) (ks : List Capability) (f q : ℕ)
@@ -123,18 +126,18 @@ module _ (setup : Setting) (setting : IsSetting setup) (cores : ℕ → Core) (t
 
   -- what is left of the rule
   abbrev pub left_rule : Option ℕ → Rule
-  left_rule o = switch_to (state_after setup t) c (found is_switch.thread) is_switch.tcap.frame o
+  left_rule o = switch_to (found is_switch.thread) is_switch.tcap.frame o
 
   pub left : rule_after (rule_of (state_after setup t) c a.call) a.found
-      ≡ switch_to (state_after setup t) c (found is_switch.thread) is_switch.tcap.frame
+      ≡ switch_to (found is_switch.thread) is_switch.tcap.frame
       (thread_in ((state_after setup t).frame (claimed_by m.at))).runs_on
   left = ap (λ x. rule_after (rule_of s c x) a.found) is_switch.call_is
       ∙ ap (rule_after (rule_of s c (Switch is_switch.name is_switch.other))) is_switch.found_is
-      ∙ ap (λ (g : ℕ). switch_to s c (found is_switch.thread) is_switch.tcap.frame (thread_in (s.frame g)).runs_on)
+      ∙ ap (λ (g : ℕ). switch_to (found is_switch.thread) is_switch.tcap.frame (thread_in (s.frame g)).runs_on)
       (sym is_switch.thread_is)
 
   abbrev pub outcome_by : Option ℕ → Judged Change
-  outcome_by None = Found (switches (state_after setup t) c ((state_after setup t).core c) is_switch.thread.frame is_switch.tcap.frame)
+  outcome_by None = Found (does c (state_after setup t) no_value (switch_edit is_switch.thread.frame is_switch.tcap.frame ∷ []))
   outcome_by (Some e) = Refused (reply.Running e)
 
   pub by_runs : (o : Option ℕ) → (thread_in ((state_after setup t).frame (claimed_by m.at))).runs_on ≡ o

@@ -1,14 +1,14 @@
 -- The draw of a stamp by which a core switches: the call is decided, and the core goes on as the thread that it has claimed, with the
 -- temporal capability. The references to what it leaves are released at the stamp.
-use Rattle.thread_invariant.proofs.Common.{list_any, All, IsSome, ◌≡◌, ◌≢◌, ◌⊎◌, inl, inr, ℕ, zero, suc, ℤ, pos, negsuc, ◌+ℤ◌, map}
+use Rattle.thread_invariant.proofs.Common.{list_any, IsSome, ◌≡◌, ◌≢◌, ◌⊎◌, inl, inr, ℕ, zero, suc, ◌+ℤ◌, map}
 use Rattle.thread_invariant.proofs.Common.{length, ◌+◌, ◌*◌, ◌^◌, ◌<◌, ◌≤◌, ◌==◌, ◌||◌, Bool, true, false, if◌then◌else◌, List, [], ◌∷◌}
 use Rattle.thread_invariant.proofs.Common.{Option, Some, None, IsTrue, arith, refl, sym, ◌∙◌, ap, subst, cases_eq, eq-eqb}
-use Rattle.thread_invariant.proofs.Common.{false≢true, All-nil, All-cons, InLimits, Capability, Setting, IsSetting, Reply}
+use Rattle.thread_invariant.proofs.Common.{false≢true, All-nil, InLimits, Capability, Setting, IsSetting, Reply}
 use Rattle.thread_invariant.proofs.Common.{DepthFits, ThreadFits, word_of_thread, thread_of_word, Idle, Running, Word, EntryAt, FrameAt}
 use Rattle.thread_invariant.proofs.Common.{CountAt, CoreAt, FlushAt, LiveAt, ClockAt, same_word, Move, AddOf, same_same, Slot}
 use Rattle.thread_invariant.proofs.Common.{CompFields, Frame, ThreadFields, Comp, Thread, Kernel, Thing, PlaceOf, FrameOf, NumberOf}
 use Rattle.thread_invariant.proofs.Common.{Grace, State, first_of_stack, comp_in, comp_of, thread_in, thread_of, put, fits}
-use Rattle.thread_invariant.proofs.Common.{Found, IsFoundAnd, frames_of, times, refs, sum_below, MayReply, rule_of, change_of}
+use Rattle.thread_invariant.proofs.Common.{Found, IsFoundAnd, frames_of, times, refs, MayReply, rule_of, change_of}
 use Rattle.thread_invariant.proofs.Common.{changed, counted, begins_in, ends_by, flushes_by, same_thing, new_grace, grace_refs}
 use Rattle.thread_invariant.proofs.Common.{opened, sum_one, events_of, IsInFootprint, KeepsTime, HasReached}
 use Rattle.thread_invariant.proofs.Common.{marked_by, mark_in_frame, frame_value, thread_value, ends_in, flushes_in, begins_at, ends_at}
@@ -16,18 +16,18 @@ use Rattle.thread_invariant.proofs.Common.{flushes_at, stamp, clock, flush_of, f
 use Rattle.thread_invariant.proofs.Common.{state_decided_in, last_left, own_left, way_to, ways, ok_first, was_stays, cases_word}
 use Rattle.thread_invariant.proofs.Common.{same_word-other, opened_is, stamp-begins, stamp-kept, flush_of-own, flush_stored-own}
 use Rattle.thread_invariant.proofs.Common.{flush_stored-other, LeadsIn, own_pages, leads_by, later}
-use Rattle.thread_invariant.proofs.Common.{own_changed, tcap_dues, Own, Switching, Due, Tail, StoreRunning, Act, own_decided}
+use Rattle.thread_invariant.proofs.Common.{own_changed, Own, Switching, Tail, StoreRunning, Act, own_decided}
 use Rattle.thread_invariant.proofs.Common.{Stage, Undecided, Decided, ActiveCall, landed, Core, Holding, holds_counts, settled}
 use Rattle.thread_invariant.proofs.Common.{IsFrameWord, IsThreadWord, WordIs, HasFound, due_of, flushing_in, KnowsUndecided}
 use Rattle.thread_invariant.proofs.Common.{own_in, WorksIn, holds, holds_in, held_by, times_of, counted_in, SumIs, Invariant}
 use Rattle.thread_invariant.proofs.Common.{claimed_by, is_claimed, counts_bare, plain_exit, decided-inside, own_kept}
-use Rattle.thread_invariant.proofs.Common.{exclusive_elsewhere, exclusive_none, limits_of, ReadsAlike, SameFor, StaysSaid, word_stays}
+use Rattle.thread_invariant.proofs.Common.{exclusive_elsewhere, exclusive_none, ReadsAlike, SameFor, StaysSaid, word_stays}
 use Rattle.thread_invariant.proofs.Common.{marks_own, carry_marks, carry_words, holds_switching}
 use Rattle.thread_invariant.specs.spk_nums.specs.declared.kinds.Kind.TheVariants as kind
 use Rattle.thread_invariant.specs.spk_nums.specs.declared.replies.Reply.TheVariants as reply
 use Rattle.thread_invariant.specs.spk_nums.specs.declared.replies.Value.TheVariants as value
 use Rattle.thread_invariant.specs.tcap_words.proofs.ThreadLemmas as words
-use Rattle.thread_invariant.specs.kernel_rules.specs.InvocationCalls.{switches}
+use Rattle.thread_invariant.specs.kernel_rules.specs.Edits.{edited, Switch as switch_edit}
 use Rattle.thread_invariant.specs.kernel_rules.specs.Laws.{released}
 use Rattle.thread_invariant.specs.kernel_rules.specs.GracePeriods.{begun}
 use Rattle.thread_invariant.specs.kernel_rules.proofs.Changes.{IfFound}
@@ -65,6 +65,8 @@ use Rattle.switch_invariant.proofs.Words.{marked_says}
 use Rattle.thread_invariant.specs.act_states.specs.Switches.{SwitchAtFits}
 use Rattle.thread_invariant.specs.kernel_rules.specs.Access.{Want, own as own_of_access}
 use Rattle.thread_invariant.specs.spk_nums.specs.declared.calls.Call.TheVariants.{Switch as CallSwitch}
+use Rattle.thread_invariant.specs.kernel_rules.specs.Rules.{does}
+use Rattle.thread_invariant.specs.spk_nums.specs.declared.replies.Value.TheVariants.{Nothing as no_value}
 
 comp_no_thread : (k : CompFields) (u : ThreadFields) → Kernel (Comp k) ≡ Kernel (Thread u) → ⊥
 comp_no_thread k u h = cc
@@ -170,13 +172,13 @@ module _ (setup : Setting) (setting : IsSetting setup) (cores : ℕ → Core) (t
       }
 
   -- its change
-  changes_so : change_of s c a.call ≡ Found (switches s c (s.core c) to.thread m.tcap)
+  changes_so : change_of s c a.call ≡ Found (does c s no_value (switch_edit to.thread m.tcap ∷ []))
   changes_so =
       let call = calls.is_switch setup setting cores t stands c here a active m stage_is has in
       calls.by_runs setup setting cores t stands c here a active m stage_is has None
       (ap (λ (g : ℕ). (thread_in (s.frame g)).runs_on) claimed_is ∙ runs_none)
-      ∙ ap (λ (g : ℕ). Found (switches s c (s.core c) g call.tcap.frame)) (sym call.thread_is ∙ claimed_is)
-      ∙ ap (λ (g : ℕ). Found (switches s c (s.core c) to.thread g)) (sym call.tcap_is)
+      ∙ ap (λ (g : ℕ). Found (does c s no_value (switch_edit g call.tcap.frame ∷ []))) (sym call.thread_is ∙ claimed_is)
+      ∙ ap (λ (g : ℕ). Found (does c s no_value (switch_edit to.thread g ∷ []))) (sym call.tcap_is)
 
   abbrev same_tcap : Bool
   same_tcap = m.tcap == (s.core c).tcap
@@ -430,9 +432,9 @@ module _ (setup : Setting) (setting : IsSetting setup) (cores : ℕ → Core) (t
   balance g = ap (λ y. refs y g + times g (releases same_tcap (s.core c).thread (s.core c).tcap)) now
       ∙ by same_tcap (by_rule g)
     where
-      by_rule : (g : ℕ) → refs (switches s c (s.core c) to.thread m.tcap).next
-          g + times g (released (switches s c (s.core c) to.thread m.tcap).begins)
-          ≡ refs s g + times g (switches s c (s.core c) to.thread m.tcap).takes
+      by_rule : (g : ℕ) → refs (edited c s (switch_edit to.thread m.tcap))
+          g + times g (released (does c s no_value (switch_edit to.thread m.tcap ∷ [])).begins)
+          ≡ refs s g + times g (does c s no_value (switch_edit to.thread m.tcap ∷ [])).takes
       by_rule = subst (λ z. IfFound z (RefsBy s)) changes_so
           (outcome_from (RefsBy s) s c (rule_of s c a.call)
           (rule_refs s (opened (events_of t)) c
@@ -442,18 +444,18 @@ module _ (setup : Setting) (setting : IsSetting setup) (cores : ℕ → Core) (t
           }) a.call
           (subst (λ z. InLimits z) (sym call_so) tt)))
 
-      by : (b : Bool) → refs (switches s c (s.core c) to.thread m.tcap).next g + times
+      by : (b : Bool) → refs (edited c s (switch_edit to.thread m.tcap)) g + times
           g (released (frames_of (releases b (s.core c).thread (s.core c).tcap)))
           ≡ refs s g + times g (takes b to.thread m.tcap)
           → refs (switched_to s c to.thread m.tcap graces) g + times g (releases b (s.core c).thread (s.core c).tcap)
           ≡ refs s g + times g (takes b to.thread m.tcap)
       by true moved =
-          let one = counted_refs (begun s things (switches s c (s.core c) to.thread m.tcap).next) c g in
-          let two = grace_refs (switches s c (s.core c) to.thread m.tcap).next graces g in
+          let one = counted_refs (begun s things (edited c s (switch_edit to.thread m.tcap))) c g in
+          let two = grace_refs (edited c s (switch_edit to.thread m.tcap)) graces g in
           omega (arith, moved, one, two)
       by false moved =
-          let one = counted_refs (begun s things (switches s c (s.core c) to.thread m.tcap).next) c g in
-          let two = grace_refs (switches s c (s.core c) to.thread m.tcap).next graces g in
+          let one = counted_refs (begun s things (edited c s (switch_edit to.thread m.tcap))) c g in
+          let two = grace_refs (edited c s (switch_edit to.thread m.tcap)) graces g in
           omega (arith, moved, one, two)
 
   past : (g : ℕ) → stamp setup t (FrameOf g) < x

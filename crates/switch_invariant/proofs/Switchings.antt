@@ -8,7 +8,7 @@ use Rattle.thread_invariant.proofs.Common.{same_thing, times, frames_of, times_c
 use Rattle.thread_invariant.proofs.Common.{tcap_dues, Due}
 use Rattle.std.proofs.Math.IntN.{pos-+ℤ-pos, +ℤ_assoc, +ℤ_invr, +ℤ_idr}
 use Rattle.thread_invariant.specs.kernel_rules.specs.State.{Core}
-use Rattle.thread_invariant.specs.kernel_rules.specs.InvocationCalls.{running, with_thread}
+use Rattle.thread_invariant.specs.kernel_rules.specs.Edits.{running, with_thread}
 use Rattle.thread_invariant.specs.kernel_rules.specs.State as state
 
 -- The state after the switch of core c to the thread in frame f, with this temporal capability and these grace periods.

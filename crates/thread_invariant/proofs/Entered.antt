@@ -6,7 +6,7 @@ use Rattle.live_invariant.proofs.Common.{sym, ◌∙◌, ap, subst, eqb-true, eq
 use Rattle.live_invariant.proofs.Common.{LiveWord, word_of_stack, ThreadFits, word_of_thread, Running, Word, EntryAt}
 use Rattle.live_invariant.proofs.Common.{CountAt, LiveAt, ClockAt, Move, LoadOf, word_of, told_of, CompFields, ThreadFields, Comp, Thread}
 use Rattle.live_invariant.proofs.Common.{Kernel, Thing, PlaceOf, FrameOf, NumberOf, Grace, State, first_of_stack, comp_in, comp_of}
-use Rattle.live_invariant.proofs.Common.{thread_of, Found, IsFoundAnd, times, refs, is_live_in, pushes, MayReply, change_of, changed}
+use Rattle.live_invariant.proofs.Common.{thread_of, Found, IsFoundAnd, times, refs, is_live_in, MayReply, change_of, changed}
 use Rattle.live_invariant.proofs.Common.{counted, begins_in, ends_by, flushes_by, same_thing, new_grace, times_cons, live_mark, marked_by}
 use Rattle.live_invariant.proofs.Common.{at_height, ends_in, flushes_in, begins_at, ends_at, flushes_at, stamp, Step, Trace, Open, phase}
 use Rattle.live_invariant.proofs.Common.{state_after, state_decided_in, last_left, ok_first, last_left-there, later, stamp_of_change}
@@ -49,6 +49,9 @@ use Rattle.thread_invariant.proofs.Restacks.{IsRestack, frame_away, core_now, li
 use Rattle.thread_invariant.proofs.Restacks.{grows, alike, restack_words, restack_exclusive}
 use Rattle.thread_invariant.proofs.Stacked.{stacked}
 use Rattle.thread_invariant.proofs.Stacks.{kept_here, kept_there, kept_is}
+use Rattle.kernel_laws.specs.kernel_rules.specs.Edits.{Push as push_edit}
+use Rattle.kernel_laws.specs.kernel_rules.specs.Rules.{does}
+use Rattle.live_invariant.specs.spk_nums.specs.declared.replies.Value.TheVariants.{Nothing as no_value}
 
 comp_no_thread : (k : CompFields) (u : ThreadFields) → Kernel (Comp k) ≡ Kernel (Thread u) → ⊥
 comp_no_thread k u h = cc
@@ -123,7 +126,7 @@ module _ (setup : Setting) (setting : IsSetting setup) (cores : ℕ → Core) (t
   lives = lives_so setup setting cores t stands c here a active m stage_is has table pages life is (Some (live_word.Live m.epoch g)) shown
       refl ∙ eq-eqb m.epoch m.epoch refl
 
-  change : change_of s c a.call ≡ Found (pushes s c m.comp)
+  change : change_of s c a.call ≡ Found (does c s no_value (push_edit m.comp ∷ []))
   change = calls.by_life setup setting cores t stands c here a active m stage_is has true lives
 
   abbrev graces : Thing → Grace

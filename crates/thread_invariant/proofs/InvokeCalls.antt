@@ -4,7 +4,7 @@ use Rattle.live_invariant.proofs.Common.{if◌then◌else◌}
 use Rattle.live_invariant.proofs.Common.{[], ◌∷◌, length, Some, None, arith, refl, sym, ◌∙◌, ap, subst, eq-eqb}
 use Rattle.live_invariant.proofs.Common.{lt-leb, All-nil, Capability, Setting, IsSetting, EntryAt, CompFields, Comp, Kernel, State}
 use Rattle.live_invariant.proofs.Common.{comp_in, thread_of, Slot, found, own, Rule, When, Does, RuleMay, outcome, unless, first_of}
-use Rattle.live_invariant.proofs.Common.{is_live_in, pushes, rule_of, change_of, is_one_of, footprint_frames, HasReached, Step, Trace, Open}
+use Rattle.live_invariant.proofs.Common.{is_live_in, rule_of, change_of, is_one_of, footprint_frames, HasReached, Step, Trace, Open}
 use Rattle.live_invariant.proofs.Common.{phase, state_after, own_left, way_to, ways, Plan, GoesBy, own_pages, rule_after, Leads, LeadsIn}
 use Rattle.live_invariant.proofs.Common.{outcome_left, left_may, leads_by, Invoking, Act, Undecided, ActiveCall, StageFits, HasRoom, Core}
 use Rattle.live_invariant.proofs.Common.{HasFound, KnowsUndecided, own_in, phase_at, Invariant, own_kept}
@@ -21,6 +21,9 @@ use Rattle.live_invariant.specs.count_invariant.proofs.Findings.{own_is, found_n
 use Rattle.live_invariant.specs.count_invariant.proofs.Acquiring.{plan_leads, goes_by}
 use Rattle.live_invariant.specs.count_invariant.proofs.StackCounts.{IsInvoke, invoke_of, invoke_footprint}
 use Rattle.live_invariant.proofs.Numbers.{one_of_many, comp_is}
+use Rattle.live_invariant.specs.kernel_rules.specs.Edits.{Push as push_edit}
+use Rattle.live_invariant.specs.kernel_rules.specs.Rules.{does}
+use Rattle.live_invariant.specs.spk_nums.specs.declared.replies.Value.TheVariants.{Nothing as no_value}
 
 -- What is left of the rule of a call through a gate to this frame, made in this epoch.
 abbrev pub entering : State → ℕ → Capability → ℕ → ℕ → Rule
@@ -28,7 +31,7 @@ entering s c gate f epoch =
     Does (
     When (nat_le 16 (length (thread_of s c).stack)) reply.Deep
     ∷ not_live s (found gate) (comp_in (s.frame f)).number epoch
-    ∷ []) (pushes s c f)
+    ∷ []) no_value (push_edit f ∷ [])
 
 module _ (setup : Setting) (setting : IsSetting setup) (cores : ℕ → Core) (t : Trace) (stands : Invariant setup cores t) (c : ℕ)
     (here : c < setup.cores)
@@ -76,16 +79,17 @@ module _ (setup : Setting) (setting : IsSetting setup) (cores : ℕ → Core) (t
       (let low = fits.most_depth in let same = has.knows.knows.on.depth in omega (arith, low, same))
 
   pub by_life : (lives : Bool) → is_live_in (s.number fields.number) m.epoch ≡ lives
-      → change_of s c a.call ≡ unless (if not lives then Some reply.Dead else None) (pushes s c m.comp)
+      → change_of s c a.call ≡ unless (if not lives then Some reply.Dead else None) (does c s no_value (push_edit m.comp ∷ []))
   by_life lives so =
       outcome_left s c (own_pages s c) a.plan (rule_of s c a.call) a.found by_plan leads ∙ ap (outcome s c) left
       ∙ ap (λ b. unless (first_of (if b then Some reply.Deep else None)
-      (first_of (if not (is_live_in (s.number fields.number) m.epoch) then Some reply.Dead else None) None)) (pushes s c m.comp)) shallow
-      ∙ ap (λ b. unless (first_of (if not b then Some reply.Dead else None) None) (pushes s c m.comp)) so
+      (first_of (if not (is_live_in (s.number fields.number) m.epoch) then Some reply.Dead else None) None))
+      (does c s no_value (push_edit m.comp ∷ []))) shallow
+      ∙ ap (λ b. unless (first_of (if not b then Some reply.Dead else None) None) (does c s no_value (push_edit m.comp ∷ []))) so
       ∙ last lives
     where
-      last : (b : Bool) → unless (first_of (if not b then Some reply.Dead else None) None) (pushes s c m.comp)
-          ≡ unless (if not b then Some reply.Dead else None) (pushes s c m.comp)
+      last : (b : Bool) → unless (first_of (if not b then Some reply.Dead else None) None) (does c s no_value (push_edit m.comp ∷ []))
+          ≡ unless (if not b then Some reply.Dead else None) (does c s no_value (push_edit m.comp ∷ []))
       last true = refl
       last false = refl
 

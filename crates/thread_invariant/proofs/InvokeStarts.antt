@@ -4,7 +4,7 @@ use Rattle.live_invariant.proofs.Common.{Want, to_use, ◌≡◌, ◌<◌, inl, 
 use Rattle.live_invariant.proofs.Common.{length}
 use Rattle.live_invariant.proofs.Common.{Some, None, IsTrue, refl, sym, ◌∙◌, ap, subst, false≢true, Capability, Setting, IsSetting, Kind}
 use Rattle.live_invariant.proofs.Common.{Call, Move, word_of, Comp, Frame, Kernel, State, comp_in, thread_of, only, fits, named_by, Found}
-use Rattle.live_invariant.proofs.Common.{Refused, RuleMay, named, outcome, unless, first_of, is_live_in, pushes, rule_of, change_of}
+use Rattle.live_invariant.proofs.Common.{Refused, RuleMay, named, outcome, unless, first_of, is_live_in, rule_of, change_of}
 use Rattle.live_invariant.proofs.Common.{are_calls_spent, suits, named_fit, opened, name_parts, events_of, IsLegal, Step, Trace, Open}
 use Rattle.live_invariant.proofs.Common.{phase}
 use Rattle.live_invariant.proofs.Common.{state_after, last_left, refused_first, Carries, sound_of, opened_is, guarded_usable, Acquired}
@@ -14,7 +14,7 @@ use Rattle.live_invariant.proofs.Common.{due_of, NamesAre, phase_at, holds_in, I
 use Rattle.live_invariant.specs.spk_nums.specs.declared.kinds.Kind.TheVariants as kind
 use Rattle.live_invariant.specs.spk_nums.specs.declared.calls.Call.TheVariants.{Call as call_gate}
 use Rattle.live_invariant.specs.spk_nums.specs.declared.replies.Reply.TheVariants as reply
-use Rattle.live_invariant.specs.kernel_rules.specs.Rules.{of_kind}
+use Rattle.live_invariant.specs.kernel_rules.specs.Rules.{of_kind, does}
 use Rattle.live_invariant.specs.act_states.specs.declared.invocations.InvokingAt.TheVariants.{LoadTable}
 use Rattle.live_invariant.specs.act_states.specs.declared.refusals.Refusal.TheVariants as refusal
 use Rattle.live_invariant.specs.act_states.specs.declared.work.Act.TheVariants.{Invoke as invoke_act}
@@ -23,6 +23,8 @@ use Rattle.live_invariant.specs.kept_facts.proofs.Carries.{invoking_on}
 use Rattle.live_invariant.specs.step_ways.proofs.Loads.{OnlyLooks, step_to, call_is, core_is, loads_on, decides_on}
 use Rattle.live_invariant.specs.step_ways.proofs.Refusals.{GoodTook, not_spent}
 use Rattle.thread_invariant.proofs.InvokeCalls.{entering}
+use Rattle.live_invariant.specs.kernel_rules.specs.Edits.{Push as push_edit}
+use Rattle.live_invariant.specs.spk_nums.specs.declared.replies.Value.TheVariants.{Nothing as no_value}
 
 -- What a name leads to is of a wanted kind, and is what was found.
 same_found : (wanted : Want) (j k : Capability) → of_kind wanted j ≡ Found k → j ≡ k
@@ -104,7 +106,7 @@ module _ (setup : Setting) (setting : IsSetting setup) (cores : ℕ → Core) (t
       refused = outcome_left s c (own_pages s c) a.plan (rule_of s c a.call) (k ∷ []) by_plan leads ∙ ap (outcome s c) left
           ∙ ap (λ b. unless (first_of (if b then Some reply.Deep else None)
           (first_of (if not (is_live_in (s.number (comp_in (s.frame k.frame)).number) k.arg) then Some reply.Dead else None) None))
-          (pushes s c k.frame)) (sym depth_is ∙ deep)
+          (does c s no_value (push_edit k.frame ∷ []))) (sym depth_is ∙ deep)
 
   -- it is not
   starts : GoodTook setup cores t c move (landed (found_more a (k ∷ [])) (Goes (Act (invoke_act m))))

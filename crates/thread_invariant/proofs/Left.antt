@@ -22,7 +22,6 @@ use Rattle.live_invariant.specs.spk_nums.specs.declared.replies.Reply.TheVariant
 use Rattle.live_invariant.specs.spk_nums.specs.declared.replies.Value.TheVariants as value
 use Rattle.live_invariant.specs.tcap_words.proofs.StackLemmas as stacks
 use Rattle.live_invariant.specs.tcap_words.proofs.ThreadLemmas as threads
-use Rattle.live_invariant.specs.kernel_rules.specs.InvocationCalls.{pops}
 use Rattle.live_invariant.specs.kernel_history.specs.Stamps.{begins_in as begins_then}
 use Rattle.live_invariant.specs.stage_thread.specs.declared.stack.Pop.TheVariants as pop
 use Rattle.live_invariant.specs.act_states.specs.declared.invocations.Returning.{Returning}
@@ -51,6 +50,9 @@ use Rattle.thread_invariant.proofs.Restacks.{IsRestack, frame_away, core_now, li
 use Rattle.thread_invariant.proofs.Restacks.{grows, alike, restack_words, restack_exclusive}
 use Rattle.thread_invariant.proofs.Stacked.{stacked}
 use Rattle.thread_invariant.proofs.Stacks.{kept_here, kept_there, kept_is}
+use Rattle.kernel_laws.specs.kernel_rules.specs.Edits.{Pop as pop_edit}
+use Rattle.kernel_laws.specs.kernel_rules.specs.Rules.{does}
+use Rattle.live_invariant.specs.spk_nums.specs.declared.replies.Value.TheVariants.{Nothing as no_value}
 
 comp_no_thread : (k : CompFields) (u : ThreadFields) → Kernel (Comp k) ≡ Kernel (Thread u) → ⊥
 comp_no_thread k u h = cc
@@ -146,7 +148,7 @@ module _ (setup : Setting) (setting : IsSetting setup) (cores : ℕ → Core) (t
   loaded : HasLoadedBelow s c (Draw comp table pages)
   loaded = loaded_at setup setting cores t stands c here a active m stage_is has (Draw comp table pages) is
 
-  changes_so : change_of s c a.call ≡ Found (pops s c)
+  changes_so : change_of s c a.call ≡ Found (does c s no_value (pop_edit ∷ []))
   changes_so = change setup setting cores t stands c here a active m stage_is has
 
   abbrev things : List Thing

@@ -10,7 +10,6 @@ use Rattle.live_invariant.proofs.Common.{next_work, Undecided, ActiveCall, Stage
 use Rattle.live_invariant.proofs.Common.{holds_counts, due_of, KnowsUndecided, phase_at, holds_at, holds_in, holds, Invariant}
 use Rattle.live_invariant.proofs.Common.{counts_bare, names_on}
 use Rattle.live_invariant.specs.spk_nums.specs.declared.replies.Reply.TheVariants as reply
-use Rattle.live_invariant.specs.kernel_rules.specs.InvocationCalls.{pops}
 use Rattle.live_invariant.specs.act_states.specs.declared.invocations.Returning.{Returning}
 use Rattle.live_invariant.specs.act_states.specs.declared.invocations.ReturningAt.TheVariants.{LoadBelow, LoadTable, LoadPages, Draw}
 use Rattle.live_invariant.specs.act_states.specs.declared.work.Act.{Act as ActOf}
@@ -29,6 +28,9 @@ use Rattle.thread_invariant.proofs.Heights.{at_below}
 use Rattle.thread_invariant.proofs.Invokes.{frame_shown}
 use Rattle.thread_invariant.proofs.OwnStack.{below_comp}
 use Rattle.thread_invariant.proofs.OwnWords.{thread_says}
+use Rattle.kernel_laws.specs.kernel_rules.specs.Edits.{Pop as pop_edit}
+use Rattle.kernel_laws.specs.kernel_rules.specs.Rules.{does}
+use Rattle.live_invariant.specs.spk_nums.specs.declared.replies.Value.TheVariants.{Nothing as no_value}
 
 -- The component below the top of a stack, by its height.
 height_below : (fs : List ℕ) (h : ℕ) → 2 ≤ length fs → h + 2 ≡ length fs → at_height fs h ≡ Some (below_of fs)
@@ -71,9 +73,9 @@ module _ (setup : Setting) (setting : IsSetting setup) (cores : ℕ → Core) (t
   deep = let some = return_fits.some_depth in let same = knows.on.depth in omega (arith, some, same)
 
   -- what is left of its rule
-  pub change : change_of s c a.call ≡ Found (pops s c)
+  pub change : change_of s c a.call ≡ Found (does c s no_value (pop_edit ∷ []))
   change = ap (change_of s c) knows.call_is
-      ∙ ap (λ b. unless (first_of (if b then Some reply.Bottom else None) None) (pops s c))
+      ∙ ap (λ b. unless (first_of (if b then Some reply.Bottom else None) None) (does c s no_value (pop_edit ∷ [])))
       (lt-leb (length (thread_of s c).stack) 1 (let more = deep in omega (arith, more)))
 
   pub nothing_gone : (e : Step) → HasReached (e ∷ t) c (ways s c (rule_of s c a.call))

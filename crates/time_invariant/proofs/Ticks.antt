@@ -8,7 +8,7 @@ use Rattle.step_ways.proofs.Common.{eqb-false, eq-eqb, cases_eq, false≢true, S
 use Rattle.step_ways.proofs.Common.{HeadFits, word_of_head, head_of_word, HeadWord, spelling, Word, EntryAt, FrameAt, CountAt, CoreAt}
 use Rattle.step_ways.proofs.Common.{FlushAt, LiveAt, ClockAt, Move, LoadOf, CompareOf, word_of, left_of, Kernel, Tcap, TcapFields}
 use Rattle.step_ways.proofs.Common.{tcap_in, Thing, PlaceOf, NumberOf, State, put, with_frame, thread_in, comp_in, thread_of, comp_of}
-use Rattle.step_ways.proofs.Common.{first_of_stack, sum_below, refs, frame_names, times, Change, Found, IsFoundAnd, rule_of, change_of}
+use Rattle.step_ways.proofs.Common.{first_of_stack, refs, frame_names, times, Change, Found, IsFoundAnd, rule_of, change_of}
 use Rattle.step_ways.proofs.Common.{changed, counted, state_by, begins, ends, flushes, MayReply, calls_counted, frame_refs, sum_one}
 use Rattle.step_ways.proofs.Common.{core_same_refs, put_same, put_other, mark_of, mark_in_frame, head_mark, marked_by, IsAlone}
 use Rattle.step_ways.proofs.Common.{holds_node, frame_value, ways, Slot}
@@ -24,9 +24,9 @@ use Rattle.step_ways.proofs.Common.{marker_inside, limits_of, sums_keep, SameFor
 use Rattle.step_ways.proofs.Common.{word_stays, carry_marks, carry_words, others_settled}
 use Rattle.kernel_laws.specs.spk_nums.specs.declared.replies.Reply.TheVariants as reply
 use Rattle.kernel_laws.specs.spk_nums.specs.declared.replies.Value.TheVariants.{Amount}
-use Rattle.kernel_laws.specs.kernel_rules.specs.State.{Core as CoreFields}
-use Rattle.kernel_laws.specs.kernel_rules.specs.State.{with_core}
-use Rattle.kernel_laws.specs.kernel_rules.specs.TimeCalls.{owing, with_tcap, charge, charges}
+use Rattle.kernel_laws.specs.kernel_rules.specs.State.{Core as CoreFields, with_core}
+use Rattle.kernel_laws.specs.kernel_rules.specs.CallRelation.{owing}
+use Rattle.kernel_laws.specs.kernel_rules.specs.Edits.{with_tcap, charge, charging}
 use Rattle.plan_ways.specs.kernel_history.specs.Justified.{IsHeldUp}
 use Rattle.plan_ways.specs.kernel_history.specs.Stamps.{begins_in}
 use Rattle.step_ways.specs.stage_tcap.specs.quality_lists.specs.Rank.{rank}
@@ -46,6 +46,10 @@ use Rattle.step_ways.specs.kept_facts.proofs.WordFrames.{load_marks, load_words}
 use Rattle.step_ways.proofs.Writes.{same_marks}
 use Rattle.time_invariant.proofs.Budgets.{tcap_is, IsTcap, Numbers, numbers_of}
 use Rattle.time_invariant.proofs.TickCalls.{IsTick, tick_of, own_footprint, raced_head}
+
+-- The change of a tick of which so many ticks are charged.
+abbrev charges : State → ℕ → ℕ → ℕ → Change
+charges s c due charged = record { value = Amount charged; next = charging s c due charged; takes = []; begins = [] }
 
 -- A core that has counted one call more.
 abbrev one_more : CoreFields → CoreFields

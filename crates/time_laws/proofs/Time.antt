@@ -4,7 +4,7 @@ use Rattle.flight.proofs.Common.{if◌then◌else◌, refl, sym, ◌∙◌, ap, 
 use Rattle.flight.proofs.Common.{events_of, IsLegal, MayDecide, stamp, Trace, state_after, last_left, Step, Open, phase, after_enter}
 use Rattle.flight.proofs.Common.{state_before, state_is, run_of, settled_by, settled, held_by, Invariant, HeadIs, IsFrameWord}
 use Rattle.flight.proofs.Common.{Capability, Call, Test, Value, only, Judged, Found, Refused, IsFoundAnd, named, and_then, unless}
-use Rattle.flight.proofs.Common.{first_of, answers, tcap_at, change_of, MayReply, Change}
+use Rattle.flight.proofs.Common.{first_of, tcap_at, change_of, MayReply, Change}
 use Rattle.flight.specs.kernel_rules.specs.Laws.{ticks}
 use Rattle.flight.specs.kernel_laws.proofs.TicksLaw.{ticks_kept}
 use Rattle.flight.specs.kernel_laws.proofs.Spending.{spending_sums}
@@ -16,6 +16,7 @@ use Rattle.flight.specs.pair_invariant.proofs.ShareSteps.{list_plain}
 use Rattle.flight.specs.spk_nums.specs.declared.kinds.Kind.TheVariants as kind
 use Rattle.flight.specs.spk_nums.specs.declared.replies.Reply.TheVariants as reply
 use Rattle.flight.specs.kernel_rules.specs.TimeCalls.{preemption, preempts}
+use Rattle.flight.specs.kernel_rules.specs.Rules.{does}
 
 legal_of : (setup : Setting) → IsSetting setup → (t : Trace) → IsMade setup t → IsLegal setup t
 legal_of setup setting t made = (made_stands setup setting t made).legal
@@ -62,12 +63,12 @@ told_by s c x y v h = by (named s c x (to_use (only kind.Tcap))) (named s c y (t
   where
     rest : Capability → Capability → Judged Change
     rest a b = unless (first_of (if true && (true && a.frame == b.frame) then Some reply.Same else None) None)
-        (answers s (preemption (preempts (tcap_at s a.frame) (tcap_at s b.frame))))
+        (does c s (preemption (preempts (tcap_at s a.frame) (tcap_at s b.frame))) [])
 
     last : (a b : Capability) → named s c x (to_use (only kind.Tcap)) ≡ Found a → named s c y (to_use (only kind.Tcap)) ≡ Found b
         → (same : Bool)
         → IsFoundAnd (unless (first_of (if same then Some reply.Same else None) None)
-        (answers s (preemption (preempts (tcap_at s a.frame) (tcap_at s b.frame))))) (λ change. change.value ≡ v) → TellsOf s c x y v
+        (does c s (preemption (preempts (tcap_at s a.frame) (tcap_at s b.frame))) [])) (λ change. change.value ≡ v) → TellsOf s c x y v
     last a b first second true h = absurd h
     last a b first second false h = record { first = a; second = b; first_named = first; second_named = second; answer = sym h }
 

@@ -29,6 +29,8 @@ use Rattle.comp_invariant.specs.count_invariant.proofs.Findings.{own_is, way_gon
 use Rattle.work_invariant.proofs.ByCall.{one_left, first_same, look_state, look_begins, look_answers}
 use Rattle.comp_invariant.specs.step_ways.proofs.Loads.{OnlyLooks, step_to, core_is, loads_on, decides_on}
 use Rattle.comp_invariant.specs.step_ways.proofs.Refusals.{GoodTook, not_spent}
+use Rattle.comp_invariant.specs.kernel_rules.specs.Rules.{does}
+use Rattle.comp_invariant.specs.spk_nums.specs.declared.replies.Value.TheVariants.{Nothing as no_value}
 
 -- A frame of a range is one of the machine's.
 pub range_below : (frames : ℕ) (kind : Kind) (first number f : ℕ) → kind ≡ Range → end_of_frames kind first number ≤ frames
@@ -88,7 +90,7 @@ module _ (setup : Setting) (setting : IsSetting setup) (cores : ℕ → Core) (t
   Ends has = GoodTook setup cores t c (LoadOf (EntryAt at.node at.index))
       (landed (found_more a (range ∷ [])) (types_if has (cores c).own.core f k))
 
-  left : rule_after (rule_of s c a.call) (range ∷ []) ≡ Does (outside (found range) f ∷ not_retyped s f k) (retypes s f k)
+  left : rule_after (rule_of s c a.call) (range ∷ []) ≡ Does (outside (found range) f ∷ not_retyped s f k) no_value (retypes f k ∷ [])
   left = ap (λ x. rule_after (rule_of s c x) (range ∷ [])) call_is
 
   unspent : are_calls_spent s c ≡ false
@@ -160,7 +162,7 @@ module _ (setup : Setting) (setting : IsSetting setup) (cores : ℕ → Core) (t
       refused : change_of s c a.call ≡ Refused reply.OutOfRange
       refused = outcome_left s c (own_pages s c) a.plan (rule_of s c a.call) (range ∷ []) by_plan leads ∙ ap (outcome s c) left
           ∙ ap (λ b. unless (first_of (if not b then Some reply.OutOfRange else None) (first_cause s c (not_retyped s f k)))
-          (retypes s f k)) none
+          (does c s no_value (retypes f k ∷ []))) none
 
   pub ranges_good : GoodTook setup cores t c (LoadOf (EntryAt at.node at.index))
       (landed (found_more a (range ∷ [])) (types_at (cores c).own (Some range) f k))

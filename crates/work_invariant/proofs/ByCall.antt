@@ -3,7 +3,7 @@ use Rattle.comp_invariant.proofs.Common.{◌≡◌, ℕ, nat_le, nat_lt, ◌&&�
 use Rattle.comp_invariant.proofs.Common.{None, refl, sym, ◌∙◌, ap, subst, leb-false, lt-ltb, Capability, Call, Copy, Remove, Shrink}
 use Rattle.comp_invariant.proofs.Common.{Unmap, Retype, Tick, Gate, Kill, Grow, Flush, Map, Touch, Ret, Transfer, Delegate, Test, Switch}
 use Rattle.comp_invariant.proofs.Common.{Make, State, Thing, Holds, PlaceOf, Slot, Named, found, place_at, held_in, reached, own, InRoot}
-use Rattle.comp_invariant.proofs.Common.{Refused, IsFoundAnd, Does, outcome, answers, and_then, or_refuse, unless, not_vacant, named}
+use Rattle.comp_invariant.proofs.Common.{Refused, IsFoundAnd, Does, outcome, and_then, or_refuse, unless, not_vacant, named}
 use Rattle.comp_invariant.proofs.Common.{vacant, change_of, changed, counted, begins_in, some_inj, First, Second, Name, Spot, Nowhere}
 use Rattle.comp_invariant.proofs.Common.{plan_for, names_after, removes_by, act_begun, Own, to_look}
 use Rattle.comp_invariant.specs.spk_nums.specs.declared.calls.Call.TheVariants.{Look as look_call, Part, Replenish}
@@ -13,10 +13,8 @@ use Rattle.comp_invariant.specs.spk_nums.specs.declared.calls.Make.TheVariants a
 use Rattle.comp_invariant.specs.spk_nums.specs.declared.kinds.FrameKind.TheVariants as frame_kind
 use Rattle.comp_invariant.specs.spk_nums.specs.declared.replies.Value.TheVariants.{Cap}
 use Rattle.comp_invariant.specs.spk_nums.specs.declared.replies.Reply.TheVariants as reply
-use Rattle.comp_invariant.specs.kernel_rules.specs.Access.{capability, any}
-use Rattle.comp_invariant.specs.kernel_rules.specs.Access.{Target as place}
-use Rattle.comp_invariant.specs.kernel_rules.specs.Rules.{Found as Found_it}
-use Rattle.comp_invariant.specs.kernel_rules.specs.Rules.{held}
+use Rattle.comp_invariant.specs.kernel_rules.specs.Access.{capability, any, Target as place}
+use Rattle.comp_invariant.specs.kernel_rules.specs.Rules.{Found as Found_it, held, does}
 use Rattle.comp_invariant.specs.kernel_rules.specs.CapabilityCalls.{look_rule}
 use Rattle.comp_invariant.specs.stage_look.specs.declared.look.Found.{Found}
 use Rattle.comp_invariant.specs.call_plans.specs.declared.plans.Spot.TheVariants as spot_of
@@ -64,12 +62,7 @@ past_entry_unreached s c root i past = by root.found
 -- The target of a call that makes an object.
 pub make_target : (what : Make) (r u b : ℕ) → (plan_of_make what r u b).target ≡ Free (spot_of.Under Second b)
 make_target make.Table r u b = refl
-make_target make.Leaf r u b = refl
-make_target make.Pages r u b = refl
-make_target make.Pleaf r u b = refl
-make_target (make.Thread comp) r u b = refl
-make_target (make.Tcap sched quality) r u b = refl
-make_target (make.Comp table pages live) r u b = refl
+make_target _ r u b = refl
 
 -- A call whose target is a page of its own has no names.
 pub own_unnamed : (call : Call) (v : ℕ) → (plan_for call).target ≡ own_page v → (plan_for call).names ≡ []
@@ -223,8 +216,8 @@ begins_removal own (Switch x y) spot to ks = absurd (not_held to)
 
 -- A look that has found its capability answers it.
 module _ (s : State) (c a : ℕ) (k : Capability) (is : named s c a (to_look any) ≡ Found_it k) where
-  pub look_change : change_of s c (look_call a) ≡ Found_it (answers s (Cap k))
-  look_change = ap (λ x. and_then x λ k. outcome s c (Does [] (answers s (Cap (capability (found k)))))) is
+  pub look_change : change_of s c (look_call a) ≡ Found_it (does c s (Cap k) [])
+  look_change = ap (λ x. and_then x λ k. outcome s c (Does [] (Cap (capability (found k))) [])) is
 
   pub look_state : counted (changed s (change_of s c (look_call a))) c ≡ counted s c
   look_state = ap (λ x. counted (changed s x) c) look_change
@@ -232,5 +225,5 @@ module _ (s : State) (c a : ℕ) (k : Capability) (is : named s c a (to_look any
   pub look_begins : (x : Thing) → begins_in (change_of s c (look_call a)) x ≡ false
   look_begins x = ap (λ y. begins_in y x) look_change
 
-  pub look_answers : IsFoundAnd (outcome s c (look_rule s a)) (λ change. change.value ≡ Cap k)
+  pub look_answers : IsFoundAnd (outcome s c (look_rule a)) (λ change. change.value ≡ Cap k)
   look_answers = subst (λ x. IsFoundAnd x (λ change. change.value ≡ Cap k)) (sym look_change) refl

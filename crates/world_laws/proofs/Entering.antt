@@ -8,16 +8,14 @@ use Rattle.authority_laws.specs.spk_nums.specs.declared.calls.Call.{Call}
 use Rattle.authority_laws.specs.spk_nums.specs.declared.calls.Call.TheVariants as call
 use Rattle.authority_laws.specs.spk_nums.specs.declared.replies.Reply.{Reply}
 use Rattle.authority_laws.specs.kernel_rules.specs.State.{Blank, Thread, Tcap, Comp, Frame, Untyped, Kernel, ThreadFields, TcapFields, Core}
-use Rattle.authority_laws.specs.kernel_rules.specs.State.{State}
-use Rattle.authority_laws.specs.kernel_rules.specs.State.{put, with_frame, comp_in, thread_in, thread_of, first_of_stack}
+use Rattle.authority_laws.specs.kernel_rules.specs.State.{State, put, with_frame, comp_in, thread_in, thread_of, first_of_stack}
 use Rattle.authority_laws.specs.kernel_rules.specs.Fitting.{fits}
 use Rattle.authority_laws.specs.kernel_rules.specs.Life.{is_live_in}
-use Rattle.authority_laws.specs.kernel_rules.specs.InvocationCalls.{with_thread}
-use Rattle.authority_laws.specs.kernel_rules.specs.TimeCalls.{tcap_at, with_tcap, charge}
+use Rattle.authority_laws.specs.kernel_rules.specs.Edits.{with_thread, tcap_at, with_tcap, charge, Edit, Fill, Node, Become, Untype}
+use Rattle.authority_laws.specs.kernel_rules.specs.Edits.{Component, Push, Pop, Switch, Cache, Flush, Charge, Move, Merge, Give, edited}
 use Rattle.authority_laws.specs.kernel_rules.specs.Runs.{Event, Decides, after, is_open, IsRun}
 use Rattle.authority_laws.specs.kernel_rules.proofs.Within.{put_same}
-use Rattle.authority_laws.specs.kernel_invariant.specs.Edits.{Edit, Fill, Node, Become, Untype, Component, Push, Pop, Switch, Cache, Flush}
-use Rattle.authority_laws.specs.kernel_invariant.specs.Edits.{Charge, Move, Merge, Give, edited, after_edits}
+use Rattle.authority_laws.specs.kernel_rules.specs.Edits.{after_edits}
 use Rattle.authority_laws.specs.kernel_invariant.proofs.Sound.{put_all}
 use Rattle.authority_laws.specs.kernel_invariant.proofs.SoundCalls.{IsOpen}
 use Rattle.authority_laws.specs.kernel_invariant.proofs.SoundRuns.{opened, open_is, runs_sound, limits_stay}
@@ -200,7 +198,8 @@ module _ (act : Call) (s : State) (c : ℕ) (own : IsTrue (fits kind.Thread (s.f
       (goes_on t (edited c t (Fill at k)) refl (λ g. refl) (λ g fit. fit) h)
   later_goes t (Merge f qs ∷ es) are h = later_goes (edited c t (Merge f qs)) es are
       (goes_on t (edited c t (Merge f qs)) refl
-      (tcaps_stack t.frame f (record (tcap_at t f) { qualities = qs })) (tcaps_thread t.frame f (record (tcap_at t f) { qualities = qs })) h)
+      (tcaps_stack t.frame f (record (tcap_at t f) { qualities = qs }))
+      (tcaps_thread t.frame f (record (tcap_at t f) { qualities = qs })) h)
   later_goes t (_ ∷ es) are h = absurd are
 
   same_goes : Goes act s c s

@@ -8,19 +8,16 @@ use Rattle.authority_laws.specs.spk_nums.specs.declared.kinds.Kind.TheVariants a
 use Rattle.authority_laws.specs.spk_nums.specs.declared.calls.Call.{Call}
 use Rattle.authority_laws.specs.spk_nums.specs.declared.replies.Reply.{Reply}
 use Rattle.authority_laws.specs.kernel_rules.specs.State.{Place, Free, Holds, Quiescing, CompFields, ThreadFields, TcapFields, Comp, Thread}
-use Rattle.authority_laws.specs.kernel_rules.specs.State.{Tcap, Frame}
-use Rattle.authority_laws.specs.kernel_rules.specs.State.{Untyped, Kernel, Live, Dead, Grace, Thing, PlaceOf, State, with_place, with_frame}
-use Rattle.authority_laws.specs.kernel_rules.specs.State.{thread_in, thread_of}
+use Rattle.authority_laws.specs.kernel_rules.specs.State.{Tcap, Frame, Untyped, Kernel, Live, Dead, Grace, Thing, PlaceOf, State}
+use Rattle.authority_laws.specs.kernel_rules.specs.State.{with_place, with_frame, thread_in, thread_of}
 use Rattle.authority_laws.specs.kernel_rules.specs.Start.{no_grace}
 use Rattle.authority_laws.specs.kernel_rules.specs.Access.{Slot, usable, usable_in, held_in}
 use Rattle.authority_laws.specs.kernel_rules.specs.GracePeriods.{new_grace}
 use Rattle.authority_laws.specs.kernel_rules.specs.Fitting.{fits}
-use Rattle.authority_laws.specs.kernel_rules.specs.InvocationCalls.{with_thread, running}
-use Rattle.authority_laws.specs.kernel_rules.specs.TimeCalls.{tcap_at, with_tcap, with_budget, charge}
+use Rattle.authority_laws.specs.kernel_rules.specs.Edits.{with_thread, running, tcap_at, with_tcap, with_budget, charge, Edit, Fill, Remove}
+use Rattle.authority_laws.specs.kernel_rules.specs.Edits.{Node, Become, Untype, Component, Deaden, Push, Pop, Switch, Charge, Move, Merge}
+use Rattle.authority_laws.specs.kernel_rules.specs.Edits.{Give, edited, after_edits}
 use Rattle.authority_laws.specs.kernel_rules.specs.CallRelation.{begins, ends, flushes, state_by, MayReply}
-use Rattle.authority_laws.specs.kernel_invariant.specs.Edits.{Edit, Fill, Remove, Node, Become, Untype, Component, Deaden, Push, Pop}
-use Rattle.authority_laws.specs.kernel_invariant.specs.Edits.{Switch}
-use Rattle.authority_laws.specs.kernel_invariant.specs.Edits.{Charge, Move, Merge, Give, edited, after_edits}
 use Rattle.authority_laws.specs.kernel_invariant.proofs.Sound.{put_all}
 use Rattle.authority_laws.specs.kernel_invariant.proofs.SoundSteps.{place_all, free_holds, quiescing_holds, holds_inj}
 use Rattle.authority_laws.specs.kernel_invariant.proofs.SoundCalls.{IsOpen}
@@ -150,7 +147,8 @@ module _ (call : Call) (s : State) (c : ℕ) where
   later_put t [] are by h = h
   later_put t (Fill at k ∷ es) are by h = later_put (edited c t (Fill at k)) es are by.1
       (place_put t at (Holds k) (λ j e. subst (Put call s c at.node) (holds_inj k j e) by.0) h)
-  later_put t (Merge f qs ∷ es) are by h = later_put (edited c t (Merge f qs)) es are by.1 (tcap_put t f (record (tcap_at t f) { qualities = qs }) h)
+  later_put t (Merge f qs ∷ es) are by h = later_put (edited c t (Merge f qs)) es are by.1
+      (tcap_put t f (record (tcap_at t f) { qualities = qs }) h)
   later_put t (_ ∷ es) are by h = absurd are
 
   edits_put : (es : List Edit) → Calm c s es → EachBy call s c es → PutFrom call s c (after_edits c s es)
@@ -162,7 +160,8 @@ module _ (call : Call) (s : State) (c : ℕ) where
 pub decided_put : (s : State) (c : ℕ) (o : ℕ → Bool) → IsOpen s o c → (call : Call) (r : Reply) → MayReply s c call r
     → PutFrom call s c (state_by s c call r)
 decided_put s c o h call r may = decided_from s c o h call (PutFrom call s c) (same_put call s c)
-    (λ t k same spent p. record { held = p.held; comp = p.comp; live = p.live }) (λ t g p. record { held = p.held; comp = p.comp; live = p.live })
+    (λ t k same spent p. record { held = p.held; comp = p.comp; live = p.live })
+    (λ t g p. record { held = p.held; comp = p.comp; live = p.live })
     (λ es calm by. edits_put call s c es calm by) r may
 
 held_usable : (p : Place) (b : Bool) (k : Capability) → p ≡ Holds k → usable_in p b ≡ Some k

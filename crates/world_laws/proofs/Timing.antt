@@ -10,18 +10,15 @@ use Rattle.authority_laws.specs.spk_nums.specs.declared.calls.Call.TheVariants.{
 use Rattle.authority_laws.specs.spk_nums.specs.declared.replies.Reply.{Reply}
 use Rattle.authority_laws.specs.spk_nums.specs.declared.replies.Reply.TheVariants as reply
 use Rattle.authority_laws.specs.kernel_rules.specs.State.{ThreadFields, TcapFields, Blank, Comp, Thread, Tcap, Frame, Untyped, Kernel, Core}
-use Rattle.authority_laws.specs.kernel_rules.specs.State.{outstanding}
-use Rattle.authority_laws.specs.kernel_rules.specs.State.{State}
-use Rattle.authority_laws.specs.kernel_rules.specs.State.{put, with_frame, with_core, tcap_in}
+use Rattle.authority_laws.specs.kernel_rules.specs.State.{State, put, with_frame, with_core, tcap_in, outstanding}
 use Rattle.authority_laws.specs.kernel_rules.specs.Access.{only}
 use Rattle.authority_laws.specs.kernel_rules.specs.Fitting.{fits}
-use Rattle.authority_laws.specs.kernel_rules.specs.InvocationCalls.{with_thread, running}
-use Rattle.authority_laws.specs.kernel_rules.specs.TimeCalls.{tcap_at, with_tcap, with_budget, charge}
+use Rattle.authority_laws.specs.kernel_rules.specs.Edits.{with_thread, running, tcap_at, with_tcap, with_budget, charge, Edit, Fill, Node}
+use Rattle.authority_laws.specs.kernel_rules.specs.Edits.{Become, Untype, Component, Push, Pop, Switch, Cache, Flush, Charge, Move, Merge}
+use Rattle.authority_laws.specs.kernel_rules.specs.Edits.{Give, edited, after_edits}
 use Rattle.authority_laws.specs.kernel_rules.specs.CallRelation.{owed_by, state_by, MayReply}
 use Rattle.authority_laws.specs.kernel_rules.specs.Runs.{Event, Enters, Decides, Returns, after, IsRun}
 use Rattle.authority_laws.specs.kernel_rules.proofs.Within.{put_same, put_other}
-use Rattle.authority_laws.specs.kernel_invariant.specs.Edits.{Edit, Fill, Node, Become, Untype, Component, Push, Pop, Switch, Cache, Flush}
-use Rattle.authority_laws.specs.kernel_invariant.specs.Edits.{Charge, Move, Merge, Give, edited, after_edits}
 use Rattle.authority_laws.specs.kernel_invariant.proofs.Sums.{sum_same, sum_one}
 use Rattle.authority_laws.specs.kernel_invariant.proofs.Sound.{put_all, only_is}
 use Rattle.authority_laws.specs.kernel_invariant.proofs.SoundCalls.{IsOpen, tcap_below}
@@ -70,7 +67,8 @@ module _ (w : ℕ → Bool) where
   frame_put : (u : State) (f : ℕ) (y : Frame) → f < u.limits.frames
       → ticks_in w (with_frame u f y) + counted_if (w f) (budget (u.frame f)) ≡ ticks_in w u + counted_if (w f) (budget y)
   frame_put u f y below =
-      let a = sum_one (λ g. counted_if (w g) (budget (u.frame g))) (λ g. counted_if (w g) (budget (put u.frame f y g))) u.limits.frames f below
+      let a = sum_one (λ g. counted_if (w g) (budget (u.frame g))) (λ g. counted_if (w g) (budget (put u.frame f y g)))
+      u.limits.frames f below
       (λ g other. ap (λ x. counted_if (w g) (budget x)) (put_other u.frame f y g other)) in
       let b : counted_if (w f) (budget (put u.frame f y f)) ≡ counted_if (w f) (budget y) =
       ap (λ x. counted_if (w f) (budget x)) (put_same u.frame f y f refl) in
@@ -305,10 +303,12 @@ module _ (setting : Setting) (lim : IsSetting setting) (w : ℕ → Bool) (cross
       inr (record { since = later; more = []; core = c; call = call; value = v; is_part = refl; across = across })
   by_across c call reply.CallsSpent later across kept = inl kept
   by_across c call reply.Raced later across kept = inl (
-      core_same w (owed_by (after setting (later ++ before)) c call) c _ refl refl ∙ owed_ticks w (after setting (later ++ before)) c call ∙ kept
+      core_same w (owed_by (after setting (later ++ before)) c call) c _ refl refl
+      ∙ owed_ticks w (after setting (later ++ before)) c call ∙ kept
       )
   by_across c call (reply.Busy d) later across kept = inl (
-      core_same w (owed_by (after setting (later ++ before)) c call) c _ refl refl ∙ owed_ticks w (after setting (later ++ before)) c call ∙ kept
+      core_same w (owed_by (after setting (later ++ before)) c call) c _ refl refl
+      ∙ owed_ticks w (after setting (later ++ before)) c call ∙ kept
       )
   by_across c call _ later across kept = inl (core_same w (after setting (later ++ before)) c _ refl refl ∙ kept)
 

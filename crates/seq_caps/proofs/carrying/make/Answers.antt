@@ -13,6 +13,6 @@ pub returns-then-number-frames : goal.returns-then-number-frames
 returns-then-number-frames c = λ core r t b may.
     let s = state_of c.args.k.now in
     let e : c.new.result ≡ c.args.frame = c.new.ensures ∙ c.number-then-number-frames.ensures in
-    subst (λ (f : ℕ). IsCarriedOut s (change_in (left_of (rule_of s core (make_call c.args.what.now r f t b)) c.args.looked.now))
+    subst (λ (f : ℕ). IsCarriedOut s (change_in s core (left_of (rule_of s core (make_call c.args.what.now r f t b)) c.args.looked.now))
     (ok Nothing) c.make_in.new.k) e
     (c.make_in.ensures core r t b (subst (λ (f : ℕ). MayMake s c.args.what.now f c.args.looked.now) (sym e) may) c.in-Some.is)
