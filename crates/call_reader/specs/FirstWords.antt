@@ -59,3 +59,34 @@ first_word version word =
     else (if is_word word (codes "core") then Some Core
     else (if is_word word (codes "order") then Some Order
     else call_word (verb_of version word))))))))
+
+-- the word of a call, as it is spelled
+abbrev pub spelled : Verb → List ℕ
+spelled verb.Look = codes "look"
+spelled verb.Copy = codes "copy"
+spelled verb.Remove = codes "remove"
+spelled verb.Grow = codes "grow"
+spelled verb.Shrink = codes "shrink"
+spelled verb.Retype = codes "retype"
+spelled verb.Make = codes "make"
+spelled verb.Map = codes "map"
+spelled verb.Unmap = codes "unmap"
+spelled verb.Touch = codes "touch"
+spelled verb.Flush = codes "flush"
+spelled verb.Gate = codes "gate"
+spelled verb.Kill = codes "kill"
+spelled verb.Call = codes "call"
+spelled verb.Ret = codes "ret"
+spelled verb.Switch = codes "switch"
+spelled verb.Tick = codes "tick"
+spelled verb.Transfer = codes "transfer"
+spelled verb.Delegate = codes "delegate"
+spelled verb.Test = codes "test"
+spelled verb.Part = codes "part"
+spelled verb.Replenish = codes "replenish"
+
+-- the word of a call as a first word, where a script of this version has it
+abbrev pub in_version : ℕ → Verb → Option FirstWord
+in_version version verb.Part = call_word (late_verb version verb.Part)
+in_version version verb.Replenish = call_word (late_verb version verb.Replenish)
+in_version version v = Some (Call v)

@@ -1,7 +1,10 @@
 //! The words that a line may begin with.
+//!
+//! Most lines are calls. So which word of a call a word can be is told by two of its letters, and it is compared with that one; only
+//! what is not that one is compared with each first word.
 
 ghost use Rattle.std.specs.Prelude.{◌≡◌};
-ghost use Rattle.call_reader.specs.FirstWords.{late_verb, verb_of, later_verb_of, first_word};
+ghost use Rattle.call_reader.specs.FirstWords.{late_verb, verb_of, later_verb_of, first_word, spelled, in_version};
 
 use line_reader::is_word;
 
@@ -115,9 +118,105 @@ fn later_verb_of(word: &[u8], version: u8) -> Option<Verb>
     }
 }
 
-/// The first word that a word is in a script of this version, if it is one that a rule knows.
+// The word of a call as it is spelled.
+fn spelled(verb: Verb) -> &'static str
+    ensures { result.now ≡ spelled verb }
+{
+    match verb {
+        Verb::Look => "look",
+        Verb::Copy => "copy",
+        Verb::Remove => "remove",
+        Verb::Grow => "grow",
+        Verb::Shrink => "shrink",
+        Verb::Retype => "retype",
+        Verb::Make => "make",
+        Verb::Map => "map",
+        Verb::Unmap => "unmap",
+        Verb::Touch => "touch",
+        Verb::Flush => "flush",
+        Verb::Gate => "gate",
+        Verb::Kill => "kill",
+        Verb::Call => "call",
+        Verb::Ret => "ret",
+        Verb::Switch => "switch",
+        Verb::Tick => "tick",
+        Verb::Transfer => "transfer",
+        Verb::Delegate => "delegate",
+        Verb::Test => "test",
+        Verb::Part => "part",
+        Verb::Replenish => "replenish",
+    }
+}
+
+// The word of a call as a first word, where a script of this version has it.
+fn in_version(version: u8, verb: Verb) -> Option<FirstWord>
+    ensures { result ≡ in_version version verb }
+{
+    match verb {
+        Verb::Part | Verb::Replenish => {
+            if 3 <= version {
+                Some(FirstWord::Call(verb))
+            } else {
+                None
+            }
+        }
+        _ => Some(FirstWord::Call(verb)),
+    }
+}
+
+// The only word of a call that can begin and go on with these letters, of those from `c` to `m`.
+fn likely_early(first: u8, third: u8) -> Option<Verb> {
+    match (first, third) {
+        (b'c', b'p') => Some(Verb::Copy),
+        (b'c', b'l') => Some(Verb::Call),
+        (b'd', b'l') => Some(Verb::Delegate),
+        (b'f', b'u') => Some(Verb::Flush),
+        (b'g', b'o') => Some(Verb::Grow),
+        (b'g', b't') => Some(Verb::Gate),
+        (b'k', b'l') => Some(Verb::Kill),
+        (b'l', b'o') => Some(Verb::Look),
+        (b'm', b'p') => Some(Verb::Map),
+        (b'm', b'k') => Some(Verb::Make),
+        _ => None,
+    }
+}
+
+// Of those from `p` to `u`. `ret` alone has three letters.
+fn likely_late(first: u8, third: u8, letters: usize) -> Option<Verb> {
+    match (first, third) {
+        (b'p', b'r') => Some(Verb::Part),
+        (b'r', b'm') => Some(Verb::Remove),
+        (b'r', b'p') => Some(Verb::Replenish),
+        (b'r', b't') if letters == 3 => Some(Verb::Ret),
+        (b'r', b't') => Some(Verb::Retype),
+        (b's', b'i') => Some(Verb::Switch),
+        (b's', b'r') => Some(Verb::Shrink),
+        (b't', b'a') => Some(Verb::Transfer),
+        (b't', b'c') => Some(Verb::Tick),
+        (b't', b's') => Some(Verb::Test),
+        (b't', b'u') => Some(Verb::Touch),
+        (b'u', b'm') => Some(Verb::Unmap),
+        _ => None,
+    }
+}
+
+// The only word of a call that a word can be, by two of its letters and its length.
+fn likely(word: &[u8]) -> Option<Verb> {
+    if word.len() < 3 {
+        return None;
+    }
+    let first = word[0];
+    let third = word[2];
+    if first <= b'm' {
+        likely_early(first, third)
+    } else {
+        likely_late(first, third, word.len())
+    }
+}
+
+// The first word that a word is, by a comparison with each that there is.
 #[tactic(auto, unfolding(crate::specs::FirstWords::first_word))]
-pub fn first_word(word: &[u8], version: u8) -> Option<FirstWord>
+fn any_word(word: &[u8], version: u8) -> Option<FirstWord>
     ensures { result ≡ first_word version word.now }
 {
     if is_word(word, "speck") {
@@ -142,4 +241,16 @@ pub fn first_word(word: &[u8], version: u8) -> Option<FirstWord>
             None => None,
         }
     }
+}
+
+/// The first word that a word is in a script of this version, if it is one that a rule knows.
+pub fn first_word(word: &[u8], version: u8) -> Option<FirstWord>
+    ensures { result ≡ first_word version word.now }
+{
+    if let Some(verb) = likely(word) {
+        if is_word(word, spelled(verb)) {
+            return in_version(version, verb);
+        }
+    }
+    any_word(word, version)
 }

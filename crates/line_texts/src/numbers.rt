@@ -66,15 +66,26 @@ fn push_four(text: &mut String, number: u32) -> Result<(), AllocError>
     Ok(())
 }
 
-/// Appends a number.
-#[inline]
-pub fn push_number(text: &mut String, number: u32) -> Result<(), AllocError>
+// A number of any length, apart: one of a single digit then needs no room for what the others take.
+#[inline(never)]
+fn push_long(text: &mut String, number: u32) -> Result<(), AllocError>
     ensures { OnOk result (string_bytes text.new ≡ string_bytes text.old ++ decimal number) }
 {
     if number < 10_000 {
         return push_four(text, number);
     }
     write!(text, "{number}")
+}
+
+/// Appends a number.
+#[inline]
+pub fn push_number(text: &mut String, number: u32) -> Result<(), AllocError>
+    ensures { OnOk result (string_bytes text.new ≡ string_bytes text.old ++ decimal number) }
+{
+    if number < 10 {
+        return push_below_ten(text, number);
+    }
+    push_long(text, number)
 }
 
 /// Appends a space and a number.

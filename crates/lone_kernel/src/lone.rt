@@ -170,9 +170,16 @@ fn decisions_in(absorbed: &Absorbed) -> usize
     }
 }
 
+// What a step did, and what it found.
+#[derive(Clone, Copy)]
+struct Performed {
+    op: WordOp,
+    found: u64,
+}
+
 // The core makes its next step over the words, and what it tells is written where it said before that the call goes on.
 #[inline(always)]
-fn go(seat: &mut Seat, layout: &Layout, words: &mut Vec<u64>, absorbed: &mut Absorbed)
+fn go(seat: &mut Seat, layout: &Layout, words: &mut Vec<u64>, absorbed: &mut Absorbed) -> Performed
     requires in_call { IsSome seat.old.state.active }
     requires machine { layout.now ≡ seat.old.state.own.layout }
     requires size { length words.old.items ≡ size_of layout.now }
@@ -181,28 +188,50 @@ fn go(seat: &mut Seat, layout: &Layout, words: &mut Vec<u64>, absorbed: &mut Abs
     ensures goes { MakesTurn layout.now seat.old seat.new words.old.items words.new.items absorbed.new }
     ensures fits { IsCore seat.new.state }
     ensures fewer { steps_left seat.new.state < steps_left seat.old.state }
+    ensures step { result.op ≡ op_of layout.now (move_of seat.old.state) }
+    ensures below { place_in result.op < size_of layout.now }
+    ensures found { result.found ≡ slice_index words.old.items (place_in result.op) }
 {
     let op = seat.state.next_op(layout);
     let found = perform(words, &op);
     seat.state.absorb_to(told(&op, found), absorbed);
     seat.due -= decisions_in(absorbed);
+    Performed { op, found }
+}
+
+// A step of a core, as it is seen, and what the core tells of it.
+#[derive(Clone, Copy)]
+struct Taken {
+    view: StepView,
+    told: Absorbed,
 }
 
 // The core takes its turn: the turn's call begins, where it is one that does, and the core makes its next step.
-fn take(seat: &mut Seat, turn: &Turn, layout: &Layout, words: &mut Vec<u64>) -> Absorbed
+#[inline]
+fn take(seat: &mut Seat, turn: &Turn, layout: &Layout, words: &mut Vec<u64>) -> Taken
     requires can { CanTake turn.now seat.old.state }
     requires few { seat.old.begun < 2 ^ 60 }
     requires machine { layout.now ≡ seat.old.state.own.layout }
     requires size { length words.old.items ≡ size_of layout.now }
     requires due { is_decided_in (core_in seat.old.state turn.now).active ≡ false → 0 < seat.old.due }
-    ensures takes { TakesTurn layout.now seat.old turn.now seat.new words.old.items words.new.items result }
+    ensures takes { TakesTurn layout.now seat.old turn.now seat.new words.old.items words.new.items result.told }
+    ensures shows { IsCore seat.old.state → IsNextView layout.now seat.old turn.now words.old.items result.view }
     ensures fits { IsCore seat.new.state }
     ensures fewer { steps_left seat.new.state < steps_left (core_in seat.old.state turn.now) }
 {
-    let mut absorbed = Absorbed::Going;
+    let core = seat.state.core();
+    let mut told = Absorbed::Going;
     begin(seat, turn);
-    go(seat, layout, words, &mut absorbed);
-    absorbed
+    let Performed { op, found } = go(seat, layout, words, &mut told);
+    let view = StepView {
+        core,
+        enters: entered(turn),
+        op,
+        word: name_at(layout, place_in(&op)),
+        found,
+        left: left_by(&op, found),
+    };
+    Taken { view, told }
 }
 
 // Notes the decision that a step has told, if it has told one.
@@ -555,10 +584,10 @@ impl LoneKernel {
         ensures work { IfSome result (λ made. GoesFurther self.old self.new core) }
     {
         let _setup = &self.setup;
-        let Some(view) = self.next_step(core) else {
+        if self.is_finished(core) {
             return None;
-        };
-        let told = self.advance(core);
+        }
+        let Taken { view, told } = self.advance(core);
         Some(StepMade {
             view,
             decides: decided(&told),
@@ -599,25 +628,26 @@ impl LoneKernel {
         );
     }
 
-    // Makes one step of a core that has a turn, and answers what the core tells of it.
+    // Makes one step of a core that has a turn, and answers how it is seen and what the core tells of it.
     #[inline]
-    fn advance(&mut self, core: CoreNo) -> Absorbed
+    fn advance(&mut self, core: CoreNo) -> Taken
         requires here { core < self.old.setup.cores }
         requires begins { IsFinished self.old core → ⊥ }
         ensures setup { self.new.setup ≡ self.old.setup }
         ensures lists { self.new.lists ≡ self.old.lists }
         ensures goes { StepsOnce self.old self.new core }
         ensures work { GoesFurther self.old self.new core }
-        ensures steps { (f : Turn) → turn_at self.old core ≡ Some f → Steps self.old self.new core f result }
+        ensures steps { (f : Turn) → turn_at self.old core ≡ Some f → Steps self.old self.new core f result.told }
+        ensures shows { ShowsNext self.old core result.view }
     {
         let at = usize::from(core.number());
         let Some(turn) = turn(&self.lists[at], &self.seats[at]) else {
             unreachable!()
         };
-        let absorbed = take(&mut self.seats[at], &turn, &self.layout, &mut self.words);
+        let taken = take(&mut self.seats[at], &turn, &self.layout, &mut self.words);
         let index = self.seats[at].begun as u32;
-        note(&mut self.decisions, &absorbed, core, index);
-        absorbed
+        note(&mut self.decisions, &taken.told, core, index);
+        taken
     }
 
     /// Whether an item that takes the core this far is done once a step is made.

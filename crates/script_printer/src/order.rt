@@ -3,6 +3,7 @@
 ghost use Rattle.std.specs.Prelude.{◌≡◌, ◌++◌, OnOk, string_bytes};
 ghost use Rattle.script_printer.specs.Printing.{how_text, item_text, before_item, items_text, order_lines};
 
+use line_texts::push_number;
 use spk_nums::{How, Item};
 use std::alloc::AllocError;
 
@@ -30,10 +31,9 @@ fn before_item(at: usize) -> &'static str
 fn push_item(text: &mut String, at: usize, item: &Item) -> Result<(), AllocError>
     ensures { OnOk result (string_bytes text.new ≡ string_bytes text.old ++ (before_item at ++ item_text item.now)) }
 {
-    let before = before_item(at);
-    let core = item.core;
-    let how = how_text(item.how);
-    write!(text, "{before}{core}{how}")
+    text.push_str(before_item(at))?;
+    push_number(text, u32::from(item.core.number()))?;
+    text.push_str(how_text(item.how))
 }
 
 fn push_items(text: &mut String, order: &[Item]) -> Result<(), AllocError>

@@ -8,6 +8,7 @@ ghost use Rattle.script_printer.specs.Law.{IsWithin};
 
 use crate::order::push_order;
 use crate::setup::push_setup;
+use line_texts::push_call;
 use script_reader::Script;
 use spk_nums::{Call, Memory};
 use std::alloc::{AllocError, Global};
@@ -16,7 +17,8 @@ fn push_calls(text: &mut String, calls: &[Call]) -> Result<(), AllocError>
     ensures { OnOk result (string_bytes text.new ≡ string_bytes text.old ++ flat_map call_line calls.now) }
 {
     for call in calls {
-        write!(text, "{call}\n")?;
+        push_call(text, call)?;
+        text.push('\n')?;
     }
     Ok(())
 }

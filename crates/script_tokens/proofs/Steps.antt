@@ -1,21 +1,21 @@
 -- The pass over the bytes, as it goes on.
 use Rattle.std.proofs.Common.{◌≡◌, ℕ, zero, suc, ◌+◌, ◌<◌, ◌≤◌, Bool, true, false, cond, eqb, ltb, List, [], ◌∷◌, ◌++◌, length, get_or}
 use Rattle.std.proofs.Common.{take, drop, map, All, IfSome, Option, Some, None, refl, sym, ap, subst, ◌∙◌, append_assoc, arith, inl, inr}
-use Rattle.std.specs.Prelude.{count_by, filter, slice_get, slice_range, not, ◌||◌}
-use Rattle.std.proofs.lemmas.Bool.{cases_Bool, or_parts, not-true, not-false, eqb-true, eqb-false}
-use Rattle.std.proofs.lemmas.Bool.{eq-eqb, ne_eqb, ltb-true, ltb-false, le-ltb, lt-ltb}
+use Rattle.std.specs.Prelude.{count_by, filter, slice_get, slice_range, nat_le, not, ◌&&◌, ◌||◌}
+use Rattle.std.proofs.lemmas.Bool.{cases_Bool, false≢true, or_parts, not-true, not-false, eqb-true, eqb-false}
+use Rattle.std.proofs.lemmas.Bool.{eq-eqb, ne_eqb, ltb-true, ltb-false, le-ltb, lt-ltb, and_parts, leb-true, le-leb}
 use Rattle.std.proofs.lemmas.List.{append-nil, drop_more, drop_all, take-append-le, length-append, take_all, length-map}
 use Rattle.std.proofs.lemmas.List.Sums.{sum_by-cons}
 use Rattle.std.proofs.lemmas.List.Elements.{filter-append, All-head, All-tail}
 use Rattle.script_tokens.specs.declared.scanning.Place.{Place}
 use Rattle.script_tokens.specs.declared.scanning.Place.TheVariants.{Between, Word, Comment}
-use Rattle.script_tokens.specs.Bytes.{is_feed, is_hash, is_word_byte, is_allowed}
+use Rattle.script_tokens.specs.Bytes.{is_feed, is_hash, is_word_byte, feed_next, is_allowed}
 use Rattle.script_tokens.specs.declared.scanning.Ending.{Ending}
 use Rattle.script_tokens.specs.declared.scanning.Ending.TheVariants.{Whole, Fault}
 use Rattle.script_tokens.specs.declared.token.Token.{Token}
 use Rattle.script_tokens.specs.Words.{Span, joined, spans, spans_of, first_fault, line_of_fault, line_count}
 use Rattle.script_tokens.specs.Words.{ending_from, ending_of, before_fault, word_at, words_of, views, Ascend}
-use Rattle.script_tokens.specs.Scanning.{span_of, IsSlice, after_in, place_after, word_before}
+use Rattle.script_tokens.specs.Scanning.{span_of, IsSlice, after_in, place_after, within_word, after_blank, word_before}
 use Rattle.script_tokens.specs.Scanning.{last_word, ended, line_after, whole_after, fault_at, is_fault}
 
 -- the words of the bytes that follow, where the byte before stands at that place
@@ -394,3 +394,77 @@ turns source at place line whole b ts us t lt is fine new texts =
       texts = texts;
       began = began_next place b at t.began;
     }
+
+-- ---- bytes of words, and blanks
+
+word_no_feed : (b : ℕ) → is_word_byte b ≡ true → is_feed b ≡ false
+word_no_feed b w = elim (cases_Bool (is_feed b)) [ inl e ↦ absurd (false≢true (sym (feed_no_word b e) ∙ w)) | inr e ↦ e ]
+
+word_no_hash : (b : ℕ) → is_word_byte b ≡ true → is_hash b ≡ false
+word_no_hash b w = elim (cases_Bool (is_hash b)) [ inl e ↦ absurd (false≢true (sym (hash_no_word b e) ∙ w)) | inr e ↦ e ]
+
+one_of : (x y z : Bool) → (x || (y || (z || true))) ≡ true
+one_of true y z = refl
+one_of false true z = refl
+one_of false false true = refl
+one_of false false false = refl
+
+word_allowed : (b : ℕ) (next : Option ℕ) → is_word_byte b ≡ true → is_allowed b next ≡ true
+word_allowed b next w =
+    let p = and_parts (nat_le 33 b) (nat_le b 126 && not (is_hash b)) w in
+    let q = and_parts (nat_le b 126) (not (is_hash b)) p.1 in
+    let low : 33 ≤ b = leb-true 33 b p.0 in
+    let high : nat_le b 126 ≡ true = q.0 in
+    let from : nat_le 32 b ≡ true = le-leb 32 b (omega arith) in
+    rw (from, high) (one_of (eqb b 9) (is_feed b) (eqb b 13 && feed_next next))
+
+-- a byte of a word is no fault of a line that may be
+word_fine : (line b : ℕ) (next : Option ℕ) → line ≤ 20000 → is_word_byte b ≡ true → is_fault line b next ≡ false
+word_fine line b next le w = rw (le-ltb 20000 line le, word_allowed b next w) refl
+
+word_in : (place : Place) (b at : ℕ) → is_word_byte b ≡ true → place_after place b at ≡ within_word place at
+word_in Between b at w = rw (w, word_no_feed b w, word_no_hash b w) refl
+word_in (Word start) b at w = rw (w, word_no_feed b w, word_no_hash b w) refl
+word_in Comment b at w = rw (word_no_feed b w) refl
+
+ends_none : (place : Place) (b : ℕ) → is_word_byte b ≡ true → word_before place b ≡ None
+ends_none Between b w = refl
+ends_none (Word start) b w = rw w refl
+ends_none Comment b w = refl
+
+blank_in : (place : Place) (at : ℕ) → place_after place 32 at ≡ after_blank place
+blank_in Between at = refl
+blank_in (Word start) at = refl
+blank_in Comment at = refl
+
+blank_ends : (place : Place) → word_before place 32 ≡ last_word place
+blank_ends Between = refl
+blank_ends (Word start) = refl
+blank_ends Comment = refl
+
+-- one turn of the pass at a byte of a word
+pub word_turns : (source : List ℕ) (at : ℕ) (place : Place) (line whole b : ℕ) (ts : List Token) → Turned source at place line whole ts
+    → at < length source → b ≡ get_or source at 0 → line ≤ 20000 → is_word_byte b ≡ true
+    → Turned source (at + 1) (within_word place at) line whole ts
+word_turns source at place line whole b ts t lt is le w =
+    let none : map span_of ts ≡ map span_of ts ++ ended (word_before place b) line at =
+    rw (ends_none place b w) (sym (append-nil (map span_of ts))) in
+    let turned = turns source at place line whole b ts ts t lt is (word_fine line b (slice_get source (at + 1)) le w) none t.texts in
+    let no_feed = word_no_feed b w in
+    let same_line : line_after line b ≡ line = rw no_feed refl in
+    let same_whole : whole_after whole b (length ts) ≡ whole = rw no_feed refl in
+    subst (λ p. Turned source (at + 1) p line whole ts) (word_in place b at w)
+    (subst (λ (l : ℕ). Turned source (at + 1) (place_after place b at) l whole ts) same_line
+    (subst (λ (n : ℕ). Turned source (at + 1) (place_after place b at) (line_after line b) n ts) same_whole turned))
+
+-- one turn of the pass at a blank
+pub blank_turns : (source : List ℕ) (at : ℕ) (place : Place) (line whole : ℕ) (ts us : List Token) → Turned source at place line whole ts
+    → at < length source → 32 ≡ get_or source at 0 → line ≤ 20000
+    → map span_of us ≡ map span_of ts ++ ended (last_word place) line at → All (IsSlice source) us
+    → Turned source (at + 1) (after_blank place) line whole us
+blank_turns source at place line whole ts us t lt is le new texts =
+    let fine : is_fault line 32 (slice_get source (at + 1)) ≡ false = rw (le-ltb 20000 line le) refl in
+    let ends : map span_of us ≡ map span_of ts ++ ended (word_before place 32) line at =
+    new ∙ ap (λ o. map span_of ts ++ ended o line at) (sym (blank_ends place)) in
+    subst (λ p. Turned source (at + 1) p line whole us) (blank_in place at)
+    (turns source at place line whole 32 ts us t lt is fine ends texts)

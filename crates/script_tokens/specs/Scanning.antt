@@ -30,6 +30,18 @@ after_in (Word start) b at = if is_hash b then Comment else in_word (Some start)
 abbrev pub place_after : Place → ℕ → ℕ → Place
 place_after p b at = if is_feed b then Between else after_in p b at
 
+-- where a byte of a word stands that is at `at`
+abbrev pub within_word : Place → ℕ → Place
+within_word Between at = Word at
+within_word (Word start) at = Word start
+within_word Comment at = Comment
+
+-- where a blank stands
+abbrev pub after_blank : Place → Place
+after_blank Between = Between
+after_blank (Word start) = Between
+after_blank Comment = Comment
+
 -- the word that ends before a byte
 abbrev pub word_before : Place → ℕ → Option ℕ
 word_before Between b = None

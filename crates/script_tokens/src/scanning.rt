@@ -2,13 +2,14 @@
 //!
 //! The pass keeps the line, the word that the byte before belongs to, and how many words stood in
 //! the lines that are over. A byte that may not stand in a script, or a line past the last that may
-//! be, ends it: the words of that line are dropped, since the line counts as not read.
+//! be, ends it: the words of that line are dropped, since the line counts as not read. A byte of a word,
+//! and a blank, may stand in every line that is read; they are told first, since most bytes are one of these.
 
 ghost use Rattle.std.specs.Prelude.{◌≡◌, ◌<◌, ◌≤◌, ◌^◌, ◌+◌, ◌++◌, length, All, IfOk, IfErr, OnOk, map, count_by, slice_get};
 ghost use Rattle.std.specs.Option.{ForSome};
 ghost use Rattle.script_tokens.specs.Bytes.{is_feed};
 ghost use Rattle.script_tokens.specs.Words.{views, words_of, ending_of, line_count, first_fault, Ascend, IsFault, FewLines};
-ghost use Rattle.script_tokens.specs.Scanning.{span_of, IsSlice, place_after, word_before, last_word};
+ghost use Rattle.script_tokens.specs.Scanning.{span_of, IsSlice, place_after, within_word, after_blank, word_before, last_word};
 ghost use Rattle.script_tokens.specs.Scanning.{ended, line_after, whole_after, fault_at, is_fault};
 
 use crate::bytes::{is_allowed, is_word_byte};
@@ -92,6 +93,27 @@ fn place_after(place: Place, byte: u8, at: usize) -> Place
                 Place::Between
             }
         }
+    }
+}
+
+// Where a byte of a word stands that is at `at`.
+fn within_word(place: Place, at: usize) -> Place
+    ensures { result ≡ within_word place at }
+{
+    match place {
+        Place::Between => Place::Word { start: at },
+        Place::Word { start } => Place::Word { start },
+        Place::Comment => Place::Comment,
+    }
+}
+
+// Where a blank stands.
+fn after_blank(place: Place) -> Place
+    ensures { result ≡ after_blank place }
+{
+    match place {
+        Place::Comment => Place::Comment,
+        Place::Between | Place::Word { .. } => Place::Between,
     }
 }
 
@@ -193,6 +215,15 @@ pub fn scan<'a>(alloc: Global, source: &'a [u8]) -> Result<Scanned<'a>, AllocErr
     let mut place = Place::Between;
     'bytes: for at in 0..source.len() {
         let byte = source[at];
+        if line <= MOST_LINES && is_word_byte(byte) {
+            place = within_word(place, at);
+            continue 'bytes;
+        }
+        if line <= MOST_LINES && byte == b' ' {
+            end_word(&mut words, source, last_word(place), at, line)?;
+            place = after_blank(place);
+            continue 'bytes;
+        }
         if is_fault(line, byte, byte_at(source, at + 1)) {
             words.truncate(whole);
             let ending = Ending::Fault(fault(line));

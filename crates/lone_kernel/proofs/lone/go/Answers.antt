@@ -8,4 +8,7 @@ returns c = record {
       c.absorb_to.ensures.told c.absorb_to.ensures.state refl c.decisions_in.ensures refl;
   fits = c.absorb_to.ensures.fits;
   fewer = c.absorb_to.ensures.fewer;
+  step = c.next_op-op.ensures.step;
+  below = c.next_op-op.ensures.below;
+  found = c.perform-found.ensures.found;
 }

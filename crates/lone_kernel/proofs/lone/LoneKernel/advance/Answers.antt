@@ -9,7 +9,7 @@ use Rattle.lone_kernel.specs.Moves.{StepsOnce}
 use Rattle.lone_kernel.proofs.OneStep.{seat_is, turn_here, fit_here, calls_here, takes_here, stepped_is, fits_behind, fewer_behind}
 use Rattle.lone_kernel.proofs.Fits.{IsOf, turn_is, fits_on, due_on, further, one_decision, count_decided, undecided_due}
 use Rattle.lone_kernel.proofs.Advance.{one_step, steps_like, further_like}
-use Rattle.lone_kernel.proofs.Shown.{steps_as}
+use Rattle.lone_kernel.proofs.Shown.{steps_as, next_shown}
 use Rattle.lone_kernel.proofs.lone.LoneKernel.advance.Goals as goal
 use Rattle.lone_kernel.proofs.lone.LoneKernel.advance.Goals.{In-Some, After-take-arg-2-1, After-note}
 
@@ -64,13 +64,13 @@ module _ (c : In-Some) (k : Seat) (k_is : k ≡ get_or c.self.inside.seats.items
       c.self.inside.decisions.items
       c.from-at.result c.index.result.now k c.self.invariant.0 (at c) c.index.ensures k_is) begins_lent
 
-pub take-absorbed-requires-clause-can : goal.take-absorbed-requires-clause-can
-take-absorbed-requires-clause-can c = let i = (goal.at.take-absorbed-requires-clause-can c).In-Some in
+pub take-taken-requires-clause-can : goal.take-taken-requires-clause-can
+take-taken-requires-clause-can c = let i = (goal.at.take-taken-requires-clause-can c).In-Some in
     (of_lent i c.index_mut.result.now c.index_mut.ensures.value).can
 
-pub take-absorbed-requires-clause-due : goal.take-absorbed-requires-clause-due
-take-absorbed-requires-clause-due c h =
-    let i = (goal.at.take-absorbed-requires-clause-due c).In-Some in
+pub take-taken-requires-clause-due : goal.take-taken-requires-clause-due
+take-taken-requires-clause-due c h =
+    let i = (goal.at.take-taken-requires-clause-due c).In-Some in
     undecided_due c.index.result.now.items c.index_mut.result.now c.in-Some.turn
     (of_lent i c.index_mut.result.now c.index_mut.ensures.value) h
 
@@ -86,9 +86,9 @@ module _ (i : In-Some) (k seat' read : Seat) (k_is : k ≡ get_or i.self.inside.
 pub overflow_cast-index : goal.overflow_cast-index
 overflow_cast-index c =
     let i = (goal.at.overflow_cast-index c).In-Some in
-    let read = read_same i c.index_mut.result.now c.take-absorbed.new.seat c.index-3.result.now c.index_mut.ensures.value
+    let read = read_same i c.index_mut.result.now c.take-taken.new.seat c.index-3.result.now c.index_mut.ensures.value
     c.index-3.ensures in
-    let same = ap (λ s. s.begun) read ∙ ap (λ s. s.begun) c.take-absorbed.ensures.takes.behind in
+    let same = ap (λ s. s.begun) read ∙ ap (λ s. s.begun) c.take-taken.ensures.takes.behind in
     let within = (of_lent i c.index_mut.result.now c.index_mut.ensures.value).within in
     let small = (fit_lent i c.index_mut.result.now c.index_mut.ensures.value).small in
     omega arith
@@ -96,7 +96,7 @@ overflow_cast-index c =
 pub note-requires : goal.note-requires
 note-requires c some =
     let i = (goal.at.note-requires c).In-Some in
-    let one = one_decision c.take-absorbed.result some in
+    let one = one_decision c.take-taken.result.told some in
     let a = at i in
     let seats = i.self.invariant.0.seats in
     let lent = lent_is i c.index_mut.result.now c.index_mut.ensures.value in
@@ -106,8 +106,8 @@ note-requires c some =
     (λ v. v.items) c.self.inside.setup c.self.inside.words.items c.self.inside.lists.items c.self.inside.seats.items
     c.self.inside.decisions.items
     c.from-at.result c.index.result.now c.index_mut.result.now i.self.invariant.0
-    (at i) c.index.ensures c.index_mut.ensures.value c.self.inside.layout c.in-Some.turn c.take-absorbed.new.seat
-    c.take-absorbed.new.words.items c.take-absorbed.result c.take-absorbed.ensures.takes i.self.invariant.1 in
+    (at i) c.index.ensures c.index_mut.ensures.value c.self.inside.layout c.in-Some.turn c.take-taken.new.seat
+    c.take-taken.new.words.items c.take-taken.result.told c.take-taken.ensures.takes i.self.invariant.1 in
     let told = ap decisions_in takes.told in
     let room = i.self.invariant.3 in
     omega arith
@@ -118,9 +118,9 @@ before c = (goal.at.returns-clause-goes c).In-Some
 abbrev now : After-note → Machine
 now c = record {
   setup = c.self.inside.setup;
-  words = c.take-absorbed.new.words.items;
+  words = c.take-taken.new.words.items;
   lists = map (λ v. v.items) c.self.inside.lists.items;
-  seats = slice_set c.self.inside.seats.items c.from-at.result c.take-absorbed.new.seat;
+  seats = slice_set c.self.inside.seats.items c.from-at.result c.take-taken.new.seat;
   decisions = c.note.new.decisions.items;
 }
 
@@ -130,9 +130,9 @@ core_is c = let n = c.number.ensures.value in let f = c.from-at.ensures in omega
 turn_at_core : (c : After-note) → turn_at (machine (before c)) c.from-at.result ≡ Some c.in-Some.turn
 turn_at_core c = begins_at (before c) c.index_mut.result.now c.index_mut.ensures.value
 
-index_is : (c : After-note) → c.index-3.result.now.begun ≡ c.take-absorbed.new.seat.begun
+index_is : (c : After-note) → c.index-3.result.now.begun ≡ c.take-taken.new.seat.begun
 index_is c = ap (λ s. s.begun)
-    (read_same (before c) c.index_mut.result.now c.take-absorbed.new.seat c.index-3.result.now c.index_mut.ensures.value c.index-3.ensures)
+    (read_same (before c) c.index_mut.result.now c.take-taken.new.seat c.index-3.result.now c.index_mut.ensures.value c.index-3.ensures)
 
 made_now : (c : After-note) → now c ≡ stepped (machine (before c)) c.from-at.result c.in-Some.turn
 made_now c = stepped_is
@@ -140,22 +140,22 @@ made_now c = stepped_is
     c.self.inside.decisions.items
     c.from-at.result c.index.result.now c.index_mut.result.now (before c).self.invariant.0
     (at (before c)) c.index.ensures c.index_mut.ensures.value c.self.inside.layout c.in-Some.turn
-    c.take-absorbed.new.seat c.take-absorbed.new.words.items c.take-absorbed.result c.take-absorbed.ensures.takes
+    c.take-taken.new.seat c.take-taken.new.words.items c.take-taken.result.told c.take-taken.ensures.takes
     (before c).self.invariant.1
     c.note.new.decisions.items c.index-3.result.now.begun (index_is c)
     (c.note.ensures.items
-    ∙ ap (λ (k : ℕ). c.self.inside.decisions.items ++ decision_at (decided_in c.take-absorbed.result) k c.index-3.result.now.begun)
+    ∙ ap (λ (k : ℕ). c.self.inside.decisions.items ++ decision_at (decided_in c.take-taken.result.told) k c.index-3.result.now.begun)
     (sym (core_is c)))
 
-told_now : (c : After-note) → decisions_in c.take-absorbed.result ≡ decisions_in (Rattle.lone_kernel.specs.Machine.said_by
+told_now : (c : After-note) → decisions_in c.take-taken.result.told ≡ decisions_in (Rattle.lone_kernel.specs.Machine.said_by
     (Rattle.lone_kernel.specs.Machine.core_in (core_at (machine (before c)) c.from-at.result) c.in-Some.turn)
     (found_by (machine (before c)) c.from-at.result c.in-Some.turn))
 told_now c = ap decisions_in
     (takes_here (λ v. v.items) c.self.inside.setup c.self.inside.words.items c.self.inside.lists.items c.self.inside.seats.items
     c.self.inside.decisions.items
     c.from-at.result c.index.result.now c.index_mut.result.now (before c).self.invariant.0
-    (at (before c)) c.index.ensures c.index_mut.ensures.value c.self.inside.layout c.in-Some.turn c.take-absorbed.new.seat
-    c.take-absorbed.new.words.items c.take-absorbed.result c.take-absorbed.ensures.takes (before c).self.invariant.1).told
+    (at (before c)) c.index.ensures c.index_mut.ensures.value c.self.inside.layout c.in-Some.turn c.take-taken.new.seat
+    c.take-taken.new.words.items c.take-taken.result.told c.take-taken.ensures.takes (before c).self.invariant.1).told
 
 fits_now : (c : After-note) → IsFit (now c)
 fits_now c =
@@ -164,18 +164,18 @@ fits_now c =
     (fits_behind (λ v. v.items) c.self.inside.setup c.self.inside.words.items c.self.inside.lists.items c.self.inside.seats.items
     c.self.inside.decisions.items
     c.from-at.result c.index.result.now c.index_mut.result.now i.self.invariant.0
-    (at i) c.index.ensures c.index_mut.ensures.value c.self.inside.layout c.in-Some.turn c.take-absorbed.new.seat
-    c.take-absorbed.new.words.items c.take-absorbed.result c.take-absorbed.ensures.takes i.self.invariant.1 c.take-absorbed.ensures.fits))
+    (at i) c.index.ensures c.index_mut.ensures.value c.self.inside.layout c.in-Some.turn c.take-taken.new.seat
+    c.take-taken.new.words.items c.take-taken.result.told c.take-taken.ensures.takes i.self.invariant.1 c.take-taken.ensures.fits))
 
 pub invariant_of-self : goal.invariant_of-self
 invariant_of-self c =
     let i = before c in
     let left = due_on (machine i) c.from-at.result c.in-Some.turn i.self.invariant.0 (at i) (turn_at_core c) in
     let sums = ap (λ m. sum_by (λ seat. seat.due) m.seats) (made_now c) in
-    let count = count_decided c.take-absorbed.result c.args.core c.index-3.result.now.begun in
+    let count = count_decided c.take-taken.result.told c.args.core c.index-3.result.now.begun in
     let told = told_now c in
     let grown = ap length c.note.ensures.items ∙ length-append c.self.inside.decisions.items
-    (decision_at (decided_in c.take-absorbed.result) c.args.core c.index-3.result.now.begun) in
+    (decision_at (decided_in c.take-taken.result.told) c.args.core c.index-3.result.now.begun) in
     let room = c.note.ensures.room in
     let was = i.self.invariant.3 in
     let v = c.note.new.decisions.ok.0 in
@@ -201,24 +201,24 @@ returns-clause-work c =
     (fits_behind (λ v. v.items) c.self.inside.setup c.self.inside.words.items c.self.inside.lists.items c.self.inside.seats.items
     c.self.inside.decisions.items
     c.from-at.result c.index.result.now c.index_mut.result.now i.self.invariant.0
-    (at i) c.index.ensures c.index_mut.ensures.value c.self.inside.layout c.in-Some.turn c.take-absorbed.new.seat
-    c.take-absorbed.new.words.items c.take-absorbed.result c.take-absorbed.ensures.takes i.self.invariant.1 c.take-absorbed.ensures.fits)
+    (at i) c.index.ensures c.index_mut.ensures.value c.self.inside.layout c.in-Some.turn c.take-taken.new.seat
+    c.take-taken.new.words.items c.take-taken.result.told c.take-taken.ensures.takes i.self.invariant.1 c.take-taken.ensures.fits)
     (fewer_behind (λ v. v.items) c.self.inside.setup c.self.inside.words.items c.self.inside.lists.items c.self.inside.seats.items
     c.self.inside.decisions.items
     c.from-at.result c.index.result.now c.index_mut.result.now i.self.invariant.0
-    (at i) c.index.ensures c.index_mut.ensures.value c.self.inside.layout c.in-Some.turn c.take-absorbed.new.seat
-    c.take-absorbed.new.words.items c.take-absorbed.result c.take-absorbed.ensures.takes i.self.invariant.1 c.take-absorbed.ensures.fewer))
+    (at i) c.index.ensures c.index_mut.ensures.value c.self.inside.layout c.in-Some.turn c.take-taken.new.seat
+    c.take-taken.new.words.items c.take-taken.result.told c.take-taken.ensures.takes i.self.invariant.1 c.take-taken.ensures.fewer))
 
-pub take-absorbed-requires-clause-few : goal.take-absorbed-requires-clause-few
-take-absorbed-requires-clause-few c =
-    let i = (goal.at.take-absorbed-requires-clause-few c).In-Some in
+pub take-taken-requires-clause-few : goal.take-taken-requires-clause-few
+take-taken-requires-clause-few c =
+    let i = (goal.at.take-taken-requires-clause-few c).In-Some in
     let small = (fit_lent i c.index_mut.result.now c.index_mut.ensures.value).small in
     let begun = (fit_lent i c.index_mut.result.now c.index_mut.ensures.value).begun in
     omega arith
 
-pub take-absorbed-requires-clause-machine : goal.take-absorbed-requires-clause-machine
-take-absorbed-requires-clause-machine c =
-    let i = (goal.at.take-absorbed-requires-clause-machine c).In-Some in
+pub take-taken-requires-clause-machine : goal.take-taken-requires-clause-machine
+take-taken-requires-clause-machine c =
+    let i = (goal.at.take-taken-requires-clause-machine c).In-Some in
     i.self.invariant.1 ∙ sym (fit_lent i c.index_mut.result.now c.index_mut.ensures.value).shape
 
 pub returns-clause-steps : goal.returns-clause-steps
@@ -227,6 +227,16 @@ returns-clause-steps c f begins =
     let takes = takes_here (λ v. v.items) c.self.inside.setup c.self.inside.words.items c.self.inside.lists.items c.self.inside.seats.items
     c.self.inside.decisions.items
     c.from-at.result c.index.result.now c.index_mut.result.now (before c).self.invariant.0
-    (at (before c)) c.index.ensures c.index_mut.ensures.value c.self.inside.layout c.in-Some.turn c.take-absorbed.new.seat
-    c.take-absorbed.new.words.items c.take-absorbed.result c.take-absorbed.ensures.takes (before c).self.invariant.1 in
+    (at (before c)) c.index.ensures c.index_mut.ensures.value c.self.inside.layout c.in-Some.turn c.take-taken.new.seat
+    c.take-taken.new.words.items c.take-taken.result.told c.take-taken.ensures.takes (before c).self.invariant.1 in
     steps_as i.self.view_is (core_is c) (record { after = made_now c; told = takes.told }) (turn_at_core c) begins
+
+pub returns-clause-shows : goal.returns-clause-shows
+returns-clause-shows c =
+    let i = before c in
+    let k = c.index_mut.result.now in
+    let k_is = c.index_mut.ensures.value in
+    next_shown (λ v. v.items) c.self.inside.setup c.self.inside.words.items c.self.inside.lists.items c.self.inside.seats.items
+    c.self.inside.decisions.items c.from-at.result c.index.result.now k i.self.invariant.0 (at i) c.index.ensures k_is
+    c.self.inside.layout c.in-Some.turn c.take-taken.result.view c.args.self.now c.args.core i.self.invariant.1 (begins_lent i k k_is)
+    (c.take-taken.ensures.shows (fit_lent i k k_is).fits) i.self.invariant.2 i.self.view_is (core_is c)
