@@ -74,12 +74,12 @@ stands_at own m at next fits there = record {
 module _ (own : Own) (a : ActiveCall) (facts : Facts own a) (room : own.made < own.limit) where
   refused : (left : ℕ) (r : Refusal) → 2 + length a.counts < left → TookFits own left a (landed a (refuse r))
   refused left r some =
-      landed_fits own a a refl refl refl facts.found facts.acquired room 0 left (refuse r) (omega arith, tt) (omega arith)
+      landed_fits own a a refl refl facts.found facts.acquired room 0 left (refuse r) (omega arith, tt) (omega arith)
 
   undone : (left : ℕ) (r : Refusal) (tail : Tail) → TailFits own.layout tail → 2 + length a.counts + tail_left tail < left
       → TookFits own left a (landed a (Refuses r tail))
   undone left r tail fits some =
-      landed_fits own a a refl refl refl facts.found facts.acquired room (tail_left tail) left (Refuses r tail) (omega arith, fits)
+      landed_fits own a a refl refl facts.found facts.acquired room (tail_left tail) left (Refuses r tail) (omega arith, fits)
       (omega arith)
 
   module _ (m : CompMaking) (at : CompAt) (fits : CompMakingFits own.layout (record m { at = at })) where
@@ -87,7 +87,7 @@ module _ (own : Own) (a : ActiveCall) (facts : Facts own a) (room : own.made < o
         → comp_left m.cores next < comp_left m.cores at
         → TookFits own (2 + length a.counts + comp_left m.cores at) a (landed a (comp_goes m next))
     goes next there waits fewer =
-        landed_fits own a a refl refl refl facts.found facts.acquired room (comp_left m.cores next) _
+        landed_fits own a a refl refl facts.found facts.acquired room (comp_left m.cores next) _
         (Goes (Act (MakeComp (record m { at = next })))) (stands_at own m at next fits there, omega arith, waits) (omega (arith, fewer))
 
     gives : (word : ℕ) (r : Refusal) → 1 < comp_left m.cores at
@@ -132,7 +132,7 @@ module _ (own : Own) (a : ActiveCall) (facts : Facts own a) (room : own.made < o
       let most : ℕ = 16 + m.cores in
       let next = work_next own.layout (steps_later own.layout.cores a) m.core 0 act (slice_get (dues act) 0) refl fits.core
       (stands_at own m (Mark word) (LoadLive word) fits tt) in
-      landed_fits own a a refl refl refl facts.found facts.acquired room most _ (Goes (next_work m.core 0 act)) (
+      landed_fits own a a refl refl facts.found facts.acquired room most _ (Goes (next_work m.core 0 act)) (
         next.0,
         subst (λ (n : ℕ). work_left own.layout.cores (steps_later own.layout.cores a) n (next_work m.core 0 act) ≤ most) (sym waits)
             (let fewer = next.1 in omega (arith, fewer)),
@@ -217,6 +217,6 @@ module _ (own : Own) (a : ActiveCall) (facts : Facts own a) (room : own.made < o
   comp_fits m (Fill word last) found fits waits = by (found == m.fill.word)
     where
       by : (equal : Bool) → TookFits own (2 + length a.counts + 3) a (landed a (comp_published m word last equal))
-      by true = landed_fits own a a refl refl refl facts.found facts.acquired room 2 _ (comp_published m word last true)
+      by true = landed_fits own a a refl refl facts.found facts.acquired room 2 _ (comp_published m word last true)
           (omega arith, (fits.number, fits.frame)) (omega arith)
       by false = undone _ refusal.Raced (StoreLive m.number last.word m.frame word) (fits.number, fits.frame) (omega arith)

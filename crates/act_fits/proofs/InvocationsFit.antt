@@ -99,7 +99,7 @@ leaves_at own m at next fits there = record {
 module _ (own : Own) (a : ActiveCall) (facts : Facts own a) (room : own.made < own.limit) where
   refused : (left : ℕ) (r : Refusal) → 2 + length a.counts < left → TookFits own left a (landed a (refuse r))
   refused left r some =
-      landed_fits own a a refl refl refl facts.found facts.acquired room 0 left (refuse r) (omega arith, tt) (omega arith)
+      landed_fits own a a refl refl facts.found facts.acquired room 0 left (refuse r) (omega arith, tt) (omega arith)
 
   -- the act goes on where its first count is due
   counts_first : (core : ℕ) (act : ActType) → core < own.layout.cores
@@ -108,7 +108,7 @@ module _ (own : Own) (a : ActiveCall) (facts : Facts own a) (room : own.made < o
       → length a.counts ≡ 0 → TookFits own (2 + length a.counts + 7) a (landed a (Goes (next_work core 0 act)))
   counts_first core act here fits one left waits =
       let next = work_next own.layout (steps_later own.layout.cores a) core 0 act (slice_get (dues act) 0) refl here fits in
-      landed_fits own a a refl refl refl facts.found facts.acquired room 6 _ (Goes (next_work core 0 act)) (
+      landed_fits own a a refl refl facts.found facts.acquired room 6 _ (Goes (next_work core 0 act)) (
         next.0,
         subst (λ (n : ℕ). work_left own.layout.cores (steps_later own.layout.cores a) n (next_work core 0 act) ≤ 6) (sym waits)
             (let fewer = next.1 in omega arith),
@@ -122,7 +122,7 @@ module _ (own : Own) (a : ActiveCall) (facts : Facts own a) (room : own.made < o
     where
       by : (o : Option ℕ) → frame_in m.frames found ≡ o → TookFits own (2 + length a.counts + 9) a (landed a (meets_table m o))
       by None is = refused _ refusal.Raced (omega arith)
-      by (Some table) is = landed_fits own a a refl refl refl facts.found facts.acquired room 8 _
+      by (Some table) is = landed_fits own a a refl refl facts.found facts.acquired room 8 _
           (Goes (Act (invoke_act (record m { at = invoking.LoadPages table })))) (
             enters_at own m invoking.LoadTable (invoking.LoadPages table) fits
                 (subst (λ (n : ℕ). table < n) fits.frames (frame_below m.frames found table is)),
@@ -133,7 +133,7 @@ module _ (own : Own) (a : ActiveCall) (facts : Facts own a) (room : own.made < o
     where
       by : (o : Option ℕ) → frame_in m.frames found ≡ o → TookFits own (2 + length a.counts + 8) a (landed a (meets_pages m table o))
       by None is = refused _ refusal.Raced (omega arith)
-      by (Some pages) is = landed_fits own a a refl refl refl facts.found facts.acquired room 7 _
+      by (Some pages) is = landed_fits own a a refl refl facts.found facts.acquired room 7 _
           (Goes (Act (invoke_act (record m { at = invoking.LoadComp table pages })))) (
             enters_at own m (invoking.LoadPages table) (invoking.LoadComp table pages) fits
                 (fits.at, subst (λ (n : ℕ). pages < n) fits.frames (frame_below m.frames found pages is)),
@@ -150,7 +150,7 @@ module _ (own : Own) (a : ActiveCall) (facts : Facts own a) (room : own.made < o
   invoke_fits m (invoking.LoadLive table pages life) found fits waits = by (live_of_word found)
     where
       lives : (same : Bool) → TookFits own (2 + length a.counts + 3) a (landed a (enters_if m table pages same))
-      lives true = landed_fits own a a refl refl refl facts.found facts.acquired room 2 _ (enters_if m table pages true) (
+      lives true = landed_fits own a a refl refl facts.found facts.acquired room 2 _ (enters_if m table pages true) (
         omega arith,
         (fits.thread, fits.some_depth, fits.most_depth),
         (fits.comp, fits.at.0, fits.at.1, omega arith, (let most = fits.most_depth in omega (arith, most))),
@@ -174,7 +174,7 @@ module _ (own : Own) (a : ActiveCall) (facts : Facts own a) (room : own.made < o
     where
       by : (o : Option ℕ) → below_in m.frames found ≡ o → TookFits own (2 + length a.counts + 9) a (landed a (meets_below m o))
       by None is = refused _ refusal.Raced (omega arith)
-      by (Some comp) is = landed_fits own a a refl refl refl facts.found facts.acquired room 8 _
+      by (Some comp) is = landed_fits own a a refl refl facts.found facts.acquired room 8 _
           (Goes (Act (return_act (record m { at = returning.LoadTable comp })))) (
             leaves_at own m returning.LoadBelow (returning.LoadTable comp) fits
                 (subst (λ (n : ℕ). comp < n) fits.frames (stack_below m.frames comp (stack_of_word found) is)),
@@ -185,7 +185,7 @@ module _ (own : Own) (a : ActiveCall) (facts : Facts own a) (room : own.made < o
     where
       by : (o : Option ℕ) → frame_in m.frames found ≡ o → TookFits own (2 + length a.counts + 8) a (landed a (meets_below_table m comp o))
       by None is = refused _ refusal.Raced (omega arith)
-      by (Some table) is = landed_fits own a a refl refl refl facts.found facts.acquired room 7 _
+      by (Some table) is = landed_fits own a a refl refl facts.found facts.acquired room 7 _
           (Goes (Act (return_act (record m { at = returning.LoadPages comp table })))) (
             leaves_at own m (returning.LoadTable comp) (returning.LoadPages comp table) fits
                 (fits.at, subst (λ (n : ℕ). table < n) fits.frames (frame_below m.frames found table is)),
@@ -201,7 +201,7 @@ module _ (own : Own) (a : ActiveCall) (facts : Facts own a) (room : own.made < o
           (leaves_at own m (returning.LoadPages comp table) (returning.Draw comp table pages) fits
           (fits.at.0, fits.at.1, subst (λ (n : ℕ). pages < n) fits.frames (frame_below m.frames found pages is))) refl refl waits
   return_fits m (returning.Draw comp table pages) found fits waits =
-      landed_fits own a a refl refl refl facts.found facts.acquired room 2 _ (left_to m comp table pages (drawn_stamp found)) (
+      landed_fits own a a refl refl facts.found facts.acquired room 2 _ (left_to m comp table pages (drawn_stamp found)) (
         omega arith,
         (fits.thread, fits.some_depth, fits.most_depth),
         (
@@ -219,7 +219,6 @@ pub push_fits : (own : Own) (a : ActiveCall) (r : Reply) (drawn : Option ℕ) (x
     → TookFits own (left_at own.layout.cores a (Decided r drawn (Push x))) a (GoesOn (went_with a counts (Decided r drawn (pushed_on x))))
 push_fits own a r drawn (push.AtStack t core depth comp) counts facts fits is = record {
   call = refl;
-  plan = refl;
   found = facts.found;
   first = tt;
   stage = fits;
@@ -232,7 +231,6 @@ push_fits own a r drawn (push.AtStack t core depth comp) counts facts fits is = 
 }
 push_fits own a r drawn (push.AtThread t core depth) counts facts fits is = record {
   call = refl;
-  plan = refl;
   found = facts.found;
   first = tt;
   stage = tt;
@@ -249,7 +247,6 @@ pub pop_fits : (own : Own) (a : ActiveCall) (r : Reply) (drawn : Option ℕ) (x 
     → TookFits own (left_at own.layout.cores a (Decided r drawn (Pop x))) a (GoesOn (went_with a counts (Decided r drawn (popped_on x))))
 pop_fits own a r drawn (pop.AtThread t core depth) counts facts fits is = record {
   call = refl;
-  plan = refl;
   found = facts.found;
   first = tt;
   stage = fits;
@@ -262,7 +259,6 @@ pop_fits own a r drawn (pop.AtThread t core depth) counts facts fits is = record
 }
 pop_fits own a r drawn (pop.AtStack t depth) counts facts fits is = record {
   call = refl;
-  plan = refl;
   found = facts.found;
   first = tt;
   stage = tt;

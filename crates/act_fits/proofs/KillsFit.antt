@@ -37,7 +37,7 @@ stands_at own m at next fits there = record { comp = fits.comp; core = fits.core
 module _ (own : Own) (a : ActiveCall) (facts : Facts own a) (room : own.made < own.limit) where
   refused : (left : ℕ) (r : Refusal) → 2 + length a.counts < left → TookFits own left a (landed a (refuse r))
   refused left r some =
-      landed_fits own a a refl refl refl facts.found facts.acquired room 0 left (refuse r) (omega arith, tt) (omega arith)
+      landed_fits own a a refl refl facts.found facts.acquired room 0 left (refuse r) (omega arith, tt) (omega arith)
 
   pub kill_fits : (m : Killing) (at : KillingAt) (found : ℕ) → KillingFits own.layout (record m { at = at })
       → length a.counts ≡ length (killing_dues m.comp at)
@@ -46,7 +46,7 @@ module _ (own : Own) (a : ActiveCall) (facts : Facts own a) (room : own.made < o
     where
       by : (o : Option CompWord) → comp_of_word found ≡ o → TookFits own (2 + length a.counts + 8) a (landed a (meets_comp m o))
       by None is = refused _ refusal.Raced (omega arith)
-      by (Some life) is = landed_fits own a a refl refl refl facts.found facts.acquired room 7 _
+      by (Some life) is = landed_fits own a a refl refl facts.found facts.acquired room 7 _
           (Goes (Act (kill_act (record m { at = LoadLive life }))))
           (stands_at own m LoadComp (LoadLive life) fits (comps.spelling.spells found life is).0, omega arith, waits) (omega arith)
   kill_fits m (LoadLive life) found fits waits = by (live_of_word found)
@@ -56,7 +56,7 @@ module _ (own : Own) (a : ActiveCall) (facts : Facts own a) (room : own.made < o
           let act : ActType = kill_act (record m { at = Close life found }) in
           let next = work_next own.layout (steps_later own.layout.cores a) m.core 0 act (slice_get (dues act) 0) refl fits.core
           (stands_at own m (LoadLive life) (Close life found) fits fits.at) in
-          landed_fits own a a refl refl refl facts.found facts.acquired room 6 _ (Goes (next_work m.core 0 act)) (
+          landed_fits own a a refl refl facts.found facts.acquired room 6 _ (Goes (next_work m.core 0 act)) (
             next.0,
             subst (λ (n : ℕ). work_left own.layout.cores (steps_later own.layout.cores a) n (next_work m.core 0 act) ≤ 6) (sym waits)
                 (let fewer = next.1 in omega arith),
@@ -76,12 +76,12 @@ module _ (own : Own) (a : ActiveCall) (facts : Facts own a) (room : own.made < o
   kill_fits m (Close life word) found fits waits = by (found == word)
     where
       by : (equal : Bool) → TookFits own (2 + length a.counts + 3) a (landed a (closes_if m life word equal))
-      by true = landed_fits own a a refl refl refl facts.found facts.acquired room 2 _
+      by true = landed_fits own a a refl refl facts.found facts.acquired room 2 _
           (Goes (Act (kill_act (record m { at = Draw life word }))))
           (stands_at own m (Close life word) (Draw life word) fits fits.at, omega arith, waits) (omega arith)
       by false = refused _ refusal.Raced (omega arith)
   kill_fits m (Draw life word) found fits waits =
-      landed_fits own a a refl refl refl facts.found facts.acquired room 1 _ (drawn_dead life (drawn_stamp found))
+      landed_fits own a a refl refl facts.found facts.acquired room 1 _ (drawn_dead life (drawn_stamp found))
       (omega arith, (fits.at, some_stamp)) (omega arith)
     where
       some_stamp : 1 ≤ drawn_stamp found

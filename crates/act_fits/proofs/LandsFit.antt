@@ -1,14 +1,12 @@
 -- What holds of a call after a step of its work: it fits its core, and fewer steps are to come.
-use Rattle.std.proofs.Common.{◌≡◌, ℕ, ◌+◌, ◌<◌, ◌≤◌, [], length, sym, ap, subst, arith}
+use Rattle.std.proofs.Common.{◌≡◌, ℕ, ◌+◌, ◌<◌, ◌≤◌, [], length, ap, arith}
 use Rattle.call_stages.specs.stage_pins.specs.Held.{AllFit}
 use Rattle.call_stages.specs.spk_nums.specs.declared.replies.Reply.{Reply}
 use Rattle.call_stages.specs.spk_nums.specs.declared.replies.Reply.TheVariants as reply
 use Rattle.call_stages.specs.kernel_rules.specs.Laws.{calls_counted}
 use Rattle.call_stages.specs.spk_nums.specs.CallLimits.{InLimits}
-use Rattle.call_stages.specs.call_plans.specs.declared.plans.Plan.{Plan}
 use Rattle.call_stages.specs.call_plans.specs.PlanOf.{plan_for}
 use Rattle.call_stages.specs.call_plans.specs.Bounds.{look_steps, act_steps}
-use Rattle.call_stages.specs.call_plans.specs.Rooted.{IsRooted}
 use Rattle.call_stages.specs.call_plans.proofs.RootedTargets.{rooted}
 use Rattle.call_stages.specs.act_states.specs.declared.own.Own.{Own}
 use Rattle.call_stages.specs.declared.stages.ActiveCall.{ActiveCall}
@@ -24,8 +22,7 @@ use Rattle.act_fits.proofs.NamedFit.{ObjectNamed, object_named}
 -- What a step of a call led to fits its core, and leaves fewer steps than these; so many calls are then counted.
 pub record IsNext (own : Own) (made left : ℕ) (old a : ActiveCall) : Type 0 where
   pub call : a.call ≡ old.call
-  pub plan : a.plan ≡ old.plan
-  pub found : FoundFits own.layout.frames a.plan a.found
+  pub found : FoundFits own.layout.frames (plan_for a.call) a.found
   pub first : IsFirst a.stage a.found
   pub stage : StageFits own.layout a.stage
   pub acquired : AllFit own.layout a.counts
@@ -49,77 +46,46 @@ counted_most r = omega arith
 -- What holds of a call of a core, but for its stage.
 pub record Facts (own : Own) (a : ActiveCall) : Type 0 where
   pub own_fits : IsOwn own
-  pub plan : a.plan ≡ plan_for a.call
-  pub found : FoundFits own.layout.frames a.plan a.found
+  pub found : FoundFits own.layout.frames (plan_for a.call) a.found
   pub acquired : AllFit own.layout a.counts
   pub limits : InLimits a.call
 
 -- The name of the component of an object that it makes is a frame of the machine.
 pub names_object : (own : Own) (a : ActiveCall) → Facts own a → ObjectNamed own.layout.frames a.call a.found
 names_object own a facts = object_named own.layout.frames a.call a.found
-    (subst (λ (p : Plan). FoundFits own.layout.frames p a.found) facts.plan facts.found)
+    facts.found
 
 pub next_fits : (own : Own) (a : ActiveCall) → Facts own a
-    → StepFits own.layout [] (steps_later own.layout.cores a) (look_steps (names_left a) a.plan.target + act_steps a.call
+    → StepFits own.layout [] (steps_later own.layout.cores a) (look_steps (names_left a) (plan_for a.call).target + act_steps a.call
     own.layout.cores) (next_by own a)
 next_fits own a facts =
-    next_case own a.call a.found (names_left a) a.plan.target facts.own_fits
-    (first_named own.layout.frames a.plan.names [] a.found facts.found) (names_object own a facts) facts.limits
-    (λ none. target_below own.layout.frames a.plan a.found a.plan.target
-    (subst (λ (p : Plan). IsRooted p.names p.target) (sym facts.plan) (rooted a.call)) facts.found none)
+    next_case own a.call a.found (names_left a) (plan_for a.call).target facts.own_fits
+    (first_named own.layout.frames (plan_for a.call).names [] a.found facts.found) (names_object own a facts) facts.limits
+    (λ none. target_below own.layout.frames (plan_for a.call) a.found (plan_for a.call).target
+    (rooted a.call) facts.found none)
 
-module _ (own : Own) (old a : ActiveCall) (call : a.call ≡ old.call) (plan : a.plan ≡ old.plan) (steps : a.steps ≡ old.steps)
-    (found : FoundFits own.layout.frames a.plan a.found) (acquired : AllFit own.layout a.counts) (room : own.made < own.limit) where
-  pub landed_fits : (most left : ℕ) (step : WorkStep) → StepFits own.layout a.counts (steps_later own.layout.cores a) most step
-      → 2 + length a.counts + most < left → TookFits own left old (landed a step)
-  landed_fits most left (Goes work) fits some = record {
-    call = call;
-    plan = plan;
-    found = found;
-    first = tt;
-    stage = fits.0;
-    acquired = acquired;
-    counts = fits.2;
-    room = room;
-    counted = omega arith;
-    steps = ap (λ n. n + 1) steps;
-    fewer = let most_left = fits.1 in omega arith;
-  }
-  landed_fits most left (Acquires count work) fits some = absurd fits
-  landed_fits most left (Refuses r tail) fits some =
-      let few = fits.0 in
-      let one : calls_counted (reply_of r) ≤ 1 = counted_most (reply_of r) in record {
-        call = call;
-        plan = plan;
-        found = found;
-        first = tt;
-        stage = fits.1;
-        acquired = acquired;
-        counts = tt;
-        room = tt;
-        counted = omega arith;
-        steps = ap (λ n. n + 1) steps;
-        fewer = omega arith;
-      }
-  landed_fits most left (Answers v drawn tail) fits some = record {
-    call = call;
-    plan = plan;
-    found = found;
-    first = tt;
-    stage = fits.1;
-    acquired = acquired;
-    counts = tt;
-    room = tt;
-    counted = omega arith;
-    steps = ap (λ n. n + 1) steps;
-    fewer = let few = fits.0 in omega arith;
-  }
-  landed_fits most left (work_changes r change drawn tail) fits some =
-      let few = fits.0 in
-      let one : calls_counted r ≤ 1 = counted_most r in (
-        record {
+module _ (own : Own) (old a : ActiveCall) (call : a.call ≡ old.call) (steps : a.steps ≡ old.steps)
+    (found : FoundFits own.layout.frames (plan_for a.call) a.found) (acquired : AllFit own.layout a.counts) (room : own.made < own.limit)
+  where
+    pub landed_fits : (most left : ℕ) (step : WorkStep) → StepFits own.layout a.counts (steps_later own.layout.cores a) most step
+        → 2 + length a.counts + most < left → TookFits own left old (landed a step)
+    landed_fits most left (Goes work) fits some = record {
+      call = call;
+      found = found;
+      first = tt;
+      stage = fits.0;
+      acquired = acquired;
+      counts = fits.2;
+      room = room;
+      counted = omega arith;
+      steps = ap (λ n. n + 1) steps;
+      fewer = let most_left = fits.1 in omega arith;
+    }
+    landed_fits most left (Acquires count work) fits some = absurd fits
+    landed_fits most left (Refuses r tail) fits some =
+        let few = fits.0 in
+        let one : calls_counted (reply_of r) ≤ 1 = counted_most (reply_of r) in record {
           call = call;
-          plan = plan;
           found = found;
           first = tt;
           stage = fits.1;
@@ -129,6 +95,33 @@ module _ (own : Own) (old a : ActiveCall) (call : a.call ≡ old.call) (plan : a
           counted = omega arith;
           steps = ap (λ n. n + 1) steps;
           fewer = omega arith;
-        },
-        fits.2,
-      )
+        }
+    landed_fits most left (Answers v drawn tail) fits some = record {
+      call = call;
+      found = found;
+      first = tt;
+      stage = fits.1;
+      acquired = acquired;
+      counts = tt;
+      room = tt;
+      counted = omega arith;
+      steps = ap (λ n. n + 1) steps;
+      fewer = let few = fits.0 in omega arith;
+    }
+    landed_fits most left (work_changes r change drawn tail) fits some =
+        let few = fits.0 in
+        let one : calls_counted r ≤ 1 = counted_most r in (
+          record {
+            call = call;
+            found = found;
+            first = tt;
+            stage = fits.1;
+            acquired = acquired;
+            counts = tt;
+            room = tt;
+            counted = omega arith;
+            steps = ap (λ n. n + 1) steps;
+            fewer = omega arith;
+          },
+          fits.2,
+        )

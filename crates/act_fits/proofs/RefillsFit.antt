@@ -39,13 +39,13 @@ placed s r at fits stands = record { tcap = fits.tcap; head = fits.head; at = st
 module _ (own : Own) (a : ActiveCall) (facts : Facts own a) (room : own.made < own.limit) (none : length a.counts ≡ 0) where
   refused : (left : ℕ) (r : Refusal) → 0 < left → TookFits own (2 + length a.counts + left) a (landed a (refuse r))
   refused left r some =
-      landed_fits own a a refl refl refl facts.found facts.acquired room 0 (2 + length a.counts + left) (refuse r) (omega arith, tt)
+      landed_fits own a a refl refl facts.found facts.acquired room 0 (2 + length a.counts + left) (refuse r) (omega arith, tt)
       (omega arith)
 
   goes : (left : ℕ) (r : Refill) → RefillFits own.layout r → refill_left r.at < left
       → TookFits own (2 + length a.counts + left) a (landed a (Goes (Act (refill_act r))))
   goes left r fits fewer =
-      landed_fits own a a refl refl refl facts.found facts.acquired room (refill_left r.at) (2 + length a.counts + left)
+      landed_fits own a a refl refl facts.found facts.acquired room (refill_left r.at) (2 + length a.counts + left)
       (Goes (Act (refill_act r))) (fits, omega arith, none) (omega (arith, fewer))
 
   pub refill_fits : (r : Refill) (at : RefillAt) (found : ℕ) → RefillFits own.layout (record r { at = at })
@@ -105,7 +105,7 @@ module _ (own : Own) (a : ActiveCall) (facts : Facts own a) (room : own.made < o
       by : (same : Bool) → TookFits own (2 + length a.counts + 1) a
           (landed a (took_refilled (refill_after (record r { at = Compare }) found) (won same)))
       by true =
-          landed_fits own a a refl refl refl facts.found facts.acquired room 0 (2 + length a.counts + 1)
+          landed_fits own a a refl refl facts.found facts.acquired room 0 (2 + length a.counts + 1)
           (work_changes (reply.Ok value.Nothing) (GivesBack r.ticks) None Nothing) (omega arith, tt, tt) (omega arith)
       by false = refused _ refusal.Raced (omega arith)
   refill_fits r Again found fits = by (found == word_of_head r.head)

@@ -119,7 +119,6 @@ pub shared_fits : (own : Own) (a : ActiveCall) (r : Reply) (drawn : Option ℕ) 
 shared_fits own a r drawn p counts found facts is fits =
     let stored = stored_fits own.layout p p.at found fits in record {
       call = refl;
-      plan = refl;
       found = facts.found;
       first = tt;
       stage = stored.0;
@@ -134,22 +133,22 @@ shared_fits own a r drawn p counts found facts is fits =
 module _ (own : Own) (a : ActiveCall) (facts : Facts own a) (room : own.made < own.limit) (none : length a.counts ≡ 0) where
   refused : (left : ℕ) (r : Refusal) → 0 < left → TookFits own (2 + length a.counts + left) a (landed a (refuse r))
   refused left r some =
-      landed_fits own a a refl refl refl facts.found facts.acquired room 0 (2 + length a.counts + left) (refuse r) (omega arith, tt)
+      landed_fits own a a refl refl facts.found facts.acquired room 0 (2 + length a.counts + left) (refuse r) (omega arith, tt)
       (omega arith)
 
   goes : (left : ℕ) (p : Pair) → PairFits own.layout p → share_left p.what p.at < left
       → TookFits own (2 + length a.counts + left) a (landed a (Goes (Act (share_act p))))
   goes left p fits fewer =
-      landed_fits own a a refl refl refl facts.found facts.acquired room (share_left p.what p.at) (2 + length a.counts + left)
+      landed_fits own a a refl refl facts.found facts.acquired room (share_left p.what p.at) (2 + length a.counts + left)
       (Goes (Act (share_act p))) (fits, omega arith, none) (omega (arith, fewer))
 
   decides : (left : ℕ) (p : Pair) (r : Reply) → SharedFits own.layout p → share_left p.what p.at < left
       → TookFits own (2 + length a.counts + left) a (landed a (shared p r))
   decides left p (reply.Ok v) fits fewer =
-      landed_fits own a a refl refl refl facts.found facts.acquired room (share_left p.what p.at) (2 + length a.counts + left)
+      landed_fits own a a refl refl facts.found facts.acquired room (share_left p.what p.at) (2 + length a.counts + left)
       (Answers v None (share_tail p)) (omega arith, fits) (omega (arith, fewer))
   decides left p r fits fewer =
-      landed_fits own a a refl refl refl facts.found facts.acquired room (share_left p.what p.at) (2 + length a.counts + left)
+      landed_fits own a a refl refl facts.found facts.acquired room (share_left p.what p.at) (2 + length a.counts + left)
       (Refuses (refusal_of r) (share_tail p)) (omega arith, fits) (omega (arith, fewer))
 
   -- head A is given back as it was found

@@ -66,14 +66,14 @@ module _ (own : Own) (a : ActiveCall) (facts : Facts own a) (room : own.made < o
   gives_up : (left : ℕ) (r : Refusal) (tail : Tail) → TailFits own.layout tail → 2 + length a.counts + tail_left tail < left
       → TookFits own left a (landed a (Refuses r tail))
   gives_up left r tail fits some =
-      landed_fits own a a refl refl refl facts.found facts.acquired room (tail_left tail) left (Refuses r tail) (omega arith, fits)
+      landed_fits own a a refl refl facts.found facts.acquired room (tail_left tail) left (Refuses r tail) (omega arith, fits)
       (omega arith)
 
   goes : (m : Switching) (at next : SwitchAt) → SwitchingFits own.layout (record m { at = at }) → SwitchAtFits own.layout next
       → length a.counts ≡ length (switching_dues m next) → switching_left next < switching_left at
       → TookFits own (2 + length a.counts + switching_left at) a (landed a (switch_goes m next))
   goes m at next fits there waits fewer =
-      landed_fits own a a refl refl refl facts.found facts.acquired room (switching_left next) _
+      landed_fits own a a refl refl facts.found facts.acquired room (switching_left next) _
       (Goes (Act (Switch (record m { at = next })))) (stands_at own m at next fits there, omega arith, waits) (omega (arith, fewer))
 
   -- its counts are due from here on
@@ -84,7 +84,7 @@ module _ (own : Own) (a : ActiveCall) (facts : Facts own a) (room : own.made < o
       let act : ActType = Switch (record m { at = Leave to table pages }) in
       let few : length (dues act) ≤ 4 = few_dues act in
       let next = work_next own.layout (steps_later own.layout.cores a) m.core 0 act (slice_get (dues act) 0) refl fits.core fits in
-      landed_fits own a a refl refl refl facts.found facts.acquired room 16 _ (Goes (next_work m.core 0 act)) (
+      landed_fits own a a refl refl facts.found facts.acquired room 16 _ (Goes (next_work m.core 0 act)) (
         next.0,
         subst (λ (n : ℕ). work_left own.layout.cores (steps_later own.layout.cores a) n (next_work m.core 0 act) ≤ 16) (sym waits)
             (let fewer = next.1 in omega (arith, few, fewer)),
@@ -161,7 +161,7 @@ module _ (own : Own) (a : ActiveCall) (facts : Facts own a) (room : own.made < o
   switch_fits m (Leave to table pages) found fits waits =
       goes m (Leave to table pages) (Draw to table pages) fits fits.at waits (omega arith)
   switch_fits m (Draw to table pages) found fits waits =
-      landed_fits own a a refl refl refl facts.found facts.acquired room 2 _ (switched m to table pages (drawn_stamp found)) (
+      landed_fits own a a refl refl facts.found facts.acquired room 2 _ (switched m to table pages (drawn_stamp found)) (
         omega arith,
         (fits.at.0.thread, fits.at.0.depth, fits.old, fits.old_depth),
         (fits.at.0.thread, fits.at.0.depth.0, fits.at.0.depth.1, fits.at.0.comp, fits.at.1, fits.at.2, fits.tcap),

@@ -29,7 +29,7 @@ use Rattle.act_fits.proofs.LandsFit.{TookFits, Facts, landed_fits}
 module _ (own : Own) (a : ActiveCall) (facts : Facts own a) (room : own.made < own.limit) (none : length a.counts ≡ 0) where
   refused : (left : ℕ) (r : Refusal) → 2 + length a.counts < left → TookFits own left a (landed a (refuse r))
   refused left r some =
-      landed_fits own a a refl refl refl facts.found facts.acquired room 0 left (refuse r) (omega arith, tt) (omega arith)
+      landed_fits own a a refl refl facts.found facts.acquired room 0 left (refuse r) (omega arith, tt) (omega arith)
 
   -- the entry of the page
   page_fits : (m : Touching) (left : ℕ) (look : Look) (node index word : ℕ) (shown : Option Entry) → 2 + length a.counts < left
@@ -37,7 +37,7 @@ module _ (own : Own) (a : ActiveCall) (facts : Facts own a) (room : own.made < o
   page_fits m left look node index word None some = refused left (fault_of reply.Raced) some
   page_fits m left look node index word (Some entry.Free) some = refused left refusal.Fault some
   page_fits m left look node index word (Some (entry.Held k)) some =
-      landed_fits own a a refl refl refl facts.found facts.acquired room 0 left
+      landed_fits own a a refl refl facts.found facts.acquired room 0 left
       (Changes (reply.Ok (translated (mapping_of m k))) (Caches (mapping_of m k)) None Nothing) (omega arith, tt, tt) (omega arith)
   page_fits m left look node index word (Some (entry.Closing by)) some = refused left (fault_of (reply.Busy by)) some
   page_fits m left look node index word (Some (entry.Quiescing stamp)) some = refused left refusal.Fault some
@@ -46,7 +46,7 @@ module _ (own : Own) (a : ActiveCall) (facts : Facts own a) (room : own.made < o
       → m.frames ≡ own.layout.frames
       → TookFits own (2 + length a.counts + 2) a (landed a (touch_end m (after_link linked top number k.frame) (end_by_link linked)))
   link_fits m true top number k is names all =
-      landed_fits own a a refl refl refl facts.found facts.acquired room 1 (2 + length a.counts + 2)
+      landed_fits own a a refl refl facts.found facts.acquired room 1 (2 + length a.counts + 2)
       (Goes (Act (touch_act (record m { look = AtLeaf k.frame number }))))
       (record { look = leaf_below own.layout.frames k.kind k.frame k.arg (sym is) names; all = all }, omega arith, none) (omega arith)
   link_fits m false top number k is names all = refused (2 + length a.counts + 2) (fault_of reply.NoSlot) (omega arith)
@@ -73,7 +73,7 @@ module _ (own : Own) (a : ActiveCall) (facts : Facts own a) (room : own.made < o
     where
       by : (cached : Option Translation) → TookFits own (2 + length a.counts + touch_left m.look) a (landed a (touched m word cached))
       by (Some item) =
-          landed_fits own a a refl refl refl facts.found facts.acquired room 0 (2 + length a.counts + touch_left m.look)
+          landed_fits own a a refl refl facts.found facts.acquired room 0 (2 + length a.counts + touch_left m.look)
           (Answers (translated item) None Nothing) (omega arith, tt) (let some = some_left m.look in omega arith)
       by None = shown_fits m m.look word (shown_in m.frames word) fits.look
           (subst (λ (n : ℕ). IfSome (shown_in n word) (EntryNames own.layout.frames)) (sym fits.all)

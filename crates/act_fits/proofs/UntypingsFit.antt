@@ -528,7 +528,6 @@ pub released_fits : (own : Own) (a : ActiveCall) (r : Reply) (drawn : Option ℕ
 released_fits own a r drawn x [] found facts is fits =
     let stored = stored_fits own.layout x fits in record {
       call = refl;
-      plan = refl;
       found = facts.found;
       first = tt;
       stage = stored.0;
@@ -541,7 +540,6 @@ released_fits own a r drawn x [] found facts is fits =
     }
 released_fits own a r drawn x (count ∷ xs) found facts is fits = record {
   call = refl;
-  plan = refl;
   found = facts.found;
   first = tt;
   stage = fits;
@@ -569,12 +567,12 @@ undone_fits s m (Draw word w) shape fits =
 module _ (own : Own) (a : ActiveCall) (facts : Facts own a) (room : own.made < own.limit) where
   refused : (left : ℕ) (r : Refusal) → 2 + length a.counts < left → TookFits own left a (landed a (refuse r))
   refused left r some =
-      landed_fits own a a refl refl refl facts.found facts.acquired room 0 left (refuse r) (omega arith, tt) (omega arith)
+      landed_fits own a a refl refl facts.found facts.acquired room 0 left (refuse r) (omega arith, tt) (omega arith)
 
   undone : (left : ℕ) (r : Refusal) (tail : Tail) → TailFits own.layout tail → 2 + length a.counts + tail_left tail < left
       → TookFits own left a (landed a (Refuses r tail))
   undone left r tail fits some =
-      landed_fits own a a refl refl refl facts.found facts.acquired room (tail_left tail) left (Refuses r tail) (omega arith, fits)
+      landed_fits own a a refl refl facts.found facts.acquired room (tail_left tail) left (Refuses r tail) (omega arith, fits)
       (omega arith)
 
   pub untype_fits : (m : Untyping) (at : UntypingAt) (found : ℕ) → UntypingFits own.layout (record m { at = at })
@@ -587,7 +585,7 @@ module _ (own : Own) (a : ActiveCall) (facts : Facts own a) (room : own.made < o
 
       marks : (v : FrameWord) → frame_of_word found ≡ Some v
           → TookFits own left a (landed a (Goes (Act (untype_act (record m { at = Mark found v })))))
-      marks v is = landed_fits own a a refl refl refl facts.found facts.acquired room (66 + 5 * own.layout.cores) left
+      marks v is = landed_fits own a a refl refl facts.found facts.acquired room (66 + 5 * own.layout.cores) left
           (Goes (Act (untype_act (record m { at = Mark found v }))))
           (record { frame = fits.frame; core = fits.core; at = (frames.spelling.spells found v is).0 }, omega arith, waits) (omega arith)
 
@@ -607,7 +605,7 @@ module _ (own : Own) (a : ActiveCall) (facts : Facts own a) (room : own.made < o
       by true =
           let few = object_few v.object in
           let some = fits.core in
-          landed_fits own a a refl refl refl facts.found facts.acquired room
+          landed_fits own a a refl refl facts.found facts.acquired room
           (untyping_left own.layout.cores (sweep_at word (sweep_from m.frame v m.core))) _
           (Goes (Act (untype_act (record m { at = sweep_at word (sweep_from m.frame v m.core) })))) (
             record {
@@ -660,7 +658,7 @@ module _ (own : Own) (a : ActiveCall) (facts : Facts own a) (room : own.made < o
           let most : ℕ = 3 * length (owned_dues next.owned) + (2 + length next.kept) in
           let on = work_next own.layout (steps_later own.layout.cores a) m.core 0 act (slice_get (dues act) 0) refl fits.core
           (record { frame = fits.frame; core = fits.core; at = ended own.layout w found shape sweeps }) in
-          landed_fits own a a refl refl refl facts.found facts.acquired room most left (Goes (next_work m.core 0 act)) (
+          landed_fits own a a refl refl facts.found facts.acquired room most left (Goes (next_work m.core 0 act)) (
             on.0,
             subst (λ (n : ℕ). work_left own.layout.cores (steps_later own.layout.cores a) n (next_work m.core 0 act) ≤ most) (sym waits)
                 (let fewer = on.1 in omega (arith, fewer)),
@@ -671,7 +669,7 @@ module _ (own : Own) (a : ActiveCall) (facts : Facts own a) (room : own.made < o
       by ends.Going is =
           let on = goes_on own.layout w found shape sweeps is in
           let fewer = on.1 in
-          landed_fits own a a refl refl refl facts.found facts.acquired room (untyping_left own.layout.cores (sweep_at word next)) left
+          landed_fits own a a refl refl facts.found facts.acquired room (untyping_left own.layout.cores (sweep_at word next)) left
           (Goes (Act (untype_act (record m { at = sweep_at word next }))))
           (record { frame = fits.frame; core = fits.core; at = on.0 }, omega arith, waits) (omega (arith, fewer))
       by (ends.Decided r) is = undone left (refusal_of r) _ back.0 back.1
@@ -683,5 +681,5 @@ module _ (own : Own) (a : ActiveCall) (facts : Facts own a) (room : own.made < o
       let back = release_fits own.layout m.frame (word_of_frame (typed Untyped)) w
       true fits.frame fits.at in
       let few = back.1 in
-      landed_fits own a a refl refl refl facts.found facts.acquired room (1 + length w.words) _
+      landed_fits own a a refl refl facts.found facts.acquired room (1 + length w.words) _
       (drawn_untyped m.frame w (drawn_stamp found)) (omega (arith, few), back.0) (omega arith)

@@ -39,6 +39,7 @@ use Rattle.arrow_causes.proofs.Entries.{newest_entry}
 use Rattle.arrow_causes.proofs.Holders.{IsHolders}
 use Rattle.arrow_laws.specs.Arrows.{entered_at}
 use Rattle.arrow_causes.proofs.Lines.{line_of}
+use Rattle.flight_laws.specs.time_laws.specs.call_plans.specs.PlanOf.{plan_for}
 
 -- What is decided at a second load of a head says of no wait.
 alike_again : (b : Bool) → IsAgain (by_alike b)
@@ -66,7 +67,7 @@ pair_again setup t c p pair.StoreB knows = tt
 pair_again setup t c p (pair.StoreA moved v) knows = tt
 
 module _ (setup : Setting) (t : Trace) (c table : ℕ) (a : ActiveCall) where
-  act_again : (upto : ℕ) (act : ActType) → KnowsAct setup t c a.call a.plan a.found upto act → AgainIn act
+  act_again : (upto : ℕ) (act : ActType) → KnowsAct setup t c a.call (plan_for a.call) a.found upto act → AgainIn act
   act_again upto (act_as.Share p) knows = pair_again setup t c p p.at knows.at
   act_again upto _ knows = tt
 
@@ -78,7 +79,8 @@ module _ (setup : Setting) (t : Trace) (c table : ℕ) (a : ActiveCall) where
   stage_again (Undecided work) knows = work_again work knows.knows
   stage_again _ knows = tt
 
-active_again : (setup : Setting) (t : Trace) (c table : ℕ) (o : Option ActiveCall) → CallIs setup t c table o → (a : ActiveCall) → o ≡ Some a
+active_again : (setup : Setting) (t : Trace) (c table : ℕ) (o : Option ActiveCall) → CallIs setup t c table o → (a : ActiveCall) → o
+    ≡ Some a
     → AgainAt a.stage
 active_again setup t c table None call a is = cc
 active_again setup t c table (Some b) call a is = subst (λ (x : ActiveCall). AgainAt x.stage) (same b a is)
@@ -110,13 +112,15 @@ on_core : (setup : Setting) → IsSetting setup → (t : Trace) (e : Step) → I
     → e.decides ≡ Some (reply.Quiescing d) → word_of e.move ≡ CoreAt d
 on_core setup setting t e made d is =
     ap (λ (x : Step). word_of x.move) made.1.made
-    ∙ core_at (stepping_core setup t e).own (stepping_core setup t e).active _ d (by e.enters) (sym (ap (λ (x : Step). x.decides) made.1.made) ∙ is)
+    ∙ core_at (stepping_core setup t e).own (stepping_core setup t e).active _ d (by e.enters)
+    (sym (ap (λ (x : Step). x.decides) made.1.made) ∙ is)
   where
     stands : CallIs setup t e.core (cores_after setup t e.core).own.table (cores_after setup t e.core).active
     stands = ((made_stands setup setting t made.0).each e.core made.1.is_core).active
 
     by : (o : Option Call) → (a : ActiveCall) → (turned o (cores_after setup t e.core)).active ≡ Some a → AgainAt a.stage
-    by None a active = active_again setup t e.core (cores_after setup t e.core).own.table (cores_after setup t e.core).active stands a active
+    by None a active = active_again setup t e.core (cores_after setup t e.core).own.table (cores_after setup t e.core).active stands a
+        active
     by (Some call) a active = subst (λ (x : ActiveCall). AgainAt x.stage) (same _ a active) tt
       where
         same : (x y : ActiveCall) → Some x ≡ Some y → x ≡ y

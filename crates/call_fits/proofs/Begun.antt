@@ -7,16 +7,13 @@ use Rattle.act_fits.specs.spk_nums.specs.CallLimits.{InLimits}
 use Rattle.act_fits.specs.spk_nums.specs.Capability.{Capability}
 use Rattle.act_fits.specs.spk_nums.specs.declared.calls.Call.{Call}
 use Rattle.act_fits.specs.kernel_rules.specs.Access.{found}
-use Rattle.act_fits.specs.call_plans.specs.declared.plans.Plan.{Plan}
-use Rattle.act_fits.specs.call_plans.specs.PlanOf.{plan_for}
 use Rattle.act_fits.specs.call_plans.proofs.StepsOfPlans.{bound_is}
 use Rattle.act_fits.specs.act_states.specs.declared.own.Own.{Own}
 use Rattle.act_fits.specs.call_stages.specs.Fits.{IsOwn, IsCore}
 use Rattle.act_fits.specs.call_stages.specs.declared.stages.Stage.TheVariants.{Enter}
 
-pub begun_fits : (own : Own) (call : Call) (found : List Capability) (counts : List Acquired) (plan : Plan) → IsOwn own → found ≡ []
-    → counts ≡ [] → plan ≡ plan_for call
-    → InLimits call
+pub begun_fits : (own : Own) (call : Call) (found : List Capability) (counts : List Acquired) → IsOwn own → found ≡ []
+    → counts ≡ [] → InLimits call
     → IsCore (record {
       own = own;
       active = Some (record {
@@ -26,15 +23,12 @@ pub begun_fits : (own : Own) (call : Call) (found : List Capability) (counts : L
         read = None;
         counts = counts;
         call = call;
-        plan =
-            plan;
       });
     })
-begun_fits own call found counts plan h none no_counts is limits = rw (none, no_counts, is) (record {
+begun_fits own call found counts h none no_counts limits = rw (none, no_counts) (record {
   own = h;
   active = record {
     limits = limits;
-    plan = refl;
     found = tt;
     first = refl;
     stage = tt;

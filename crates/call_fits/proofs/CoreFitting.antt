@@ -5,7 +5,6 @@ use Rattle.act_fits.specs.spk_nums.specs.CallLimits.{InLimits}
 use Rattle.act_fits.specs.spk_nums.specs.declared.replies.Reply.{Reply}
 use Rattle.act_fits.specs.kernel_rules.specs.Laws.{calls_counted}
 use Rattle.act_fits.specs.kernel_rules.specs.Access.{found}
-use Rattle.act_fits.specs.call_plans.specs.PlanOf.{plan_for}
 use Rattle.act_fits.specs.act_states.specs.declared.own.Own.{Own}
 use Rattle.act_fits.specs.act_states.specs.declared.own.OwnChange.{OwnChange}
 use Rattle.act_fits.specs.act_states.specs.declared.own.OwnChange.TheVariants.{Ticks, GivesBack, Empties, Works, Switches, Caches}
@@ -24,7 +23,6 @@ active_on : (own : Own) (made : ℕ) (old a : ActiveCall) → IsActive own old �
     → IsActive (record own { made = made }) a
 active_on own made old a active next = record {
   limits = subst InLimits (sym next.call) active.limits;
-  plan = next.plan ∙ active.plan ∙ ap plan_for (sym next.call);
   found = next.found;
   first = next.first;
   stage = next.stage;
@@ -197,7 +195,6 @@ active_changed : (own : Own) (change : OwnChange) (made : ℕ) (a : ActiveCall) 
     → IsActive (record (own_changed own change) { made = made }) a
 active_changed own (Ticks charged owed) made a on = record {
   limits = on.limits;
-  plan = on.plan;
   found = on.found;
   first = on.first;
   stage = on.stage;
@@ -208,7 +205,6 @@ active_changed own (Ticks charged owed) made a on = record {
 }
 active_changed own (GivesBack ticks) made a on = record {
   limits = on.limits;
-  plan = on.plan;
   found = on.found;
   first = on.first;
   stage = on.stage;
@@ -219,7 +215,6 @@ active_changed own (GivesBack ticks) made a on = record {
 }
 active_changed own Empties made a on = record {
   limits = on.limits;
-  plan = on.plan;
   found = on.found;
   first = on.first;
   stage = on.stage;
@@ -230,7 +225,6 @@ active_changed own Empties made a on = record {
 }
 active_changed own (Works comp table pages depth) made a on = record {
   limits = on.limits;
-  plan = on.plan;
   found = on.found;
   first = on.first;
   stage = on.stage;
@@ -241,7 +235,6 @@ active_changed own (Works comp table pages depth) made a on = record {
 }
 active_changed own (Switches thread depth comp table pages tcap) made a on = record {
   limits = on.limits;
-  plan = on.plan;
   found = on.found;
   first = on.first;
   stage = on.stage;
@@ -252,7 +245,6 @@ active_changed own (Switches thread depth comp table pages tcap) made a on = rec
 }
 active_changed own (Caches item) made a on = record {
   limits = on.limits;
-  plan = on.plan;
   found = on.found;
   first = on.first;
   stage = on.stage;

@@ -121,25 +121,26 @@ use Rattle.act_fits.proofs.TouchesFit.{touch_fits}
 use Rattle.act_fits.proofs.RefillsFit.{refill_fits}
 use Rattle.act_fits.proofs.SharesFit.{share_fits, shared_fits}
 use Rattle.call_fits.proofs.LookingFits.{refused_fits, works_fits, look_fits}
+use Rattle.act_fits.specs.call_plans.specs.PlanOf.{plan_for}
 
 -- a step of the work of a call that has acquired its counts, or acquires them
 module _ (own : Own) (a : ActiveCall) (facts : Facts own a) (room : own.made < own.limit) where
   act_refused : (left : ℕ) (r : Refusal) → 2 + length a.counts < left → TookFits own left a (landed a (refuse r))
   act_refused left r some =
-      landed_fits own a a refl refl refl facts.found facts.acquired room 0 left (refuse r) (omega arith, tt) (omega arith)
+      landed_fits own a a refl refl facts.found facts.acquired room 0 left (refuse r) (omega arith, tt) (omega arith)
 
   fill_if : (left : ℕ) (equal : Bool) → 2 + length a.counts < left → TookFits own left a (landed a (filled_if equal))
   fill_if left true some =
-      landed_fits own a a refl refl refl facts.found facts.acquired room 0 left (filled_if true) (omega arith, tt) (omega arith)
+      landed_fits own a a refl refl facts.found facts.acquired room 0 left (filled_if true) (omega arith, tt) (omega arith)
   fill_if left false some =
-      landed_fits own a a refl refl refl facts.found facts.acquired room 0 left (filled_if false) (omega arith, tt) (omega arith)
+      landed_fits own a a refl refl facts.found facts.acquired room 0 left (filled_if false) (omega arith, tt) (omega arith)
 
   compared_fits : (left : ℕ) (cap : Capability) (node index word core : ℕ) (same : Bool) → node < own.layout.frames → index < 64
       → CapNames own.layout.frames cap
       → length a.counts ≡ length (cap_dues cap (negsuc 0)) → 4 + length a.counts < left
       → TookFits own left a (landed a (took_close cap (close_at same node index word core) (close_compared same)))
   compared_fits left cap node index word core true below small names waits some =
-      landed_fits own a a refl refl refl facts.found facts.acquired room 2 left (Goes (Act (remove_act (AtDraw node index) cap)))
+      landed_fits own a a refl refl facts.found facts.acquired room 2 left (Goes (Act (remove_act (AtDraw node index) cap)))
       (((below, small), names), omega arith, waits) (omega arith)
   compared_fits left cap node index word core false below small names waits some = act_refused left (refusal_of reply.Raced) (omega arith)
 
@@ -150,7 +151,7 @@ module _ (own : Own) (a : ActiveCall) (facts : Facts own a) (room : own.made < o
   close_fits (close_compare node index word core) cap found fits names waits =
       compared_fits _ cap node index word core (found == word) fits.0 fits.1 names waits (omega arith)
   close_fits (AtDraw node index) cap found fits names waits =
-      landed_fits own a a refl refl refl facts.found facts.acquired room 1 _
+      landed_fits own a a refl refl facts.found facts.acquired room 1 _
       (Answers nothing (Some (drawn_stamp found)) (Quiesce (AtStore node index (drawn_stamp found))))
       (omega arith, (fits.0, fits.1, some_stamp)) (omega arith)
     where
@@ -165,7 +166,7 @@ module _ (own : Own) (a : ActiveCall) (facts : Facts own a) (room : own.made < o
       by : (k : FrameKind) (mark : Option ℕ) → TookFits own (2 + length a.counts + 2) a (landed a (meets_frame y found k mark))
       by k (Some d) = act_refused _ (refusal.Busy d) (omega arith)
       by frame_kind.Untyped None =
-          landed_fits own a a refl refl refl facts.found facts.acquired room 1 _
+          landed_fits own a a refl refl facts.found facts.acquired room 1 _
           (Goes (Act (type_act (record { frame = y.frame; kind = y.kind; at = Compare found })))) (below, omega arith, waits) (omega arith)
       by frame_kind.User None = act_refused _ refusal.FrameKind (omega arith)
       by frame_kind.Kernel None = act_refused _ refusal.FrameKind (omega arith)
@@ -176,14 +177,14 @@ module _ (own : Own) (a : ActiveCall) (facts : Facts own a) (room : own.made < o
   type_fits y (Compare word) found below waits = by (found == word)
     where
       by : (equal : Bool) → TookFits own (2 + length a.counts + 1) a (landed a (typed_if equal))
-      by true = landed_fits own a a refl refl refl facts.found facts.acquired room 0 _ (typed_if true) (omega arith, tt) (omega arith)
+      by true = landed_fits own a a refl refl facts.found facts.acquired room 0 _ (typed_if true) (omega arith, tt) (omega arith)
       by false = act_refused _ refusal.Raced (omega arith)
 
   -- a refusal with something to store
   act_undone : (left : ℕ) (r : Refusal) (tail : Tail) → TailFits own.layout tail → 2 + length a.counts + tail_left tail < left
       → TookFits own left a (landed a (Refuses r tail))
   act_undone left r tail fits some =
-      landed_fits own a a refl refl refl facts.found facts.acquired room (tail_left tail) left (Refuses r tail) (omega arith, fits)
+      landed_fits own a a refl refl facts.found facts.acquired room (tail_left tail) left (Refuses r tail) (omega arith, fits)
       (omega arith)
 
   make_fits : (m : Making) (at : MakingAt) (found : ℕ) → MakingFits own.layout (record m { at = at })
@@ -195,7 +196,7 @@ module _ (own : Own) (a : ActiveCall) (facts : Facts own a) (room : own.made < o
       some = omega arith
 
       blank : (o : Obj) → TookFits own (2 + length a.counts + making_left m.object make_load) a (landed a (meets_object m found o))
-      blank Blank = landed_fits own a a refl refl refl facts.found facts.acquired room (making_left m.object (Mark found)) _
+      blank Blank = landed_fits own a a refl refl facts.found facts.acquired room (making_left m.object (Mark found)) _
           (Goes (Act (make_act (record m { at = Mark found }))))
           (record { frame = fits.frame; core = fits.core; object = fits.object; fill = fits.fill; at = tt }, omega arith, waits)
           (omega arith)
@@ -221,7 +222,7 @@ module _ (own : Own) (a : ActiveCall) (facts : Facts own a) (room : own.made < o
           let most : ℕ = 3 * counts_of m.object + last_word m.object + 3 in
           let next = work_next own.layout (steps_later own.layout.cores a) m.core 0 act (slice_get (dues act) 0) refl fits.core
           (record { frame = fits.frame; core = fits.core; object = fits.object; fill = fits.fill; at = omega arith }) in
-          landed_fits own a a refl refl refl facts.found facts.acquired room most _ (Goes (next_work m.core 0 act)) (
+          landed_fits own a a refl refl facts.found facts.acquired room most _ (Goes (next_work m.core 0 act)) (
             next.0,
             subst (λ (n : ℕ). work_left own.layout.cores (steps_later own.layout.cores a) n (next_work m.core 0 act) ≤ most) (sym waits)
                 (let fewer = next.1 in omega (arith, fewer, many)),
@@ -235,20 +236,20 @@ module _ (own : Own) (a : ActiveCall) (facts : Facts own a) (room : own.made < o
           (landed a (Goes (Act (make_act (record m { at = if more then Store word (entry + 1) else fill_at word })))))
       by true is =
           let low = ltb-true entry (last_word m.object) is in
-          landed_fits own a a refl refl refl facts.found facts.acquired room (last_word m.object - (entry + 1) + 3) _
+          landed_fits own a a refl refl facts.found facts.acquired room (last_word m.object - (entry + 1) + 3) _
           (Goes (Act (make_act (record m { at = Store word (entry + 1) })))) (
             record { frame = fits.frame; core = fits.core; object = fits.object; fill = fits.fill; at = omega (arith, low) },
             omega arith,
             waits,
           ) (omega (arith, low))
       by false is =
-          landed_fits own a a refl refl refl facts.found facts.acquired room 2 _ (Goes (Act (make_act (record m { at = fill_at word }))))
+          landed_fits own a a refl refl facts.found facts.acquired room 2 _ (Goes (Act (make_act (record m { at = fill_at word }))))
           (record { frame = fits.frame; core = fits.core; object = fits.object; fill = fits.fill; at = tt }, omega arith, waits)
           (omega arith)
   make_fits m (fill_at word) found fits waits = by (found == m.fill.word)
     where
       by : (equal : Bool) → TookFits own (2 + length a.counts + 2) a (landed a (published m word equal))
-      by true = landed_fits own a a refl refl refl facts.found facts.acquired room 1 _ (published m word true)
+      by true = landed_fits own a a refl refl facts.found facts.acquired room 1 _ (published m word true)
           (omega arith, fits.frame) (omega arith)
       by false = act_undone _ refusal.Raced (Unmark m.frame word) fits.frame (omega arith)
 
@@ -256,7 +257,7 @@ module _ (own : Own) (a : ActiveCall) (facts : Facts own a) (room : own.made < o
   act_changed : (left : ℕ) (r : Reply) (change : OwnChange) → ChangeFits own.layout change → 2 + length a.counts < left
       → TookFits own left a (landed a (work_changes r change None Nothing))
   act_changed left r change fits some =
-      landed_fits own a a refl refl refl facts.found facts.acquired room 0 left (work_changes r change None Nothing)
+      landed_fits own a a refl refl facts.found facts.acquired room 0 left (work_changes r change None Nothing)
       (omega arith, tt, fits) (omega arith)
 
   -- where the load of a head with this mark leads
@@ -264,7 +265,7 @@ module _ (own : Own) (a : ActiveCall) (facts : Facts own a) (room : own.made < o
       → TookFits own (2 + length a.counts + 2) a
       (landed a (took_charge ticks (after_mark tcap ticks budget version mark) (end_by_mark mark)))
   marked_fits tcap ticks budget version None fits small waits =
-      landed_fits own a a refl refl refl facts.found facts.acquired room 1 (2 + length a.counts + 2)
+      landed_fits own a a refl refl facts.found facts.acquired room 1 (2 + length a.counts + 2)
       (Goes (Act (tick_act (charge_compare tcap ticks budget version)))) ((fits, small), omega arith, waits) (omega arith)
   marked_fits tcap ticks budget version (Some d) fits small waits =
       act_changed (2 + length a.counts + 2) (reply.Busy d) (Ticks 0 ticks) tt (omega arith)
@@ -301,7 +302,7 @@ module _ (own : Own) (a : ActiveCall) (facts : Facts own a) (room : own.made < o
       by : (k : FrameKind) (mark : Option ℕ) → TookFits own (2 + length a.counts + 2) a (landed a (maps_frame fill k mark))
       by k (Some d) = act_refused _ (refusal.Busy d) some
       by frame_kind.User None =
-          landed_fits own a a refl refl refl facts.found facts.acquired room 1 _ (Goes (Act (fill_act fill))) (fits.0, omega arith, waits)
+          landed_fits own a a refl refl facts.found facts.acquired room 1 _ (Goes (Act (fill_act fill))) (fits.0, omega arith, waits)
           (omega arith)
       by frame_kind.Untyped None = act_refused _ refusal.FrameKind some
       by frame_kind.Kernel None = act_refused _ refusal.FrameKind some
@@ -313,7 +314,7 @@ module _ (own : Own) (a : ActiveCall) (facts : Facts own a) (room : own.made < o
   done_fits (tick_act charge) found fits waits = tick_fits charge found fits waits
   done_fits (touch_act m) found fits waits = touch_fits own a facts room waits m found fits
   done_fits (flush_act core) found fits waits =
-      landed_fits own a a refl refl refl facts.found facts.acquired room 1 _
+      landed_fits own a a refl refl facts.found facts.acquired room 1 _
       (work_changes (reply.Ok nothing) Empties None (StoreFlush core (stamp_of_clock found))) (omega arith, fits, tt) (omega arith)
   done_fits (kill_act m) found fits waits = kill_fits own a facts room m m.at found fits waits
   done_fits (untype_act m) found fits waits = untype_fits own a facts room m m.at found fits waits
@@ -357,14 +358,14 @@ module _ (own : Own) (a : ActiveCall) (facts : Facts own a) (room : own.made < o
   scan_end_fits left act q ends.Going none fits goes some =
       let empty : length a.counts ≡ 0 = ap length none in
       let on = goes refl in
-      landed_fits own a a refl refl refl facts.found facts.acquired room
+      landed_fits own a a refl refl facts.found facts.acquired room
       (left_of_scan own.layout.cores q + 3 * length (dues act) + act_left own.layout.cores act) left (Goes (Scan q act))
       ((on.0, on.1, fits), omega arith, none) (let fewer = on.2 in omega arith)
   scan_end_fits left act q (ends.Decided r) none fits goes some =
       let empty : length a.counts ≡ 0 = ap length none in act_refused left (refusal_of r) (omega arith)
   scan_end_fits left act q (ends.Done x) none fits goes some =
       let empty : length a.counts ≡ 0 = ap length none in
-      landed_fits own a a refl refl refl facts.found facts.acquired room
+      landed_fits own a a refl refl facts.found facts.acquired room
       (3 * length (dues act) + act_left own.layout.cores act) left (starts own.core act)
       (subst (λ (xs : List Acquired). StepFits own.layout xs (steps_later own.layout.cores a)
       (3 * length (dues act) + act_left own.layout.cores act)
@@ -404,7 +405,6 @@ module _ (own : Own) (a : ActiveCall) (facts : Facts own a) (room : own.made < o
       subst (λ (xs : List Acquired). TookFits own left a (GoesOn
       (went_with a xs (Undecided (next_work own.core (length a.counts + 1) act))))) (sym (pushed_is p change few)) (record {
         call = refl;
-        plan = refl;
         found = facts.found;
         first = tt;
         stage = next.0;
@@ -434,7 +434,7 @@ module _ (own : Own) (a : ActiveCall) (facts : Facts own a) (room : own.made < o
       → 2 + length a.counts + (1 + 3 * (length (dues act) - (length a.counts + 1)) + act_left own.layout.cores act) < left
       → TookFits own left a (landed a (took_count own.core (length a.counts) change act pin end))
   count_end left change act pin ends.Going pin_fits end fits more goes some =
-      landed_fits own a a refl refl refl facts.found facts.acquired room
+      landed_fits own a a refl refl facts.found facts.acquired room
       (left_of_pin pin + 1 + 3 * (length (dues act) - (length a.counts + 1)) + act_left own.layout.cores act) left
       (Goes (Acquire pin change act)) ((pin_fits, fits), omega arith, more) (goes refl)
   count_end left change act pin (ends.Decided r) pin_fits end fits more goes some =
@@ -498,7 +498,7 @@ read_fits : (own : Own) (a : ActiveCall) (look : Look) (o : Option CompWord) →
     → TookFits own (2 + length a.counts + (1 + left_of_look look + steps_later own.layout.cores a)) a (took_read a look o)
 read_fits own a look None facts room fits counts = refused_fits own a facts counts room _ refusal.Raced (omega arith)
 read_fits own a look (Some life) facts room fits counts =
-    landed_fits own a (read_more a life.epoch) refl refl refl facts.found facts.acquired room
+    landed_fits own a (read_more a life.epoch) refl refl facts.found facts.acquired room
     (left_of_look look + steps_later own.layout.cores a) _ (Goes (Lookup look)) (fits, omega arith, counts) (omega arith)
 
 work_fits : (own : Own) (a : ActiveCall) (work : Work) (found : ℕ) → Facts own a → own.made < own.limit → WorkFits own.layout work
@@ -517,11 +517,10 @@ work_fits own a (Act act) found facts room fits counts = done_fits own a facts r
 
 -- what comes first of a call
 first_fits : (own : Own) (a : ActiveCall) (living : Bool) → Facts own a → a.counts ≡ [] → a.found ≡ [] → own.made < own.limit
-    → TookFits own (3 + living_steps living + look_steps (names_left a) a.plan.target + act_steps a.call own.layout.cores) a
+    → TookFits own (3 + living_steps living + look_steps (names_left a) (plan_for a.call).target + act_steps a.call own.layout.cores) a
     (took_first living own a)
 first_fits own a true facts none empty room = record {
   call = refl;
-  plan = refl;
   found = facts.found;
   first = empty;
   stage = facts.own_fits.comp;
@@ -533,7 +532,7 @@ first_fits own a true facts none empty room = record {
   fewer = omega arith;
 }
 first_fits own a false facts none empty room =
-    works_fits own a facts none room (look_steps (names_left a) a.plan.target + act_steps a.call own.layout.cores) _ _
+    works_fits own a facts none room (look_steps (names_left a) (plan_for a.call).target + act_steps a.call own.layout.cores) _ _
     (next_fits own a facts) (omega arith)
 
 -- It is asked whether the component lives.
@@ -541,11 +540,10 @@ module _ (own : Own) (a : ActiveCall) (facts : Facts own a) (none : a.counts ≡
     (room : own.made < own.limit) where
   -- it is asked on, in fewer steps
   asks_fits : (left : ℕ) (alive : Alive) → AliveFits own.layout alive → left_of_alive alive < left
-      → TookFits own (2 + left + look_steps (names_left a) a.plan.target + act_steps a.call own.layout.cores) a
+      → TookFits own (2 + left + look_steps (names_left a) (plan_for a.call).target + act_steps a.call own.layout.cores) a
       (took_alive own a alive ends.Going)
   asks_fits left alive fits fewer = record {
     call = refl;
-    plan = refl;
     found = facts.found;
     first = empty;
     stage = fits;
@@ -558,15 +556,15 @@ module _ (own : Own) (a : ActiveCall) (facts : Facts own a) (none : a.counts ≡
   }
 
   lives_fits : (alive : Alive) (lives : Bool)
-      → TookFits own (2 + 1 + look_steps (names_left a) a.plan.target + act_steps a.call own.layout.cores) a
+      → TookFits own (2 + 1 + look_steps (names_left a) (plan_for a.call).target + act_steps a.call own.layout.cores) a
       (took_alive own a alive (lives_end lives))
   lives_fits alive true =
-      works_fits own a facts none room (look_steps (names_left a) a.plan.target + act_steps a.call own.layout.cores) _ _
+      works_fits own a facts none room (look_steps (names_left a) (plan_for a.call).target + act_steps a.call own.layout.cores) _ _
       (next_fits own a facts) (omega arith)
   lives_fits alive false = refused_fits own a facts none room _ (refusal_of reply.Dead) (omega arith)
 
   number_fits : (alive : Alive) (epoch : ℕ) (number : LiveWord)
-      → TookFits own (2 + 1 + look_steps (names_left a) a.plan.target + act_steps a.call own.layout.cores) a
+      → TookFits own (2 + 1 + look_steps (names_left a) (plan_for a.call).target + act_steps a.call own.layout.cores) a
       (took_alive own a alive (number_end epoch number))
   number_fits alive epoch live_word.Free = refused_fits own a facts none room _ (refusal_of reply.Dead) (omega arith)
   number_fits alive epoch (live_word.Live now frame) = lives_fits alive (now == epoch)
@@ -574,13 +572,13 @@ module _ (own : Own) (a : ActiveCall) (facts : Facts own a) (none : a.counts ≡
   number_fits alive epoch (live_word.Dead now stamp) = refused_fits own a facts none room _ (refusal_of reply.Dead) (omega arith)
 
   live_fits : (alive : Alive) (epoch : ℕ) (o : Option LiveWord)
-      → TookFits own (2 + 1 + look_steps (names_left a) a.plan.target + act_steps a.call own.layout.cores) a
+      → TookFits own (2 + 1 + look_steps (names_left a) (plan_for a.call).target + act_steps a.call own.layout.cores) a
       (took_alive own a alive (live_end epoch o))
   live_fits alive epoch None = refused_fits own a facts none room _ (refusal_of reply.Raced) (omega arith)
   live_fits alive epoch (Some number) = number_fits alive epoch number
 
   loaded_fits : (comp : ℕ) (o : Option CompWord) → AliveFits own.layout (comp_after comp o)
-      → TookFits own (2 + 2 + look_steps (names_left a) a.plan.target + act_steps a.call own.layout.cores) a
+      → TookFits own (2 + 2 + look_steps (names_left a) (plan_for a.call).target + act_steps a.call own.layout.cores) a
       (took_alive own a (comp_after comp o) (comp_end o))
   loaded_fits comp None fits = refused_fits own a facts none room _ (refusal_of reply.Raced) (omega arith)
   loaded_fits comp (Some life) fits = asks_fits 2 (AtLive life) fits (omega arith)
@@ -595,7 +593,6 @@ enter_fits : (own : Own) (a : ActiveCall) (spent : Bool) → spent ≡ is_spent 
     → TookFits own (left_at own.layout.cores a Enter) a (took_enter spent own a)
 enter_fits own a true is facts none empty = record {
   call = refl;
-  plan = refl;
   found = facts.found;
   first = tt;
   stage = tt;
@@ -607,7 +604,7 @@ enter_fits own a true is facts none empty = record {
   fewer = let empty : length a.counts ≡ 0 = ap length none in omega arith;
 }
 enter_fits own a false is facts none empty =
-    first_fits own a a.plan.living facts none empty (leb-false own.limit own.made (sym is))
+    first_fits own a (plan_for a.call).living facts none empty (leb-false own.limit own.made (sym is))
 
 tail_fits : (own : Own) (a : ActiveCall) (r : Reply) (drawn : Option ℕ) (tail : Tail) (counts : List Acquired) (found : ℕ) → Facts own a
     → a.counts ≡ counts → TailFits own.layout tail
@@ -615,7 +612,6 @@ tail_fits : (own : Own) (a : ActiveCall) (r : Reply) (drawn : Option ℕ) (tail 
     (GoesOn (went_with a (tail_counts tail counts) (took_tail r drawn tail counts found)))
 tail_fits own a r drawn (Quiesce close) counts found facts is fits = record {
   call = refl;
-  plan = refl;
   found = facts.found;
   first = tt;
   stage = tt;
@@ -628,7 +624,6 @@ tail_fits own a r drawn (Quiesce close) counts found facts is fits = record {
 }
 tail_fits own a r drawn (Unmark f word) counts found facts is fits = record {
   call = refl;
-  plan = refl;
   found = facts.found;
   first = tt;
   stage = tt;
@@ -641,7 +636,6 @@ tail_fits own a r drawn (Unmark f word) counts found facts is fits = record {
 }
 tail_fits own a r drawn (StoreDead life stamp) counts found facts is fits = record {
   call = refl;
-  plan = refl;
   found = facts.found;
   first = tt;
   stage = tt;
@@ -654,7 +648,6 @@ tail_fits own a r drawn (StoreDead life stamp) counts found facts is fits = reco
 }
 tail_fits own a r drawn (StoreFlush core stamp) counts found facts is fits = record {
   call = refl;
-  plan = refl;
   found = facts.found;
   first = tt;
   stage = tt;
@@ -667,7 +660,6 @@ tail_fits own a r drawn (StoreFlush core stamp) counts found facts is fits = rec
 }
 tail_fits own a r drawn (StoreLive l live f word) counts found facts is fits = record {
   call = refl;
-  plan = refl;
   found = facts.found;
   first = tt;
   stage = fits.1;
@@ -682,7 +674,6 @@ tail_fits own a r drawn (Push x) counts found facts is fits = push_fits own a r 
 tail_fits own a r drawn (Pop x) counts found facts is fits = pop_fits own a r drawn x counts facts fits is
 tail_fits own a r drawn (StoreRunning f core depth old old_depth) counts found facts is fits = record {
   call = refl;
-  plan = refl;
   found = facts.found;
   first = tt;
   stage = (fits.2, fits.3);
@@ -695,7 +686,6 @@ tail_fits own a r drawn (StoreRunning f core depth old old_depth) counts found f
 }
 tail_fits own a r drawn (StoreIdle f depth) counts found facts is fits = record {
   call = refl;
-  plan = refl;
   found = facts.found;
   first = tt;
   stage = tt;
@@ -708,7 +698,6 @@ tail_fits own a r drawn (StoreIdle f depth) counts found facts is fits = record 
 }
 tail_fits own a r drawn Nothing [] found facts is fits = record {
   call = refl;
-  plan = refl;
   found = facts.found;
   first = tt;
   stage = tt;
@@ -721,7 +710,6 @@ tail_fits own a r drawn Nothing [] found facts is fits = record {
 }
 tail_fits own a r drawn Nothing (x ∷ xs) found facts is fits = record {
   call = refl;
-  plan = refl;
   found = facts.found;
   first = tt;
   stage = tt;
@@ -749,7 +737,6 @@ pub took_fits : (own : Own) (a : ActiveCall) (found : ℕ) → IsOwn own → IsA
 took_fits own a found h active =
     stage_fits own a a.stage found (record {
       own_fits = h;
-      plan = active.plan;
       found = active.found;
       acquired = active.acquired;
       limits = active.limits;

@@ -18,7 +18,6 @@ use Rattle.act_fits.specs.call_plans.specs.declared.plans.Nth.TheVariants.{First
 use Rattle.act_fits.specs.call_plans.specs.declared.plans.Name.{Name}
 use Rattle.act_fits.specs.call_plans.specs.declared.plans.Target.{Target}
 use Rattle.act_fits.specs.call_plans.specs.declared.plans.Target.TheVariants.{Nowhere, Free, Held, Own as own_page}
-use Rattle.act_fits.specs.call_plans.specs.declared.plans.Plan.{Plan}
 use Rattle.act_fits.specs.call_plans.specs.Plans.{at_place, pushed}
 use Rattle.act_fits.specs.call_plans.specs.GoesBy.{want_of, wants}
 use Rattle.act_fits.specs.call_plans.specs.After.{with_found, names_after, next_in}
@@ -46,6 +45,7 @@ use Rattle.act_fits.specs.act_states.specs.Lookups.{met_right, met_name, met_fre
 use Rattle.act_fits.specs.call_stages.specs.Steps.{landed, found_more, next_by, named_one, took_found}
 use Rattle.act_fits.specs.call_stages.specs.Steps.{took_end, took_look}
 use Rattle.act_fits.proofs.LandsFit.{TookFits, Facts, names_object, next_fits, landed_fits}
+use Rattle.act_fits.specs.call_plans.specs.PlanOf.{plan_for}
 
 module _ (own : Own) (a : ActiveCall) (facts : Facts own a) (none : a.counts ≡ []) (room : own.made < own.limit) where
   -- a refusal, and any step of the work
@@ -54,72 +54,74 @@ module _ (own : Own) (a : ActiveCall) (facts : Facts own a) (none : a.counts ≡
 
   pub refused_fits : (left : ℕ) (r : Refusal) → 2 < left → TookFits own left a (landed a (refuse r))
   refused_fits left r some = let zero = no_counts in
-      landed_fits own a a refl refl refl facts.found facts.acquired room 0 left (refuse r) (omega arith, tt) (omega arith)
+      landed_fits own a a refl refl facts.found facts.acquired room 0 left (refuse r) (omega arith, tt) (omega arith)
 
   pub works_fits : (most left : ℕ) (step : WorkStep) → StepFits own.layout [] (steps_later own.layout.cores a) most step → 2 + most < left
       → TookFits own left a (landed a step)
   works_fits most left step fits some =
       let zero = no_counts in
-      landed_fits own a a refl refl refl facts.found facts.acquired room most left step
+      landed_fits own a a refl refl facts.found facts.acquired room most left step
       (subst (λ (xs : List Acquired). StepFits own.layout xs (steps_later own.layout.cores a) most step) (sym none) fits) (omega arith)
 
   -- one name more has led to a capability
   pub more_fits : (name : Name) (rest : List Name) (k : Capability) → names_left a ≡ name ∷ rest
       → IsWanted own.layout.frames name.number (want_of (with_found [] a.found) name) k
-      → FoundFits own.layout.frames a.plan (pushed a.found k)
+      → FoundFits own.layout.frames (plan_for a.call) (pushed a.found k)
   more_fits name rest k is wanted =
       let few : length a.found < 4 =
-      let counted : length a.found + length (names_left a) ≡ length a.plan.names =
-      count_led (IsWanted own.layout.frames) a.plan.names [] a.found facts.found in
-      let most : length a.plan.names ≤ 4 = subst (λ (p : Plan). length p.names ≤ 4) (sym facts.plan) (few_names a.call) in
+      let counted : length a.found + length (names_left a) ≡ length (plan_for a.call).names =
+      count_led (IsWanted own.layout.frames) (plan_for a.call).names [] a.found facts.found in
+      let most : length (plan_for a.call).names ≤ 4 = few_names a.call in
       let one : length (names_left a) ≡ suc (length rest) = ap length is in
       omega arith in
-      subst (λ ks. FoundFits own.layout.frames a.plan ks) (sym (pushed_one a.found k few))
-      (one_more (IsWanted own.layout.frames) a.plan.names a.plan.target [] a.found k facts.found
-      (subst (λ names. NextBy (IsWanted own.layout.frames) (next_in (with_found [] a.found) names a.plan.target) k) (sym is) wanted))
+      subst (λ ks. FoundFits own.layout.frames (plan_for a.call) ks) (sym (pushed_one a.found k few))
+      (one_more (IsWanted own.layout.frames) (plan_for a.call).names (plan_for a.call).target [] a.found k facts.found
+      (subst (λ names. NextBy (IsWanted own.layout.frames) (next_in (with_found [] a.found) names (plan_for a.call).target) k) (sym is)
+      wanted))
 
   pub left_more : (name : Name) (rest : List Name) (k : Capability) → names_left a ≡ name ∷ rest
       → names_left (found_more a (pushed a.found k)) ≡ rest
   left_more name rest k is =
       let few : length a.found < 4 =
-      let counted : length a.found + length (names_left a) ≡ length a.plan.names =
-      count_led (IsWanted own.layout.frames) a.plan.names [] a.found facts.found in
-      let most : length a.plan.names ≤ 4 = subst (λ (p : Plan). length p.names ≤ 4) (sym facts.plan) (few_names a.call) in
+      let counted : length a.found + length (names_left a) ≡ length (plan_for a.call).names =
+      count_led (IsWanted own.layout.frames) (plan_for a.call).names [] a.found facts.found in
+      let most : length (plan_for a.call).names ≤ 4 = few_names a.call in
       let one : length (names_left a) ≡ suc (length rest) = ap length is in
       omega arith in
-      ap (names_after a.plan.names) (pushed_one a.found k few) ∙ after_more a.plan.names rest name a.found k is
+      ap (names_after (plan_for a.call).names) (pushed_one a.found k few) ∙ after_more (plan_for a.call).names rest name a.found k is
 
   pub one_fits : (left : ℕ) (name : Name) (rest : List Name) (k : Capability) → names_left a ≡ name ∷ rest
       → IsWanted own.layout.frames name.number (want_of (with_found [] a.found) name) k
-      → 2 + (look_steps rest a.plan.target + act_steps a.call own.layout.cores) < left → TookFits own left a (named_one own a (Finds k))
+      → 2 + (look_steps rest (plan_for a.call).target + act_steps a.call own.layout.cores) < left
+      → TookFits own left a (named_one own a (Finds k))
   one_fits left name rest k is wanted some =
       let more = found_more a (pushed a.found k) in
       let fits = more_fits name rest k is wanted in
       let zero = no_counts in
-      landed_fits own a more refl refl refl fits facts.acquired room
-      (look_steps (names_left more) a.plan.target + act_steps a.call own.layout.cores) left (next_by own more)
+      landed_fits own a more refl refl fits facts.acquired room
+      (look_steps (names_left more) (plan_for a.call).target + act_steps a.call own.layout.cores) left (next_by own more)
       (subst (λ (xs : List Acquired). StepFits own.layout xs (steps_later own.layout.cores more)
-      (look_steps (names_left more) a.plan.target + act_steps a.call own.layout.cores) (next_by own more)) (sym none)
+      (look_steps (names_left more) (plan_for a.call).target + act_steps a.call own.layout.cores) (next_by own more)) (sym none)
       (next_fits own more (record {
         own_fits = facts.own_fits;
-        plan = facts.plan;
         found = fits;
         acquired = facts.acquired;
         limits = facts.limits;
       })))
-      (subst (λ (names : List Name). 2 + length a.counts + (look_steps names a.plan.target + act_steps a.call own.layout.cores) < left)
+      (subst (λ (names : List Name). 2 + length a.counts + (look_steps names (plan_for a.call).target + act_steps a.call own.layout.cores)
+      < left)
       (sym (left_more name rest k is)) (omega arith))
 
   right_if : (left : ℕ) (name : Name) (rest : List Name) (k : Capability) (right : Bool)
       → wants (with_found [] a.found) name.wanted k.kind ≡ true → names_left a ≡ name ∷ rest
-      → CapNames own.layout.frames k → 2 + (look_steps rest a.plan.target + act_steps a.call own.layout.cores) < left
+      → CapNames own.layout.frames k → 2 + (look_steps rest (plan_for a.call).target + act_steps a.call own.layout.cores) < left
       → TookFits own left a (named_one own a (if right then Finds k else Refused refusal.NoRight))
   right_if left name rest k true wanted is names some = one_fits left name rest k is (wanted, names) some
   right_if left name rest k false wanted is names some = refused_fits left refusal.NoRight (omega arith)
 
   pub met_if : (left : ℕ) (name : Name) (rest : List Name) (k : Capability) (wanted : Bool)
       → wanted ≡ wants (with_found [] a.found) name.wanted k.kind → names_left a ≡ name ∷ rest
-      → CapNames own.layout.frames k → 2 + (look_steps rest a.plan.target + act_steps a.call own.layout.cores) < left
+      → CapNames own.layout.frames k → 2 + (look_steps rest (plan_for a.call).target + act_steps a.call own.layout.cores) < left
       → TookFits own left a (named_one own a (if wanted then met_right name.needs.0 k else Refused refusal.WrongCap))
   met_if left name rest k true wanted is names some =
       right_if left name rest k (has_rights k.rights name.needs.0) (sym wanted) is names some
@@ -127,7 +129,7 @@ module _ (own : Own) (a : ActiveCall) (facts : Facts own a) (none : a.counts ≡
 
   pub met_fits : (left : ℕ) (name : Name) (rest : List Name) (value : Entry)
       → names_left a ≡ name ∷ rest → EntryNames own.layout.frames value
-      → 2 + (look_steps rest a.plan.target + act_steps a.call own.layout.cores) < left
+      → 2 + (look_steps rest (plan_for a.call).target + act_steps a.call own.layout.cores) < left
       → TookFits own left a (named_one own a (met_name (want_of (with_found [] a.found) name) value))
   met_fits left name rest entry.Free is names some = refused_fits left refusal.Empty (omega arith)
   met_fits left name rest (entry.Held k) is names some = met_if left name rest k _ refl is names some
@@ -135,7 +137,7 @@ module _ (own : Own) (a : ActiveCall) (facts : Facts own a) (none : a.counts ≡
   met_fits left name rest (entry.Quiescing stamp) is names some = refused_fits left refusal.Empty (omega arith)
 
   pub first_is : IfSome (at_place a.found First) (CapNames own.layout.frames)
-  first_is = first_named own.layout.frames a.plan.names [] a.found facts.found
+  first_is = first_named own.layout.frames (plan_for a.call).names [] a.found facts.found
 
   pub acts_on : (left : ℕ) (read : Option ℕ) (f : Found) → PlaceFits own.layout f → 2 + after_reading a.call own.layout.cores < left
       → TookFits own left a (landed a (act_begun own a.call a.found read (Some f)))
@@ -158,7 +160,7 @@ module _ (own : Own) (a : ActiveCall) (facts : Facts own a) (none : a.counts ≡
   held_fits left f (entry.Quiescing stamp) fits some = refused_fits left refusal.Empty (omega arith)
 
   -- the place that was looked for is found
-  pub found_case : (left : ℕ) (names : List Name) (target : Target) (f : Found) → names_left a ≡ names → a.plan.target ≡ target
+  pub found_case : (left : ℕ) (names : List Name) (target : Target) (f : Found) → names_left a ≡ names → (plan_for a.call).target ≡ target
       → PlaceFits own.layout f
       → 2 + (looks_later names target + acts_later names a.call own.layout.cores) < left
       → TookFits own left a (took_found own a (next_in (with_found [] a.found) names target) f)
@@ -175,13 +177,13 @@ module _ (own : Own) (a : ActiveCall) (facts : Facts own a) (none : a.counts ≡
       → 2 + steps_later own.layout.cores a < left → TookFits own left a (took_end own a look (place_end node index word shown))
   place_fits left look node index word None names below small some = refused_fits left (refusal_of reply.Raced) (omega arith)
   place_fits left look node index word (Some entry.Free) names below small some =
-      found_case left (names_left a) a.plan.target _ refl refl (record { node = below; entry = small; names = tt }) some
+      found_case left (names_left a) (plan_for a.call).target _ refl refl (record { node = below; entry = small; names = tt }) some
   place_fits left look node index word (Some (entry.Held k)) names below small some =
-      found_case left (names_left a) a.plan.target _ refl refl (record { node = below; entry = small; names = names }) some
+      found_case left (names_left a) (plan_for a.call).target _ refl refl (record { node = below; entry = small; names = names }) some
   place_fits left look node index word (Some (entry.Closing by)) names below small some =
       refused_fits left (refusal_of (reply.Busy by)) (omega arith)
   place_fits left look node index word (Some (entry.Quiescing stamp)) names below small some =
-      found_case left (names_left a) a.plan.target _ refl refl (record { node = below; entry = small; names = tt }) some
+      found_case left (names_left a) (plan_for a.call).target _ refl refl (record { node = below; entry = small; names = tt }) some
 
   pub link_fits : (left : ℕ) (linked : Bool) (top number : ℕ) (k : Capability) → linked ≡ is_link k.kind → CapNames own.layout.frames k
       → 3 + steps_later own.layout.cores a < left

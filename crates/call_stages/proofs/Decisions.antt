@@ -7,7 +7,7 @@ use Rattle.act_states.specs.stage_pins.specs.declared.pin.Pinned.{Pinned}
 use Rattle.act_states.specs.stage_pins.specs.declared.held.Acquired.{Acquired}
 use Rattle.act_states.specs.stage_pins.specs.Acquire.{pin_after, pin_end}
 use Rattle.std.proofs.Common.{◌≡◌, ℕ, ℤ, ◌+◌, ◌==◌, ◌&&◌, Bool, true, false, List, [], ◌∷◌, length, Option}
-use Rattle.std.proofs.Common.{Some, None, refl, sym, ◌∙◌, ap, subst, arith, eqb-true, nat_le, ◌||◌}
+use Rattle.std.proofs.Common.{Some, None, refl, sym, ap, subst, arith, eqb-true, nat_le, ◌||◌}
 use Rattle.act_states.specs.call_plans.specs.Plans.{pushed}
 use Rattle.spk_nums.specs.Capability.{Capability}
 use Rattle.spk_nums.specs.Rights.{neither}
@@ -168,7 +168,7 @@ first_turns false own a = landed_turns a (next_by own a)
 
 enter_turns : (spent : Bool) (own : Own) (a : ActiveCall) → Turns None (took_enter spent own a)
 enter_turns true own a = landed_turns a (refuse refusal.CallsSpent)
-enter_turns false own a = first_turns a.plan.living own a
+enter_turns false own a = first_turns (plan_for a.call).living own a
 
 alive_turns : (own : Own) (a : ActiveCall) (alive : Alive) (end : StageEnd (Unit {0})) → Turns None (took_alive own a alive end)
 alive_turns own a alive ends.Going = refl
@@ -274,7 +274,8 @@ next_no own call found NextNothing not = act_no own call found None None not
 module _ (own : Own) (a : ActiveCall) (not : decides_at_name (plan_for a.call).decides ≡ false) where
   met_refuses : (met : Met) → Refuses (named_one own a met)
   met_refuses (Finds k) =
-      landed_refuses (found_more a (pushed a.found k)) _ (next_no own a.call (pushed a.found k) (next_of a.plan (pushed a.found k)) not)
+      landed_refuses (found_more a (pushed a.found k)) _ (next_no own a.call (pushed a.found k)
+      (next_of (plan_for a.call) (pushed a.found k)) not)
   met_refuses (Refused r) = landed_refuses a (refuse r) tt
 
   free_refuses : (f : Found) (value : Entry) → Refuses (landed a (met_free own a.call a.found a.read f value))
@@ -309,7 +310,7 @@ root_refuses own a look (Some (entry.Closing by)) = tt
 root_refuses own a look (Some (entry.Quiescing stamp)) = tt
 
 place_refuses : (own : Own) (a : ActiveCall) (look : Look) (node index word : ℕ) (shown : Option Entry)
-    → ((f : Found) → Refuses (took_found own a (next_of a.plan a.found) f))
+    → ((f : Found) → Refuses (took_found own a (next_of (plan_for a.call) a.found) f))
     → Refuses (took_end own a look (place_end node index word shown))
 place_refuses own a look node index word None found = tt
 place_refuses own a look node index word (Some entry.Free) found = found _
@@ -318,7 +319,7 @@ place_refuses own a look node index word (Some (entry.Closing by)) found = tt
 place_refuses own a look node index word (Some (entry.Quiescing stamp)) found = found _
 
 look_refuses : (own : Own) (a : ActiveCall) (look : Look) (word : ℕ) (shown : Option Entry)
-    → (is_last look ≡ true → (f : Found) → Refuses (took_found own a (next_of a.plan a.found) f))
+    → (is_last look ≡ true → (f : Found) → Refuses (took_found own a (next_of (plan_for a.call) a.found) f))
     → Refuses (took_look own a look word shown)
 look_refuses own a (AtRoot top number) word shown found = root_refuses own a _ shown
 look_refuses own a (AtLeaf leaf number) word shown found = place_refuses own a _ _ _ word shown (found refl)
@@ -334,17 +335,19 @@ none_after [] = refl
 none_after (k ∷ ks) = refl
 
 -- a call with one name and no target that is not ready has found its name already, and finds nothing more
-one_found : (frames : ℕ) (own : Own) (a : ActiveCall) (ks : List Capability) → a.found ≡ ks → OneName a.plan → FoundFits frames a.plan ks
-    → is_last_name a.plan a.found ≡ false
-    → (f : Found) → Refuses (took_found own a (next_of a.plan ks) f)
+one_found : (frames : ℕ) (own : Own) (a : ActiveCall) (ks : List Capability) → a.found ≡ ks → OneName (plan_for a.call)
+    → FoundFits frames (plan_for a.call) ks
+    → is_last_name (plan_for a.call) a.found ≡ false
+    → (f : Found) → Refuses (took_found own a (next_of (plan_for a.call) ks) f)
 one_found frames own a [] is one fits not f =
     let first : length a.found ≡ 0 = ap length is in
-    let count : length a.plan.names ≡ 1 = ap length one.names in
+    let count : length (plan_for a.call).names ≡ 1 = ap length one.names in
     absurd (last_one _ _ first count not)
 one_found frames own a (k ∷ ks) is one fits not f =
-    subst (λ (names : List Name). Refuses (took_found own a (next_in (with_found [] (k ∷ ks)) (names_after names (k ∷ ks)) a.plan.target)
+    subst (λ (names : List Name). Refuses (took_found own a (next_in (with_found [] (k ∷ ks)) (names_after names (k ∷ ks))
+    (plan_for a.call).target)
     f)) (sym one.names)
-    (subst (λ (names : List Name). Refuses (took_found own a (next_in (with_found [] (k ∷ ks)) names a.plan.target) f))
+    (subst (λ (names : List Name). Refuses (took_found own a (next_in (with_found [] (k ∷ ks)) names (plan_for a.call).target) f))
     (sym (none_after ks))
     (subst (λ (t : Target). Refuses (took_found own a (next_in (with_found [] (k ∷ ks)) [] t) f)) (sym one.target) tt))
 
@@ -380,8 +383,8 @@ read_refuses : (a : ActiveCall) (look : Look) (o : Option CompWord) → Refuses 
 read_refuses a look None = landed_refuses a (refuse refusal.Raced) tt
 read_refuses a look (Some life) = tt
 
-work_refuses : (own : Own) (a : ActiveCall) (decides : Bool) (work : Work) (found : ℕ) → decides ≡ decides_at_name a.plan.decides
-    → IsActive own a → work_ready a.plan a.found work ≡ false
+work_refuses : (own : Own) (a : ActiveCall) (decides : Bool) (work : Work) (found : ℕ) → decides ≡ decides_at_name (plan_for a.call).decides
+    → IsActive own a → work_ready (plan_for a.call) a.found work ≡ false
     → Refuses (took_work own a work found)
 work_refuses own a decides (Read comp look) found is active not = read_refuses a look _
 work_refuses own a decides (Scan q act) found is active not =
@@ -391,24 +394,24 @@ work_refuses own a decides (Acquire pin change act) found is active not =
 work_refuses own a decides (Act act) found is active not =
     landed_refuses a (took_act own.layout act found) (act_unready own.layout act found not)
 work_refuses own a false (Lookup look) found is active not =
-    look_refuses own a look found _ (λ last f. plain_found own a (ap (λ (p : Plan). decides_at_name p.decides) (sym active.plan) ∙ sym is)
+    look_refuses own a look found _ (λ last f. plain_found own a (sym is)
     _ f)
 work_refuses own a true (Lookup look) found is active not =
     look_refuses own a look found _ (λ last f.
     one_found own.layout.frames own a a.found refl
-    (subst OneName (sym active.plan) (one_name a.call (ap (λ (p : Plan). decides_at_name p.decides) (sym active.plan) ∙ sym is)))
+    (one_name a.call (sym is))
     active.found
-    (last_not _ (is_last look) (subst (λ b. (b && is_last_name a.plan a.found && is_last look) ≡ false) (sym is) not) last) f)
+    (last_not _ (is_last look) (subst (λ b. (b && is_last_name (plan_for a.call) a.found && is_last look) ≡ false) (sym is) not) last) f)
 
-next_refuses : (own : Own) (a : ActiveCall) (decides : Bool) → decides ≡ decides_at_name a.plan.decides → IsActive own a → a.found ≡ []
+next_refuses : (own : Own) (a : ActiveCall) (decides : Bool) → decides ≡ decides_at_name (plan_for a.call).decides → IsActive own a
+    → a.found ≡ []
     → Refuses (landed a (next_by own a))
 next_refuses own a false is active zero =
-    landed_refuses a _ (next_no own a.call a.found (next_of a.plan a.found)
-    (ap (λ (p : Plan). decides_at_name p.decides) (sym active.plan) ∙ sym is))
+    landed_refuses a _ (next_no own a.call a.found (next_of (plan_for a.call) a.found)
+    (sym is))
 next_refuses own a true is active zero =
-    landed_refuses a _ (subst (λ (f : List Capability). NoAnswer (next_step own a.call f (next_of a.plan f))) (sym zero)
-    (first_no own a.call a.plan (subst OneName (sym active.plan)
-    (one_name a.call (ap (λ (p : Plan). decides_at_name p.decides) (sym active.plan) ∙ sym is)))))
+    landed_refuses a _ (subst (λ (f : List Capability). NoAnswer (next_step own a.call f (next_of (plan_for a.call) f))) (sym zero)
+    (first_no own a.call (plan_for a.call) (one_name a.call (sym is))))
 
 first_refuses : (own : Own) (a : ActiveCall) (living : Bool) → IsActive own a → a.found ≡ [] → Refuses (took_first living own a)
 first_refuses own a true active zero = tt
@@ -416,7 +419,7 @@ first_refuses own a false active zero = next_refuses own a _ refl active zero
 
 enter_refuses : (own : Own) (a : ActiveCall) (spent : Bool) → IsActive own a → a.found ≡ [] → Refuses (took_enter spent own a)
 enter_refuses own a true active zero = tt
-enter_refuses own a false active zero = first_refuses own a a.plan.living active zero
+enter_refuses own a false active zero = first_refuses own a (plan_for a.call).living active zero
 
 alive_refuses : (own : Own) (a : ActiveCall) (alive : Alive) (end : StageEnd (Unit {0})) → IsActive own a → a.found ≡ []
     → Refuses (took_alive own a alive end)
@@ -426,7 +429,7 @@ alive_refuses own a alive (ends.Done x) active zero = next_refuses own a _ refl 
 alive_refuses own a alive (ends.Refuse r) active zero = landed_refuses a (refuse (refusal_of r)) tt
 
 stage_refuses : (own : Own) (a : ActiveCall) (stage : Stage) (found : ℕ) → IsActive own a → IsFirst stage a.found
-    → ready_at a.plan a.found stage ≡ false → Refuses (took_at own a stage found)
+    → ready_at (plan_for a.call) a.found stage ≡ false → Refuses (took_at own a stage found)
 stage_refuses own a Enter found active first not = enter_refuses own a _ active first
 stage_refuses own a (Living alive) found active first not =
     alive_refuses own a (alive_after alive found) (alive_end alive found) active first
@@ -632,13 +635,14 @@ zero_of (k ∷ ks) is = let more : length (k ∷ ks) + 1 ≡ 1 = eqb-true (lengt
 none_yet : (plan : Plan) (found : List Capability) → OneName plan → is_last_name plan found ≡ true → found ≡ []
 none_yet plan found one is = zero_of found (subst (λ (names : List Name). (length found + 1 == length names) ≡ true) one.names is)
 
-module _ (own : Own) (a : ActiveCall) (one : OneName a.plan) (zero : a.found ≡ []) (is : decides_at_name (plan_for a.call).decides ≡ true)
+module _ (own : Own) (a : ActiveCall) (one : OneName (plan_for a.call)) (zero : a.found ≡ [])
+    (is : decides_at_name (plan_for a.call).decides ≡ true)
   where
     one_over : (k : Capability) → IsOver (next_by own (found_more a (pushed a.found k)))
     one_over k =
-        subst (λ (f : List Capability). IsOver (next_step own a.call (pushed f k) (next_of a.plan (pushed f k)))) (sym zero)
+        subst (λ (f : List Capability). IsOver (next_step own a.call (pushed f k) (next_of (plan_for a.call) (pushed f k)))) (sym zero)
         (subst (λ (names : List Name). IsOver (next_step own a.call (k ∷ [])
-        (next_in (with_found [] (k ∷ [])) (names_after names (k ∷ [])) a.plan.target))) (sym one.names)
+        (next_in (with_found [] (k ∷ [])) (names_after names (k ∷ [])) (plan_for a.call).target))) (sym one.names)
         (subst (λ (t : Target). IsOver (next_step own a.call (k ∷ []) (next_in (with_found [] (k ∷ [])) [] t))) (sym one.target)
         (begun_over own a.call k is)))
 
@@ -646,13 +650,14 @@ module _ (own : Own) (a : ActiveCall) (one : OneName a.plan) (zero : a.found ≡
     met_decides (Finds k) = landed_decides (found_more a (pushed a.found k)) _ (one_over k)
     met_decides (Refused r) = tt
 
-    name_decides : (f : Found) → IsDecision (took_found own a (next_of a.plan a.found) f)
+    name_decides : (f : Found) → IsDecision (took_found own a (next_of (plan_for a.call) a.found) f)
     name_decides f =
-        subst (λ (found : List Capability). IsDecision (took_found own a (next_of a.plan found) f)) (sym zero)
-        (subst (λ (names : List Name). IsDecision (took_found own a (next_in [] names a.plan.target) f)) (sym one.names) (met_decides _))
+        subst (λ (found : List Capability). IsDecision (took_found own a (next_of (plan_for a.call) found) f)) (sym zero)
+        (subst (λ (names : List Name). IsDecision (took_found own a (next_in [] names (plan_for a.call).target) f)) (sym one.names)
+        (met_decides _))
 
 place_decides : (own : Own) (a : ActiveCall) (look : Look) (node index word : ℕ) (shown : Option Entry)
-    → ((f : Found) → IsDecision (took_found own a (next_of a.plan a.found) f))
+    → ((f : Found) → IsDecision (took_found own a (next_of (plan_for a.call) a.found) f))
     → IsDecision (took_end own a look (place_end node index word shown))
 place_decides own a look node index word None found = tt
 place_decides own a look node index word (Some entry.Free) found = found _
@@ -661,7 +666,7 @@ place_decides own a look node index word (Some (entry.Closing by)) found = tt
 place_decides own a look node index word (Some (entry.Quiescing stamp)) found = found _
 
 look_decides : (own : Own) (a : ActiveCall) (look : Look) (word : ℕ) (shown : Option Entry) → is_last look ≡ true
-    → ((f : Found) → IsDecision (took_found own a (next_of a.plan a.found) f)) → IsDecision (took_look own a look word shown)
+    → ((f : Found) → IsDecision (took_found own a (next_of (plan_for a.call) a.found) f)) → IsDecision (took_look own a look word shown)
 look_decides own a (AtRoot top number) word shown last found = absurd (cc)
 look_decides own a (AtLeaf leaf number) word shown last found = place_decides own a _ _ _ word shown found
 look_decides own a (AtEntry top index) word shown last found = place_decides own a _ _ _ word shown found
@@ -672,19 +677,19 @@ three true true false is = absurd (cc)
 three true false c is = absurd (cc)
 three false b c is = absurd (cc)
 
-work_decides : (own : Own) (a : ActiveCall) (work : Work) (found : ℕ) → IsActive own a → work_ready a.plan a.found work ≡ true
+work_decides : (own : Own) (a : ActiveCall) (work : Work) (found : ℕ) → IsActive own a → work_ready (plan_for a.call) a.found work ≡ true
     → IsDecision (took_work own a work found)
 work_decides own a (Read comp look) found active ready = absurd (cc)
 work_decides own a (Scan q act) found active ready = absurd (cc)
 work_decides own a (Acquire pin change act) found active ready = absurd (cc)
 work_decides own a (Act act) found active ready = act_decides own.layout a act found ready
 work_decides own a (Lookup look) found active ready =
-    let all = three (decides_at_name a.plan.decides) (is_last_name a.plan a.found) (is_last look) ready in
-    let is = ap (λ (p : Plan). decides_at_name p.decides) (sym active.plan) ∙ all.0 in
-    let one = subst OneName (sym active.plan) (one_name a.call is) in
-    look_decides own a look found _ all.2 (name_decides own a one (none_yet a.plan a.found one all.1) is)
+    let all = three (decides_at_name (plan_for a.call).decides) (is_last_name (plan_for a.call) a.found) (is_last look) ready in
+    let is = all.0 in
+    let one = one_name a.call is in
+    look_decides own a look found _ all.2 (name_decides own a one (none_yet (plan_for a.call) a.found one all.1) is)
 
-stage_decides : (own : Own) (a : ActiveCall) (stage : Stage) (found : ℕ) → IsActive own a → ready_at a.plan a.found stage ≡ true
+stage_decides : (own : Own) (a : ActiveCall) (stage : Stage) (found : ℕ) → IsActive own a → ready_at (plan_for a.call) a.found stage ≡ true
     → reply_at stage ≡ None → IsDecision (took_at own a stage found)
 stage_decides own a Enter found active ready not_yet = absurd (cc)
 stage_decides own a (Living alive) found active ready not_yet = absurd (cc)

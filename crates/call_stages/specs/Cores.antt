@@ -8,7 +8,6 @@ use Rattle.act_states.specs.word_map.specs.Word.{ClockAt}
 use Rattle.act_states.specs.word_map.specs.Moves.{Move, LoadOf}
 use Rattle.act_states.specs.kernel_rules.specs.Laws.{calls_counted}
 use Rattle.act_states.specs.kernel_rules.specs.Start.{grant_pair}
-use Rattle.act_states.specs.call_plans.specs.PlanOf.{plan_for}
 use Rattle.act_states.specs.declared.own.Own.{Own}
 use Rattle.act_states.specs.OwnChanges.{own_changed}
 use Rattle.call_stages.specs.declared.stages.Stage.TheVariants.{Enter}
@@ -58,7 +57,7 @@ end_of c = record {
 
 -- a call that has made no step
 abbrev pub fresh : Call → ActiveCall
-fresh call = record { steps = 0; stage = Enter; found = []; read = None; counts = []; call = call; plan = plan_for call }
+fresh call = record { steps = 0; stage = Enter; found = []; read = None; counts = []; call = call }
 
 -- the core that has begun this call
 abbrev pub begun : Core → Call → Core

@@ -105,7 +105,7 @@ left_of_look (AtEntry root entry) = 1
 
 -- the names of a call that have led to nothing yet
 abbrev pub names_left : ActiveCall → List Name
-names_left a = names_after a.plan.names a.found
+names_left a = names_after (plan_for a.call).names a.found
 
 -- the steps of the look-ups that come after that of the first of these names, or of the target where none is left
 abbrev pub looks_later : List Name → Target → ℕ
@@ -124,7 +124,7 @@ acts_later (name ∷ names) call n = act_steps call n
 
 -- the most steps that come after the look-up of a call, till it is decided and has stored what it has to
 abbrev pub steps_later : ℕ → ActiveCall → ℕ
-steps_later cores a = looks_later (names_left a) a.plan.target + acts_later (names_left a) a.call cores
+steps_later cores a = looks_later (names_left a) (plan_for a.call).target + acts_later (names_left a) a.call cores
 
 -- the steps of the acquiring of a count that are still to come
 abbrev pub left_of_pin : Pin → ℕ
@@ -147,8 +147,9 @@ left_of_alive (AtLive life) = 1
 
 -- the most steps of a call that are still to come at a stage, on so many cores; two are those of its exit
 abbrev pub left_at : ℕ → ActiveCall → Stage → ℕ
-left_at cores a Enter = 3 + living_steps a.plan.living + look_steps (names_left a) a.plan.target + act_steps a.call cores
-left_at cores a (Living alive) = 2 + left_of_alive alive + look_steps (names_left a) a.plan.target + act_steps a.call cores
+left_at cores a Enter =
+    3 + living_steps (plan_for a.call).living + look_steps (names_left a) (plan_for a.call).target + act_steps a.call cores
+left_at cores a (Living alive) = 2 + left_of_alive alive + look_steps (names_left a) (plan_for a.call).target + act_steps a.call cores
 left_at cores a (Undecided work) = 2 + length a.counts + work_left cores (steps_later cores a) (length a.counts) work
 left_at cores a (Decided r drawn tail) = 2 + length a.counts + tail_left tail
 left_at cores a (Leave r stamp) = 1
@@ -179,12 +180,11 @@ CountsAt counts (Undecided work) = CountsWait counts work
 CountsAt counts (Decided r drawn tail) = Unit {0}
 CountsAt counts (Leave r stamp) = counts ≡ []
 
--- the call of a core: it is in its limits and goes by its plan, its stage fits the core, and the steps made and those to come are
--- within its bound
+-- the call of a core: it is in its limits, what it has found is what its plan wants, its stage fits the core, and the steps made and
+-- those to come are within its bound
 pub record IsActive (own : Own) (a : ActiveCall) : Type 0 where
   pub limits : InLimits a.call
-  pub plan : a.plan ≡ plan_for a.call
-  pub found : FoundFits own.layout.frames a.plan a.found
+  pub found : FoundFits own.layout.frames (plan_for a.call) a.found
   pub first : IsFirst a.stage a.found
   pub stage : StageFits own.layout a.stage
   pub acquired : AllFit own.layout a.counts

@@ -54,6 +54,7 @@ use Rattle.act_states.specs.WorkSteps.{refuse}
 use Rattle.act_states.specs.Acts.{act_move, took_act, act_ready, next_work, starts, undo}
 use Rattle.act_states.specs.Lookups.{next_step, met_name, met_free, met_held}
 use Rattle.call_stages.specs.Tails.{tail_move, took_tail, tail_counts}
+use Rattle.act_states.specs.call_plans.specs.PlanOf.{plan_for}
 
 -- the word of a core that is or is not inside a call, with the stamp of its last exit
 abbrev pub core_word : Bool → ℕ → ℕ
@@ -113,7 +114,7 @@ read_more a epoch = record a { read = Some epoch }
 
 -- what comes next of a core's call
 abbrev pub next_by : Own → ActiveCall → WorkStep
-next_by own a = next_step own a.call a.found (next_of a.plan a.found)
+next_by own a = next_step own a.call a.found (next_of (plan_for a.call) a.found)
 
 -- what comes first of a core's call: it is asked whether its component lives, where its plan says so
 abbrev pub took_first : Bool → Own → ActiveCall → Took
@@ -121,7 +122,7 @@ took_first living own a = if living then GoesOn (went a (Living (AtComp own.comp
 
 -- at its entry a call is refused where the core's calls are spent
 abbrev pub took_enter : Bool → Own → ActiveCall → Took
-took_enter spent own a = if spent then landed a (refuse refusal.CallsSpent) else took_first a.plan.living own a
+took_enter spent own a = if spent then landed a (refuse refusal.CallsSpent) else took_first (plan_for a.call).living own a
 
 -- what a call takes from a step of the question whether its component lives, which stands here after it
 abbrev pub took_alive : Own → ActiveCall → Alive → StageEnd (Unit {0}) → Took
@@ -147,7 +148,7 @@ took_found own a NextNothing f = landed a (refuse refusal.Raced)
 abbrev pub took_end : Own → ActiveCall → Look → StageEnd Found → Took
 took_end own a look ends.Going = landed a (Goes (Lookup look))
 took_end own a look (ends.Decided r) = landed a (refuse (refusal_of r))
-took_end own a look (ends.Done f) = took_found own a (next_of a.plan a.found) f
+took_end own a look (ends.Done f) = took_found own a (next_of (plan_for a.call) a.found) f
 took_end own a look (ends.Refuse r) = landed a (refuse (refusal_of r))
 
 -- what a call takes from a step of a look-up that has found this word, which shows this
@@ -248,4 +249,4 @@ ready_at plan found (Decided r drawn tail) = true
 ready_at plan found (Leave r stamp) = true
 
 abbrev pub is_ready : ActiveCall → Bool
-is_ready a = ready_at a.plan a.found a.stage
+is_ready a = ready_at (plan_for a.call) a.found a.stage

@@ -1,6 +1,6 @@
 //! Where a call stands between two of its steps.
 
-use act_states::call_plans::{Caps, Plan};
+use act_states::call_plans::Caps;
 use act_states::stage_pins::AcquiredCounts;
 use act_states::stage_thread::Alive;
 use act_states::{OwnChange, Tail, Work};
@@ -48,8 +48,6 @@ pub struct ActiveCall {
     pub counts: AcquiredCounts,
     /// The call.
     pub call: Call,
-    /// Its plan.
-    pub plan: Plan,
 }
 
 /// What a step of a call led to, as its core needs it.

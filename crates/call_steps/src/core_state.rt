@@ -15,7 +15,7 @@ use crate::steps::{absorb, is_ready, stage_op};
 use spk_nums::{Call, CoreEnd, CoreNo, FrameNo, Reply, Setup, Stamp, Translations, WordOp};
 use std::marker::Model;
 use step_looks::act_states::Own;
-use step_looks::call_plans::{Caps, plan_of};
+use step_looks::call_plans::Caps;
 use step_looks::call_stages::{Absorbed, ActiveCall, Stage, Told};
 use step_looks::stage_pins::AcquiredCounts;
 use step_looks::word_map::Layout;
@@ -85,7 +85,6 @@ impl CoreState {
         ensures state { self.new ≡ begun self.old call }
         ensures fits { IsCore self.new }
     {
-        let plan = plan_of(&call);
         self.active = Some(ActiveCall {
             steps: 0,
             stage: Stage::Enter,
@@ -93,7 +92,6 @@ impl CoreState {
             read: None,
             counts: AcquiredCounts::none(),
             call,
-            plan,
         });
     }
 

@@ -2,6 +2,7 @@
 
 ghost use Rattle.spk_nums.specs.WordSteps.{place_in};
 ghost use Rattle.std.specs.Prelude.{◌<◌, ◌≡◌, ◌≤◌};
+ghost use Rattle.step_looks.specs.call_plans.specs.PlanOf.{plan_for};
 ghost use Rattle.step_looks.specs.call_stages.specs.Fits.{StageFits, WorkFits};
 ghost use Rattle.step_looks.specs.call_stages.specs.Steps.{call_after, core_word, decides_at_name, is_last, is_ready, stage_move, told};
 ghost use Rattle.step_looks.specs.call_stages.specs.Steps.{took, work_move, work_ready};
@@ -15,7 +16,7 @@ use step_ends::act_step;
 use step_ends::call_acts::{act_op, act_ready};
 use step_ends::step_lands::goes_on;
 use step_looks::act_states::{Act, Own, Work};
-use step_looks::call_plans::Decides;
+use step_looks::call_plans::{Decides, plan_of};
 use step_looks::call_stages::{ActiveCall, Stage, Told};
 use step_looks::frame_words::CoreWord;
 use step_looks::stage_look::Look;
@@ -127,12 +128,13 @@ pub fn is_ready(active: &ActiveCall) -> bool
 // Whether the next step of its work is the one that decides the call's `ok`.
 #[inline]
 fn work_ready(active: &ActiveCall, work: &Work) -> bool
-    ensures { result ≡ work_ready active.now.plan active.now.found work.now }
+    ensures { result ≡ work_ready (plan_for active.now.call) active.now.found work.now }
 {
     match work {
         Work::Lookup { look } => {
-            decides_at_name(active.plan.decides)
-                && active.found.count() + 1 == active.plan.names.count()
+            let plan = plan_of(&active.call);
+            decides_at_name(plan.decides)
+                && active.found.count() + 1 == plan.names.count()
                 && is_last(look)
         }
         Work::Read { comp: _, look: _ } => false,

@@ -32,6 +32,7 @@ use Rattle.scan_invariant.specs.place_invariant.proofs.Vacancy.{in_leaf}
 use Rattle.state_laws.specs.kernel_rules.specs.Start.{plain_cap}
 use Rattle.state_laws.specs.kernel_rules.specs.Edits.{Component as component_edit, Fill as fill_edit}
 use Rattle.state_laws.specs.spk_nums.specs.declared.replies.Value.TheVariants.{Nothing as no_value}
+use Rattle.scan_invariant.specs.act_states.specs.call_plans.specs.PlanOf.{plan_for}
 
 module _ (setup : Setting) (setting : IsSetting setup) (cores : ℕ → Core) (t : Trace) (stands : Invariant setup cores t) (c : ℕ)
     (here : c < setup.cores)
@@ -40,7 +41,7 @@ module _ (setup : Setting) (setting : IsSetting setup) (cores : ℕ → Core) (t
   abbrev s : State
   s = state_after setup t
 
-  abbrev pub knows : KnowsComp setup t c a.call a.plan a.found setup.cores m
+  abbrev pub knows : KnowsComp setup t c a.call (plan_for a.call) a.found setup.cores m
   knows = has.knows.knows
 
   abbrev slot : Slot
@@ -82,20 +83,20 @@ module _ (setup : Setting) (setting : IsSetting setup) (cores : ℕ → Core) (t
   pub epochs_are : m.epochs ≡ s.limits.epochs
   epochs_are = knows.epochs ∙ sym (ap (λ l. l.epochs) (limits_of setup t))
 
-  pub leads : Leads (LeadsIn s c) a.plan.names [] a.found
+  pub leads : Leads (LeadsIn s c) (plan_for a.call).names [] a.found
   leads = plan_leads setup setting cores t stands c here a active has.names
 
-  pub by_plan : GoesBy (own_pages s c) a.plan (rule_of s c a.call)
+  pub by_plan : GoesBy (own_pages s c) (plan_for a.call) (rule_of s c a.call)
   by_plan = goes_by setup setting cores t stands c here a active has.names
 
-  plan_call : a.plan ≡ plan_for (make_call (make_of.Comp is.x is.p m.number) is.name m.frame is.root is.slot)
-  plan_call = (is_active setup setting cores t stands c here a active).plan ∙ ap plan_for is.call_is
+  plan_call : plan_for a.call ≡ plan_for (make_call (make_of.Comp is.x is.p m.number) is.name m.frame is.root is.slot)
+  plan_call = ap plan_for is.call_is
 
   pub make : IsCompMake s c is.name m.frame is.root is.slot is.x is.p m.number a.found
   make = comp_make s c is.name m.frame is.root is.slot is.x is.p m.number a.found
       (subst (λ (p : Plan). Leads (LeadsIn s c) p.names [] a.found) plan_call leads)
       (subst (λ (p : Plan). names_after p.names a.found ≡ []) plan_call
-      (none_left_of a.plan a.found knows.spot.target knows.spot.next))
+      (none_left_of (plan_for a.call) a.found knows.spot.target knows.spot.next))
 
   same_caps : (k j i h : Capability) (k' j' i' h' : Capability) → k ∷ j ∷ i ∷ h ∷ [] ≡ k' ∷ j' ∷ i' ∷ h' ∷ []
       → (k ≡ k') × (i ≡ i') × (h ≡ h')
@@ -138,7 +139,7 @@ module _ (setup : Setting) (setting : IsSetting setup) (cores : ℕ → Core) (t
 
   pub target_slot : target_of s c (rule_of s c a.call) ≡ Some slot
   target_slot = subst (λ x. IsTargetOf s c x (target_of s c (rule_of s c a.call))) knows.spot.next
-      (target_is_of s c (own_pages s c) a.plan (rule_of s c a.call) a.found by_plan leads)
+      (target_is_of s c (own_pages s c) (plan_for a.call) (rule_of s c a.call) a.found by_plan leads)
       ∙ knows.spot.way.reached
 
   -- the change that it makes, and what comes of the call where its target is vacant
@@ -152,7 +153,7 @@ module _ (setup : Setting) (setting : IsSetting setup) (cores : ℕ → Core) (t
   pub by_blank : vacant s c target ≡ Found slot → (blank : Bool) → is_blank (s.frame m.frame) ≡ blank
       → change_of s c a.call ≡ unless (first_of (if not blank then Some reply.FrameKind else None) taken) change
   by_blank free blank at_frame =
-      outcome_left s c (own_pages s c) a.plan (rule_of s c a.call) a.found by_plan leads ∙ ap (outcome s c) left
+      outcome_left s c (own_pages s c) (plan_for a.call) (rule_of s c a.call) a.found by_plan leads ∙ ap (outcome s c) left
       ∙ ap (λ x. and_then x λ at. unless (first_of (if not (has_frame (found make.range) m.frame) then Some reply.OutOfRange else None)
       (first_cause s c (not_blank s m.frame ∷ not_taken s m.number)))
       (does c s no_value (component_edit m.frame (new_comp s m.table m.pages m.number) ∷ fill_edit at (plain_cap kind.Comp m.frame)
@@ -169,7 +170,7 @@ module _ (setup : Setting) (setting : IsSetting setup) (cores : ℕ → Core) (t
 
   -- a cause for which its number is not taken may refuse it
   pub may_refuse : (r : Reply) → OneMay s c (not_taken s m.number) r → RuleMay s c (rule_of s c a.call) r
-  may_refuse r may = left_may s c (own_pages s c) a.plan (rule_of s c a.call) a.found by_plan leads r
+  may_refuse r may = left_may s c (own_pages s c) (plan_for a.call) (rule_of s c a.call) a.found by_plan leads r
       (subst (λ x. RuleMay s c x r) (sym left) (inr (inr (inr may))))
 
   -- its table and its pages are such

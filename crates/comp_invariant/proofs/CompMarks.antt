@@ -41,6 +41,7 @@ use Rattle.scan_invariant.specs.count_invariant.proofs.CompCounts.{IsCompCall, m
 use Rattle.scan_invariant.specs.place_invariant.proofs.Outside.{vacant_slot, vacant_here, stands_alone}
 use Rattle.comp_invariant.proofs.CompCalls as calls
 use Rattle.frame_invariant.proofs.Makes.{made_looks, not_blank_by, not_kernel_by, marked_fits}
+use Rattle.scan_invariant.specs.act_states.specs.call_plans.specs.PlanOf.{plan_for}
 
 module _ (setup : Setting) (setting : IsSetting setup) (cores : ℕ → Core) (t : Trace) (stands : Invariant setup cores t) (c : ℕ)
     (here : c < setup.cores)
@@ -55,7 +56,7 @@ module _ (setup : Setting) (setting : IsSetting setup) (cores : ℕ → Core) (t
   abbrev was : ℕ
   was = last_left setup t (FrameAt f)
 
-  abbrev knows : KnowsComp setup t c a.call a.plan a.found setup.cores m
+  abbrev knows : KnowsComp setup t c a.call (plan_for a.call) a.found setup.cores m
   knows = has.knows.knows
 
   abbrev node : ℕ
@@ -98,9 +99,9 @@ module _ (setup : Setting) (setting : IsSetting setup) (cores : ℕ → Core) (t
   -- where it goes on, what it knows of its target it still knows after a step on another word
   goes_on_at : (e : Step) → e.core ≡ c → e.enters ≡ None → EntryAt node index ≢ word_of e.move → Carries setup t e c → (at : CompAt)
       → KnowsCompAt setup (e ∷ t) c m at
-      → KnowsComp setup (e ∷ t) c a.call a.plan a.found setup.cores (record m { at = at })
+      → KnowsComp setup (e ∷ t) c a.call (plan_for a.call) a.found setup.cores (record m { at = at })
   goes_on_at e own no_entry there carries at now = record {
-    spot = spot_on setup setting t e stands.legal c a.call is_open carries a.plan a.found setup.cores node index m.fill.word
+    spot = spot_on setup setting t e stands.legal c a.call is_open carries (plan_for a.call) a.found setup.cores node index m.fill.word
         (own_read-there c e t (sym own) (EntryAt node index) there ∙ ap (λ o. cond (is_some o) None (own_read t c (EntryAt node index)))
         no_entry)
         knows.spot;
@@ -155,7 +156,7 @@ module _ (setup : Setting) (setting : IsSetting setup) (cores : ℕ → Core) (t
             (lt-ltb f s.limits.frames (calls.below setup setting cores t stands c here a active m stage_is has)) ∙ ap (λ b. not b) other
 
         may : RuleMay s c (rule_of s c a.call) reply.FrameKind
-        may = left_may s c (own_pages s c) a.plan (rule_of s c a.call) a.found
+        may = left_may s c (own_pages s c) (plan_for a.call) (rule_of s c a.call) a.found
             (calls.by_plan setup setting cores t stands c here a active m stage_is has)
             (calls.leads setup setting cores t stands c here a active m stage_is has) reply.FrameKind
             (subst (λ x. RuleMay s c x reply.FrameKind) (sym (calls.left setup setting cores t stands c here a active m stage_is has))
@@ -181,7 +182,7 @@ module _ (setup : Setting) (setting : IsSetting setup) (cores : ℕ → Core) (t
         (Undecided (Act (comp_act (record m { at = Mark was })))) loading lands (sym held_is) opens
         (λ carries. record {
           acts = has.acts;
-          names = names_on setup setting t e stands.legal c a.call is_open carries (cores c).own.table a.plan a.found has.names;
+          names = names_on setup setting t e stands.legal c a.call is_open carries (cores c).own.table (plan_for a.call) a.found has.names;
           knows = record {
             knows = goes_on_at e refl refl (λ h. cc) carries (Mark was) (record {
               own = own_read-here c e t refl (FrameAt f) refl ∙ ap (λ b. if b then Some was else None) (eq-eqb was was refl);
@@ -306,7 +307,7 @@ module _ (setup : Setting) (setting : IsSetting setup) (cores : ℕ → Core) (t
         opens
         (λ carries. record {
           acts = has.acts;
-          names = names_on setup setting t e stands.legal c a.call is_open carries (cores c).own.table a.plan a.found has.names;
+          names = names_on setup setting t e stands.legal c a.call is_open carries (cores c).own.table (plan_for a.call) a.found has.names;
           knows = knows_next setup (e ∷ t) c (cores c).own.table next m.core act (dues act) knows.core
               (goes_on_at e refl refl (λ h. cc) carries (LoadLive word) met.says)
               (ap (λ (xs : List Acquired). map due_of xs ++ dues act) (sym no_counts))

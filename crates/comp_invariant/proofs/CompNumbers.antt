@@ -50,6 +50,7 @@ use Rattle.scan_invariant.specs.count_invariant.proofs.MakingCounts.{blank_left}
 use Rattle.scan_invariant.specs.place_invariant.proofs.Vacancy.{none_waits}
 use Rattle.comp_invariant.proofs.LaterEvents.{IsSpent, spent_at, spent_now}
 use Rattle.scan_invariant.specs.kernel_history.specs.Graces.{GraceIs}
+use Rattle.scan_invariant.specs.act_states.specs.call_plans.specs.PlanOf.{plan_for}
 
 -- A liveness number waits for no flush.
 number_awaits : (setup : Setting) (t : Trace) (l : ℕ) → awaits_flushes setup t (NumberOf l) ≡ false
@@ -154,7 +155,7 @@ module _ (setup : Setting) (setting : IsSetting setup) (cores : ℕ → Core) (t
   abbrev slot : Slot
   slot = record { node = node; index = index }
 
-  abbrev knows : KnowsComp setup t c a.call a.plan a.found setup.cores m
+  abbrev knows : KnowsComp setup t c a.call (plan_for a.call) a.found setup.cores m
   knows = has.knows.knows
 
   is : IsCompCall a.call a.found m
@@ -249,10 +250,11 @@ module _ (setup : Setting) (setting : IsSetting setup) (cores : ℕ → Core) (t
         (holds_so ∙ sym held_is) opens
         (λ carries. record {
           acts = has.acts;
-          names = names_on setup setting t e stands.legal c a.call is_open carries (cores c).own.table a.plan a.found has.names;
+          names = names_on setup setting t e stands.legal c a.call is_open carries (cores c).own.table (plan_for a.call) a.found has.names;
           knows = record {
             knows = record {
-              spot = spot_on setup setting t e stands.legal c a.call is_open carries a.plan a.found setup.cores node index m.fill.word
+              spot = spot_on setup setting t e stands.legal c a.call is_open carries (plan_for a.call) a.found setup.cores node index
+                  m.fill.word
                   (own_read-there c e t refl (EntryAt node index) there) knows.spot;
               makes = makes_comp_on a.call a.found m next knows.makes;
               core = knows.core;
@@ -447,7 +449,7 @@ module _ (setup : Setting) (setting : IsSetting setup) (cores : ℕ → Core) (t
 
       asks : IsTrue (list_any (same_thing thing) (asked_of waited_in s c (rule_of s c a.call)))
       asks = subst (λ things. IsTrue (list_any (same_thing thing) things))
-          (sym (asked_left s c (own_pages s c) a.plan (rule_of s c a.call) a.found
+          (sym (asked_left s c (own_pages s c) (plan_for a.call) (rule_of s c a.call) a.found
           (calls.by_plan setup setting cores t stands c here a active m stage_is has)
           (calls.leads setup setting cores t stands c here a active m stage_is has) waited_in))
           (subst (λ r. IsTrue (list_any (same_thing thing) (asked_of waited_in s c r)))

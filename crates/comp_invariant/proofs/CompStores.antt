@@ -47,6 +47,7 @@ use Rattle.scan_invariant.specs.frame_words.specs.Comp.{word_of_comp}
 use Rattle.comp_invariant.proofs.CompNumbers.{no_number}
 use Rattle.scan_invariant.specs.frame_words.proofs.CompLemmas as comps
 use Rattle.state_laws.specs.spk_nums.specs.declared.calls.Make.TheVariants as make
+use Rattle.scan_invariant.specs.act_states.specs.call_plans.specs.PlanOf.{plan_for}
 
 none_some : (d : ℕ) → None ≡ Some d → ⊥
 none_some d h = cc
@@ -67,7 +68,7 @@ module _ (setup : Setting) (setting : IsSetting setup) (cores : ℕ → Core) (t
   abbrev l : ℕ
   l = m.number
 
-  abbrev knows : KnowsComp setup t c a.call a.plan a.found setup.cores m
+  abbrev knows : KnowsComp setup t c a.call (plan_for a.call) a.found setup.cores m
   knows = has.knows.knows
 
   abbrev was : ℕ
@@ -186,10 +187,11 @@ module _ (setup : Setting) (setting : IsSetting setup) (cores : ℕ → Core) (t
         opens
         (λ carries. record {
           acts = has.acts;
-          names = names_on setup setting t e stands.legal c a.call is_open carries (cores c).own.table a.plan a.found has.names;
+          names = names_on setup setting t e stands.legal c a.call is_open carries (cores c).own.table (plan_for a.call) a.found has.names;
           knows = record {
             knows = record {
-              spot = spot_on setup setting t e stands.legal c a.call is_open carries a.plan a.found setup.cores m.fill.node m.fill.entry
+              spot = spot_on setup setting t e stands.legal c a.call is_open carries (plan_for a.call) a.found setup.cores m.fill.node
+                  m.fill.entry
                   m.fill.word (own_read-there c e t refl (EntryAt m.fill.node m.fill.entry) (λ h. cc)) knows.spot;
               makes = makes_comp_on a.call a.found m now_at knows.makes;
               core = knows.core;
@@ -281,7 +283,7 @@ module _ (setup : Setting) (setting : IsSetting setup) (cores : ℕ → Core) (t
   abbrev e : Step
   e = inner setup setting cores t stands c here a active store None None
 
-  abbrev known : KnowsComp setup t c a.call a.plan a.found setup.cores m
+  abbrev known : KnowsComp setup t c a.call (plan_for a.call) a.found setup.cores m
   known = has.knows.knows
 
   at_store : KnowsCompAt setup t c m (Store word last n)
@@ -378,10 +380,11 @@ module _ (setup : Setting) (setting : IsSetting setup) (cores : ℕ → Core) (t
       (spares_blank setup t e f n refl blank own_mark)
       (λ carries. record {
         acts = has.acts;
-        names = names_on setup setting t e stands.legal c a.call open_now carries (cores c).own.table a.plan a.found has.names;
+        names = names_on setup setting t e stands.legal c a.call open_now carries (cores c).own.table (plan_for a.call) a.found has.names;
         knows = record {
           knows = record {
-            spot = spot_on setup setting t e stands.legal c a.call open_now carries a.plan a.found setup.cores node index m.fill.word
+            spot = spot_on setup setting t e stands.legal c a.call open_now carries (plan_for a.call) a.found setup.cores node index
+                m.fill.word
                 (own_read-there c e t refl (EntryAt node index) (λ h. apart (same_frame node index (sym h)))) known.spot;
             makes = makes_comp_on a.call a.found m (comp_stored word last n) known.makes;
             core = known.core;
@@ -418,7 +421,7 @@ module _ (setup : Setting) (setting : IsSetting setup) (cores : ℕ → Core) (t
   abbrev found_there : ℕ
   found_there = last_left setup t (EntryAt m.fill.node m.fill.entry)
 
-  abbrev so : KnowsComp setup t c a.call a.plan a.found setup.cores m
+  abbrev so : KnowsComp setup t c a.call (plan_for a.call) a.found setup.cores m
   so = has.knows.knows
 
   pub at_fill : KnowsCompAt setup t c m (Fill word last)
@@ -435,7 +438,7 @@ module _ (setup : Setting) (setting : IsSetting setup) (cores : ℕ → Core) (t
     moves = changes_node a.call (st_now.frame m.fill.node) (comp_places a.call a.found m call_of)
         (calls.in_node setup setting cores t stands c here a active m stage_is has);
     footprint = inl (footprint_way st_now c a.call m.fill.node m.fill.entry
-        (next_on_way st_now c (own_pages st_now c) a.plan (rule_of st_now c a.call)
+        (next_on_way st_now c (own_pages st_now c) (plan_for a.call) (rule_of st_now c a.call)
         a.found
         (calls.by_plan setup setting cores t stands c here a active m stage_is has)
         (calls.leads setup setting cores t stands c here a active m stage_is has) so.spot.target m.fill.node m.fill.entry

@@ -80,6 +80,7 @@ use Rattle.scan_invariant.specs.frame_words.proofs.LiveLemmas as lives_words
 use Rattle.state_laws.specs.kernel_rules.specs.Start.{plain_cap}
 use Rattle.state_laws.specs.kernel_rules.specs.Edits.{Component as component_edit, Fill as fill_edit}
 use Rattle.state_laws.specs.kernel_rules.specs.Rules.{does}
+use Rattle.scan_invariant.specs.act_states.specs.call_plans.specs.PlanOf.{plan_for}
 
 abbrev due_by : ℕ → ℕ → Due
 due_by f n = record { frame = f; change = pos n }
@@ -111,7 +112,7 @@ module _ (setup : Setting) (setting : IsSetting setup) (cores : ℕ → Core) (t
   abbrev k : Capability
   k = m.fill.cap
 
-  abbrev knows : KnowsComp setup t c a.call a.plan a.found setup.cores m
+  abbrev knows : KnowsComp setup t c a.call (plan_for a.call) a.found setup.cores m
   knows = has.knows.knows
 
   abbrev was : ℕ
@@ -646,11 +647,11 @@ module _ (setup : Setting) (setting : IsSetting setup) (cores : ℕ → Core) (t
     )
 
     gone : HasReached (e ∷ t) c (ways s c (rule_of s c a.call))
-    gone = all_ways s c (own_pages s c) (e ∷ t) a.plan (rule_of s c a.call) a.found
+    gone = all_ways s c (own_pages s c) (e ∷ t) (plan_for a.call) (rule_of s c a.call) a.found
         (calls.by_plan setup setting cores t stands c here a active m stage_is has)
         (leads_by (λ n wanted q. HasFound setup t c (own_in (cores c).own.table n) wanted q)
         (λ n wanted q. LeadsIn s c n wanted q × HasReached (e ∷ t) c (way_to s c (own s c n)))
-        own_gone a.plan.names [] a.found has.names)
+        own_gone (plan_for a.call).names [] a.found has.names)
         (subst (λ x. HasReached (e ∷ t) c (ways s c x)) (sym (calls.left setup setting cores t stands c here a active m stage_is has))
         (subst (λ target. HasReached (e ∷ t) c (way_to s c target))
         (sym (calls.target_is setup setting cores t stands c here a active m stage_is has))

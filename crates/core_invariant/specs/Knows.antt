@@ -122,6 +122,7 @@ use Rattle.core_invariant.specs.Holding.{count_of, holds_counts, AreApart}
 pub use Rattle.core_invariant.specs.Components.{HasComp, HasLife, IsRead, ReadIs, KnowsInvoking, KnowsReturning}
 use Rattle.core_invariant.specs.Threads.{KnowsSwitch, KnowsRunning, KnowsIdle}
 use Rattle.core_invariant.specs.Sweeps.{KnowsUntyping, KnowsRelease}
+use Rattle.act_fits.specs.call_plans.specs.PlanOf.{plan_for}
 pub use Rattle.core_invariant.specs.Reaching.{root_frame, ReliesOn, IsReached, HasFound, IsAtRoot, IsAtLeaf, IsAtEntry}
 pub use Rattle.core_invariant.specs.Reaching.{LookIs, LooksUp, own_in, NamesAre, LooksFor, HasPassed, HasFlushed}
 pub use Rattle.core_invariant.specs.Reaching.{IsScanned, MayFill, IsSpot, IsUser, HasUser, IsFill, untypes, is_mapping}
@@ -208,7 +209,7 @@ scanned_for act = PlaceOf 0 0
 -- scanned where the place is one of a page table.
 pub record KnowsScan (setup : Setting) (t : Trace) (c : ℕ) (a : ActiveCall) (at by upto flushes : ℕ) (page : Bool) (act : ActOf) :
     Type 0 where
-  pub knows : KnowsAct setup t c a.call a.plan a.found flushes act
+  pub knows : KnowsAct setup t c a.call (plan_for a.call) a.found flushes act
   pub core : by ≡ c
   pub stamp : stamp_of_act act ≡ at
   pub starts : is_start act ≡ true
@@ -249,7 +250,7 @@ AreDuesApart (d ∷ ds) = All (λ x. d.frame ≢ x.frame) ds × AreDuesApart ds
 
 -- The counts acquired so far are the first that the act changes; this one is the next, and is not among them.
 pub record KnowsCount (setup : Setting) (t : Trace) (c : ℕ) (a : ActiveCall) (pin : Pin) (change : ℤ) (act : ActOf) : Type 0 where
-  pub knows : KnowsAct setup t c a.call a.plan a.found setup.cores act
+  pub knows : KnowsAct setup t c a.call (plan_for a.call) a.found setup.cores act
   pub rest : List Due
   pub due : dues act ≡ map due_of a.counts ++ record { frame = pin_frame pin; change = change } ∷ rest
   pub apart : AreDuesApart (dues act)
@@ -260,7 +261,7 @@ pub record KnowsCount (setup : Setting) (t : Trace) (c : ℕ) (a : ActiveCall) (
 
 -- All counts that the act changes are acquired.
 pub record KnowsActing (setup : Setting) (t : Trace) (c : ℕ) (a : ActiveCall) (act : ActOf) : Type 0 where
-  pub knows : KnowsAct setup t c a.call a.plan a.found setup.cores act
+  pub knows : KnowsAct setup t c a.call (plan_for a.call) a.found setup.cores act
   pub all : dues act ≡ map due_of a.counts
   pub goes : goes_on act ≡ true
 
@@ -273,13 +274,13 @@ ReadBefore s c reads read (NextOwn v) = Unit {0}
 ReadBefore s c reads read NextNothing = Unit {0}
 
 pub record KnowsLookup (setup : Setting) (t : Trace) (c table : ℕ) (a : ActiveCall) (look : Look) : Type 0 where
-  pub looks : LooksFor setup t c table (next_of a.plan a.found) look
-  pub has_read : ReadBefore (state_after setup t) c (reads_of a.call a.found) a.read (next_of a.plan a.found)
+  pub looks : LooksFor setup t c table (next_of (plan_for a.call) a.found) look
+  pub has_read : ReadBefore (state_after setup t) c (reads_of a.call a.found) a.read (next_of (plan_for a.call) a.found)
 
 -- What a call knows that is to read the word of this component before this look-up of its target.
 pub record KnowsReading (setup : Setting) (t : Trace) (c : ℕ) (a : ActiveCall) (f : ℕ) (look : Look) : Type 0 where
   pub target : Target
-  pub next : next_of a.plan a.found ≡ NextFree target
+  pub next : next_of (plan_for a.call) a.found ≡ NextFree target
   pub looks : LooksUp setup t c target look
   pub reads : reads_of a.call a.found ≡ Some f
   pub comp : HasComp (state_after setup t) c f
@@ -306,7 +307,7 @@ pub record KnowsAlive (s : State) (c : ℕ) (call : Call) (alive : Alive) : Type
 -- have led to what it has found, and what it knows of its work.
 pub record KnowsUndecided (setup : Setting) (t : Trace) (c table : ℕ) (a : ActiveCall) (work : Work) : Type 0 where
   pub acts : IsTrue (acts (state_after setup t) c a.call)
-  pub names : NamesAre setup t c table a.plan a.found
+  pub names : NamesAre setup t c table (plan_for a.call) a.found
   pub knows : KnowsWork setup t c table a work
 
 -- The node of an entry that is still to be stored is relied on, in the call's footprint at a moment of it, and the call is one that

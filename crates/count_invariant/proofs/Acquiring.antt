@@ -80,6 +80,7 @@ use Rattle.step_ways.proofs.Loads.{IsOfCall, Lands, step_to, core_in_call, inner
 use Rattle.step_ways.proofs.Refusals.{GoodTook, IsRefusing, ticks_in, ticks_at, raced_knowing, busy_knowing}
 use Rattle.count_invariant.proofs.PutCounts.{put_counts, put_footprint}
 use Rattle.count_invariant.proofs.DueLists.{get_after, get_none, after_none, after_one, map_more, map_length, not_acquired}
+use Rattle.step_ways.specs.call_plans.specs.PlanOf.{plan_for}
 
 -- The count of one frame is due once.
 pub one_apart : (ds : List Due) → length ds ≤ 1 → AreDuesApart ds
@@ -89,7 +90,7 @@ one_apart (d ∷ e ∷ ds) few = absurd (omega arith)
 
 -- What a call knows that has acquired the first of the counts which its act changes: it acquires the next, or goes on to its act.
 pub knows_next : (setup : Setting) (t : Trace) (c table : ℕ) (a : ActiveCall) (core : ℕ) (act : ActOf) (rest : List Due) → core ≡ c
-    → KnowsAct setup t c a.call a.plan a.found setup.cores act
+    → KnowsAct setup t c a.call (plan_for a.call) a.found setup.cores act
     → dues act ≡ map due_of a.counts ++ rest → AreDuesApart (dues act) → (n : ℕ) → n ≡ length a.counts → is_counting act ≡ true
     → goes_on act ≡ true → KnowsWork setup t c table a (next_work core n act)
 knows_next setup t c table a core act [] own knows prefix apart n is starts goes =
@@ -293,9 +294,9 @@ module _ (setup : Setting) (setting : IsSetting setup) (cores : ℕ → Core) (t
       (sym held_is) opens
       (λ carries. record {
         acts = has.acts;
-        names = names_on setup setting t e stands.legal c a.call is_open carries (cores c).own.table a.plan a.found has.names;
+        names = names_on setup setting t e stands.legal c a.call is_open carries (cores c).own.table (plan_for a.call) a.found has.names;
         knows = record {
-          knows = act_on setup setting t e stands.legal c a.call is_open carries a.call a.plan a.found setup.cores act
+          knows = act_on setup setting t e stands.legal c a.call is_open carries a.call (plan_for a.call) a.found setup.cores act
               (reads_kept e refl refl refl (users_kept setup t e c (λ f. refl) (λ f k held. loaded_same f k))
               (λ f. record { frame = refl; place = λ i node. refl })
               (record { guards = λ f has. has; rests = λ f claimed has. refl })) has.knows.knows;
@@ -442,10 +443,11 @@ module _ (setup : Setting) (setting : IsSetting setup) (cores : ℕ → Core) (t
           opens
           (λ carries. record {
             acts = has.acts;
-            names = names_on setup setting t e stands.legal c a.call is_open carries (cores c).own.table a.plan a.found has.names;
+            names = names_on setup setting t e stands.legal c a.call is_open carries (cores c).own.table (plan_for a.call) a.found
+                has.names;
             knows = knows_next setup (e ∷ t) c (cores c).own.table (more grown) (cores c).own.core act has.knows.rest
                 (stands.each c here).number
-                (act_on setup setting t e stands.legal c a.call is_open carries a.call a.plan a.found setup.cores act
+                (act_on setup setting t e stands.legal c a.call is_open carries a.call (plan_for a.call) a.found setup.cores act
                 (reads_kept e refl refl refl (users_kept setup t e c (λ f. refl) won_same)
                 (λ f. record { frame = refl; place = λ i node. refl })
                 (record { guards = λ f has. has; rests = λ f claimed has. refl })) has.knows.knows)
@@ -536,25 +538,25 @@ usable_is (Removed j) false k is = absurd (cc)
 
 module _ (setup : Setting) (setting : IsSetting setup) (cores : ℕ → Core) (t : Trace) (stands : Invariant setup cores t) (c : ℕ)
     (here : c < setup.cores)
-    (a : ActiveCall) (active : (cores c).active ≡ Some a) (names : NamesAre setup t c (cores c).own.table a.plan a.found) where
+    (a : ActiveCall) (active : (cores c).active ≡ Some a) (names : NamesAre setup t c (cores c).own.table (plan_for a.call) a.found) where
   abbrev now : State
   now = state_after setup t
 
-  pub plan_leads : Leads (LeadsIn now c) a.plan.names [] a.found
+  pub plan_leads : Leads (LeadsIn now c) (plan_for a.call).names [] a.found
   plan_leads = leads_by (λ n wanted k. HasFound setup t c (own_in (cores c).own.table n) wanted k) (LeadsIn now c)
-      (λ n wanted k had. found_named setup t c (cores c).own.table n wanted k (stands.each c here).works.table had) a.plan.names []
+      (λ n wanted k had. found_named setup t c (cores c).own.table n wanted k (stands.each c here).works.table had)
+      (plan_for a.call).names []
       a.found names
 
   call_leads : Leads (LeadsIn now c) (plan_for a.call).names [] a.found
   call_leads = subst (λ (p : Plan). Leads (LeadsIn now c) p.names [] a.found)
-      (is_active setup setting cores t stands c here a active).plan plan_leads
+      refl plan_leads
 
-  pub goes_by : GoesBy (own_pages now c) a.plan (rule_of now c a.call)
-  goes_by = subst (λ p. GoesBy (own_pages now c) p (rule_of now c a.call))
-      (sym (is_active setup setting cores t stands c here a active).plan) (calls_go now c a.call)
+  pub goes_by : GoesBy (own_pages now c) (plan_for a.call) (rule_of now c a.call)
+  goes_by = calls_go now c a.call
 
   -- the frame of what is removed is in the footprint
-  removed_footprint : (node index : ℕ) (cap : Capability) → IsRemoval setup t c a.call a.plan a.found node index cap → (f : ℕ)
+  removed_footprint : (node index : ℕ) (cap : Capability) → IsRemoval setup t c a.call (plan_for a.call) a.found node index cap → (f : ℕ)
       → is_one_of f (named_by cap.kind cap.frame) ≡ true
       → is_one_of f (footprint_frames now c a.call) ≡ true
   removed_footprint node index cap has f names_it = footprint_about now c a.call f
@@ -567,16 +569,17 @@ module _ (setup : Setting) (setting : IsSetting setup) (cores : ℕ → Core) (t
     where
       slot : target_of now c (rule_of now c a.call) ≡ Some (record { node = node; index = index })
       slot = subst (λ x. IsTargetOf now c x (target_of now c (rule_of now c a.call))) has.next
-          (target_is now c (own_pages now c) a.plan (rule_of now c a.call) a.found goes_by plan_leads) ∙ has.way.reached
+          (target_is now c (own_pages now c) (plan_for a.call) (rule_of now c a.call) a.found goes_by plan_leads) ∙ has.way.reached
 
-  removal_footprint : (close : Close) (cap : Capability) → KnowsClose setup t c a.call a.plan a.found close cap → (f : ℕ)
+  removal_footprint : (close : Close) (cap : Capability) → KnowsClose setup t c a.call (plan_for a.call) a.found close cap → (f : ℕ)
       → is_one_of f (named_by cap.kind cap.frame) ≡ true
       → is_one_of f (footprint_frames now c a.call) ≡ true
   removal_footprint (close_compare node index word by) cap has = removed_footprint node index cap has.removal
   removal_footprint (AtDraw node index) cap has = removed_footprint node index cap has
   removal_footprint (AtStore node index at) cap has = absurd has
 
-  removal_does : (close : Close) (cap : Capability) → KnowsClose setup t c a.call a.plan a.found close cap → removes_by a.call ≡ true
+  removal_does : (close : Close) (cap : Capability) → KnowsClose setup t c a.call (plan_for a.call) a.found close cap → removes_by a.call
+      ≡ true
   removal_does (close_compare node index word by) cap has = has.removal.removes
   removal_does (AtDraw node index) cap has = has.removes
   removal_does (AtStore node index at) cap has = absurd has

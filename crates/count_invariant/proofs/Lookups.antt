@@ -31,6 +31,7 @@ use Rattle.step_ways.proofs.Places.{IsMarked, IsUnmarked, place_reads}
 use Rattle.step_ways.proofs.Refusals.{GoodTook, ticks_at, NobodyWaits, refuses_no_slot, refuses_busy}
 use Rattle.step_ways.specs.stage_look.specs.Lookup.{after_link}
 use Rattle.step_ways.specs.stage_look.specs.Lookup.{end_by_link}
+use Rattle.step_ways.specs.call_plans.specs.PlanOf.{plan_for}
 
 -- What an entry shows of a place.
 pub record ShowsHeld (frames : ℕ) (p : Place) (k : Capability) : Type 0 where
@@ -184,7 +185,8 @@ module _ (setup : Setting) (setting : IsSetting setup) (cores : ℕ → Core) (t
     → Shows setup.frames (place_at (state_after setup t) at) v
     → OnlyLooks setup t c a.call (LoadOf (EntryAt at.node at.index))
     → GoodTook setup cores t c (LoadOf (EntryAt at.node at.index))
-    (took_found (cores c).own a (next_of a.plan a.found) (found_at at.node at.index (last_left setup t (EntryAt at.node at.index)) v)))
+    (took_found (cores c).own a (next_of (plan_for a.call) a.found)
+    (found_at at.node at.index (last_left setup t (EntryAt at.node at.index)) v)))
   where
     -- a place of the way is loaded
     looks_at : (g i : ℕ) → is_slot_in (wide_way_to (state_after setup t) target) g i ≡ true
@@ -258,7 +260,8 @@ module _ (setup : Setting) (setting : IsSetting setup) (cores : ℕ → Core) (t
     → Shows setup.frames (place_at (state_after setup t) at) v
     → OnlyLooks setup t c a.call (LoadOf (EntryAt at.node at.index))
     → GoodTook setup cores t c (LoadOf (EntryAt at.node at.index))
-    (took_found (cores c).own a (next_of a.plan a.found) (found_at at.node at.index (last_left setup t (EntryAt at.node at.index)) v)))
+    (took_found (cores c).own a (next_of (plan_for a.call) a.found)
+    (found_at at.node at.index (last_left setup t (EntryAt at.node at.index)) v)))
     (room : (cores c).own.made < (cores c).own.limit) where
   abbrev Shown : Look → ℕ → ℕ → Option Entry → Type 0
   Shown = TakesShown setup setting cores t stands c here a active (Under table n) is_open may_act no_slot no_way on_way goes done
@@ -434,7 +437,8 @@ module _ (setup : Setting) (setting : IsSetting setup) (cores : ℕ → Core) (t
     → Shows setup.frames (place_at (state_after setup t) at) v
     → OnlyLooks setup t c a.call (LoadOf (EntryAt at.node at.index))
     → GoodTook setup cores t c (LoadOf (EntryAt at.node at.index))
-    (took_found (cores c).own a (next_of a.plan a.found) (found_at at.node at.index (last_left setup t (EntryAt at.node at.index)) v)))
+    (took_found (cores c).own a (next_of (plan_for a.call) a.found)
+    (found_at at.node at.index (last_left setup t (EntryAt at.node at.index)) v)))
     (room : (cores c).own.made < (cores c).own.limit) where
   abbrev ShownHere : ℕ → Option Entry → Type 0
   ShownHere j = TakesShown setup setting cores t stands c here a active (InRoot table i) is_open may_act no_slot no_way on_way goes done

@@ -35,7 +35,7 @@ started_fits c setting h below =
 
 pub begun_fits : (core : Core) (call : Call) → IsCore core → InLimits call → IsCore (begun core call)
 begun_fits core call h limits =
-    begun.begun_fits core.own call (fresh call).found (fresh call).counts (fresh call).plan h.own refl refl refl limits
+    begun.begun_fits core.own call (fresh call).found (fresh call).counts h.own refl refl limits
 
 -- A core after its step, and how many steps are then to come.
 record GoesFurther (own : Own) (a : ActiveCall) (after : Core) : Type 0 where

@@ -17,6 +17,7 @@ use Rattle.flight.specs.Decided.{is_decided_at, is_decided_in, Turns}
 use Rattle.flight.specs.Made.{turned, MayStep, core_after, cores_after, stepping_core, IsMadeStep}
 use Rattle.flight.specs.Phases.{IsInPhase, MadePhases, MadeOfItsCores, AreEvents, MadeEvents, DecidedIsReady}
 use Rattle.call_stages.specs.Steps.{ready_at}
+use Rattle.call_stages.specs.call_plans.specs.PlanOf.{plan_for}
 
 -- A core in a call that is or is not decided, as its phase.
 pub record IsInCall (f : ActiveCall) (p : Phase) : Type 0 where
@@ -205,7 +206,7 @@ stage_decided plan found (Leave r x) h = refl
 
 flight_decided : (o : Option ActiveCall) → is_decided_in o ≡ true → ready_in o ≡ true
 flight_decided None h = absurd (cc)
-flight_decided (Some f) h = stage_decided f.plan f.found f.stage h
+flight_decided (Some f) h = stage_decided (plan_for f.call) f.found f.stage h
 
 pub decided_is_ready : DecidedIsReady
 decided_is_ready core h = flight_decided core.active h

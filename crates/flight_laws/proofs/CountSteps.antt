@@ -134,6 +134,7 @@ use Rattle.time_laws.specs.count_invariant.proofs.SwitchCounts.{switch_of}
 use Rattle.time_laws.specs.step_ways.proofs.Loads.{is_active}
 use Rattle.time_laws.specs.flight.specs.Made.{turned, MayStep, cores_after, stepping_core, IsMade}
 use Rattle.time_laws.specs.flight.proofs.Made.{made_stands}
+use Rattle.time_laws.specs.call_plans.specs.PlanOf.{plan_for}
 
 -- Steps on other words
 
@@ -317,7 +318,8 @@ not_untyping call g not is = false≢true (sym not ∙ ap untypes is.is)
 -- So the frame of a count that an act acquires is none that its call makes untyped.
 module _ (setup : Setting) (setting : IsSetting setup) (cores : ℕ → Core) (t : Trace) (stands : Invariant setup cores t) (c : ℕ)
     (here : c < setup.cores) (a : ActiveCall) (active : (cores c).active ≡ Some a) (pin : Pin) (change : ℤ) where
-  closes_none : (close : Close) (cap : Capability) → KnowsClose setup t c a.call a.plan a.found close cap → untypes a.call ≡ false
+  closes_none : (close : Close) (cap : Capability) → KnowsClose setup t c a.call (plan_for a.call) a.found close cap → untypes a.call
+      ≡ false
   closes_none (close_compare node index word by) cap has = removal_types a.call has.removal.removes
   closes_none (AtDraw node index) cap has = removal_types a.call has.removes
   closes_none (AtStore node index x) cap has = absurd has
@@ -457,7 +459,7 @@ module _ (setup : Setting) (setting : IsSetting setup) (cores : ℕ → Core) (t
 
   module _ (a : ActiveCall) (active : (cores c).active ≡ Some a) where
     act_leaves : (act : ActOf) → a.stage ≡ Undecided (Act act) → phase t c ≡ Open a.call
-        → KnowsAct setup t c a.call a.plan a.found setup.cores act → Leaves (act_move act)
+        → KnowsAct setup t c a.call (plan_for a.call) a.found setup.cores act → Leaves (act_move act)
     act_leaves (fill_act fill) is is_open has = beside (act_move (fill_act fill)) refl
     act_leaves (remove_act close cap) is is_open has = beside (close_move close) (close_beside close)
     act_leaves (type_act y) is is_open has = beside (act_move (type_act y)) (typing_beside y.frame y.kind y.at)

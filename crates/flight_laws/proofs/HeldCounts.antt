@@ -54,6 +54,7 @@ use Rattle.time_laws.specs.step_ways.proofs.Writes.{same_marks}
 use Rattle.time_laws.specs.count_invariant.proofs.ActHolds.{SparesAt, SparesSwept, act_count}
 use Rattle.time_laws.specs.history_laws.specs.Counts.{Untypes}
 use Rattle.flight_laws.proofs.CountSteps.{UntypesFrame, untypes_frame}
+use Rattle.time_laws.specs.call_plans.specs.PlanOf.{plan_for}
 
 -- A count is one of those that a call has acquired.
 abbrev pub IsAmong : Acquired → List Acquired → Type 0
@@ -150,7 +151,7 @@ module _ (setup : Setting) (setting : IsSetting setup) (cores : ℕ → Core) (t
   spares_at m (untype.Draw word w) untypes not knows =
       λ same. not (subst (UntypesFrame a.call) (sym (same ∙ knows.frame)) untypes)
 
-  spares_act : (act : ActOf) → KnowsAct setup t c a.call a.plan a.found setup.cores act → (UntypesFrame a.call x.pin.frame → ⊥)
+  spares_act : (act : ActOf) → KnowsAct setup t c a.call (plan_for a.call) a.found setup.cores act → (UntypesFrame a.call x.pin.frame → ⊥)
       → SparesSwept act x.pin.frame
   spares_act (untype_act m) knows not = spares_at m m.at (untypes_frame a.call a.found m knows.untypes) not knows.at
   spares_act act knows not = tt

@@ -81,6 +81,7 @@ use Rattle.time_laws.specs.flight.proofs.Made.{made_stands, made_times}
 use Rattle.time_laws.specs.flight.proofs.Spelling.{moves_are_words}
 use Rattle.flight_laws.proofs.Sweeping.{untyping_in, untyping_of, untyping_now, IsSwept}
 use Rattle.flight_laws.proofs.Sweeping.{swept_on, swept_no_node, looks_untypes, looks_swept}
+use Rattle.time_laws.specs.call_plans.specs.PlanOf.{plan_for}
 
 -- The frame of an entry's word.
 abbrev frame_in : Word → ℕ
@@ -154,7 +155,7 @@ module _ (setup : Setting) (setting : IsSetting setup) (t : Trace) (cores : ℕ 
   by_next table (NextOwn v) look looks on = absurd looks
   by_next table NextNothing look looks on = absurd looks
 
-  by_close : (a : ActiveCall) (close : Close) (cap : Capability) → KnowsClose setup t c a.call a.plan a.found close cap
+  by_close : (a : ActiveCall) (close : Close) (cap : Capability) → KnowsClose setup t c a.call (plan_for a.call) a.found close cap
       → word_of (close_move close) ≡ EntryAt f i → Rests
   by_close a (AtCompare node index word by) cap has on = of_frame node index on
       (slot_relies setup setting t stands.legal c call is_open has.removal.target (record { node = node; index = index }) has.removal.way)
@@ -166,7 +167,7 @@ module _ (setup : Setting) (setting : IsSetting setup) (t : Trace) (cores : ℕ 
   by_typing g y (type_compare word) on = absurd (cc)
 
   by_making : (a : ActiveCall) (g : ℕ) (object : NewObject) (core : ℕ) (fill : FillOf) (at : MakingAt)
-      → IsSpot setup t c a.plan a.found setup.cores fill.node fill.entry fill.word
+      → IsSpot setup t c (plan_for a.call) a.found setup.cores fill.node fill.entry fill.word
       → word_of (making_at g object core fill at) ≡ EntryAt f i → reads (making_at g object core fill at) ≡ true → Rests
   by_making a g object core fill making.Load spot on read = absurd (cc)
   by_making a g object core fill (making.Mark word) spot on read = absurd (cc)
@@ -243,7 +244,7 @@ module _ (setup : Setting) (setting : IsSetting setup) (t : Trace) (cores : ℕ 
   by_killing g core (kill_draw life word) comp on = absurd (cc)
 
   by_comp : (a : ActiveCall) (m : CompMaking) (at : CompAt)
-      → IsSpot setup t c a.plan a.found setup.cores m.fill.node m.fill.entry m.fill.word
+      → IsSpot setup t c (plan_for a.call) a.found setup.cores m.fill.node m.fill.entry m.fill.word
       → word_of (comp_at m at) ≡ EntryAt f i → reads (comp_at m at) ≡ true → Rests
   by_comp a m comp_stands.Load spot on read = absurd (cc)
   by_comp a m (comp_stands.Mark word) spot on read = absurd (cc)
@@ -260,7 +261,7 @@ module _ (setup : Setting) (setting : IsSetting setup) (t : Trace) (cores : ℕ 
 
   by_work : (table : ℕ) (a : ActiveCall) (work : Work) → KnowsWork setup t c table a work → word_of (work_move work) ≡ EntryAt f i
       → reads (work_move work) ≡ true → untyping_in work ≡ None → Rests
-  by_work table a (Lookup look) has on read none = by_next table (next_of a.plan a.found) look has.looks on
+  by_work table a (Lookup look) has on read none = by_next table (next_of (plan_for a.call) a.found) look has.looks on
   by_work table a (Read g look) has on read none = inr (inr (inl (subst (HasComp (state_after setup t) c) (ap frame_in on) has.comp)))
   by_work table a (Scan (AtCore at by upto page) act) has on read none = absurd (cc)
   by_work table a (Scan (AtFlush at upto) act) has on read none = absurd (cc)

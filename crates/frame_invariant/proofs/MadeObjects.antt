@@ -65,6 +65,7 @@ use Rattle.frame_invariant.proofs.MakeCalls.{IsObjectCall}
 use Rattle.frame_invariant.proofs.NewObjects.{made_value, made_fits, made_cap, made_caps, cap_names, made_ends, SaysNew}
 use Rattle.frame_invariant.proofs.NewObjects.{says_new, bare_new, PlaceReady, place_ready, ready_there, word_new, new_refs}
 use Rattle.frame_invariant.proofs.Makes.{load_good, mark_good, store_good, put_lost, put_of_call}
+use Rattle.place_invariant.specs.act_states.specs.call_plans.specs.PlanOf.{plan_for}
 
 -- Each frame of a list without repetition occurs once, and no other does.
 named_not : (f : ℕ) (fs : List ℕ) → All (λ d. f ≢ d.frame) (map due_one fs) → times f fs ≡ 0
@@ -117,7 +118,7 @@ module _ (setup : Setting) (setting : IsSetting setup) (cores : ℕ → Core) (t
   abbrev k : Capability
   k = m.fill.cap
 
-  abbrev knows : KnowsMaking setup t c a.call a.plan a.found setup.cores m
+  abbrev knows : KnowsMaking setup t c a.call (plan_for a.call) a.found setup.cores m
   knows = has.knows.knows
 
   abbrev was : ℕ
@@ -504,11 +505,11 @@ module _ (setup : Setting) (setting : IsSetting setup) (cores : ℕ → Core) (t
     )
 
     gone : HasReached (e ∷ t) c (ways s c (rule_of s c a.call))
-    gone = all_ways s c (own_pages s c) (e ∷ t) a.plan (rule_of s c a.call) a.found
+    gone = all_ways s c (own_pages s c) (e ∷ t) (plan_for a.call) (rule_of s c a.call) a.found
         (calls.by_plan setup setting cores t stands c here a active m stage_is has)
         (leads_by (λ n wanted q. HasFound setup t c (own_in (cores c).own.table n) wanted q)
         (λ n wanted q. LeadsIn s c n wanted q × HasReached (e ∷ t) c (way_to s c (own s c n)))
-        own_gone a.plan.names [] a.found has.names)
+        own_gone (plan_for a.call).names [] a.found has.names)
         (subst (λ x. HasReached (e ∷ t) c (ways s c x)) (sym (calls.left setup setting cores t stands c here a active m stage_is has))
         (subst (λ target. HasReached (e ∷ t) c (way_to s c target))
         (sym (calls.target_is setup setting cores t stands c here a active m stage_is has))

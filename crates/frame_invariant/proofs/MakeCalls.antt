@@ -30,6 +30,7 @@ use Rattle.place_invariant.specs.spk_nums.specs.declared.replies.Value.TheVarian
 use Rattle.place_invariant.specs.kernel_rules.specs.Start.{plain_cap}
 use Rattle.place_invariant.specs.kernel_rules.specs.Edits.{Fill as fill_edit}
 use Rattle.place_invariant.specs.kernel_rules.specs.Rules.{does}
+use Rattle.place_invariant.specs.act_states.specs.call_plans.specs.PlanOf.{plan_for}
 
 -- It makes this object in this frame, which the range has to which its first name has led.
 pub record IsObjectCall (call : Call) (ks : List Capability) (m : Making) : Type 0 where
@@ -74,7 +75,7 @@ module _ (setup : Setting) (setting : IsSetting setup) (cores : ℕ → Core) (t
   abbrev s : State
   s = state_after setup t
 
-  abbrev pub knows : KnowsMaking setup t c a.call a.plan a.found setup.cores m
+  abbrev pub knows : KnowsMaking setup t c a.call (plan_for a.call) a.found setup.cores m
   knows = has.knows.knows
 
   abbrev slot : Slot
@@ -111,20 +112,20 @@ module _ (setup : Setting) (setting : IsSetting setup) (cores : ℕ → Core) (t
   pub node_below : m.fill.node < s.limits.frames
   node_below = subst (λ (n : ℕ). m.fill.node < n) frames_are fits_in.fill.node
 
-  pub leads : Leads (LeadsIn s c) a.plan.names [] a.found
+  pub leads : Leads (LeadsIn s c) (plan_for a.call).names [] a.found
   leads = plan_leads setup setting cores t stands c here a active has.names
 
-  pub by_plan : GoesBy (own_pages s c) a.plan (rule_of s c a.call)
+  pub by_plan : GoesBy (own_pages s c) (plan_for a.call) (rule_of s c a.call)
   by_plan = goes_by setup setting cores t stands c here a active has.names
 
-  plan_call : a.plan ≡ plan_for (make_call is.what is.name m.frame is.root is.slot)
-  plan_call = (is_active setup setting cores t stands c here a active).plan ∙ ap plan_for is.call_is
+  plan_call : plan_for a.call ≡ plan_for (make_call is.what is.name m.frame is.root is.slot)
+  plan_call = ap plan_for is.call_is
 
   pub make : IsObjectMake s c is.name m.frame is.root is.slot is.what m.object a.found
   make = object_make s c is.name m.frame is.root is.slot is.what m.object a.found is.object_is
       (subst (λ (p : Plan). Leads (LeadsIn s c) p.names [] a.found) plan_call leads)
       (subst (λ (p : Plan). names_after p.names a.found ≡ []) plan_call
-      (none_left_of a.plan a.found knows.spot.target knows.spot.next))
+      (none_left_of (plan_for a.call) a.found knows.spot.target knows.spot.next))
 
   abbrev pub target : Target
   target = Under (found make.two.table) is.slot
@@ -155,7 +156,7 @@ module _ (setup : Setting) (setting : IsSetting setup) (cores : ℕ → Core) (t
 
   pub target_slot : target_of s c (rule_of s c a.call) ≡ Some slot
   target_slot = subst (λ x. IsTargetOf s c x (target_of s c (rule_of s c a.call))) knows.spot.next
-      (target_is_of s c (own_pages s c) a.plan (rule_of s c a.call) a.found by_plan leads)
+      (target_is_of s c (own_pages s c) (plan_for a.call) (rule_of s c a.call) a.found by_plan leads)
       ∙ knows.spot.way.reached
 
   -- the change that it makes, and what comes of the call where its target is vacant
@@ -165,7 +166,7 @@ module _ (setup : Setting) (setting : IsSetting setup) (cores : ℕ → Core) (t
   pub by_blank : vacant s c target ≡ Found slot → (blank : Bool) → is_blank (s.frame m.frame) ≡ blank
       → change_of s c a.call ≡ unless (if not blank then Some reply.FrameKind else None) change
   by_blank free blank at_frame =
-      outcome_left s c (own_pages s c) a.plan (rule_of s c a.call) a.found by_plan leads ∙ ap (outcome s c) left
+      outcome_left s c (own_pages s c) (plan_for a.call) (rule_of s c a.call) a.found by_plan leads ∙ ap (outcome s c) left
       ∙ ap (λ x. and_then x λ at. unless (first_of (if not (has_frame (found make.two.range) m.frame) then Some reply.OutOfRange else None)
       (first_cause s c (not_blank s m.frame ∷ [])))
       (does c s no_value (made_by m.object m.frame ∷ fill_edit at (plain_cap (object_kind m.object) m.frame) ∷ []))) free

@@ -56,6 +56,7 @@ use Rattle.place_invariant.proofs.Fills.{target_way, changes_node}
 use Rattle.place_invariant.proofs.Outside.{vacant_slot, vacant_here, stands_alone}
 use Rattle.frame_invariant.proofs.MakeCalls as calls
 use Rattle.frame_invariant.proofs.MakeCalls.{makes_on}
+use Rattle.place_invariant.specs.act_states.specs.call_plans.specs.PlanOf.{plan_for}
 
 -- The words of the object that is made are stored one after another, and then the target is compared.
 stored_holds : (object : NewObject) (f word n : ℕ) (h : Holding) → holds_making f (stored object word n) h ≡ keeps (FrameAt f) word h
@@ -134,7 +135,7 @@ module _ (setup : Setting) (setting : IsSetting setup) (cores : ℕ → Core) (t
   abbrev was : ℕ
   was = last_left setup t (FrameAt f)
 
-  abbrev knows : KnowsMaking setup t c a.call a.plan a.found setup.cores m
+  abbrev knows : KnowsMaking setup t c a.call (plan_for a.call) a.found setup.cores m
   knows = has.knows.knows
 
   abbrev node : ℕ
@@ -174,9 +175,9 @@ module _ (setup : Setting) (setting : IsSetting setup) (cores : ℕ → Core) (t
   -- where it goes on, what it knows of its target it still knows after a step on another word
   goes_on_at : (e : Step) → e.core ≡ c → e.enters ≡ None → EntryAt node index ≢ word_of e.move → Carries setup t e c → (at : MakingAt)
       → KnowsMakingAt setup (e ∷ t) c f m.object at
-      → KnowsMaking setup (e ∷ t) c a.call a.plan a.found setup.cores (record m { at = at })
+      → KnowsMaking setup (e ∷ t) c a.call (plan_for a.call) a.found setup.cores (record m { at = at })
   goes_on_at e own no_entry there carries at now = record {
-    spot = spot_on setup setting t e stands.legal c a.call is_open carries a.plan a.found setup.cores node index m.fill.word
+    spot = spot_on setup setting t e stands.legal c a.call is_open carries (plan_for a.call) a.found setup.cores node index m.fill.word
         (own_read-there c e t (sym own) (EntryAt node index) there ∙ ap (λ o. cond (is_some o) None (own_read t c (EntryAt node index)))
         no_entry)
         knows.spot;
@@ -230,7 +231,7 @@ module _ (setup : Setting) (setting : IsSetting setup) (cores : ℕ → Core) (t
             (lt-ltb f s.limits.frames (calls.below setup setting cores t stands c here a active m stage_is has)) ∙ ap (λ b. not b) other
 
         may : RuleMay s c (rule_of s c a.call) reply.FrameKind
-        may = left_may s c (own_pages s c) a.plan (rule_of s c a.call) a.found
+        may = left_may s c (own_pages s c) (plan_for a.call) (rule_of s c a.call) a.found
             (calls.by_plan setup setting cores t stands c here a active m stage_is has)
             (calls.leads setup setting cores t stands c here a active m stage_is has) reply.FrameKind
             (subst (λ x. RuleMay s c x reply.FrameKind) (sym (calls.left setup setting cores t stands c here a active m stage_is has))
@@ -256,7 +257,7 @@ module _ (setup : Setting) (setting : IsSetting setup) (cores : ℕ → Core) (t
         (Undecided (Act (make_act (record m { at = Mark was })))) loading lands (sym held_is) opens
         (λ carries. record {
           acts = has.acts;
-          names = names_on setup setting t e stands.legal c a.call is_open carries (cores c).own.table a.plan a.found has.names;
+          names = names_on setup setting t e stands.legal c a.call is_open carries (cores c).own.table (plan_for a.call) a.found has.names;
           knows = record {
             knows = goes_on_at e refl refl (λ h. cc) carries (Mark was) (record {
               own = own_read-here c e t refl (FrameAt f) refl ∙ ap (λ b. if b then Some was else None) (eq-eqb was was refl);
@@ -381,7 +382,7 @@ module _ (setup : Setting) (setting : IsSetting setup) (cores : ℕ → Core) (t
         opens
         (λ carries. record {
           acts = has.acts;
-          names = names_on setup setting t e stands.legal c a.call is_open carries (cores c).own.table a.plan a.found has.names;
+          names = names_on setup setting t e stands.legal c a.call is_open carries (cores c).own.table (plan_for a.call) a.found has.names;
           knows = knows_next setup (e ∷ t) c (cores c).own.table next m.core act (dues act) knows.core
               (goes_on_at e refl refl (λ h. cc) carries (Store word 0)
               (record { says = met.says; stored = λ i none. absurd (omega (arith, none)) }))
@@ -485,7 +486,7 @@ module _ (setup : Setting) (setting : IsSetting setup) (cores : ℕ → Core) (t
         (spares_blank setup t e f n refl blank own_mark)
         (λ carries. record {
           acts = has.acts;
-          names = names_on setup setting t e stands.legal c a.call is_open carries (cores c).own.table a.plan a.found has.names;
+          names = names_on setup setting t e stands.legal c a.call is_open carries (cores c).own.table (plan_for a.call) a.found has.names;
           knows = record {
             knows = goes_on_at e refl refl
                 (λ h. calls.apart setup setting cores t stands c here a active m stage_is has word held_store stored_so.says
@@ -519,7 +520,7 @@ module _ (setup : Setting) (setting : IsSetting setup) (cores : ℕ → Core) (t
     put_of_call = record {
       moves = changes_node a.call (s.frame node) (makes_places a.call a.found m knows.makes)
           (calls.in_node setup setting cores t stands c here a active m stage_is has);
-      footprint = inl (footprint_way s c a.call node index (next_on_way s c (own_pages s c) a.plan (rule_of s c a.call) a.found
+      footprint = inl (footprint_way s c a.call node index (next_on_way s c (own_pages s c) (plan_for a.call) (rule_of s c a.call) a.found
           (calls.by_plan setup setting cores t stands c here a active m stage_is has)
           (calls.leads setup setting cores t stands c here a active m stage_is has) knows.spot.target node index
           (subst (λ x. NextPlace s c x knows.spot.target) (sym knows.spot.next) refl)

@@ -48,6 +48,7 @@ use Rattle.place_invariant.specs.count_invariant.proofs.Findings.{own_is, found_
 use Rattle.place_invariant.specs.count_invariant.proofs.Acquiring.{plan_leads, goes_by}
 use Rattle.place_invariant.specs.kernel_rules.specs.Edits.{Become as become_edit}
 use Rattle.place_invariant.specs.kernel_rules.specs.Rules.{does}
+use Rattle.place_invariant.specs.act_states.specs.call_plans.specs.PlanOf.{plan_for}
 
 -- What a frame becomes, and what its word then says.
 abbrev pub typed_frame : FrameKind → Frame
@@ -186,10 +187,10 @@ module _ (setup : Setting) (setting : IsSetting setup) (cores : ℕ → Core) (t
   is_open : phase t c ≡ Open a.call
   is_open = (call_is setup setting cores t stands c here a active).phase ∙ opens
 
-  leads : Leads (LeadsIn s c) a.plan.names [] a.found
+  leads : Leads (LeadsIn s c) (plan_for a.call).names [] a.found
   leads = plan_leads setup setting cores t stands c here a active has.names
 
-  by_plan : GoesBy (own_pages s c) a.plan (rule_of s c a.call)
+  by_plan : GoesBy (own_pages s c) (plan_for a.call) (rule_of s c a.call)
   by_plan = goes_by setup setting cores t stands c here a active has.names
 
   below : f < s.limits.frames
@@ -221,7 +222,7 @@ module _ (setup : Setting) (setting : IsSetting setup) (cores : ℕ → Core) (t
       ∙ ap (λ e. Does causes Nothing (e ∷ [])) (typing_change f k types)
 
   outcome_is : change_of s c a.call ≡ outcome s c (Does causes Nothing (become_edit f (typed_frame k) ∷ []))
-  outcome_is = outcome_left s c (own_pages s c) a.plan (rule_of s c a.call) a.found by_plan leads ∙ ap (outcome s c) left
+  outcome_is = outcome_left s c (own_pages s c) (plan_for a.call) (rule_of s c a.call) a.found by_plan leads ∙ ap (outcome s c) left
 
   -- the range has the frame, so only what the frame is may refuse it
   by_frame : (untyped : Bool) → is_untyped (s.frame f) ≡ untyped
@@ -271,7 +272,7 @@ module _ (setup : Setting) (setting : IsSetting setup) (cores : ℕ → Core) (t
         → GoodTook setup cores t c (LoadOf (FrameAt f)) (landed a (refuse refusal.FrameKind))
     kind_good v shown no_mark j kind_is other =
         refuses_frame_kind setup setting cores t stands c here a active opens held_is room (LoadOf (FrameAt f)) loading has.acts
-        (left_may s c (own_pages s c) a.plan (rule_of s c a.call) a.found by_plan leads reply.FrameKind
+        (left_may s c (own_pages s c) (plan_for a.call) (rule_of s c a.call) a.found by_plan leads reply.FrameKind
         (subst (λ x. RuleMay s c x reply.FrameKind) (sym left) (inr (inl (stands_so, refl)))))
         (λ nobody. by_frame false typed_now)
       where
@@ -293,7 +294,7 @@ module _ (setup : Setting) (setting : IsSetting setup) (cores : ℕ → Core) (t
         (Undecided (Act (type_act (record { frame = f; kind = k; at = type_compare was })))) loading lands (sym held_is) opens
         (λ carries. record {
           acts = has.acts;
-          names = names_on setup setting t e stands.legal c a.call is_open carries (cores c).own.table a.plan a.found has.names;
+          names = names_on setup setting t e stands.legal c a.call is_open carries (cores c).own.table (plan_for a.call) a.found has.names;
           knows = record {
             knows = record {
               types = types_on a.call a.found has.knows.knows.types;
@@ -528,10 +529,10 @@ module _ (setup : Setting) (setting : IsSetting setup) (cores : ℕ → Core) (t
 
       -- the place of the name has been stepped on
       gone : HasReached (e ∷ t) c (ways s c (rule_of s c a.call))
-      gone = all_ways s c (own_pages s c) (e ∷ t) a.plan (rule_of s c a.call) a.found by_plan
+      gone = all_ways s c (own_pages s c) (e ∷ t) (plan_for a.call) (rule_of s c a.call) a.found by_plan
           (leads_by (λ n wanted q. HasFound setup t c (own_in (cores c).own.table n) wanted q)
           (λ n wanted q. LeadsIn s c n wanted q × HasReached (e ∷ t) c (way_to s c (own s c n)))
-          own_gone a.plan.names [] a.found has.names)
+          own_gone (plan_for a.call).names [] a.found has.names)
           (subst (λ x. HasReached (e ∷ t) c (ways s c x)) (sym left)
           (All-nil (λ (x : Slot). IsSome (own_left (e ∷ t) c (EntryAt x.node x.index)))))
         where

@@ -39,6 +39,7 @@ use Rattle.freeze_invariant.proofs.UntypeCalls.{IsUntype, untypes_on}
 use Rattle.scan_invariant.specs.core_invariant.specs.Frozen.{thawed}
 use Rattle.scan_invariant.specs.kernel_history.specs.Discipline.{may_count}
 use Rattle.scan_invariant.specs.kernel_history.proofs.OwnCounts.{untype_counts}
+use Rattle.scan_invariant.specs.act_states.specs.call_plans.specs.PlanOf.{plan_for}
 
 none_some : (d : ℕ) → None ≡ Some d → ⊥
 none_some d h = cc
@@ -227,7 +228,7 @@ module _ (setup : Setting) (setting : IsSetting setup) (cores : ℕ → Core) (t
         (calls.opens setup setting cores t stands c here a active m stage_is has)
         (λ carries. record {
           acts = has.acts;
-          names = names_on setup setting t e stands.legal c a.call is_open carries (cores c).own.table a.plan a.found has.names;
+          names = names_on setup setting t e stands.legal c a.call is_open carries (cores c).own.table (plan_for a.call) a.found has.names;
           knows = record {
             knows = record {
               untypes = untypes_on a.call a.found m (untyping_by f core word (sweeping g v b kept o (Compare count stamp))) refl

@@ -30,6 +30,7 @@ use Rattle.freeze_invariant.proofs.Counters.{sweeping, untyping_by, sweep_knows,
 use Rattle.freeze_invariant.proofs.Counters.{sweep_refs, sweep_since, undo_with, undo_known}
 use Rattle.freeze_invariant.proofs.FrameScans.{all_scanned, scans_on, page_known, known_typed}
 use Rattle.freeze_invariant.proofs.UntypeCalls as calls
+use Rattle.scan_invariant.specs.act_states.specs.call_plans.specs.PlanOf.{plan_for}
 
 module _ (setup : Setting) (setting : IsSetting setup) (cores : ℕ → Core) (t : Trace) (stands : Invariant setup cores t) (c : ℕ)
     (here : c < setup.cores)
@@ -119,7 +120,7 @@ module _ (setup : Setting) (setting : IsSetting setup) (cores : ℕ → Core) (t
     justified = record {
       thing = thing;
       asked = subst (λ things. IsTrue (list_any (same_thing thing) things))
-          (sym (asked_left s c (own_pages s c) a.plan (rule_of s c a.call) a.found
+          (sym (asked_left s c (own_pages s c) (plan_for a.call) (rule_of s c a.call) a.found
           (calls.by_plan setup setting cores t stands c here a active m stage_is has)
           (calls.leads setup setting cores t stands c here a active m stage_is has) flushed_in
           ∙ ap (asked_of flushed_in s c) (calls.left setup setting cores t stands c here a active m stage_is has)))

@@ -24,6 +24,7 @@ use Rattle.freeze_invariant.proofs.FrameQuiet as quieting
 use Rattle.freeze_invariant.proofs.FrameQuiet.{cached_is}
 use Rattle.freeze_invariant.proofs.UntypeCalls as calls
 use Rattle.freeze_invariant.proofs.UntypeCalls.{untypes_on, typed_is}
+use Rattle.scan_invariant.specs.act_states.specs.call_plans.specs.PlanOf.{plan_for}
 
 -- What is common to the two kinds of word.
 module _ (setup : Setting) (setting : IsSetting setup) (cores : ℕ → Core) (t : Trace) (stands : Invariant setup cores t) (c : ℕ)
@@ -84,7 +85,7 @@ module _ (setup : Setting) (setting : IsSetting setup) (cores : ℕ → Core) (t
       (calls.opens setup setting cores t stands c here a active m stage_is has)
       (λ carries. record {
         acts = has.acts;
-        names = names_on setup setting t e stands.legal c a.call is_open carries (cores c).own.table a.plan a.found has.names;
+        names = names_on setup setting t e stands.legal c a.call is_open carries (cores c).own.table (plan_for a.call) a.found has.names;
         knows = knows_it (e ∷ t) refl
             (λ y upto flushes. quiet_frame_on setup setting t e stands.legal c a.call is_open carries f y upto flushes);
       }))

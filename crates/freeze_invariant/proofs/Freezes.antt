@@ -47,6 +47,7 @@ use Rattle.freeze_invariant.proofs.UntypeCalls as calls
 use Rattle.freeze_invariant.proofs.UntypeCalls.{untypes_on, typed_is}
 use Rattle.scan_invariant.specs.kernel_rules.specs.MemoryCalls.{is_untyped_now}
 use Rattle.scan_invariant.specs.kernel_rules.specs.Rules.{refusal_of}
+use Rattle.scan_invariant.specs.act_states.specs.call_plans.specs.PlanOf.{plan_for}
 
 none_some : (d : ℕ) → None ≡ Some d → ⊥
 none_some d h = cc
@@ -283,7 +284,7 @@ module _ (setup : Setting) (setting : IsSetting setup) (cores : ℕ → Core) (t
         (calls.opens setup setting cores t stands c here a active m stage_is has)
         (λ carries. record {
           acts = has.acts;
-          names = names_on setup setting t e stands.legal c a.call is_open carries (cores c).own.table a.plan a.found has.names;
+          names = names_on setup setting t e stands.legal c a.call is_open carries (cores c).own.table (plan_for a.call) a.found has.names;
           knows = knows_it (e ∷ t) refl
               (λ y upto flushes. quiet_frame_on setup setting t e stands.legal c a.call is_open carries f y upto flushes);
         })

@@ -25,6 +25,7 @@ use Rattle.scan_invariant.specs.step_ways.proofs.Loads.{IsOfCall, step_to, next_
 use Rattle.scan_invariant.specs.step_ways.proofs.Refusals.{GoodTook, ticks_at, refuses_raced, refuses_busy, refuses_frame_kind}
 use Rattle.freeze_invariant.proofs.UntypeCalls as calls
 use Rattle.freeze_invariant.proofs.UntypeCalls.{untypes_on}
+use Rattle.scan_invariant.specs.act_states.specs.call_plans.specs.PlanOf.{plan_for}
 
 none_some : (d : ℕ) → None ≡ Some d → ⊥
 none_some d h = cc
@@ -96,7 +97,7 @@ module _ (setup : Setting) (setting : IsSetting setup) (cores : ℕ → Core) (t
         (calls.opens setup setting cores t stands c here a active m stage_is has)
         (λ carries. record {
           acts = has.acts;
-          names = names_on setup setting t e stands.legal c a.call is_open carries (cores c).own.table a.plan a.found has.names;
+          names = names_on setup setting t e stands.legal c a.call is_open carries (cores c).own.table (plan_for a.call) a.found has.names;
           knows = record {
             knows = record {
               untypes = untypes_on a.call a.found m (record m { at = Mark was v }) refl knows.untypes;
@@ -217,7 +218,7 @@ module _ (setup : Setting) (setting : IsSetting setup) (cores : ℕ → Core) (t
         (calls.opens setup setting cores t stands c here a active m stage_is has)
         (λ carries. record {
           acts = has.acts;
-          names = names_on setup setting t e stands.legal c a.call is_open carries (cores c).own.table a.plan a.found has.names;
+          names = names_on setup setting t e stands.legal c a.call is_open carries (cores c).own.table (plan_for a.call) a.found has.names;
           knows = record {
             knows = record {
               untypes = untypes_on a.call a.found m next_m refl knows.untypes;

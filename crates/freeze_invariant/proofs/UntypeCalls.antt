@@ -25,6 +25,7 @@ use Rattle.scan_invariant.specs.step_ways.proofs.Refusals.{not_spent}
 use Rattle.scan_invariant.specs.count_invariant.proofs.Acquiring.{plan_leads, goes_by}
 use Rattle.scan_invariant.specs.count_invariant.proofs.MakingCounts.{argument_footprint}
 use Rattle.scan_invariant.specs.spk_nums.specs.declared.replies.Value.TheVariants.{Nothing as no_value}
+use Rattle.scan_invariant.specs.act_states.specs.call_plans.specs.PlanOf.{plan_for}
 
 -- The call that makes a frame untyped.
 pub record IsUntype (call : Call) (ks : List Capability) (f : ℕ) : Type 0 where
@@ -113,10 +114,10 @@ module _ (setup : Setting) (setting : IsSetting setup) (cores : ℕ → Core) (t
   pub below : f < s.limits.frames
   below = subst (λ (n : ℕ). f < n) (ap (λ x. x.frames) (stands.each c here).shape ∙ sym (ap (λ l. l.frames) (limits_of setup t))) fits.frame
 
-  pub leads : Leads (LeadsIn s c) a.plan.names [] a.found
+  pub leads : Leads (LeadsIn s c) (plan_for a.call).names [] a.found
   leads = plan_leads setup setting cores t stands c here a active has.names
 
-  pub by_plan : GoesBy (own_pages s c) a.plan (rule_of s c a.call)
+  pub by_plan : GoesBy (own_pages s c) (plan_for a.call) (rule_of s c a.call)
   by_plan = goes_by setup setting cores t stands c here a active has.names
 
   pub held_at : (at : UntypingAt) → m.at ≡ at → holds_in (Some a) ≡ holds_untyping f at (holds_counts None a.counts)
@@ -159,7 +160,7 @@ module _ (setup : Setting) (setting : IsSetting setup) (cores : ℕ → Core) (t
       ∙ ap (rule_after (rule_of s c (Retype is.name f kind.Untyped))) is.found_is
 
   pub may_refuse : (r : Reply) → RuleMay s c (Does causes no_value (retypes f kind.Untyped ∷ [])) r → RuleMay s c (rule_of s c a.call) r
-  may_refuse r may = left_may s c (own_pages s c) a.plan (rule_of s c a.call) a.found by_plan leads r
+  may_refuse r may = left_may s c (own_pages s c) (plan_for a.call) (rule_of s c a.call) a.found by_plan leads r
       (subst (λ x. RuleMay s c x r) (sym left) may)
 
   -- the first cause that stands, of those of its own: what the frame is, its references, who waits, who has not flushed, and its object
@@ -171,7 +172,7 @@ module _ (setup : Setting) (setting : IsSetting setup) (cores : ℕ → Core) (t
       → change_of s c a.call
       ≡ unless (first_of kind_cause (first_of ref_cause (first_of wait_cause (first_of flush_cause (first_of empty_cause None))))) change
   by_causes kind_cause ref_cause wait_cause flush_cause empty_cause kind_is ref_is wait_is flush_is empty_is =
-      outcome_left s c (own_pages s c) a.plan (rule_of s c a.call) a.found by_plan leads ∙ ap (outcome s c) left
+      outcome_left s c (own_pages s c) (plan_for a.call) (rule_of s c a.call) a.found by_plan leads ∙ ap (outcome s c) left
       ∙ ap (λ b. unless (first_of (if not b then Some reply.OutOfRange else None) (first_cause s c rest)) change) is.within
       ∙ ap (λ o. unless (first_of o (first_cause s c later)) change) kind_is
       ∙ ap (λ o. unless (first_of kind_cause (first_of o (first_cause s c latest))) change) ref_is

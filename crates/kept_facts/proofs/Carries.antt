@@ -117,6 +117,7 @@ use Rattle.core_invariant.specs.act_states.specs.declared.switches.SwitchAt.TheV
 use Rattle.core_invariant.specs.Threads.{IsTop, HasTable, HasRoots, KnowsSwitchAt, claimed_by, is_claimed}
 use Rattle.core_invariant.specs.Sweeps.{IsQuiet, IsSwept, KnowsSweepScan, KnowsSweepAt, KnowsUntypingAt}
 use Rattle.kept_facts.proofs.Swept.{LeavesFrame, looked_on}
+use Rattle.core_invariant.specs.call_plans.specs.PlanOf.{plan_for}
 pub use Rattle.kept_facts.proofs.KeptReads.{stores_in, stores_of, freezes, looks_at, freezes_at, looks_in}
 pub use Rattle.kept_facts.proofs.KeptReads.{reads_counts, looked_in, looked_of, claimed_in, claimed_of, KeepsThreads}
 pub use Rattle.kept_facts.proofs.KeptReads.{KeepsUsers, PairsStay, start_pairs, due_pairs, quiet_starts, ReadsSame}
@@ -636,7 +637,7 @@ module _ (setup : Setting) (setting : IsSetting setup) (t : Trace) (e : Step) (l
   scan_on : (a : ActiveCall) (at by upto flushes : ℕ) (page : Bool) (act : ActOf) → ReadsSame setup t e c act
       → KnowsScan setup t c a at by upto flushes page act → KnowsScan setup (e ∷ t) c a at by upto flushes page act
   scan_on a at by upto flushes page act same has = record {
-    knows = act_on a.call a.plan a.found flushes act same has.knows;
+    knows = act_on a.call (plan_for a.call) a.found flushes act same has.knows;
     core = has.core;
     stamp = has.stamp;
     starts = has.starts;
@@ -684,8 +685,8 @@ module _ (setup : Setting) (setting : IsSetting setup) (t : Trace) (e : Step) (l
       → KeepsThreads setup t e c (λ f. claimed_of work f)
       → KnowsWork setup t c table a work → KnowsWork setup (e ∷ t) c table a work
   work_on table a (Lookup look) pairs same stored users rests threads has = record {
-    looks = looks_for_on table (next_of a.plan a.found) look has.looks;
-    has_read = read_before_on (reads_of a.call a.found) a.read (next_of a.plan a.found) has.has_read;
+    looks = looks_for_on table (next_of (plan_for a.call) a.found) look has.looks;
+    has_read = read_before_on (reads_of a.call a.found) a.read (next_of (plan_for a.call) a.found) has.has_read;
   }
   work_on table a (Read f look) pairs same stored users rests threads has = record {
     target = has.target;
@@ -698,7 +699,7 @@ module _ (setup : Setting) (setting : IsSetting setup) (t : Trace) (e : Step) (l
       quiet_on a q act (reads_same act same stored users rests threads
       (start_pairs setup t e c act (quiet_starts setup t c a q act has))) has
   work_on table a (Acquire pin change act) pairs same stored users rests threads has = record {
-    knows = act_on a.call a.plan a.found setup.cores act
+    knows = act_on a.call (plan_for a.call) a.found setup.cores act
         (reads_same act same stored users rests threads (due_pairs setup t e c act (map due_of a.counts) _ has.rest has.due)) has.knows;
     rest = has.rest;
     due = has.due;
@@ -709,7 +710,8 @@ module _ (setup : Setting) (setting : IsSetting setup) (t : Trace) (e : Step) (l
     starts = has.starts;
   }
   work_on table a (Act act) pairs same stored users rests threads has = record {
-    knows = act_on a.call a.plan a.found setup.cores act (reads_same act same stored users rests threads (pairs act refl)) has.knows;
+    knows = act_on a.call (plan_for a.call) a.found setup.cores act (reads_same act same stored users rests threads (pairs act refl))
+        has.knows;
     all = has.all;
     goes = has.goes;
   }
@@ -743,7 +745,7 @@ module _ (setup : Setting) (setting : IsSetting setup) (t : Trace) (e : Step) (l
   undecided_on table a work pairs same stored users rests threads has =
       record {
         acts = acts_on a.call has.acts;
-        names = names_on table a.plan a.found has.names;
+        names = names_on table (plan_for a.call) a.found has.names;
         knows =
             work_on table a work pairs same stored users rests threads has.knows;
       }

@@ -3,7 +3,7 @@ use Rattle.count_invariant.proofs.Common.{◌≡◌, inl, ℕ, ◌<◌, ◌==◌
 use Rattle.count_invariant.proofs.Common.{Some, None, refl, sym, ◌∙◌, ap, subst, eq-eqb, Setting, IsSetting, Kill}
 use Rattle.count_invariant.proofs.Common.{CompFields, Comp, Kernel, State, comp_in, found, Cause, Does, RuleMay, outcome, unless}
 use Rattle.count_invariant.proofs.Common.{first_of, is_live_in, rule_of, change_of, is_one_of, footprint_frames, Trace, Open, phase}
-use Rattle.count_invariant.proofs.Common.{state_after, Plan, GoesBy, own_pages, rule_after, Leads, LeadsIn, outcome_left, left_may}
+use Rattle.count_invariant.proofs.Common.{state_after, GoesBy, own_pages, rule_after, Leads, LeadsIn, outcome_left, left_may}
 use Rattle.count_invariant.proofs.Common.{KillingAt, Act, Undecided, ActiveCall, StageFits, HasRoom, Core, KnowsUndecided, phase_at}
 use Rattle.count_invariant.proofs.Common.{Invariant}
 use Rattle.state_laws.specs.spk_nums.specs.declared.replies.Reply.TheVariants as reply
@@ -20,6 +20,7 @@ use Rattle.count_invariant.specs.plan_ways.proofs.InFootprint.{one_right}
 use Rattle.state_laws.specs.kernel_rules.specs.Edits.{Deaden as deaden_edit}
 use Rattle.state_laws.specs.kernel_rules.specs.Rules.{does}
 use Rattle.state_laws.specs.spk_nums.specs.declared.replies.Value.TheVariants.{Nothing as no_value}
+use Rattle.count_invariant.specs.act_states.specs.call_plans.specs.PlanOf.{plan_for}
 
 module _ (setup : Setting) (setting : IsSetting setup) (cores : ℕ → Core) (t : Trace) (stands : Invariant setup cores t) (c : ℕ)
     (here : c < setup.cores)
@@ -47,10 +48,10 @@ module _ (setup : Setting) (setting : IsSetting setup) (cores : ℕ → Core) (t
   pub fits : KillingFits (cores c).own.layout killing
   fits = subst (StageFits (cores c).own.layout) stage_is (is_active setup setting cores t stands c here a active).stage
 
-  pub leads : Leads (LeadsIn s c) a.plan.names [] a.found
+  pub leads : Leads (LeadsIn s c) (plan_for a.call).names [] a.found
   leads = plan_leads setup setting cores t stands c here a active has.names
 
-  pub by_plan : GoesBy (own_pages s c) a.plan (rule_of s c a.call)
+  pub by_plan : GoesBy (own_pages s c) (plan_for a.call) (rule_of s c a.call)
   by_plan = goes_by setup setting cores t stands c here a active has.names
 
   -- the component
@@ -73,7 +74,7 @@ module _ (setup : Setting) (setting : IsSetting setup) (cores : ℕ → Core) (t
       → change_of s c a.call ≡ unless (if not lives then Some reply.Dead else None)
       (does c s no_value (deaden_edit fields.number fields.epoch ∷ []))
   by_life lives so =
-      outcome_left s c (own_pages s c) a.plan (rule_of s c a.call) a.found by_plan leads ∙ ap (outcome s c) left
+      outcome_left s c (own_pages s c) (plan_for a.call) (rule_of s c a.call) a.found by_plan leads ∙ ap (outcome s c) left
       ∙ ap (λ b. unless (first_of (if not b then Some reply.Dead else None) None)
       (does c s no_value (deaden_edit fields.number fields.epoch ∷ []))) so
       ∙ last lives
@@ -85,13 +86,13 @@ module _ (setup : Setting) (setting : IsSetting setup) (cores : ℕ → Core) (t
       last false = refl
 
   pub may_be_dead : is_live_in (s.number fields.number) fields.epoch ≡ false → RuleMay s c (rule_of s c a.call) reply.Dead
-  may_be_dead none = left_may s c (own_pages s c) a.plan (rule_of s c a.call) a.found by_plan leads reply.Dead
+  may_be_dead none = left_may s c (own_pages s c) (plan_for a.call) (rule_of s c a.call) a.found by_plan leads reply.Dead
       (subst (λ x. RuleMay s c x reply.Dead) (sym left) (inl (ap (λ b. not b) none, refl)))
 
   -- the component and its number are in the footprint
   pub footprint : is_one_of f (footprint_frames s c a.call) ≡ true
   footprint = kill_footprint s c a.call a.found f has.knows.knows.kills
-      (subst (λ (p : Plan). Leads (LeadsIn s c) p.names [] a.found) (is_active setup setting cores t stands c here a active).plan leads)
+      leads
 
   pub number_footprint : (l : ℕ) → fields.number ≡ l → is_one_of l (footprint_numbers s c a.call) ≡ true
   number_footprint l same = one_right l (number_argument a.call) _

@@ -15,6 +15,7 @@ use Rattle.count_invariant.specs.core_invariant.specs.Knows.{HasComp, KillsBy}
 use Rattle.count_invariant.specs.kept_facts.proofs.Carries.{has_comp_on}
 use Rattle.count_invariant.specs.step_ways.proofs.Loads.{OnlyLooks, step_to, call_is, loads_on}
 use Rattle.count_invariant.specs.step_ways.proofs.Refusals.{GoodTook}
+use Rattle.count_invariant.specs.act_states.specs.call_plans.specs.PlanOf.{plan_for}
 
 -- What a name leads to is of a wanted kind, and is what was found.
 same_found : (wanted : Want) (j k : Capability) → of_kind wanted j ≡ Found k → j ≡ k
@@ -42,7 +43,8 @@ module _ (setup : Setting) (setting : IsSetting setup) (cores : ℕ → Core) (t
     (kind_is : k.kind ≡ kind.Comp)
     (found : named (state_after setup t) c n (to_use (only kind.Comp)) ≡ Found k)
     (names : Carries setup t (step_to c None move (last_left setup t (word_of move)) None None) c
-    → NamesAre setup (step_to c None move (last_left setup t (word_of move)) None None ∷ t) c (cores c).own.table a.plan (k ∷ []))
+    → NamesAre setup (step_to c None move (last_left setup t (word_of move)) None None ∷ t) c (cores c).own.table (plan_for a.call)
+    (k ∷ []))
     (may_act : IsTrue (acts (state_after setup t) c a.call)) where
   abbrev e : Step
   e = step_to c None move (last_left setup t (word_of move)) None None

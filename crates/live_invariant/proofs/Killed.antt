@@ -50,6 +50,7 @@ use Rattle.count_invariant.proofs.Findings.{own_is, found_named, way_gone}
 use Rattle.live_invariant.proofs.Numbers.{IsSpelled, spelled, no_number, number_is, lives_for}
 use Rattle.live_invariant.proofs.KillCalls as calls
 use Rattle.live_invariant.proofs.Kills.{load_comp_good, load_live_good, close_good}
+use Rattle.count_invariant.specs.act_states.specs.call_plans.specs.PlanOf.{plan_for}
 
 -- A count that falls by one.
 one_less : (m n : ℕ) → n + 1 ≡ m → pos n ≡ pos m +ℤ negsuc 0
@@ -379,11 +380,11 @@ module _ (setup : Setting) (setting : IsSetting setup) (cores : ℕ → Core) (t
 
     -- the places of the name are gone
     gone : HasReached (e ∷ t) c (ways s c (rule_of s c a.call))
-    gone = all_ways s c (own_pages s c) (e ∷ t) a.plan (rule_of s c a.call) a.found
+    gone = all_ways s c (own_pages s c) (e ∷ t) (plan_for a.call) (rule_of s c a.call) a.found
         (calls.by_plan setup setting cores t stands c here a active f by (Draw life word) stage_is has)
         (leads_by (λ n wanted q. HasFound setup t c (own_in (cores c).own.table n) wanted q)
         (λ n wanted q. LeadsIn s c n wanted q × HasReached (e ∷ t) c (way_to s c (own s c n)))
-        own_gone a.plan.names [] a.found has.names)
+        own_gone (plan_for a.call).names [] a.found has.names)
         (subst (λ y. HasReached (e ∷ t) c (ways s c y))
         (sym (calls.left setup setting cores t stands c here a active f by (Draw life word) stage_is has))
         (All-nil (λ (y : Slot). IsSome (own_left (e ∷ t) c (EntryAt y.node y.index)))))

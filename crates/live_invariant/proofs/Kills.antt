@@ -28,6 +28,7 @@ use Rattle.count_invariant.specs.step_ways.proofs.Refusals.{GoodTook, refuses_ra
 use Rattle.count_invariant.proofs.Acquiring.{knows_next, next_holds, one_apart}
 use Rattle.live_invariant.proofs.Numbers.{no_number, shows_live, lives_as_shown, shows_some}
 use Rattle.live_invariant.proofs.KillCalls as calls
+use Rattle.count_invariant.specs.act_states.specs.call_plans.specs.PlanOf.{plan_for}
 
 none_some : (d : ℕ) → None ≡ Some d → ⊥
 none_some d h = cc
@@ -83,7 +84,7 @@ module _ (setup : Setting) (setting : IsSetting setup) (cores : ℕ → Core) (t
       (calls.opens setup setting cores t stands c here a active f by LoadComp stage_is has)
       (λ carries. record {
         acts = has.acts;
-        names = names_on setup setting t e stands.legal c a.call is_open carries (cores c).own.table a.plan a.found has.names;
+        names = names_on setup setting t e stands.legal c a.call is_open carries (cores c).own.table (plan_for a.call) a.found has.names;
         knows = record {
           knows = record {
             kills = has.knows.knows.kills;
@@ -185,7 +186,7 @@ module _ (setup : Setting) (setting : IsSetting setup) (cores : ℕ → Core) (t
       (calls.opens setup setting cores t stands c here a active f by (LoadLive life) stage_is has)
       (λ carries. record {
         acts = has.acts;
-        names = names_on setup setting t e stands.legal c a.call is_open carries (cores c).own.table a.plan a.found has.names;
+        names = names_on setup setting t e stands.legal c a.call is_open carries (cores c).own.table (plan_for a.call) a.found has.names;
         knows = knows_next setup (e ∷ t) c (cores c).own.table (next_at a a.found (Undecided (next_work by 0 act))) by act (dues act)
             has.knows.knows.core
             (record {
@@ -328,7 +329,7 @@ module _ (setup : Setting) (setting : IsSetting setup) (cores : ℕ → Core) (t
         (calls.opens setup setting cores t stands c here a active f by (Close life word) stage_is has)
         (λ carries. record {
           acts = has.acts;
-          names = names_on setup setting t e stands.legal c a.call is_open carries (cores c).own.table a.plan a.found has.names;
+          names = names_on setup setting t e stands.legal c a.call is_open carries (cores c).own.table (plan_for a.call) a.found has.names;
           knows = record {
             knows = record {
               kills = has.knows.knows.kills;

@@ -59,6 +59,7 @@ use Rattle.page_invariant.proofs.TouchCalls.{empty_first, cached_first, mapped_i
 use Rattle.count_invariant.specs.act_states.specs.Touches.{touched}
 use Rattle.kernel_laws.specs.kernel_rules.specs.CallRelation.{begins_in as begins_in_of_callrelation}
 use Rattle.kernel_laws.specs.spk_nums.specs.Limits.{end_of_arg}
+use Rattle.count_invariant.specs.act_states.specs.call_plans.specs.PlanOf.{plan_for}
 
 -- What a touch takes from the load of its look-up, where this translation is cached or none.
 abbrev touched_at : Touching → Look → Option Translation → ℕ → WorkStep
@@ -249,7 +250,8 @@ module _ (setup : Setting) (setting : IsSetting setup) (cores : ℕ → Core) (t
           opens
           (λ carries. record {
             acts = has.acts;
-            names = names_on setup setting t e stands.legal c a.call is_open carries (cores c).own.table a.plan a.found has.names;
+            names = names_on setup setting t e stands.legal c a.call is_open carries (cores c).own.table (plan_for a.call) a.found
+                has.names;
             knows = record {
               knows = knows_on e carries (AtLeaf k.frame m.page) none (record {
                 relies = carries.stays.relies m.pages relies;

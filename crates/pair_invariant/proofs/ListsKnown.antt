@@ -20,6 +20,7 @@ use Rattle.count_invariant.specs.core_invariant.specs.Shares.{list_word}
 use Rattle.pair_invariant.proofs.ListsRead.{reads_whole}
 use Rattle.pair_invariant.proofs.ShareCalls as calls
 use Rattle.pair_invariant.proofs.ShareSteps.{mark_is, head_says, list_plain, a_says, a_list}
+use Rattle.count_invariant.specs.act_states.specs.call_plans.specs.PlanOf.{plan_for}
 
 -- The numbers of temporal capabilities after a legal trace.
 pub ranges_of : (setup : Setting) → IsSetting setup → (t : Trace) → IsLegal setup t → InRanges (state_after setup t)
@@ -138,13 +139,13 @@ module _ (setup : Setting) (setting : IsSetting setup) (cores : ℕ → Core) (t
   table_is = (stands.each c here).works.table
 
   pub all_gone : HasReached (e ∷ t) c (ways (state_after setup t) c (rule_of (state_after setup t) c a.call))
-  all_gone = all_ways (state_after setup t) c (own_pages (state_after setup t) c) (e ∷ t) a.plan
+  all_gone = all_ways (state_after setup t) c (own_pages (state_after setup t) c) (e ∷ t) (plan_for a.call)
       (rule_of (state_after setup t) c a.call) a.found
       (calls.by_plan setup setting cores t stands c here a active p stage_is has)
       (leads_by (λ n wanted q. HasFound setup t c (own_in (cores c).own.table n) wanted q)
       (λ n wanted q. LeadsIn (state_after setup t) c n wanted q
       × HasReached (e ∷ t) c (way_to (state_after setup t) c (own (state_after setup t) c n)))
-      own_gone a.plan.names [] a.found has.names)
+      own_gone (plan_for a.call).names [] a.found has.names)
       (subst (λ x. HasReached (e ∷ t) c (ways (state_after setup t) c x))
       (sym (calls.left setup setting cores t stands c here a active p stage_is has))
       (All-nil (λ (x : Slot). IsSome (own_left (e ∷ t) c (EntryAt x.node x.index)))))

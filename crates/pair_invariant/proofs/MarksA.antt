@@ -31,6 +31,7 @@ use Rattle.pair_invariant.proofs.ShareSteps.{mark_is, head_says, now_was, counte
 use Rattle.count_invariant.specs.core_invariant.specs.Shares.{turns_list}
 use Rattle.count_invariant.specs.step_ways.proofs.Loads.{next_at}
 use Rattle.kernel_laws.specs.kernel_rules.specs.TimeCalls.{is_short as is_short_of_timecalls}
+use Rattle.count_invariant.specs.act_states.specs.call_plans.specs.PlanOf.{plan_for}
 
 -- A step on a word of a temporal capability alone spares the words that others rely on, where it does so of this word.
 pub spares_one : (setup : Setting) (t : Trace) (e : Step) (f i : ℕ) (q : TcapFields)
@@ -315,7 +316,7 @@ module _ (setup : Setting) (setting : IsSetting setup) (cores : ℕ → Core) (t
         (calls.opens setup setting cores t stands c here a active mark_p stage_is has)
         (λ carries. record {
           acts = has.acts;
-          names = names_on setup setting t e stands.legal c a.call is_open carries (cores c).own.table a.plan a.found has.names;
+          names = names_on setup setting t e stands.legal c a.call is_open carries (cores c).own.table (plan_for a.call) a.found has.names;
           knows = record {
             knows = record {
               shares = shares_same a.call a.found mark_p goes_p refl refl refl has.knows.knows.shares;

@@ -29,6 +29,7 @@ use Rattle.count_invariant.specs.step_ways.proofs.Loads.{OnlyLooks, call_is, is_
 use Rattle.count_invariant.specs.kept_facts.proofs.Tcaps.{tcap_of}
 use Rattle.pair_invariant.proofs.ListsKnown.{ranges_of}
 use Rattle.pair_invariant.proofs.ShareCalls.{name_footprint}
+use Rattle.count_invariant.specs.act_states.specs.call_plans.specs.PlanOf.{plan_for}
 
 -- It is a replenishment of the temporal capability to which its name has led.
 pub record IsRefillCall (s : State) (c : ℕ) (call : Call) (ks : List Capability) (r : Refill) : Type 0 where
@@ -66,14 +67,14 @@ module _ (setup : Setting) (setting : IsSetting setup) (cores : ℕ → Core) (t
   pub fits : RefillFits (cores c).own.layout r
   fits = subst (StageFits (cores c).own.layout) stage_is (is_active setup setting cores t stands c here a active).stage
 
-  pub leads : Leads (LeadsIn s c) a.plan.names [] a.found
+  pub leads : Leads (LeadsIn s c) (plan_for a.call).names [] a.found
   leads = leads_by (λ n wanted k. HasFound setup t c (own_in (cores c).own.table n) wanted k) (LeadsIn s c)
-      (λ n wanted k had. found_named setup t c (cores c).own.table n wanted k (stands.each c here).works.table had) a.plan.names []
+      (λ n wanted k had. found_named setup t c (cores c).own.table n wanted k (stands.each c here).works.table had)
+      (plan_for a.call).names []
       a.found has.names
 
-  pub by_plan : GoesBy (own_pages s c) a.plan (rule_of s c a.call)
-  by_plan = subst (λ q. GoesBy (own_pages s c) q (rule_of s c a.call))
-      (sym (is_active setup setting cores t stands c here a active).plan) (calls_go s c a.call)
+  pub by_plan : GoesBy (own_pages s c) (plan_for a.call) (rule_of s c a.call)
+  by_plan = calls_go s c a.call
 
   -- no count is acquired, and no word is held
   pub no_counts : a.counts ≡ []
@@ -90,8 +91,7 @@ module _ (setup : Setting) (setting : IsSetting setup) (cores : ℕ → Core) (t
   tcap = tcap_of (s.frame r.tcap) has.knows.knows.tcap.tcap
 
   call_leads : Leads (LeadsIn s c) (plan_for a.call).names [] a.found
-  call_leads = subst (λ (q : Plan). Leads (LeadsIn s c) q.names [] a.found)
-      (is_active setup setting cores t stands c here a active).plan leads
+  call_leads = leads
 
   pub footprint : is_one_of r.tcap (footprint_frames s c a.call) ≡ true
   footprint = name_footprint s c a.call a.found call_leads First is.cap
@@ -115,10 +115,10 @@ module _ (setup : Setting) (setting : IsSetting setup) (cores : ℕ → Core) (t
       ∙ ap (λ xs. rule_after (rule_of s c (call_as.Replenish is.name is.amount)) xs) is.found_is
 
   pub change_is : change_of s c a.call ≡ unless (first_cause s c causes) change
-  change_is = outcome_left s c (own_pages s c) a.plan (rule_of s c a.call) a.found by_plan leads ∙ ap (outcome s c) left
+  change_is = outcome_left s c (own_pages s c) (plan_for a.call) (rule_of s c a.call) a.found by_plan leads ∙ ap (outcome s c) left
 
   pub may : (q : Reply) → RuleMay s c (Does causes Nothing edits) q → RuleMay s c (rule_of s c a.call) q
-  may q is_may = left_may s c (own_pages s c) a.plan (rule_of s c a.call) a.found by_plan leads q
+  may q is_may = left_may s c (own_pages s c) (plan_for a.call) (rule_of s c a.call) a.found by_plan leads q
       (subst (λ x. RuleMay s c x q) (sym left) is_may)
 
   -- what the core has left to have back, and the grant, are the state's

@@ -31,6 +31,7 @@ use Rattle.count_invariant.specs.step_ways.proofs.Refusals.{GoodTook, ticks_at, 
 use Rattle.pair_invariant.proofs.RefillCalls as calls
 use Rattle.pair_invariant.proofs.RefillLists as lists
 use Rattle.pair_invariant.proofs.ShareSteps.{mark_is, head_says, list_plain}
+use Rattle.count_invariant.specs.act_states.specs.call_plans.specs.PlanOf.{plan_for}
 
 -- It goes on by a load of a word of its temporal capability.
 refills_same : (s : State) (c : ℕ) (call : Call) (ks : List Capability) (r q : Refill) → q.tcap ≡ r.tcap → q.ticks ≡ r.ticks
@@ -67,7 +68,7 @@ module _ (setup : Setting) (setting : IsSetting setup) (cores : ℕ → Core) (t
         acts = has.acts;
         names = names_on setup setting t (loads i) stands.legal c a.call
             (calls.is_open setup setting cores t stands c here a active r stage_is has) carries (cores c).own.table
-            a.plan a.found has.names;
+            (plan_for a.call) a.found has.names;
         knows = record {
           knows = record {
             refills = refills_same before c a.call a.found r q tcap ticks left grant has.knows.knows.refills;

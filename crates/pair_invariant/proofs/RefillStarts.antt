@@ -14,12 +14,13 @@ use Rattle.count_invariant.specs.stage_tcap.specs.declared.refill.RefillAt.{Refi
 use Rattle.count_invariant.specs.stage_tcap.specs.declared.refill.RefillAt.TheVariants.{Load, List as at_list, Compare, Again}
 use Rattle.count_invariant.specs.act_states.specs.Refills.{left_among, refilling, took_refill}
 use Rattle.count_invariant.specs.act_states.specs.declared.work.Act.TheVariants.{Refill as refill_act}
-use Rattle.count_invariant.specs.step_ways.proofs.Loads.{OnlyLooks, step_to, call_is, is_active, loads_on}
+use Rattle.count_invariant.specs.step_ways.proofs.Loads.{OnlyLooks, step_to, call_is, loads_on}
 use Rattle.count_invariant.specs.step_ways.proofs.Refusals.{GoodTook}
 use Rattle.pair_invariant.proofs.RefillEnds.{again_good}
 use Rattle.pair_invariant.proofs.RefillLoads.{load_good, list_good}
 use Rattle.pair_invariant.proofs.RefillWins.{compare_good}
 use Rattle.pair_invariant.proofs.ShareStarts.{IsNamed, tcap_named}
+use Rattle.count_invariant.specs.act_states.specs.call_plans.specs.PlanOf.{plan_for}
 
 -- The name has led to this.
 record OneLed (s : State) (c x : ℕ) (ks : List Capability) : Type 0 where
@@ -38,7 +39,7 @@ module _ (setup : Setting) (setting : IsSetting setup) (cores : ℕ → Core) (t
     (a : ActiveCall) (active : (cores c).active ≡ Some a) (opens : phase_at a.call a.stage ≡ Open a.call)
     (held_is : holds_in (Some a) ≡ holds_counts None a.counts) (no_counts : a.counts ≡ [])
     (room : (cores c).own.made < (cores c).own.limit)
-    (by_plan : GoesBy (own_pages (state_after setup t) c) a.plan (rule_of (state_after setup t) c a.call))
+    (by_plan : GoesBy (own_pages (state_after setup t) c) (plan_for a.call) (rule_of (state_after setup t) c a.call))
     (move : Move) (looks : OnlyLooks setup t c a.call move)
     (may_act : IsTrue (acts (state_after setup t) c a.call)) where
   abbrev s : State
@@ -50,8 +51,9 @@ module _ (setup : Setting) (setting : IsSetting setup) (cores : ℕ → Core) (t
   open_now : phase t c ≡ Open a.call
   open_now = (call_is setup setting cores t stands c here a active).phase ∙ opens
 
-  module _ (ks : List Capability) (leads : Leads (LeadsIn s c) a.plan.names [] ks) (none : names_after a.plan.names ks ≡ [])
-      (names : Carries setup t e c → NamesAre setup (e ∷ t) c (cores c).own.table a.plan ks) (x m : ℕ)
+  module _ (ks : List Capability) (leads : Leads (LeadsIn s c) (plan_for a.call).names [] ks)
+      (none : names_after (plan_for a.call).names ks ≡ [])
+      (names : Carries setup t e c → NamesAre setup (e ∷ t) c (cores c).own.table (plan_for a.call) ks) (x m : ℕ)
       (call_so : a.call ≡ Replenish x m) where
     begins : (k : Capability) → ks ≡ k ∷ [] → IsNamed s c k
         → GoodTook setup cores t c move (landed (found_more a ks) (act_begun (cores c).own (Replenish x m) (k ∷ []) None None))
@@ -86,8 +88,8 @@ module _ (setup : Setting) (setting : IsSetting setup) (cores : ℕ → Core) (t
 
     pub refills_good : GoodTook setup cores t c move (landed (found_more a ks) (act_begun (cores c).own (Replenish x m) ks None None))
     refills_good =
-        let plan_names : a.plan.names ≡ of_kind kind.Tcap x ∷ [] =
-        ap (λ (p : Plan). p.names) ((is_active setup setting cores t stands c here a active).plan ∙ ap plan_for call_so) in
+        let plan_names : (plan_for a.call).names ≡ of_kind kind.Tcap x ∷ [] =
+        ap (λ (p : Plan). p.names) (ap plan_for call_so) in
         let led = one_led s c x ks (subst (λ (ns : List Name). Leads (LeadsIn s c) ns [] ks) plan_names leads)
         (subst (λ (ns : List Name). names_after ns ks ≡ []) plan_names none) in
         subst (λ (zs : List Capability).

@@ -43,6 +43,7 @@ use Rattle.count_invariant.specs.step_ways.proofs.Writes.{same_marks}
 use Rattle.pair_invariant.proofs.RefillCalls as calls
 use Rattle.pair_invariant.proofs.RefillEnds.{compare, of_call, compare_lost}
 use Rattle.pair_invariant.proofs.RefillLists as lists
+use Rattle.count_invariant.specs.act_states.specs.call_plans.specs.PlanOf.{plan_for}
 
 -- A core that has counted one call more.
 abbrev one_more : CoreFields → CoreFields
@@ -414,11 +415,11 @@ module _ (setup : Setting) (setting : IsSetting setup) (cores : ℕ → Core) (t
     table_is = (stands.each c here).works.table
 
     reached_all : IsJustified setup t e_won a.call done
-    reached_all = all_ways s c (own_pages s c) (e_won ∷ t) a.plan (rule_of s c a.call) a.found
+    reached_all = all_ways s c (own_pages s c) (e_won ∷ t) (plan_for a.call) (rule_of s c a.call) a.found
         (calls.by_plan setup setting cores t stands c here a active now_r stage_is has)
         (leads_by (λ n wanted k. HasFound setup t c (own_in (cores c).own.table n) wanted k)
         (λ n wanted k. LeadsIn s c n wanted k × HasReached (e_won ∷ t) c (way_to s c (own s c n)))
-        own_gone a.plan.names [] a.found has.names)
+        own_gone (plan_for a.call).names [] a.found has.names)
         (subst (λ x. HasReached (e_won ∷ t) c (ways s c x))
         (sym (calls.left setup setting cores t stands c here a active now_r stage_is has))
         (All-nil (λ (x : Slot). IsSome (own_left (e_won ∷ t) c (EntryAt x.node x.index)))))

@@ -4,7 +4,7 @@ use Rattle.count_invariant.proofs.Common.{ap, subst, eq-eqb, ne_eqb, Setting, Is
 use Rattle.count_invariant.proofs.Common.{Named, found, named_by, Change, Cause, Does, RuleMay, outcome, unless}
 use Rattle.count_invariant.proofs.Common.{first_cause, tcap_at, is_short, are_unlike, are_many, rule_of, change_of, ends_by}
 use Rattle.count_invariant.proofs.Common.{flushes_by, changes_budgets, is_one_of, footprint_frames, Trace, Open, phase, state_after, First}
-use Rattle.count_invariant.proofs.Common.{Second, Plan, at_place, plan_for, GoesBy, own_pages, rule_after, Leads, LeadsIn, leads_by}
+use Rattle.count_invariant.proofs.Common.{Second, at_place, plan_for, GoesBy, own_pages, rule_after, Leads, LeadsIn, leads_by}
 use Rattle.count_invariant.proofs.Common.{outcome_left, left_may, calls_go, Acquired, Pair, PairWork, Act, Undecided, ActiveCall}
 use Rattle.count_invariant.proofs.Common.{StageFits, HasRoom, Core, holds_counts, due_of, KnowsUndecided, phase_at, HasFound, own_in}
 use Rattle.count_invariant.proofs.Common.{SharesBy, holds_share, holds_at, holds_in, Invariant, TcapOf}
@@ -24,6 +24,7 @@ use Rattle.count_invariant.specs.kept_facts.proofs.Tcaps.{tcap_of}
 use Rattle.kernel_laws.specs.spk_nums.specs.declared.replies.Value.{Value}
 use Rattle.kernel_laws.specs.spk_nums.specs.declared.replies.Value.TheVariants.{Nothing}
 use Rattle.kernel_laws.specs.kernel_rules.specs.Rules.{does}
+use Rattle.count_invariant.specs.call_plans.specs.PlanOf.{plan_for}
 
 -- What refuses such a call after its names, in order, what it answers, and its edits.
 abbrev pub causes_of : State → PairWork → Named → Named → List Cause
@@ -142,14 +143,14 @@ module _ (setup : Setting) (setting : IsSetting setup) (cores : ℕ → Core) (t
   pub fits : PairFits (cores c).own.layout p
   fits = subst (StageFits (cores c).own.layout) stage_is (is_active setup setting cores t stands c here a active).stage
 
-  pub leads : Leads (LeadsIn s c) a.plan.names [] a.found
+  pub leads : Leads (LeadsIn s c) (plan_for a.call).names [] a.found
   leads = leads_by (λ n wanted k. HasFound setup t c (own_in (cores c).own.table n) wanted k) (LeadsIn s c)
-      (λ n wanted k had. found_named setup t c (cores c).own.table n wanted k (stands.each c here).works.table had) a.plan.names []
+      (λ n wanted k had. found_named setup t c (cores c).own.table n wanted k (stands.each c here).works.table had)
+      (plan_for a.call).names []
       a.found has.names
 
-  pub by_plan : GoesBy (own_pages s c) a.plan (rule_of s c a.call)
-  by_plan = subst (λ q. GoesBy (own_pages s c) q (rule_of s c a.call))
-      (sym (is_active setup setting cores t stands c here a active).plan) (calls_go s c a.call)
+  pub by_plan : GoesBy (own_pages s c) (plan_for a.call) (rule_of s c a.call)
+  by_plan = calls_go s c a.call
 
   -- no count is acquired
   pub no_counts : a.counts ≡ []
@@ -176,8 +177,7 @@ module _ (setup : Setting) (setting : IsSetting setup) (cores : ℕ → Core) (t
   names = is.a ∷ is.b ∷ []
 
   call_leads : Leads (LeadsIn s c) (plan_for a.call).names [] a.found
-  call_leads = subst (λ (q : Plan). Leads (LeadsIn s c) q.names [] a.found)
-      (is_active setup setting cores t stands c here a active).plan leads
+  call_leads = leads
 
   pub footprint_a : is_one_of p.a (footprint_frames s c a.call) ≡ true
   footprint_a = name_footprint s c a.call a.found call_leads First is.a
@@ -195,12 +195,12 @@ module _ (setup : Setting) (setting : IsSetting setup) (cores : ℕ → Core) (t
 
   pub change_is : change_of s c a.call
       ≡ unless (first_cause s c (causes_of s p.what (found is.a) (found is.b))) (change_by c s p.what is.a.frame is.b.frame)
-  change_is = outcome_left s c (own_pages s c) a.plan (rule_of s c a.call) a.found by_plan leads ∙ ap (outcome s c) left
+  change_is = outcome_left s c (own_pages s c) (plan_for a.call) (rule_of s c a.call) a.found by_plan leads ∙ ap (outcome s c) left
 
   pub may : (r : Reply) → RuleMay s c (Does (causes_of s p.what (found is.a) (found is.b)) (value_by s p.what is.a.frame is.b.frame)
       (edits_by s p.what is.a.frame is.b.frame)) r
       → RuleMay s c (rule_of s c a.call) r
-  may r is_may = left_may s c (own_pages s c) a.plan (rule_of s c a.call) a.found by_plan leads r
+  may r is_may = left_may s c (own_pages s c) (plan_for a.call) (rule_of s c a.call) a.found by_plan leads r
       (subst (λ x. RuleMay s c x r) (sym left) is_may)
 
   -- they are not one

@@ -18,9 +18,10 @@ use Rattle.count_invariant.specs.stage_tcap.specs.declared.pair.PairWork.TheVari
 use Rattle.count_invariant.specs.act_states.specs.declared.work.Act.TheVariants.{Share as share_act}
 use Rattle.count_invariant.specs.act_states.specs.Shares.{sharing, shares_if}
 use Rattle.count_invariant.specs.core_invariant.specs.Shares.{IsShared}
-use Rattle.count_invariant.specs.step_ways.proofs.Loads.{OnlyLooks, step_to, call_is, core_is, is_active, loads_on, decides_on}
+use Rattle.count_invariant.specs.step_ways.proofs.Loads.{OnlyLooks, step_to, call_is, core_is, loads_on, decides_on}
 use Rattle.count_invariant.specs.step_ways.proofs.Refusals.{GoodTook, not_spent}
 use Rattle.pair_invariant.proofs.ShareCalls.{causes_of, value_by, edits_by, change_by}
+use Rattle.count_invariant.specs.act_states.specs.call_plans.specs.PlanOf.{plan_for}
 
 -- What a name leads to is of a wanted kind, and is what was found.
 same_found : (wanted : Want) (j k : Capability) → has_kind wanted j ≡ Found k → (j ≡ k) × (wanted.kinds k.kind ≡ true)
@@ -73,7 +74,7 @@ module _ (setup : Setting) (setting : IsSetting setup) (cores : ℕ → Core) (t
     (a : ActiveCall) (active : (cores c).active ≡ Some a) (opens : phase_at a.call a.stage ≡ Open a.call)
     (held_is : holds_in (Some a) ≡ holds_counts None a.counts) (no_counts : a.counts ≡ [])
     (room : (cores c).own.made < (cores c).own.limit)
-    (by_plan : GoesBy (own_pages (state_after setup t) c) a.plan (rule_of (state_after setup t) c a.call))
+    (by_plan : GoesBy (own_pages (state_after setup t) c) (plan_for a.call) (rule_of (state_after setup t) c a.call))
     (move : Move) (looks : OnlyLooks setup t c a.call move)
     (may_act : IsTrue (acts (state_after setup t) c a.call)) where
   abbrev s : State
@@ -85,8 +86,8 @@ module _ (setup : Setting) (setting : IsSetting setup) (cores : ℕ → Core) (t
   open_now : phase t c ≡ Open a.call
   open_now = (call_is setup setting cores t stands c here a active).phase ∙ opens
 
-  module _ (j k : Capability) (what : PairWork) (leads : Leads (LeadsIn s c) a.plan.names [] (j ∷ k ∷ []))
-      (names : Carries setup t e c → NamesAre setup (e ∷ t) c (cores c).own.table a.plan (j ∷ k ∷ []))
+  module _ (j k : Capability) (what : PairWork) (leads : Leads (LeadsIn s c) (plan_for a.call).names [] (j ∷ k ∷ []))
+      (names : Carries setup t e c → NamesAre setup (e ∷ t) c (cores c).own.table (plan_for a.call) (j ∷ k ∷ []))
       (first : IsNamed s c j) (second : IsNamed s c k)
       (left : rule_after (rule_of s c a.call) (j ∷ k ∷ [])
       ≡ Does (causes_of s what (named_by_found j) (named_by_found k)) (value_by s what j.frame k.frame) (edits_by s what j.frame k.frame))
@@ -125,11 +126,11 @@ module _ (setup : Setting) (setting : IsSetting setup) (cores : ℕ → Core) (t
         decides_on setup setting cores t stands c here a active move reply.Same (j ∷ k ∷ []) looks lands
         (sym held_is) opens refl refl (λ x. refl) (λ x. refl) refl (
           unspent,
-          left_may s c (own_pages s c) a.plan (rule_of s c a.call) (j ∷ k ∷ []) by_plan leads reply.Same
+          left_may s c (own_pages s c) (plan_for a.call) (rule_of s c a.call) (j ∷ k ∷ []) by_plan leads reply.Same
               (subst (λ x. RuleMay s c x reply.Same) (sym left) (same_may what same)),
         ) tt
         (λ is_alone. refused_first s c a.call reply.Same may_act unspent
-        (outcome_left s c (own_pages s c) a.plan (rule_of s c a.call) (j ∷ k ∷ []) by_plan leads
+        (outcome_left s c (own_pages s c) (plan_for a.call) (rule_of s c a.call) (j ∷ k ∷ []) by_plan leads
         ∙ ap (outcome s c) left ∙ same_first what same))
 
     begins : (j.frame == k.frame) ≡ false → Begins false
@@ -167,17 +168,17 @@ module _ (setup : Setting) (setting : IsSetting setup) (cores : ℕ → Core) (t
         by false other = begins other
 
   -- the names of such a call have led to what they lead to
-  module _ (call : Call) (call_so : a.call ≡ call) (ks : List Capability) (leads : Leads (LeadsIn s c) a.plan.names [] ks)
-      (none : names_after a.plan.names ks ≡ [])
-      (names : Carries setup t e c → NamesAre setup (e ∷ t) c (cores c).own.table a.plan ks)
+  module _ (call : Call) (call_so : a.call ≡ call) (ks : List Capability) (leads : Leads (LeadsIn s c) (plan_for a.call).names [] ks)
+      (none : names_after (plan_for a.call).names ks ≡ [])
+      (names : Carries setup t e c → NamesAre setup (e ∷ t) c (cores c).own.table (plan_for a.call) ks)
       (x y : ℕ) (what : PairWork) (names_so : (plan_for call).names ≡ two_names x y)
       (begun_so : (j k : Capability)
       → act_begun (cores c).own call (j ∷ k ∷ []) None None ≡ shares_if (j.frame == k.frame) (cores c).own.core what j.frame k.frame)
       (left_so : (j k : Capability) → rule_after (rule_of s c call) (j ∷ k ∷ [])
       ≡ Does (causes_of s what (named_by_found j) (named_by_found k)) (value_by s what j.frame k.frame) (edits_by s what j.frame k.frame))
       (shares_so : (j k : Capability) (p : Pair) → IsShared j k what p → SharesBy call (j ∷ k ∷ []) p) where
-    plan_names : a.plan.names ≡ two_names x y
-    plan_names = ap (λ (p : Plan). p.names) ((is_active setup setting cores t stands c here a active).plan ∙ ap plan_for call_so) ∙ names_so
+    plan_names : (plan_for a.call).names ≡ two_names x y
+    plan_names = ap (λ (p : Plan). p.names) (ap plan_for call_so) ∙ names_so
 
     led : TwoLed s c x y ks
     led = two_led s c x y ks (subst (λ (ns : List Name). Leads (LeadsIn s c) ns [] ks) plan_names leads)
@@ -190,15 +191,17 @@ module _ (setup : Setting) (setting : IsSetting setup) (cores : ℕ → Core) (t
         (subst (λ w. GoodTook setup cores t c move (landed (found_more a (led.first ∷ led.second ∷ [])) w))
         (sym (begun_so led.first led.second))
         (two_good led.first led.second what
-        (subst (λ (xs : List Capability). Leads (LeadsIn s c) a.plan.names [] xs) led.both leads)
-        (λ carries. subst (λ (xs : List Capability). NamesAre setup (e ∷ t) c (cores c).own.table a.plan xs) led.both (names carries))
+        (subst (λ (xs : List Capability). Leads (LeadsIn s c) (plan_for a.call).names [] xs) led.both leads)
+        (λ carries. subst (λ (xs : List Capability). NamesAre setup (e ∷ t) c (cores c).own.table (plan_for a.call) xs) led.both
+        (names carries))
         (tcap_named setup setting t stands.legal c a.call open_now x led.first led.first_led)
         (tcap_named setup setting t stands.legal c a.call open_now y led.second led.second_led)
         (ap (λ z. rule_after (rule_of s c z) (led.first ∷ led.second ∷ [])) call_so ∙ left_so led.first led.second)
         (λ p is. subst (λ z. SharesBy z (led.first ∷ led.second ∷ []) p) (sym call_so) (shares_so led.first led.second p is))))
 
-  module _ (ks : List Capability) (leads : Leads (LeadsIn s c) a.plan.names [] ks) (none : names_after a.plan.names ks ≡ [])
-      (names : Carries setup t e c → NamesAre setup (e ∷ t) c (cores c).own.table a.plan ks) (x y : ℕ) where
+  module _ (ks : List Capability) (leads : Leads (LeadsIn s c) (plan_for a.call).names [] ks)
+      (none : names_after (plan_for a.call).names ks ≡ [])
+      (names : Carries setup t e c → NamesAre setup (e ∷ t) c (cores c).own.table (plan_for a.call) ks) (x y : ℕ) where
     pub transfers_good : (m : ℕ) → a.call ≡ Transfer x y m
         → GoodTook setup cores t c move (landed (found_more a ks) (act_begun (cores c).own (Transfer x y m) ks None None))
     transfers_good m is =

@@ -24,6 +24,7 @@ use Rattle.count_invariant.specs.step_ways.proofs.Loads.{OnlyLooks, Lands, step_
 use Rattle.count_invariant.specs.step_ways.proofs.Refusals.{GoodTook}
 use Rattle.pair_invariant.proofs.ShareCalls as calls
 use Rattle.count_invariant.specs.step_ways.proofs.Good.{IsGood}
+use Rattle.count_invariant.specs.act_states.specs.call_plans.specs.PlanOf.{plan_for}
 
 -- Which call it is does not depend on how far it has come.
 shared_same : (a b : Capability) (what : PairWork) (p q : Pair) → q.a ≡ p.a → q.b ≡ p.b → q.what ≡ p.what → IsShared a b what p
@@ -141,7 +142,7 @@ module _ (setup : Setting) (setting : IsSetting setup) (cores : ℕ → Core) (t
       (holds_same ∙ sym (calls.held_is setup setting cores t stands c here a active p stage_is has)) opens_at
       (λ carries. record {
         acts = has.acts;
-        names = names_on setup setting t e stands.legal c a.call open_now carries (cores c).own.table a.plan a.found has.names;
+        names = names_on setup setting t e stands.legal c a.call open_now carries (cores c).own.table (plan_for a.call) a.found has.names;
         knows = record {
           knows = record {
             shares = shares_same a.call a.found p q first second work has.knows.knows.shares;

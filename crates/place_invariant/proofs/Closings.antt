@@ -31,6 +31,7 @@ use Rattle.count_invariant.specs.step_ways.proofs.Refusals.{GoodTook, ticks_at, 
 use Rattle.count_invariant.proofs.Acquiring.{removal_places, plan_leads, goes_by}
 use Rattle.place_invariant.proofs.Fills.{changes_node, target_way}
 use Rattle.count_invariant.proofs.Lookups.{footprint_way}
+use Rattle.count_invariant.specs.act_states.specs.call_plans.specs.PlanOf.{plan_for}
 
 -- The clock is no entry, and no count is one.
 not_clock : (f i : ℕ) → ClockAt ≢ EntryAt f i
@@ -99,10 +100,10 @@ module _ (setup : Setting) (setting : IsSetting setup) (cores : ℕ → Core) (t
     fits : StageFits (cores c).own.layout (Undecided (Act (remove_act (AtCompare node index word by) cap)))
     fits = subst (StageFits (cores c).own.layout) stage_is (is_active setup setting cores t stands c here a active).stage
 
-    leads : Leads (LeadsIn s c) a.plan.names [] a.found
+    leads : Leads (LeadsIn s c) (plan_for a.call).names [] a.found
     leads = plan_leads setup setting cores t stands c here a active has.names
 
-    by_plan : GoesBy (own_pages s c) a.plan (rule_of s c a.call)
+    by_plan : GoesBy (own_pages s c) (plan_for a.call) (rule_of s c a.call)
     by_plan = goes_by setup setting cores t stands c here a active has.names
 
     in_node : IsTrue (is_node (s.frame node))
@@ -111,10 +112,11 @@ module _ (setup : Setting) (setting : IsSetting setup) (cores : ℕ → Core) (t
 
     target_slot : target_of s c (rule_of s c a.call) ≡ Some slot
     target_slot = subst (λ x. IsTargetOf s c x (target_of s c (rule_of s c a.call))) has.knows.knows.removal.next
-        (target_is s c (own_pages s c) a.plan (rule_of s c a.call) a.found by_plan leads) ∙ has.knows.knows.removal.way.reached
+        (target_is s c (own_pages s c) (plan_for a.call) (rule_of s c a.call) a.found by_plan leads) ∙ has.knows.knows.removal.way.reached
 
     on_way : is_slot_in (wide_ways s c (rule_of s c a.call)) node index ≡ true
-    on_way = next_on_way s c (own_pages s c) a.plan (rule_of s c a.call) a.found by_plan leads has.knows.knows.removal.target node index
+    on_way = next_on_way s c (own_pages s c) (plan_for a.call) (rule_of s c a.call) a.found by_plan leads has.knows.knows.removal.target
+        node index
         (subst (λ x. NextPlace s c x has.knows.knows.removal.target) (sym has.knows.knows.removal.next) refl)
         (target_way s c has.knows.knows.removal.target slot has.knows.knows.removal.way.reached)
 
@@ -196,9 +198,10 @@ module _ (setup : Setting) (setting : IsSetting setup) (cores : ℕ → Core) (t
           opens
           (λ carries. record {
             acts = has.acts;
-            names = names_on setup setting t e stands.legal c a.call is_open carries (cores c).own.table a.plan a.found has.names;
+            names = names_on setup setting t e stands.legal c a.call is_open carries (cores c).own.table (plan_for a.call) a.found
+                has.names;
             knows = record {
-              knows = removal_on setup setting t e stands.legal c a.call is_open carries a.call a.plan a.found node index cap
+              knows = removal_on setup setting t e stands.legal c a.call is_open carries a.call (plan_for a.call) a.found node index cap
                   has.knows.knows.removal;
               all = has.knows.all;
               goes = refl;

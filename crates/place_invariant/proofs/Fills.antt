@@ -17,7 +17,7 @@ use Rattle.count_invariant.proofs.Common.{calls_counted, is_node, put_same, slot
 use Rattle.count_invariant.proofs.Common.{state_after, state_decided_in, last_left, capability_in, root_passed, way_to, wide_way_to, ways}
 use Rattle.count_invariant.proofs.Common.{wide_ways, target_of, changes_places, changes_in_frame, is_slot_in, HasReached, IsSlot}
 use Rattle.count_invariant.proofs.Common.{ok_first, entry_mark, mark_in_frame, mark_of, marked_by, ends_in, flushes_in, stamp}
-use Rattle.count_invariant.proofs.Common.{CapNames, Plan, of_kind, plan_for, GoesBy, own_pages, calls_go, leads_by, outcome_left}
+use Rattle.count_invariant.proofs.Common.{CapNames, of_kind, plan_for, GoesBy, own_pages, calls_go, leads_by, outcome_left}
 use Rattle.count_invariant.proofs.Common.{rule_after, names_after, Leads, LeadsIn, NextName, NextFree, next_of, Act, Undecided, Decided}
 use Rattle.count_invariant.proofs.Common.{ActiveCall, put_by, reads_of, page_cap, named_by, times, refs, reads_alike, IsCalm}
 use Rattle.count_invariant.proofs.Common.{IsUntimed, plain_stamp, limits_of, holds_counts, landed, Core, StageFits, HasRoom}
@@ -62,6 +62,7 @@ use Rattle.count_invariant.proofs.Lookups.{slot_right, slot_one, footprint_way}
 use Rattle.count_invariant.proofs.Findings.{own_is, found_named, way_gone}
 use Rattle.count_invariant.proofs.Next.{Rest, ANameLeft, NoneLeft, rest_of, next_name}
 use Rattle.kernel_laws.specs.kernel_rules.specs.Edits.{Fill as fill_edit}
+use Rattle.count_invariant.specs.call_plans.specs.PlanOf.{plan_for}
 
 -- What a call puts at its target: what is left of its rule after its names fills the target with k, where no own cause stands, and it
 -- changes
@@ -168,13 +169,12 @@ module _ (setup : Setting) (setting : IsSetting setup) (cores : ℕ → Core) (t
   table_is : (cores c).own.table ≡ (comp_of s c).table
   table_is = (stands.each c here).works.table
 
-  goes_by : GoesBy (own_pages s c) a.plan (rule_of s c a.call)
-  goes_by = subst (λ p. GoesBy (own_pages s c) p (rule_of s c a.call)) (sym (is_active setup setting cores t stands c here a active).plan)
-      (calls_go s c a.call)
+  goes_by : GoesBy (own_pages s c) (plan_for a.call) (rule_of s c a.call)
+  goes_by = calls_go s c a.call
 
-  leads : Leads (LeadsIn s c) a.plan.names [] a.found
+  leads : Leads (LeadsIn s c) (plan_for a.call).names [] a.found
   leads = leads_by (λ n wanted q. HasFound setup t c (own_in (cores c).own.table n) wanted q) (LeadsIn s c)
-      (λ n wanted q had. found_named setup t c (cores c).own.table n wanted q table_is had) a.plan.names [] a.found has.names
+      (λ n wanted q had. found_named setup t c (cores c).own.table n wanted q table_is had) (plan_for a.call).names [] a.found has.names
 
   fits_in : FillFits (cores c).own.layout (record { node = node; entry = index; word = word; cap = k })
   fits_in = subst (StageFits (cores c).own.layout) stage_is (is_active setup setting cores t stands c here a active).stage
@@ -184,7 +184,7 @@ module _ (setup : Setting) (setting : IsSetting setup) (cores : ℕ → Core) (t
 
   target_slot : target_of s c (rule_of s c a.call) ≡ Some slot
   target_slot = subst (λ x. IsTargetOf s c x (target_of s c (rule_of s c a.call))) has.knows.knows.next
-      (target_is s c (own_pages s c) a.plan (rule_of s c a.call) a.found goes_by leads)
+      (target_is s c (own_pages s c) (plan_for a.call) (rule_of s c a.call) a.found goes_by leads)
       ∙ has.knows.knows.way.reached
 
   -- the compare is one of the call, on a place of its way
@@ -192,7 +192,7 @@ module _ (setup : Setting) (setting : IsSetting setup) (cores : ℕ → Core) (t
   compare = CompareOf (EntryAt node index) word (word_of_entry (Held k))
 
   on_way : is_slot_in (wide_ways s c (rule_of s c a.call)) node index ≡ true
-  on_way = next_on_way s c (own_pages s c) a.plan (rule_of s c a.call) a.found goes_by leads has.knows.knows.target node index
+  on_way = next_on_way s c (own_pages s c) (plan_for a.call) (rule_of s c a.call) a.found goes_by leads has.knows.knows.target node index
       (subst (λ x. NextPlace s c x has.knows.knows.target) (sym has.knows.knows.next) refl)
       (target_way s c has.knows.knows.target slot has.knows.knows.way.reached)
 
@@ -247,7 +247,7 @@ module _ (setup : Setting) (setting : IsSetting setup) (cores : ℕ → Core) (t
     empty = vacant_by setup t c node index (ap (λ l. l.cores) (limits_of setup t)) setup.frames (entry_of_word was) unmarked.says may
 
     change : change_of s c a.call ≡ Found (does c s Nothing (fill_edit slot k ∷ []))
-    change = outcome_left s c (own_pages s c) a.plan (rule_of s c a.call) a.found goes_by leads ∙ ap (outcome s c) puts.rule
+    change = outcome_left s c (own_pages s c) (plan_for a.call) (rule_of s c a.call) a.found goes_by leads ∙ ap (outcome s c) puts.rule
         ∙ puts_it s c has.knows.knows.target k puts.causes puts.calm slot has.knows.knows.way.reached empty.vacant
 
     now : state_after setup (e ∷ t) ≡ counted (with_place s node index (Holds k)) c
@@ -310,10 +310,10 @@ module _ (setup : Setting) (setting : IsSetting setup) (cores : ℕ → Core) (t
 
     -- all places of the call's ways are gone
     gone : HasReached (e ∷ t) c (ways s c (rule_of s c a.call))
-    gone = all_ways s c (own_pages s c) (e ∷ t) a.plan (rule_of s c a.call) a.found goes_by
+    gone = all_ways s c (own_pages s c) (e ∷ t) (plan_for a.call) (rule_of s c a.call) a.found goes_by
         (leads_by (λ n wanted q. HasFound setup t c (own_in (cores c).own.table n) wanted q)
         (λ n wanted q. LeadsIn s c n wanted q × HasReached (e ∷ t) c (way_to s c (own s c n)))
-        own_gone a.plan.names [] a.found has.names)
+        own_gone (plan_for a.call).names [] a.found has.names)
         (subst (λ x. HasReached (e ∷ t) c (ways s c x)) (sym puts.rule)
         (way_gone setup t (e ∷ t) c has.knows.knows.target slot has.knows.knows.way.reached
         (λ n d h. own_kept t e c refl refl _ (has.knows.knows.way.stepped n d h))))
@@ -572,27 +572,23 @@ module _ (setup : Setting) (setting : IsSetting setup) (cores : ℕ → Core) (t
     (here : c < setup.cores)
     (a : ActiveCall) (fill : Fill) (active : (cores c).active ≡ Some a) (stage_is : a.stage ≡ Undecided (Act (fill_act fill)))
     (has : KnowsUndecided setup t c (cores c).own.table a (Act (fill_act fill))) where
-  plan_is : a.plan ≡ plan_for a.call
-  plan_is = (is_active setup setting cores t stands c here a active).plan
-
-  none_left : names_after a.plan.names a.found ≡ []
-  none_left = by (rest_of a.plan a.found)
+  none_left : names_after (plan_for a.call).names a.found ≡ []
+  none_left = by (rest_of (plan_for a.call) a.found)
     where
       not_free : (n : ℕ) (wanted : Want) (target : Target) → NextName n wanted ≡ NextFree target → ⊥
       not_free n wanted target h = cc
 
-      by : Rest a.plan a.found → names_after a.plan.names a.found ≡ []
+      by : Rest (plan_for a.call) a.found → names_after (plan_for a.call).names a.found ≡ []
       by (ANameLeft name rest is) =
-          absurd (not_free _ _ has.knows.knows.target (sym (next_name a.plan a.found name rest is) ∙ has.knows.knows.next))
+          absurd (not_free _ _ has.knows.knows.target (sym (next_name (plan_for a.call) a.found name rest is) ∙ has.knows.knows.next))
       by (NoneLeft none) = none
 
   pub fill_good : GoodTook setup cores t c (fill_move fill) (landed a
       (filled_if (last_left setup t (EntryAt fill.node fill.entry) == fill.word)))
   fill_good = compare_good setup setting cores t stands c here a fill.node fill.entry fill.word fill.cap active stage_is has
       (puts_by (state_after setup t) c has.knows.knows.target fill.cap a.call a.found
-      (subst (λ (p : Plan). Leads (LeadsIn (state_after setup t) c) p.names [] a.found) plan_is
-      (plan_leads setup setting cores t stands c here a active has.names))
-      (subst (λ (p : Plan). names_after p.names a.found ≡ []) plan_is none_left)
-      (ap (λ p. next_of p a.found) (sym plan_is) ∙ has.knows.knows.next)
+      (plan_leads setup setting cores t stands c here a active has.names)
+      none_left
+      has.knows.knows.next
       has.knows.knows.read has.knows.knows.has_read has.knows.knows.puts
       (maps_user setup t c a.call has.knows.knows.user))

@@ -9,7 +9,7 @@ use Rattle.count_invariant.proofs.Common.{is_frame, Change, RuleMay, Refused, Va
 use Rattle.count_invariant.proofs.Common.{outcome, rule_of, change_of, are_calls_spent}
 use Rattle.count_invariant.proofs.Common.{IsAlone, looks_at_frames, is_one_of, footprint_frames}
 use Rattle.count_invariant.proofs.Common.{frame_argument, marked_by, count_mark, frame_mark, frame_value, Step, Trace, Open, phase}
-use Rattle.count_invariant.proofs.Common.{state_after, last_left, refused_first, own_read-there, last_left-there, Plan, plan_for, GoesBy}
+use Rattle.count_invariant.proofs.Common.{state_after, last_left, refused_first, own_read-there, last_left-there, plan_for, GoesBy}
 use Rattle.count_invariant.proofs.Common.{own_pages, Leads, LeadsIn, NextFree, rule_after, next_of, left_may, outcome_left, Second}
 use Rattle.count_invariant.proofs.Common.{at_place, Due, Act, Goes, refuse, Acquired, named_by, is_node, reads_of, put_by, page_cap}
 use Rattle.count_invariant.proofs.Common.{Undecided, ActiveCall, StageFits, HasRoom, landed, Core, holds_counts, settled_by, ReadIs}
@@ -34,6 +34,7 @@ use Rattle.place_invariant.proofs.Outside.{vacant_slot, vacant_node, stands_alon
 use Rattle.kernel_laws.specs.kernel_rules.specs.Edits.{Fill as fill_edit}
 use Rattle.kernel_laws.specs.kernel_rules.specs.Rules.{does}
 use Rattle.kernel_laws.specs.spk_nums.specs.declared.replies.Value.TheVariants.{Nothing as no_value}
+use Rattle.count_invariant.specs.act_states.specs.call_plans.specs.PlanOf.{plan_for}
 
 -- A frame that its word does not call a user frame is none.
 not_user_is : (x : Frame) (j : FrameKind) → (frame_value x).kind ≡ j → (j ≡ kind.User → ⊥) → is_user x ≡ false
@@ -134,7 +135,7 @@ module _ (setup : Setting) (setting : IsSetting setup) (cores : ℕ → Core) (t
   abbrev was : ℕ
   was = last_left setup t (FrameAt f)
 
-  knows : IsMapping setup t c a.call a.plan a.found setup.cores fill
+  knows : IsMapping setup t c a.call (plan_for a.call) a.found setup.cores fill
   knows = has.knows.knows
 
   fits : StageFits (cores c).own.layout (Undecided (Act (map_act fill)))
@@ -155,14 +156,11 @@ module _ (setup : Setting) (setting : IsSetting setup) (cores : ℕ → Core) (t
   unspent : are_calls_spent s c ≡ false
   unspent = not_spent setup (cores c) t c (core_is setup setting cores t stands c here a active) room
 
-  leads : Leads (LeadsIn s c) a.plan.names [] a.found
+  leads : Leads (LeadsIn s c) (plan_for a.call).names [] a.found
   leads = plan_leads setup setting cores t stands c here a active has.names
 
-  by_plan : GoesBy (own_pages s c) a.plan (rule_of s c a.call)
+  by_plan : GoesBy (own_pages s c) (plan_for a.call) (rule_of s c a.call)
   by_plan = goes_by setup setting cores t stands c here a active has.names
-
-  plan_is : a.plan ≡ plan_for a.call
-  plan_is = (is_active setup setting cores t stands c here a active).plan
 
   below : f < s.limits.frames
   below = subst (λ (n : ℕ). f < n) (ap (λ x. x.frames) (stands.each c here).shape ∙ sym (ap (λ l. l.frames) (limits_of setup t))) fits.1
@@ -178,8 +176,8 @@ module _ (setup : Setting) (setting : IsSetting setup) (cores : ℕ → Core) (t
       (subst (λ x. MapRule s c x a.found is.frame knows.spot.target) (sym is.call_is)
       (map_rule_of s c is.pages is.page is.name is.frame is.flags a.found fill.cap knows.spot.target
       (subst (λ x. Leads (LeadsIn s c) (plan_for x).names [] a.found) is.call_is
-      (subst (λ (p : Plan). Leads (LeadsIn s c) p.names [] a.found) plan_is leads))
-      (ap (λ x. next_of (plan_for x) a.found) (sym is.call_is) ∙ ap (λ p. next_of p a.found) (sym plan_is) ∙ knows.spot.next)
+      leads)
+      (ap (λ x. next_of (plan_for x) a.found) (sym is.call_is) ∙ knows.spot.next)
       (subst (λ x. put_by x a.found None ≡ Some fill.cap) is.call_is knows.puts)))
 
   footprint : is_one_of f (footprint_frames s c a.call) ≡ true
@@ -214,7 +212,7 @@ module _ (setup : Setting) (setting : IsSetting setup) (cores : ℕ → Core) (t
       decides_on setup setting cores t stands c here a active load reply.FrameKind a.found looks lands (sym held_is) opens refl refl
       (λ x. refl) (λ x. refl) refl (
         unspent,
-        left_may s c (own_pages s c) a.plan (rule_of s c a.call) a.found by_plan leads reply.FrameKind
+        left_may s c (own_pages s c) (plan_for a.call) (rule_of s c a.call) a.found by_plan leads reply.FrameKind
             (subst (λ x. RuleMay s c x reply.FrameKind) (sym rest.rule) (inr (inr (inl (stands_so, refl))))),
       ) tt
       (λ is_alone. refused_first s c a.call reply.FrameKind has.acts unspent (first is_alone))
@@ -227,7 +225,7 @@ module _ (setup : Setting) (setting : IsSetting setup) (cores : ℕ → Core) (t
 
       first : IsAlone t (step_to c None load was (Some reply.FrameKind) None) → change_of s c a.call ≡ Refused reply.FrameKind
       first alone =
-          outcome_left s c (own_pages s c) a.plan (rule_of s c a.call) a.found by_plan leads ∙ ap (outcome s c) rest.rule
+          outcome_left s c (own_pages s c) (plan_for a.call) (rule_of s c a.call) a.found by_plan leads ∙ ap (outcome s c) rest.rule
           ∙ ap (λ x. and_then x λ at. outcome s c (Does (outside (found rest.range) f ∷ not_user s f ∷ []) no_value
           (fill_edit at (page_cap f rest.flags) ∷ [])))
           (vacant_slot s c knows.spot.target (record { node = fill.node; index = fill.entry }) knows.spot.way.reached
@@ -263,11 +261,12 @@ module _ (setup : Setting) (setting : IsSetting setup) (cores : ℕ → Core) (t
       let e : Step = step_to c None load was None None in
       loads_on setup setting cores t stands c here a active load a.found (Undecided (Act (fill_act fill))) looks lands (sym held_is) opens
       (λ carries.
-      let spot = spot_on setup setting t e stands.legal c a.call is_open carries a.plan a.found setup.cores fill.node fill.entry fill.word
+      let spot = spot_on setup setting t e stands.legal c a.call is_open carries (plan_for a.call) a.found setup.cores fill.node
+      fill.entry fill.word
       (own_read-there c e t refl (EntryAt fill.node fill.entry) (entry_apart fill.node fill.entry)) knows.spot in
       record {
         acts = has.acts;
-        names = names_on setup setting t e stands.legal c a.call is_open carries (cores c).own.table a.plan a.found has.names;
+        names = names_on setup setting t e stands.legal c a.call is_open carries (cores c).own.table (plan_for a.call) a.found has.names;
         knows = record {
           knows = record {
             target = spot.target;

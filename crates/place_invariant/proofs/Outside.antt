@@ -18,7 +18,7 @@ use Rattle.kernel_laws.specs.kernel_rules.specs.MemoryCalls.{not_user}
 use Rattle.kernel_laws.specs.kernel_rules.specs.Rules.{When, does}
 use Rattle.kernel_laws.specs.kernel_rules.specs.CapabilityCalls.{not_taken, has_frames}
 use Rattle.count_invariant.specs.core_invariant.specs.Knows.{OutsideBy, OutsideObject, OutsideComp}
-use Rattle.count_invariant.specs.step_ways.proofs.Loads.{step_to, call_is, is_active}
+use Rattle.count_invariant.specs.step_ways.proofs.Loads.{step_to, call_is}
 use Rattle.count_invariant.specs.step_ways.proofs.Places.{IsMarked, IsUnmarked, place_reads}
 use Rattle.count_invariant.proofs.Acquiring.{plan_leads, goes_by}
 use Rattle.count_invariant.proofs.Next.{Rest, ANameLeft, NoneLeft, rest_of, next_name}
@@ -29,6 +29,7 @@ use Rattle.kernel_laws.specs.kernel_rules.specs.Edits.{Component as component_ed
 use Rattle.kernel_laws.specs.spk_nums.specs.declared.replies.Value.TheVariants.{Nothing as no_value}
 use Rattle.kernel_laws.specs.spk_nums.specs.declared.kinds.Kind.TheVariants as kind
 use Rattle.kernel_laws.specs.kernel_rules.specs.Start.{plain_cap}
+use Rattle.count_invariant.specs.core_invariant.specs.call_plans.specs.PlanOf.{plan_for}
 
 -- A slot that is reached and vacant.
 pub vacant_slot : (s : State) (c : ℕ) (target : Target) (at : Slot) → reached s c target ≡ Some at
@@ -185,8 +186,8 @@ refusable s c call ks target out leads next = absurd out
 module _ (setup : Setting) (setting : IsSetting setup) (cores : ℕ → Core) (t : Trace) (stands : Invariant setup cores t) (c : ℕ)
     (here : c < setup.cores)
     (a : ActiveCall) (active : (cores c).active ≡ Some a)
-    (names : NamesAre setup t c (cores c).own.table a.plan a.found) (node index : ℕ) (target : Target)
-    (next : next_of a.plan a.found ≡ NextFree target)
+    (names : NamesAre setup t c (cores c).own.table (plan_for a.call) a.found) (node index : ℕ) (target : Target)
+    (next : next_of (plan_for a.call) a.found ≡ NextFree target)
     (reaches : reached (state_after setup t) c target ≡ Some (record { node = node; index = index }))
     (out : OutsideBy a.call a.found) (move : Move)
     (vacant_alone : IsAlone t (step_to c None move (last_left setup t (word_of move)) (Some reply.OutOfRange) None)
@@ -197,23 +198,20 @@ module _ (setup : Setting) (setting : IsSetting setup) (cores : ℕ → Core) (t
   abbrev slot : Slot
   slot = record { node = node; index = index }
 
-  leads : Leads (LeadsIn s c) a.plan.names [] a.found
+  leads : Leads (LeadsIn s c) (plan_for a.call).names [] a.found
   leads = plan_leads setup setting cores t stands c here a active names
 
-  by_plan : GoesBy (own_pages s c) a.plan (rule_of s c a.call)
+  by_plan : GoesBy (own_pages s c) (plan_for a.call) (rule_of s c a.call)
   by_plan = goes_by setup setting cores t stands c here a active names
 
-  plan_is : a.plan ≡ plan_for a.call
-  plan_is = (is_active setup setting cores t stands c here a active).plan
-
   is : IsRefusable s c a.call a.found target
-  is = refusable s c a.call a.found target out (subst (λ (p : Plan). Leads (LeadsIn s c) p.names [] a.found) plan_is leads)
-      (ap (λ p. next_of p a.found) (sym plan_is) ∙ next)
+  is = refusable s c a.call a.found target out leads
+      next
 
   first : IsAlone t (step_to c None move (last_left setup t (word_of move)) (Some reply.OutOfRange) None)
       → change_of s c a.call ≡ Refused reply.OutOfRange
   first alone =
-      outcome_left s c (own_pages s c) a.plan (rule_of s c a.call) a.found by_plan leads ∙ ap (outcome s c) is.rule
+      outcome_left s c (own_pages s c) (plan_for a.call) (rule_of s c a.call) a.found by_plan leads ∙ ap (outcome s c) is.rule
       ∙ ap (λ x. and_then x λ at. unless (first_of (if not is.has then Some reply.OutOfRange else None)
       (first_cause s c is.causes)) (does c s no_value (is.edits at)))
       (vacant_slot s c target slot reaches (vacant_alone alone).vacant)
@@ -222,7 +220,7 @@ module _ (setup : Setting) (setting : IsSetting setup) (cores : ℕ → Core) (t
 
   pub refused_vacant : IsRefusedOutside setup t c a.call move
   refused_vacant = record {
-    may = left_may s c (own_pages s c) a.plan (rule_of s c a.call) a.found by_plan leads reply.OutOfRange
+    may = left_may s c (own_pages s c) (plan_for a.call) (rule_of s c a.call) a.found by_plan leads reply.OutOfRange
         (subst (λ x. RuleMay s c x reply.OutOfRange) (sym is.rule) (inr (inl (ap (λ b. not b) is.is_outside, refl))));
     first = first;
   }
@@ -242,8 +240,8 @@ stands_alone setup t c node index word own move r alone = elim (cases_eq (last_l
 module _ (setup : Setting) (setting : IsSetting setup) (cores : ℕ → Core) (t : Trace) (stands : Invariant setup cores t) (c : ℕ)
     (here : c < setup.cores)
     (a : ActiveCall) (active : (cores c).active ≡ Some a) (opens : phase_at a.call a.stage ≡ Open a.call)
-    (names : NamesAre setup t c (cores c).own.table a.plan a.found) (node index word : ℕ)
-    (spot : IsSpot setup t c a.plan a.found setup.cores node index word) where
+    (names : NamesAre setup t c (cores c).own.table (plan_for a.call) a.found) (node index word : ℕ)
+    (spot : IsSpot setup t c (plan_for a.call) a.found setup.cores node index word) where
   pub vacant_node : (index < 64) → IsTrue (is_node ((state_after setup t).frame node)) → last_left setup t (EntryAt node index) ≡ word
       → IsVacant (state_after setup t) c node index
   vacant_node small in_node same =

@@ -15,7 +15,7 @@ use Rattle.count_invariant.proofs.Common.{state_decided_in, last_left, way_to, w
 use Rattle.count_invariant.proofs.Common.{marked_by, ends_in, flushes_in, begins_at, ends_at, flushes_at, stamp, clock, flush_stored}
 use Rattle.count_invariant.proofs.Common.{is_in, ok_first, was_now, was_stays, decided-inside, cases_word, same_word-other, stamp-begins}
 use Rattle.count_invariant.proofs.Common.{stamp-kept, flush_stored-own, flush_stored-other, Close, AtCompare, AtDraw, AtStore}
-use Rattle.count_invariant.proofs.Common.{drawn_stamp, Plan, of_kind, plan_for, GoesBy, own_pages, rule_after, names_after, Leads}
+use Rattle.count_invariant.proofs.Common.{drawn_stamp, of_kind, plan_for, GoesBy, own_pages, rule_after, names_after, Leads}
 use Rattle.count_invariant.proofs.Common.{LeadsIn, NextName, NextHeld, next_of, leads_by, outcome_left, later, Act, Nothing, Quiesce}
 use Rattle.count_invariant.proofs.Common.{Undecided, Decided, ActiveCall, removes_by, StageFits, HasRoom, GoesOn, landed, went_with, Core}
 use Rattle.count_invariant.proofs.Common.{Holding, holds_counts, settled_by, settled, PlaceIs, WordIs, HasFound}
@@ -58,6 +58,7 @@ use Rattle.count_invariant.proofs.Next.{Rest, ANameLeft, NoneLeft, rest_of, next
 use Rattle.kernel_laws.specs.kernel_rules.specs.Edits.{Remove as remove_edit}
 use Rattle.kernel_laws.specs.kernel_rules.specs.Rules.{does}
 use Rattle.kernel_laws.specs.spk_nums.specs.declared.replies.Value.TheVariants.{Nothing as no_value}
+use Rattle.count_invariant.specs.call_plans.specs.PlanOf.{plan_for}
 
 -- What a call takes away at its target: what is left of its rule after its names removes what the target holds.
 pub record TakesAway (s : State) (c : ℕ) (call : Call) (ks : List Capability) (target : Target) : Type 0 where
@@ -210,10 +211,10 @@ module _ (setup : Setting) (setting : IsSetting setup) (cores : ℕ → Core) (t
   table_is : (cores c).own.table ≡ (comp_of s c).table
   table_is = (stands.each c here).works.table
 
-  leads : Leads (LeadsIn s c) a.plan.names [] a.found
+  leads : Leads (LeadsIn s c) (plan_for a.call).names [] a.found
   leads = plan_leads setup setting cores t stands c here a active has.names
 
-  by_plan : GoesBy (own_pages s c) a.plan (rule_of s c a.call)
+  by_plan : GoesBy (own_pages s c) (plan_for a.call) (rule_of s c a.call)
   by_plan = goes_by setup setting cores t stands c here a active has.names
 
   fits : StageFits (cores c).own.layout (Undecided (Act (remove_act (AtDraw node index) cap)))
@@ -246,7 +247,7 @@ module _ (setup : Setting) (setting : IsSetting setup) (cores : ℕ → Core) (t
       (spelling.reads (entry.Held cap) has.knows.knows.fits)
 
   change : change_of s c a.call ≡ Found (does c s no_value (remove_edit slot cap ∷ []))
-  change = outcome_left s c (own_pages s c) a.plan (rule_of s c a.call) a.found by_plan leads ∙ ap (outcome s c) takes.rule
+  change = outcome_left s c (own_pages s c) (plan_for a.call) (rule_of s c a.call) a.found by_plan leads ∙ ap (outcome s c) takes.rule
       ∙ takes_it s c has.knows.knows.target slot cap has.knows.knows.way.reached held_cap
 
   abbrev things : List Thing
@@ -439,10 +440,10 @@ module _ (setup : Setting) (setting : IsSetting setup) (cores : ℕ → Core) (t
 
     -- all places of the call's ways are gone
     gone : HasReached (e ∷ t) c (ways s c (rule_of s c a.call))
-    gone = all_ways s c (own_pages s c) (e ∷ t) a.plan (rule_of s c a.call) a.found by_plan
+    gone = all_ways s c (own_pages s c) (e ∷ t) (plan_for a.call) (rule_of s c a.call) a.found by_plan
         (leads_by (λ n wanted q. HasFound setup t c (own_in (cores c).own.table n) wanted q)
         (λ n wanted q. LeadsIn s c n wanted q × HasReached (e ∷ t) c (way_to s c (own s c n)))
-        own_gone a.plan.names [] a.found has.names)
+        own_gone (plan_for a.call).names [] a.found has.names)
         (subst (λ y. HasReached (e ∷ t) c (ways s c y)) (sym takes.rule)
         (way_gone setup t (e ∷ t) c has.knows.knows.target slot has.knows.knows.way.reached
         (λ n d h. own_kept t e c refl refl _ (has.knows.knows.way.stepped n d h))))
@@ -482,7 +483,7 @@ module _ (setup : Setting) (setting : IsSetting setup) (cores : ℕ → Core) (t
     ]
 
     on_way : is_slot_in (wide_ways s c (rule_of s c a.call)) node index ≡ true
-    on_way = next_on_way s c (own_pages s c) a.plan (rule_of s c a.call) a.found by_plan leads has.knows.knows.target node index
+    on_way = next_on_way s c (own_pages s c) (plan_for a.call) (rule_of s c a.call) a.found by_plan leads has.knows.knows.target node index
         (subst (λ y. NextPlace s c y has.knows.knows.target) (sym has.knows.knows.next) refl)
         (target_way s c has.knows.knows.target slot has.knows.knows.way.reached)
 
@@ -529,24 +530,20 @@ remove_good setup setting cores t stands c here a active (AtStore node index x) 
 remove_good setup setting cores t stands c here a active (AtDraw node index) cap is has =
     draw_good setup setting cores t stands c here a active node index cap is has
     (takes_by (state_after setup t) c has.knows.knows.target a.call a.found
-    (subst (λ (p : Plan). Leads (LeadsIn (state_after setup t) c) p.names [] a.found) plan_is
-    (plan_leads setup setting cores t stands c here a active has.names))
-    (subst (λ (p : Plan). names_after p.names a.found ≡ []) plan_is none_left)
-    (ap (λ p. next_of p a.found) (sym plan_is) ∙ has.knows.knows.next)
+    (plan_leads setup setting cores t stands c here a active has.names)
+    none_left
+    has.knows.knows.next
     has.knows.knows.removes)
   where
-    plan_is : a.plan ≡ plan_for a.call
-    plan_is = (is_active setup setting cores t stands c here a active).plan
-
-    none_left : names_after a.plan.names a.found ≡ []
-    none_left = by (rest_of a.plan a.found)
+    none_left : names_after (plan_for a.call).names a.found ≡ []
+    none_left = by (rest_of (plan_for a.call) a.found)
       where
         not_held : (n : ℕ) (wanted : Want) (target : Target) → NextName n wanted ≡ NextHeld target → ⊥
         not_held n wanted target h = cc
 
-        by : Rest a.plan a.found → names_after a.plan.names a.found ≡ []
+        by : Rest (plan_for a.call) a.found → names_after (plan_for a.call).names a.found ≡ []
         by (ANameLeft name rest is) =
-            absurd (not_held _ _ has.knows.knows.target (sym (next_name a.plan a.found name rest is) ∙ has.knows.knows.next))
+            absurd (not_held _ _ has.knows.knows.target (sym (next_name (plan_for a.call) a.found name rest is) ∙ has.knows.knows.next))
         by (NoneLeft none) = none
 
 -- The store of a decided removal.

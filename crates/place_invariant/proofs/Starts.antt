@@ -34,6 +34,7 @@ use Rattle.count_invariant.specs.core_invariant.specs.Knows.{is_start, is_counti
 use Rattle.count_invariant.specs.step_ways.proofs.Loads.{OnlyLooks, step_to, next_at, core_is, call_is, loads_on, decides_on}
 use Rattle.count_invariant.specs.step_ways.proofs.Refusals.{GoodTook, not_spent}
 use Rattle.count_invariant.proofs.Acquiring.{knows_next, next_holds, one_apart}
+use Rattle.count_invariant.specs.act_states.specs.call_plans.specs.PlanOf.{plan_for}
 
 -- Before its first step an act holds nothing.
 start_holds : (act : ActOf) (h : Holding) → is_start act ≡ true → holds_act act h ≡ h
@@ -158,7 +159,7 @@ module _ (setup : Setting) (setting : IsSetting setup) (cores : ℕ → Core) (t
     (a : ActiveCall) (active : (cores c).active ≡ Some a) (opens : phase_at a.call a.stage ≡ Open a.call)
     (held_is : holds_in (Some a) ≡ holds_counts None a.counts) (no_counts : a.counts ≡ [])
     (room : (cores c).own.made < (cores c).own.limit)
-    (names : NamesAre setup t c (cores c).own.table a.plan a.found) (move : Move) (looks : OnlyLooks setup t c a.call move)
+    (names : NamesAre setup t c (cores c).own.table (plan_for a.call) a.found) (move : Move) (looks : OnlyLooks setup t c a.call move)
     (may_act : IsTrue (acts (state_after setup t) c a.call)) where
   abbrev e : Step
   e = step_to c None move (last_left setup t (word_of move)) None None
@@ -167,7 +168,7 @@ module _ (setup : Setting) (setting : IsSetting setup) (cores : ℕ → Core) (t
   is_open = (call_is setup setting cores t stands c here a active).phase ∙ opens
 
   abbrev Known : ActOf → Type 0
-  Known act = Carries setup t e c → KnowsAct setup (e ∷ t) c a.call a.plan a.found setup.cores act
+  Known act = Carries setup t e c → KnowsAct setup (e ∷ t) c a.call (plan_for a.call) a.found setup.cores act
 
   goes_good : (act : ActOf) → is_start act ≡ true → goes_on act ≡ true → Known act
       → GoodTook setup cores t c move (landed a (Goes (next_work (cores c).own.core 0 act)))
@@ -178,7 +179,7 @@ module _ (setup : Setting) (setting : IsSetting setup) (cores : ℕ → Core) (t
       opens
       (λ carries. record {
         acts = may_act;
-        names = names_on setup setting t e stands.legal c a.call is_open carries (cores c).own.table a.plan a.found names;
+        names = names_on setup setting t e stands.legal c a.call is_open carries (cores c).own.table (plan_for a.call) a.found names;
         knows = knows_next setup (e ∷ t) c (cores c).own.table (next_at a a.found stage) (cores c).own.core act (dues act)
             (stands.each c here).number (known carries)
             (ap (λ (xs : List Acquired). map due_of xs ++ dues act) (sym no_counts)) (start_apart act is) 0

@@ -9,10 +9,10 @@ use Rattle.place_invariant.proofs.Common.{RuleMay, IsRemoved, IsWaiting, exit_of
 use Rattle.place_invariant.proofs.Common.{waited_in, Carries, not_inside, own_read-there, last_left-there, out_passed}
 use Rattle.place_invariant.proofs.Common.{later_passed, may_wait, Quiet, AtCore, AtFlush, next_other, core_scan, flush_scan}
 use Rattle.place_invariant.proofs.Common.{core_refuses, scan_end, scan_after, quiet_next, quiet_end, quiet_after, GoesBy, own_pages}
-use Rattle.place_invariant.proofs.Common.{Leads, LeadsIn, rule_after, NextMay, next_of, next_may, Scan, Undecided}
+use Rattle.place_invariant.proofs.Common.{Leads, LeadsIn, rule_after, NextMay, next_may, Scan, Undecided}
 use Rattle.place_invariant.proofs.Common.{ActiveCall, Goes, refuse, stamp_shown, starts, StageFits, CountsAt, HasRoom, landed, took_scan}
 use Rattle.place_invariant.proofs.Common.{Core, holds_counts, MayFill, KnowsAct, KnowsUndecided, phase_at, IsSpot, HasFlushed}
-use Rattle.place_invariant.proofs.Common.{holds_at, holds_in, Invariant, names_on, slot_relies, limits_of, is_node, Plan, plan_for}
+use Rattle.place_invariant.proofs.Common.{holds_at, holds_in, Invariant, names_on, slot_relies, limits_of, is_node, plan_for}
 use Rattle.place_invariant.proofs.Starts.{IsRefusedOutside as RefusedOutside, starts_good}
 use Rattle.std.specs.Prelude.{◌==◌, ◌||◌}
 use Rattle.place_invariant.specs.spk_nums.specs.declared.replies.Reply.TheVariants as reply
@@ -34,16 +34,19 @@ use Rattle.place_invariant.specs.count_invariant.proofs.Acquiring.{plan_leads, g
 use Rattle.scan_invariant.proofs.Scans.{before_next, IsScanFor, scan_for, asks_for}
 use Rattle.place_invariant.proofs.Paging.{paging_by}
 use Rattle.place_invariant.proofs.Vacancy.{unpaged_flushed}
+use Rattle.place_invariant.specs.act_states.specs.call_plans.specs.PlanOf.{plan_for}
 
 module _ (setup : Setting) (setting : IsSetting setup) (cores : ℕ → Core) (t : Trace) (stands : Invariant setup cores t) (c : ℕ)
     (here : c < setup.cores)
     (a : ActiveCall) (active : (cores c).active ≡ Some a) (x by at : ℕ) (page : Bool) (act : ActOf) (node index word : ℕ)
     (stage_is : a.stage ≡ Undecided (Scan (AtCore x by at page) act))
     (has : KnowsUndecided setup t c (cores c).own.table a (Scan (AtCore x by at page) act))
-    (thing_is : scanned_for act ≡ PlaceOf node index) (spot : IsSpot setup t c a.plan a.found 0 node index word) (since : stamp_shown
+    (thing_is : scanned_for act ≡ PlaceOf node index) (spot : IsSpot setup t c (plan_for a.call) a.found 0 node index word)
+    (since : stamp_shown
     (entry_of_word word) ≡ x)
-    (again : (upto : ℕ) → IsSpot setup t c a.plan a.found upto node index word → KnowsAct setup t c a.call a.plan a.found upto act)
-    (outside : goes_on_act act ≡ false → IsSpot setup t c a.plan a.found setup.cores node index word
+    (again : (upto : ℕ) → IsSpot setup t c (plan_for a.call) a.found upto node index word
+    → KnowsAct setup t c a.call (plan_for a.call) a.found upto act)
+    (outside : goes_on_act act ≡ false → IsSpot setup t c (plan_for a.call) a.found setup.cores node index word
     → RefusedOutside setup t c a.call (LoadOf (CoreAt at))) where
   abbrev s : State
   s = state_after setup t
@@ -87,20 +90,17 @@ module _ (setup : Setting) (setting : IsSetting setup) (cores : ℕ → Core) (t
   scan : IsScanFor setup t c thing x 0 (entry_of_word word)
   scan = scan_for setup t c thing x 0 (entry_of_word word) since drawn spot.vacant
 
-  leads : Leads (LeadsIn s c) a.plan.names [] a.found
+  leads : Leads (LeadsIn s c) (plan_for a.call).names [] a.found
   leads = plan_leads setup setting cores t stands c here a active has.names
 
-  by_plan : GoesBy (own_pages s c) a.plan (rule_of s c a.call)
+  by_plan : GoesBy (own_pages s c) (plan_for a.call) (rule_of s c a.call)
   by_plan = goes_by setup setting cores t stands c here a active has.names
-
-  plan_is : a.plan ≡ plan_for a.call
-  plan_is = (is_active setup setting cores t stands c here a active).plan
 
   -- the place is one of a page table where flush words are scanned too
   paging : is_paging (s.frame node) ≡ page
   paging = paging_by setup setting t stands.legal c spot.target slot spot.way.reached a.call is_open a.found
-      (subst (λ (p : Plan). Leads (LeadsIn s c) p.names [] a.found) plan_is leads)
-      (ap (λ p. next_of p a.found) (sym plan_is) ∙ spot.next) ∙ sym has.knows.pages
+      leads
+      spot.next ∙ sym has.knows.pages
 
   in_node : IsTrue (is_node (s.frame node))
   in_node = (slot_relies setup setting t stands.legal c a.call is_open spot.target slot spot.way).node
@@ -125,7 +125,7 @@ module _ (setup : Setting) (setting : IsSetting setup) (cores : ℕ → Core) (t
     }
 
     may : RuleMay s c (rule_of s c a.call) (reply.Quiescing at)
-    may = next_may s c (own_pages s c) a.plan (rule_of s c a.call) a.found by_plan leads (reply.Quiescing at)
+    may = next_may s c (own_pages s c) (plan_for a.call) (rule_of s c a.call) a.found by_plan leads (reply.Quiescing at)
         (subst (λ n. NextMay s c (own_pages s c) n (reply.Quiescing at)) (sym spot.next)
         (subst (λ o. IsSomeAnd o (λ at2. MayWait s c (PlaceOf at2.node at2.index) at)) (sym spot.way.reached) waits))
 
@@ -133,10 +133,10 @@ module _ (setup : Setting) (setting : IsSetting setup) (cores : ℕ → Core) (t
     justified = record {
       thing = thing;
       asked = subst (λ things. IsTrue (list_any (same_thing thing) things))
-          (sym (asked_left s c (own_pages s c) a.plan (rule_of s c a.call) a.found by_plan leads waited_in))
+          (sym (asked_left s c (own_pages s c) (plan_for a.call) (rule_of s c a.call) a.found by_plan leads waited_in))
           (asks_for waited_in s c (own_pages s c) spot.target (rule_after (rule_of s c a.call) a.found) slot
           (subst (λ n. Begins (own_pages s c) n (rule_after (rule_of s c a.call) a.found)) spot.next
-          (left_begins s c (own_pages s c) a.plan (rule_of s c a.call) a.found by_plan leads)) spot.way.reached);
+          (left_begins s c (own_pages s c) (plan_for a.call) (rule_of s c a.call) a.found by_plan leads)) spot.way.reached);
       may_wait = waits;
       was_removed = was_before (IsRemoved thing) setup t e refl scan.scanned.was_removed;
     }
@@ -159,7 +159,7 @@ module _ (setup : Setting) (setting : IsSetting setup) (cores : ℕ → Core) (t
 
     -- all are passed, and no flush is awaited
     spot_then : page ≡ false → ((d : ℕ) → d < setup.cores → d ≢ c → (d < at) ⊎ (d ≡ at))
-        → IsSpot setup t c a.plan a.found setup.cores node index word
+        → IsSpot setup t c (plan_for a.call) a.found setup.cores node index word
     spot_then page_is before = record {
       target = spot.target;
       next = spot.next;
@@ -202,11 +202,12 @@ module _ (setup : Setting) (setting : IsSetting setup) (cores : ℕ → Core) (t
           pairs = start_pairs setup t e c act has.knows.starts;
         }
 
-    carried : (upto : ℕ) → KnowsAct setup t c a.call a.plan a.found upto act
+    carried : (upto : ℕ) → KnowsAct setup t c a.call (plan_for a.call) a.found upto act
         → Carries setup t (step_to c None (LoadOf (CoreAt at)) was None None) c
-        → KnowsAct setup (step_to c None (LoadOf (CoreAt at)) was None None ∷ t) c a.call a.plan a.found upto act
+        → KnowsAct setup (step_to c None (LoadOf (CoreAt at)) was None None ∷ t) c a.call (plan_for a.call) a.found upto act
     carried upto knows carries =
-        act_on setup setting t (step_to c None (LoadOf (CoreAt at)) was None None) stands.legal c a.call is_open carries a.call a.plan
+        act_on setup setting t (step_to c None (LoadOf (CoreAt at)) was None None) stands.legal c a.call is_open carries a.call
+        (plan_for a.call)
         a.found upto act same_reads knows
 
     -- the next word is scanned
@@ -221,7 +222,7 @@ module _ (setup : Setting) (setting : IsSetting setup) (cores : ℕ → Core) (t
         (sym held_is) opens
         (λ carries. record {
           acts = has.acts;
-          names = names_on setup setting t e stands.legal c a.call is_open carries (cores c).own.table a.plan a.found has.names;
+          names = names_on setup setting t e stands.legal c a.call is_open carries (cores c).own.table (plan_for a.call) a.found has.names;
           knows = quiet (record {
             knows = carried 0 has.knows.knows carries;
             core = refl;

@@ -10,8 +10,8 @@ use Rattle.place_invariant.proofs.Common.{MayBeUnflushed, is_node, RuleMay, Refu
 use Rattle.place_invariant.proofs.Common.{vacant, rule_of, change_of, IsAlone, IsRemoved, IsUnflushed, awaits_flushes, flush_of}
 use Rattle.place_invariant.proofs.Common.{flush_stored, stamp, Step, Trace, Out, Open, phase, state_after, last_left, flushed_in}
 use Rattle.place_invariant.proofs.Common.{refused_first, nobody_waits, awaits_are, Carries, own_read-there, last_left-there, Quiet}
-use Rattle.place_invariant.proofs.Common.{AtFlush, flush_refuses, scan_end, scan_after, quiet_next, quiet_end, quiet_after, Plan}
-use Rattle.place_invariant.proofs.Common.{plan_for, GoesBy, own_pages, Leads, LeadsIn, rule_after, next_of, NextMay, next_may}
+use Rattle.place_invariant.proofs.Common.{AtFlush, flush_refuses, scan_end, scan_after, quiet_next, quiet_end, quiet_after}
+use Rattle.place_invariant.proofs.Common.{plan_for, GoesBy, own_pages, Leads, LeadsIn, rule_after, NextMay, next_may}
 use Rattle.place_invariant.proofs.Common.{Scan, Goes, refuse, stamp_shown, starts, Undecided, ActiveCall, StageFits, CountsAt, HasRoom}
 use Rattle.place_invariant.proofs.Common.{landed, took_scan, Core, holds_counts, PlaceIs, HasFlushed, MayFill, KnowsAct, KnowsUndecided}
 use Rattle.place_invariant.proofs.Common.{phase_at, IsSpot, CallIs, holds_at, holds_in, Invariant, slot_relies, names_on, limits_of}
@@ -43,6 +43,7 @@ use Rattle.place_invariant.proofs.Paging.{paging_by}
 use Rattle.scan_invariant.proofs.Scans.{IsScanFor, scan_for, asks_for}
 use Rattle.place_invariant.proofs.Starts.{IsRefusedOutside as RefusedOutside, starts_good}
 use Rattle.place_invariant.proofs.Vacancy.{IsRemovedSince, removed_is, none_waits}
+use Rattle.place_invariant.specs.act_states.specs.call_plans.specs.PlanOf.{plan_for}
 
 -- what a flush word tells
 
@@ -103,10 +104,11 @@ module _ (setup : Setting) (setting : IsSetting setup) (cores : ℕ → Core) (t
     (a : ActiveCall) (active : (cores c).active ≡ Some a) (x at : ℕ) (act : ActOf) (node index word : ℕ) (small : index < 64)
     (stage_is : a.stage ≡ Undecided (Scan (AtFlush x at) act))
     (has : KnowsUndecided setup t c (cores c).own.table a (Scan (AtFlush x at) act))
-    (thing_is : scanned_for act ≡ PlaceOf node index) (spot : IsSpot setup t c a.plan a.found at node index word)
+    (thing_is : scanned_for act ≡ PlaceOf node index) (spot : IsSpot setup t c (plan_for a.call) a.found at node index word)
     (since : stamp_shown (entry_of_word word) ≡ x)
-    (again : (upto : ℕ) → IsSpot setup t c a.plan a.found upto node index word → KnowsAct setup t c a.call a.plan a.found upto act)
-    (outside : goes_on_act act ≡ false → IsSpot setup t c a.plan a.found setup.cores node index word
+    (again : (upto : ℕ) → IsSpot setup t c (plan_for a.call) a.found upto node index word
+    → KnowsAct setup t c a.call (plan_for a.call) a.found upto act)
+    (outside : goes_on_act act ≡ false → IsSpot setup t c (plan_for a.call) a.found setup.cores node index word
     → RefusedOutside setup t c a.call (LoadOf (FlushAt at))) where
   abbrev s : State
   s = state_after setup t
@@ -150,20 +152,17 @@ module _ (setup : Setting) (setting : IsSetting setup) (cores : ℕ → Core) (t
   scan : IsScanFor setup t c thing x at (entry_of_word word)
   scan = scan_for setup t c thing x at (entry_of_word word) since drawn spot.vacant
 
-  leads : Leads (LeadsIn s c) a.plan.names [] a.found
+  leads : Leads (LeadsIn s c) (plan_for a.call).names [] a.found
   leads = plan_leads setup setting cores t stands c here a active has.names
 
-  by_plan : GoesBy (own_pages s c) a.plan (rule_of s c a.call)
+  by_plan : GoesBy (own_pages s c) (plan_for a.call) (rule_of s c a.call)
   by_plan = goes_by setup setting cores t stands c here a active has.names
-
-  plan_is : a.plan ≡ plan_for a.call
-  plan_is = (is_active setup setting cores t stands c here a active).plan
 
   -- the place is one of a page table, and its grace period waits for flushes
   paging : is_paging (s.frame node) ≡ true
   paging = paging_by setup setting t stands.legal c spot.target slot spot.way.reached a.call is_open a.found
-      (subst (λ (p : Plan). Leads (LeadsIn s c) p.names [] a.found) plan_is leads)
-      (ap (λ p. next_of p a.found) (sym plan_is) ∙ spot.next) ∙ sym has.knows.pages
+      leads
+      spot.next ∙ sym has.knows.pages
 
   in_node : IsTrue (is_node (s.frame node))
   in_node = (slot_relies setup setting t stands.legal c a.call is_open spot.target slot spot.way).node
@@ -198,7 +197,7 @@ module _ (setup : Setting) (setting : IsSetting setup) (cores : ℕ → Core) (t
     unflushed = unflushed_shown setup cores t stands thing x at below awaits scan.scanned.rises early
 
     may : RuleMay s c (rule_of s c a.call) (reply.Unflushed at)
-    may = next_may s c (own_pages s c) a.plan (rule_of s c a.call) a.found by_plan leads (reply.Unflushed at)
+    may = next_may s c (own_pages s c) (plan_for a.call) (rule_of s c a.call) a.found by_plan leads (reply.Unflushed at)
         (subst (λ n. NextMay s c (own_pages s c) n (reply.Unflushed at)) (sym spot.next)
         (subst (λ o. IsSomeAnd o (λ at2. MayBeUnflushed s (PlaceOf at2.node at2.index) at)) (sym spot.way.reached) unflushed))
 
@@ -206,10 +205,10 @@ module _ (setup : Setting) (setting : IsSetting setup) (cores : ℕ → Core) (t
     justified = record {
       thing = thing;
       asked = subst (λ things. IsTrue (list_any (same_thing thing) things))
-          (sym (asked_left s c (own_pages s c) a.plan (rule_of s c a.call) a.found by_plan leads flushed_in))
+          (sym (asked_left s c (own_pages s c) (plan_for a.call) (rule_of s c a.call) a.found by_plan leads flushed_in))
           (asks_for flushed_in s c (own_pages s c) spot.target (rule_after (rule_of s c a.call) a.found) slot
           (subst (λ n. Begins (own_pages s c) n (rule_after (rule_of s c a.call) a.found)) spot.next
-          (left_begins s c (own_pages s c) a.plan (rule_of s c a.call) a.found by_plan leads)) spot.way.reached);
+          (left_begins s c (own_pages s c) (plan_for a.call) (rule_of s c a.call) a.found by_plan leads)) spot.way.reached);
       may_be_unflushed = unflushed;
       was_removed = was_before (IsRemoved thing) setup t e refl scan.scanned.was_removed;
     }
@@ -253,7 +252,7 @@ module _ (setup : Setting) (setting : IsSetting setup) (cores : ℕ → Core) (t
           ∙ ap unflushed_by first_unflushed
 
       refused : change_of s c a.call ≡ Refused (reply.Unflushed at)
-      refused = next_first s c (own_pages s c) a.plan (rule_of s c a.call) a.found by_plan leads (reply.Unflushed at)
+      refused = next_first s c (own_pages s c) (plan_for a.call) (rule_of s c a.call) a.found by_plan leads (reply.Unflushed at)
           (subst (λ n. NextRefused s c (own_pages s c) n (reply.Unflushed at)) (sym spot.next)
           (vacant_unflushed s c spot.target slot at spot.way.reached waits))
 
@@ -269,7 +268,7 @@ module _ (setup : Setting) (setting : IsSetting setup) (cores : ℕ → Core) (t
   -- the core has flushed since
   module _ (flushed : HasFlushed setup t thing x at) where
     spot_then : (upto : ℕ) → upto ≤ setup.cores → ((d : ℕ) → d < upto → (d < at) ⊎ (d ≡ at))
-        → IsSpot setup t c a.plan a.found upto node index word
+        → IsSpot setup t c (plan_for a.call) a.found upto node index word
     spot_then upto most before = record {
       target = spot.target;
       next = spot.next;
@@ -304,10 +303,10 @@ module _ (setup : Setting) (setting : IsSetting setup) (cores : ℕ → Core) (t
     abbrev loads : Step
     loads = step_to c None load was None None
 
-    carried : (upto : ℕ) → KnowsAct setup t c a.call a.plan a.found upto act → Carries setup t loads c
-        → KnowsAct setup (loads ∷ t) c a.call a.plan a.found upto act
+    carried : (upto : ℕ) → KnowsAct setup t c a.call (plan_for a.call) a.found upto act → Carries setup t loads c
+        → KnowsAct setup (loads ∷ t) c a.call (plan_for a.call) a.found upto act
     carried upto knows carries =
-        act_on setup setting t loads stands.legal c a.call is_open carries a.call a.plan a.found upto act
+        act_on setup setting t loads stands.legal c a.call is_open carries a.call (plan_for a.call) a.found upto act
         (record {
           entries = λ f i. own_read-there c loads t refl (EntryAt f i) (entry_apart f i);
           frames = λ f. own_read-there c loads t refl (FrameAt f) (frame_apart f);
@@ -327,7 +326,8 @@ module _ (setup : Setting) (setting : IsSetting setup) (cores : ℕ → Core) (t
         (Undecided (Scan (AtFlush x (at + 1)) act)) looks lands (sym held_is) opens
         (λ carries. record {
           acts = has.acts;
-          names = names_on setup setting t loads stands.legal c a.call is_open carries (cores c).own.table a.plan a.found has.names;
+          names = names_on setup setting t loads stands.legal c a.call is_open carries (cores c).own.table (plan_for a.call) a.found
+              has.names;
           knows = record {
             knows = carried (at + 1) (again (at + 1) (spot_then (at + 1) (omega (arith, more)) (λ d under. below_one d under))) carries;
             core = refl;
@@ -350,7 +350,7 @@ module _ (setup : Setting) (setting : IsSetting setup) (cores : ℕ → Core) (t
         below_all : (d : ℕ) → d < setup.cores → (d < at) ⊎ (d ≡ at)
         below_all d under = elim (cases_eq d at) [ inl same ↦ inr same | inr apart ↦ inl (let l = last in omega arith) ]
 
-        whole : IsSpot setup t c a.plan a.found setup.cores node index word
+        whole : IsSpot setup t c (plan_for a.call) a.found setup.cores node index word
         whole = spot_then setup.cores (omega arith) below_all
 
     abbrev After : Option Quiet → Type 0

@@ -22,6 +22,7 @@ use Rattle.scan_invariant.proofs.CoreScans.{core_good}
 use Rattle.scan_invariant.proofs.FlushScans.{flush_good}
 use Rattle.place_invariant.proofs.Outside.{refused_outside}
 use Rattle.place_invariant.proofs.Starts.{IsRefusedOutside as RefusedOutside}
+use Rattle.place_invariant.specs.act_states.specs.call_plans.specs.PlanOf.{plan_for}
 
 -- What an act that is scanned for knows: the place, with the word that was read there, and that it knows the rest of its act still where
 -- more was scanned; one that is out of range is refused so.
@@ -31,16 +32,18 @@ record ScansPlace (setup : Setting) (t : Trace) (c : ℕ) (a : ActiveCall) (flus
   word : ℕ
   small : index < 64
   thing : scanned_for act ≡ PlaceOf node index
-  spot : IsSpot setup t c a.plan a.found flushes node index word
+  spot : IsSpot setup t c (plan_for a.call) a.found flushes node index word
   stamp : stamp_shown (entry_of_word word) ≡ stamp_of_act act
-  again : (upto : ℕ) → IsSpot setup t c a.plan a.found upto node index word → KnowsAct setup t c a.call a.plan a.found upto act
-  outside : goes_on act ≡ false → IsSpot setup t c a.plan a.found setup.cores node index word → RefusedOutside setup t c a.call move
+  again : (upto : ℕ) → IsSpot setup t c (plan_for a.call) a.found upto node index word
+      → KnowsAct setup t c a.call (plan_for a.call) a.found upto act
+  outside : goes_on act ≡ false → IsSpot setup t c (plan_for a.call) a.found setup.cores node index word
+      → RefusedOutside setup t c a.call move
 
 module _ (setup : Setting) (setting : IsSetting setup) (cores : ℕ → Core) (t : Trace) (stands : Invariant setup cores t) (c : ℕ)
     (here : c < setup.cores)
     (a : ActiveCall) (active : (cores c).active ≡ Some a) (q : Quiet) (x flushes : ℕ) (some : 1 ≤ x) (move : Move) where
   scans_place : (act : ActOf) → a.stage ≡ Undecided (Scan q act) → ActFits (cores c).own.layout act → stamp_of_act act ≡ x
-      → NamesAre setup t c (cores c).own.table a.plan a.found → KnowsAct setup t c a.call a.plan a.found flushes act
+      → NamesAre setup t c (cores c).own.table (plan_for a.call) a.found → KnowsAct setup t c a.call (plan_for a.call) a.found flushes act
       → ScansPlace setup t c a flushes act move
   scans_place (remove_act close cap) is fits stamp names knows = absurd (omega arith)
   scans_place (type_act typing) is fits stamp names knows = absurd (omega arith)

@@ -22,6 +22,7 @@ use Rattle.call_stages.specs.declared.stages.ActiveCall.{ActiveCall}
 use Rattle.call_stages.specs.declared.stages.Stage.{Stage}
 use Rattle.call_stages.specs.declared.stages.Stage.TheVariants.{Living, Undecided, Decided}
 use Rattle.call_stages.specs.Steps.{Took, GoesOn, went, landed, next_by, took_found, gives_up}
+use Rattle.call_stages.specs.call_plans.specs.PlanOf.{plan_for}
 
 -- the call makes its act
 abbrev pub IsActing : Stage → Type 0
@@ -92,7 +93,7 @@ IsStoringShare _ = ⊥
 abbrev pub looked_to : Own → ActiveCall → StageEnd Found → Took
 looked_to own a ends.Going = GoesOn (went a a.stage)
 looked_to own a (ends.Decided r) = landed a (refuse (refusal_of r))
-looked_to own a (ends.Done f) = took_found own a (next_of a.plan a.found) f
+looked_to own a (ends.Done f) = took_found own a (next_of (plan_for a.call) a.found) f
 looked_to own a (ends.Refuse r) = landed a (refuse (refusal_of r))
 
 -- what a call takes from a step of the question whether its component lives, which stands here after it

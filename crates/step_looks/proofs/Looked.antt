@@ -21,6 +21,7 @@ use Rattle.step_starts.specs.call_stages.specs.declared.stages.Stage.TheVariants
 use Rattle.step_starts.specs.call_stages.specs.Steps.{told, call_after, found_more, next_by, named_one, took_found, took_end, took_alive}
 use Rattle.step_starts.specs.step_lands.specs.Standing.{looked_to, asked_to}
 use Rattle.step_starts.specs.step_lands.proofs.Staged.{told_from, call_from, after_from}
+use Rattle.step_starts.specs.call_plans.specs.PlanOf.{plan_for}
 
 told_named : (own : Own) (a : ActiveCall) (s : Stage) (m : Met) → told (named_one own (record a { stage = s }) m) ≡ told (named_one own a m)
 told_named own a s (Finds k) = told_from (found_more a (pushed a.found k)) s (next_by own (found_more a (pushed a.found k)))
@@ -52,7 +53,7 @@ pub told_looked : (own : Own) (a : ActiveCall) (look : Look) (end : StageEnd Fou
     → told (looked_to own (record a { stage = Undecided (Lookup look) }) end) ≡ told (took_end own a look end)
 told_looked own a look ends.Going = refl
 told_looked own a look (ends.Decided r) = told_from a (Undecided (Lookup look)) (refuse (refusal_of r))
-told_looked own a look (ends.Done f) = told_found own a (Undecided (Lookup look)) (next_of a.plan a.found) f
+told_looked own a look (ends.Done f) = told_found own a (Undecided (Lookup look)) (next_of (plan_for a.call) a.found) f
 told_looked own a look (ends.Refuse r) = told_from a (Undecided (Lookup look)) (refuse (refusal_of r))
 
 pub call_looked : (own : Own) (a : ActiveCall) (look : Look) (end : StageEnd Found)
@@ -60,7 +61,7 @@ pub call_looked : (own : Own) (a : ActiveCall) (look : Look) (end : StageEnd Fou
     ≡ call_after a (took_end own a look end)
 call_looked own a look ends.Going = refl
 call_looked own a look (ends.Decided r) = call_from a (Undecided (Lookup look)) (refuse (refusal_of r))
-call_looked own a look (ends.Done f) = call_found own a (Undecided (Lookup look)) (next_of a.plan a.found) f
+call_looked own a look (ends.Done f) = call_found own a (Undecided (Lookup look)) (next_of (plan_for a.call) a.found) f
 call_looked own a look (ends.Refuse r) = call_from a (Undecided (Lookup look)) (refuse (refusal_of r))
 
 pub told_asked : (own : Own) (a : ActiveCall) (alive : Alive) (end : StageEnd (Unit {0}))

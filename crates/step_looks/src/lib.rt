@@ -7,6 +7,7 @@
 #![tactic(auto)]
 
 mod looks;
+mod next;
 mod places;
 
 pub use looks::{ask, enter, look_up, read};

@@ -2,11 +2,13 @@
 
 ghost use Rattle.std.specs.Prelude.{◌<◌, ◌≡◌, ◌≤◌};
 ghost use Rattle.step_starts.specs.call_plans.specs.After.{next_of};
+ghost use Rattle.step_starts.specs.call_plans.specs.PlanOf.{plan_for};
 ghost use Rattle.step_starts.specs.call_stages.specs.Fits.{StageFits};
 ghost use Rattle.step_starts.specs.call_stages.specs.Steps.{call_after, named_one, told, took, took_enter, took_first, took_found};
 ghost use Rattle.step_starts.specs.call_stages.specs.Steps.{took_read};
 ghost use Rattle.step_starts.specs.step_lands.specs.Standing.{IsAsking, IsLooking, IsReading, asked_to, looked_to};
 
+use crate::next::{is_living, next_of};
 use crate::places::{look_next, looks_up};
 use spk_nums::StageEnd;
 use step_starts::act_states::{Met, Own, Refusal, Work};
@@ -117,10 +119,10 @@ fn begin(active: &mut ActiveCall, own: &Own, tells: &mut Told)
     requires cores { own.now.layout.cores ≤ 8 }
     requires few { active.old.steps < 1000 }
     requires going { tells.old ≡ Told.Going }
-    ensures told { tells.new ≡ told (took_first active.old.plan.living own.now active.old) }
-    ensures after { active.new ≡ call_after active.old (took_first active.old.plan.living own.now active.old) }
+    ensures told { tells.new ≡ told (took_first (plan_for active.old.call).living own.now active.old) }
+    ensures after { active.new ≡ call_after active.old (took_first (plan_for active.old.call).living own.now active.old) }
 {
-    if active.plan.living {
+    if is_living(&active.call) {
         go_on(
             active,
             Stage::Living {
@@ -175,11 +177,11 @@ fn found_place(active: &mut ActiveCall, own: &Own, found: &Found, tells: &mut To
     requires cores { own.now.layout.cores ≤ 8 }
     requires few { active.old.steps < 1000 }
     requires going { tells.old ≡ Told.Going }
-    ensures told { tells.new ≡ told (took_found own.now active.old (next_of active.old.plan active.old.found) found.now) }
+    ensures told { tells.new ≡ told (took_found own.now active.old (next_of (plan_for active.old.call) active.old.found) found.now) }
     ensures after { active.new
-        ≡ call_after active.old (took_found own.now active.old (next_of active.old.plan active.old.found) found.now) }
+        ≡ call_after active.old (took_found own.now active.old (next_of (plan_for active.old.call) active.old.found) found.now) }
 {
-    match active.plan.next(&active.found) {
+    match next_of(&active.call, &active.found) {
         Next::Name { name } => {
             let met = met_name(&active.found, &name, &found.value);
             named_one(active, own, &met, tells)

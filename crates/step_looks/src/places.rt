@@ -12,6 +12,7 @@ ghost use Rattle.step_starts.specs.call_plans.specs.Plans.{at_place};
 ghost use Rattle.step_starts.specs.call_plans.specs.declared.plans.Nth.TheVariants.{First};
 ghost use Rattle.step_starts.specs.call_stages.specs.Steps.{call_after, landed, next_by, told};
 
+use crate::next::next_of;
 use spk_nums::{Call, CapId, EntryNo, FrameNo, PageNo, Reply, Value};
 use step_starts::act_begins;
 use step_starts::act_states::{Own, Refusal, Tail, Work};
@@ -31,7 +32,7 @@ pub(crate) fn look_next(active: &mut ActiveCall, own: &Own, tells: &mut Told)
     ensures told { tells.new ≡ told (landed active.old (next_by own.now active.old)) }
     ensures after { active.new ≡ call_after active.old (landed active.old (next_by own.now active.old)) }
 {
-    match active.plan.next(&active.found) {
+    match next_of(&active.call, &active.found) {
         Next::Name { name } => look_under(active, own.table, name.number.number(), tells),
         Next::Free { spot } => look_free(active, spot, tells),
         Next::Held { spot } => look_at(active, spot, tells),

@@ -61,6 +61,7 @@ use Rattle.kept_facts.specs.core_invariant.specs.Sweeps.{KnowsSweepAt}
 use Rattle.kept_facts.proofs.Swept.{LeavesFrame, kernel_is, swept_rests}
 use Rattle.kept_facts.proofs.SharesOn.{SharesStay, shares_other}
 use Rattle.kept_facts.proofs.Exclusive.{exclusive_other}
+use Rattle.kept_facts.specs.act_states.specs.call_plans.specs.PlanOf.{plan_for}
 
 -- A step changes a word of a blank frame only where its core has marked the frame, and a word of a temporal capability as `SparesTcap`
 -- says.
@@ -235,8 +236,9 @@ filled_work setup t c table f a (Scan (AtCore at core upto page) act) h knows is
     absurd (false≢true (sym (scans_nothing act f knows.starts) ∙ is))
 filled_work setup t c table f a (Scan (AtFlush at upto) act) h knows is =
     absurd (false≢true (sym (scans_nothing act f knows.starts) ∙ is))
-filled_work setup t c table f a (Acquire pin change act) h knows is = filled_act setup t c f a.call a.plan a.found act h knows.knows is
-filled_work setup t c table f a (act_work act) h knows is = filled_act setup t c f a.call a.plan a.found act h knows.knows is
+filled_work setup t c table f a (Acquire pin change act) h knows is = filled_act setup t c f a.call (plan_for a.call) a.found act h
+    knows.knows is
+filled_work setup t c table f a (act_work act) h knows is = filled_act setup t c f a.call (plan_for a.call) a.found act h knows.knows is
 
 pub blank_is : (x : Frame) → Some (frame_value x) ≡ Some blank_word → x ≡ Kernel Blank
 blank_is x h = kernel_is x (ap (λ v. v.kind) (same _ _ h)) (ap (λ v. v.object) (same _ _ h))
@@ -378,9 +380,9 @@ module _ (setup : Setting) (setting : IsSetting setup) (cores : ℕ → Core) (t
   looked_stays follows c table other a (Scan (AtFlush at upto) act) h held typed has f is =
       absurd (false≢true (sym (scans_unlooked act f has.starts) ∙ is))
   looked_stays follows c table other a (Acquire pin change act) h held typed has f is =
-      act_looked follows c other a.call a.plan a.found setup.cores act h held typed has.knows f is
+      act_looked follows c other a.call (plan_for a.call) a.found setup.cores act h held typed has.knows f is
   looked_stays follows c table other a (act_work act) h held typed has f is =
-      act_looked follows c other a.call a.plan a.found setup.cores act h held typed has.knows f is
+      act_looked follows c other a.call (plan_for a.call) a.found setup.cores act h held typed has.knows f is
 
   -- a thread that another core has claimed rests
   abbrev ClaimRests : ℕ → Holding → Type 0

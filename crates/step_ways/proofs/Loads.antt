@@ -46,7 +46,7 @@ step_to c enters move found decides returns = record {
 -- A call after one step more, whose names have led to these, which has read this, and which stands at this stage.
 abbrev pub next_with : ActiveCall → List Capability → Option ℕ → Stage → ActiveCall
 next_with a found read stage =
-    record { steps = a.steps + 1; stage = stage; found = found; read = read; counts = a.counts; call = a.call; plan = a.plan }
+    record { steps = a.steps + 1; stage = stage; found = found; read = read; counts = a.counts; call = a.call }
 
 -- A call after a step that has read nothing more.
 abbrev pub next_at : ActiveCall → List Capability → Stage → ActiveCall

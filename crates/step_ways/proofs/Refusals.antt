@@ -27,7 +27,8 @@ use Rattle.kept_facts.specs.act_states.specs.declared.work.Act.TheVariants.{Touc
 use Rattle.kept_facts.specs.act_states.specs.declared.work.Act.TheVariants.{Switch as switch_act}
 use Rattle.step_ways.proofs.Good.{IsGood}
 use Rattle.step_ways.proofs.Loads.{Lands, OnlyLooks, step_to, next_at, core_in_call, core_is}
-use Rattle.step_ways.proofs.Loads.{call_is, is_active, inner, decides_on, decides_with}
+use Rattle.step_ways.proofs.Loads.{call_is, inner, decides_on, decides_with}
+use Rattle.kept_facts.specs.act_states.specs.call_plans.specs.PlanOf.{plan_for}
 
 -- The step of core c from which this was taken.
 abbrev pub step_with : ℕ → Move → ℕ → Took → Step
@@ -143,7 +144,8 @@ module _ (setup : Setting) (t : Trace) (c table n : ℕ) where
   look_ticks [] look names looks = looks
   look_ticks (k ∷ ks) look names looks = names
 
-  work_ticks : (a : ActiveCall) (work : Work) → a.call ≡ Tick n → a.plan ≡ plan_for a.call → KnowsUndecided setup t c table a work
+  work_ticks : (a : ActiveCall) (work : Work) → a.call ≡ Tick n → (plan_for a.call) ≡ plan_for a.call
+      → KnowsUndecided setup t c table a work
       → ticks_work work ≡ false → ⊥
   work_ticks a (Lookup look) of plan has is =
       look_ticks a.found look (subst (λ p. NamesAre setup t c table p a.found) (plan ∙ ap plan_for of) has.names)
@@ -153,15 +155,18 @@ module _ (setup : Setting) (t : Trace) (c table n : ℕ) where
       none_some : None ≡ Some f → ⊥
       none_some h = cc
   work_ticks a (Scan (AtCore at core upto page) act) of plan has is =
-      act_ticks a.plan a.found 0 act (subst (λ x. KnowsAct setup t c x a.plan a.found 0 act) of has.knows.knows) is
+      act_ticks (plan_for a.call) a.found 0 act (subst (λ x. KnowsAct setup t c x (plan_for a.call) a.found 0 act) of has.knows.knows) is
   work_ticks a (Scan (AtFlush at upto) act) of plan has is =
-      act_ticks a.plan a.found upto act (subst (λ x. KnowsAct setup t c x a.plan a.found upto act) of has.knows.knows) is
+      act_ticks (plan_for a.call) a.found upto act (subst (λ x. KnowsAct setup t c x (plan_for a.call) a.found upto act) of
+      has.knows.knows) is
   work_ticks a (Acquire pin change act) of plan has is =
-      act_ticks a.plan a.found setup.cores act (subst (λ x. KnowsAct setup t c x a.plan a.found setup.cores act) of has.knows.knows) is
+      act_ticks (plan_for a.call) a.found setup.cores act (subst (λ x. KnowsAct setup t c x (plan_for a.call) a.found setup.cores act) of
+      has.knows.knows) is
   work_ticks a (Act act) of plan has is =
-      act_ticks a.plan a.found setup.cores act (subst (λ x. KnowsAct setup t c x a.plan a.found setup.cores act) of has.knows.knows) is
+      act_ticks (plan_for a.call) a.found setup.cores act (subst (λ x. KnowsAct setup t c x (plan_for a.call) a.found setup.cores act) of
+      has.knows.knows) is
 
-  stage_ticks : (a : ActiveCall) (stage : Stage) → a.call ≡ Tick n → a.plan ≡ plan_for a.call → KnowsAt setup t c table a stage
+  stage_ticks : (a : ActiveCall) (stage : Stage) → a.call ≡ Tick n → (plan_for a.call) ≡ plan_for a.call → KnowsAt setup t c table a stage
       → phase_at a.call stage ≡ Open a.call → ticks_at stage ≡ false → ⊥
   stage_ticks a Enter of plan knows opens is = knows
   stage_ticks a (Living alive) of plan knows opens is = false≢true (subst (λ x. IsTrue (asks_life x)) of knows.asks)
@@ -272,7 +277,7 @@ module _ (setup : Setting) (setting : IsSetting setup) (cores : ℕ → Core) (t
   -- and owes no ticks, where it charges none
   owes_none : ticks_at a.stage ≡ false → owed_by (state_after setup t) c a.call ≡ state_after setup t
   owes_none plain = only_tick_owes (state_after setup t) c a.call
-      (λ n of. stage_ticks setup t c (cores c).own.table n a a.stage of (is_active setup setting cores t stands c here a active).plan
+      (λ n of. stage_ticks setup t c (cores c).own.table n a a.stage of refl
       (call_is setup setting cores t stands c here a active).knows opens plain)
 
   pub refuses_dead : IsTrue (acts (state_after setup t) c a.call)
@@ -371,7 +376,7 @@ module _ (setup : Setting) (setting : IsSetting setup) (cores : ℕ → Core) (t
 
   owes_not : ticks_at a.stage ≡ false → owed_by (state_after setup t) c a.call ≡ state_after setup t
   owes_not plain = only_tick_owes (state_after setup t) c a.call
-      (λ n of. stage_ticks setup t c (cores c).own.table n a a.stage of (is_active setup setting cores t stands c here a active).plan
+      (λ n of. stage_ticks setup t c (cores c).own.table n a a.stage of refl
       (call_is setup setting cores t stands c here a active).knows opens plain)
 
   refusing : (r : Reply) → state_by (state_after setup t) c a.call r ≡ counted (state_after setup t) c

@@ -41,6 +41,7 @@ use Rattle.freeze_invariant.specs.core_invariant.specs.Invariant.{holds_pop, hol
 use Rattle.freeze_invariant.specs.core_invariant.specs.Invariant.{holds_stage}
 use Rattle.freeze_invariant.specs.kept_facts.proofs.Exclusive.{exclusive_unmarked}
 use Rattle.freeze_invariant.specs.core_invariant.specs.Holding.{kept_or}
+use Rattle.freeze_invariant.specs.act_states.specs.call_plans.specs.PlanOf.{plan_for}
 
 none_some : (x : ℕ) → None ≡ Some x → ⊥
 none_some x h = cc
@@ -213,8 +214,9 @@ module _ (setup : Setting) (setting : IsSetting setup) (cores : ℕ → Core) (t
       work_entry table a is_open (Lookup look) knows h = refl
       work_entry table a is_open (Read comp look) knows h = refl
       work_entry table a is_open (Scan q act) knows h = refl
-      work_entry table a is_open (Acquire pin change act) knows h = act_entry a.call is_open a.plan a.found setup.cores act knows.knows h
-      work_entry table a is_open (act_work act) knows h = act_entry a.call is_open a.plan a.found setup.cores act knows.knows h
+      work_entry table a is_open (Acquire pin change act) knows h = act_entry a.call is_open (plan_for a.call) a.found setup.cores act
+          knows.knows h
+      work_entry table a is_open (act_work act) knows h = act_entry a.call is_open (plan_for a.call) a.found setup.cores act knows.knows h
 
       stage_entry : (table : ℕ) (a : ActiveCall) (stage : Stage) → phase t d ≡ phase_at a.call stage → KnowsAt setup t d table a stage
           → (h : Holding) → Same f i (holds_stage stage h) h

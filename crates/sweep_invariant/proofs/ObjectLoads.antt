@@ -32,6 +32,7 @@ use Rattle.freeze_invariant.proofs.UntypeCalls.{untypes_on, typed_is}
 use Rattle.freeze_invariant.proofs.Continuing as going
 use Rattle.sweep_invariant.proofs.FreeEntries.{counts_entry, entry_settles}
 use Rattle.sweep_invariant.proofs.OwnedFrames.{OwnedApart, owned_apart, names_differ}
+use Rattle.freeze_invariant.specs.act_states.specs.call_plans.specs.PlanOf.{plan_for}
 
 module _ (setup : Setting) (setting : IsSetting setup) (cores : ℕ → Core) (t : Trace) (stands : Invariant setup cores t) (c : ℕ)
     (here : c < setup.cores)
@@ -173,7 +174,8 @@ module _ (setup : Setting) (setting : IsSetting setup) (cores : ℕ → Core) (t
             (calls.opens setup setting cores t stands c here a active m stage_is has)
             (λ carries. record {
               acts = has.acts;
-              names = names_on setup setting t e stands.legal c a.call is_open carries (cores c).own.table a.plan a.found has.names;
+              names = names_on setup setting t e stands.legal c a.call is_open carries (cores c).own.table (plan_for a.call) a.found
+                  has.names;
               knows = record {
                 knows = record {
                   untypes = untypes_on a.call a.found m (untyping_by f core word (sweeping g v b kept owned (Empty (i + 1)))) refl
@@ -215,7 +217,8 @@ module _ (setup : Setting) (setting : IsSetting setup) (cores : ℕ → Core) (t
             (calls.opens setup setting cores t stands c here a active m stage_is has)
             (λ carries. record {
               acts = has.acts;
-              names = names_on setup setting t e stands.legal c a.call is_open carries (cores c).own.table a.plan a.found has.names;
+              names = names_on setup setting t e stands.legal c a.call is_open carries (cores c).own.table (plan_for a.call) a.found
+                  has.names;
               knows = going.done_knows setup c (cores c).own.table a no_counts f core word has.knows.knows.core
                   (λ n is. untypes_on a.call a.found m n is has.knows.knows.untypes) (e ∷ t) done
                   (record {

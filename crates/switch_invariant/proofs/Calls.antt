@@ -6,7 +6,7 @@ use Rattle.thread_invariant.proofs.Common.{fits, frame_names, named_by, Rule, Ch
 use Rattle.thread_invariant.proofs.Common.{change_of, named_fit, IsSound, opened, changes_in_frame, changes_threads, raises_clock}
 use Rattle.thread_invariant.proofs.Common.{events_of, is_one_of, frames_named, footprint_frames, frames_own, frame_argument, frame_at_slot}
 use Rattle.thread_invariant.proofs.Common.{Step, Trace, Open, phase, state_after, last_left, target_of, wide_ways, opened_is}
-use Rattle.thread_invariant.proofs.Common.{sound_of, calls_go, First, plan_for, GoesBy, own_pages, rule_after, Leads, LeadsIn, Plan}
+use Rattle.thread_invariant.proofs.Common.{sound_of, calls_go, First, plan_for, GoesBy, own_pages, rule_after, Leads, LeadsIn}
 use Rattle.thread_invariant.proofs.Common.{outcome_left, left_may, dues, Switching, SwitchAt, Act, Goes, Undecided, ActiveCall, StageFits}
 use Rattle.thread_invariant.proofs.Common.{HasRoom, landed, Core, holds_counts, due_of, KnowsUndecided, phase_at, holds, holds_at}
 use Rattle.thread_invariant.proofs.Common.{holds_in, Invariant, HasThread, SwitchesBy, claimed_by, holds_switching, counts_bare, names_on}
@@ -29,6 +29,7 @@ use Rattle.thread_invariant.specs.live_invariant.proofs.Numbers.{one_of_many}
 use Rattle.switch_invariant.proofs.ThreadWords.{thread_is}
 use Rattle.thread_invariant.specs.kernel_rules.specs.Rules.{does}
 use Rattle.thread_invariant.specs.spk_nums.specs.declared.replies.Value.TheVariants.{Nothing as no_value}
+use Rattle.thread_invariant.specs.act_states.specs.call_plans.specs.PlanOf.{plan_for}
 
 -- The thread to which its first name has led is one of the frames that the call is about.
 thread_about : (s : State) (c : ℕ) (call : Call) (ks : List Capability) (f q : ℕ)
@@ -78,15 +79,14 @@ module _ (setup : Setting) (setting : IsSetting setup) (cores : ℕ → Core) (t
   pub frames_are : m.frames ≡ setup.frames
   frames_are = fits_in.frames ∙ ap (λ l. l.frames) (stands.each c here).shape
 
-  pub leads : Leads (LeadsIn (state_after setup t) c) a.plan.names [] a.found
+  pub leads : Leads (LeadsIn (state_after setup t) c) (plan_for a.call).names [] a.found
   leads = plan_leads setup setting cores t stands c here a active has.names
 
-  pub by_plan : GoesBy (own_pages (state_after setup t) c) a.plan (rule_of (state_after setup t) c a.call)
+  pub by_plan : GoesBy (own_pages (state_after setup t) c) (plan_for a.call) (rule_of (state_after setup t) c a.call)
   by_plan = goes_by setup setting cores t stands c here a active has.names
 
   pub call_leads : Leads (LeadsIn (state_after setup t) c) (plan_for a.call).names [] a.found
-  call_leads = subst (λ (p : Plan). Leads (LeadsIn (state_after setup t) c) p.names [] a.found)
-      (is_active setup setting cores t stands c here a active).plan leads
+  call_leads = leads
 
   pub threads_change : changes_threads a.call ≡ true
   threads_change = ap changes_threads is_switch.call_is
@@ -143,7 +143,7 @@ module _ (setup : Setting) (setting : IsSetting setup) (cores : ℕ → Core) (t
   pub by_runs : (o : Option ℕ) → (thread_in ((state_after setup t).frame (claimed_by m.at))).runs_on ≡ o
       → change_of (state_after setup t) c a.call ≡ outcome_by o
   by_runs o so =
-      outcome_left s c (own_pages s c) a.plan (rule_of s c a.call) a.found by_plan leads ∙ ap (outcome s c) left
+      outcome_left s c (own_pages s c) (plan_for a.call) (rule_of s c a.call) a.found by_plan leads ∙ ap (outcome s c) left
       ∙ ap (λ r. outcome s c (left_rule r)) so ∙ last o
     where
       last : (o : Option ℕ) → outcome s c (left_rule o) ≡ outcome_by o
@@ -152,7 +152,7 @@ module _ (setup : Setting) (setting : IsSetting setup) (cores : ℕ → Core) (t
 
   pub may_run : (e : ℕ) → (thread_in ((state_after setup t).frame (claimed_by m.at))).runs_on ≡ Some e
       → RuleMay (state_after setup t) c (rule_of (state_after setup t) c a.call) (reply.Running e)
-  may_run e so = left_may s c (own_pages s c) a.plan (rule_of s c a.call) a.found by_plan leads (reply.Running e)
+  may_run e so = left_may s c (own_pages s c) (plan_for a.call) (rule_of s c a.call) a.found by_plan leads (reply.Running e)
       (subst (λ x. RuleMay s c x (reply.Running e)) (sym (left ∙ ap left_rule so)) (inl (refl, refl)))
 
   -- the thread is in the footprint, and the core's own, and the components of its stack
@@ -222,6 +222,7 @@ module _ (setup : Setting) (setting : IsSetting setup) (cores : ℕ → Core) (t
       (Undecided (Act (switch_act (record m { at = at })))) (looks_at g i footprint_it) lands held opens
       (λ carries. record {
         acts = has.acts;
-        names = names_on setup setting t (load g i) stands.legal c a.call is_open carries (cores c).own.table a.plan a.found has.names;
+        names = names_on setup setting t (load g i) stands.legal c a.call is_open carries (cores c).own.table (plan_for a.call) a.found
+            has.names;
         knows = record { knows = carried (LoadOf (EntryAt g i)) at same now; all = due; goes = refl };
       })

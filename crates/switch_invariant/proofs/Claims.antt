@@ -31,6 +31,7 @@ use Rattle.switch_invariant.proofs.Calls as calls
 use Rattle.switch_invariant.proofs.ThreadWords.{none_some, same_value, thread_is, first_mark}
 use Rattle.switch_invariant.proofs.ThreadWords.{stack_mark, no_node, raced_head, idle_value, top_height}
 use Rattle.switch_invariant.proofs.Words.{ShowsRun, shows, idle_unkept, plain_says, marked_says, top_comp}
+use Rattle.thread_invariant.specs.act_states.specs.call_plans.specs.PlanOf.{plan_for}
 
 -- A step on a word of a thread spares blank frames and temporal capabilities.
 pub spares_thread : (setup : Setting) (t : Trace) (e : Step) (f i : ℕ) → word_of e.move ≡ EntryAt f i
@@ -289,7 +290,8 @@ module _ (setup : Setting) (setting : IsSetting setup) (cores : ℕ → Core) (t
           (calls.opens setup setting cores t stands c here a active m stage_is has)
           (λ carries. record {
             acts = has.acts;
-            names = names_on setup setting t e stands.legal c a.call is_open carries (cores c).own.table a.plan a.found has.names;
+            names = names_on setup setting t e stands.legal c a.call is_open carries (cores c).own.table (plan_for a.call) a.found
+                has.names;
             knows = record {
               knows = calls.carried setup setting cores t stands c here a active m stage_is has compare (Claim (AtStack f depth))
                   (sym (ap claimed_by is)) tt;

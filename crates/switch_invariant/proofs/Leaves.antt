@@ -22,6 +22,7 @@ use Rattle.switch_invariant.proofs.Claims.{not_kept, spares_thread}
 use Rattle.switch_invariant.proofs.ThreadWords.{first_mark, none_some, same_some}
 use Rattle.switch_invariant.proofs.Tops.{apart_own}
 use Rattle.switch_invariant.proofs.Words.{no_keeper, plain_says}
+use Rattle.thread_invariant.specs.act_states.specs.call_plans.specs.PlanOf.{plan_for}
 
 module _ (setup : Setting) (setting : IsSetting setup) (cores : ℕ → Core) (t : Trace) (stands : Invariant setup cores t) (c : ℕ)
     (here : c < setup.cores)
@@ -143,7 +144,7 @@ module _ (setup : Setting) (setting : IsSetting setup) (cores : ℕ → Core) (t
       (calls.opens setup setting cores t stands c here a active m stage_is has)
       (λ carries. record {
         acts = has.acts;
-        names = names_on setup setting t e stands.legal c a.call is_open carries (cores c).own.table a.plan a.found has.names;
+        names = names_on setup setting t e stands.legal c a.call is_open carries (cores c).own.table (plan_for a.call) a.found has.names;
         knows = record {
           knows = calls.carried setup setting cores t stands c here a active m stage_is has store (Draw to table pages)
               (sym (ap claimed_by is))

@@ -12,8 +12,9 @@ use Rattle.thread_invariant.specs.spk_nums.specs.declared.replies.Reply.TheVaria
 use Rattle.thread_invariant.specs.kernel_rules.specs.Rules.{of_kind as has_kind}
 use Rattle.thread_invariant.specs.act_states.specs.Acts.{switching}
 use Rattle.thread_invariant.specs.act_states.specs.declared.work.Act.TheVariants.{Switch as switch_act}
-use Rattle.thread_invariant.specs.step_ways.proofs.Loads.{OnlyLooks, step_to, call_is, is_active, loads_on}
+use Rattle.thread_invariant.specs.step_ways.proofs.Loads.{OnlyLooks, step_to, call_is, loads_on}
 use Rattle.thread_invariant.specs.step_ways.proofs.Refusals.{GoodTook}
+use Rattle.thread_invariant.specs.act_states.specs.call_plans.specs.PlanOf.{plan_for}
 
 -- What a name leads to is of a wanted kind, and is what was found.
 same_found : (wanted : Want) (j k : Capability) → has_kind wanted j ≡ Found k → (j ≡ k) × (wanted.kinds k.kind ≡ true)
@@ -58,9 +59,9 @@ module _ (setup : Setting) (setting : IsSetting setup) (cores : ℕ → Core) (t
     (a : ActiveCall) (active : (cores c).active ≡ Some a) (opens : phase_at a.call a.stage ≡ Open a.call)
     (held_is : holds_in (Some a) ≡ holds_counts None a.counts) (no_counts : a.counts ≡ [])
     (move : Move) (looks : OnlyLooks setup t c a.call move) (ks : List Capability)
-    (leads : Leads (LeadsIn (state_after setup t) c) a.plan.names [] ks) (none : names_after a.plan.names ks ≡ [])
+    (leads : Leads (LeadsIn (state_after setup t) c) (plan_for a.call).names [] ks) (none : names_after (plan_for a.call).names ks ≡ [])
     (names : Carries setup t (step_to c None move (last_left setup t (word_of move)) None None) c
-    → NamesAre setup (step_to c None move (last_left setup t (word_of move)) None None ∷ t) c (cores c).own.table a.plan ks)
+    → NamesAre setup (step_to c None move (last_left setup t (word_of move)) None None ∷ t) c (cores c).own.table (plan_for a.call) ks)
     (x y : ℕ) (call_so : a.call ≡ Switch x y) (may_act : IsTrue (acts (state_after setup t) c a.call)) where
   abbrev s : State
   s = state_after setup t
@@ -71,8 +72,8 @@ module _ (setup : Setting) (setting : IsSetting setup) (cores : ℕ → Core) (t
   open_now : phase t c ≡ Open a.call
   open_now = (call_is setup setting cores t stands c here a active).phase ∙ opens
 
-  plan_names : a.plan.names ≡ two_names x y
-  plan_names = ap (λ (p : Plan). p.names) ((is_active setup setting cores t stands c here a active).plan ∙ ap plan_for call_so)
+  plan_names : (plan_for a.call).names ≡ two_names x y
+  plan_names = ap (λ (p : Plan). p.names) (ap plan_for call_so)
 
   led : TwoLed s c x y ks
   led = two_led s c x y ks (subst (λ (ns : List Name). Leads (LeadsIn s c) ns [] ks) plan_names leads)
@@ -86,7 +87,7 @@ module _ (setup : Setting) (setting : IsSetting setup) (cores : ℕ → Core) (t
       (Undecided (Act (switch_act (switching (cores c).own j.frame k.frame)))) looks lands (sym held_is) opens
       (λ carries. record {
         acts = may_act;
-        names = subst (λ (xs : List Capability). NamesAre setup (e ∷ t) c (cores c).own.table a.plan xs) both (names carries);
+        names = subst (λ (xs : List Capability). NamesAre setup (e ∷ t) c (cores c).own.table (plan_for a.call) xs) both (names carries);
         knows = record {
           knows = record {
             switches = subst (λ z. SwitchesBy z (j ∷ k ∷ []) j.frame k.frame) (sym call_so) (record { thread = refl; tcap = refl });

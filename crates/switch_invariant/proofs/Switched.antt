@@ -67,6 +67,7 @@ use Rattle.thread_invariant.specs.kernel_rules.specs.Access.{Want, own as own_of
 use Rattle.thread_invariant.specs.spk_nums.specs.declared.calls.Call.TheVariants.{Switch as CallSwitch}
 use Rattle.thread_invariant.specs.kernel_rules.specs.Rules.{does}
 use Rattle.thread_invariant.specs.spk_nums.specs.declared.replies.Value.TheVariants.{Nothing as no_value}
+use Rattle.thread_invariant.specs.act_states.specs.call_plans.specs.PlanOf.{plan_for}
 
 comp_no_thread : (k : CompFields) (u : ThreadFields) → Kernel (Comp k) ≡ Kernel (Thread u) → ⊥
 comp_no_thread k u h = cc
@@ -562,11 +563,11 @@ module _ (setup : Setting) (setting : IsSetting setup) (cores : ℕ → Core) (t
 
   -- the places of its names are gone
   gone : HasReached (e ∷ t) c (ways s c (rule_of s c a.call))
-  gone = all_ways s c (own_pages s c) (e ∷ t) a.plan (rule_of s c a.call) a.found
+  gone = all_ways s c (own_pages s c) (e ∷ t) (plan_for a.call) (rule_of s c a.call) a.found
       (calls.by_plan setup setting cores t stands c here a active m stage_is has)
       (leads_by (λ n wanted k. HasFound setup t c (own_in (cores c).own.table n) wanted k)
       (λ n wanted k. LeadsIn s c n wanted k × HasReached (e ∷ t) c (way_to s c (own_of_access s c n)))
-      own_gone a.plan.names [] a.found has.names)
+      own_gone (plan_for a.call).names [] a.found has.names)
       (subst (λ y. HasReached (e ∷ t) c (ways s c y))
       (sym (calls.left setup setting cores t stands c here a active m stage_is has
       ∙ ap (λ o. calls.left_rule setup setting cores t stands c here a active m stage_is has o)

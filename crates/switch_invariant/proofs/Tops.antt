@@ -26,6 +26,7 @@ use Rattle.thread_invariant.proofs.CompWords.{comp_says, table_below, pages_belo
 use Rattle.switch_invariant.proofs.Calls as calls
 use Rattle.switch_invariant.proofs.ThreadWords.{frame_shown, tcap_no_thread}
 use Rattle.switch_invariant.proofs.Words.{marked_says}
+use Rattle.thread_invariant.specs.act_states.specs.call_plans.specs.PlanOf.{plan_for}
 
 -- Where a word says both that a thread runs somewhere and that it is idle, there is none.
 unlike : (depth d n : ℕ) → word_of_thread (Running d n) ≡ word_of_thread (Idle depth) → ⊥
@@ -183,7 +184,7 @@ module _ (setup : Setting) (setting : IsSetting setup) (cores : ℕ → Core) (t
           acts = has.acts;
           names = names_on setup setting t e stands.legal c a.call
               (calls.is_open setup setting cores t stands c here a active m stage_is has)
-              carries (cores c).own.table a.plan a.found has.names;
+              carries (cores c).own.table (plan_for a.call) a.found has.names;
           knows = knows_next setup (e ∷ t) c (cores c).own.table
               (next_at a a.found (Undecided (next_work m.core 0 act))) m.core act (dues act)
               has.knows.knows.leaves.core

@@ -40,6 +40,7 @@ use Rattle.live_invariant.specs.act_states.specs.declared.work.Act.TheVariants.{
 use Rattle.live_invariant.specs.act_states.specs.declared.work.Act.TheVariants.{Refill as refill_act}
 use Rattle.live_invariant.specs.act_states.specs.declared.work.Act.TheVariants.{Switch as switch_act}
 use Rattle.thread_invariant.proofs.OwnStack.{own_thread}
+use Rattle.live_invariant.specs.act_states.specs.call_plans.specs.PlanOf.{plan_for}
 
 pub counts_apart : (fate : Option (Option ℕ)) (xs : List Acquired) (f i : ℕ) → (holds_counts fate xs).marks (EntryAt f i) ≡ false
 counts_apart fate [] f i = refl
@@ -191,7 +192,7 @@ module _ (setup : Setting) (setting : IsSetting setup) (cores : ℕ → Core) (t
   node n relies = node_no_thread ((state_after setup t).frame n) relies.node
 
   module _ (a : ActiveCall) where
-    by_act : (act : ActOf) (h : Holding) → phase t d ≡ Open a.call → KnowsAct setup t d a.call a.plan a.found setup.cores act
+    by_act : (act : ActOf) (h : Holding) → phase t d ≡ Open a.call → KnowsAct setup t d a.call (plan_for a.call) a.found setup.cores act
         → h.marks (EntryAt f i) ≡ false → Claimed (holds_act act h)
     by_act (fill_act fill) h opens has free = none h free
     by_act (remove_act (AtCompare n index word by) cap) h opens has free = none h free

@@ -24,6 +24,7 @@ use Rattle.live_invariant.proofs.Numbers.{one_of_many, comp_is}
 use Rattle.live_invariant.specs.kernel_rules.specs.Edits.{Push as push_edit}
 use Rattle.live_invariant.specs.kernel_rules.specs.Rules.{does}
 use Rattle.live_invariant.specs.spk_nums.specs.declared.replies.Value.TheVariants.{Nothing as no_value}
+use Rattle.live_invariant.specs.act_states.specs.call_plans.specs.PlanOf.{plan_for}
 
 -- What is left of the rule of a call through a gate to this frame, made in this epoch.
 abbrev pub entering : State → ℕ → Capability → ℕ → ℕ → Rule
@@ -55,10 +56,10 @@ module _ (setup : Setting) (setting : IsSetting setup) (cores : ℕ → Core) (t
   pub fits : InvokingFits (cores c).own.layout m
   fits = subst (StageFits (cores c).own.layout) stage_is (is_active setup setting cores t stands c here a active).stage
 
-  pub leads : Leads (LeadsIn s c) a.plan.names [] a.found
+  pub leads : Leads (LeadsIn s c) (plan_for a.call).names [] a.found
   leads = plan_leads setup setting cores t stands c here a active has.names
 
-  pub by_plan : GoesBy (own_pages s c) a.plan (rule_of s c a.call)
+  pub by_plan : GoesBy (own_pages s c) (plan_for a.call) (rule_of s c a.call)
   by_plan = goes_by setup setting cores t stands c here a active has.names
 
   -- the component
@@ -81,7 +82,7 @@ module _ (setup : Setting) (setting : IsSetting setup) (cores : ℕ → Core) (t
   pub by_life : (lives : Bool) → is_live_in (s.number fields.number) m.epoch ≡ lives
       → change_of s c a.call ≡ unless (if not lives then Some reply.Dead else None) (does c s no_value (push_edit m.comp ∷ []))
   by_life lives so =
-      outcome_left s c (own_pages s c) a.plan (rule_of s c a.call) a.found by_plan leads ∙ ap (outcome s c) left
+      outcome_left s c (own_pages s c) (plan_for a.call) (rule_of s c a.call) a.found by_plan leads ∙ ap (outcome s c) left
       ∙ ap (λ b. unless (first_of (if b then Some reply.Deep else None)
       (first_of (if not (is_live_in (s.number fields.number) m.epoch) then Some reply.Dead else None) None))
       (does c s no_value (push_edit m.comp ∷ []))) shallow
@@ -94,13 +95,13 @@ module _ (setup : Setting) (setting : IsSetting setup) (cores : ℕ → Core) (t
       last false = refl
 
   pub may_be_dead : is_live_in (s.number fields.number) m.epoch ≡ false → RuleMay s c (rule_of s c a.call) reply.Dead
-  may_be_dead none = left_may s c (own_pages s c) a.plan (rule_of s c a.call) a.found by_plan leads reply.Dead
+  may_be_dead none = left_may s c (own_pages s c) (plan_for a.call) (rule_of s c a.call) a.found by_plan leads reply.Dead
       (subst (λ x. RuleMay s c x reply.Dead) (sym left) (inr (inl (ap (λ b. not b) none, refl))))
 
   -- the component and its number are in the footprint
   pub footprint : is_one_of m.comp (footprint_frames s c a.call) ≡ true
   footprint = invoke_footprint s c a.call a.found m has.knows.knows.invokes
-      (subst (λ (p : Plan). Leads (LeadsIn s c) p.names [] a.found) (is_active setup setting cores t stands c here a active).plan leads)
+      leads
 
   pub number_footprint : (l : ℕ) → fields.number ≡ l → is_one_of l (footprint_numbers s c a.call) ≡ true
   number_footprint l same = one_right l (number_argument a.call) _
@@ -109,10 +110,10 @@ module _ (setup : Setting) (setting : IsSetting setup) (cores : ℕ → Core) (t
 
   -- the places of the name are gone
   pub gone : (e : Step) → e.core ≡ c → e.enters ≡ None → HasReached (e ∷ t) c (ways s c (rule_of s c a.call))
-  gone e own_step no_entry = all_ways s c (own_pages s c) (e ∷ t) a.plan (rule_of s c a.call) a.found by_plan
+  gone e own_step no_entry = all_ways s c (own_pages s c) (e ∷ t) (plan_for a.call) (rule_of s c a.call) a.found by_plan
       (leads_by (λ n wanted q. HasFound setup t c (own_in (cores c).own.table n) wanted q)
       (λ n wanted q. LeadsIn s c n wanted q × HasReached (e ∷ t) c (way_to s c (own s c n)))
-      own_gone a.plan.names [] a.found has.names)
+      own_gone (plan_for a.call).names [] a.found has.names)
       (subst (λ y. HasReached (e ∷ t) c (ways s c y)) (sym left)
       (All-nil (λ (y : Slot). IsSome (own_left (e ∷ t) c (EntryAt y.node y.index)))))
     where

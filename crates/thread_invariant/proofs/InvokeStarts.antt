@@ -25,6 +25,7 @@ use Rattle.live_invariant.specs.step_ways.proofs.Refusals.{GoodTook, not_spent}
 use Rattle.thread_invariant.proofs.InvokeCalls.{entering}
 use Rattle.live_invariant.specs.kernel_rules.specs.Edits.{Push as push_edit}
 use Rattle.live_invariant.specs.spk_nums.specs.declared.replies.Value.TheVariants.{Nothing as no_value}
+use Rattle.live_invariant.specs.act_states.specs.call_plans.specs.PlanOf.{plan_for}
 
 -- What a name leads to is of a wanted kind, and is what was found.
 same_found : (wanted : Want) (j k : Capability) → of_kind wanted j ≡ Found k → j ≡ k
@@ -54,13 +55,14 @@ module _ (setup : Setting) (setting : IsSetting setup) (cores : ℕ → Core) (t
     (a : ActiveCall) (active : (cores c).active ≡ Some a) (opens : phase_at a.call a.stage ≡ Open a.call)
     (held_is : holds_in (Some a) ≡ holds_counts None a.counts) (no_counts : a.counts ≡ [])
     (room : (cores c).own.made < (cores c).own.limit)
-    (by_plan : GoesBy (own_pages (state_after setup t) c) a.plan (rule_of (state_after setup t) c a.call))
+    (by_plan : GoesBy (own_pages (state_after setup t) c) (plan_for a.call) (rule_of (state_after setup t) c a.call))
     (move : Move) (looks : OnlyLooks setup t c a.call move) (n : ℕ) (k : Capability) (call_so : a.call ≡ call_gate n)
     (kind_is : k.kind ≡ kind.Gate)
     (found : named (state_after setup t) c n (to_use (only kind.Gate)) ≡ Found k)
-    (leads : Leads (LeadsIn (state_after setup t) c) a.plan.names [] (k ∷ []))
+    (leads : Leads (LeadsIn (state_after setup t) c) (plan_for a.call).names [] (k ∷ []))
     (names : Carries setup t (step_to c None move (last_left setup t (word_of move)) None None) c
-    → NamesAre setup (step_to c None move (last_left setup t (word_of move)) None None ∷ t) c (cores c).own.table a.plan (k ∷ []))
+    → NamesAre setup (step_to c None move (last_left setup t (word_of move)) None None ∷ t) c (cores c).own.table (plan_for a.call)
+    (k ∷ []))
     (may_act : IsTrue (acts (state_after setup t) c a.call)) where
   abbrev s : State
   s = state_after setup t
@@ -97,13 +99,13 @@ module _ (setup : Setting) (setting : IsSetting setup) (cores : ℕ → Core) (t
       decides_on setup setting cores t stands c here a active move reply.Deep (k ∷ []) looks lands
       (sym held_is) opens refl refl (λ x. refl) (λ x. refl) refl (
         unspent,
-        left_may s c (own_pages s c) a.plan (rule_of s c a.call) (k ∷ []) by_plan leads reply.Deep
+        left_may s c (own_pages s c) (plan_for a.call) (rule_of s c a.call) (k ∷ []) by_plan leads reply.Deep
             (subst (λ x. RuleMay s c x reply.Deep) (sym left) (inl (sym depth_is ∙ deep, refl))),
       ) tt
       (λ is_alone. refused_first s c a.call reply.Deep may_act unspent refused)
     where
       refused : change_of s c a.call ≡ Refused reply.Deep
-      refused = outcome_left s c (own_pages s c) a.plan (rule_of s c a.call) (k ∷ []) by_plan leads ∙ ap (outcome s c) left
+      refused = outcome_left s c (own_pages s c) (plan_for a.call) (rule_of s c a.call) (k ∷ []) by_plan leads ∙ ap (outcome s c) left
           ∙ ap (λ b. unless (first_of (if b then Some reply.Deep else None)
           (first_of (if not (is_live_in (s.number (comp_in (s.frame k.frame)).number) k.arg) then Some reply.Dead else None) None))
           (does c s no_value (push_edit k.frame ∷ []))) (sym depth_is ∙ deep)

@@ -24,6 +24,7 @@ use Rattle.live_invariant.specs.count_invariant.proofs.Acquiring.{knows_next, ne
 use Rattle.live_invariant.proofs.Numbers.{no_number, shows_live, lives_as_shown}
 use Rattle.thread_invariant.proofs.CompWords.{comp_says, table_below, pages_below}
 use Rattle.thread_invariant.proofs.InvokeCalls as calls
+use Rattle.live_invariant.specs.act_states.specs.call_plans.specs.PlanOf.{plan_for}
 
 -- A word that names a frame of the machine.
 pub frame_shown : (frames word f : ℕ) → word ≡ f → f < frames → frame_in frames word ≡ Some f
@@ -86,7 +87,8 @@ module _ (setup : Setting) (setting : IsSetting setup) (cores : ℕ → Core) (t
       (sym held_is) (calls.opens setup setting cores t stands c here a active m stage_is has)
       (λ carries. record {
         acts = has.acts;
-        names = names_on setup setting t (load i) stands.legal c a.call is_open carries (cores c).own.table a.plan a.found has.names;
+        names = names_on setup setting t (load i) stands.legal c a.call is_open carries (cores c).own.table (plan_for a.call) a.found
+            has.names;
         knows = record {
           knows = invoking_on setup setting t (load i) stands.legal c a.call is_open carries a.call a.found (record m { at = at })
               (record {
@@ -141,7 +143,7 @@ module _ (setup : Setting) (setting : IsSetting setup) (cores : ℕ → Core) (t
         (calls.opens setup setting cores t stands c here a active m stage_is has)
         (λ carries. record {
           acts = has.acts;
-          names = names_on setup setting t e stands.legal c a.call is_open carries (cores c).own.table a.plan a.found has.names;
+          names = names_on setup setting t e stands.legal c a.call is_open carries (cores c).own.table (plan_for a.call) a.found has.names;
           knows = knows_next setup (e ∷ t) c (cores c).own.table (next_at a a.found (Undecided (next_work m.core 0 act))) m.core act
               (dues act)
               knows.core

@@ -31,6 +31,7 @@ use Rattle.thread_invariant.proofs.OwnWords.{thread_says}
 use Rattle.kernel_laws.specs.kernel_rules.specs.Edits.{Pop as pop_edit}
 use Rattle.kernel_laws.specs.kernel_rules.specs.Rules.{does}
 use Rattle.live_invariant.specs.spk_nums.specs.declared.replies.Value.TheVariants.{Nothing as no_value}
+use Rattle.live_invariant.specs.act_states.specs.call_plans.specs.PlanOf.{plan_for}
 
 -- The component below the top of a stack, by its height.
 height_below : (fs : List ℕ) (h : ℕ) → 2 ≤ length fs → h + 2 ≡ length fs → at_height fs h ≡ Some (below_of fs)
@@ -119,7 +120,8 @@ module _ (setup : Setting) (setting : IsSetting setup) (cores : ℕ → Core) (t
       (Undecided (Act (return_act (record m { at = at })))) (looks_at f i footprint) lands (sym return_held) opens
       (λ carries. record {
         acts = has.acts;
-        names = names_on setup setting t (load f i) stands.legal c a.call is_open carries (cores c).own.table a.plan a.found has.names;
+        names = names_on setup setting t (load f i) stands.legal c a.call is_open carries (cores c).own.table (plan_for a.call) a.found
+            has.names;
         knows = record {
           knows = returning_on setup setting t (load f i) stands.legal c a.call is_open carries a.call (record m { at = at })
               (record { call_is = knows.call_is; core = knows.core; on = knows.on; top = knows.top; at = now });
@@ -201,7 +203,7 @@ module _ (setup : Setting) (setting : IsSetting setup) (cores : ℕ → Core) (t
         (next_holds m.core 0 act (holds_counts None a.counts) ∙ sym return_held) opens
         (λ carries. record {
           acts = has.acts;
-          names = names_on setup setting t e stands.legal c a.call is_open carries (cores c).own.table a.plan a.found has.names;
+          names = names_on setup setting t e stands.legal c a.call is_open carries (cores c).own.table (plan_for a.call) a.found has.names;
           knows = knows_next setup (e ∷ t) c (cores c).own.table (next_at a a.found (Undecided (next_work m.core 0 act))) m.core act
               (dues act)
               knows.core

@@ -46,6 +46,7 @@ use Rattle.step_ways.specs.kept_facts.proofs.WordFrames.{load_marks, load_words}
 use Rattle.step_ways.proofs.Writes.{same_marks}
 use Rattle.time_invariant.proofs.Budgets.{tcap_is, IsTcap, Numbers, numbers_of}
 use Rattle.time_invariant.proofs.TickCalls.{IsTick, tick_of, own_footprint, raced_head}
+use Rattle.step_ways.specs.call_plans.specs.PlanOf.{plan_for}
 
 -- The change of a tick of which so many ticks are charged.
 abbrev charges : State → ℕ → ℕ → ℕ → Change
@@ -368,7 +369,7 @@ module _ (setup : Setting) (setting : IsSetting setup) (cores : ℕ → Core) (t
           acts = has.acts;
           names = names_on setup setting t
               (inner setup setting cores t stands c here a active (LoadOf at) None None) stands.legal c a.call is_open carries
-              (cores c).own.table a.plan a.found has.names;
+              (cores c).own.table (plan_for a.call) a.found has.names;
           knows = record {
             knows = record {
               charges = charges_on a.call (subst (λ y. ChargesBy s c a.call y) charge_is has.knows.knows.charges);

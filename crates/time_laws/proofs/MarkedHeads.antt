@@ -34,6 +34,7 @@ use Rattle.flight.specs.thread_invariant.proofs.OwnStack.{own_thread}
 use Rattle.flight.specs.Made.{cores_after, IsMade}
 use Rattle.history_laws.specs.Time.{OpenHeadsSay}
 use Rattle.flight.proofs.Made.{made_stands}
+use Rattle.flight.specs.call_plans.specs.PlanOf.{plan_for}
 
 pub node_no_tcap : (x : Frame) → IsTrue (is_node x) → is_tcap x ≡ false
 node_no_tcap (Kernel Table) node = refl
@@ -147,7 +148,7 @@ module _ (setup : Setting) (setting : IsSetting setup) (cores : ℕ → Core) (t
   own_no_tcap g own = ap (λ (n : ℕ). is_tcap (s.frame n)) own ∙ ap is_tcap (own_thread setup setting t stands.legal d below)
 
   module _ (a : ActiveCall) where
-    by_act : (act : ActOf) (h : Holding) → phase t d ≡ Open a.call → KnowsAct setup t d a.call a.plan a.found setup.cores act
+    by_act : (act : ActOf) (h : Holding) → phase t d ≡ Open a.call → KnowsAct setup t d a.call (plan_for a.call) a.found setup.cores act
         → IsFree h → Tells (holds_act act h)
     by_act (fill_act fill) h opens has free = none h free
     by_act (remove_act (AtCompare n index word by) cap) h opens has free = none h free

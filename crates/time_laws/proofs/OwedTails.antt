@@ -45,7 +45,6 @@ use Rattle.flight.specs.call_stages.specs.Steps.{took_at, took_count, is_spent}
 use Rattle.flight.specs.stage_thread.specs.Living.{alive_move, alive_end, alive_after}
 use Rattle.flight.specs.core_invariant.specs.Knows.{TypesBy}
 use Rattle.flight.specs.core_invariant.specs.Knows.{OutsideBy, KillsBy, MakesCompBy, is_mapping}
-use Rattle.flight.specs.step_ways.proofs.Loads.{is_active}
 use Rattle.flight.specs.share_invariant.proofs.Compared as compared
 use Rattle.flight.specs.pair_invariant.proofs.ShareCalls as calls
 use Rattle.flight.specs.pair_invariant.proofs.ShareSteps.{shares_same}
@@ -55,6 +54,7 @@ use Rattle.history_laws.specs.Time.{Owes, state_of_decision}
 use Rattle.flight.proofs.Made.{made_stands, finds}
 use Rattle.time_laws.proofs.ShareTails.{OwesAt, OwesStage, OwesIn, OwesTook, StoresNone, LeavesNone}
 use Rattle.time_laws.proofs.ShareTails.{tail_on, landed_none, enter_none, alive_none, end_none, reading_none, scan_none}
+use Rattle.flight.specs.call_plans.specs.PlanOf.{plan_for}
 
 -- The acts of the calls that change budgets
 
@@ -284,8 +284,7 @@ module _ (setup : Setting) (setting : IsSetting setup) (cores : ℕ → Core) (t
   module _ (p : Pair) (stage_is : a.stage ≡ Undecided (Act (share_act p)))
       (has : KnowsUndecided setup t c (cores c).own.table a (Act (share_act p))) where
     leads : Leads (LeadsIn s c) (plan_for a.call).names [] a.found
-    leads = subst (λ (q : Plan). Leads (LeadsIn s c) q.names [] a.found) (is_active setup setting cores t stands c here a active).plan
-        (calls.leads setup setting cores t stands c here a active p stage_is has)
+    leads = calls.leads setup setting cores t stands c here a active p stage_is has
 
   compare_owes : (p : Pair) → a.stage ≡ Undecided (Act (share_act (record p { at = CompareB })))
       → KnowsUndecided setup t c (cores c).own.table a (Act (share_act (record p { at = CompareB })))
@@ -359,7 +358,7 @@ module _ (setup : Setting) (setting : IsSetting setup) (cores : ℕ → Core) (t
       (λ budgets. refill_none _ _)
   act_owes act is has =
       landed_none s before c a (took_act (cores c).own.layout act (FoundAt (Act act)))
-      (λ budgets. absurd (budget_acts setup t c a.call a.plan a.found setup.cores budgets act has.knows.knows))
+      (λ budgets. absurd (budget_acts setup t c a.call (plan_for a.call) a.found setup.cores budgets act has.knows.knows))
 
   work_owes : (work : Work) → a.stage ≡ Undecided work → KnowsUndecided setup t c (cores c).own.table a work → WorkOwes work
   work_owes (Lookup look) is has = end_none s before c (cores c).own a _ _
@@ -372,7 +371,7 @@ module _ (setup : Setting) (setting : IsSetting setup) (cores : ℕ → Core) (t
       landed_none s before c a (took_count (cores c).own.core (length a.counts) change act
       (pin_after pin (FoundAt (Acquire pin change act))) (pin_end pin (FoundAt (Acquire pin change act))))
       (λ budgets. count_none (cores c).own.core (length a.counts) change act _ _
-      (budget_acts setup t c a.call a.plan a.found setup.cores budgets act has.knows.knows))
+      (budget_acts setup t c a.call (plan_for a.call) a.found setup.cores budgets act has.knows.knows))
   work_owes (Act act) is has = act_owes act is has
 
   -- A step of a call, wherever it stands.

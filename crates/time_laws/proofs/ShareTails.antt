@@ -35,6 +35,7 @@ use Rattle.flight.specs.stage_thread.specs.declared.alive.Alive.{Alive}
 use Rattle.flight.specs.call_stages.specs.Steps.{read_more, took_first, took_enter, took_alive, named_one, took_found, took_end, took_read}
 use Rattle.flight.specs.call_stages.specs.Tails.{took_tail}
 use Rattle.history_laws.specs.Time.{Owes}
+use Rattle.flight.specs.call_plans.specs.PlanOf.{plan_for}
 
 -- The head of the first, which a call decided so in state s has still to store with the ticks less; and that of the second, with them more.
 abbrev pub OwesFirst : State → ℕ → Reply → Call → Pair → Type 0
@@ -212,24 +213,25 @@ next_none own call ks NextNothing budgets = begun_none own call ks None None bud
 
 pub enter_none : (now before : State) (c : ℕ) (spent : Bool) (own : Own) (a : ActiveCall) → OwesTook now before c (took_enter spent own a)
 enter_none now before c true own a = landed_none now before c a (refuse refusal.CallsSpent) (λ budgets. tt)
-enter_none now before c false own a = first_none a.plan.living
+enter_none now before c false own a = first_none (plan_for a.call).living
   where
     first_none : (living : Bool) → OwesTook now before c (took_first living own a)
     first_none true = λ budgets. tt
-    first_none false = landed_none now before c a (next_by own a) (λ budgets. next_none own a.call a.found (next_of a.plan a.found) budgets)
+    first_none false = landed_none now before c a (next_by own a)
+        (λ budgets. next_none own a.call a.found (next_of (plan_for a.call) a.found) budgets)
 
 pub alive_none : (now before : State) (c : ℕ) (own : Own) (a : ActiveCall) (alive : Alive) (end : StageEnd (Unit {0}))
     → OwesTook now before c (took_alive own a alive end)
 alive_none now before c own a alive ends.Going = λ budgets. tt
 alive_none now before c own a alive (ends.Decided r) = landed_none now before c a (refuse (refusal_of r)) (λ budgets. tt)
 alive_none now before c own a alive (ends.Done x) =
-    landed_none now before c a (next_by own a) (λ budgets. next_none own a.call a.found (next_of a.plan a.found) budgets)
+    landed_none now before c a (next_by own a) (λ budgets. next_none own a.call a.found (next_of (plan_for a.call) a.found) budgets)
 alive_none now before c own a alive (ends.Refuse r) = landed_none now before c a (refuse (refusal_of r)) (λ budgets. tt)
 
 named_none : (now before : State) (c : ℕ) (own : Own) (a : ActiveCall) (met : Met) → OwesTook now before c (named_one own a met)
 named_none now before c own a (Finds k) =
     landed_none now before c (found_more a (pushed a.found k)) (next_by own (found_more a (pushed a.found k)))
-    (λ budgets. next_none own a.call (pushed a.found k) (next_of a.plan (pushed a.found k)) budgets)
+    (λ budgets. next_none own a.call (pushed a.found k) (next_of (plan_for a.call) (pushed a.found k)) budgets)
 named_none now before c own a (Refused r) = landed_none now before c a (refuse r) (λ budgets. tt)
 
 free_none : (own : Own) (call : Call) (ks : List Capability) (read : Option ℕ) (f : Found) (shown : Entry) → changes_budgets call ≡ true
@@ -261,7 +263,7 @@ pub end_none : (now before : State) (c : ℕ) (own : Own) (a : ActiveCall) (look
     → OwesTook now before c (took_end own a look end)
 end_none now before c own a look ends.Going = landed_none now before c a (Goes (Lookup look)) (λ budgets. tt)
 end_none now before c own a look (ends.Decided r) = landed_none now before c a (refuse (refusal_of r)) (λ budgets. tt)
-end_none now before c own a look (ends.Done f) = found_none now before c own a (next_of a.plan a.found) f
+end_none now before c own a look (ends.Done f) = found_none now before c own a (next_of (plan_for a.call) a.found) f
 end_none now before c own a look (ends.Refuse r) = landed_none now before c a (refuse (refusal_of r)) (λ budgets. tt)
 
 pub reading_none : (now before : State) (c : ℕ) (a : ActiveCall) (look : Look) (o : Option CompWord)

@@ -41,10 +41,12 @@ use Rattle.call_stages.specs.act_states.specs.stage_thread.specs.declared.claim.
 use Rattle.call_stages.specs.act_states.specs.stage_thread.specs.declared.claim.Claimed.{Claimed}
 use Rattle.call_stages.specs.act_states.specs.stage_pins.specs.declared.pin.Pin.{Pin}
 use Rattle.call_stages.specs.act_states.specs.stage_pins.specs.declared.pin.Pinned.{Pinned}
-use Rattle.call_stages.specs.act_states.specs.stage_sweep.specs.Freeze.{hold_refuses, load_refuses, some_referenced, sum_refuses, compare_refuses, refuses_at, sweep_refuses, end_by}
+use Rattle.call_stages.specs.act_states.specs.stage_sweep.specs.Freeze.{hold_refuses, load_refuses, some_referenced, sum_refuses}
+use Rattle.call_stages.specs.act_states.specs.stage_sweep.specs.Freeze.{compare_refuses, refuses_at, sweep_refuses, end_by}
 use Rattle.call_stages.specs.act_states.specs.stage_sweep.specs.Freeze.{sweep_end, sweep_move, sweep_kept}
 use Rattle.call_stages.specs.act_states.specs.stage_sweep.specs.Freeze as freeze
-use Rattle.call_stages.specs.act_states.specs.stage_sweep.specs.Emptiness.{entry_refuses, field_refuses, depth_refuses, thread_refuses, place_refuses, stack_refuses}
+use Rattle.call_stages.specs.act_states.specs.stage_sweep.specs.Emptiness.{entry_refuses, field_refuses, depth_refuses, thread_refuses}
+use Rattle.call_stages.specs.act_states.specs.stage_sweep.specs.Emptiness.{place_refuses, stack_refuses}
 use Rattle.call_stages.specs.act_states.specs.stage_sweep.specs.Emptiness.{head_by_mark, head_refuses, by_turn, empty_refuses}
 use Rattle.call_stages.specs.act_states.specs.stage_sweep.specs.declared.sweep.Sweep.{Sweep}
 use Rattle.call_stages.specs.act_states.specs.stage_sweep.specs.declared.sweep.SweepAt.{SweepAt}
@@ -99,7 +101,8 @@ use Rattle.call_stages.specs.act_states.specs.declared.work.Act.TheVariants as a
 use Rattle.call_stages.specs.act_states.specs.declared.work.Work.{Work}
 use Rattle.call_stages.specs.act_states.specs.declared.work.Work.TheVariants.{Lookup, Read, Scan, Acquire, Act}
 use Rattle.call_stages.specs.act_states.specs.declared.work.WorkStep.{WorkStep}
-use Rattle.call_stages.specs.act_states.specs.declared.work.WorkStep.TheVariants.{Goes, Acquires, Refuses as refuses_to, Answers, Changes as work_changes}
+use Rattle.call_stages.specs.act_states.specs.declared.work.WorkStep.TheVariants.{Goes, Acquires, Refuses as refuses_to, Answers}
+use Rattle.call_stages.specs.act_states.specs.declared.work.WorkStep.TheVariants.{Changes as work_changes}
 use Rattle.call_stages.specs.act_states.specs.Refusals.{refusal_of}
 use Rattle.call_stages.specs.act_states.specs.Fills.{filled_if}
 use Rattle.call_stages.specs.act_states.specs.Ticks.{took_charge}
@@ -107,13 +110,18 @@ use Rattle.call_stages.specs.act_states.specs.Touches.{meets_page, touch_end, to
 use Rattle.call_stages.specs.act_states.specs.Typings.{meets_frame, meets_word, typed_if, took_typing_at}
 use Rattle.call_stages.specs.act_states.specs.Invocations.{enters_if, enters_number, enters_live, frame_in, below_in}
 use Rattle.call_stages.specs.act_states.specs.Switches.{took_claim, switch_table}
-use Rattle.call_stages.specs.act_states.specs.Comps.{comp_meets_object, comp_meets_blank, comp_meets, takes_number, scans_number, number_shown, number_met}
+use Rattle.call_stages.specs.act_states.specs.Comps.{comp_meets_object, comp_meets_blank, comp_meets, takes_number, scans_number}
+use Rattle.call_stages.specs.act_states.specs.Comps.{number_shown, number_met}
 use Rattle.call_stages.specs.act_states.specs.Comps.{comp_goes, comp_refuses, number_scanned, closes_number, comp_published}
 use Rattle.call_stages.specs.act_states.specs.Acts.{took_close, took_act, act_move, scans}
-use Rattle.call_stages.specs.act_states.specs.Acts.{meets_object, meets_blank, meets_making, marks_if, published, took_making_at, meets_comp, meets_life, meets_number}
-use Rattle.call_stages.specs.act_states.specs.Acts.{meets_live, closes_if, took_killing_at, meets_untyped, meets_untyping, sweeps_if, took_sweep, took_untyping_at}
-use Rattle.call_stages.specs.act_states.specs.Acts.{maps_frame, maps_word, comp_marks, took_comp_at, meets_table, meets_pages, meets_gate, took_invoking_at, meets_below}
-use Rattle.call_stages.specs.act_states.specs.Acts.{meets_below_table, meets_below_pages, took_returning_at, switch_pages, took_switching_at}
+use Rattle.call_stages.specs.act_states.specs.Acts.{meets_object, meets_blank, meets_making, marks_if, published, took_making_at}
+use Rattle.call_stages.specs.act_states.specs.Acts.{meets_comp, meets_life, meets_number}
+use Rattle.call_stages.specs.act_states.specs.Acts.{meets_live, closes_if, took_killing_at, meets_untyped, meets_untyping, sweeps_if}
+use Rattle.call_stages.specs.act_states.specs.Acts.{took_sweep, took_untyping_at}
+use Rattle.call_stages.specs.act_states.specs.Acts.{maps_frame, maps_word, comp_marks, took_comp_at, meets_table, meets_pages, meets_gate}
+use Rattle.call_stages.specs.act_states.specs.Acts.{took_invoking_at, meets_below}
+use Rattle.call_stages.specs.act_states.specs.Acts.{meets_below_table, meets_below_pages, took_returning_at, switch_pages}
+use Rattle.call_stages.specs.act_states.specs.Acts.{took_switching_at}
 use Rattle.call_stages.specs.declared.stages.Stage.{Stage}
 use Rattle.call_stages.specs.declared.stages.Stage.TheVariants.{Enter, Living, Undecided, Decided, Leave}
 use Rattle.call_stages.specs.declared.stages.ActiveCall.{ActiveCall}
@@ -122,6 +130,7 @@ use Rattle.call_stages.specs.Steps.{took_end, took_read, took_count, took_scan, 
 use Rattle.wait_steps.specs.Waits.{StepAt, EndAt, MayAt, TookAt, AgainIn, AgainOf, AgainAt}
 use Rattle.wait_steps.proofs.Ends.{refused_at, replied_at, fault_at, quiet_at, look_at, alive_at, claim_at, pin_at, charge_end_at, pair_at}
 use Rattle.wait_steps.proofs.Ends.{took_shared_at, refill_at, took_refilled_at, starts_at, next_at, name_at, free_at, held_at, MetAt}
+use Rattle.call_stages.specs.act_states.specs.call_plans.specs.PlanOf.{plan_for}
 
 module _ (w : Word) where
   -- the acts
@@ -489,7 +498,8 @@ module _ (w : Word) where
 swept_at : (s : Shape) (o : Obj) (frame core n : ℕ) (kept : List CountWord) (at : SweepAt) (found : ℕ)
     → MayAt (word_of (freeze.move_at frame core n at)) (refuses_at s o kept at found)
 swept_at s o frame core n kept sweep.Load found = counts_at _ _
-swept_at s o frame core n kept (sweep.Compare count stamp) found = compares_at (CountAt frame n) (found == word_of_count (unheld count stamp)) (nat_lt (length kept) (counters_of s)) (sum_of_counts kept)
+swept_at s o frame core n kept (sweep.Compare count stamp) found = compares_at (CountAt frame n)
+    (found == word_of_count (unheld count stamp)) (nat_lt (length kept) (counters_of s)) (sum_of_counts kept)
 swept_at s o frame core n kept (sweep.Scan q) found = scan_refusal _ _ (quiet_at s.cores q found)
 swept_at s o frame core n kept (sweep.Empty index) found = object_empty _ s.frames o index found
 
@@ -543,7 +553,7 @@ landed_at w a (Answers v drawn tail) h = tt
 landed_at w a (work_changes r change drawn tail) h = h
 
 begins_at : (w : Word) (own : Own) (a : ActiveCall) → StepAt w (next_by own a)
-begins_at w own a = next_at w own a.call a.found (next_of a.plan a.found)
+begins_at w own a = next_at w own a.call a.found (next_of (plan_for a.call) a.found)
 
 named_at : (w : Word) (own : Own) (a : ActiveCall) (met : Met) → MetAt w met → TookAt w (named_one own a met)
 named_at w own a (Finds k) h = landed_at w (found_more a (pushed a.found k)) (next_by own (found_more a (pushed a.found k)))
@@ -567,7 +577,8 @@ reads_at : (w : Word) (a : ActiveCall) (l : Look) (o : Option CompWord) → Took
 reads_at w a l None = tt
 reads_at w a l (Some life) = tt
 
-scan_step : (w : Word) (core : ℕ) (act : ActType) (q : Quiet) (end : StageEnd (Unit {0})) → EndAt w end → StepAt w (took_scan core act q end)
+scan_step : (w : Word) (core : ℕ) (act : ActType) (q : Quiet) (end : StageEnd (Unit {0})) → EndAt w end
+    → StepAt w (took_scan core act q end)
 scan_step w core act q ends.Going h = tt
 scan_step w core act q (ends.Decided r) h = refused_at w r h
 scan_step w core act q (ends.Done x) h = starts_at w core act
@@ -580,7 +591,8 @@ count_step w core n change act p (ends.Decided r) h = refused_at w r h
 count_step w core n change act p (ends.Done x) h = tt
 count_step w core n change act p (ends.Refuse r) h = refused_at w r h
 
-work_at : (own : Own) (a : ActiveCall) (work : Work) (found : ℕ) → AgainOf work → TookAt (word_of (work_move work)) (took_work own a work found)
+work_at : (own : Own) (a : ActiveCall) (work : Work) (found : ℕ) → AgainOf work
+    → TookAt (word_of (work_move work)) (took_work own a work found)
 work_at own a (Lookup l) found h = looks_end _ own a _ _ (look_at _ l found _)
 work_at own a (Read comp l) found h = reads_at _ a l _
 work_at own a (Scan q act) found h = landed_at _ a _ (scan_step _ own.core act _ _ (quiet_at own.layout.cores q found))
@@ -593,7 +605,7 @@ first_at w false own a = landed_at w a (next_by own a) (begins_at w own a)
 
 enter_at : (w : Word) (spent : Bool) (own : Own) (a : ActiveCall) → TookAt w (took_enter spent own a)
 enter_at w true own a = tt
-enter_at w false own a = first_at w a.plan.living own a
+enter_at w false own a = first_at w (plan_for a.call).living own a
 
 asks_at : (w : Word) (own : Own) (a : ActiveCall) (x : Alive) (end : StageEnd (Unit {0})) → EndAt w end → TookAt w (took_alive own a x end)
 asks_at w own a x ends.Going h = tt

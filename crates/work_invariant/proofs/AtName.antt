@@ -31,6 +31,7 @@ use Rattle.comp_invariant.specs.step_ways.proofs.Loads.{OnlyLooks, step_to, core
 use Rattle.comp_invariant.specs.step_ways.proofs.Refusals.{GoodTook, not_spent}
 use Rattle.comp_invariant.specs.kernel_rules.specs.Rules.{does}
 use Rattle.comp_invariant.specs.spk_nums.specs.declared.replies.Value.TheVariants.{Nothing as no_value}
+use Rattle.comp_invariant.specs.act_states.specs.call_plans.specs.PlanOf.{plan_for}
 
 -- A frame of a range is one of the machine's.
 pub range_below : (frames : ℕ) (kind : Kind) (first number f : ℕ) → kind ≡ Range → end_of_frames kind first number ≤ frames
@@ -75,12 +76,12 @@ module _ (setup : Setting) (setting : IsSetting setup) (cores : ℕ → Core) (t
     (a : ActiveCall) (active : (cores c).active ≡ Some a) (opens : phase_at a.call a.stage ≡ Open a.call)
     (held_is : holds_in (Some a) ≡ holds_counts None a.counts) (no_counts : a.counts ≡ [])
     (room : (cores c).own.made < (cores c).own.limit)
-    (by_plan : GoesBy (own_pages (state_after setup t) c) a.plan (rule_of (state_after setup t) c a.call))
+    (by_plan : GoesBy (own_pages (state_after setup t) c) (plan_for a.call) (rule_of (state_after setup t) c a.call))
     (at : Slot) (looks : OnlyLooks setup t c a.call (LoadOf (EntryAt at.node at.index)))
-    (range : Capability) (leads : Leads (LeadsIn (state_after setup t) c) a.plan.names [] (range ∷ []))
+    (range : Capability) (leads : Leads (LeadsIn (state_after setup t) c) (plan_for a.call).names [] (range ∷ []))
     (names : Carries setup t (step_to c None (LoadOf (EntryAt at.node at.index)) (last_left setup t (EntryAt at.node at.index)) None None) c
     → NamesAre setup (step_to c None (LoadOf (EntryAt at.node at.index)) (last_left setup t (EntryAt at.node at.index)) None None ∷ t) c
-    (cores c).own.table a.plan (range ∷ []))
+    (cores c).own.table (plan_for a.call) (range ∷ []))
     (r f : ℕ) (k : FrameKind) (call_is : a.call ≡ Retype r f k) (kind_is : range.kind ≡ Range) (within : CapNames setup.frames range)
     (to : IsTypedBy (cores c).own.core f k) (may_act : IsTrue (acts (state_after setup t) c a.call)) where
   abbrev s : State
@@ -154,13 +155,13 @@ module _ (setup : Setting) (setting : IsSetting setup) (cores : ℕ → Core) (t
       decides_on setup setting cores t stands c here a active (LoadOf (EntryAt at.node at.index)) reply.OutOfRange (range ∷ []) looks lands
       (sym held_is) opens refl refl (λ x. refl) (λ x. refl) refl (
         unspent,
-        left_may s c (own_pages s c) a.plan (rule_of s c a.call) (range ∷ []) by_plan leads reply.OutOfRange
+        left_may s c (own_pages s c) (plan_for a.call) (rule_of s c a.call) (range ∷ []) by_plan leads reply.OutOfRange
             (subst (λ x. RuleMay s c x reply.OutOfRange) (sym left) (inl (ap (λ b. not b) none, refl))),
       ) tt
       (λ is_alone. refused_first s c a.call reply.OutOfRange may_act unspent refused)
     where
       refused : change_of s c a.call ≡ Refused reply.OutOfRange
-      refused = outcome_left s c (own_pages s c) a.plan (rule_of s c a.call) (range ∷ []) by_plan leads ∙ ap (outcome s c) left
+      refused = outcome_left s c (own_pages s c) (plan_for a.call) (rule_of s c a.call) (range ∷ []) by_plan leads ∙ ap (outcome s c) left
           ∙ ap (λ b. unless (first_of (if not b then Some reply.OutOfRange else None) (first_cause s c (not_retyped s f k)))
           (does c s no_value (retypes f k ∷ []))) none
 

@@ -72,6 +72,7 @@ use Rattle.work_invariant.proofs.AtTarget.{Begins, begins_free, range_within}
 use Rattle.work_invariant.proofs.FoundFits.{found_fits}
 use Rattle.work_invariant.proofs.ScanStarts.{ScanStarts, scan_starts}
 use Rattle.work_invariant.proofs.NextLooks.{next_good}
+use Rattle.comp_invariant.specs.call_plans.specs.PlanOf.{plan_for}
 
 module _ (setup : Setting) (setting : IsSetting setup) (cores : ℕ → Core) (t : Trace) (stands : Invariant setup cores t) (c : ℕ)
     (here : c < setup.cores)
@@ -85,9 +86,6 @@ module _ (setup : Setting) (setting : IsSetting setup) (cores : ℕ → Core) (t
 
   table_is : table ≡ (comp_of s c).table
   table_is = (stands.each c here).works.table
-
-  plan_is : a.plan ≡ plan_for a.call
-  plan_is = (is_active setup setting cores t stands c here a active).plan
 
   room : (cores c).own.made < (cores c).own.limit
   room = subst (HasRoom (cores c).own.made (cores c).own.limit) stage_is (is_active setup setting cores t stands c here a active).room
@@ -107,26 +105,26 @@ module _ (setup : Setting) (setting : IsSetting setup) (cores : ℕ → Core) (t
   still : (fate : Option (Option ℕ)) → holds_counts fate a.counts ≡ holds_in (Some a)
   still fate = ap (holds_counts fate) no_counts ∙ sym (ap (holds_counts None) no_counts) ∙ sym held_is
 
-  goes_by : GoesBy (own_pages s c) a.plan (rule_of s c a.call)
-  goes_by = subst (λ p. GoesBy (own_pages s c) p (rule_of s c a.call)) (sym plan_is) (calls_go s c a.call)
+  goes_by : GoesBy (own_pages s c) (plan_for a.call) (rule_of s c a.call)
+  goes_by = calls_go s c a.call
 
-  leads : Leads (LeadsIn s c) a.plan.names [] a.found
+  leads : Leads (LeadsIn s c) (plan_for a.call).names [] a.found
   leads = leads_by (λ n wanted k. HasFound setup t c (own_in table n) wanted k) (LeadsIn s c)
       (λ n wanted k had. found_named setup t c table n wanted k table_is had)
-      a.plan.names [] a.found has.names
+      (plan_for a.call).names [] a.found has.names
 
-  uses : Leads (MayUse s c) a.plan.names [] a.found
+  uses : Leads (MayUse s c) (plan_for a.call).names [] a.found
   uses = leads_by (λ n wanted k. HasFound setup t c (own_in table n) wanted k) (MayUse s c)
       (λ n wanted k had. record { at = had.at; usable = had.usable; kind = had.kind })
-      a.plan.names [] a.found has.names
+      (plan_for a.call).names [] a.found has.names
 
   -- what may be refused, what is the first cause, and which places are on the way, of a call whose names have led to these
-  module _ (ks : List Capability) (lead : Leads (LeadsIn s c) a.plan.names [] ks) where
-    may : (r : Reply) → NextMay s c (own_pages s c) (next_of a.plan ks) r → RuleMay s c (rule_of s c a.call) r
-    may r h = next_may s c (own_pages s c) a.plan (rule_of s c a.call) ks goes_by lead r h
+  module _ (ks : List Capability) (lead : Leads (LeadsIn s c) (plan_for a.call).names [] ks) where
+    may : (r : Reply) → NextMay s c (own_pages s c) (next_of (plan_for a.call) ks) r → RuleMay s c (rule_of s c a.call) r
+    may r h = next_may s c (own_pages s c) (plan_for a.call) (rule_of s c a.call) ks goes_by lead r h
 
-    first : (r : Reply) → NextRefused s c (own_pages s c) (next_of a.plan ks) r → change_of s c a.call ≡ Refused r
-    first r h = next_first s c (own_pages s c) a.plan (rule_of s c a.call) ks goes_by lead r h
+    first : (r : Reply) → NextRefused s c (own_pages s c) (next_of (plan_for a.call) ks) r → change_of s c a.call ≡ Refused r
+    first r h = next_first s c (own_pages s c) (plan_for a.call) (rule_of s c a.call) ks goes_by lead r h
 
   -- The step of this look-up is good.
   abbrev Looked : Type 0
@@ -138,25 +136,26 @@ module _ (setup : Setting) (setting : IsSetting setup) (cores : ℕ → Core) (t
   ended_by next at v = GoodTook setup cores t c (LoadOf (EntryAt at.node at.index))
       (took_found (cores c).own a next (found_at at.node at.index (last_left setup t (EntryAt at.node at.index)) v))
 
-  ends_for : {next : Next} → next_of a.plan a.found ≡ next → (at : Slot) (v : Entry) → ended_by next at v
-      → ended_by (next_of a.plan a.found) at v
+  ends_for : {next : Next} → next_of (plan_for a.call) a.found ≡ next → (at : Slot) (v : Entry) → ended_by next at v
+      → ended_by (next_of (plan_for a.call) a.found) at v
   ends_for is at v = subst (λ x. ended_by x at v) (sym is)
 
-  way : (target : place) → NextPlace s c (next_of a.plan a.found) target → (g i : ℕ) → is_slot_in (wide_way_to s target) g i ≡ true
+  way : (target : place) → NextPlace s c (next_of (plan_for a.call) a.found) target → (g i : ℕ) → is_slot_in (wide_way_to s target) g i
+      ≡ true
       → is_slot_in (wide_ways s c (rule_of s c a.call)) g i ≡ true
-  way target is g i h = next_on_way s c (own_pages s c) a.plan (rule_of s c a.call) a.found goes_by leads target g i is h
+  way target is g i h = next_on_way s c (own_pages s c) (plan_for a.call) (rule_of s c a.call) a.found goes_by leads target g i is h
 
   -- the look-up goes on, and the call knows what it knew
-  looks_more : (next : Next) → next_of a.plan a.found ≡ next → (e : Step) (on : Look) → Carries setup t e c
+  looks_more : (next : Next) → next_of (plan_for a.call) a.found ≡ next → (e : Step) (on : Look) → Carries setup t e c
       → LooksFor setup (e ∷ t) c table next on
       → KnowsUndecided setup (e ∷ t) c table (next_at a a.found (Undecided (Lookup on))) (Lookup on)
   looks_more next is e on carries up = record {
     acts = acts_on setup setting t e stands.legal c a.call is_open carries a.call has.acts;
-    names = names_on setup setting t e stands.legal c a.call is_open carries table a.plan a.found has.names;
+    names = names_on setup setting t e stands.legal c a.call is_open carries table (plan_for a.call) a.found has.names;
     knows = record {
       looks = subst (λ x. LooksFor setup (e ∷ t) c table x on) (sym is) up;
       has_read = read_before_on setup setting t e stands.legal c a.call is_open carries (reads_of a.call a.found) a.read
-          (next_of a.plan a.found) has.knows.has_read;
+          (next_of (plan_for a.call) a.found) has.knows.has_read;
     };
   }
 
@@ -164,7 +163,7 @@ module _ (setup : Setting) (setting : IsSetting setup) (cores : ℕ → Core) (t
   own_target n = own_is s c table n table_is
 
   -- One name more has led to k, at a slot of which the word was loaded: what comes next is good.
-  module _ (name : Name) (rest : List Name) (left : names_after a.plan.names a.found ≡ name ∷ rest) (at : Slot) (k : Capability)
+  module _ (name : Name) (rest : List Name) (left : names_after (plan_for a.call).names a.found ≡ name ∷ rest) (at : Slot) (k : Capability)
       (arrives : Arrives setup t c (own_in table name.number) at)
       (shows : ShowsHeld setup.frames (place_at s at) k) (looks : OnlyLooks setup t c a.call (LoadOf (EntryAt at.node at.index)))
       (wanted : wants (with_found [] a.found) name.wanted k.kind ≡ true) (right : has_rights k.rights name.needs.0 ≡ true) where
@@ -175,30 +174,32 @@ module _ (setup : Setting) (setting : IsSetting setup) (cores : ℕ → Core) (t
     e = arriving setup t c (own_in table name.number) at (last_left setup t (EntryAt at.node at.index)) arrives
 
     next_left : NextBy (λ n w j. HasFound setup (e ∷ t) c (own_in table n) w j)
-        (next_in (with_found [] a.found) (names_after a.plan.names a.found) a.plan.target) k
+        (next_in (with_found [] a.found) (names_after (plan_for a.call).names a.found) (plan_for a.call).target) k
     next_left = subst (λ (names : List Name). NextBy (λ n w j. HasFound setup (e ∷ t) c (own_in table n) w j)
-        (next_in (with_found [] a.found) names a.plan.target) k) (sym left)
+        (next_in (with_found [] a.found) names (plan_for a.call).target) k) (sym left)
         (found_now setup t c (own_in table name.number) at (last_left setup t (EntryAt at.node at.index)) arrives
         (want_of (with_found [] a.found) name) k shows.holds wanted right shows.fits)
 
-    names_then : Carries setup t e c → NamesAre setup (e ∷ t) c table a.plan more
-    names_then carries = one_more (λ n w j. HasFound setup (e ∷ t) c (own_in table n) w j) a.plan.names a.plan.target [] a.found k
-        (names_on setup setting t e stands.legal c a.call is_open carries table a.plan a.found has.names) next_left
+    names_then : Carries setup t e c → NamesAre setup (e ∷ t) c table (plan_for a.call) more
+    names_then carries = one_more (λ n w j. HasFound setup (e ∷ t) c (own_in table n) w j) (plan_for a.call).names
+        (plan_for a.call).target [] a.found k
+        (names_on setup setting t e stands.legal c a.call is_open carries table (plan_for a.call) a.found has.names) next_left
 
     here_use : MayUse s c name.number (want_of (with_found [] a.found) name) k
     here_use = record { at = at; usable = use_held s c at k shows.holds; kind = wanted }
 
-    uses_then : Leads (MayUse s c) a.plan.names [] more
-    uses_then = one_more (MayUse s c) a.plan.names a.plan.target [] a.found k uses
-        (subst (λ (names : List Name). NextBy (MayUse s c) (next_in (with_found [] a.found) names a.plan.target) k) (sym left) here_use)
+    uses_then : Leads (MayUse s c) (plan_for a.call).names [] more
+    uses_then = one_more (MayUse s c) (plan_for a.call).names (plan_for a.call).target [] a.found k uses
+        (subst (λ (names : List Name). NextBy (MayUse s c) (next_in (with_found [] a.found) names (plan_for a.call).target) k) (sym left)
+        here_use)
 
     here_named : LeadsIn s c name.number (want_of (with_found [] a.found) name) k
     here_named = named_of s c name.number (want_of (with_found [] a.found) name) at k
         (ap (reached s c) (sym (own_target name.number)) ∙ arrives.reached) (use_held s c at k shows.holds) wanted right
 
-    leads_then : Leads (LeadsIn s c) a.plan.names [] more
-    leads_then = one_more (LeadsIn s c) a.plan.names a.plan.target [] a.found k leads
-        (subst (λ (names : List Name). NextBy (LeadsIn s c) (next_in (with_found [] a.found) names a.plan.target) k) (sym left)
+    leads_then : Leads (LeadsIn s c) (plan_for a.call).names [] more
+    leads_then = one_more (LeadsIn s c) (plan_for a.call).names (plan_for a.call).target [] a.found k leads
+        (subst (λ (names : List Name). NextBy (LeadsIn s c) (next_in (with_found [] a.found) names (plan_for a.call).target) k) (sym left)
         here_named)
 
     -- a retype has found its range
@@ -207,26 +208,28 @@ module _ (setup : Setting) (setting : IsSetting setup) (cores : ℕ → Core) (t
         → GoodTook setup cores t c (LoadOf (EntryAt at.node at.index))
         (landed (found_more a more) (act_begun (cores c).own (Retype r f j) more None None))
     range_at_name r f j is one to =
-        let only_one = one_name a.plan.names (of_kind range_kind r) name rest a.found k.kind
-        (ap (λ (p : Plan). p.names) (plan_is ∙ ap plan_for is) ∙ one) left wanted in
+        let only_one = one_name (plan_for a.call).names (of_kind range_kind r) name rest a.found k.kind
+        (ap (λ (p : Plan). p.names) (ap plan_for is) ∙ one) left wanted in
         let more_is : more ≡ k ∷ [] = ap (λ ks. ks ++ k ∷ []) only_one.0 in
         subst (λ ks. GoodTook setup cores t c (LoadOf (EntryAt at.node at.index))
         (landed (found_more a ks) (act_begun (cores c).own (Retype r f j) ks None None))) (sym more_is)
         (ranges_good setup setting cores t stands c here a active opens held_is no_counts room goes_by at looks k
-        (subst (λ (ks : List Capability). Leads (LeadsIn s c) a.plan.names [] ks) more_is leads_then)
-        (λ carries. subst (λ (ks : List Capability). NamesAre setup (e ∷ t) c table a.plan ks) more_is (names_then carries)) r f j is
+        (subst (λ (ks : List Capability). Leads (LeadsIn s c) (plan_for a.call).names [] ks) more_is leads_then)
+        (λ carries. subst (λ (ks : List Capability). NamesAre setup (e ∷ t) c table (plan_for a.call) ks) more_is (names_then carries)) r
+        f j is
         (only_is range_kind k.kind only_one.2) shows.names to has.acts)
 
-    is_named : a.plan.names ≡ [] → ⊥
+    is_named : (plan_for a.call).names ≡ [] → ⊥
     is_named none = let h : name ∷ rest ≡ [] = sym left ∙ ap (λ (ns : List Name). names_after ns a.found) none ∙ none_after a.found in cc
 
     -- a look answers what its name has led to
-    acts_at_name : (call : Call) → a.call ≡ call → (plan_for call).target ≡ Nowhere → names_after a.plan.names more ≡ []
+    acts_at_name : (call : Call) → a.call ≡ call → (plan_for call).target ≡ Nowhere → names_after (plan_for a.call).names more ≡ []
         → GoodTook setup cores t c (LoadOf (EntryAt at.node at.index))
         (landed (found_more a more) (act_begun (cores c).own call more None None))
     acts_at_name (look_call n) is nowhere none =
-        let plan_look : a.plan ≡ plan_for (look_call n) = plan_is ∙ ap plan_for is in
-        let only_one = one_name a.plan.names (any_cap neither n) name rest a.found k.kind (ap (λ (p : Plan). p.names) plan_look) left
+        let plan_look : plan_for a.call ≡ plan_for (look_call n) = ap plan_for is in
+        let only_one = one_name (plan_for a.call).names (any_cap neither n) name rest a.found k.kind
+        (ap (λ (p : Plan). p.names) plan_look) left
         wanted in
         let more_is : more ≡ k ∷ [] = ap (λ ks. ks ++ k ∷ []) only_one.0 in
         let named_it : named s c n (to_look any) ≡ Found_it k =
@@ -256,8 +259,9 @@ module _ (setup : Setting) (setting : IsSetting setup) (cores : ℕ → Core) (t
         absurd (free_somewhere (spot_of.Under Second b) (sym (make_target what r u b) ∙ nowhere))
     acts_at_name (Gate n u b) is nowhere none = absurd (free_somewhere (spot_of.Under Second b) nowhere)
     acts_at_name (Kill n) is nowhere none =
-        let plan_kill : a.plan ≡ plan_for (Kill n) = plan_is ∙ ap plan_for is in
-        let only_one = one_name a.plan.names (of_kind comp_kind n) name rest a.found k.kind (ap (λ (p : Plan). p.names) plan_kill) left
+        let plan_kill : plan_for a.call ≡ plan_for (Kill n) = ap plan_for is in
+        let only_one = one_name (plan_for a.call).names (of_kind comp_kind n) name rest a.found k.kind
+        (ap (λ (p : Plan). p.names) plan_kill) left
         wanted in
         let more_is : more ≡ k ∷ [] = ap (λ ks. ks ++ k ∷ []) only_one.0 in
         subst (λ ks. GoodTook setup cores t c (LoadOf (EntryAt at.node at.index))
@@ -266,10 +270,12 @@ module _ (setup : Setting) (setting : IsSetting setup) (cores : ℕ → Core) (t
         (only_is comp_kind k.kind only_one.2)
         (subst (λ (ks : List Capability). Leads (LeadsIn s c) (of_kind comp_kind n ∷ []) [] ks) more_is
         (subst (λ (p : Plan). Leads (LeadsIn s c) p.names [] more) plan_kill leads_then)).0
-        (λ carries. subst (λ (ks : List Capability). NamesAre setup (e ∷ t) c table a.plan ks) more_is (names_then carries)) has.acts)
+        (λ carries. subst (λ (ks : List Capability). NamesAre setup (e ∷ t) c table (plan_for a.call) ks) more_is (names_then carries))
+        has.acts)
     acts_at_name (call_gate n) is nowhere none =
-        let plan_call : a.plan ≡ plan_for (call_gate n) = plan_is ∙ ap plan_for is in
-        let only_one = one_name a.plan.names (of_kind gate_kind n) name rest a.found k.kind (ap (λ (p : Plan). p.names) plan_call) left
+        let plan_call : plan_for a.call ≡ plan_for (call_gate n) = ap plan_for is in
+        let only_one = one_name (plan_for a.call).names (of_kind gate_kind n) name rest a.found k.kind
+        (ap (λ (p : Plan). p.names) plan_call) left
         wanted in
         let more_is : more ≡ k ∷ [] = ap (λ ks. ks ++ k ∷ []) only_one.0 in
         subst (λ ks. GoodTook setup cores t c (LoadOf (EntryAt at.node at.index))
@@ -278,12 +284,13 @@ module _ (setup : Setting) (setting : IsSetting setup) (cores : ℕ → Core) (t
         looks n k is (only_is gate_kind k.kind only_one.2)
         (subst (λ (ks : List Capability). Leads (LeadsIn s c) (of_kind gate_kind n ∷ []) [] ks) more_is
         (subst (λ (p : Plan). Leads (LeadsIn s c) p.names [] more) plan_call leads_then)).0
-        (subst (λ (ks : List Capability). Leads (LeadsIn s c) a.plan.names [] ks) more_is leads_then)
-        (λ carries. subst (λ (ks : List Capability). NamesAre setup (e ∷ t) c table a.plan ks) more_is (names_then carries)) has.acts)
-    acts_at_name Ret is nowhere none = absurd (is_named (ap (λ (p : Plan). p.names) (plan_is ∙ ap plan_for is)))
+        (subst (λ (ks : List Capability). Leads (LeadsIn s c) (plan_for a.call).names [] ks) more_is leads_then)
+        (λ carries. subst (λ (ks : List Capability). NamesAre setup (e ∷ t) c table (plan_for a.call) ks) more_is (names_then carries))
+        has.acts)
+    acts_at_name Ret is nowhere none = absurd (is_named (ap (λ (p : Plan). p.names) (ap plan_for is)))
     acts_at_name (Touch v) is nowhere none = absurd (own_somewhere v nowhere)
-    acts_at_name Flush is nowhere none = absurd (is_named (ap (λ (p : Plan). p.names) (plan_is ∙ ap plan_for is)))
-    acts_at_name (Tick n) is nowhere none = absurd (is_named (ap (λ (p : Plan). p.names) (plan_is ∙ ap plan_for is)))
+    acts_at_name Flush is nowhere none = absurd (is_named (ap (λ (p : Plan). p.names) (ap plan_for is)))
+    acts_at_name (Tick n) is nowhere none = absurd (is_named (ap (λ (p : Plan). p.names) (ap plan_for is)))
     acts_at_name (Transfer x y m) is nowhere none =
         transfers_good setup setting cores t stands c here a active opens held_is no_counts room goes_by (LoadOf (EntryAt at.node at.index))
         looks has.acts more leads_then none names_then x y m is
@@ -303,23 +310,24 @@ module _ (setup : Setting) (setting : IsSetting setup) (cores : ℕ → Core) (t
         (landed (found_more a ks) (what_next (cores c).own (found_more a ks)))) (sym (pushed_one a.found k few))
         (next_good setup setting cores t stands c here a active opens held_is
         no_counts room (LoadOf (EntryAt at.node at.index)) looks has.acts more leads_then uses_then names_then is_named
-        (λ nowhere none. acts_at_name a.call refl (ap (λ (p : Plan). p.target) (sym plan_is) ∙ nowhere) none))
+        (λ nowhere none. acts_at_name a.call refl nowhere none))
       where
         few : length a.found < 4
         few =
-            let counted : length a.found + length (names_after a.plan.names a.found) ≡ length a.plan.names = count_led (LeadsIn s c)
-            a.plan.names [] a.found leads in
-            let most : length a.plan.names ≤ 4 = subst (λ (p : Plan). length p.names ≤ 4) (sym plan_is) (few_names a.call) in
-            let one : length (names_after a.plan.names a.found) ≡ suc (length rest) = ap length left in
+            let counted : length a.found + length (names_after (plan_for a.call).names a.found)
+            ≡ length (plan_for a.call).names = count_led (LeadsIn s c)
+            (plan_for a.call).names [] a.found leads in
+            let most : length (plan_for a.call).names ≤ 4 = few_names a.call in
+            let one : length (names_after (plan_for a.call).names a.found) ≡ suc (length rest) = ap length left in
             omega arith
 
   -- A name that is looked up has arrived at its place.
-  module _ (name : Name) (rest : List Name) (left : names_after a.plan.names a.found ≡ name ∷ rest) where
+  module _ (name : Name) (rest : List Name) (left : names_after (plan_for a.call).names a.found ≡ name ∷ rest) where
     abbrev wanted_of : Want
     wanted_of = want_of (with_found [] a.found) name
 
-    next : next_of a.plan a.found ≡ NextName name.number wanted_of
-    next = next_name a.plan a.found name rest left
+    next : next_of (plan_for a.call) a.found ≡ NextName name.number wanted_of
+    next = next_name (plan_for a.call) a.found name rest left
 
     may_here : (r : Reply) → NextMay s c (own_pages s c) (NextName name.number wanted_of) r → RuleMay s c (rule_of s c a.call) r
     may_here r h = may a.found leads r (subst (λ x. NextMay s c (own_pages s c) x r) (sym next) h)
@@ -379,12 +387,12 @@ module _ (setup : Setting) (setting : IsSetting setup) (cores : ℕ → Core) (t
         room look stage_is looks
 
   -- A target that is to be free is looked up.
-  module _ (spot : Spot) (to : a.plan.target ≡ Free spot) (none : names_after a.plan.names a.found ≡ []) where
+  module _ (spot : Spot) (to : (plan_for a.call).target ≡ Free spot) (none : names_after (plan_for a.call).names a.found ≡ []) where
     abbrev target : place
     target = place_of_spot (with_found [] a.found) spot
 
-    next_free : next_of a.plan a.found ≡ NextFree target
-    next_free = next_end a.plan a.found (Free spot) none to
+    next_free : next_of (plan_for a.call) a.found ≡ NextFree target
+    next_free = next_end (plan_for a.call) a.found (Free spot) none to
 
     may_free : (r : Reply) → NextMay s c (own_pages s c) (NextFree target) r → RuleMay s c (rule_of s c a.call) r
     may_free r h = may a.found leads r (subst (λ x. NextMay s c (own_pages s c) x r) (sym next_free) h)
@@ -398,13 +406,14 @@ module _ (setup : Setting) (setting : IsSetting setup) (cores : ℕ → Core) (t
 
     -- the act with which the call begins at the place
     begins_with : (at : Slot) (v : Entry)
-        → Begins (cores c).own a.call a.plan a.found a.read c (found_at at.node at.index (last_left setup t (EntryAt at.node at.index)) v)
+        → Begins (cores c).own a.call (plan_for a.call) a.found a.read c
+        (found_at at.node at.index (last_left setup t (EntryAt at.node at.index)) v)
     begins_with at v = begins_free (cores c).own a.call (is_active setup setting cores t stands c here a active).limits
         (subst (λ (n : ℕ). n ≤ 512) (sym (ap (λ x. x.frames) (stands.each c here).shape)) setting.most_frames)
-        spot (ap (λ (p : Plan). p.target) (sym plan_is) ∙ to) s a.plan a.found a.read c (stands.each c here).number
-        (subst (λ (p : Plan). names_after p.names a.found ≡ []) plan_is none)
-        (subst (λ (p : Plan). Leads (LeadsIn s c) p.names [] a.found) plan_is leads)
-        (λ nth k is. found_fits setup t c table a.plan.names [] a.found nth k has.names is)
+        spot to s (plan_for a.call) a.found a.read c (stands.each c here).number
+        none
+        leads
+        (λ nth k is. found_fits setup t c table (plan_for a.call).names [] a.found nth k has.names is)
         (λ needs r f range is in_range. subst (λ (n : ℕ). f < n) (sym (ap (λ x. x.frames) (stands.each c here).shape))
         (range_within setup setting t stands.legal c a.call is_open needs r f range is in_range)) has_read
         (found_at at.node at.index (last_left setup t (EntryAt at.node at.index)) v)
@@ -422,11 +431,11 @@ module _ (setup : Setting) (setting : IsSetting setup) (cores : ℕ → Core) (t
       abbrev thing : Thing
       thing = PlaceOf at.node at.index
 
-      abbrev begun : Begins (cores c).own a.call a.plan a.found a.read c (found_at at.node at.index word v)
+      abbrev begun : Begins (cores c).own a.call (plan_for a.call) a.found a.read c (found_at at.node at.index word v)
       begun = begins_with at v
 
       knows_begun : (upto : ℕ) → MayFill setup (load ∷ t) c thing upto (Some v)
-          → KnowsAct setup (load ∷ t) c a.call a.plan a.found upto begun.act
+          → KnowsAct setup (load ∷ t) c a.call (plan_for a.call) a.found upto begun.act
       knows_begun upto may = begun.knows setup (load ∷ t) upto (stands.each c here).epochs (record {
         target = target;
         next = next_free;
@@ -458,7 +467,7 @@ module _ (setup : Setting) (setting : IsSetting setup) (cores : ℕ → Core) (t
           (Undecided (Scan q begun.act)) looks lands (sym held_is) opens
           (λ carries. record {
             acts = has.acts;
-            names = names_on setup setting t load stands.legal c a.call is_open carries table a.plan a.found has.names;
+            names = names_on setup setting t load stands.legal c a.call is_open carries table (plan_for a.call) a.found has.names;
             knows = by_first first;
           })
         where
@@ -544,7 +553,7 @@ module _ (setup : Setting) (setting : IsSetting setup) (cores : ℕ → Core) (t
         (sym (begins_with at (entry.Quiescing x)).begins)
         (fills_removed at arrives x reads looks)
 
-  free_step : (spot : Spot) (to : a.plan.target ≡ Free spot) (none : names_after a.plan.names a.found ≡ [])
+  free_step : (spot : Spot) (to : (plan_for a.call).target ≡ Free spot) (none : names_after (plan_for a.call).names a.found ≡ [])
       → LooksUp setup t c (place_of_spot (with_found [] a.found) spot) look → Looked
   free_step (spot_of.Under i n) to none looks =
       let spot = spot_of.Under i n in
@@ -568,12 +577,12 @@ module _ (setup : Setting) (setting : IsSetting setup) (cores : ℕ → Core) (t
       room look stage_is looks
 
   -- A target that is to be held is looked up.
-  module _ (spot : Spot) (to : a.plan.target ≡ Held spot) (none : names_after a.plan.names a.found ≡ []) where
+  module _ (spot : Spot) (to : (plan_for a.call).target ≡ Held spot) (none : names_after (plan_for a.call).names a.found ≡ []) where
     abbrev held_target : place
     held_target = place_of_spot (with_found [] a.found) spot
 
-    next_held : next_of a.plan a.found ≡ NextHeld held_target
-    next_held = next_end a.plan a.found (Held spot) none to
+    next_held : next_of (plan_for a.call) a.found ≡ NextHeld held_target
+    next_held = next_end (plan_for a.call) a.found (Held spot) none to
 
     may_held : (r : Reply) → NextMay s c (own_pages s c) (NextHeld held_target) r → RuleMay s c (rule_of s c a.call) r
     may_held r h = may a.found leads r (subst (λ x. NextMay s c (own_pages s c) x r) (sym next_held) h)
@@ -583,7 +592,7 @@ module _ (setup : Setting) (setting : IsSetting setup) (cores : ℕ → Core) (t
 
     begins_by : BeginsRemoval (cores c).own a.call a.found
     begins_by = begins_removal (cores c).own a.call spot
-        (ap (λ (p : Plan). p.target) (sym plan_is) ∙ to) a.found
+        to a.found
 
     removes_next : (at : Slot) (arrives : Arrives setup t c held_target at) (k : Capability)
         → entry_of_word (last_left setup t (EntryAt at.node at.index)) ≡ Some (entry.Held k)
@@ -600,7 +609,7 @@ module _ (setup : Setting) (setting : IsSetting setup) (cores : ℕ → Core) (t
         (next_holds (cores c).own.core 0 act (holds_counts None a.counts) ∙ sym held_is) opens
         (λ carries. record {
           acts = has.acts;
-          names = names_on setup setting t e stands.legal c a.call is_open carries table a.plan a.found has.names;
+          names = names_on setup setting t e stands.legal c a.call is_open carries table (plan_for a.call) a.found has.names;
           knows = knows_next setup (e ∷ t) c table (next_at a a.found (Undecided (next_work (cores c).own.core 0 act))) (cores c).own.core
               act (dues act) (stands.each c here).number
               (record {
@@ -641,7 +650,7 @@ module _ (setup : Setting) (setting : IsSetting setup) (cores : ℕ → Core) (t
         has.acts (may_held reply.Empty (reaches_none s c held_target at arrives.reached (ap held_in shows.removed)))
         (λ nobody. first_held reply.Empty (held_empty s c held_target at arrives.reached (ap held_in shows.removed)))
 
-  held_step : (spot : Spot) (to : a.plan.target ≡ Held spot) (none : names_after a.plan.names a.found ≡ [])
+  held_step : (spot : Spot) (to : (plan_for a.call).target ≡ Held spot) (none : names_after (plan_for a.call).names a.found ≡ [])
       → LooksUp setup t c (place_of_spot (with_found [] a.found) spot) look → Looked
   held_step (spot_of.Under i n) to none looks =
       let spot = spot_of.Under i n in
@@ -665,21 +674,23 @@ module _ (setup : Setting) (setting : IsSetting setup) (cores : ℕ → Core) (t
       room look stage_is looks
 
   pub lookup_good : Looked
-  lookup_good = by (rest_of a.plan a.found)
+  lookup_good = by (rest_of (plan_for a.call) a.found)
     where
-      for : (next : Next) → next_of a.plan a.found ≡ next → LooksFor setup t c table next look
+      for : (next : Next) → next_of (plan_for a.call) a.found ≡ next → LooksFor setup t c table next look
       for next is = subst (λ x. LooksFor setup t c table x look) is has.knows.looks
 
-      by_target : (to : Target) → a.plan.target ≡ to → names_after a.plan.names a.found ≡ [] → Looked
-      by_target Nowhere to none = absurd (for NextNothing (next_end a.plan a.found Nowhere none to))
+      by_target : (to : Target) → (plan_for a.call).target ≡ to → names_after (plan_for a.call).names a.found ≡ [] → Looked
+      by_target Nowhere to none = absurd (for NextNothing (next_end (plan_for a.call) a.found Nowhere none to))
       by_target (Free spot) to none =
-          free_step spot to none (for (NextFree (place_of_spot (with_found [] a.found) spot)) (next_end a.plan a.found (Free spot) none to))
+          free_step spot to none (for (NextFree (place_of_spot (with_found [] a.found) spot))
+          (next_end (plan_for a.call) a.found (Free spot) none to))
       by_target (Held spot) to none =
-          held_step spot to none (for (NextHeld (place_of_spot (with_found [] a.found) spot)) (next_end a.plan a.found (Held spot) none to))
-      by_target (own_page v) to none = absurd (for (NextOwn v) (next_end a.plan a.found (own_page v) none to))
+          held_step spot to none (for (NextHeld (place_of_spot (with_found [] a.found) spot))
+          (next_end (plan_for a.call) a.found (Held spot) none to))
+      by_target (own_page v) to none = absurd (for (NextOwn v) (next_end (plan_for a.call) a.found (own_page v) none to))
 
-      by : Rest a.plan a.found → Looked
+      by : Rest (plan_for a.call) a.found → Looked
       by (ANameLeft name rest left) =
           name_step name rest left (for (NextName name.number (want_of (with_found [] a.found) name))
-          (next_name a.plan a.found name rest left))
-      by (NoneLeft none) = by_target a.plan.target refl none
+          (next_name (plan_for a.call) a.found name rest left))
+      by (NoneLeft none) = by_target (plan_for a.call).target refl none

@@ -31,6 +31,8 @@ use Rattle.switch_invariant.specs.thread_invariant.specs.stage_thread.specs.Livi
 use Rattle.comp_invariant.specs.act_states.specs.declared.refusals.Refusal.TheVariants as refusal
 use Rattle.comp_invariant.specs.act_states.specs.declared.work.Act.TheVariants.{Touch as touch_act}
 use Rattle.comp_invariant.specs.act_states.specs.Touches.{touching, touches, touches_if}
+use Rattle.comp_invariant.specs.act_states.specs.Lookups.{next_step}
+use Rattle.comp_invariant.specs.call_plans.specs.After.{next_of}
 use Rattle.comp_invariant.specs.call_stages.specs.Fits.{IsFirst}
 use Rattle.comp_invariant.specs.call_stages.specs.Steps.{next_by as what_next, took_alive}
 use Rattle.comp_invariant.specs.step_ways.proofs.Loads.{OnlyLooks, step_to, call_is, is_active, loads_on}
@@ -40,6 +42,7 @@ use Rattle.switch_invariant.specs.live_invariant.proofs.Numbers.{no_number, show
 use Rattle.switch_invariant.specs.thread_invariant.proofs.OwnStack.{top_comp, some_stack}
 use Rattle.page_invariant.proofs.TouchCalls.{past_may, past_first}
 use Rattle.work_invariant.proofs.NextLooks.{next_good}
+use Rattle.comp_invariant.specs.call_plans.specs.PlanOf.{plan_for}
 
 -- A call that asks for life looks up a name first, or touches a page.
 named_or_touch : (call : Call) → IsTrue (asks_life call) → ((plan_for call).names ≡ [] → ⊥) ⊎ ((v : ℕ) × (call ≡ Touch v))
@@ -102,9 +105,6 @@ module _ (setup : Setting) (setting : IsSetting setup) (cores : ℕ → Core) (t
 
   room : (cores c).own.made < (cores c).own.limit
   room = subst (HasRoom (cores c).own.made (cores c).own.limit) stage_is (is_active setup setting cores t stands c here a active).room
-
-  plan_is : a.plan ≡ plan_for a.call
-  plan_is = (is_active setup setting cores t stands c here a active).plan
 
   has_comp : HasComp s c comp
   has_comp = top_comp setup setting t stands.legal c here
@@ -209,7 +209,7 @@ module _ (setup : Setting) (setting : IsSetting setup) (cores : ℕ → Core) (t
       its_core_acts = ap (λ b. not b || may_act s c) has.asks ∙ ap (λ b. b || outlives s c) live
 
       -- to its first name
-      names_good : (a.plan.names ≡ [] → ⊥) → GoodTook setup cores t c (LoadOf at) (landed a (what_next (cores c).own a))
+      names_good : ((plan_for a.call).names ≡ [] → ⊥) → GoodTook setup cores t c (LoadOf at) (landed a (what_next (cores c).own a))
       names_good named =
           subst (λ (ks : List Capability). GoodTook setup cores t c (LoadOf at)
           (landed (found_more a ks) (what_next (cores c).own (found_more a ks)))) (sym none_found)
@@ -227,7 +227,7 @@ module _ (setup : Setting) (setting : IsSetting setup) (cores : ℕ → Core) (t
             (λ carries. record {
               acts = its_core_acts;
               names = subst (λ (ks : List Capability).
-                  NamesAre setup (step_to c None (LoadOf at) found None None ∷ t) c (cores c).own.table a.plan ks)
+                  NamesAre setup (step_to c None (LoadOf at) found None None ∷ t) c (cores c).own.table (plan_for a.call) ks)
                   (sym none_found) tt;
               knows = record {
                 knows = record {
@@ -265,12 +265,12 @@ module _ (setup : Setting) (setting : IsSetting setup) (cores : ℕ → Core) (t
 
         touches_next : what_next (cores c).own a ≡ touches (cores c).own v
         touches_next =
-            ap (λ (p : Plan). what_next (cores c).own (record a { plan = p })) (plan_is ∙ ap plan_for is)
-            ∙ ap (λ (ks : List Capability). what_next (cores c).own (record a { plan = plan_for (Touch v); found = ks })) none_found
+            ap (λ (p : Plan). next_step (cores c).own a.call a.found (next_of p a.found)) (ap plan_for is)
+            ∙ ap (λ (ks : List Capability). next_step (cores c).own a.call ks (next_of (plan_for (Touch v)) ks)) none_found
 
       live_good : GoodTook setup cores t c (LoadOf at) (landed a (what_next (cores c).own a))
       live_good = elim (named_or_touch a.call has.asks) [
-        | inl named ↦ names_good (λ none. named (ap (λ (p : Plan). p.names) (sym plan_is) ∙ none))
+        | inl named ↦ names_good (λ none. named none)
         | inr touch ↦ subst (λ step. GoodTook setup cores t c (LoadOf at) (landed a step)) (sym (touches_next touch.0 touch.1))
             (touch_good touch.0 touch.1)
       ]

@@ -5,7 +5,7 @@ use Rattle.comp_invariant.proofs.Common.{◌≡◌, ℕ, ◌<◌, nat_le, Bool, 
 use Rattle.comp_invariant.proofs.Common.{◌∙◌, ap, subst, leb-true, Capability, Setting, IsSetting, Reply, State, comp_of}
 use Rattle.comp_invariant.proofs.Common.{Named, found, root_at, reached, has_no_slot, own, Under, InRoot, RuleMay, Refused, rule_of}
 use Rattle.comp_invariant.proofs.Common.{change_of, are_calls_spent, Step, Trace, Open, phase, state_after, last_left, refused_first}
-use Rattle.comp_invariant.proofs.Common.{Carries, Look, AtRoot, AtEntry, Spot, Nowhere, Plan, plan_for, GoesBy, own_pages}
+use Rattle.comp_invariant.proofs.Common.{Carries, Look, AtRoot, AtEntry, Spot, Nowhere, plan_for, GoesBy, own_pages}
 use Rattle.comp_invariant.proofs.Common.{with_found, names_after, Leads, LeadsIn, Next, NextName, NextFree, NextHeld, next_of, NextMay}
 use Rattle.comp_invariant.proofs.Common.{calls_go, next_may, Lookup, Read, Undecided, ActiveCall, Goes, WorkStep, refuse, reads_of}
 use Rattle.comp_invariant.proofs.Common.{act_begun, holds_counts, ReadIs, ReadBefore, LooksUp, own_in, NamesAre, LooksFor, phase_at}
@@ -25,12 +25,13 @@ use Rattle.comp_invariant.specs.plan_ways.proofs.Ways.{next_first}
 use Rattle.comp_invariant.specs.act_states.specs.declared.refusals.Refusal.TheVariants as refusal
 use Rattle.comp_invariant.specs.act_states.specs.Lookups.{read_first, looks_under, looks_entry, looks_at, next_step}
 use Rattle.comp_invariant.specs.call_stages.specs.Steps.{next_by as what_next}
-use Rattle.comp_invariant.specs.step_ways.proofs.Loads.{OnlyLooks, core_is, call_is, is_active, loads_on, decides_on, step_to}
+use Rattle.comp_invariant.specs.step_ways.proofs.Loads.{OnlyLooks, core_is, call_is, loads_on, decides_on, step_to}
 use Rattle.comp_invariant.specs.step_ways.proofs.Refusals.{GoodTook, not_spent}
 use Rattle.comp_invariant.specs.count_invariant.proofs.Findings.{own_is, past_slot, past_unreached, named_no_slot}
 use Rattle.comp_invariant.specs.count_invariant.proofs.Next.{MayUse, spot_relies, Rest, ANameLeft, NoneLeft, rest_of, next_name, next_end}
 use Rattle.work_invariant.proofs.ByCall.{vacant_no_slot, held_no_slot, past_entry, past_entry_unreached, own_unnamed}
 use Rattle.work_invariant.proofs.Reading.{reads_comp}
+use Rattle.comp_invariant.specs.call_plans.specs.PlanOf.{plan_for}
 
 module _ (setup : Setting) (setting : IsSetting setup) (cores : ℕ → Core) (t : Trace) (stands : Invariant setup cores t) (c : ℕ)
     (here : c < setup.cores)
@@ -38,11 +39,11 @@ module _ (setup : Setting) (setting : IsSetting setup) (cores : ℕ → Core) (t
     (held_is : holds_in (Some a) ≡ holds_counts None a.counts) (no_counts : a.counts ≡ []) (room : (cores c).own.made < (cores c).own.limit)
     (move : Move) (looks : OnlyLooks setup t c a.call move)
     (may_act : IsTrue (acts (state_after setup t) c a.call)) (more : List Capability)
-    (leads : Leads (LeadsIn (state_after setup t) c) a.plan.names [] more)
-    (uses : Leads (MayUse (state_after setup t) c) a.plan.names [] more)
+    (leads : Leads (LeadsIn (state_after setup t) c) (plan_for a.call).names [] more)
+    (uses : Leads (MayUse (state_after setup t) c) (plan_for a.call).names [] more)
     (names : Carries setup t (step_to c None move (last_left setup t (word_of move)) None None) c
     → NamesAre setup (step_to c None move (last_left setup t (word_of move)) None None ∷ t) c
-    (cores c).own.table a.plan more) where
+    (cores c).own.table (plan_for a.call) more) where
   abbrev s : State
   s = state_after setup t
 
@@ -55,23 +56,20 @@ module _ (setup : Setting) (setting : IsSetting setup) (cores : ℕ → Core) (t
   table_is : table ≡ (comp_of s c).table
   table_is = (stands.each c here).works.table
 
-  plan_is : a.plan ≡ plan_for a.call
-  plan_is = (is_active setup setting cores t stands c here a active).plan
-
   is_open : phase t c ≡ Open a.call
   is_open = (call_is setup setting cores t stands c here a active).phase ∙ opens
 
   still : (fate : Option (Option ℕ)) → holds_counts fate a.counts ≡ holds_in (Some a)
   still fate = ap (holds_counts fate) no_counts ∙ sym (ap (holds_counts None) no_counts) ∙ sym held_is
 
-  goes_by : GoesBy (own_pages s c) a.plan (rule_of s c a.call)
-  goes_by = subst (λ p. GoesBy (own_pages s c) p (rule_of s c a.call)) (sym plan_is) (calls_go s c a.call)
+  goes_by : GoesBy (own_pages s c) (plan_for a.call) (rule_of s c a.call)
+  goes_by = calls_go s c a.call
 
-  may : (r : Reply) → NextMay s c (own_pages s c) (next_of a.plan more) r → RuleMay s c (rule_of s c a.call) r
-  may r h = next_may s c (own_pages s c) a.plan (rule_of s c a.call) more goes_by leads r h
+  may : (r : Reply) → NextMay s c (own_pages s c) (next_of (plan_for a.call) more) r → RuleMay s c (rule_of s c a.call) r
+  may r h = next_may s c (own_pages s c) (plan_for a.call) (rule_of s c a.call) more goes_by leads r h
 
-  first : (r : Reply) → NextRefused s c (own_pages s c) (next_of a.plan more) r → change_of s c a.call ≡ Refused r
-  first r h = next_first s c (own_pages s c) a.plan (rule_of s c a.call) more goes_by leads r h
+  first : (r : Reply) → NextRefused s c (own_pages s c) (next_of (plan_for a.call) more) r → change_of s c a.call ≡ Refused r
+  first r h = next_first s c (own_pages s c) (plan_for a.call) (rule_of s c a.call) more goes_by leads r h
 
   own_target : (n : ℕ) → own_in table n ≡ own s c n
   own_target n = own_is s c table n table_is
@@ -91,7 +89,7 @@ module _ (setup : Setting) (setting : IsSetting setup) (cores : ℕ → Core) (t
   Begun o step = GoodTook setup cores t c move (landed (found_more a more) (read_first o step))
 
   -- the next look-up begins
-  looks_next : (next : Next) → next_of a.plan more ≡ next → ReadBefore s c (reads_of a.call more) a.read next
+  looks_next : (next : Next) → next_of (plan_for a.call) more ≡ next → ReadBefore s c (reads_of a.call more) a.read next
       → (look : Look) → LooksFor setup (e ∷ t) c table next look → Begun None (Goes (Lookup look))
   looks_next next is reads look looks_for lands =
       loads_on setup setting cores t stands c here a active move more (Undecided (Lookup look)) looks
@@ -106,7 +104,7 @@ module _ (setup : Setting) (setting : IsSetting setup) (cores : ℕ → Core) (t
       })
 
   -- the component's word is loaded before the next look-up
-  reads_next : (f : ℕ) → reads_of a.call more ≡ Some f → (target : place) → next_of a.plan more ≡ NextFree target
+  reads_next : (f : ℕ) → reads_of a.call more ≡ Some f → (target : place) → next_of (plan_for a.call) more ≡ NextFree target
       → (look : Look) → LooksUp setup (e ∷ t) c target look → Begun (Some f) (Goes (Lookup look))
   reads_next f reads target is look up lands =
       loads_on setup setting cores t stands c here a active move more (Undecided (Read f look)) looks
@@ -120,7 +118,7 @@ module _ (setup : Setting) (setting : IsSetting setup) (cores : ℕ → Core) (t
           looks = up;
           reads = reads;
           comp = reads_comp setup setting t stands.legal c a.call is_open more
-              (subst (λ (p : Plan). Leads (LeadsIn s c) p.names [] more) plan_is leads) f reads;
+              leads f reads;
         };
       })
 
@@ -130,7 +128,7 @@ module _ (setup : Setting) (setting : IsSetting setup) (cores : ℕ → Core) (t
   no_slot_first (Some f) = no_slot
 
   -- what the next is, said of the slot
-  under_good : (o : Option ℕ) (next : Next) → next_of a.plan more ≡ next → (root : Named) (n : ℕ) → root.found ≡ true
+  under_good : (o : Option ℕ) (next : Next) → next_of (plan_for a.call) more ≡ next → (root : Named) (n : ℕ) → root.found ≡ true
       → Relies s c root.frame
       → (((look : Look) → LooksUp setup (e ∷ t) c (Under root n) look → Begun o (Goes (Lookup look))))
       → (nat_le n 4095 ≡ false → NextMay s c (own_pages s c) next reply.NoSlot)
@@ -147,7 +145,7 @@ module _ (setup : Setting) (setting : IsSetting setup) (cores : ℕ → Core) (t
           (subst (λ x. NextMay s c (own_pages s c) x reply.NoSlot) (sym is) (may_not past)))
           (first reply.NoSlot (subst (λ x. NextRefused s c (own_pages s c) x reply.NoSlot) (sym is) (refused past)))
 
-  entry_good : (o : Option ℕ) (next : Next) → next_of a.plan more ≡ next → (root : Named) (i : ℕ) → root.found ≡ true
+  entry_good : (o : Option ℕ) (next : Next) → next_of (plan_for a.call) more ≡ next → (root : Named) (i : ℕ) → root.found ≡ true
       → Relies s c root.frame
       → (((look : Look) → LooksUp setup (e ∷ t) c (InRoot root i) look → Begun o (Goes (Lookup look))))
       → (nat_le i 63 ≡ false → NextMay s c (own_pages s c) next reply.NoSlot)
@@ -165,20 +163,20 @@ module _ (setup : Setting) (setting : IsSetting setup) (cores : ℕ → Core) (t
           (first reply.NoSlot (subst (λ x. NextRefused s c (own_pages s c) x reply.NoSlot) (sym is) (refused past)))
 
   -- the target is looked up next
-  is_rooted : (target : Target) → a.plan.target ≡ target → IsRooted a.plan.names target
-  is_rooted target to = subst (IsRooted a.plan.names) to (subst (λ p. IsRooted p.names p.target) (sym plan_is) (rooted a.call))
+  is_rooted : (target : Target) → (plan_for a.call).target ≡ target → IsRooted (plan_for a.call).names target
+  is_rooted target to = subst (IsRooted (plan_for a.call).names) to (rooted a.call)
 
   -- one that is to be free, after the load of what the call reads
-  free_first : (o : Option ℕ) → reads_of a.call more ≡ o → (target : place) → next_of a.plan more ≡ NextFree target
+  free_first : (o : Option ℕ) → reads_of a.call more ≡ o → (target : place) → next_of (plan_for a.call) more ≡ NextFree target
       → (look : Look) → LooksUp setup (e ∷ t) c target look → Begun o (Goes (Lookup look))
   free_first None reads target is = looks_next (NextFree target) is (subst (λ o. ReadIs s c o a.read) (sym reads) tt)
   free_first (Some f) reads target is = reads_next f reads target is
 
-  free_good : (spot : Spot) → a.plan.target ≡ Free spot → names_after a.plan.names more ≡ []
-      → next_of a.plan more ≡ NextFree (place_of_spot (with_found [] more) spot)
+  free_good : (spot : Spot) → (plan_for a.call).target ≡ Free spot → names_after (plan_for a.call).names more ≡ []
+      → next_of (plan_for a.call) more ≡ NextFree (place_of_spot (with_found [] more) spot)
       → Begun (reads_of a.call more) (looks_at (place_of_spot (with_found [] more) spot))
   free_good (spot_of.Under i n) to none is =
-      let root = spot_relies setup setting t stands.legal c a.call is_open a.plan more (spot_of.Under i n)
+      let root = spot_relies setup setting t stands.legal c a.call is_open (plan_for a.call) more (spot_of.Under i n)
       (is_rooted (Free (spot_of.Under i n)) to) uses none in
       under_good (reads_of a.call more) (NextFree (Under (earlier (with_found [] more) i) n)) is (earlier (with_found [] more) i) n
       root.1 root.0
@@ -187,7 +185,7 @@ module _ (setup : Setting) (setting : IsSetting setup) (cores : ℕ → Core) (t
       (λ past. vacant_no_slot s c (Under (earlier (with_found [] more) i) n)
       (past_unreached s c (earlier (with_found [] more) i) n past))
   free_good (spot_of.InRoot i x) to none is =
-      let root = spot_relies setup setting t stands.legal c a.call is_open a.plan more (spot_of.InRoot i x)
+      let root = spot_relies setup setting t stands.legal c a.call is_open (plan_for a.call) more (spot_of.InRoot i x)
       (is_rooted (Free (spot_of.InRoot i x)) to) uses none in
       entry_good (reads_of a.call more) (NextFree (InRoot (earlier (with_found [] more) i) x)) is (earlier (with_found [] more) i) x
       root.1 root.0
@@ -195,12 +193,12 @@ module _ (setup : Setting) (setting : IsSetting setup) (cores : ℕ → Core) (t
       (λ past. past_entry x past) (λ past. vacant_no_slot s c (InRoot (earlier (with_found [] more) i) x)
       (past_entry_unreached s c (earlier (with_found [] more) i) x past))
 
-  held_good : (spot : Spot) → a.plan.target ≡ Held spot → names_after a.plan.names more ≡ []
-      → next_of a.plan more ≡ NextHeld (place_of_spot (with_found [] more) spot)
+  held_good : (spot : Spot) → (plan_for a.call).target ≡ Held spot → names_after (plan_for a.call).names more ≡ []
+      → next_of (plan_for a.call) more ≡ NextHeld (place_of_spot (with_found [] more) spot)
       → GoodTook setup cores t c move
       (landed (found_more a more) (looks_at (place_of_spot (with_found [] more) spot)))
   held_good (spot_of.Under i n) to none is =
-      let root = spot_relies setup setting t stands.legal c a.call is_open a.plan more (spot_of.Under i n)
+      let root = spot_relies setup setting t stands.legal c a.call is_open (plan_for a.call) more (spot_of.Under i n)
       (is_rooted (Held (spot_of.Under i n)) to) uses none in
       under_good None (NextHeld (Under (earlier (with_found [] more) i) n)) is (earlier (with_found [] more) i) n root.1 root.0
       (looks_next (NextHeld (Under (earlier (with_found [] more) i) n)) is tt)
@@ -208,39 +206,39 @@ module _ (setup : Setting) (setting : IsSetting setup) (cores : ℕ → Core) (t
       (λ past. held_no_slot s c (Under (earlier (with_found [] more) i) n)
       (past_unreached s c (earlier (with_found [] more) i) n past))
   held_good (spot_of.InRoot i x) to none is =
-      let root = spot_relies setup setting t stands.legal c a.call is_open a.plan more (spot_of.InRoot i x)
+      let root = spot_relies setup setting t stands.legal c a.call is_open (plan_for a.call) more (spot_of.InRoot i x)
       (is_rooted (Held (spot_of.InRoot i x)) to) uses none in
       entry_good None (NextHeld (InRoot (earlier (with_found [] more) i) x)) is (earlier (with_found [] more) i) x root.1 root.0
       (looks_next (NextHeld (InRoot (earlier (with_found [] more) i) x)) is tt)
       (λ past. past_entry x past) (λ past. held_no_slot s c (InRoot (earlier (with_found [] more) i) x)
       (past_entry_unreached s c (earlier (with_found [] more) i) x past))
 
-  target_good : (a.plan.names ≡ [] → ⊥) → (target : Target) → a.plan.target ≡ target → names_after a.plan.names more ≡ []
+  target_good : ((plan_for a.call).names ≡ [] → ⊥) → (target : Target) → (plan_for a.call).target ≡ target
+      → names_after (plan_for a.call).names more ≡ []
       → (target ≡ Nowhere → GoodTook setup cores t c move
       (landed (found_more a more) (act_begun (cores c).own a.call more None None)))
       → GoodTook setup cores t c move
       (landed (found_more a more) (next_step (cores c).own a.call more (next_target (with_found [] more) target)))
   target_good named Nowhere to none acts = acts refl
-  target_good named (Free spot) to none acts = free_good spot to none (next_end a.plan more (Free spot) none to)
-  target_good named (Held spot) to none acts = held_good spot to none (next_end a.plan more (Held spot) none to)
+  target_good named (Free spot) to none acts = free_good spot to none (next_end (plan_for a.call) more (Free spot) none to)
+  target_good named (Held spot) to none acts = held_good spot to none (next_end (plan_for a.call) more (Held spot) none to)
   target_good named (own_page v) to none acts =
-      absurd (named (ap (λ (p : Plan). p.names) plan_is
-      ∙ own_unnamed a.call v (ap (λ (p : Plan). p.target) (sym plan_is) ∙ to)))
+      absurd (named (own_unnamed a.call v to))
 
-  pub next_good : (a.plan.names ≡ [] → ⊥) → (a.plan.target ≡ Nowhere → names_after a.plan.names more ≡ []
+  pub next_good : ((plan_for a.call).names ≡ [] → ⊥) → ((plan_for a.call).target ≡ Nowhere → names_after (plan_for a.call).names more ≡ []
       → GoodTook setup cores t c move
       (landed (found_more a more) (act_begun (cores c).own a.call more None None)))
       → GoodTook setup cores t c move
       (landed (found_more a more) (what_next (cores c).own (found_more a more)))
-  next_good named acts = by (rest_of a.plan more)
+  next_good named acts = by (rest_of (plan_for a.call) more)
     where
       Goal : Next → Type 0
       Goal next = GoodTook setup cores t c move
           (landed (found_more a more) (next_step (cores c).own a.call more next))
 
-      by : Rest a.plan more → Goal (next_of a.plan more)
+      by : Rest (plan_for a.call) more → Goal (next_of (plan_for a.call) more)
       by (ANameLeft name2 rest2 is) =
-          let next = next_name a.plan more name2 rest2 is in
+          let next = next_name (plan_for a.call) more name2 rest2 is in
           subst Goal (sym next) (under_good None (NextName name2.number (want_of (with_found [] more) name2)) next (root_at table)
           name2.number refl
           (subst (Relies s c) (sym table_is)
@@ -249,5 +247,5 @@ module _ (setup : Setting) (setting : IsSetting setup) (cores : ℕ → Core) (t
           (λ past. subst (λ x. IsTrue (has_no_slot s x)) (own_target name2.number) (past_slot s (root_at table) name2.number past))
           (λ past. named_no_slot s c name2.number (want_of (with_found [] more) name2)
           (ap (reached s c) (sym (own_target name2.number)) ∙ past_unreached s c (root_at table) name2.number past)))
-      by (NoneLeft none) = subst Goal (sym (next_end a.plan more a.plan.target none refl))
-          (target_good named a.plan.target refl none (λ nowhere. acts nowhere none))
+      by (NoneLeft none) = subst Goal (sym (next_end (plan_for a.call) more (plan_for a.call).target none refl))
+          (target_good named (plan_for a.call).target refl none (λ nowhere. acts nowhere none))

@@ -3,7 +3,7 @@ use Rattle.comp_invariant.proofs.Common.{◌≡◌, inl, ℕ, ◌<◌, ◌||◌,
 use Rattle.comp_invariant.proofs.Common.{eq-eqb, Capability, Setting, IsSetting, Kind, Call, Gate, comp_of_word, CompWord, EntryAt}
 use Rattle.comp_invariant.proofs.Common.{LoadOf, State, Kernel, Comp, PlaceOf, comp_in, to_use, only, named_by, only_is, opened, events_of}
 use Rattle.comp_invariant.proofs.Common.{is_one_of, footprint_frames, IsLegal, mark_in_frame, marked_by, stamp, Step, Trace, Open, phase}
-use Rattle.comp_invariant.proofs.Common.{state_after, last_left, sound_of, opened_is, Look, First, Plan, plan_for, Leads, LeadsIn, Next}
+use Rattle.comp_invariant.proofs.Common.{state_after, last_left, sound_of, opened_is, Look, First, plan_for, Leads, LeadsIn, Next}
 use Rattle.comp_invariant.proofs.Common.{Lookup, Read, reads_of, Undecided, ActiveCall, Core, settled_by, IsFrameWord}
 use Rattle.comp_invariant.proofs.Common.{LooksFor, ReadIs, ReadBefore, KnowsUndecided, phase_at, holds_at, held_by, Invariant, names_on}
 use Rattle.comp_invariant.proofs.Common.{may_keep, not_exclusive_value}
@@ -15,11 +15,12 @@ use Rattle.comp_invariant.specs.plan_ways.proofs.InFootprint.{footprint_found}
 use Rattle.comp_invariant.specs.call_stages.specs.Steps.{took_read}
 use Rattle.comp_invariant.specs.core_invariant.specs.Knows.{HasComp}
 use Rattle.comp_invariant.specs.kept_facts.proofs.Carries.{looks_on}
-use Rattle.comp_invariant.specs.step_ways.proofs.Loads.{OnlyLooks, step_to, call_is, is_active, reads_on}
+use Rattle.comp_invariant.specs.step_ways.proofs.Loads.{OnlyLooks, step_to, call_is, reads_on}
 use Rattle.comp_invariant.specs.step_ways.proofs.Refusals.{GoodTook}
 use Rattle.switch_invariant.specs.live_invariant.proofs.KillStarts.{comp_named}
 use Rattle.switch_invariant.specs.live_invariant.proofs.Numbers.{comp_is}
 use Rattle.comp_invariant.specs.count_invariant.proofs.Acquiring.{plan_leads}
+use Rattle.comp_invariant.specs.call_plans.specs.PlanOf.{plan_for}
 
 -- It is a component, which no other core may retype.
 pub reads_comp : (setup : Setting) → IsSetting setup → (t : Trace) → IsLegal setup t → (c : ℕ) (call : Call) → phase t c ≡ Open call
@@ -89,8 +90,7 @@ module _ (setup : Setting) (setting : IsSetting setup) (cores : ℕ → Core) (t
   life_fits = (comp_spells (Some life) was (sym says_life)).0
 
   leads : Leads (LeadsIn s c) (plan_for a.call).names [] a.found
-  leads = subst (λ (p : Plan). Leads (LeadsIn s c) p.names [] a.found) (is_active setup setting cores t stands c here a active).plan
-      (plan_leads setup setting cores t stands c here a active has.names)
+  leads = plan_leads setup setting cores t stands c here a active has.names
 
   loading : OnlyLooks setup t c a.call (LoadOf (EntryAt f 2))
   loading = record {
@@ -109,7 +109,7 @@ module _ (setup : Setting) (setting : IsSetting setup) (cores : ℕ → Core) (t
       loading lands (sym (ap (λ s. holds_at s a.counts) stage_is)) opens
       (λ carries. record {
         acts = has.acts;
-        names = names_on setup setting t e stands.legal c a.call is_open carries (cores c).own.table a.plan a.found has.names;
+        names = names_on setup setting t e stands.legal c a.call is_open carries (cores c).own.table (plan_for a.call) a.found has.names;
         knows = record {
           looks = subst (λ (x : Next). LooksFor setup (e ∷ t) c (cores c).own.table x look) (sym has.knows.next)
               (looks_on setup setting t e stands.legal c a.call is_open carries has.knows.target look has.knows.looks);

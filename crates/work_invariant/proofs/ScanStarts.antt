@@ -1,12 +1,12 @@
 -- What a call knows that has found its target quiescing: since which stamp, and what is known of it before a core or a flush is scanned, or
 -- where there is none to be scanned.
-use Rattle.comp_invariant.proofs.Common.{◌≡◌, ◌≢◌, ℕ, ◌<◌, ◌≤◌, false, [], ◌∷◌, Some, None, arith, refl, sym, ◌∙◌, ap, subst}
+use Rattle.comp_invariant.proofs.Common.{◌≡◌, ◌≢◌, ℕ, ◌<◌, ◌≤◌, false, [], ◌∷◌, Some, None, arith, refl, ◌∙◌}
 use Rattle.comp_invariant.proofs.Common.{Setting, IsSetting, entry_of_word, EntryAt, LoadOf, Thing, PlaceOf, Slot, IsRemoved, clock}
-use Rattle.comp_invariant.proofs.Common.{stamp, Step, Trace, Open, phase, state_after, last_left, WasAt, was_now, Plan, plan_for, Leads}
+use Rattle.comp_invariant.proofs.Common.{stamp, Step, Trace, Open, phase, state_after, last_left, WasAt, was_now, plan_for, Leads}
 use Rattle.comp_invariant.proofs.Common.{LeadsIn, NextFree, next_of, fills_page, ActiveCall, Core, HasFlushed, IsScanned, Invariant}
 use Rattle.comp_invariant.specs.entry_words.specs.declared.entry.Entry.TheVariants as entry
 use Rattle.comp_invariant.specs.kernel_rules.specs.Access.{Target as place}
-use Rattle.comp_invariant.specs.step_ways.proofs.Loads.{step_to, is_active}
+use Rattle.comp_invariant.specs.step_ways.proofs.Loads.{step_to}
 use Rattle.comp_invariant.specs.count_invariant.proofs.Lookups.{Arrives}
 use Rattle.comp_invariant.specs.place_invariant.proofs.Paging.{paging_by}
 use Rattle.comp_invariant.specs.scan_invariant.proofs.Scans.{ShowsSince, since_is}
@@ -28,14 +28,11 @@ pub record ScanStarts (setup : Setting) (t : Trace) (c : ℕ) (a : ActiveCall) (
 module _ (setup : Setting) (setting : IsSetting setup) (cores : ℕ → Core) (t : Trace) (stands : Invariant setup cores t) (c : ℕ)
     (here : c < setup.cores)
     (a : ActiveCall) (active : (cores c).active ≡ Some a) (is_open : phase t c ≡ Open a.call)
-    (leads : Leads (LeadsIn (state_after setup t) c) a.plan.names [] a.found) (target : place)
-    (next_free : next_of a.plan a.found ≡ NextFree target) (at : Slot) (arrives : Arrives setup t c target at) (x : ℕ)
+    (leads : Leads (LeadsIn (state_after setup t) c) (plan_for a.call).names [] a.found) (target : place)
+    (next_free : next_of (plan_for a.call) a.found ≡ NextFree target) (at : Slot) (arrives : Arrives setup t c target at) (x : ℕ)
     (reads : entry_of_word (last_left setup t (EntryAt at.node at.index)) ≡ Some (entry.Quiescing x)) where
   abbrev removed : Thing
   removed = PlaceOf at.node at.index
-
-  plan_is : a.plan ≡ plan_for a.call
-  plan_is = (is_active setup setting cores t stands c here a active).plan
 
   since : ShowsSince ((state_after setup t).place at.node at.index) (stamp setup t removed) x
   since = since_is setup.frames ((state_after setup t).place at.node at.index) (stamp setup t removed) x _ arrives.plain.says reads
@@ -58,8 +55,8 @@ module _ (setup : Setting) (setting : IsSetting setup) (cores : ℕ → Core) (t
     past = (let p = (stands.graces removed).past in let q = since.same in omega arith);
     unpaged = λ is. unpaged_flushed setup setting t stands.legal stands.graces at.node at.index x arrives.leaf.node
         (paging_by setup setting t stands.legal c target at arrives.reached a.call is_open a.found
-        (subst (λ (p : Plan). Leads (LeadsIn (state_after setup t) c) p.names [] a.found) plan_is leads)
-        (ap (λ p. next_of p a.found) (sym plan_is) ∙ next_free) ∙ is) since.drawn;
+        leads
+        next_free ∙ is) since.drawn;
     now = scanned t refl refl (was_while_open (IsRemoved removed) setup t c a.call is_open since.removed);
     loaded = λ word. let e : Step = step_to c None (LoadOf (EntryAt at.node at.index)) word None None in
         scanned (e ∷ t) refl refl (was_now (IsRemoved removed) setup t e c since.removed);
