@@ -39,7 +39,7 @@ use Rattle.arrow_causes.proofs.Entries.{newest_entry}
 use Rattle.arrow_causes.proofs.Holders.{IsHolders}
 use Rattle.arrow_laws.specs.Arrows.{entered_at}
 use Rattle.arrow_causes.proofs.Lines.{line_of}
-use Rattle.flight_laws.specs.time_laws.specs.call_plans.specs.PlanOf.{plan_for}
+use Rattle.flight_laws.specs.time_laws.specs.act_states.specs.call_plans.specs.PlanOf.{plan_for}
 
 -- What is decided at a second load of a head says of no wait.
 alike_again : (b : Bool) → IsAgain (by_alike b)

@@ -22,12 +22,14 @@ ghost use Rattle.kernel_history.specs.BootWords.{boot_word, boot_entry, boot_thr
 ghost use Rattle.kernel_history.specs.FinalWords.{word_in};
 ghost use Rattle.boot_words.specs.Filling.{IsFrameRight, IsCoreRight, IsRight, Fills, Puts};
 
-use entry_words::Entry;
-use frame_words::{CompWord, CoreWord, CountWord, FlushWord, FrameWord, Hold, LiveWord};
+use kernel_history::entry_words::Entry;
+use kernel_history::frame_words::{
+    CompWord, CoreWord, CountWord, FlushWord, FrameWord, Hold, LiveWord,
+};
+use kernel_history::tcap_words::{HeadWord, QualityWord, StackWord, ThreadWord};
+use kernel_history::word_map::Layout;
 use spk_nums::{Cap, CoreNo, EntryNo, FrameKind, FrameNo, Grant, Kind, Memory, Obj, Setup, Stamp};
 use std::alloc::{AllocError, Global};
-use tcap_words::{HeadWord, QualityWord, StackWord, ThreadWord};
-use word_map::Layout;
 
 // The capability of a core at a place of the first leaf: to its thread, or to its temporal capability.
 fn core_cap(setup: &Setup, index: u16) -> Option<Cap>

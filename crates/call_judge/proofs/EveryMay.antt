@@ -16,7 +16,7 @@ use Rattle.spk_nums.specs.declared.calls.Call.TheVariants.{Look, Copy, Remove, G
 use Rattle.spk_nums.specs.declared.calls.Call.TheVariants.{Map, Unmap, Touch, Flush, Gate, Kill, Call as call_gate}
 use Rattle.spk_nums.specs.declared.calls.Call.TheVariants.{Ret, Switch, Tick, Transfer, Delegate, Test, Part, Replenish}
 use Rattle.spk_nums.specs.declared.replies.Reply.TheVariants as reply
-use Rattle.kernel_rules.specs.State.{Limits, CompFields, ThreadFields, TcapFields, Object, State, comp_in, comp_of, thread_in, tcap_in}
+use Rattle.kernel_rules.specs.State.{Limits, CompFields, ThreadFields, TcapFields, Object, State, comp_in, comp_of, thread_in, tcap_in, Core}
 use Rattle.kernel_rules.specs.State.{outstanding}
 use Rattle.kernel_rules.specs.Access.{to_use, Named, found, not_found, only, root}
 use Rattle.kernel_rules.specs.Rules.{Judged, Refused, Found, named, name_of}

@@ -37,9 +37,9 @@ retype_goes s c pages r f Kernel = (refl, refl, λ k. tt)
 make_goes : (s : State) (pages : OwnPages) (what : Make) (r f t b : ℕ) → GoesBy pages (plan_of_make what r t b) (make_rule s what r f t b)
 make_goes s pages make.Table r f t b = (refl, refl, λ k. (refl, refl, λ l. (refl, λ at. tt)))
 make_goes s pages (make.Thread comp) r f t b = (refl, refl, λ k. (refl, refl, λ l. (refl, refl, λ m. (refl, λ at. tt))))
-make_goes s pages _ r f t b = (refl, refl, λ k. (refl, refl, λ l. (refl, λ at. tt)))
 make_goes s pages (make.Comp table own_pages live) r f t b =
     (refl, refl, λ k. (refl, refl, λ l. (refl, refl, λ m. (refl, refl, λ n. (refl, λ at. tt)))))
+make_goes s pages _ r f t b = (refl, refl, λ k. (refl, refl, λ l. (refl, λ at. tt)))
 
 pub calls_go : (s : State) (c : ℕ) (call : Call) → GoesBy (own_pages s c) (plan_for call) (rule_of s c call)
 calls_go s c (Look a) = (refl, refl, λ k. tt)

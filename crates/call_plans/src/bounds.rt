@@ -6,7 +6,7 @@ ghost use Rattle.call_plans.specs.Bounds.{living_steps, spot_steps, target_steps
 
 use crate::calls::plan_of;
 use crate::plans::{Plan, Spot, Target};
-use spk_nums::{Call, FrameKind, Make};
+use kernel_invariant::spk_nums::{Call, FrameKind, Make};
 
 /// The most own steps of a call on a machine of so many cores, 1 to 8: three for entry and exit, those by which it asks whether its
 /// component lives, those of its look-ups, and those of its act.

@@ -10,7 +10,7 @@ ghost use Rattle.call_plans.specs.PlanOf.{on_two_tcaps, plan_of_retype, plan_of_
 ghost use Rattle.call_plans.specs.GoesBy.{GoesBy, own_pages};
 
 use crate::plans::{Decides, Name, Names, Nth, Plan, Spot, Target, Wanted};
-use spk_nums::{Call, CapId, FrameKind, Kind, Make, Rights};
+use kernel_invariant::spk_nums::{Call, CapId, FrameKind, Kind, Make, Rights};
 
 /// The plan of a call. It asks that the component of its core lives exactly where the call asks for life. The call's rule goes by it in
 /// every state: it looks up these names in this order and then this target, and asks nothing else of what they lead to before its own

@@ -9,7 +9,7 @@ ghost use Rattle.call_plans.specs.After.{with_found, next_of};
 ghost use Rattle.call_plans.specs.Found.{said};
 
 use crate::plans::{Next, Nth, Plan, Target, Wanted};
-use spk_nums::{Cap, FrameNo, Kind};
+use kernel_invariant::spk_nums::{Cap, FrameNo, Kind};
 use std::marker::Model;
 
 /// The capabilities, at most four, the first name's first; contracts see their list.

@@ -5,7 +5,7 @@ ghost use Rattle.call_plans.specs.Plans.{head, index_of, at_place, kind_of_spot,
 ghost use Rattle.call_plans.specs.After.{names_after};
 
 use crate::found::Caps;
-use spk_nums::{CapId, EntryNo, Kind, PageNo, Rights};
+use kernel_invariant::spk_nums::{CapId, EntryNo, Kind, PageNo, Rights};
 use std::marker::Model;
 
 /// One of the names of a call, in their order.

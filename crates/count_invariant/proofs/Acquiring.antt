@@ -80,7 +80,7 @@ use Rattle.step_ways.proofs.Loads.{IsOfCall, Lands, step_to, core_in_call, inner
 use Rattle.step_ways.proofs.Refusals.{GoodTook, IsRefusing, ticks_in, ticks_at, raced_knowing, busy_knowing}
 use Rattle.count_invariant.proofs.PutCounts.{put_counts, put_footprint}
 use Rattle.count_invariant.proofs.DueLists.{get_after, get_none, after_none, after_one, map_more, map_length, not_acquired}
-use Rattle.step_ways.specs.call_plans.specs.PlanOf.{plan_for}
+use Rattle.step_ways.specs.act_states.specs.call_plans.specs.PlanOf.{plan_for}
 
 -- The count of one frame is due once.
 pub one_apart : (ds : List Due) → length ds ≤ 1 → AreDuesApart ds
@@ -549,8 +549,7 @@ module _ (setup : Setting) (setting : IsSetting setup) (cores : ℕ → Core) (t
       a.found names
 
   call_leads : Leads (LeadsIn now c) (plan_for a.call).names [] a.found
-  call_leads = subst (λ (p : Plan). Leads (LeadsIn now c) p.names [] a.found)
-      refl plan_leads
+  call_leads = plan_leads
 
   pub goes_by : GoesBy (own_pages now c) (plan_for a.call) (rule_of now c a.call)
   goes_by = calls_go now c a.call

@@ -31,7 +31,7 @@ use Rattle.step_ways.proofs.Places.{IsMarked, IsUnmarked, place_reads}
 use Rattle.step_ways.proofs.Refusals.{GoodTook, ticks_at, NobodyWaits, refuses_no_slot, refuses_busy}
 use Rattle.step_ways.specs.stage_look.specs.Lookup.{after_link}
 use Rattle.step_ways.specs.stage_look.specs.Lookup.{end_by_link}
-use Rattle.step_ways.specs.call_plans.specs.PlanOf.{plan_for}
+use Rattle.step_ways.specs.act_states.specs.call_plans.specs.PlanOf.{plan_for}
 
 -- What an entry shows of a place.
 pub record ShowsHeld (frames : ℕ) (p : Place) (k : Capability) : Type 0 where

@@ -134,7 +134,7 @@ use Rattle.time_laws.specs.count_invariant.proofs.SwitchCounts.{switch_of}
 use Rattle.time_laws.specs.step_ways.proofs.Loads.{is_active}
 use Rattle.time_laws.specs.flight.specs.Made.{turned, MayStep, cores_after, stepping_core, IsMade}
 use Rattle.time_laws.specs.flight.proofs.Made.{made_stands}
-use Rattle.time_laws.specs.call_plans.specs.PlanOf.{plan_for}
+use Rattle.time_laws.specs.act_states.specs.call_plans.specs.PlanOf.{plan_for}
 
 -- Steps on other words
 

@@ -54,7 +54,7 @@ use Rattle.time_laws.specs.step_ways.proofs.Writes.{same_marks}
 use Rattle.time_laws.specs.count_invariant.proofs.ActHolds.{SparesAt, SparesSwept, act_count}
 use Rattle.time_laws.specs.history_laws.specs.Counts.{Untypes}
 use Rattle.flight_laws.proofs.CountSteps.{UntypesFrame, untypes_frame}
-use Rattle.time_laws.specs.call_plans.specs.PlanOf.{plan_for}
+use Rattle.time_laws.specs.act_states.specs.call_plans.specs.PlanOf.{plan_for}
 
 -- A count is one of those that a call has acquired.
 abbrev pub IsAmong : Acquired → List Acquired → Type 0

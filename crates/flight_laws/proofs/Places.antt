@@ -81,7 +81,7 @@ use Rattle.time_laws.specs.flight.proofs.Made.{made_stands, made_times}
 use Rattle.time_laws.specs.flight.proofs.Spelling.{moves_are_words}
 use Rattle.flight_laws.proofs.Sweeping.{untyping_in, untyping_of, untyping_now, IsSwept}
 use Rattle.flight_laws.proofs.Sweeping.{swept_on, swept_no_node, looks_untypes, looks_swept}
-use Rattle.time_laws.specs.call_plans.specs.PlanOf.{plan_for}
+use Rattle.time_laws.specs.act_states.specs.call_plans.specs.PlanOf.{plan_for}
 
 -- The frame of an entry's word.
 abbrev frame_in : Word → ℕ

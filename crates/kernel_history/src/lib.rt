@@ -10,7 +10,11 @@ ghost use Rattle.kernel_history.specs.Laws.{LegalRuns, EventsDetermine, LegalUpT
 ghost use Rattle.kernel_history.specs.Refusals.{DisciplineRefuses, OwnCountsRefuse, FootprintsRefuse, BoundsRefuse};
 ghost use Rattle.kernel_history.specs.Refusals.{JustificationRefuses, WordsRefuse, OrderRefuses};
 
-pub use spk_nums;
+pub use entry_words;
+pub use frame_words;
+pub use kernel_rules::spk_nums;
+pub use tcap_words;
+pub use word_map;
 
 /// The events of a legal trace are a run of the sequential kernel, and the trace leaves the state that they leave. So each law of
 /// the sequential kernel holds after each legal trace.

@@ -12,6 +12,8 @@
 
 ghost use Rattle.kernel_rules.specs.Laws.{CapabilitiesFit, RefsChange};
 
+pub use kernel_rules::spk_nums;
+
 /// In every state that a run reaches, a call that is carried out changes the references to each frame by those that it takes
 /// less those that it releases; each release begins the frame's grace period.
 #[tactic(auto, using(crate::proofs::RefsLaw::refs_change))]

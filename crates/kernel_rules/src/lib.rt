@@ -9,6 +9,8 @@
 
 ghost use Rattle.kernel_rules.specs.Laws.{FirstPermitted, RefusalKeeps, WaitersInside, WaitsWithin};
 
+pub use spk_nums;
+
 /// A refusal leaves the state as it was, but for the owed ticks of a `tick`, and the count of calls.
 pub fn refusal_keeps()
     ensures { RefusalKeeps }

@@ -8,6 +8,7 @@ ghost use Rattle.lone_kernel.specs.Machine.{AreLists};
 ghost use Rattle.lone_checks.specs.Lists.{IsRunnable};
 ghost use Rattle.lone_checks.specs.Out.{AreOut};
 
+pub use lone_kernel;
 use lone_kernel::LoneKernel;
 use spk_nums::{Call, CoreNo, in_limits};
 

@@ -4,8 +4,8 @@ ghost use Rattle.std.specs.Prelude.{◌≡◌, length};
 ghost use Rattle.lone_kernel.specs.word_map.specs.Places.{size_of};
 
 use crate::fault::Fault;
+use lone_checks::lone_kernel::LoneKernel;
 use lone_checks::{are_lists, are_out};
-use lone_kernel::LoneKernel;
 use spk_nums::{Call, CoreNo, Item, Reply, Setup};
 use std::alloc::Global;
 use step_views::{StepMade, StepView};

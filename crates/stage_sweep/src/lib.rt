@@ -10,12 +10,10 @@ mod thaw;
 
 pub use count_words::CountWords;
 pub use empty::Owned;
-pub use entry_words;
-pub use frame_words;
 pub use stage_look;
 pub use stage_pins;
 pub use stage_quiet;
+pub use stage_quiet::{entry_words, frame_words, word_map};
 pub use sweep::{Sweep, SweepAt, Swept};
 pub use tcap_words;
 pub use thaw::Thaw;
-pub use word_map;

@@ -5,8 +5,8 @@ ghost use Rattle.lone_kernel.specs.word_map.specs.Places.{size_of};
 
 use crate::fault::Fault;
 use crate::judge::Judge;
+use lone_checks::lone_kernel::LoneKernel;
 use lone_checks::{are_lists, are_out};
-use lone_kernel::LoneKernel;
 use plain_tables::tables;
 use run_outcomes::are_due;
 use spk_nums::{Call, CoreNo, How, Item, Reply, Setup};

@@ -26,7 +26,7 @@ use Rattle.kernel_laws.specs.spk_nums.specs.declared.replies.Reply.TheVariants a
 use Rattle.kernel_laws.specs.spk_nums.specs.declared.replies.Value.TheVariants.{Amount}
 use Rattle.kernel_laws.specs.kernel_rules.specs.State.{Core as CoreFields, with_core}
 use Rattle.kernel_laws.specs.kernel_rules.specs.CallRelation.{owing}
-use Rattle.kernel_laws.specs.kernel_rules.specs.Edits.{with_tcap, charge, charging}
+use Rattle.kernel_laws.specs.kernel_rules.specs.Edits.{with_tcap, charge, charging as after_charge}
 use Rattle.plan_ways.specs.kernel_history.specs.Justified.{IsHeldUp}
 use Rattle.plan_ways.specs.kernel_history.specs.Stamps.{begins_in}
 use Rattle.step_ways.specs.stage_tcap.specs.quality_lists.specs.Rank.{rank}
@@ -46,11 +46,11 @@ use Rattle.step_ways.specs.kept_facts.proofs.WordFrames.{load_marks, load_words}
 use Rattle.step_ways.proofs.Writes.{same_marks}
 use Rattle.time_invariant.proofs.Budgets.{tcap_is, IsTcap, Numbers, numbers_of}
 use Rattle.time_invariant.proofs.TickCalls.{IsTick, tick_of, own_footprint, raced_head}
-use Rattle.step_ways.specs.call_plans.specs.PlanOf.{plan_for}
+use Rattle.step_ways.specs.act_states.specs.call_plans.specs.PlanOf.{plan_for}
 
 -- The change of a tick of which so many ticks are charged.
 abbrev charges : State → ℕ → ℕ → ℕ → Change
-charges s c due charged = record { value = Amount charged; next = charging s c due charged; takes = []; begins = [] }
+charges s c due charged = record { value = Amount charged; next = after_charge s c due charged; takes = []; begins = [] }
 
 -- A core that has counted one call more.
 abbrev one_more : CoreFields → CoreFields
