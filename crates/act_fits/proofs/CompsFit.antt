@@ -1,48 +1,18 @@
 -- Where the steps by which a component is made lead to fits its machine, and leaves fewer steps.
-use Rattle.std.proofs.Common.{◌≡◌, ℕ, ◌+◌, ◌-◌, ◌<◌, ◌≤◌, ◌==◌, nat_lt, Bool, true, false, if◌then◌else◌}
-use Rattle.std.proofs.Common.{length, Option, Some, None, IfSome, refl, sym, subst, arith, slice_get}
-use Rattle.std.proofs.lemmas.Bool.{ltb-true}
-use Rattle.call_stages.specs.spk_nums.specs.declared.kinds.FrameKind.{FrameKind}
-use Rattle.call_stages.specs.spk_nums.specs.declared.kinds.FrameKind.TheVariants as frame_kind
-use Rattle.call_stages.specs.spk_nums.specs.declared.kinds.Obj.{Obj}
-use Rattle.call_stages.specs.spk_nums.specs.declared.kinds.Obj.TheVariants.{Blank}
-use Rattle.call_stages.specs.spk_nums.specs.declared.steps.StageEnd.{StageEnd}
-use Rattle.call_stages.specs.spk_nums.specs.declared.steps.StageEnd.TheVariants as ends
-use Rattle.call_stages.specs.frame_words.specs.Frame.{frame_of_word}
-use Rattle.call_stages.specs.frame_words.specs.declared.frame_word.FrameWord.{FrameWord}
-use Rattle.call_stages.specs.frame_words.specs.Live.{live_of_word}
-use Rattle.call_stages.specs.frame_words.specs.declared.live_word.LiveWord.{LiveWord}
-use Rattle.call_stages.specs.frame_words.specs.declared.live_word.LiveWord.TheVariants as live
-use Rattle.call_stages.specs.stage_quiet.specs.Scan.{QuietFits, quiet_scan, quiet_after, quiet_end}
-use Rattle.call_stages.specs.stage_quiet.specs.declared.quiet.Quiet.{Quiet}
-use Rattle.call_stages.specs.act_states.specs.Refusals.{refusal_of}
-use Rattle.call_stages.specs.act_states.specs.Scans.{IsUnpaged, ScanFits, left_of_scan}
-use Rattle.call_stages.specs.act_states.specs.WorkSteps.{refuse}
-use Rattle.call_stages.specs.act_states.specs.Comps.{CompMakingFits, CompAtFits, comp_dues, comp_left, comp_undo, comp_goes, comp_refuses}
-use Rattle.call_stages.specs.act_states.specs.Comps.{comp_meets, comp_meets_object, comp_meets_blank, number_met, number_shown}
-use Rattle.call_stages.specs.act_states.specs.Comps.{takes_number, scans_number, number_scanned, closes_number, comp_published}
-use Rattle.call_stages.specs.act_states.specs.Acts.{dues, next_work, comp_marks, took_comp_at}
-use Rattle.call_stages.specs.act_states.specs.declared.comps.CompAt.{CompAt}
+use Rattle.act_fits.proofs.Common.{◌≡◌, ℕ, ◌+◌, ◌-◌, ◌<◌, ◌≤◌, ◌==◌, nat_lt, Bool, true, false, if◌then◌else◌, length, Option, Some, None}
+use Rattle.act_fits.proofs.Common.{IfSome, refl, sym, subst, arith, slice_get, ltb-true, FrameKind, Obj, StageEnd, frame_of_word, FrameWord}
+use Rattle.act_fits.proofs.Common.{live_of_word, LiveWord, QuietFits, quiet_scan, quiet_after, quiet_end, Quiet, refusal_of, IsUnpaged}
+use Rattle.act_fits.proofs.Common.{ScanFits, left_of_scan, refuse, comp_dues, dues, next_work, CompAt, CompMaking, Own, Refusal, ActType}
+use Rattle.act_fits.proofs.Common.{comp_act as MakeComp, Tail, Act, Goes, Refuses, ActiveCall, landed, tail_left, TailFits, steps_later}
+use Rattle.call_stages.specs.act_states.specs.{CompMakingFits, CompAtFits, comp_undo, comp_goes, comp_refuses, comp_meets}
+use Rattle.call_stages.specs.act_states.specs.{comp_meets_object, comp_meets_blank, number_met, number_shown, takes_number, scans_number}
+use Rattle.call_stages.specs.act_states.specs.{number_scanned, closes_number, comp_published, comp_marks, took_comp_at}
 use Rattle.call_stages.specs.act_states.specs.declared.comps.CompAt.TheVariants.{Load, Mark, LoadLive, Scan, Close, Store, Fill}
-use Rattle.call_stages.specs.act_states.specs.declared.comps.CompMaking.{CompMaking}
-use Rattle.call_stages.specs.act_states.specs.declared.comps.LastEpoch.{LastEpoch}
-use Rattle.call_stages.specs.act_states.specs.declared.own.Own.{Own}
-use Rattle.call_stages.specs.act_states.specs.declared.refusals.Refusal.{Refusal}
-use Rattle.call_stages.specs.act_states.specs.declared.refusals.Refusal.TheVariants as refusal
-use Rattle.call_stages.specs.act_states.specs.declared.work.Act.{Act as ActType}
-use Rattle.call_stages.specs.act_states.specs.declared.work.Act.TheVariants.{MakeComp}
-use Rattle.call_stages.specs.act_states.specs.declared.work.Tail.{Tail}
 use Rattle.call_stages.specs.act_states.specs.declared.work.Tail.TheVariants.{Unmark, StoreLive}
-use Rattle.call_stages.specs.act_states.specs.declared.work.Work.TheVariants.{Act}
-use Rattle.call_stages.specs.act_states.specs.declared.work.WorkStep.TheVariants.{Goes, Refuses}
-use Rattle.call_stages.specs.declared.stages.ActiveCall.{ActiveCall}
-use Rattle.call_stages.specs.Steps.{landed}
-use Rattle.call_stages.specs.Tails.{tail_left}
-use Rattle.call_stages.specs.Fits.{TailFits, steps_later, work_left}
-use Rattle.act_fits.proofs.StepsFit.{ScanMay, scan_may}
-use Rattle.act_fits.proofs.DuesFit.{work_next, counts_next}
-use Rattle.act_fits.proofs.LandsFit.{TookFits, Facts, landed_fits}
-use Rattle.act_fits.proofs.ScansFit.{scan_goes, scan_left, scan_unpaged, still_unpaged}
+use Rattle.act_fits.proofs.{StepsFit.ScanMay, StepsFit.scan_may, DuesFit.work_next, DuesFit.counts_next, LandsFit.TookFits, LandsFit.Facts}
+use Rattle.act_fits.proofs.{LandsFit.landed_fits, ScansFit.scan_goes, ScansFit.scan_left, ScansFit.scan_unpaged, ScansFit.still_unpaged}
+use Rattle.{act_fits.proofs.Common.work_left, call_stages.specs.spk_nums.specs.declared.kinds.Obj.TheVariants.Blank}
+use Rattle.{call_stages.specs.act_states.specs.Comps.comp_left, call_stages.specs.act_states.specs.declared.comps.LastEpoch.LastEpoch}
 
 -- What a refused call has still to store fits, and is no more than was to come.
 pub comp_undone : (own : Own) (m : CompMaking) (at : CompAt) → CompMakingFits own.layout m
@@ -99,12 +69,12 @@ module _ (own : Own) (a : ActiveCall) (facts : Facts own a) (room : own.made < o
     takes word last waits some = by (nat_lt last.epoch m.epochs) refl
       where
         by : (b : Bool) → nat_lt last.epoch m.epochs ≡ b → TookFits own (2 + length a.counts + comp_left m.cores at) a
-            (landed a (if b then comp_goes m (Close word last) else comp_refuses m word refusal.EpochsSpent))
+            (landed a (if b then comp_goes m (Close word last) else comp_refuses m word Refusal.EpochsSpent))
         by true is =
             let low = ltb-true last.epoch m.epochs is in
             let most = fits.epochs in
             goes (Close word last) (omega (arith, low, most)) waits some
-        by false is = gives word refusal.EpochsSpent (omega (arith, some))
+        by false is = gives word Refusal.EpochsSpent (omega (arith, some))
 
   load_fits : (m : CompMaking) (found : ℕ) → CompMakingFits own.layout (record m { at = Load }) → length a.counts ≡ 0
       → TookFits own (2 + length a.counts + (18 + m.cores)) a (landed a (comp_meets m found (frame_of_word found)))
@@ -112,17 +82,17 @@ module _ (own : Own) (a : ActiveCall) (facts : Facts own a) (room : own.made < o
     where
       blank : (o : Obj) → TookFits own (2 + length a.counts + (18 + m.cores)) a (landed a (comp_meets_object m found o))
       blank Blank = goes m Load fits (Mark found) tt waits (omega arith)
-      blank o = refused _ refusal.FrameKind (omega arith)
+      blank o = refused _ Refusal.FrameKind (omega arith)
 
       by : (k : FrameKind) (o : Obj) (mark : Option ℕ) → TookFits own (2 + length a.counts + (18 + m.cores)) a
           (landed a (comp_meets_blank m found k o mark))
-      by k o (Some d) = refused _ (refusal.Busy d) (omega arith)
-      by frame_kind.Untyped o None = refused _ refusal.FrameKind (omega arith)
-      by frame_kind.User o None = refused _ refusal.FrameKind (omega arith)
-      by frame_kind.Kernel o None = blank o
+      by k o (Some d) = refused _ (Refusal.Busy d) (omega arith)
+      by FrameKind.Untyped o None = refused _ Refusal.FrameKind (omega arith)
+      by FrameKind.User o None = refused _ Refusal.FrameKind (omega arith)
+      by FrameKind.Kernel o None = blank o
 
       met : (o : Option FrameWord) → TookFits own (2 + length a.counts + (18 + m.cores)) a (landed a (comp_meets m found o))
-      met None = refused _ refusal.Raced (omega arith)
+      met None = refused _ Refusal.Raced (omega arith)
       met (Some v) = by v.kind v.object v.mark
 
   mark_fits : (m : CompMaking) (word : ℕ) (equal : Bool) → CompMakingFits own.layout (record m { at = Mark word })
@@ -138,7 +108,7 @@ module _ (own : Own) (a : ActiveCall) (facts : Facts own a) (room : own.made < o
             (let fewer = next.1 in omega (arith, fewer)),
         counts_next m.core 0 a.counts act (slice_get (dues act) 0) refl (sym waits) (omega arith),
       ) (omega arith)
-  mark_fits m word false fits waits = refused _ refusal.Raced (omega arith)
+  mark_fits m word false fits waits = refused _ Refusal.Raced (omega arith)
 
   live_fits : (m : CompMaking) (word found : ℕ) → CompMakingFits own.layout (record m { at = LoadLive word }) → length a.counts ≡ 3
       → TookFits own (2 + length a.counts + (7 + m.cores)) a (landed a (number_met m word found (live_of_word found)))
@@ -156,16 +126,16 @@ module _ (own : Own) (a : ActiveCall) (facts : Facts own a) (room : own.made < o
           goes m (LoadLive word) fits (Scan word last q) (h.0, h.1, alone) waits (omega (arith, few))
 
       shown : (v : LiveWord) → TookFits own (2 + length a.counts + (7 + m.cores)) a (landed a (number_shown m word found v))
-      shown live.Free = takes m (LoadLive word) fits word (record { word = found; epoch = 0 }) waits (omega (arith, some))
-      shown (live.Live epoch f) = gives m (LoadLive word) fits word refusal.Occupied (omega arith)
-      shown (live.Closing epoch by) = gives m (LoadLive word) fits word (refusal.Busy by) (omega arith)
-      shown (live.Dead epoch stamp) =
+      shown LiveWord.Free = takes m (LoadLive word) fits word (record { word = found; epoch = 0 }) waits (omega (arith, some))
+      shown (LiveWord.Live epoch f) = gives m (LoadLive word) fits word Refusal.Occupied (omega arith)
+      shown (LiveWord.Closing epoch by) = gives m (LoadLive word) fits word (Refusal.Busy by) (omega arith)
+      shown (LiveWord.Dead epoch stamp) =
           scan (record { word = found; epoch = epoch }) (quiet_scan stamp m.core m.cores false)
           (subst (λ (n : ℕ). ScanMay own.layout false (quiet_scan stamp m.core n false)) (sym fits.cores)
           (scan_may own.layout stamp m.core false fits.core)) (scan_unpaged stamp m.core m.cores)
 
       by : (o : Option LiveWord) → TookFits own (2 + length a.counts + (7 + m.cores)) a (landed a (number_met m word found o))
-      by None = gives m (LoadLive word) fits word refusal.Raced (omega arith)
+      by None = gives m (LoadLive word) fits word Refusal.Raced (omega arith)
       by (Some v) = shown v
 
   number_fits : (m : CompMaking) (word : ℕ) (last : LastEpoch) (q : Quiet) (found : ℕ)
@@ -174,7 +144,7 @@ module _ (own : Own) (a : ActiveCall) (facts : Facts own a) (room : own.made < o
       (landed a (number_scanned m word last (quiet_after m.cores q found) (quiet_end m.cores q found)))
   number_fits m word last q found fits waits =
       by (quiet_after m.cores q found) (quiet_end m.cores q found) (still_unpaged m.cores q found fits.at.2)
-      (subst (λ (n : ℕ). quiet_end n q found ≡ ends.Going
+      (subst (λ (n : ℕ). quiet_end n q found ≡ StageEnd.Going
       → QuietFits own.layout (quiet_after n q found) × ScanFits own.layout (quiet_after n q found)
       × (left_of_scan n (quiet_after n q found) < left_of_scan n q)) (sym fits.cores)
       (λ going. scan_goes own.layout q found fits.at.0 fits.at.1 going))
@@ -182,17 +152,17 @@ module _ (own : Own) (a : ActiveCall) (facts : Facts own a) (room : own.made < o
       some : 1 ≤ left_of_scan m.cores q
       some = subst (λ (n : ℕ). 1 ≤ left_of_scan n q) (sym fits.cores) (scan_left own.layout q fits.at.0 fits.at.1)
 
-      by : (next : Quiet) (end : StageEnd (Unit {0})) → (end ≡ ends.Going → IsUnpaged next)
-          → (end ≡ ends.Going → QuietFits own.layout next × ScanFits own.layout next
+      by : (next : Quiet) (end : StageEnd (Unit {0})) → (end ≡ StageEnd.Going → IsUnpaged next)
+          → (end ≡ StageEnd.Going → QuietFits own.layout next × ScanFits own.layout next
           × (left_of_scan m.cores next < left_of_scan m.cores q))
           → TookFits own (2 + length a.counts + (left_of_scan m.cores q + 7)) a (landed a (number_scanned m word last next end))
-      by next ends.Going alone on =
+      by next StageEnd.Going alone on =
           let h = on refl in
           let fewer = h.2 in
           goes m (Scan word last q) fits (Scan word last next) (h.0, h.1, alone refl) waits (omega (arith, fewer))
-      by next (ends.Decided r) alone on = gives m (Scan word last q) fits word (refusal_of r) (omega (arith, some))
-      by next (ends.Done x) alone on = takes m (Scan word last q) fits word last waits (omega (arith, some))
-      by next (ends.Refuse r) alone on = gives m (Scan word last q) fits word (refusal_of r) (omega (arith, some))
+      by next (StageEnd.Decided r) alone on = gives m (Scan word last q) fits word (refusal_of r) (omega (arith, some))
+      by next (StageEnd.Done x) alone on = takes m (Scan word last q) fits word last waits (omega (arith, some))
+      by next (StageEnd.Refuse r) alone on = gives m (Scan word last q) fits word (refusal_of r) (omega (arith, some))
 
   pub comp_fits : (m : CompMaking) (at : CompAt) (found : ℕ) → CompMakingFits own.layout (record m { at = at })
       → length a.counts ≡ length (comp_dues m at)
@@ -205,7 +175,7 @@ module _ (own : Own) (a : ActiveCall) (facts : Facts own a) (room : own.made < o
     where
       by : (equal : Bool) → TookFits own (2 + length a.counts + 7) a (landed a (closes_number m word last equal))
       by true = goes m (Close word last) fits (Store word last 0) (fits.at, omega arith) waits (omega arith)
-      by false = gives m (Close word last) fits word refusal.Raced (omega arith)
+      by false = gives m (Close word last) fits word Refusal.Raced (omega arith)
   comp_fits m (Store word last entry) found fits waits = by (nat_lt entry 2) refl
     where
       by : (more : Bool) → nat_lt entry 2 ≡ more → TookFits own (2 + length a.counts + (2 - entry + 4)) a
@@ -219,4 +189,4 @@ module _ (own : Own) (a : ActiveCall) (facts : Facts own a) (room : own.made < o
       by : (equal : Bool) → TookFits own (2 + length a.counts + 3) a (landed a (comp_published m word last equal))
       by true = landed_fits own a a refl refl facts.found facts.acquired room 2 _ (comp_published m word last true)
           (omega arith, (fits.number, fits.frame)) (omega arith)
-      by false = undone _ refusal.Raced (StoreLive m.number last.word m.frame word) (fits.number, fits.frame) (omega arith)
+      by false = undone _ Refusal.Raced (StoreLive m.number last.word m.frame word) (fits.number, fits.frame) (omega arith)

@@ -1,61 +1,18 @@
 -- What fits: where a step of the work leads to, what a decision changes, and the counts that an act changes.
-use Rattle.std.proofs.lemmas.Option.{slice_get_within}
-use Rattle.std.proofs.Common.{◌≡◌, ℕ, zero, suc, ℤ, pos, negsuc, ◌+◌, ◌*◌}
-use Rattle.std.proofs.Common.{◌-◌, slice_get, ◌<◌, ◌≤◌, Bool, true, false, ◌==◌, List, [], ◌∷◌}
-use Rattle.std.proofs.Common.{length, Option, Some, None, IfSome, refl, subst, arith}
-use Rattle.call_stages.specs.stage_pins.specs.declared.held.Acquired.{Acquired}
-use Rattle.call_stages.specs.spk_nums.specs.Capability.{cap_of}
-use Rattle.call_stages.specs.spk_nums.specs.declared.kinds.Kind.{Kind}
-use Rattle.call_stages.specs.spk_nums.specs.declared.kinds.Kind.TheVariants.{Range}
-use Rattle.call_stages.specs.word_map.specs.Places.{Shape}
-use Rattle.call_stages.specs.stage_look.specs.Shown.{CapNames}
-use Rattle.call_stages.specs.act_states.specs.declared.objects.NewObject.{NewObject}
-use Rattle.call_stages.specs.act_states.specs.declared.objects.NewObject.TheVariants.{Table as NewTable, Leaf as NewLeaf, Pages as NewPages}
-use Rattle.call_stages.specs.act_states.specs.declared.objects.NewObject.TheVariants.{Pleaf as NewPleaf, Thread as NewThread}
-use Rattle.call_stages.specs.act_states.specs.declared.objects.NewObject.TheVariants.{Tcap as NewTcap}
-use Rattle.call_stages.specs.act_states.specs.Objects.{object_dues, counts_of, last_word, NamesFit}
-use Rattle.call_stages.specs.act_states.specs.declared.makings.MakingAt.{MakingAt}
-use Rattle.call_stages.specs.act_states.specs.declared.makings.MakingAt.TheVariants.{Load as make_load, Mark, Store, Fill as fill_at}
-use Rattle.call_stages.specs.act_states.specs.declared.kills.KillingAt.{KillingAt}
-use Rattle.call_stages.specs.act_states.specs.declared.kills.KillingAt.TheVariants.{LoadComp, LoadLive, Close as kill_close}
-use Rattle.call_stages.specs.act_states.specs.declared.kills.KillingAt.TheVariants.{Draw as kill_draw}
-use Rattle.call_stages.specs.act_states.specs.declared.own.OwnChange.{OwnChange}
-use Rattle.call_stages.specs.act_states.specs.declared.own.OwnChange.TheVariants.{Ticks, GivesBack, Works, Empties, Switches, Caches}
-use Rattle.call_stages.specs.act_states.specs.declared.invocations.InvokingAt.{InvokingAt}
-use Rattle.call_stages.specs.act_states.specs.declared.invocations.InvokingAt.TheVariants as invoking
-use Rattle.call_stages.specs.act_states.specs.declared.invocations.ReturningAt.{ReturningAt}
-use Rattle.call_stages.specs.act_states.specs.declared.invocations.ReturningAt.TheVariants as returning
-use Rattle.call_stages.specs.act_states.specs.declared.work.Act.{Act as ActType}
-use Rattle.call_stages.specs.act_states.specs.declared.work.Act.TheVariants.{Fill as fill_act, Remove as remove_act, Retype as type_act}
-use Rattle.call_stages.specs.act_states.specs.declared.work.Act.TheVariants.{Make as make_act, Outside, Tick as tick_act, Kill as kill_act}
-use Rattle.call_stages.specs.act_states.specs.declared.work.Act.TheVariants.{Flush as flush_act, Untype as untype_act, Map as map_act}
-use Rattle.call_stages.specs.act_states.specs.declared.work.Act.TheVariants.{MakeComp as comp_act, Invoke as invoke_act}
-use Rattle.call_stages.specs.act_states.specs.declared.work.Act.TheVariants.{Return as return_act}
-use Rattle.call_stages.specs.act_states.specs.declared.work.Act.TheVariants.{Switch as switch_act, Touch as touch_act, Share as share_act}
-use Rattle.call_stages.specs.act_states.specs.declared.work.Act.TheVariants.{Refill as refill_act}
-use Rattle.call_stages.specs.act_states.specs.declared.work.WorkStep.{WorkStep}
-use Rattle.call_stages.specs.act_states.specs.declared.work.WorkStep.TheVariants.{Goes, Acquires, Refuses, Answers, Changes}
-use Rattle.call_stages.specs.act_states.specs.declared.work.Due.{Due}
-use Rattle.call_stages.specs.act_states.specs.Acts.{ActFits, act_left, cap_dues, dues, acquires}
-use Rattle.call_stages.specs.act_states.specs.Acts.{made_dues}
-use Rattle.call_stages.specs.act_states.specs.Acts.{killing_dues}
-use Rattle.call_stages.specs.act_states.specs.Acts.{invoking_dues}
-use Rattle.call_stages.specs.act_states.specs.Acts.{returning_dues}
-use Rattle.call_stages.specs.act_states.specs.declared.untypings.UntypingAt.{UntypingAt}
-use Rattle.call_stages.specs.act_states.specs.declared.untypings.UntypingAt.TheVariants as untype
-use Rattle.call_stages.specs.act_states.specs.Untypings.{UntypingAtFits, released_dues, untyping_dues}
-use Rattle.call_stages.specs.act_states.specs.Comps.{comp_dues}
-use Rattle.call_stages.specs.act_states.specs.declared.switches.Switching.{Switching}
-use Rattle.call_stages.specs.act_states.specs.declared.switches.SwitchAt.{SwitchAt}
-use Rattle.call_stages.specs.act_states.specs.declared.switches.SwitchAt.TheVariants as switch_at
-use Rattle.call_stages.specs.act_states.specs.Switches.{SwitchAtFits, SwitchingFits, tcap_dues, switch_due_list, switching_dues}
-use Rattle.call_stages.specs.stage_thread.specs.declared.claim.Claimed.{Claimed}
-use Rattle.call_stages.specs.act_states.specs.declared.comps.CompAt.{CompAt}
-use Rattle.call_stages.specs.act_states.specs.declared.comps.CompAt.TheVariants as comp_at_as
-use Rattle.call_stages.specs.act_states.specs.declared.comps.CompMaking.{CompMaking}
-use Rattle.call_stages.specs.Tails.{tail_left}
-use Rattle.call_stages.specs.Fits.{WorkFits, TailFits, CountsWait}
-use Rattle.call_stages.specs.Fits.{work_left}
+use Rattle.act_fits.proofs.Common.{◌≡◌, ℕ, suc, ℤ, pos, negsuc, ◌+◌, ◌*◌, ◌-◌, slice_get, ◌<◌, ◌≤◌, Bool, true, false, ◌==◌, List, [], ◌∷◌}
+use Rattle.act_fits.proofs.Common.{length, Option, Some, None, IfSome, refl, subst, arith, Acquired, cap_of, Kind, Range, Shape, CapNames}
+use Rattle.act_fits.proofs.Common.{NewObject, NewTable, NewLeaf, NewPages, NewPleaf, NewThread, NewTcap, object_dues, counts_of, last_word}
+use Rattle.act_fits.proofs.Common.{MakingAt, make_load, Mark, Store, fill_at, KillingAt, LoadComp, LoadLive, kill_close, kill_draw}
+use Rattle.act_fits.proofs.Common.{GivesBack, Caches, InvokingAt, ReturningAt, ActType, fill_act, remove_act, type_act, make_act, Outside}
+use Rattle.act_fits.proofs.Common.{tick_act, kill_act, flush_act, untype_act, map_act, comp_act, invoke_act, return_act, switch_act}
+use Rattle.act_fits.proofs.Common.{touch_act, share_act, refill_act, WorkStep, Goes, Acquires, Refuses, Answers, Changes, Due, ActFits}
+use Rattle.act_fits.proofs.Common.{act_left, cap_dues, dues, made_dues, killing_dues, invoking_dues, returning_dues, UntypingAt}
+use Rattle.act_fits.proofs.Common.{released_dues, untyping_dues, comp_dues, Switching, SwitchAt, SwitchAtFits, SwitchingFits, tcap_dues}
+use Rattle.act_fits.proofs.Common.{switch_due_list, switching_dues, Claimed, CompAt, CompMaking, tail_left, TailFits, work_left}
+use Rattle.call_stages.specs.act_states.specs.{zero, NamesFit, acquires}
+use Rattle.call_stages.specs.act_states.specs.declared.own.OwnChange.TheVariants.{Ticks, Works, Empties, Switches}
+use Rattle.{std.proofs.lemmas.Option.slice_get_within, call_stages.specs.act_states.specs.declared.own.OwnChange.OwnChange}
+use Rattle.{call_stages.specs.act_states.specs.Untypings.UntypingAtFits, call_stages.specs.Fits.WorkFits, call_stages.specs.Fits.CountsWait}
 
 -- what a decision changes of what its core has of its own is of the machine
 abbrev pub ChangeFits : Shape → OwnChange → Type 0
@@ -92,16 +49,16 @@ object_count (NewThread comp) f = refl
 object_count (NewTcap sched quality) f = refl
 
 pub invoking_one : (f : ℕ) (at : InvokingAt) → length (invoking_dues f at) ≤ 1
-invoking_one f invoking.LoadTable = omega arith
-invoking_one f (invoking.LoadPages table) = omega arith
-invoking_one f (invoking.LoadComp table pages) = omega arith
-invoking_one f (invoking.LoadLive table pages life) = omega arith
+invoking_one f InvokingAt.LoadTable = omega arith
+invoking_one f (InvokingAt.LoadPages table) = omega arith
+invoking_one f (InvokingAt.LoadComp table pages) = omega arith
+invoking_one f (InvokingAt.LoadLive table pages life) = omega arith
 
 pub returning_one : (f : ℕ) (at : ReturningAt) → length (returning_dues f at) ≤ 1
-returning_one f returning.LoadBelow = omega arith
-returning_one f (returning.LoadTable comp) = omega arith
-returning_one f (returning.LoadPages comp table) = omega arith
-returning_one f (returning.Draw comp table pages) = omega arith
+returning_one f ReturningAt.LoadBelow = omega arith
+returning_one f (ReturningAt.LoadTable comp) = omega arith
+returning_one f (ReturningAt.LoadPages comp table) = omega arith
+returning_one f (ReturningAt.Draw comp table pages) = omega arith
 
 pub killing_one : (f : ℕ) (at : KillingAt) → length (killing_dues f at) ≤ 1
 killing_one f LoadComp = omega arith
@@ -110,13 +67,13 @@ killing_one f (kill_close life word) = omega arith
 killing_one f (kill_draw life word) = omega arith
 
 pub comp_few : (m : CompMaking) (at : CompAt) → length (comp_dues m at) ≤ 3
-comp_few m comp_at_as.Load = omega arith
-comp_few m (comp_at_as.Mark word) = omega arith
-comp_few m (comp_at_as.LoadLive word) = omega arith
-comp_few m (comp_at_as.Scan word last q) = omega arith
-comp_few m (comp_at_as.Close word last) = omega arith
-comp_few m (comp_at_as.Store word last entry) = omega arith
-comp_few m (comp_at_as.Fill word last) = omega arith
+comp_few m CompAt.Load = omega arith
+comp_few m (CompAt.Mark word) = omega arith
+comp_few m (CompAt.LoadLive word) = omega arith
+comp_few m (CompAt.Scan word last q) = omega arith
+comp_few m (CompAt.Close word last) = omega arith
+comp_few m (CompAt.Store word last entry) = omega arith
+comp_few m (CompAt.Fill word last) = omega arith
 
 pub counts_few : (object : NewObject) → counts_of object ≤ 4
 counts_few NewTable = omega arith
@@ -147,23 +104,23 @@ released_few (Some f) None = omega arith
 released_few (Some f) (Some g) = omega arith
 
 pub untyped_few : (at : UntypingAt) → length (untyping_dues at) ≤ 2
-untyped_few untype.Load = omega arith
-untyped_few (untype.Mark word v) = omega arith
-untyped_few (untype.Sweep word w) = omega arith
-untyped_few (untype.Draw word w) = released_few w.owned.first w.owned.second
+untyped_few UntypingAt.Load = omega arith
+untyped_few (UntypingAt.Mark word v) = omega arith
+untyped_few (UntypingAt.Sweep word w) = omega arith
+untyped_few (UntypingAt.Draw word w) = released_few w.owned.first w.owned.second
 
 pub tcaps_few : (same : Bool) (q old : ℕ) → length (tcap_dues same q old) ≤ 2
 tcaps_few true q old = omega arith
 tcaps_few false q old = omega arith
 
 pub switching_few : (m : Switching) (at : SwitchAt) → length (switching_dues m at) ≤ 4
-switching_few m (switch_at.Claim claim) = omega arith
-switching_few m (switch_at.LoadTable to) = omega arith
-switching_few m (switch_at.LoadPages to table) = omega arith
-switching_few m (switch_at.Leave to table pages) =
+switching_few m (SwitchAt.Claim claim) = omega arith
+switching_few m (SwitchAt.LoadTable to) = omega arith
+switching_few m (SwitchAt.LoadPages to table) = omega arith
+switching_few m (SwitchAt.Leave to table pages) =
     let two : length (tcap_dues (m.tcap == m.old_tcap) m.tcap m.old_tcap) ≤ 2 = tcaps_few (m.tcap == m.old_tcap) m.tcap m.old_tcap in
     omega (arith, two)
-switching_few m (switch_at.Draw to table pages) =
+switching_few m (SwitchAt.Draw to table pages) =
     let two : length (tcap_dues (m.tcap == m.old_tcap) m.tcap m.old_tcap) ≤ 2 = tcaps_few (m.tcap == m.old_tcap) m.tcap m.old_tcap in
     omega (arith, two)
 
@@ -242,16 +199,16 @@ released_fit s (Some f) (Some g) (suc zero) first second = second
 released_fit s (Some f) (Some g) (suc (suc n)) first second = tt
 
 pub untyped_fit : (s : Shape) (at : UntypingAt) (n : ℕ) → UntypingAtFits s at → DueFits s (slice_get (untyping_dues at) n)
-untyped_fit s untype.Load zero fits = tt
-untyped_fit s untype.Load (suc n) fits = tt
-untyped_fit s (untype.Mark word v) zero fits = tt
-untyped_fit s (untype.Mark word v) (suc n) fits = tt
-untyped_fit s (untype.Sweep word w) zero fits = tt
-untyped_fit s (untype.Sweep word w) (suc n) fits = tt
-untyped_fit s (untype.Draw word w) n fits = released_fit s w.owned.first w.owned.second n fits.owned.first fits.owned.second
+untyped_fit s UntypingAt.Load zero fits = tt
+untyped_fit s UntypingAt.Load (suc n) fits = tt
+untyped_fit s (UntypingAt.Mark word v) zero fits = tt
+untyped_fit s (UntypingAt.Mark word v) (suc n) fits = tt
+untyped_fit s (UntypingAt.Sweep word w) zero fits = tt
+untyped_fit s (UntypingAt.Sweep word w) (suc n) fits = tt
+untyped_fit s (UntypingAt.Draw word w) n fits = released_fit s w.owned.first w.owned.second n fits.owned.first fits.owned.second
 
 pub three_fit : (s : Shape) (m : CompMaking) (n : ℕ) → m.frame < s.frames → m.table < s.frames → m.pages < s.frames
-    → DueFits s (slice_get (comp_dues m (comp_at_as.LoadLive 0)) n)
+    → DueFits s (slice_get (comp_dues m (CompAt.LoadLive 0)) n)
 three_fit s m zero frame table pages = frame
 three_fit s m (suc zero) frame table pages = table
 three_fit s m (suc (suc zero)) frame table pages = pages
@@ -259,35 +216,35 @@ three_fit s m (suc (suc (suc n))) frame table pages = tt
 
 pub comp_fit : (s : Shape) (m : CompMaking) (at : CompAt) (n : ℕ) → m.frame < s.frames → m.table < s.frames → m.pages < s.frames
     → DueFits s (slice_get (comp_dues m at) n)
-comp_fit s m comp_at_as.Load zero frame table pages = tt
-comp_fit s m comp_at_as.Load (suc n) frame table pages = tt
-comp_fit s m (comp_at_as.Mark word) zero frame table pages = tt
-comp_fit s m (comp_at_as.Mark word) (suc n) frame table pages = tt
-comp_fit s m (comp_at_as.LoadLive word) n frame table pages = three_fit s m n frame table pages
-comp_fit s m (comp_at_as.Scan word last q) n frame table pages = three_fit s m n frame table pages
-comp_fit s m (comp_at_as.Close word last) n frame table pages = three_fit s m n frame table pages
-comp_fit s m (comp_at_as.Store word last entry) n frame table pages = three_fit s m n frame table pages
-comp_fit s m (comp_at_as.Fill word last) n frame table pages = three_fit s m n frame table pages
+comp_fit s m CompAt.Load zero frame table pages = tt
+comp_fit s m CompAt.Load (suc n) frame table pages = tt
+comp_fit s m (CompAt.Mark word) zero frame table pages = tt
+comp_fit s m (CompAt.Mark word) (suc n) frame table pages = tt
+comp_fit s m (CompAt.LoadLive word) n frame table pages = three_fit s m n frame table pages
+comp_fit s m (CompAt.Scan word last q) n frame table pages = three_fit s m n frame table pages
+comp_fit s m (CompAt.Close word last) n frame table pages = three_fit s m n frame table pages
+comp_fit s m (CompAt.Store word last entry) n frame table pages = three_fit s m n frame table pages
+comp_fit s m (CompAt.Fill word last) n frame table pages = three_fit s m n frame table pages
 
 pub invoking_fit : (s : Shape) (f : ℕ) (at : InvokingAt) (n : ℕ) → f < s.frames → DueFits s (slice_get (invoking_dues f at) n)
-invoking_fit s f invoking.LoadTable zero below = tt
-invoking_fit s f invoking.LoadTable (suc n) below = tt
-invoking_fit s f (invoking.LoadPages table) zero below = tt
-invoking_fit s f (invoking.LoadPages table) (suc n) below = tt
-invoking_fit s f (invoking.LoadComp table pages) zero below = tt
-invoking_fit s f (invoking.LoadComp table pages) (suc n) below = tt
-invoking_fit s f (invoking.LoadLive table pages life) zero below = below
-invoking_fit s f (invoking.LoadLive table pages life) (suc n) below = tt
+invoking_fit s f InvokingAt.LoadTable zero below = tt
+invoking_fit s f InvokingAt.LoadTable (suc n) below = tt
+invoking_fit s f (InvokingAt.LoadPages table) zero below = tt
+invoking_fit s f (InvokingAt.LoadPages table) (suc n) below = tt
+invoking_fit s f (InvokingAt.LoadComp table pages) zero below = tt
+invoking_fit s f (InvokingAt.LoadComp table pages) (suc n) below = tt
+invoking_fit s f (InvokingAt.LoadLive table pages life) zero below = below
+invoking_fit s f (InvokingAt.LoadLive table pages life) (suc n) below = tt
 
 pub returning_fit : (s : Shape) (f : ℕ) (at : ReturningAt) (n : ℕ) → f < s.frames → DueFits s (slice_get (returning_dues f at) n)
-returning_fit s f returning.LoadBelow zero below = tt
-returning_fit s f returning.LoadBelow (suc n) below = tt
-returning_fit s f (returning.LoadTable comp) zero below = tt
-returning_fit s f (returning.LoadTable comp) (suc n) below = tt
-returning_fit s f (returning.LoadPages comp table) zero below = tt
-returning_fit s f (returning.LoadPages comp table) (suc n) below = tt
-returning_fit s f (returning.Draw comp table pages) zero below = below
-returning_fit s f (returning.Draw comp table pages) (suc n) below = tt
+returning_fit s f ReturningAt.LoadBelow zero below = tt
+returning_fit s f ReturningAt.LoadBelow (suc n) below = tt
+returning_fit s f (ReturningAt.LoadTable comp) zero below = tt
+returning_fit s f (ReturningAt.LoadTable comp) (suc n) below = tt
+returning_fit s f (ReturningAt.LoadPages comp table) zero below = tt
+returning_fit s f (ReturningAt.LoadPages comp table) (suc n) below = tt
+returning_fit s f (ReturningAt.Draw comp table pages) zero below = below
+returning_fit s f (ReturningAt.Draw comp table pages) (suc n) below = tt
 
 pub tcaps_fit : (s : Shape) (same : Bool) (q old n : ℕ) → q < s.frames → old < s.frames → DueFits s (slice_get (tcap_dues same q old) n)
 tcaps_fit s true q old zero to from = tt
@@ -305,14 +262,14 @@ switch_list_fits s m to (suc (suc n)) fits below =
 
 pub switching_fit : (s : Shape) (m : Switching) (at : SwitchAt) (n : ℕ) → SwitchingFits s m → SwitchAtFits s at
     → DueFits s (slice_get (switching_dues m at) n)
-switching_fit s m (switch_at.Claim claim) zero fits there = tt
-switching_fit s m (switch_at.Claim claim) (suc n) fits there = tt
-switching_fit s m (switch_at.LoadTable to) zero fits there = tt
-switching_fit s m (switch_at.LoadTable to) (suc n) fits there = tt
-switching_fit s m (switch_at.LoadPages to table) zero fits there = tt
-switching_fit s m (switch_at.LoadPages to table) (suc n) fits there = tt
-switching_fit s m (switch_at.Leave to table pages) n fits there = switch_list_fits s m to n fits there.0.thread
-switching_fit s m (switch_at.Draw to table pages) n fits there = switch_list_fits s m to n fits there.0.thread
+switching_fit s m (SwitchAt.Claim claim) zero fits there = tt
+switching_fit s m (SwitchAt.Claim claim) (suc n) fits there = tt
+switching_fit s m (SwitchAt.LoadTable to) zero fits there = tt
+switching_fit s m (SwitchAt.LoadTable to) (suc n) fits there = tt
+switching_fit s m (SwitchAt.LoadPages to table) zero fits there = tt
+switching_fit s m (SwitchAt.LoadPages to table) (suc n) fits there = tt
+switching_fit s m (SwitchAt.Leave to table pages) n fits there = switch_list_fits s m to n fits there.0.thread
+switching_fit s m (SwitchAt.Draw to table pages) n fits there = switch_list_fits s m to n fits there.0.thread
 
 pub dues_fit : (s : Shape) (act : ActType) (n : ℕ) → ActFits s act → DueFits s (slice_get (dues act) n)
 dues_fit s (fill_act fill) n fits = cap_fit s fill.cap.kind fill.cap.frame fill.cap.arg (pos 1) n fits.cap

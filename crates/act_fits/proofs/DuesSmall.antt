@@ -1,47 +1,13 @@
 -- No act changes a count by more than two.
-use Rattle.std.proofs.Common.{◌≡◌, ℕ, ℤ, pos, negsuc, ◌≤◌, ◌==◌, Bool, true, false, List, [], ◌∷◌, ◌++◌, map, Option, Some, None, subst}
-use Rattle.std.proofs.Common.{arith}
-use Rattle.call_stages.specs.spk_nums.specs.Capability.{Capability}
-use Rattle.call_stages.specs.spk_nums.specs.declared.kinds.Kind.{Kind}
-use Rattle.call_stages.specs.spk_nums.specs.declared.kinds.Kind.TheVariants.{Range}
-use Rattle.call_stages.specs.kernel_rules.specs.References.{named_by}
-use Rattle.call_stages.specs.act_states.specs.declared.objects.NewObject.{NewObject}
-use Rattle.call_stages.specs.act_states.specs.declared.objects.NewObject.TheVariants.{Table as NewTable, Leaf as NewLeaf, Pages as NewPages}
-use Rattle.call_stages.specs.act_states.specs.declared.objects.NewObject.TheVariants.{Pleaf as NewPleaf, Thread as NewThread}
-use Rattle.call_stages.specs.act_states.specs.declared.objects.NewObject.TheVariants.{Tcap as NewTcap}
-use Rattle.call_stages.specs.act_states.specs.Objects.{object_dues}
-use Rattle.call_stages.specs.act_states.specs.declared.makings.MakingAt.{MakingAt}
-use Rattle.call_stages.specs.act_states.specs.declared.makings.MakingAt.TheVariants.{Load as make_load, Mark, Store, Fill as fill_at}
-use Rattle.call_stages.specs.act_states.specs.declared.kills.KillingAt.{KillingAt}
-use Rattle.call_stages.specs.act_states.specs.declared.kills.KillingAt.TheVariants.{LoadComp, LoadLive, Close as kill_close}
-use Rattle.call_stages.specs.act_states.specs.declared.kills.KillingAt.TheVariants.{Draw as kill_draw}
-use Rattle.call_stages.specs.act_states.specs.declared.invocations.InvokingAt.{InvokingAt}
-use Rattle.call_stages.specs.act_states.specs.declared.invocations.InvokingAt.TheVariants as invoking
-use Rattle.call_stages.specs.act_states.specs.declared.invocations.ReturningAt.{ReturningAt}
-use Rattle.call_stages.specs.act_states.specs.declared.invocations.ReturningAt.TheVariants as returning
-use Rattle.call_stages.specs.act_states.specs.declared.work.Act.{Act as ActType}
-use Rattle.call_stages.specs.act_states.specs.declared.work.Act.TheVariants.{Fill as fill_act, Remove as remove_act, Retype as type_act}
-use Rattle.call_stages.specs.act_states.specs.declared.work.Act.TheVariants.{Make as make_act, Outside, Tick as tick_act, Kill as kill_act}
-use Rattle.call_stages.specs.act_states.specs.declared.work.Act.TheVariants.{Flush as flush_act, Untype as untype_act, Map as map_act}
-use Rattle.call_stages.specs.act_states.specs.declared.work.Act.TheVariants.{MakeComp as comp_act, Invoke as invoke_act}
-use Rattle.call_stages.specs.act_states.specs.declared.work.Act.TheVariants.{Return as return_act}
-use Rattle.call_stages.specs.act_states.specs.declared.work.Act.TheVariants.{Switch as switch_act, Touch as touch_act, Share as share_act}
-use Rattle.call_stages.specs.act_states.specs.declared.work.Act.TheVariants.{Refill as refill_act}
-use Rattle.call_stages.specs.act_states.specs.declared.work.Due.{Due}
-use Rattle.call_stages.specs.act_states.specs.Dues.{IsSmallChange}
-use Rattle.call_stages.specs.act_states.specs.Acts.{cap_dues, dues, made_dues, killing_dues, invoking_dues, returning_dues}
-use Rattle.call_stages.specs.act_states.specs.declared.untypings.UntypingAt.{UntypingAt}
-use Rattle.call_stages.specs.act_states.specs.declared.untypings.UntypingAt.TheVariants as untype
-use Rattle.call_stages.specs.act_states.specs.Untypings.{released_dues, untyping_dues}
-use Rattle.call_stages.specs.act_states.specs.Comps.{comp_dues}
-use Rattle.call_stages.specs.act_states.specs.declared.switches.Switching.{Switching}
-use Rattle.call_stages.specs.act_states.specs.declared.switches.SwitchAt.{SwitchAt}
-use Rattle.call_stages.specs.act_states.specs.declared.switches.SwitchAt.TheVariants as switch_at
-use Rattle.call_stages.specs.act_states.specs.Switches.{tcap_dues, switch_due_list, switching_dues}
-use Rattle.call_stages.specs.stage_thread.specs.declared.claim.Claimed.{Claimed}
-use Rattle.call_stages.specs.act_states.specs.declared.comps.CompAt.{CompAt}
-use Rattle.call_stages.specs.act_states.specs.declared.comps.CompAt.TheVariants as comp_at_as
-use Rattle.call_stages.specs.act_states.specs.declared.comps.CompMaking.{CompMaking}
+use Rattle.act_fits.proofs.Common.{◌≡◌, ℕ, ℤ, pos, negsuc, ◌≤◌, ◌==◌, Bool, true, false, List, [], ◌∷◌, ◌++◌, Option, Some, None, subst}
+use Rattle.act_fits.proofs.Common.{arith, Capability, Kind, Range, NewObject, NewTable, NewLeaf, NewPages, NewPleaf, NewThread, NewTcap}
+use Rattle.act_fits.proofs.Common.{object_dues, MakingAt, make_load, Mark, Store, fill_at, KillingAt, LoadComp, LoadLive, kill_close}
+use Rattle.act_fits.proofs.Common.{kill_draw, InvokingAt, ReturningAt, ActType, fill_act, remove_act, type_act, make_act, Outside, tick_act}
+use Rattle.act_fits.proofs.Common.{kill_act, flush_act, untype_act, map_act, comp_act, invoke_act, return_act, switch_act, touch_act}
+use Rattle.act_fits.proofs.Common.{share_act, refill_act, Due, cap_dues, dues, made_dues, killing_dues, invoking_dues, returning_dues}
+use Rattle.act_fits.proofs.Common.{UntypingAt, released_dues, untyping_dues, comp_dues, Switching, SwitchAt, tcap_dues, switch_due_list}
+use Rattle.act_fits.proofs.Common.{switching_dues, Claimed, CompAt, CompMaking}
+use Rattle.call_stages.specs.act_states.specs.{map, named_by, IsSmallChange}
 
 abbrev pub AreSmall : List Due → Type 0
 AreSmall [] = Unit {0}
@@ -85,31 +51,31 @@ released_small (Some f) None = (omega arith, tt)
 released_small (Some f) (Some g) = (omega arith, (omega arith, tt))
 
 untyped_small : (at : UntypingAt) → AreSmall (untyping_dues at)
-untyped_small untype.Load = tt
-untyped_small (untype.Mark word v) = tt
-untyped_small (untype.Sweep word w) = tt
-untyped_small (untype.Draw word w) = released_small w.owned.first w.owned.second
+untyped_small UntypingAt.Load = tt
+untyped_small (UntypingAt.Mark word v) = tt
+untyped_small (UntypingAt.Sweep word w) = tt
+untyped_small (UntypingAt.Draw word w) = released_small w.owned.first w.owned.second
 
 comp_small : (m : CompMaking) (at : CompAt) → AreSmall (comp_dues m at)
-comp_small m comp_at_as.Load = tt
-comp_small m (comp_at_as.Mark word) = tt
-comp_small m (comp_at_as.LoadLive word) = (omega arith, (omega arith, (omega arith, tt)))
-comp_small m (comp_at_as.Scan word last q) = (omega arith, (omega arith, (omega arith, tt)))
-comp_small m (comp_at_as.Close word last) = (omega arith, (omega arith, (omega arith, tt)))
-comp_small m (comp_at_as.Store word last entry) = (omega arith, (omega arith, (omega arith, tt)))
-comp_small m (comp_at_as.Fill word last) = (omega arith, (omega arith, (omega arith, tt)))
+comp_small m CompAt.Load = tt
+comp_small m (CompAt.Mark word) = tt
+comp_small m (CompAt.LoadLive word) = (omega arith, (omega arith, (omega arith, tt)))
+comp_small m (CompAt.Scan word last q) = (omega arith, (omega arith, (omega arith, tt)))
+comp_small m (CompAt.Close word last) = (omega arith, (omega arith, (omega arith, tt)))
+comp_small m (CompAt.Store word last entry) = (omega arith, (omega arith, (omega arith, tt)))
+comp_small m (CompAt.Fill word last) = (omega arith, (omega arith, (omega arith, tt)))
 
 invoking_small : (f : ℕ) (at : InvokingAt) → AreSmall (invoking_dues f at)
-invoking_small f invoking.LoadTable = tt
-invoking_small f (invoking.LoadPages table) = tt
-invoking_small f (invoking.LoadComp table pages) = tt
-invoking_small f (invoking.LoadLive table pages life) = (omega arith, tt)
+invoking_small f InvokingAt.LoadTable = tt
+invoking_small f (InvokingAt.LoadPages table) = tt
+invoking_small f (InvokingAt.LoadComp table pages) = tt
+invoking_small f (InvokingAt.LoadLive table pages life) = (omega arith, tt)
 
 returning_small : (f : ℕ) (at : ReturningAt) → AreSmall (returning_dues f at)
-returning_small f returning.LoadBelow = tt
-returning_small f (returning.LoadTable comp) = tt
-returning_small f (returning.LoadPages comp table) = tt
-returning_small f (returning.Draw comp table pages) = (omega arith, tt)
+returning_small f ReturningAt.LoadBelow = tt
+returning_small f (ReturningAt.LoadTable comp) = tt
+returning_small f (ReturningAt.LoadPages comp table) = tt
+returning_small f (ReturningAt.Draw comp table pages) = (omega arith, tt)
 
 tcaps_small : (same : Bool) (q old : ℕ) → AreSmall (tcap_dues same q old)
 tcaps_small true q old = tt
@@ -119,11 +85,11 @@ switch_small : (m : Switching) (to : Claimed) → AreSmall (switch_due_list m to
 switch_small m to = (omega arith, (omega arith, tcaps_small (m.tcap == m.old_tcap) m.tcap m.old_tcap))
 
 switching_small : (m : Switching) (at : SwitchAt) → AreSmall (switching_dues m at)
-switching_small m (switch_at.Claim claim) = tt
-switching_small m (switch_at.LoadTable to) = tt
-switching_small m (switch_at.LoadPages to table) = tt
-switching_small m (switch_at.Leave to table pages) = switch_small m to
-switching_small m (switch_at.Draw to table pages) = switch_small m to
+switching_small m (SwitchAt.Claim claim) = tt
+switching_small m (SwitchAt.LoadTable to) = tt
+switching_small m (SwitchAt.LoadPages to table) = tt
+switching_small m (SwitchAt.Leave to table pages) = switch_small m to
+switching_small m (SwitchAt.Draw to table pages) = switch_small m to
 
 dues_small : (act : ActType) → AreSmall (dues act)
 dues_small (fill_act fill) = cap_small fill.cap (pos 1) (omega arith)

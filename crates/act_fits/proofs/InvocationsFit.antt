@@ -1,54 +1,21 @@
 -- Where the steps of an entering and of a leaving lead to fits their machine, and leaves fewer steps.
-use Rattle.std.proofs.Common.{◌≡◌, ℕ, ◌+◌, ◌==◌, ◌<◌, ◌≤◌, nat_lt, if◌then◌else◌, Bool, true, false}
-use Rattle.std.proofs.Common.{List, length, Option, Some, None, refl, sym, ap, subst, arith, slice_get}
-use Rattle.std.proofs.lemmas.Bool.{ltb-true}
-use Rattle.call_stages.specs.frame_words.specs.Comp.{comp_of_word}
-use Rattle.call_stages.specs.frame_words.specs.Live.{live_of_word}
-use Rattle.call_stages.specs.frame_words.specs.declared.comp_word.CompWord.{CompWord}
-use Rattle.call_stages.specs.frame_words.specs.declared.live_word.LiveWord.{LiveWord}
-use Rattle.call_stages.specs.frame_words.specs.declared.live_word.LiveWord.TheVariants as live
-use Rattle.call_stages.specs.frame_words.proofs.CompLemmas as comps
-use Rattle.call_stages.specs.tcap_words.specs.Stack.{stack_of_word}
-use Rattle.call_stages.specs.tcap_words.specs.declared.stack_word.StackWord.{StackWord}
-use Rattle.call_stages.specs.stage_quiet.specs.Clocks.{drawn_stamp}
-use Rattle.call_stages.specs.stage_pins.specs.declared.held.Acquired.{Acquired}
-use Rattle.call_stages.specs.stage_pins.specs.Held.{AllFit}
-use Rattle.call_stages.specs.stage_thread.specs.Stacking.{PushFits, PopFits}
-use Rattle.call_stages.specs.stage_thread.specs.declared.stack.Push.{Push as PushType}
-use Rattle.call_stages.specs.stage_thread.specs.declared.stack.Push.TheVariants as push
-use Rattle.call_stages.specs.stage_thread.specs.declared.stack.Pop.{Pop as PopType}
-use Rattle.call_stages.specs.stage_thread.specs.declared.stack.Pop.TheVariants as pop
-use Rattle.call_stages.specs.spk_nums.specs.declared.replies.Reply.{Reply}
-use Rattle.call_stages.specs.act_states.specs.declared.refusals.Refusal.{Refusal}
-use Rattle.call_stages.specs.act_states.specs.declared.refusals.Refusal.TheVariants as refusal
-use Rattle.call_stages.specs.act_states.specs.declared.invocations.Invoking.{Invoking}
-use Rattle.call_stages.specs.act_states.specs.declared.invocations.InvokingAt.{InvokingAt}
-use Rattle.call_stages.specs.act_states.specs.declared.invocations.InvokingAt.TheVariants as invoking
-use Rattle.call_stages.specs.act_states.specs.declared.invocations.Returning.{Returning}
-use Rattle.call_stages.specs.act_states.specs.declared.invocations.ReturningAt.{ReturningAt}
-use Rattle.call_stages.specs.act_states.specs.declared.invocations.ReturningAt.TheVariants as returning
-use Rattle.call_stages.specs.act_states.specs.Invocations.{InvokingAtFits, InvokingFits, invoking_left, frame_in, enters_if}
-use Rattle.call_stages.specs.act_states.specs.Invocations.{enters_number, enters_live}
-use Rattle.call_stages.specs.act_states.specs.Invocations.{ReturningAtFits, ReturningFits, returning_left, frame_of_place}
-use Rattle.call_stages.specs.act_states.specs.Invocations.{frame_of_stack, below_in, left_to}
-use Rattle.call_stages.specs.act_states.specs.WorkSteps.{refuse}
-use Rattle.call_stages.specs.act_states.specs.Acts.{dues, invoking_dues, returning_dues, next_work, meets_table, meets_pages, meets_gate}
-use Rattle.call_stages.specs.act_states.specs.Acts.{took_invoking_at, meets_below, meets_below_table, meets_below_pages, took_returning_at}
-use Rattle.call_stages.specs.act_states.specs.declared.own.Own.{Own}
-use Rattle.call_stages.specs.act_states.specs.declared.work.Act.{Act as ActType}
-use Rattle.call_stages.specs.act_states.specs.declared.work.Act.TheVariants.{Invoke as invoke_act, Return as return_act}
+use Rattle.act_fits.proofs.Common.{◌≡◌, ℕ, ◌+◌, ◌==◌, ◌<◌, ◌≤◌, nat_lt, if◌then◌else◌, Bool, true, false, List, length, Option, Some, None}
+use Rattle.act_fits.proofs.Common.{refl, sym, ap, subst, arith, slice_get, ltb-true, comp_of_word, live_of_word, CompWord, LiveWord}
+use Rattle.act_fits.proofs.Common.{stack_of_word, StackWord, drawn_stamp, Acquired, AllFit, Reply, Refusal, InvokingAt, ReturningAt}
+use Rattle.act_fits.proofs.Common.{frame_in, refuse, dues, invoking_dues, returning_dues, next_work, Own, ActType, invoke_act, return_act}
+use Rattle.act_fits.proofs.Common.{Act, Goes, ActiveCall, Decided, GoesOn, went_with, landed, left_at, steps_later, work_left, ActFits}
+use Rattle.call_stages.specs.act_states.specs.{Push as PushType, Pop as PopType, enters_if, enters_live, below_in, meets_table, meets_pages}
+use Rattle.call_stages.specs.act_states.specs.{meets_gate, took_invoking_at, meets_below, meets_below_table, meets_below_pages}
+use Rattle.call_stages.specs.stage_thread.specs.{PushFits, PopFits}
+use Rattle.call_stages.specs.act_states.specs.Invocations.{InvokingAtFits, InvokingFits, invoking_left, enters_number, ReturningAtFits}
+use Rattle.call_stages.specs.act_states.specs.Invocations.{ReturningFits, returning_left, frame_of_place, frame_of_stack, left_to}
 use Rattle.call_stages.specs.act_states.specs.declared.work.Tail.TheVariants.{Push, Pop}
-use Rattle.call_stages.specs.act_states.specs.declared.work.Work.TheVariants.{Act}
-use Rattle.call_stages.specs.act_states.specs.declared.work.WorkStep.TheVariants.{Goes}
-use Rattle.call_stages.specs.declared.stages.ActiveCall.{ActiveCall}
-use Rattle.call_stages.specs.declared.stages.Stage.TheVariants.{Decided}
 use Rattle.call_stages.specs.Tails.{pushed_on, popped_on}
-use Rattle.call_stages.specs.Steps.{GoesOn, went_with, landed}
-use Rattle.call_stages.specs.Fits.{left_at, steps_later, work_left}
-use Rattle.act_fits.proofs.DuesFit.{work_next, counts_next}
-use Rattle.act_fits.proofs.LandsFit.{TookFits, Facts, landed_fits}
-use Rattle.call_stages.specs.act_states.specs.Acts.{ActFits}
-use Rattle.call_stages.specs.act_states.specs.Acts.{act_left}
+use Rattle.act_fits.proofs.{DuesFit.work_next, DuesFit.counts_next, LandsFit.TookFits, LandsFit.Facts, LandsFit.landed_fits}
+use Rattle.{act_fits.proofs.Common.act_left, call_stages.specs.act_states.specs.took_returning_at}
+use Rattle.{call_stages.specs.act_states.specs.declared.invocations.Invoking.Invoking}
+use Rattle.{call_stages.specs.act_states.specs.declared.invocations.Returning.Returning}
+use Rattle.call_stages.specs.frame_words.proofs.CompLemmas as comps
 
 -- a frame that a word names is one of the machine
 pub frame_below : (frames found f : ℕ) → frame_in frames found ≡ Some f → f < frames
@@ -118,36 +85,36 @@ module _ (own : Own) (a : ActiveCall) (facts : Facts own a) (room : own.made < o
   pub invoke_fits : (m : Invoking) (at : InvokingAt) (found : ℕ) → InvokingFits own.layout (record m { at = at })
       → length a.counts ≡ length (invoking_dues m.comp at)
       → TookFits own (2 + length a.counts + invoking_left at) a (landed a (took_invoking_at m at found))
-  invoke_fits m invoking.LoadTable found fits waits = by (frame_in m.frames found) refl
+  invoke_fits m InvokingAt.LoadTable found fits waits = by (frame_in m.frames found) refl
     where
       by : (o : Option ℕ) → frame_in m.frames found ≡ o → TookFits own (2 + length a.counts + 9) a (landed a (meets_table m o))
-      by None is = refused _ refusal.Raced (omega arith)
+      by None is = refused _ Refusal.Raced (omega arith)
       by (Some table) is = landed_fits own a a refl refl facts.found facts.acquired room 8 _
-          (Goes (Act (invoke_act (record m { at = invoking.LoadPages table })))) (
-            enters_at own m invoking.LoadTable (invoking.LoadPages table) fits
+          (Goes (Act (invoke_act (record m { at = InvokingAt.LoadPages table })))) (
+            enters_at own m InvokingAt.LoadTable (InvokingAt.LoadPages table) fits
                 (subst (λ (n : ℕ). table < n) fits.frames (frame_below m.frames found table is)),
             omega arith,
             waits,
           ) (omega arith)
-  invoke_fits m (invoking.LoadPages table) found fits waits = by (frame_in m.frames found) refl
+  invoke_fits m (InvokingAt.LoadPages table) found fits waits = by (frame_in m.frames found) refl
     where
       by : (o : Option ℕ) → frame_in m.frames found ≡ o → TookFits own (2 + length a.counts + 8) a (landed a (meets_pages m table o))
-      by None is = refused _ refusal.Raced (omega arith)
+      by None is = refused _ Refusal.Raced (omega arith)
       by (Some pages) is = landed_fits own a a refl refl facts.found facts.acquired room 7 _
-          (Goes (Act (invoke_act (record m { at = invoking.LoadComp table pages })))) (
-            enters_at own m (invoking.LoadPages table) (invoking.LoadComp table pages) fits
+          (Goes (Act (invoke_act (record m { at = InvokingAt.LoadComp table pages })))) (
+            enters_at own m (InvokingAt.LoadPages table) (InvokingAt.LoadComp table pages) fits
                 (fits.at, subst (λ (n : ℕ). pages < n) fits.frames (frame_below m.frames found pages is)),
             omega arith,
             waits,
           ) (omega arith)
-  invoke_fits m (invoking.LoadComp table pages) found fits waits = by (comp_of_word found) refl
+  invoke_fits m (InvokingAt.LoadComp table pages) found fits waits = by (comp_of_word found) refl
     where
       by : (o : Option CompWord) → comp_of_word found ≡ o → TookFits own (2 + length a.counts + 7) a (landed a (meets_gate m table pages o))
-      by None is = refused _ refusal.Raced (omega arith)
-      by (Some life) is = counts_first m.core (invoke_act (record m { at = invoking.LoadLive table pages life })) fits.core
-          (enters_at own m (invoking.LoadComp table pages) (invoking.LoadLive table pages life) fits
+      by None is = refused _ Refusal.Raced (omega arith)
+      by (Some life) is = counts_first m.core (invoke_act (record m { at = InvokingAt.LoadLive table pages life })) fits.core
+          (enters_at own m (InvokingAt.LoadComp table pages) (InvokingAt.LoadLive table pages life) fits
           (fits.at.0, fits.at.1, (comps.spelling.spells found life is).0)) refl refl waits
-  invoke_fits m (invoking.LoadLive table pages life) found fits waits = by (live_of_word found)
+  invoke_fits m (InvokingAt.LoadLive table pages life) found fits waits = by (live_of_word found)
     where
       lives : (same : Bool) → TookFits own (2 + length a.counts + 3) a (landed a (enters_if m table pages same))
       lives true = landed_fits own a a refl refl facts.found facts.acquired room 2 _ (enters_if m table pages true) (
@@ -155,52 +122,52 @@ module _ (own : Own) (a : ActiveCall) (facts : Facts own a) (room : own.made < o
         (fits.thread, fits.some_depth, fits.most_depth),
         (fits.comp, fits.at.0, fits.at.1, omega arith, (let most = fits.most_depth in omega (arith, most))),
       ) (omega arith)
-      lives false = refused _ refusal.Dead (omega arith)
+      lives false = refused _ Refusal.Dead (omega arith)
 
       number : (v : LiveWord) → TookFits own (2 + length a.counts + 3) a (landed a (enters_number m table pages v))
-      number live.Free = refused _ refusal.Dead (omega arith)
-      number (live.Live epoch f) = lives (epoch == m.epoch)
-      number (live.Closing epoch by) = refused _ (refusal.Busy by) (omega arith)
-      number (live.Dead epoch stamp) = refused _ refusal.Dead (omega arith)
+      number LiveWord.Free = refused _ Refusal.Dead (omega arith)
+      number (LiveWord.Live epoch f) = lives (epoch == m.epoch)
+      number (LiveWord.Closing epoch by) = refused _ (Refusal.Busy by) (omega arith)
+      number (LiveWord.Dead epoch stamp) = refused _ Refusal.Dead (omega arith)
 
       by : (o : Option LiveWord) → TookFits own (2 + length a.counts + 3) a (landed a (enters_live m table pages o))
-      by None = refused _ refusal.Raced (omega arith)
+      by None = refused _ Refusal.Raced (omega arith)
       by (Some v) = number v
 
   pub return_fits : (m : Returning) (at : ReturningAt) (found : ℕ) → ReturningFits own.layout (record m { at = at })
       → length a.counts ≡ length (returning_dues m.top at)
       → TookFits own (2 + length a.counts + returning_left at) a (landed a (took_returning_at m at found))
-  return_fits m returning.LoadBelow found fits waits = by (below_in m.frames found) refl
+  return_fits m ReturningAt.LoadBelow found fits waits = by (below_in m.frames found) refl
     where
       by : (o : Option ℕ) → below_in m.frames found ≡ o → TookFits own (2 + length a.counts + 9) a (landed a (meets_below m o))
-      by None is = refused _ refusal.Raced (omega arith)
+      by None is = refused _ Refusal.Raced (omega arith)
       by (Some comp) is = landed_fits own a a refl refl facts.found facts.acquired room 8 _
-          (Goes (Act (return_act (record m { at = returning.LoadTable comp })))) (
-            leaves_at own m returning.LoadBelow (returning.LoadTable comp) fits
+          (Goes (Act (return_act (record m { at = ReturningAt.LoadTable comp })))) (
+            leaves_at own m ReturningAt.LoadBelow (ReturningAt.LoadTable comp) fits
                 (subst (λ (n : ℕ). comp < n) fits.frames (stack_below m.frames comp (stack_of_word found) is)),
             omega arith,
             waits,
           ) (omega arith)
-  return_fits m (returning.LoadTable comp) found fits waits = by (frame_in m.frames found) refl
+  return_fits m (ReturningAt.LoadTable comp) found fits waits = by (frame_in m.frames found) refl
     where
       by : (o : Option ℕ) → frame_in m.frames found ≡ o → TookFits own (2 + length a.counts + 8) a (landed a (meets_below_table m comp o))
-      by None is = refused _ refusal.Raced (omega arith)
+      by None is = refused _ Refusal.Raced (omega arith)
       by (Some table) is = landed_fits own a a refl refl facts.found facts.acquired room 7 _
-          (Goes (Act (return_act (record m { at = returning.LoadPages comp table })))) (
-            leaves_at own m (returning.LoadTable comp) (returning.LoadPages comp table) fits
+          (Goes (Act (return_act (record m { at = ReturningAt.LoadPages comp table })))) (
+            leaves_at own m (ReturningAt.LoadTable comp) (ReturningAt.LoadPages comp table) fits
                 (fits.at, subst (λ (n : ℕ). table < n) fits.frames (frame_below m.frames found table is)),
             omega arith,
             waits,
           ) (omega arith)
-  return_fits m (returning.LoadPages comp table) found fits waits = by (frame_in m.frames found) refl
+  return_fits m (ReturningAt.LoadPages comp table) found fits waits = by (frame_in m.frames found) refl
     where
       by : (o : Option ℕ) → frame_in m.frames found ≡ o
           → TookFits own (2 + length a.counts + 7) a (landed a (meets_below_pages m comp table o))
-      by None is = refused _ refusal.Raced (omega arith)
-      by (Some pages) is = counts_first m.core (return_act (record m { at = returning.Draw comp table pages })) fits.core
-          (leaves_at own m (returning.LoadPages comp table) (returning.Draw comp table pages) fits
+      by None is = refused _ Refusal.Raced (omega arith)
+      by (Some pages) is = counts_first m.core (return_act (record m { at = ReturningAt.Draw comp table pages })) fits.core
+          (leaves_at own m (ReturningAt.LoadPages comp table) (ReturningAt.Draw comp table pages) fits
           (fits.at.0, fits.at.1, subst (λ (n : ℕ). pages < n) fits.frames (frame_below m.frames found pages is))) refl refl waits
-  return_fits m (returning.Draw comp table pages) found fits waits =
+  return_fits m (ReturningAt.Draw comp table pages) found fits waits =
       landed_fits own a a refl refl facts.found facts.acquired room 2 _ (left_to m comp table pages (drawn_stamp found)) (
         omega arith,
         (fits.thread, fits.some_depth, fits.most_depth),
@@ -217,7 +184,7 @@ module _ (own : Own) (a : ActiveCall) (facts : Facts own a) (room : own.made < o
 pub push_fits : (own : Own) (a : ActiveCall) (r : Reply) (drawn : Option ℕ) (x : PushType) (counts : List Acquired) → Facts own a
     → PushFits own.layout x → a.counts ≡ counts
     → TookFits own (left_at own.layout.cores a (Decided r drawn (Push x))) a (GoesOn (went_with a counts (Decided r drawn (pushed_on x))))
-push_fits own a r drawn (push.AtStack t core depth comp) counts facts fits is = record {
+push_fits own a r drawn (PushType.AtStack t core depth comp) counts facts fits is = record {
   call = refl;
   found = facts.found;
   first = tt;
@@ -229,7 +196,7 @@ push_fits own a r drawn (push.AtStack t core depth comp) counts facts fits is = 
   steps = refl;
   fewer = let same : length a.counts ≡ length counts = ap length is in omega arith;
 }
-push_fits own a r drawn (push.AtThread t core depth) counts facts fits is = record {
+push_fits own a r drawn (PushType.AtThread t core depth) counts facts fits is = record {
   call = refl;
   found = facts.found;
   first = tt;
@@ -245,7 +212,7 @@ push_fits own a r drawn (push.AtThread t core depth) counts facts fits is = reco
 pub pop_fits : (own : Own) (a : ActiveCall) (r : Reply) (drawn : Option ℕ) (x : PopType) (counts : List Acquired) → Facts own a
     → PopFits own.layout x → a.counts ≡ counts
     → TookFits own (left_at own.layout.cores a (Decided r drawn (Pop x))) a (GoesOn (went_with a counts (Decided r drawn (popped_on x))))
-pop_fits own a r drawn (pop.AtThread t core depth) counts facts fits is = record {
+pop_fits own a r drawn (PopType.AtThread t core depth) counts facts fits is = record {
   call = refl;
   found = facts.found;
   first = tt;
@@ -257,7 +224,7 @@ pop_fits own a r drawn (pop.AtThread t core depth) counts facts fits is = record
   steps = refl;
   fewer = let same : length a.counts ≡ length counts = ap length is in omega arith;
 }
-pop_fits own a r drawn (pop.AtStack t depth) counts facts fits is = record {
+pop_fits own a r drawn (PopType.AtStack t depth) counts facts fits is = record {
   call = refl;
   found = facts.found;
   first = tt;

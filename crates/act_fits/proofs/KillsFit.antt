@@ -1,33 +1,13 @@
 -- Where the steps of a killing lead to fits its machine, and leaves fewer steps.
-use Rattle.std.proofs.Common.{◌≡◌, ℕ, ◌+◌, ◌==◌, ◌<◌, ◌≤◌, Bool, true, false, length}
-use Rattle.std.proofs.Common.{Option, Some, None, refl, sym, subst, arith, slice_get}
-use Rattle.call_stages.specs.frame_words.specs.Comp.{comp_of_word}
-use Rattle.call_stages.specs.frame_words.specs.Live.{live_of_word}
-use Rattle.call_stages.specs.frame_words.specs.declared.comp_word.CompWord.{CompWord}
-use Rattle.call_stages.specs.frame_words.specs.declared.live_word.LiveWord.{LiveWord}
-use Rattle.call_stages.specs.frame_words.specs.declared.live_word.LiveWord.TheVariants as live
+use Rattle.act_fits.proofs.Common.{◌≡◌, ℕ, ◌+◌, ◌==◌, ◌<◌, ◌≤◌, Bool, true, false, length, Option, Some, None, refl, sym, subst, arith}
+use Rattle.act_fits.proofs.Common.{slice_get, comp_of_word, live_of_word, CompWord, LiveWord, drawn_stamp, Refusal, KillingAt, LoadComp}
+use Rattle.act_fits.proofs.Common.{LoadLive, kill_close as Close, kill_draw as Draw, refuse, dues, killing_dues, next_work, Own, ActType}
+use Rattle.act_fits.proofs.Common.{kill_act, Act, Goes, ActiveCall, landed, steps_later, work_left}
+use Rattle.call_stages.specs.act_states.specs.{meets_comp, meets_live, meets_number, meets_life, closes_if, took_killing_at}
+use Rattle.call_stages.specs.act_states.specs.{declared.kills.Killing.Killing, Kills.KillingFits, Kills.killing_left, Kills.KillingAtFits}
+use Rattle.call_stages.specs.act_states.specs.{Taking.drawn_dead}
+use Rattle.act_fits.proofs.{DuesFit.work_next, DuesFit.counts_next, LandsFit.TookFits, LandsFit.Facts, LandsFit.landed_fits}
 use Rattle.call_stages.specs.frame_words.proofs.CompLemmas as comps
-use Rattle.call_stages.specs.stage_quiet.specs.Clocks.{drawn_stamp}
-use Rattle.call_stages.specs.act_states.specs.declared.refusals.Refusal.{Refusal}
-use Rattle.call_stages.specs.act_states.specs.declared.refusals.Refusal.TheVariants as refusal
-use Rattle.call_stages.specs.act_states.specs.declared.kills.Killing.{Killing}
-use Rattle.call_stages.specs.act_states.specs.declared.kills.KillingAt.{KillingAt}
-use Rattle.call_stages.specs.act_states.specs.declared.kills.KillingAt.TheVariants.{LoadComp, LoadLive, Close, Draw}
-use Rattle.call_stages.specs.act_states.specs.Kills.{KillingFits, killing_left}
-use Rattle.call_stages.specs.act_states.specs.WorkSteps.{refuse}
-use Rattle.call_stages.specs.act_states.specs.Acts.{dues, killing_dues, next_work, meets_comp, meets_live}
-use Rattle.call_stages.specs.act_states.specs.Acts.{meets_number, meets_life, closes_if, drawn_dead, took_killing_at}
-use Rattle.call_stages.specs.act_states.specs.declared.own.Own.{Own}
-use Rattle.call_stages.specs.act_states.specs.declared.work.Act.{Act as ActType}
-use Rattle.call_stages.specs.act_states.specs.declared.work.Act.TheVariants.{Kill as kill_act}
-use Rattle.call_stages.specs.act_states.specs.declared.work.Work.TheVariants.{Act}
-use Rattle.call_stages.specs.act_states.specs.declared.work.WorkStep.TheVariants.{Goes}
-use Rattle.call_stages.specs.declared.stages.ActiveCall.{ActiveCall}
-use Rattle.call_stages.specs.Steps.{landed}
-use Rattle.call_stages.specs.Fits.{steps_later, work_left}
-use Rattle.act_fits.proofs.DuesFit.{work_next, counts_next}
-use Rattle.act_fits.proofs.LandsFit.{TookFits, Facts, landed_fits}
-use Rattle.call_stages.specs.act_states.specs.Kills.{KillingAtFits}
 
 -- a killing that stands elsewhere fits where that does
 stands_at : (own : Own) (m : Killing) (at next : KillingAt) → KillingFits own.layout (record m { at = at })
@@ -45,7 +25,7 @@ module _ (own : Own) (a : ActiveCall) (facts : Facts own a) (room : own.made < o
   kill_fits m LoadComp found fits waits = by (comp_of_word found) refl
     where
       by : (o : Option CompWord) → comp_of_word found ≡ o → TookFits own (2 + length a.counts + 8) a (landed a (meets_comp m o))
-      by None is = refused _ refusal.Raced (omega arith)
+      by None is = refused _ Refusal.Raced (omega arith)
       by (Some life) is = landed_fits own a a refl refl facts.found facts.acquired room 7 _
           (Goes (Act (kill_act (record m { at = LoadLive life }))))
           (stands_at own m LoadComp (LoadLive life) fits (comps.spelling.spells found life is).0, omega arith, waits) (omega arith)
@@ -62,16 +42,16 @@ module _ (own : Own) (a : ActiveCall) (facts : Facts own a) (room : own.made < o
                 (let fewer = next.1 in omega arith),
             counts_next m.core 0 a.counts act (slice_get (dues act) 0) refl (sym waits) (omega arith),
           ) (omega arith)
-      lives false = refused _ refusal.Dead (omega arith)
+      lives false = refused _ Refusal.Dead (omega arith)
 
       number : (v : LiveWord) → TookFits own (2 + length a.counts + 7) a (landed a (meets_number m life found v))
-      number live.Free = refused _ refusal.Dead (omega arith)
-      number (live.Live epoch f) = lives (epoch == life.epoch)
-      number (live.Closing epoch by) = refused _ (refusal.Busy by) (omega arith)
-      number (live.Dead epoch stamp) = refused _ refusal.Dead (omega arith)
+      number LiveWord.Free = refused _ Refusal.Dead (omega arith)
+      number (LiveWord.Live epoch f) = lives (epoch == life.epoch)
+      number (LiveWord.Closing epoch by) = refused _ (Refusal.Busy by) (omega arith)
+      number (LiveWord.Dead epoch stamp) = refused _ Refusal.Dead (omega arith)
 
       by : (o : Option LiveWord) → TookFits own (2 + length a.counts + 7) a (landed a (meets_live m life found o))
-      by None = refused _ refusal.Raced (omega arith)
+      by None = refused _ Refusal.Raced (omega arith)
       by (Some v) = number v
   kill_fits m (Close life word) found fits waits = by (found == word)
     where
@@ -79,7 +59,7 @@ module _ (own : Own) (a : ActiveCall) (facts : Facts own a) (room : own.made < o
       by true = landed_fits own a a refl refl facts.found facts.acquired room 2 _
           (Goes (Act (kill_act (record m { at = Draw life word }))))
           (stands_at own m (Close life word) (Draw life word) fits fits.at, omega arith, waits) (omega arith)
-      by false = refused _ refusal.Raced (omega arith)
+      by false = refused _ Refusal.Raced (omega arith)
   kill_fits m (Draw life word) found fits waits =
       landed_fits own a a refl refl facts.found facts.acquired room 1 _ (drawn_dead life (drawn_stamp found))
       (omega arith, (fits.at, some_stamp)) (omega arith)

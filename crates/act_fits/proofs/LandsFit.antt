@@ -1,23 +1,11 @@
 -- What holds of a call after a step of its work: it fits its core, and fewer steps are to come.
-use Rattle.std.proofs.Common.{◌≡◌, ℕ, ◌+◌, ◌<◌, ◌≤◌, [], length, ap, arith}
-use Rattle.call_stages.specs.stage_pins.specs.Held.{AllFit}
-use Rattle.call_stages.specs.spk_nums.specs.declared.replies.Reply.{Reply}
-use Rattle.call_stages.specs.spk_nums.specs.declared.replies.Reply.TheVariants as reply
-use Rattle.call_stages.specs.kernel_rules.specs.Laws.{calls_counted}
-use Rattle.call_stages.specs.spk_nums.specs.CallLimits.{InLimits}
-use Rattle.call_stages.specs.call_plans.specs.PlanOf.{plan_for}
-use Rattle.call_stages.specs.call_plans.specs.Bounds.{look_steps, act_steps}
-use Rattle.call_stages.specs.call_plans.proofs.RootedTargets.{rooted}
-use Rattle.call_stages.specs.act_states.specs.declared.own.Own.{Own}
-use Rattle.call_stages.specs.declared.stages.ActiveCall.{ActiveCall}
-use Rattle.call_stages.specs.act_states.specs.declared.work.WorkStep.{WorkStep}
-use Rattle.call_stages.specs.act_states.specs.declared.work.WorkStep.TheVariants.{Goes, Acquires, Refuses, Answers, Changes as work_changes}
-use Rattle.call_stages.specs.act_states.specs.Refusals.{reply_of}
-use Rattle.call_stages.specs.Steps.{Took, GoesOn, Decides, Returns, Changes, landed, next_by}
-use Rattle.call_stages.specs.Fits.{StageFits, FoundFits, HasRoom, IsFirst, CountsAt, names_left, steps_later, left_of, IsOwn}
-use Rattle.act_fits.proofs.StepsFit.{first_named, target_below, next_case}
-use Rattle.act_fits.proofs.DuesFit.{ChangeFits, StepFits}
-use Rattle.act_fits.proofs.NamedFit.{ObjectNamed, object_named}
+use Rattle.act_fits.proofs.Common.{◌≡◌, ℕ, ◌+◌, ◌<◌, ◌≤◌, [], length, ap, arith, AllFit, Reply, InLimits, plan_for, look_steps, act_steps}
+use Rattle.act_fits.proofs.Common.{rooted, Own, ActiveCall, WorkStep, Goes, Acquires, Refuses, Answers, Changes as work_changes, GoesOn}
+use Rattle.act_fits.proofs.Common.{landed, FoundFits, steps_later, IsOwn}
+use Rattle.call_stages.specs.{Took, Decides, Returns, Changes, next_by, StageFits, HasRoom, IsFirst, CountsAt, names_left, left_of}
+use Rattle.call_stages.specs.act_states.specs.{calls_counted, reply_of}
+use Rattle.act_fits.proofs.{StepsFit.first_named, StepsFit.target_below, StepsFit.next_case, DuesFit.ChangeFits, DuesFit.StepFits}
+use Rattle.act_fits.proofs.{NamedFit.ObjectNamed, NamedFit.object_named}
 
 -- What a step of a call led to fits its core, and leaves fewer steps than these; so many calls are then counted.
 pub record IsNext (own : Own) (made left : ℕ) (old a : ActiveCall) : Type 0 where
@@ -40,7 +28,7 @@ TookFits own left old (Changes r change a) = IsNext own (own.made + calls_counte
 
 -- a decision counts one call at most
 pub counted_most : (r : Reply) → calls_counted r ≤ 1
-counted_most reply.CallsSpent = omega arith
+counted_most Reply.CallsSpent = omega arith
 counted_most r = omega arith
 
 -- What holds of a call of a core, but for its stage.

@@ -1,22 +1,8 @@
 -- Which frames the names of a call have led to, where they were found as its plan wants them.
-use Rattle.std.proofs.Common.{◌≡◌, ℕ}
-use Rattle.std.proofs.Common.{◌+◌, ◌<◌, ◌≤◌, true, List, [], ◌∷◌}
-use Rattle.std.proofs.Common.{IfSome, arith}
-use Rattle.call_stages.specs.spk_nums.specs.Capability.{Capability}
-use Rattle.call_stages.specs.spk_nums.specs.declared.kinds.Kind.{Kind}
-use Rattle.call_stages.specs.spk_nums.specs.declared.kinds.Kind.TheVariants.{Range, Table, Pages, Comp as KindComp}
-use Rattle.call_stages.specs.spk_nums.specs.declared.kinds.Kind.TheVariants as kind
-use Rattle.call_stages.specs.spk_nums.specs.declared.calls.Call.{Call}
-use Rattle.call_stages.specs.spk_nums.specs.declared.calls.Call.TheVariants.{Make as make_call, Gate, Grow}
-use Rattle.call_stages.specs.spk_nums.specs.declared.calls.Call.TheVariants.{Switch, Transfer, Delegate, Test, Part, Replenish}
-use Rattle.call_stages.specs.kernel_rules.specs.Access.{found, only, root}
-use Rattle.call_stages.specs.stage_look.specs.Shown.{end_of_frames}
-use Rattle.call_stages.specs.call_plans.specs.declared.plans.Nth.TheVariants.{First, Second, Third, Fourth}
-use Rattle.call_stages.specs.call_plans.specs.Plans.{at_place}
-use Rattle.call_stages.specs.call_plans.specs.PlanOf.{plan_for}
-use Rattle.call_stages.specs.kernel_rules.specs.CapabilityCalls.{leaf_of}
-use Rattle.call_stages.specs.spk_nums.specs.declared.calls.Make.TheVariants as make
-use Rattle.call_stages.specs.Fits.{FoundFits}
+use Rattle.act_fits.proofs.Common.{◌≡◌, ℕ, ◌+◌, ◌<◌, ◌≤◌, true, List, [], ◌∷◌, IfSome, arith, Capability, Kind, Range, Table, Pages}
+use Rattle.act_fits.proofs.Common.{KindComp, Call, make_call, Gate, Grow, Switch, Transfer, Delegate, Test, Part, Replenish, found, root}
+use Rattle.act_fits.proofs.Common.{end_of_frames, First, Second, Third, Fourth, at_place, plan_for, FoundFits, Make}
+use Rattle.call_stages.specs.kernel_rules.specs.{only, leaf_of}
 
 -- the names of two temporal capabilities have led to frames of the machine
 abbrev pub TwoNamed : ℕ → List Capability → Type 0
@@ -26,9 +12,9 @@ TwoNamed frames found = IfSome (at_place found First) (λ k. k.frame < frames) �
 -- and a temporal capability with which a core goes on; that of a range of which a part is handed out names no frames past the machine's
 abbrev pub ObjectNamed : ℕ → Call → List Capability → Type 0
 ObjectNamed frames (Grow t i l) found = IfSome (at_place found Second) (λ k. k.frame < frames)
-ObjectNamed frames (make_call (make.Thread comp) r f t b) found = IfSome (at_place found Third) (λ k. k.frame < frames)
+ObjectNamed frames (make_call (Make.Thread comp) r f t b) found = IfSome (at_place found Third) (λ k. k.frame < frames)
 ObjectNamed frames (Gate c t b) found = IfSome (at_place found First) (λ k. k.frame < frames)
-ObjectNamed frames (make_call (make.Comp table pages live) r f t b) found =
+ObjectNamed frames (make_call (Make.Comp table pages live) r f t b) found =
     IfSome (at_place found Third) (λ k. k.frame < frames) × IfSome (at_place found Fourth) (λ k. k.frame < frames)
 ObjectNamed frames (Switch h q) found = IfSome (at_place found First) (λ k. k.frame < frames)
     × IfSome (at_place found Second) (λ k. k.frame < frames)
@@ -63,12 +49,12 @@ pub pages_below : (frames : ℕ) (kind : Kind) (frame arg : ℕ) → only Pages 
 pages_below frames Range frame arg wanted names = absurd (cc)
 pages_below frames kind frame arg wanted names = omega (arith, names)
 
-pub thread_below : (frames : ℕ) (k : Kind) (frame arg : ℕ) → only kind.Thread k ≡ true → end_of_frames k frame arg ≤ frames
+pub thread_below : (frames : ℕ) (k : Kind) (frame arg : ℕ) → only Kind.Thread k ≡ true → end_of_frames k frame arg ≤ frames
     → frame < frames
 thread_below frames Range frame arg wanted names = absurd (cc)
 thread_below frames k frame arg wanted names = omega (arith, names)
 
-pub tcap_below : (frames : ℕ) (k : Kind) (frame arg : ℕ) → only kind.Tcap k ≡ true → end_of_frames k frame arg ≤ frames
+pub tcap_below : (frames : ℕ) (k : Kind) (frame arg : ℕ) → only Kind.Tcap k ≡ true → end_of_frames k frame arg ≤ frames
     → frame < frames
 tcap_below frames Range frame arg wanted names = absurd (cc)
 tcap_below frames k frame arg wanted names = omega (arith, names)
@@ -91,19 +77,19 @@ pub object_named : (frames : ℕ) (call : Call) (found : List Capability) → Fo
 object_named frames (Grow t i l) [] leads = tt
 object_named frames (Grow t i l) (k ∷ []) leads = tt
 object_named frames (Grow t i l) (k ∷ j ∷ ks) leads = leaf_below frames k.kind j.kind j.frame j.arg leads.1.0.0 leads.1.0.1
-object_named frames (make_call (make.Thread comp) r f t b) [] leads = tt
-object_named frames (make_call (make.Thread comp) r f t b) (k ∷ []) leads = tt
-object_named frames (make_call (make.Thread comp) r f t b) (k ∷ j ∷ []) leads = tt
-object_named frames (make_call (make.Thread comp) r f t b) (k ∷ j ∷ i ∷ ks) leads =
+object_named frames (make_call (Make.Thread comp) r f t b) [] leads = tt
+object_named frames (make_call (Make.Thread comp) r f t b) (k ∷ []) leads = tt
+object_named frames (make_call (Make.Thread comp) r f t b) (k ∷ j ∷ []) leads = tt
+object_named frames (make_call (Make.Thread comp) r f t b) (k ∷ j ∷ i ∷ ks) leads =
     comp_below frames i.kind i.frame i.arg leads.1.1.0.0 leads.1.1.0.1
 object_named frames (Gate c t b) [] leads = tt
 object_named frames (Gate c t b) (k ∷ ks) leads = comp_below frames k.kind k.frame k.arg leads.0.0 leads.0.1
-object_named frames (make_call (make.Comp table pages live) r f t b) [] leads = (tt, tt)
-object_named frames (make_call (make.Comp table pages live) r f t b) (k ∷ []) leads = (tt, tt)
-object_named frames (make_call (make.Comp table pages live) r f t b) (k ∷ j ∷ []) leads = (tt, tt)
-object_named frames (make_call (make.Comp table pages live) r f t b) (k ∷ j ∷ i ∷ []) leads =
+object_named frames (make_call (Make.Comp table pages live) r f t b) [] leads = (tt, tt)
+object_named frames (make_call (Make.Comp table pages live) r f t b) (k ∷ []) leads = (tt, tt)
+object_named frames (make_call (Make.Comp table pages live) r f t b) (k ∷ j ∷ []) leads = (tt, tt)
+object_named frames (make_call (Make.Comp table pages live) r f t b) (k ∷ j ∷ i ∷ []) leads =
     (table_below frames i.kind i.frame i.arg leads.1.1.0.0 leads.1.1.0.1, tt)
-object_named frames (make_call (make.Comp table pages live) r f t b) (k ∷ j ∷ i ∷ h ∷ ks) leads = (
+object_named frames (make_call (Make.Comp table pages live) r f t b) (k ∷ j ∷ i ∷ h ∷ ks) leads = (
   table_below frames i.kind i.frame i.arg leads.1.1.0.0 leads.1.1.0.1,
   pages_below frames h.kind h.frame h.arg leads.1.1.1.0.0 leads.1.1.1.0.1,
 )

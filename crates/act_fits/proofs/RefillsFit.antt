@@ -1,36 +1,16 @@
 -- Where the steps lead to by which ticks are given back fits their machine, and leaves fewer steps.
-use Rattle.std.proofs.Common.{◌≡◌, ℕ, nat_lt, ◌+◌, ◌-◌, ◌<◌, ◌≤◌, ◌==◌, ◌&&◌, not, Bool, true, false}
-use Rattle.std.proofs.Common.{length, Option, Some, None, refl, sym, arith}
-use Rattle.std.proofs.lemmas.Bool.{ltb-true}
-use Rattle.call_stages.specs.spk_nums.specs.Merging.{covers}
-use Rattle.call_stages.specs.spk_nums.specs.declared.replies.Reply.TheVariants as reply
-use Rattle.call_stages.specs.spk_nums.specs.declared.replies.Value.TheVariants as value
-use Rattle.call_stages.specs.tcap_words.specs.Head.{word_of_head, head_of_word}
-use Rattle.call_stages.specs.tcap_words.specs.Quality.{quality_of_word}
-use Rattle.call_stages.specs.tcap_words.specs.declared.head_word.HeadWord.{HeadWord}
-use Rattle.call_stages.specs.tcap_words.specs.declared.quality_word.QualityWord.{QualityWord}
-use Rattle.call_stages.specs.word_map.specs.Places.{Shape}
-use Rattle.call_stages.specs.stage_tcap.specs.Charging.{end_by_mark, head_end}
-use Rattle.call_stages.specs.stage_tcap.specs.Lists.{in_order}
-use Rattle.call_stages.specs.stage_tcap.specs.Refilling.{RefillAtFits, RefillFits, from_mark, from_head, weighed_at, next_in, from_word}
-use Rattle.call_stages.specs.stage_tcap.specs.Refilling.{refill_noted, refill_after, weighed, at_word, word_end, won, again}
-use Rattle.call_stages.specs.stage_tcap.specs.declared.refill.Refill.{Refill}
-use Rattle.call_stages.specs.stage_tcap.specs.declared.refill.RefillAt.{RefillAt}
-use Rattle.call_stages.specs.stage_tcap.specs.declared.refill.RefillAt.TheVariants.{Load, List as at_list, Compare, Again}
-use Rattle.call_stages.specs.stage_tcap.proofs.RefillLemmas.{refill_after_fits}
-use Rattle.call_stages.specs.act_states.specs.declared.own.Own.{Own}
-use Rattle.call_stages.specs.act_states.specs.declared.own.OwnChange.TheVariants.{GivesBack}
-use Rattle.call_stages.specs.act_states.specs.declared.refusals.Refusal.{Refusal}
-use Rattle.call_stages.specs.act_states.specs.declared.refusals.Refusal.TheVariants as refusal
-use Rattle.call_stages.specs.act_states.specs.declared.work.Act.TheVariants.{Refill as refill_act}
-use Rattle.call_stages.specs.act_states.specs.declared.work.Tail.TheVariants.{Nothing}
-use Rattle.call_stages.specs.act_states.specs.declared.work.Work.TheVariants.{Act}
-use Rattle.call_stages.specs.act_states.specs.declared.work.WorkStep.TheVariants.{Goes, Changes as work_changes}
-use Rattle.call_stages.specs.act_states.specs.Refills.{took_refill, took_refilled, refill_left}
-use Rattle.call_stages.specs.act_states.specs.WorkSteps.{refuse}
-use Rattle.call_stages.specs.declared.stages.ActiveCall.{ActiveCall}
-use Rattle.call_stages.specs.Steps.{landed}
+use Rattle.call_stages.specs.stage_tcap.specs.{◌≡◌, ℕ, ltb as nat_lt, ◌+◌, ◌-◌, ◌<◌, ◌≤◌, ◌==◌, ◌&&◌, not, Bool, true, false, length}
+use Rattle.call_stages.specs.stage_tcap.specs.{Option, Some, None, refl, covers, word_of_head, head_of_word, quality_of_word, HeadWord}
+use Rattle.call_stages.specs.stage_tcap.specs.{QualityWord, Shape, end_by_mark, head_end, in_order, RefillFits, from_mark, from_head}
+use Rattle.call_stages.specs.stage_tcap.specs.{weighed_at, next_in, from_word, refill_noted, refill_after, weighed, at_word, word_end, won}
+use Rattle.call_stages.specs.stage_tcap.specs.{again, Reply, Value}
+use Rattle.act_fits.proofs.Common.{sym, arith, ltb-true, Own, GivesBack, Refusal, refill_act, Nothing, Act, Goes, Changes as work_changes}
+use Rattle.act_fits.proofs.Common.{refuse, ActiveCall, landed}
+use Rattle.call_stages.specs.act_states.specs.{Refill, RefillAt, Again, took_refill, took_refilled}
+use Rattle.call_stages.specs.stage_tcap.specs.declared.refill.RefillAt.TheVariants.{Load, List as at_list, Compare}
 use Rattle.act_fits.proofs.LandsFit.{Facts, TookFits, landed_fits}
+use Rattle.{call_stages.specs.stage_tcap.specs.Refilling.RefillAtFits, call_stages.specs.stage_tcap.proofs.RefillLemmas.refill_after_fits}
+use Rattle.{call_stages.specs.act_states.specs.Refills.refill_left}
 
 -- It fits where it stands elsewhere.
 placed : (s : Shape) (r : Refill) (at : RefillAt) → RefillFits s r → RefillAtFits at → RefillFits s (record r { at = at })
@@ -62,11 +42,11 @@ module _ (own : Own) (a : ActiveCall) (facts : Facts own a) (room : own.made < o
           (landed a (took_refilled (record next { at = from_mark mark }) (end_by_mark mark)))
       by_mark None = goes _ (record next { at = at_list 1 })
           (placed own.layout next (at_list 1) on (omega arith, omega arith)) (omega arith)
-      by_mark (Some d) = refused _ (refusal.Busy d) (omega arith)
+      by_mark (Some d) = refused _ (Refusal.Busy d) (omega arith)
 
       by : (o : Option HeadWord) → TookFits own (2 + length a.counts + 10) a
           (landed a (took_refilled (record next { at = from_head o }) (head_end o)))
-      by None = refused _ refusal.Raced (omega arith)
+      by None = refused _ Refusal.Raced (omega arith)
       by (Some h) = by_mark h.mark
   refill_fits r (at_list entry) found fits = by (quality_of_word found)
     where
@@ -81,7 +61,7 @@ module _ (own : Own) (a : ActiveCall) (facts : Facts own a) (room : own.made < o
 
       weighs : (covered less : Bool) → TookFits own (2 + length a.counts + (10 - entry)) a
           (landed a (took_refilled (record next { at = weighed_at covered }) (weighed (covered && less) known.left)))
-      weighs true true = let most = fits.at.1 in refused _ (refusal.Short known.left) (omega (arith, most))
+      weighs true true = let most = fits.at.1 in refused _ (Refusal.Short known.left) (omega (arith, most))
       weighs true false =
           let most = fits.at.1 in goes _ (record next { at = Compare }) (placed own.layout next Compare on tt) (omega (arith, most))
       weighs false less =
@@ -98,7 +78,7 @@ module _ (own : Own) (a : ActiveCall) (facts : Facts own a) (room : own.made < o
       by : (o : Option QualityWord) → TookFits own (2 + length a.counts + (10 - entry)) a
           (landed a (took_refilled (record next { at = from_word o entry (next_in (nat_lt entry 8) entry known) })
           (word_end o (at_word (nat_lt entry 8) known))))
-      by None = let most = fits.at.1 in refused _ refusal.Raced (omega (arith, most))
+      by None = let most = fits.at.1 in refused _ Refusal.Raced (omega (arith, most))
       by (Some v) = by_more (nat_lt entry 8) refl
   refill_fits r Compare found fits = by (found == word_of_head r.head)
     where
@@ -106,11 +86,11 @@ module _ (own : Own) (a : ActiveCall) (facts : Facts own a) (room : own.made < o
           (landed a (took_refilled (refill_after (record r { at = Compare }) found) (won same)))
       by true =
           landed_fits own a a refl refl facts.found facts.acquired room 0 (2 + length a.counts + 1)
-          (work_changes (reply.Ok value.Nothing) (GivesBack r.ticks) None Nothing) (omega arith, tt, tt) (omega arith)
-      by false = refused _ refusal.Raced (omega arith)
+          (work_changes (Reply.Ok Value.Nothing) (GivesBack r.ticks) None Nothing) (omega arith, tt, tt) (omega arith)
+      by false = refused _ Refusal.Raced (omega arith)
   refill_fits r Again found fits = by (found == word_of_head r.head)
     where
       by : (same : Bool) → TookFits own (2 + length a.counts + 1) a
           (landed a (took_refilled (refill_after (record r { at = Again }) found) (again same)))
-      by true = refused _ refusal.Unlike (omega arith)
-      by false = refused _ refusal.Raced (omega arith)
+      by true = refused _ Refusal.Unlike (omega arith)
+      by false = refused _ Refusal.Raced (omega arith)

@@ -1,15 +1,8 @@
 -- A scan goes on within its machine, and leaves fewer words to be loaded.
-use Rattle.std.proofs.Common.{◌≡◌, ℕ, ◌≢◌, nat_lt, if◌then◌else◌, ◌+◌, ◌-◌, ◌<◌, ◌≤◌, ◌==◌, Bool}
-use Rattle.std.proofs.Common.{true, false, Option, Some, None, IfSome, refl, sym, ap, subst, arith}
-use Rattle.std.proofs.lemmas.Bool.{ltb-true, ltb-false, eqb-true, eqb-false}
-use Rattle.call_stages.specs.spk_nums.specs.declared.replies.Reply.{Reply}
-use Rattle.call_stages.specs.spk_nums.specs.declared.steps.StageEnd.TheVariants as ends
-use Rattle.call_stages.specs.word_map.specs.Places.{Shape}
-use Rattle.call_stages.specs.stage_quiet.specs.declared.quiet.Quiet.{Quiet}
-use Rattle.call_stages.specs.stage_quiet.specs.declared.quiet.Quiet.TheVariants.{AtCore, AtFlush}
-use Rattle.call_stages.specs.stage_quiet.specs.Scan.{QuietFits, first_other, next_other, core_scan, quiet_scan}
-use Rattle.call_stages.specs.stage_quiet.specs.Scan.{quiet_refuses, scan_end, scan_after, quiet_end, quiet_after}
-use Rattle.call_stages.specs.act_states.specs.Scans.{IsUnpaged, ScanFits, left_of_cores, left_of_scan}
+use Rattle.act_fits.proofs.Common.{◌≡◌, ℕ, ◌≢◌, nat_lt, if◌then◌else◌, ◌+◌, ◌-◌, ◌<◌, ◌≤◌, ◌==◌, Bool, true, false, Option, Some, None}
+use Rattle.act_fits.proofs.Common.{IfSome, refl, sym, ap, subst, arith, ltb-true, ltb-false, eqb-true, eqb-false, Reply, Shape, Quiet}
+use Rattle.act_fits.proofs.Common.{AtCore, AtFlush, QuietFits, first_other, next_other, core_scan, quiet_scan, quiet_refuses, scan_end}
+use Rattle.act_fits.proofs.Common.{scan_after, quiet_end, quiet_after, IsUnpaged, ScanFits, left_of_cores, left_of_scan, StageEnd}
 
 -- A scan of the other cores' words alone stays so.
 unpaged_scan : (there : Bool) (stamp core at : ℕ) → IfSome (core_scan there stamp core at false) IsUnpaged
@@ -24,14 +17,14 @@ scan_unpaged stamp core cores = by (stamp == 0)
     by true = tt
     by false = unpaged_scan (nat_lt (first_other core) cores) stamp core (first_other core)
 
-pub still_unpaged : (cores : ℕ) (q : Quiet) (found : ℕ) → IsUnpaged q → quiet_end cores q found ≡ ends.Going
+pub still_unpaged : (cores : ℕ) (q : Quiet) (found : ℕ) → IsUnpaged q → quiet_end cores q found ≡ StageEnd.Going
     → IsUnpaged (quiet_after cores q found)
 still_unpaged cores (AtFlush stamp at) found alone is = absurd alone
 still_unpaged cores (AtCore stamp core at page) found alone is =
     by (quiet_refuses (AtCore stamp core at page) found) (nat_lt (next_other core at) cores) page alone is
   where
     by : (refused : Option Reply) (there page : Bool) → page ≡ false
-        → scan_end refused (core_scan there stamp core (next_other core at) page) ≡ ends.Going
+        → scan_end refused (core_scan there stamp core (next_other core at) page) ≡ StageEnd.Going
         → IsUnpaged (scan_after (AtCore stamp core at page) refused (core_scan there stamp core (next_other core at) page))
     by (Some r) there page alone is = absurd (cc)
     by None true page alone is = alone
@@ -53,14 +46,14 @@ module _ (s : Shape) where
   flushes_fewer : (x cores : ℕ) → 1 ≤ x → cores - 0 < x + cores
   flushes_fewer x cores some = omega arith
 
-  pub scan_goes : (q : Quiet) (found : ℕ) → QuietFits s q → ScanFits s q → quiet_end s.cores q found ≡ ends.Going
+  pub scan_goes : (q : Quiet) (found : ℕ) → QuietFits s q → ScanFits s q → quiet_end s.cores q found ≡ StageEnd.Going
       → QuietFits s (quiet_after s.cores q found) × ScanFits s (quiet_after s.cores q found)
       × (left_of_scan s.cores (quiet_after s.cores q found) < left_of_scan s.cores q)
   scan_goes (AtFlush stamp at) found quiet fits is =
       by (quiet_refuses (AtFlush stamp at) found) (nat_lt (at + 1) s.cores) refl is
     where
       by : (refused : Option Reply) (there : Bool) → nat_lt (at + 1) s.cores ≡ there
-          → scan_end refused (if there then Some (AtFlush stamp (at + 1)) else None) ≡ ends.Going
+          → scan_end refused (if there then Some (AtFlush stamp (at + 1)) else None) ≡ StageEnd.Going
           → QuietFits s (scan_after (AtFlush stamp at) refused (if there then Some (AtFlush stamp (at + 1)) else None))
           × ScanFits s (scan_after (AtFlush stamp at) refused (if there then Some (AtFlush stamp (at + 1)) else None))
           × (left_of_scan s.cores
@@ -121,7 +114,7 @@ module _ (s : Shape) where
           ap (λ x. if x then at + 2 else at + 1) d in let e = eqb-false (at + 1) core d in λ h. e (omega arith)
 
       by : (refused : Option Reply) (there : Bool) → nat_lt (next_other core at) s.cores ≡ there → (page : Bool)
-          → scan_end refused (core_scan there stamp core (next_other core at) page) ≡ ends.Going
+          → scan_end refused (core_scan there stamp core (next_other core at) page) ≡ StageEnd.Going
           → QuietFits s (scan_after (AtCore stamp core at page) refused (core_scan there stamp core (next_other core at) page))
           × ScanFits s (scan_after (AtCore stamp core at page) refused (core_scan there stamp core (next_other core at) page))
           × (left_of_scan s.cores (scan_after (AtCore stamp core at page) refused

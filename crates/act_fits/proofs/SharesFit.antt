@@ -1,47 +1,20 @@
 -- Where the steps of a call on two temporal capabilities lead to fits its machine, and leaves fewer steps.
-use Rattle.std.proofs.Common.{◌≡◌, ℕ, nat_lt, ◌+◌, ◌-◌, ◌<◌, ◌≤◌, ◌==◌, Bool, true, false}
-use Rattle.std.proofs.Common.{List, length, Option, Some, None, refl, ap, subst, arith}
-use Rattle.std.proofs.lemmas.Bool.{ltb-true, false≢true}
-use Rattle.call_stages.specs.spk_nums.specs.declared.replies.Reply.{Reply}
-use Rattle.call_stages.specs.spk_nums.specs.declared.replies.Reply.TheVariants as reply
-use Rattle.call_stages.specs.spk_nums.specs.declared.replies.Value.TheVariants as value
-use Rattle.call_stages.specs.stage_pins.specs.declared.held.Acquired.{Acquired}
-use Rattle.call_stages.specs.stage_pins.specs.Held.{AllFit}
-use Rattle.call_stages.specs.tcap_words.specs.Head.{word_of_head, head_of_word}
-use Rattle.call_stages.specs.tcap_words.specs.Quality.{quality_of_word}
-use Rattle.call_stages.specs.tcap_words.specs.declared.head_word.HeadWord.{HeadWord}
-use Rattle.call_stages.specs.tcap_words.specs.declared.quality_word.QualityWord.{QualityWord}
-use Rattle.call_stages.specs.word_map.specs.Places.{Shape}
-use Rattle.call_stages.specs.stage_tcap.specs.Charging.{end_by_mark, head_end}
-use Rattle.call_stages.specs.stage_tcap.specs.Lists.{in_order, same_list}
-use Rattle.call_stages.specs.stage_tcap.specs.Pairs.{AtFits, PairFits, amount_of, by_alike, by_room, judged, giving_back, at_by_mark}
-use Rattle.call_stages.specs.stage_tcap.specs.Pairs.{at_by_head, at_marked, at_read, a_next, b_next, store_next, at_decided, compared_after}
-use Rattle.call_stages.specs.stage_tcap.specs.Pairs.{again_value, marked_end, decided_by_mark, b_end, list_end, again_end, noted_by}
-use Rattle.call_stages.specs.stage_tcap.specs.Pairs.{pair_after}
-use Rattle.call_stages.specs.stage_tcap.specs.declared.pair.Pair.{Pair}
-use Rattle.call_stages.specs.stage_tcap.specs.declared.pair.PairAt.{PairAt}
-use Rattle.call_stages.specs.stage_tcap.specs.declared.pair.PairAt.TheVariants.{LoadA, MarkA, ListA, LoadB, ListB, CompareB}
-use Rattle.call_stages.specs.stage_tcap.specs.declared.pair.PairAt.TheVariants.{AgainB, StoreList, StoreB, StoreA}
-use Rattle.call_stages.specs.stage_tcap.specs.declared.pair.PairWork.{PairWork}
+use Rattle.call_stages.specs.act_states.proofs.{◌≡◌, ℕ, ltb as nat_lt, ◌+◌, ◌-◌, ◌<◌, ◌≤◌, ◌==◌, Bool, true, false, List, length, Option}
+use Rattle.call_stages.specs.act_states.proofs.{Some, None, refl, ap, subst, arith, ltb-true, false≢true, Reply, Acquired, AllFit}
+use Rattle.call_stages.specs.act_states.proofs.{word_of_head, head_of_word, quality_of_word, HeadWord, QualityWord, Shape, end_by_mark}
+use Rattle.call_stages.specs.act_states.proofs.{head_end, in_order, same_list, amount_of, by_alike, by_room, judged, giving_back}
+use Rattle.call_stages.specs.act_states.proofs.{marked_end, decided_by_mark, b_end, list_end, again_end, pair_after, Pair, PairAt, LoadA}
+use Rattle.call_stages.specs.act_states.proofs.{MarkA, ListA, LoadB, ListB, CompareB, AgainB, StoreList, StoreB, StoreA, PairWork}
+use Rattle.call_stages.specs.act_states.proofs.{refusal_of, refuse, shared, took_shared, took_share, Value}
+use Rattle.act_fits.proofs.Common.{Refusal, Own, share_act, Act, Goes, Refuses, Answers, share_left, ActiveCall, Decided, GoesOn, landed}
+use Rattle.act_fits.proofs.Common.{went_with, took_tail, tail_counts, tail_left, TailFits, left_at}
+use Rattle.call_stages.specs.stage_tcap.specs.{PairFits, at_by_mark, at_by_head, at_marked, at_read, a_next, b_next, store_next, at_decided}
+use Rattle.call_stages.specs.stage_tcap.specs.{compared_after, again_value, noted_by}
 use Rattle.call_stages.specs.stage_tcap.specs.declared.pair.PairWork.TheVariants.{Transfer, Delegate, Test}
-use Rattle.call_stages.specs.stage_tcap.proofs.PairLemmas.{pair_after_fits}
-use Rattle.call_stages.specs.act_states.specs.declared.refusals.Refusal.{Refusal}
-use Rattle.call_stages.specs.act_states.specs.declared.refusals.Refusal.TheVariants as refusal
-use Rattle.call_stages.specs.act_states.specs.declared.own.Own.{Own}
-use Rattle.call_stages.specs.act_states.specs.declared.work.Act.TheVariants.{Share as share_act}
-use Rattle.call_stages.specs.act_states.specs.declared.work.Tail.TheVariants.{Share as share_tail}
-use Rattle.call_stages.specs.act_states.specs.declared.work.Work.TheVariants.{Act}
-use Rattle.call_stages.specs.act_states.specs.declared.work.WorkStep.TheVariants.{Goes, Refuses, Answers}
-use Rattle.call_stages.specs.act_states.specs.Refusals.{refusal_of}
-use Rattle.call_stages.specs.act_states.specs.WorkSteps.{refuse}
-use Rattle.call_stages.specs.act_states.specs.Shares.{shared, took_shared, took_share, is_storing, stores_of, share_left, after_share}
-use Rattle.call_stages.specs.act_states.specs.Shares.{SharedFits}
-use Rattle.call_stages.specs.declared.stages.ActiveCall.{ActiveCall}
-use Rattle.call_stages.specs.declared.stages.Stage.TheVariants.{Decided}
-use Rattle.call_stages.specs.Steps.{GoesOn, landed, went_with}
-use Rattle.call_stages.specs.Tails.{took_tail, tail_counts, tail_left}
-use Rattle.call_stages.specs.Fits.{TailFits, left_at}
+use Rattle.call_stages.specs.act_states.specs.Shares.{is_storing, stores_of, after_share, SharedFits}
 use Rattle.act_fits.proofs.LandsFit.{TookFits, Facts, landed_fits}
+use Rattle.{call_stages.specs.stage_tcap.specs.Pairs.AtFits, call_stages.specs.stage_tcap.proofs.PairLemmas.pair_after_fits}
+use Rattle.{call_stages.specs.act_states.specs.declared.work.Tail.TheVariants.Share as share_tail}
 
 -- a call on two of them that stands elsewhere fits where that does
 placed : (s : Shape) (p : Pair) (at : PairAt) → PairFits s p → AtFits at → PairFits s (record p { at = at })
@@ -144,7 +117,7 @@ module _ (own : Own) (a : ActiveCall) (facts : Facts own a) (room : own.made < o
 
   decides : (left : ℕ) (p : Pair) (r : Reply) → SharedFits own.layout p → share_left p.what p.at < left
       → TookFits own (2 + length a.counts + left) a (landed a (shared p r))
-  decides left p (reply.Ok v) fits fewer =
+  decides left p (Reply.Ok v) fits fewer =
       landed_fits own a a refl refl facts.found facts.acquired room (share_left p.what p.at) (2 + length a.counts + left)
       (Answers v None (share_tail p)) (omega arith, fits) (omega (arith, fewer))
   decides left p r fits fewer =
@@ -171,21 +144,21 @@ module _ (own : Own) (a : ActiveCall) (facts : Facts own a) (room : own.made < o
       by_mark : (mark : Option ℕ) → TookFits own (2 + length a.counts + (20 + stores_of p.what)) a
           (landed a (took_shared (record next { at = at_by_mark MarkA LoadA mark }) (end_by_mark mark)))
       by_mark None = goes _ (record next { at = MarkA }) (placed own.layout next MarkA on tt) (omega arith)
-      by_mark (Some d) = refused _ (refusal.Busy d) (omega arith)
+      by_mark (Some d) = refused _ (Refusal.Busy d) (omega arith)
 
       by : (o : Option HeadWord) → TookFits own (2 + length a.counts + (20 + stores_of p.what)) a
           (landed a (took_shared (record next { at = at_by_head MarkA LoadA o }) (head_end o)))
-      by None = refused _ refusal.Raced (omega arith)
+      by None = refused _ Refusal.Raced (omega arith)
       by (Some h) = by_mark h.mark
   share_fits p MarkA found fits = by (found == word_of_head p.head_a) (nat_lt p.head_a.budget (amount_of p.what))
     where
       by : (same short : Bool) → TookFits own (2 + length a.counts + (19 + stores_of p.what)) a
           (landed a (took_shared (record p { at = at_marked same short }) (marked_end same short p.head_a.budget)))
-      by true true = gives_back _ (record p { at = MarkA }) (reply.Short p.head_a.budget) fits (omega arith)
+      by true true = gives_back _ (record p { at = MarkA }) (Reply.Short p.head_a.budget) fits (omega arith)
       by true false =
           goes _ (record p { at = ListA 1 })
           (placed own.layout (record p { at = MarkA }) (ListA 1) fits (omega arith, omega arith)) (omega arith)
-      by false short = refused _ refusal.Raced (omega arith)
+      by false short = refused _ Refusal.Raced (omega arith)
   share_fits p (ListA entry) found fits = by (quality_of_word found)
     where
       next : Pair
@@ -205,7 +178,7 @@ module _ (own : Own) (a : ActiveCall) (facts : Facts own a) (room : own.made < o
 
       by : (o : Option QualityWord) → TookFits own (2 + length a.counts + (19 - entry + stores_of p.what)) a
           (landed a (took_shared (record next { at = at_read o (a_next (nat_lt entry 8) entry) }) (list_end o)))
-      by None = let most = fits.at.1 in gives_back _ next reply.Raced on (omega (arith, most))
+      by None = let most = fits.at.1 in gives_back _ next Reply.Raced on (omega (arith, most))
       by (Some v) = by_more (nat_lt entry 8) refl
   share_fits p LoadB found fits = by (head_of_word found)
     where
@@ -219,11 +192,11 @@ module _ (own : Own) (a : ActiveCall) (facts : Facts own a) (room : own.made < o
           (landed a (took_shared (record next { at = at_by_mark (ListB 1) giving_back mark }) (decided_by_mark mark)))
       by_mark None =
           goes _ (record next { at = ListB 1 }) (placed own.layout next (ListB 1) on (omega arith, omega arith)) (omega arith)
-      by_mark (Some d) = gives_back _ next (reply.Busy d) on (omega arith)
+      by_mark (Some d) = gives_back _ next (Reply.Busy d) on (omega arith)
 
       by : (o : Option HeadWord) → TookFits own (2 + length a.counts + (10 + stores_of p.what)) a
           (landed a (took_shared (record next { at = at_by_head (ListB 1) giving_back o }) (b_end o)))
-      by None = gives_back _ next reply.Raced on (omega arith)
+      by None = gives_back _ next Reply.Raced on (omega arith)
       by (Some h) = by_mark h.mark
   share_fits p (ListB entry) found fits = by (quality_of_word found) on.at
     where
@@ -251,21 +224,21 @@ module _ (own : Own) (a : ActiveCall) (facts : Facts own a) (room : own.made < o
       by : (o : Option QualityWord) → AtFits (at_read o (b_next (nat_lt entry 8) entry known))
           → TookFits own (2 + length a.counts + (10 - entry + stores_of p.what)) a
           (landed a (took_shared (record next { at = at_read o (b_next (nat_lt entry 8) entry known) }) (list_end o)))
-      by None there = let most = fits.at.1 in let some = some_store p.what in gives_back _ next reply.Raced on (omega (arith, most, some))
+      by None there = let most = fits.at.1 in let some = some_store p.what in gives_back _ next Reply.Raced on (omega (arith, most, some))
       by (Some v) there = by_more (nat_lt entry 8) refl there
   share_fits p CompareB found fits = by (found == word_of_head p.head_b)
     where
       by : (same : Bool) → TookFits own (2 + length a.counts + (1 + stores_of p.what)) a
-          (landed a (took_shared (record p { at = compared_after same p.what }) (again_end same (reply.Ok value.Nothing))))
+          (landed a (took_shared (record p { at = compared_after same p.what }) (again_end same (Reply.Ok Value.Nothing))))
       by true =
           let few = decided_left p.what in
-          decides _ (record p { at = at_decided p.what }) (reply.Ok value.Nothing)
+          decides _ (record p { at = at_decided p.what }) (Reply.Ok Value.Nothing)
           (record {
             fits = placed own.layout (record p { at = CompareB }) (at_decided p.what) fits (decided_fits p.what);
             storing = decided_storing p.what;
           })
           (omega (arith, few))
-      by false = let some = some_store p.what in gives_back _ (record p { at = CompareB }) reply.Raced fits (omega (arith, some))
+      by false = let some = some_store p.what in gives_back _ (record p { at = CompareB }) Reply.Raced fits (omega (arith, some))
   share_fits p (AgainB r) found fits = by (found == word_of_head p.head_b)
     where
       by : (same : Bool) → TookFits own (2 + length a.counts + 2) a
@@ -277,7 +250,7 @@ module _ (own : Own) (a : ActiveCall) (facts : Facts own a) (room : own.made < o
             storing = refl;
           }) (omega arith)
       by false =
-          decides _ (record p { at = StoreA false (again_value false r) }) reply.Raced
+          decides _ (record p { at = StoreA false (again_value false r) }) Reply.Raced
           (record {
             fits = placed own.layout (record p { at = AgainB r }) (StoreA false (again_value false r)) fits tt;
             storing = refl;
@@ -294,6 +267,6 @@ module _ (own : Own) (a : ActiveCall) (facts : Facts own a) (room : own.made < o
       by false is = let most = fits.at.1 in
           goes _ (record p { at = StoreB }) (placed own.layout (record p { at = StoreList entry }) StoreB fits tt) (omega (arith, most))
   share_fits p StoreB found fits =
-      goes _ (record p { at = StoreA true value.Nothing })
-      (placed own.layout (record p { at = StoreB }) (StoreA true value.Nothing) fits tt) (omega arith)
-  share_fits p (StoreA moved v) found fits = refused _ refusal.Raced (omega arith)
+      goes _ (record p { at = StoreA true Value.Nothing })
+      (placed own.layout (record p { at = StoreB }) (StoreA true Value.Nothing) fits tt) (omega arith)
+  share_fits p (StoreA moved v) found fits = refused _ Refusal.Raced (omega arith)

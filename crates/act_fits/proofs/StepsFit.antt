@@ -1,85 +1,36 @@
 -- Where a step of a call's work leads to fits its machine, and how many steps it leaves at most.
-use Rattle.std.proofs.Common.{leb-false, ◌≡◌, ℕ, pos, negsuc, ◌≢◌, nat_lt, if◌then◌else◌, ◌+◌, ◌*◌}
-use Rattle.std.proofs.Common.{◌-◌, slice_get, ◌<◌, ◌≤◌, Bool, true, false, nat_le, IsTrue, ◌==◌, List, [], ◌∷◌}
-use Rattle.std.proofs.Common.{length, Option, Some, None, IfSome, IsSomeAnd, refl, sym, ap, subst, arith, ◌&&◌}
-use Rattle.std.proofs.lemmas.Bool.{leb-true, ltb-true, ltb-false, eqb-true, eqb-false}
-use Rattle.call_stages.specs.stage_quiet.specs.declared.quiet.Quiet.{Quiet}
-use Rattle.call_stages.specs.stage_quiet.specs.Scan.{QuietFits, first_other, flush_scan, core_scan, quiet_scan}
-use Rattle.call_stages.specs.spk_nums.specs.Capability.{Capability, cap_of}
-use Rattle.call_stages.specs.spk_nums.specs.Rights.{part_of}
-use Rattle.call_stages.specs.spk_nums.specs.CallLimits.{InLimits, MakeInLimits}
-use Rattle.call_stages.specs.spk_nums.specs.declared.kinds.Kind.{Kind}
-use Rattle.call_stages.specs.spk_nums.specs.declared.kinds.Kind.TheVariants.{Range, Table, Pages, Comp as KindComp}
-use Rattle.call_stages.specs.spk_nums.specs.declared.kinds.Kind.TheVariants as kind
-use Rattle.call_stages.specs.spk_nums.specs.declared.calls.Call.{Call}
-use Rattle.call_stages.specs.spk_nums.specs.declared.calls.Call.TheVariants.{Look as look_call, Copy, Remove, Shrink, Unmap, Retype}
-use Rattle.call_stages.specs.spk_nums.specs.declared.calls.Call.TheVariants.{Make as make_call, Tick, Gate, Kill, Grow, Flush, Map}
-use Rattle.call_stages.specs.spk_nums.specs.declared.calls.Call.TheVariants.{Call as call_gate, Ret, Switch, Transfer, Delegate, Test}
-use Rattle.call_stages.specs.spk_nums.specs.declared.calls.Call.TheVariants.{Part, Replenish}
-use Rattle.call_stages.specs.entry_words.specs.declared.entry.Entry.{Entry}
-use Rattle.call_stages.specs.entry_words.specs.declared.entry.Entry.TheVariants as entry
-use Rattle.call_stages.specs.word_map.specs.Places.{Shape}
-use Rattle.call_stages.specs.kernel_rules.specs.Access.{Named, found, root, Target as place, Under as place_under, InRoot as place_in}
-use Rattle.call_stages.specs.stage_look.specs.Shown.{end_of_frames, CapNames, EntryNames}
-use Rattle.call_stages.specs.stage_look.specs.Lookup.{FoundFits as PlaceFits}
-use Rattle.call_stages.specs.stage_look.specs.declared.look.Found.{Found}
-use Rattle.call_stages.specs.call_plans.specs.declared.plans.Nth.TheVariants.{First, Second, Third, Fourth}
-use Rattle.call_stages.specs.call_plans.specs.declared.plans.Name.{Name}
-use Rattle.call_stages.specs.call_plans.specs.declared.plans.Spot.{Spot}
-use Rattle.call_stages.specs.call_plans.specs.declared.plans.Spot.TheVariants.{Under, InRoot}
-use Rattle.call_stages.specs.call_plans.specs.declared.plans.Target.{Target}
-use Rattle.call_stages.specs.call_plans.specs.declared.plans.Target.TheVariants.{Nowhere, Free, Held, Own as own_page}
-use Rattle.call_stages.specs.call_plans.specs.declared.plans.Plan.{Plan}
-use Rattle.call_stages.specs.call_plans.specs.Plans.{at_place}
-use Rattle.call_stages.specs.call_plans.specs.GoesBy.{earlier, place_of_spot}
-use Rattle.call_stages.specs.call_plans.specs.After.{with_found, names_after, Leads, next_in}
-use Rattle.call_stages.specs.call_plans.specs.Bounds.{look_steps, retype_steps, make_steps, act_steps}
-use Rattle.call_stages.specs.call_plans.specs.Rooted.{root_of, WantsRoot, IsRooted}
+use Rattle.call_stages.specs.act_states.specs as low
+use low.{◌≡◌, ℕ, pos, negsuc, ◌≢◌, ltb as nat_lt, if◌then◌else◌, ◌+◌, ◌*◌, ◌-◌, slice_get, ◌<◌, ◌≤◌, Bool, true, false, leb as nat_le}
+use low.{IsTrue, ◌==◌, List, [], ◌∷◌, length, Option, Some, None, IfSome, IsSomeAnd, refl, ◌&&◌, Quiet, QuietFits, first_other, flush_scan}
+use low.{core_scan, quiet_scan, Capability, cap_of, part_of, InLimits, Kind, Range, Call, Copy, Remove, Shrink, Unmap, Retype}
+use low.{Make as make_call, Tick, Gate, Kill, Grow, Flush, Map, Ret, Switch, Transfer, Delegate, Test, Part, Replenish, Entry, Shape, Named}
+use low.{found, Target as place, Under as place_under, InRoot as place_in, end_of_frames, CapNames, First, Second, Third, Fourth, Name}
+use low.{Spot, Nowhere, Plan, at_place, earlier, with_found, names_after, Leads, next_in, look_steps, act_steps, PageFlags, FrameKind}
+use low.{has_frame, has_frames, counts_of, last_word, ActFits, act_left, looked, dues, scans, stamp_in, filling, fills_with, removes_held}
+use low.{removes_at, types_if, types_at, gate_if, gate_to, reads_of, starts, makes_at, act_begun, next_work, kills_in, kills_at, page_cap}
+use low.{maps_if, maps_at, comps_at, made_begun, invokes_in, invokes_if, invokes_at, returns_if, switches_at, parts_at, LoadA, PairWork}
+use low.{share_left, shares_if, shares_at, refills_at, ScanFits, left_of_scan, touches_if, looks_under, looks_entry, looks_at, read_first}
+use Rattle.act_fits.proofs.Common.{sym, ap, subst, arith, ltb-true, ltb-false, eqb-true, eqb-false, Table, Pages, KindComp, root}
+use Rattle.act_fits.proofs.Common.{EntryNames, rooted, Untyped, User, Kernel, Make, NewObject, NewTable, NewLeaf, NewPages, NewPleaf}
+use Rattle.act_fits.proofs.Common.{NewThread, NewTcap, Own, ActType, fill_act, remove_act, type_act, make_act, Outside, tick_act, kill_act}
+use Rattle.act_fits.proofs.Common.{flush_act, untype_act, map_act, comp_act, invoke_act, return_act, switch_act, touch_act, share_act}
+use Rattle.act_fits.proofs.Common.{refill_act, WorkStep, Goes, Acquires, Refuses, Answers, Changes, left_of_cores, FoundFits, IsOwn}
+use Rattle.call_stages.specs.kernel_rules.proofs.{leb-false, leb-true, Look as look_call, frames_in}
+use Rattle.call_stages.specs.call_plans.specs.{place_of_spot, WantsRoot}
+use Rattle.call_stages.specs.spk_nums.specs.{CallLimits.MakeInLimits, declared.calls.Call.TheVariants.Call as call_gate}
+use Rattle.call_stages.specs.stage_look.specs.{Lookup.FoundFits as PlaceFits, declared.look.Found.Found}
+use Rattle.call_stages.specs.call_plans.specs.{declared.plans.Spot.TheVariants.Under, declared.plans.Spot.TheVariants.InRoot}
+use Rattle.call_stages.specs.call_plans.specs.{declared.plans.Target.Target, declared.plans.Target.TheVariants.Free}
+use Rattle.call_stages.specs.call_plans.specs.{declared.plans.Target.TheVariants.Held, declared.plans.Target.TheVariants.Own as own_page}
+use Rattle.call_stages.specs.call_plans.specs.{Bounds.retype_steps, Bounds.make_steps, Rooted.root_of, Rooted.IsRooted}
 use Rattle.call_stages.specs.call_plans.proofs.Roots.{earlier_is, Led, nth_led}
-use Rattle.call_stages.specs.call_plans.proofs.RootedTargets.{rooted}
-use Rattle.call_stages.specs.spk_nums.specs.declared.kinds.PageFlags.{PageFlags}
-use Rattle.call_stages.specs.spk_nums.specs.declared.kinds.FrameKind.{FrameKind}
-use Rattle.call_stages.specs.spk_nums.specs.declared.kinds.FrameKind.TheVariants.{Untyped, User, Kernel}
-use Rattle.call_stages.specs.kernel_rules.specs.CapabilityCalls.{has_frame, has_frames}
-use Rattle.call_stages.specs.kernel_rules.proofs.PartFrames.{frames_in}
-use Rattle.call_stages.specs.spk_nums.specs.declared.calls.Make.{Make}
-use Rattle.call_stages.specs.spk_nums.specs.declared.calls.Make.TheVariants as make
-use Rattle.call_stages.specs.act_states.specs.declared.objects.NewObject.{NewObject}
-use Rattle.call_stages.specs.act_states.specs.declared.objects.NewObject.TheVariants.{Table as NewTable, Leaf as NewLeaf, Pages as NewPages}
-use Rattle.call_stages.specs.act_states.specs.declared.objects.NewObject.TheVariants.{Pleaf as NewPleaf, Thread as NewThread}
-use Rattle.call_stages.specs.act_states.specs.declared.objects.NewObject.TheVariants.{Tcap as NewTcap}
-use Rattle.call_stages.specs.act_states.specs.Objects.{object_cap, object_made, counts_of, last_word, thread_on, ObjectFits}
-use Rattle.call_stages.specs.act_states.specs.declared.own.Own.{Own}
-use Rattle.call_stages.specs.act_states.specs.declared.work.Act.{Act as ActType}
-use Rattle.call_stages.specs.act_states.specs.declared.work.Act.TheVariants.{Fill as fill_act, Remove as remove_act, Retype as type_act}
-use Rattle.call_stages.specs.act_states.specs.declared.work.Act.TheVariants.{Make as make_act, Outside, Tick as tick_act, Kill as kill_act}
-use Rattle.call_stages.specs.act_states.specs.declared.work.Act.TheVariants.{Flush as flush_act, Untype as untype_act, Map as map_act}
-use Rattle.call_stages.specs.act_states.specs.declared.work.Act.TheVariants.{MakeComp as comp_act, Invoke as invoke_act}
-use Rattle.call_stages.specs.act_states.specs.declared.work.Act.TheVariants.{Return as return_act}
-use Rattle.call_stages.specs.act_states.specs.declared.work.Act.TheVariants.{Switch as switch_act, Touch as touch_act, Share as share_act}
-use Rattle.call_stages.specs.act_states.specs.declared.work.Act.TheVariants.{Refill as refill_act}
-use Rattle.call_stages.specs.act_states.specs.declared.work.Work.TheVariants.{Lookup}
-use Rattle.call_stages.specs.act_states.specs.declared.work.WorkStep.{WorkStep}
-use Rattle.call_stages.specs.act_states.specs.declared.work.WorkStep.TheVariants.{Goes, Acquires, Refuses, Answers, Changes}
-use Rattle.call_stages.specs.act_states.specs.Acts.{ActFits, act_left, looked, dues, scans, stamp_in, filling, fills_with}
-use Rattle.call_stages.specs.act_states.specs.Acts.{removing, removes_held, removes_at, types_if, types_at, gate_if, gate_to, frame_named}
-use Rattle.call_stages.specs.act_states.specs.Acts.{reads_of, starts, making, making_if, makes_in, makes_at, act_begun, next_work}
-use Rattle.call_stages.specs.act_states.specs.Acts.{kills_in, kills_at, kept_of, link_to, is_pages, page_cap, mapping, mapping_if}
-use Rattle.call_stages.specs.act_states.specs.Acts.{maps_if, maps_at, comp_making, comp_if, comps_in, comps_at, made_begun}
-use Rattle.call_stages.specs.act_states.specs.Acts.{invokes_in, invokes_if, invokes_at, returns_if, returns_at, switches_at, part_if}
-use Rattle.call_stages.specs.act_states.specs.Acts.{parts_at}
-use Rattle.call_stages.specs.stage_tcap.specs.declared.pair.PairAt.TheVariants.{LoadA}
-use Rattle.call_stages.specs.stage_tcap.specs.declared.pair.PairWork.{PairWork}
-use Rattle.call_stages.specs.stage_tcap.specs.declared.pair.PairWork.TheVariants as share
-use Rattle.call_stages.specs.act_states.specs.Shares.{share_left, shares_if, shares_at}
-use Rattle.call_stages.specs.act_states.specs.Refills.{refills_at}
-use Rattle.call_stages.specs.act_states.specs.Scans.{ScanFits, left_of_scan, left_of_cores}
-use Rattle.call_stages.specs.act_states.specs.Touches.{touches_if}
-use Rattle.call_stages.specs.act_states.specs.Lookups.{looks_under, looks_entry, looks_at, read_first, next_step}
-use Rattle.call_stages.specs.Fits.{IsWanted, FoundFits}
-use Rattle.call_stages.specs.Fits.{looks_later, after_reading, acts_later, IsOwn}
+use low.Objects.{object_cap, object_made, thread_on, ObjectFits}
+use low.Acts.{removing, frame_named, making, making_if, makes_in, kept_of, link_to, is_pages, mapping, mapping_if, comp_making, comp_if}
+use low.Acts.{comps_in, returns_at, part_if}
+use Rattle.call_stages.specs.Fits.{IsWanted, looks_later, after_reading, acts_later}
 use Rattle.act_fits.proofs.NamedFit.{TwoNamed, ObjectNamed}
 use Rattle.act_fits.proofs.DuesFit.{StepFits, cap_one, work_next, counts_next}
+use low.{next_step, declared.work.Work.TheVariants.Lookup}
 
 -- what the first name has led to names frames of the machine
 pub first_named : (frames : ℕ) (names : List Name) (caps : List Named) (ks : List Capability) → Leads (IsWanted frames) names caps ks
@@ -221,14 +172,14 @@ grow_words false cores = omega arith
 pub removed_held : (s : Shape) (later most core : ℕ) (f : Found) (value : Entry) → core < s.cores → EntryNames s.frames value
     → f.node < s.frames → f.entry < 64 → 6 ≤ most
     → StepFits s [] later most (removes_held core f value)
-removed_held s later most core f entry.Free here names node small some = (omega arith, tt)
-removed_held s later most core f (entry.Held k) here names node small some =
+removed_held s later most core f Entry.Free here names node small some = (omega arith, tt)
+removed_held s later most core f (Entry.Held k) here names node small some =
     let act : ActType = removing core k f in
     let next = work_next s later core 0 act (slice_get (dues act) 0) refl here ((node, small), names) in
     let one = cap_one k.kind k.frame k.arg (negsuc 0) in
     (next.0, (let fewer = next.1 in omega arith), counts_next core 0 [] act (slice_get (dues act) 0) refl refl (omega arith))
-removed_held s later most core f (entry.Closing by) here names node small some = (omega arith, tt)
-removed_held s later most core f (entry.Quiescing stamp) here names node small some = (omega arith, tt)
+removed_held s later most core f (Entry.Closing by) here names node small some = (omega arith, tt)
+removed_held s later most core f (Entry.Quiescing stamp) here names node small some = (omega arith, tt)
 
 pub removed : (s : Shape) (later most core : ℕ) (target : Option Found) → core < s.cores → IfSome target (PlaceFits s) → 6 ≤ most
     → StepFits s [] later most (removes_at core target)
@@ -349,7 +300,7 @@ maps own later (Some range) f w (Some at) h fits = by_flags (nat_lt w.0 4)
         let many = h.shape.some_core in
         let below : f < own.layout.frames = ltb-true f own.layout.frames (both (has_frame (found range) f) (nat_lt f own.layout.frames) is)
         in
-        let one = cap_one kind.Page f w.0 (pos 1) in
+        let one = cap_one Kind.Page f w.0 (pos 1) in
         scans_fit own.layout later (4 + 2 * own.layout.cores) own.core (mapping f w at) true
         (quiet_scan (stamp_in at.value) own.core own.layout.cores true) h.core
         (record { node = fits.node; entry = fits.entry; cap = page_below own.layout.frames f w below }, below)
@@ -450,24 +401,24 @@ comp_at own later live (Some range) (Some table) (Some pages) f None h small roo
 made_fits : (s : Shape) (what : Make) (r f t b : ℕ) (found : List Capability) (cores : ℕ) → MakeInLimits what
     → ObjectNamed s.frames (make_call what r f t b) found
     → IfSome (object_made what found) (λ o. ObjectFits s o × (making_steps o cores ≤ make_steps what cores))
-made_fits s make.Table r f t b found cores limits named = (record { pair = tt; names = tt }, omega arith)
-made_fits s make.Leaf r f t b found cores limits named = (record { pair = tt; names = tt }, omega arith)
-made_fits s make.Pages r f t b found cores limits named = (record { pair = tt; names = tt }, omega arith)
-made_fits s make.Pleaf r f t b found cores limits named = (record { pair = tt; names = tt }, omega arith)
-made_fits s (make.Thread comp) r f t b found cores limits named = by (at_place found Third) named
+made_fits s Make.Table r f t b found cores limits named = (record { pair = tt; names = tt }, omega arith)
+made_fits s Make.Leaf r f t b found cores limits named = (record { pair = tt; names = tt }, omega arith)
+made_fits s Make.Pages r f t b found cores limits named = (record { pair = tt; names = tt }, omega arith)
+made_fits s Make.Pleaf r f t b found cores limits named = (record { pair = tt; names = tt }, omega arith)
+made_fits s (Make.Thread comp) r f t b found cores limits named = by (at_place found Third) named
   where
     by : (o : Option Capability) → IfSome o (λ k. k.frame < s.frames)
-        → IfSome (thread_on o) (λ o. ObjectFits s o × (making_steps o cores ≤ make_steps (make.Thread comp) cores))
+        → IfSome (thread_on o) (λ o. ObjectFits s o × (making_steps o cores ≤ make_steps (Make.Thread comp) cores))
     by None below = tt
     by (Some k) below = (record { pair = tt; names = below }, omega arith)
-made_fits s (make.Tcap sched quality) r f t b found cores limits named = (record { pair = limits; names = tt }, omega arith)
-made_fits s (make.Comp table pages live) r f t b found cores limits named = tt
+made_fits s (Make.Tcap sched quality) r f t b found cores limits named = (record { pair = limits; names = tt }, omega arith)
+made_fits s (Make.Comp table pages live) r f t b found cores limits named = tt
 
 -- the act of a make
 begun_made : (own : Own) (later : ℕ) (what : Make) (r f t b : ℕ) (found : List Capability) (target : Option Found) → IsOwn own
     → ObjectNamed own.layout.frames (make_call what r f t b) found → MakeInLimits what → IfSome target (PlaceFits own.layout)
     → StepFits own.layout [] later (make_steps what own.layout.cores) (made_begun own what found f target)
-begun_made own later (make.Comp table pages live) r f t b found target h named limits fits =
+begun_made own later (Make.Comp table pages live) r f t b found target h named limits fits =
     comp_at own later live (at_place found First) (at_place found Third) (at_place found Fourth) f target h limits named.0 named.1 fits
 begun_made own later what r f t b found target h named limits fits =
     made_at own later (make_steps what own.layout.cores) (object_made what found) (at_place found First) f target h fits
@@ -476,17 +427,17 @@ begun_made own later what r f t b found target h named limits fits =
 -- the act that kills a component
 kills : (s : Shape) (later most core : ℕ) (kind : Kind) (f arg : ℕ) → core < s.cores
     → CapNames s.frames (cap_of kind f arg) → 8 ≤ most → StepFits s [] later most (kills_in core kind f)
-kills s later most core kind.Comp f arg here names some = (record { comp = omega arith; core = here; at = tt }, omega arith, refl)
-kills s later most core kind.Range f arg here names some = (omega arith, tt)
-kills s later most core kind.Table f arg here names some = (omega arith, tt)
-kills s later most core kind.Leaf f arg here names some = (omega arith, tt)
-kills s later most core kind.Pages f arg here names some = (omega arith, tt)
-kills s later most core kind.Pleaf f arg here names some = (omega arith, tt)
-kills s later most core kind.Gate f arg here names some = (omega arith, tt)
-kills s later most core kind.Thread f arg here names some = (omega arith, tt)
-kills s later most core kind.Tcap f arg here names some = (omega arith, tt)
-kills s later most core kind.Link f arg here names some = (omega arith, tt)
-kills s later most core kind.Page f arg here names some = (omega arith, tt)
+kills s later most core Kind.Comp f arg here names some = (record { comp = omega arith; core = here; at = tt }, omega arith, refl)
+kills s later most core Kind.Range f arg here names some = (omega arith, tt)
+kills s later most core Kind.Table f arg here names some = (omega arith, tt)
+kills s later most core Kind.Leaf f arg here names some = (omega arith, tt)
+kills s later most core Kind.Pages f arg here names some = (omega arith, tt)
+kills s later most core Kind.Pleaf f arg here names some = (omega arith, tt)
+kills s later most core Kind.Gate f arg here names some = (omega arith, tt)
+kills s later most core Kind.Thread f arg here names some = (omega arith, tt)
+kills s later most core Kind.Tcap f arg here names some = (omega arith, tt)
+kills s later most core Kind.Link f arg here names some = (omega arith, tt)
+kills s later most core Kind.Page f arg here names some = (omega arith, tt)
 
 killed : (own : Own) (later most : ℕ) (k : Option Capability) → IsOwn own → IfSome k (CapNames own.layout.frames) → 8 ≤ most
     → StepFits own.layout [] later most (kills_at own k)
@@ -497,7 +448,7 @@ killed own later most (Some k) h names some = kills own.layout later most own.co
 invokes : (own : Own) (later most : ℕ) (kind : Kind) (f arg : ℕ) → IsOwn own
     → CapNames own.layout.frames (cap_of kind f arg) → 9 ≤ most
     → StepFits own.layout [] later most (invokes_in own kind f arg)
-invokes own later most kind.Gate f arg h names some = by (nat_le 16 own.depth) refl
+invokes own later most Kind.Gate f arg h names some = by (nat_le 16 own.depth) refl
   where
     by : (deep : Bool) → nat_le 16 own.depth ≡ deep → StepFits own.layout [] later most (invokes_if deep own f arg)
     by true is = (omega arith, tt)
@@ -515,16 +466,16 @@ invokes own later most kind.Gate f arg h names some = by (nat_le 16 own.depth) r
       omega arith,
       refl,
     )
-invokes own later most kind.Comp f arg h names some = (omega arith, tt)
-invokes own later most kind.Range f arg h names some = (omega arith, tt)
-invokes own later most kind.Table f arg h names some = (omega arith, tt)
-invokes own later most kind.Leaf f arg h names some = (omega arith, tt)
-invokes own later most kind.Pages f arg h names some = (omega arith, tt)
-invokes own later most kind.Pleaf f arg h names some = (omega arith, tt)
-invokes own later most kind.Thread f arg h names some = (omega arith, tt)
-invokes own later most kind.Tcap f arg h names some = (omega arith, tt)
-invokes own later most kind.Link f arg h names some = (omega arith, tt)
-invokes own later most kind.Page f arg h names some = (omega arith, tt)
+invokes own later most Kind.Comp f arg h names some = (omega arith, tt)
+invokes own later most Kind.Range f arg h names some = (omega arith, tt)
+invokes own later most Kind.Table f arg h names some = (omega arith, tt)
+invokes own later most Kind.Leaf f arg h names some = (omega arith, tt)
+invokes own later most Kind.Pages f arg h names some = (omega arith, tt)
+invokes own later most Kind.Pleaf f arg h names some = (omega arith, tt)
+invokes own later most Kind.Thread f arg h names some = (omega arith, tt)
+invokes own later most Kind.Tcap f arg h names some = (omega arith, tt)
+invokes own later most Kind.Link f arg h names some = (omega arith, tt)
+invokes own later most Kind.Page f arg h names some = (omega arith, tt)
 
 invoked : (own : Own) (later most : ℕ) (k : Option Capability) → IsOwn own → IfSome k (CapNames own.layout.frames) → 9 ≤ most
     → StepFits own.layout [] later most (invokes_at own k)
@@ -650,11 +601,11 @@ act_fits own later Ret found read target h names objects limits fits = returned 
 act_fits own later (Switch t q) found read target h names objects limits fits =
     switched own later (at_place found First) (at_place found Second) h objects.0 objects.1
 act_fits own later (Transfer a b m) found read target h names objects limits fits =
-    shared own.layout later 21 own.core (share.Transfer m) found objects (omega arith)
+    shared own.layout later 21 own.core (PairWork.Transfer m) found objects (omega arith)
 act_fits own later (Delegate a b m) found read target h names objects limits fits =
-    shared own.layout later 30 own.core (share.Delegate m) found objects (omega arith)
+    shared own.layout later 30 own.core (PairWork.Delegate m) found objects (omega arith)
 act_fits own later (Test a b) found read target h names objects limits fits =
-    shared own.layout later 21 own.core share.Test found objects (omega arith)
+    shared own.layout later 21 own.core PairWork.Test found objects (omega arith)
 act_fits own later (Replenish a m) found read target h names objects limits fits =
     refilled own later 10 m (at_place found First) objects (omega arith)
 act_fits own later (Part r f n t b) found read target h names objects limits fits =

@@ -1,41 +1,19 @@
 -- Where the steps of a switch lead to fits their machine, and leaves fewer steps.
-use Rattle.std.proofs.Common.{◌≡◌, ℕ, ◌+◌, ◌==◌, ◌<◌, ◌≤◌, nat_lt, Bool, true}
-use Rattle.std.proofs.Common.{false, length, Option, Some, None, refl, sym, subst, arith, slice_get}
-use Rattle.std.proofs.lemmas.Bool.{ltb-true}
-use Rattle.call_stages.specs.tcap_words.specs.Stack.{stack_of_word}
-use Rattle.call_stages.specs.tcap_words.specs.Thread.{word_of_thread, thread_of_word}
-use Rattle.call_stages.specs.tcap_words.specs.declared.stack_word.StackWord.{StackWord}
-use Rattle.call_stages.specs.tcap_words.specs.declared.thread_word.ThreadWord.{ThreadWord}
-use Rattle.call_stages.specs.tcap_words.specs.declared.thread_word.ThreadWord.TheVariants as thread
-use Rattle.call_stages.specs.tcap_words.proofs.ThreadLemmas as words
-use Rattle.call_stages.specs.stage_thread.specs.Claiming.{claimed_at, claimed_within, top_end, stack_end}
-use Rattle.call_stages.specs.stage_thread.specs.Claiming.{thread_end, thread_after, claim_compared, compared_after}
-use Rattle.call_stages.specs.stage_thread.specs.declared.claim.Claim.TheVariants.{AtLoad, AtCompare, AtStack}
-use Rattle.call_stages.specs.stage_thread.specs.declared.claim.Claimed.{Claimed}
-use Rattle.call_stages.specs.stage_quiet.specs.Clocks.{drawn_stamp}
-use Rattle.call_stages.specs.act_states.specs.Invocations.{frame_in}
-use Rattle.call_stages.specs.act_states.specs.Switches.{SwitchAtFits, SwitchingFits, switching_dues, switching_left}
-use Rattle.call_stages.specs.act_states.specs.Switches.{switching_undo, switch_goes, took_claim, switch_table, switched}
-use Rattle.call_stages.specs.act_states.specs.Acts.{dues, next_work, switch_pages, took_switching_at}
-use Rattle.call_stages.specs.act_states.specs.declared.own.Own.{Own}
-use Rattle.call_stages.specs.act_states.specs.declared.refusals.Refusal.{Refusal}
-use Rattle.call_stages.specs.act_states.specs.declared.refusals.Refusal.TheVariants as refusal
-use Rattle.call_stages.specs.act_states.specs.declared.switches.Switching.{Switching}
-use Rattle.call_stages.specs.act_states.specs.declared.switches.SwitchAt.{SwitchAt}
+use Rattle.act_fits.proofs.Common.{◌≡◌, ℕ, ◌+◌, ◌==◌, ◌<◌, ◌≤◌, nat_lt, Bool, true, false, length, Option, Some, None, refl, sym, subst}
+use Rattle.act_fits.proofs.Common.{arith, slice_get, ltb-true, stack_of_word, StackWord, Claimed, drawn_stamp, frame_in, SwitchAtFits}
+use Rattle.act_fits.proofs.Common.{SwitchingFits, switching_dues, dues, next_work, Own, Refusal, Switching, SwitchAt, ActType}
+use Rattle.act_fits.proofs.Common.{switch_act as Switch, Tail, Nothing, Act, Goes, Refuses, ActiveCall, landed, tail_left, TailFits}
+use Rattle.act_fits.proofs.Common.{steps_later, work_left}
+use Rattle.call_stages.specs.act_states.specs.{word_of_thread, thread_of_word, ThreadWord, AtStack, switching_undo, took_claim}
+use Rattle.call_stages.specs.act_states.specs.{switch_table, switch_pages, took_switching_at}
+use Rattle.call_stages.specs.stage_thread.specs.{claimed_within, stack_end, thread_end, thread_after, claim_compared, compared_after}
+use Rattle.call_stages.specs.stage_thread.specs.Claiming.{claimed_at, top_end}
+use Rattle.call_stages.specs.stage_thread.specs.declared.claim.Claim.TheVariants.{AtLoad, AtCompare}
+use Rattle.call_stages.specs.act_states.specs.Switches.{switching_left, switch_goes, switched}
 use Rattle.call_stages.specs.act_states.specs.declared.switches.SwitchAt.TheVariants.{Claim, LoadTable, LoadPages, Leave, Draw}
-use Rattle.call_stages.specs.act_states.specs.declared.work.Act.{Act as ActType}
-use Rattle.call_stages.specs.act_states.specs.declared.work.Act.TheVariants.{Switch}
-use Rattle.call_stages.specs.act_states.specs.declared.work.Tail.{Tail}
-use Rattle.call_stages.specs.act_states.specs.declared.work.Tail.TheVariants.{Nothing}
-use Rattle.call_stages.specs.act_states.specs.declared.work.Work.TheVariants.{Act}
-use Rattle.call_stages.specs.act_states.specs.declared.work.WorkStep.TheVariants.{Goes, Refuses}
-use Rattle.call_stages.specs.declared.stages.ActiveCall.{ActiveCall}
-use Rattle.call_stages.specs.Steps.{landed}
-use Rattle.call_stages.specs.Tails.{tail_left}
-use Rattle.call_stages.specs.Fits.{TailFits, steps_later, work_left}
-use Rattle.act_fits.proofs.DuesFit.{work_next, counts_next, few_dues}
-use Rattle.act_fits.proofs.LandsFit.{TookFits, Facts, landed_fits}
-use Rattle.act_fits.proofs.InvocationsFit.{frame_below}
+use Rattle.act_fits.proofs.{DuesFit.work_next, DuesFit.counts_next, DuesFit.few_dues, LandsFit.TookFits, LandsFit.Facts}
+use Rattle.act_fits.proofs.{LandsFit.landed_fits, InvocationsFit.frame_below}
+use Rattle.call_stages.specs.tcap_words.proofs.ThreadLemmas as words
 
 -- What a refused call has still to store fits, and is no more than was to come.
 pub switching_undone : (own : Own) (m : Switching) (at : SwitchAt) → SwitchingFits own.layout (record m { at = at })
@@ -99,24 +77,24 @@ module _ (own : Own) (a : ActiveCall) (facts : Facts own a) (room : own.made < o
     where
       by : (o : Option ThreadWord) → thread_of_word found ≡ o
           → TookFits own (2 + length a.counts + 21) a (landed a (took_claim m (thread_after f core o) (thread_end o)))
-      by None is = gives_up _ refusal.Raced Nothing tt (omega arith)
-      by (Some (thread.Idle depth)) is =
+      by None is = gives_up _ Refusal.Raced Nothing tt (omega arith)
+      by (Some (ThreadWord.Idle depth)) is =
           goes m (Claim (AtLoad f core)) (Claim (AtCompare f core depth)) fits
-          (fits.at, (words.spelling.spells found (thread.Idle depth) is).0) waits (omega arith)
-      by (Some (thread.Running d depth)) is = gives_up _ (refusal.Running d) Nothing tt (omega arith)
-      by (Some (thread.Claimed d depth)) is = gives_up _ (refusal.Busy d) Nothing tt (omega arith)
+          (fits.at, (words.spelling.spells found (ThreadWord.Idle depth) is).0) waits (omega arith)
+      by (Some (ThreadWord.Running d depth)) is = gives_up _ (Refusal.Running d) Nothing tt (omega arith)
+      by (Some (ThreadWord.Claimed d depth)) is = gives_up _ (Refusal.Busy d) Nothing tt (omega arith)
 
   compare_fits : (m : Switching) (f core depth : ℕ) (same : Bool)
       → SwitchingFits own.layout (record m { at = Claim (AtCompare f core depth) }) → length a.counts ≡ 0
       → TookFits own (2 + length a.counts + 20) a (landed a (took_claim m (compared_after same f core depth) (claim_compared same)))
   compare_fits m f core depth true fits waits =
       goes m (Claim (AtCompare f core depth)) (Claim (AtStack f depth)) fits fits.at waits (omega arith)
-  compare_fits m f core depth false fits waits = gives_up _ refusal.Raced Nothing tt (omega arith)
+  compare_fits m f core depth false fits waits = gives_up _ Refusal.Raced Nothing tt (omega arith)
 
   stack_fits : (m : Switching) (f depth : ℕ) (o : Option StackWord)
       → SwitchingFits own.layout (record m { at = Claim (AtStack f depth) }) → length a.counts ≡ 0
       → TookFits own (2 + length a.counts + 19) a (landed a (took_claim m (AtStack f depth) (stack_end m.frames f depth o)))
-  stack_fits m f depth None fits waits = gives_up _ refusal.Raced _ fits.at (omega arith)
+  stack_fits m f depth None fits waits = gives_up _ Refusal.Raced _ fits.at (omega arith)
   stack_fits m f depth (Some v) fits waits = top v.0
     where
       within : (comp : ℕ) (b : Bool) → nat_lt comp m.frames ≡ b
@@ -129,11 +107,11 @@ module _ (own : Own) (a : ActiveCall) (facts : Facts own a) (room : own.made < o
             depth = fits.at.1;
             comp = subst (λ (n : ℕ). comp < n) fits.frames (ltb-true comp m.frames is);
           }) waits (omega arith)
-      within comp false is = gives_up _ refusal.Raced _ fits.at (omega arith)
+      within comp false is = gives_up _ Refusal.Raced _ fits.at (omega arith)
 
       top : (o : Option ℕ) → TookFits own (2 + length a.counts + 19) a
           (landed a (took_claim m (AtStack f depth) (top_end m.frames f depth o)))
-      top None = gives_up _ refusal.Raced _ fits.at (omega arith)
+      top None = gives_up _ Refusal.Raced _ fits.at (omega arith)
       top (Some comp) = within comp (nat_lt comp m.frames) refl
 
   pub switch_fits : (m : Switching) (at : SwitchAt) (found : ℕ) → SwitchingFits own.layout (record m { at = at })
@@ -141,12 +119,12 @@ module _ (own : Own) (a : ActiveCall) (facts : Facts own a) (room : own.made < o
       → TookFits own (2 + length a.counts + switching_left at) a (landed a (took_switching_at m at found))
   switch_fits m (Claim (AtLoad f core)) found fits waits = load_fits m f core found fits waits
   switch_fits m (Claim (AtCompare f core depth)) found fits waits =
-      compare_fits m f core depth (found == word_of_thread (thread.Idle depth)) fits waits
+      compare_fits m f core depth (found == word_of_thread (ThreadWord.Idle depth)) fits waits
   switch_fits m (Claim (AtStack f depth)) found fits waits = stack_fits m f depth (stack_of_word found) fits waits
   switch_fits m (LoadTable to) found fits waits = by (frame_in m.frames found) refl
     where
       by : (o : Option ℕ) → frame_in m.frames found ≡ o → TookFits own (2 + length a.counts + 18) a (landed a (switch_table m to o))
-      by None is = gives_up _ refusal.Raced _ (fits.at.thread, fits.at.depth) (omega arith)
+      by None is = gives_up _ Refusal.Raced _ (fits.at.thread, fits.at.depth) (omega arith)
       by (Some table) is =
           goes m (LoadTable to) (LoadPages to table) fits
           (fits.at, subst (λ (n : ℕ). table < n) fits.frames (frame_below m.frames found table is)) waits (omega arith)
@@ -154,7 +132,7 @@ module _ (own : Own) (a : ActiveCall) (facts : Facts own a) (room : own.made < o
     where
       by : (o : Option ℕ) → frame_in m.frames found ≡ o
           → TookFits own (2 + length a.counts + 17) a (landed a (switch_pages m to table o))
-      by None is = gives_up _ refusal.Raced _ (fits.at.0.thread, fits.at.0.depth) (omega arith)
+      by None is = gives_up _ Refusal.Raced _ (fits.at.0.thread, fits.at.0.depth) (omega arith)
       by (Some pages) is =
           counts_first m to table pages (stands_at own m (LoadPages to table) (Leave to table pages) fits
           (fits.at.0, fits.at.1, subst (λ (n : ℕ). pages < n) fits.frames (frame_below m.frames found pages is))) waits

@@ -1,97 +1,57 @@
 -- Where the steps of an untyping lead to fits its machine, and leaves fewer steps.
-use Rattle.std.proofs.Common.{◌≡◌, ℕ, suc, ℤ, ◌≢◌, nat_lt, if◌then◌else◌, ◌+◌, ◌*◌, ◌-◌, ◌++◌, ◌<◌, ◌≤◌, ◌==◌, Bool, true, false, List}
-use Rattle.std.proofs.Common.{[], ◌∷◌, length, length-append, Option, Some, None, IfSome, refl, sym, ap, subst, arith, slice_get}
-use Rattle.std.proofs.lemmas.List.Elements.{All-nil, All-tail}
-use Rattle.std.proofs.lemmas.Bool.{ltb-true, ltb-false, eqb-true, eqb-false}
-use Rattle.call_stages.specs.spk_nums.specs.declared.kinds.FrameKind.{FrameKind}
-use Rattle.call_stages.specs.spk_nums.specs.declared.kinds.FrameKind.TheVariants.{Untyped, User, Kernel}
-use Rattle.call_stages.specs.spk_nums.specs.declared.kinds.Obj.{Obj}
-use Rattle.call_stages.specs.spk_nums.specs.declared.kinds.Obj.TheVariants as obj
-use Rattle.call_stages.specs.spk_nums.specs.declared.replies.Reply.{Reply}
-use Rattle.call_stages.specs.spk_nums.specs.declared.steps.StageEnd.{StageEnd}
-use Rattle.call_stages.specs.spk_nums.specs.declared.steps.StageEnd.TheVariants as ends
-use Rattle.call_stages.specs.frame_words.specs.Count.{word_of_count, count_of_word}
-use Rattle.call_stages.specs.frame_words.specs.Frame.{word_of_frame, frame_of_word}
-use Rattle.call_stages.specs.frame_words.specs.declared.count_word.CountWord.{CountWord}
-use Rattle.call_stages.specs.frame_words.specs.declared.frame_word.FrameWord.{FrameWord}
-use Rattle.call_stages.specs.frame_words.proofs.FrameLemmas as frames
-use Rattle.call_stages.specs.tcap_words.specs.Stack.{stack_of_word}
-use Rattle.call_stages.specs.tcap_words.specs.declared.stack_word.StackWord.{StackWord}
-use Rattle.call_stages.specs.word_map.specs.Places.{Shape, IsShape}
-use Rattle.call_stages.specs.stage_pins.specs.Counts.{unheld}
-use Rattle.call_stages.specs.stage_pins.specs.declared.held.Acquired.{Acquired}
-use Rattle.call_stages.specs.stage_pins.specs.Held.{AllFit, AcquiredFits}
-use Rattle.call_stages.specs.stage_quiet.specs.Clocks.{drawn_stamp}
-use Rattle.call_stages.specs.stage_quiet.specs.Scan.{QuietFits, first_other, next_other, flush_scan, core_scan, quiet_scan}
-use Rattle.call_stages.specs.stage_quiet.specs.Scan.{quiet_refuses, scan_end, scan_after, quiet_end, quiet_after}
-use Rattle.call_stages.specs.stage_quiet.specs.declared.quiet.Quiet.{Quiet}
-use Rattle.call_stages.specs.stage_quiet.specs.declared.quiet.Quiet.TheVariants.{AtCore, AtFlush}
-use Rattle.call_stages.specs.stage_sweep.specs.Counters.{counters_of, sum_of_counts, latest_stamp}
-use Rattle.call_stages.specs.stage_sweep.specs.Emptiness.{loads_of, may_be_cached, empty_refuses, frame_if, place_owned, stack_owned}
-use Rattle.call_stages.specs.stage_sweep.specs.Emptiness.{owns, owned_after}
-use Rattle.call_stages.specs.stage_sweep.specs.Freeze.{AtFits, frozen_if, frozen_at, kept_with, hold_refuses, load_refuses}
-use Rattle.call_stages.specs.stage_sweep.specs.Freeze.{compare_refuses, sum_refuses, refusal_of as quiet_refusal, refuses_at, load_next}
-use Rattle.call_stages.specs.stage_sweep.specs.Freeze.{empty_next, scan_next, compare_next, scan_goes, next_at, owned_at, at_after}
-use Rattle.call_stages.specs.stage_sweep.specs.Freeze.{sweep_kept, sweep_refuses, sweep_next, sweep_after, swept_of, end_by, sweep_end}
-use Rattle.call_stages.specs.stage_sweep.specs.Release.{ThawFits}
-use Rattle.call_stages.specs.stage_sweep.specs.declared.empty.Owned.{Owned}
-use Rattle.call_stages.specs.stage_sweep.specs.declared.sweep.Sweep.{Sweep}
-use Rattle.call_stages.specs.stage_sweep.specs.declared.sweep.SweepAt.{SweepAt}
-use Rattle.call_stages.specs.stage_sweep.specs.declared.sweep.SweepAt.TheVariants as sweep
-use Rattle.call_stages.specs.stage_sweep.specs.declared.sweep.Swept.{Swept}
-use Rattle.call_stages.specs.stage_sweep.specs.declared.thaw.Thaw.{Thaw}
+use Rattle.call_stages.specs.act_states.specs.{◌≡◌, ℕ, suc, ℤ, ◌≢◌, ltb as nat_lt, if◌then◌else◌, ◌+◌, ◌*◌, ◌-◌, ◌++◌, ◌<◌, ◌≤◌, ◌==◌, Bool}
+use Rattle.call_stages.specs.act_states.specs.{true, false, List, [], ◌∷◌, length, Option, Some, None, IfSome, refl, slice_get, FrameKind}
+use Rattle.call_stages.specs.act_states.specs.{Obj, Reply, StageEnd, word_of_count, count_of_word, word_of_frame, frame_of_word, CountWord}
+use Rattle.call_stages.specs.act_states.specs.{FrameWord, stack_of_word, StackWord, Shape, IsShape, unheld, Acquired, AllFit, drawn_stamp}
+use Rattle.call_stages.specs.act_states.specs.{QuietFits, first_other, next_other, flush_scan, core_scan, quiet_scan, quiet_refuses}
+use Rattle.call_stages.specs.act_states.specs.{scan_end, scan_after, quiet_end, quiet_after, Quiet, AtCore, AtFlush, counters_of}
+use Rattle.call_stages.specs.act_states.specs.{sum_of_counts, latest_stamp, loads_of, may_be_cached, at_after, swept_of, end_by, ThawFits}
+use Rattle.call_stages.specs.act_states.specs.{Owned, Sweep, SweepAt, Swept, Thaw, refusal_of, refuse, typed, OwnedBy, UntypingFits}
+use Rattle.call_stages.specs.act_states.specs.{released_dues, owned_dues, untyping_dues, release_of, thaw_left_by, release_after}
+use Rattle.call_stages.specs.act_states.specs.{untyping_undo, dues, next_work, meets_untyped, meets_untyping, sweeps_if, took_sweep}
+use Rattle.act_fits.proofs.Common.{sym, ap, subst, arith, ltb-true, ltb-false, eqb-true, eqb-false, Untyped, User, Kernel, Refusal, Own}
+use Rattle.act_fits.proofs.Common.{UntypingAt, ActType, untype_act, Tail, Act, Goes, Refuses, ActiveCall, Decided, GoesOn, landed}
+use Rattle.act_fits.proofs.Common.{went_with, took_tail, tail_counts, tail_left, TailFits, steps_later, work_left, left_at}
+use Rattle.call_stages.specs.stage_sweep.specs.{empty_refuses, AtFits, frozen_if, frozen_at, kept_with, load_refuses, compare_refuses}
+use Rattle.call_stages.specs.stage_sweep.specs.{sum_refuses, refusal_of as quiet_refusal, refuses_at, load_next, empty_next, scan_next}
+use Rattle.call_stages.specs.stage_sweep.specs.{compare_next, scan_goes, sweep_kept, sweep_refuses, sweep_next, sweep_after, sweep_end}
+use Rattle.std.proofs.{Common.length-append, lemmas.List.Elements.All-nil, lemmas.List.Elements.All-tail}
+use Rattle.call_stages.specs.stage_sweep.specs.Emptiness.{frame_if, place_owned, stack_owned, owns, owned_after}
+use Rattle.call_stages.specs.stage_sweep.specs.Freeze.{hold_refuses, next_at, owned_at}
 use Rattle.call_stages.specs.stage_sweep.proofs.SweepLemmas.{counters_within, some_counter, sweep_after_fits}
-use Rattle.call_stages.specs.act_states.specs.declared.refusals.Refusal.{Refusal}
-use Rattle.call_stages.specs.act_states.specs.declared.refusals.Refusal.TheVariants as refusal
-use Rattle.call_stages.specs.act_states.specs.declared.own.Own.{Own}
-use Rattle.call_stages.specs.act_states.specs.declared.untypings.Release.{Release}
-use Rattle.call_stages.specs.act_states.specs.declared.untypings.Untyping.{Untyping}
-use Rattle.call_stages.specs.act_states.specs.declared.untypings.UntypingAt.{UntypingAt}
 use Rattle.call_stages.specs.act_states.specs.declared.untypings.UntypingAt.TheVariants.{Load, Mark, Sweep as sweep_at, Draw}
-use Rattle.call_stages.specs.act_states.specs.declared.work.Act.{Act as ActType}
-use Rattle.call_stages.specs.act_states.specs.declared.work.Act.TheVariants.{Untype as untype_act}
-use Rattle.call_stages.specs.act_states.specs.declared.work.Tail.{Tail}
-use Rattle.call_stages.specs.act_states.specs.declared.work.Tail.TheVariants.{Release as release_tail}
-use Rattle.call_stages.specs.act_states.specs.declared.work.Work.TheVariants.{Act}
-use Rattle.call_stages.specs.act_states.specs.declared.work.WorkStep.TheVariants.{Goes, Refuses}
-use Rattle.call_stages.specs.act_states.specs.Refusals.{refusal_of}
-use Rattle.call_stages.specs.act_states.specs.WorkSteps.{refuse}
-use Rattle.call_stages.specs.act_states.specs.Typings.{typed}
-use Rattle.call_stages.specs.act_states.specs.Untypings.{OwnedBy, owned_most, OwnedFits, SweepAtFits, SweepsFrame, SweptFits}
-use Rattle.call_stages.specs.act_states.specs.Untypings.{UntypingFits, released_dues, owned_dues, untyping_dues, release_of}
-use Rattle.call_stages.specs.act_states.specs.Untypings.{ReleaseFits, thaw_left_by, after_store, release_after, thaw_left, release_left}
-use Rattle.call_stages.specs.act_states.specs.Untypings.{untyping_undo, others_left, quiet_left, object_left, sweep_left, untyping_left}
-use Rattle.call_stages.specs.act_states.specs.Acts.{dues, next_work, meets_untyped, meets_untyping, sweep_from}
-use Rattle.call_stages.specs.act_states.specs.Acts.{sweeps_if, took_sweep, drawn_untyped, took_untyping_at}
-use Rattle.call_stages.specs.declared.stages.ActiveCall.{ActiveCall}
-use Rattle.call_stages.specs.declared.stages.Stage.TheVariants.{Decided}
-use Rattle.call_stages.specs.Steps.{GoesOn, landed, went_with}
-use Rattle.call_stages.specs.Tails.{took_tail, tail_counts, tail_left}
-use Rattle.call_stages.specs.Fits.{TailFits, steps_later, work_left, left_at}
-use Rattle.act_fits.proofs.DuesFit.{work_next, counts_next}
-use Rattle.act_fits.proofs.LandsFit.{TookFits, Facts, landed_fits}
+use Rattle.call_stages.specs.act_states.specs.Untypings.{owned_most, OwnedFits, SweepAtFits, SweepsFrame, SweptFits, ReleaseFits}
+use Rattle.call_stages.specs.act_states.specs.Untypings.{after_store, thaw_left, release_left, others_left, quiet_left, object_left}
+use Rattle.call_stages.specs.act_states.specs.Untypings.{sweep_left, untyping_left}
+use Rattle.call_stages.specs.act_states.specs.Taking.{sweep_from, drawn_untyped}
+use Rattle.act_fits.proofs.{DuesFit.work_next, DuesFit.counts_next, LandsFit.TookFits, LandsFit.Facts, LandsFit.landed_fits}
+use Rattle.{call_stages.specs.act_states.specs.took_untyping_at, call_stages.specs.stage_pins.specs.Held.AcquiredFits}
+use Rattle.{call_stages.specs.act_states.specs.declared.untypings.Release.Release}
+use Rattle.{call_stages.specs.act_states.specs.declared.untypings.Untyping.Untyping}
+use Rattle.{call_stages.specs.act_states.specs.declared.work.Tail.TheVariants.Release as release_tail}
+use Rattle.call_stages.specs.frame_words.proofs.FrameLemmas as frames
 
 -- the words of an object, with the counts that it releases, are few
 object_few : (o : Obj) → object_left o ≤ 64
-object_few obj.Blank = omega arith
-object_few obj.Table = omega arith
-object_few obj.Leaf = omega arith
-object_few obj.Pages = omega arith
-object_few obj.Pleaf = omega arith
-object_few obj.Comp = omega arith
-object_few obj.Thread = omega arith
-object_few obj.Tcap = omega arith
+object_few Obj.Blank = omega arith
+object_few Obj.Table = omega arith
+object_few Obj.Leaf = omega arith
+object_few Obj.Pages = omega arith
+object_few Obj.Pleaf = omega arith
+object_few Obj.Comp = omega arith
+object_few Obj.Thread = omega arith
+object_few Obj.Tcap = omega arith
 
 -- nothing is known yet of what an object names
 owned_none : (o : Obj) → OwnedBy o (record { first = None; second = None })
-owned_none obj.Blank = (refl, refl)
-owned_none obj.Table = (refl, refl)
-owned_none obj.Leaf = (refl, refl)
-owned_none obj.Pages = (refl, refl)
-owned_none obj.Pleaf = (refl, refl)
-owned_none obj.Comp = tt
-owned_none obj.Thread = refl
-owned_none obj.Tcap = (refl, refl)
+owned_none Obj.Blank = (refl, refl)
+owned_none Obj.Table = (refl, refl)
+owned_none Obj.Leaf = (refl, refl)
+owned_none Obj.Pages = (refl, refl)
+owned_none Obj.Pleaf = (refl, refl)
+owned_none Obj.Comp = tt
+owned_none Obj.Thread = refl
+owned_none Obj.Tcap = (refl, refl)
 
 -- so many counts are due of it at most
 two_most : (f g : Option ℕ) → length (released_dues f g) ≤ 2
@@ -111,14 +71,14 @@ none_due (Some f) g is nil = absurd (cc)
 none_due None (Some g) is nil = absurd (cc)
 
 owned_few : (object : Obj) (o : Owned) → OwnedBy object o → length (owned_dues o) ≤ owned_most object
-owned_few obj.Comp o by = two_most o.first o.second
-owned_few obj.Thread o by = one_most o.first o.second by
-owned_few obj.Blank o by = none_due o.first o.second by.0 by.1
-owned_few obj.Table o by = none_due o.first o.second by.0 by.1
-owned_few obj.Leaf o by = none_due o.first o.second by.0 by.1
-owned_few obj.Pages o by = none_due o.first o.second by.0 by.1
-owned_few obj.Pleaf o by = none_due o.first o.second by.0 by.1
-owned_few obj.Tcap o by = none_due o.first o.second by.0 by.1
+owned_few Obj.Comp o by = two_most o.first o.second
+owned_few Obj.Thread o by = one_most o.first o.second by
+owned_few Obj.Blank o by = none_due o.first o.second by.0 by.1
+owned_few Obj.Table o by = none_due o.first o.second by.0 by.1
+owned_few Obj.Leaf o by = none_due o.first o.second by.0 by.1
+owned_few Obj.Pages o by = none_due o.first o.second by.0 by.1
+owned_few Obj.Pleaf o by = none_due o.first o.second by.0 by.1
+owned_few Obj.Tcap o by = none_due o.first o.second by.0 by.1
 
 -- what a step finds that it names are frames of the machine
 frame_below : (frames : ℕ) (f : ℕ) → IfSome (frame_if (nat_lt f frames) f) (λ g. g < frames)
@@ -143,59 +103,59 @@ owns_fits frames false f o below fits = record { first = fits.first; second = be
 
 after_fits : (frames : ℕ) (object : Obj) (at found : ℕ) (o : Owned) → OwnedFits frames o
     → OwnedFits frames (owned_after frames object at found o)
-after_fits frames obj.Comp at found o fits = owns_fits frames (at == 0) _ o (frame_below frames found) fits
-after_fits frames obj.Thread at found o fits = by (at == 0)
+after_fits frames Obj.Comp at found o fits = owns_fits frames (at == 0) _ o (frame_below frames found) fits
+after_fits frames Obj.Thread at found o fits = by (at == 0)
   where
     by : (first : Bool) → OwnedFits frames (if first then o else owns true (stack_owned frames (stack_of_word found)) o)
     by true = fits
     by false = owns_fits frames true _ o (stack_below frames (stack_of_word found)) fits
-after_fits frames obj.Blank at found o fits = fits
-after_fits frames obj.Table at found o fits = fits
-after_fits frames obj.Leaf at found o fits = fits
-after_fits frames obj.Pages at found o fits = fits
-after_fits frames obj.Pleaf at found o fits = fits
-after_fits frames obj.Tcap at found o fits = fits
+after_fits frames Obj.Blank at found o fits = fits
+after_fits frames Obj.Table at found o fits = fits
+after_fits frames Obj.Leaf at found o fits = fits
+after_fits frames Obj.Pages at found o fits = fits
+after_fits frames Obj.Pleaf at found o fits = fits
+after_fits frames Obj.Tcap at found o fits = fits
 
 after_by : (frames : ℕ) (object : Obj) (at found : ℕ) (o : Owned) → OwnedBy object o
     → OwnedBy object (owned_after frames object at found o)
-after_by frames obj.Comp at found o by = tt
-after_by frames obj.Thread at found o is = by (at == 0)
+after_by frames Obj.Comp at found o by = tt
+after_by frames Obj.Thread at found o is = by (at == 0)
   where
     by : (first : Bool) → (if first then o else owns true (stack_owned frames (stack_of_word found)) o).second ≡ None
     by true = is
     by false = is
-after_by frames obj.Blank at found o by = by
-after_by frames obj.Table at found o by = by
-after_by frames obj.Leaf at found o by = by
-after_by frames obj.Pages at found o by = by
-after_by frames obj.Pleaf at found o by = by
-after_by frames obj.Tcap at found o by = by
+after_by frames Obj.Blank at found o by = by
+after_by frames Obj.Table at found o by = by
+after_by frames Obj.Leaf at found o by = by
+after_by frames Obj.Pages at found o by = by
+after_by frames Obj.Pleaf at found o by = by
+after_by frames Obj.Tcap at found o by = by
 
 owned_fits : (s : Shape) (object : Obj) (at : SweepAt) (found : ℕ) (o : Owned) → OwnedFits s.frames o
     → OwnedFits s.frames (owned_at s object at found o)
-owned_fits s object sweep.Load found o fits = fits
-owned_fits s object (sweep.Compare count stamp) found o fits = fits
-owned_fits s object (sweep.Scan q) found o fits = fits
-owned_fits s object (sweep.Empty entry) found o fits = after_fits s.frames object entry found o fits
+owned_fits s object SweepAt.Load found o fits = fits
+owned_fits s object (SweepAt.Compare count stamp) found o fits = fits
+owned_fits s object (SweepAt.Scan q) found o fits = fits
+owned_fits s object (SweepAt.Empty entry) found o fits = after_fits s.frames object entry found o fits
 
 owned_by : (s : Shape) (object : Obj) (at : SweepAt) (found : ℕ) (o : Owned) → OwnedBy object o
     → OwnedBy object (owned_at s object at found o)
-owned_by s object sweep.Load found o by = by
-owned_by s object (sweep.Compare count stamp) found o by = by
-owned_by s object (sweep.Scan q) found o by = by
-owned_by s object (sweep.Empty entry) found o by = after_by s.frames object entry found o by
+owned_by s object SweepAt.Load found o by = by
+owned_by s object (SweepAt.Compare count stamp) found o by = by
+owned_by s object (SweepAt.Scan q) found o by = by
+owned_by s object (SweepAt.Empty entry) found o by = after_by s.frames object entry found o by
 
 -- no more counters are frozen than the frame has
 kept_fits : (s : Shape) (kept : List CountWord) (at : SweepAt) (found : ℕ) → AtFits s kept at → length kept ≤ counters_of s
     → length (kept_with kept (frozen_at at found)) ≤ counters_of s
-kept_fits s kept sweep.Load found fits few = few
-kept_fits s kept (sweep.Compare count stamp) found fits few = by (found == word_of_count (unheld count stamp))
+kept_fits s kept SweepAt.Load found fits few = few
+kept_fits s kept (SweepAt.Compare count stamp) found fits few = by (found == word_of_count (unheld count stamp))
   where
     by : (same : Bool) → length (kept_with kept (frozen_if same (unheld count stamp))) ≤ counters_of s
     by true = let one = length-append kept (unheld count stamp ∷ []) in let below = fits.0 in omega (arith, one, below)
     by false = few
-kept_fits s kept (sweep.Scan q) found fits few = few
-kept_fits s kept (sweep.Empty entry) found fits few = few
+kept_fits s kept (SweepAt.Scan q) found fits few = few
+kept_fits s kept (SweepAt.Empty entry) found fits few = few
 
 -- each word that a scan loads leaves fewer to load
 others_fewer : (cores core at : ℕ) → core < cores → next_other core at < cores
@@ -242,7 +202,7 @@ others_some cores core at here below apart = by (nat_lt at core) refl
     by true is = let l = ltb-true at core is in omega (arith, l, here)
     by false is = omega (arith, below)
 
-quiet_some : (s : Shape) (core : ℕ) (object : Obj) (q : Quiet) → core < s.cores → QuietFits s q → SweepAtFits core object (sweep.Scan q)
+quiet_some : (s : Shape) (core : ℕ) (object : Obj) (q : Quiet) → core < s.cores → QuietFits s q → SweepAtFits core object (SweepAt.Scan q)
     → 1 ≤ quiet_left s.cores q
 quiet_some s core object (AtCore stamp by at page) here fits at_fits =
     let some = others_some s.cores by at (subst (λ c. c < s.cores) (sym at_fits) here) fits.0 fits.1 in more page some
@@ -254,10 +214,10 @@ quiet_some s core object (AtFlush stamp at) here fits at_fits = omega (arith, fi
 
 -- a step of a scan that goes on is by the same core, and leaves fewer
 abbrev QuietFalls : Shape → ℕ → Obj → Quiet → Quiet → Type 0
-QuietFalls s core object q next = SweepAtFits core object (sweep.Scan next) × (quiet_left s.cores next < quiet_left s.cores q)
+QuietFalls s core object q next = SweepAtFits core object (SweepAt.Scan next) × (quiet_left s.cores next < quiet_left s.cores q)
 
 quiet_falls : (s : Shape) (core : ℕ) (object : Obj) (q : Quiet) (found : ℕ) → core < s.cores → QuietFits s q
-    → SweepAtFits core object (sweep.Scan q) → quiet_end s.cores q found ≡ ends.Going
+    → SweepAtFits core object (SweepAt.Scan q) → quiet_end s.cores q found ≡ StageEnd.Going
     → QuietFalls s core object q (quiet_after s.cores q found)
 quiet_falls s core object (AtCore stamp by at page) found here fits is goes =
     step (quiet_refuses (AtCore stamp by at page) found) (nat_lt (next_other by at) s.cores) refl page goes
@@ -266,7 +226,7 @@ quiet_falls s core object (AtCore stamp by at page) found here fits is goes =
     first = subst (λ c. c < s.cores) (sym is) here
 
     step : (refused : Option Reply) (there : Bool) → nat_lt (next_other by at) s.cores ≡ there → (page : Bool)
-        → scan_end refused (core_scan there stamp by (next_other by at) page) ≡ ends.Going
+        → scan_end refused (core_scan there stamp by (next_other by at) page) ≡ StageEnd.Going
         → QuietFalls s core object (AtCore stamp by at page)
         (scan_after (AtCore stamp by at page) refused (core_scan there stamp by (next_other by at) page))
     step (Some r) there below page goes = absurd (cc)
@@ -281,7 +241,7 @@ quiet_falls s core object (AtFlush stamp at) found here fits is goes =
     step (quiet_refuses (AtFlush stamp at) found) (nat_lt (at + 1) s.cores) goes
   where
     step : (refused : Option Reply) (there : Bool)
-        → scan_end refused (if there then Some (AtFlush stamp (at + 1)) else None) ≡ ends.Going
+        → scan_end refused (if there then Some (AtFlush stamp (at + 1)) else None) ≡ StageEnd.Going
         → QuietFalls s core object (AtFlush stamp at)
         (scan_after (AtFlush stamp at) refused (if there then Some (AtFlush stamp (at + 1)) else None))
     step (Some r) there goes = absurd (cc)
@@ -291,7 +251,7 @@ quiet_falls s core object (AtFlush stamp at) found here fits is goes =
 -- a scan of the other cores and of all flush words has so many loads at most
 abbrev ScanFew : Shape → ℕ → Obj → Option Quiet → Type 0
 ScanFew s core object None = Unit {0}
-ScanFew s core object (Some q) = SweepAtFits core object (sweep.Scan q) × (quiet_left s.cores q ≤ 2 * s.cores - 1)
+ScanFew s core object (Some q) = SweepAtFits core object (SweepAt.Scan q) × (quiet_left s.cores q ≤ 2 * s.cores - 1)
 
 scan_few : (s : Shape) (core stamp : ℕ) (object : Obj) (page : Bool) → core < s.cores
     → ScanFew s core object (quiet_scan stamp core s.cores page)
@@ -339,7 +299,7 @@ module _ (s : Shape) (w : Sweep) (found : ℕ) (shape : IsShape s) (h : SweepsFr
   Falls before kept at = SweepAtFits w.core object at × (sweep_left s.cores object kept at < before)
 
   abbrev FallsIf : ℕ → ℕ → SweepAt → Option Reply → Option SweepAt → Type 0
-  FallsIf before kept at r next = (swept : Swept) → end_by r next swept ≡ ends.Going → Falls before kept (at_after at r next)
+  FallsIf before kept at r next = (swept : Swept) → end_by r next swept ≡ StageEnd.Going → Falls before kept (at_after at r next)
 
   falls_none : (before kept : ℕ) (at : SweepAt) (r : Option Reply) → FallsIf before kept at r None
   falls_none before kept at (Some r) swept goes = absurd (cc)
@@ -354,19 +314,19 @@ module _ (s : Shape) (w : Sweep) (found : ℕ) (shape : IsShape s) (h : SweepsFr
       → FallsIf before kept at r (empty_next object)
   falls_empty before kept at r few = by (loads_of object == 0) refl
     where
-      by : (none : Bool) → (loads_of object == 0) ≡ none → FallsIf before kept at r (if none then None else Some (sweep.Empty 0))
+      by : (none : Bool) → (loads_of object == 0) ≡ none → FallsIf before kept at r (if none then None else Some (SweepAt.Empty 0))
       by true is = falls_none before kept at r
-      by false is = falls_to before kept at (sweep.Empty 0) r
+      by false is = falls_to before kept at (SweepAt.Empty 0) r
           (let some = eqb-false (loads_of object) 0 is in omega (arith, some), omega (arith, few))
 
   falls_scan : (before kept : ℕ) (at : SweepAt) (r : Option Reply) (o : Option Quiet) → ScanFew s w.core object o
       → 2 * s.cores - 1 + object_left object < before → FallsIf before kept at r (scan_next object o)
   falls_scan before kept at r None few some = falls_empty before kept at r (omega (arith, some))
-  falls_scan before kept at r (Some q) few some = falls_to before kept at (sweep.Scan q) r (few.0, omega (arith, few.1, some))
+  falls_scan before kept at r (Some q) few some = falls_to before kept at (SweepAt.Scan q) r (few.0, omega (arith, few.1, some))
 
   falls_compare : (count : ℤ) (stamp : ℕ) → length w.kept < counters_of s → (same : Bool)
-      → FallsIf (sweep_left s.cores object (length w.kept) (sweep.Compare count stamp))
-      (length (kept_with w.kept (frozen_if same (unheld count stamp)))) (sweep.Compare count stamp)
+      → FallsIf (sweep_left s.cores object (length w.kept) (SweepAt.Compare count stamp))
+      (length (kept_with w.kept (frozen_if same (unheld count stamp)))) (SweepAt.Compare count stamp)
       (compare_refuses same (nat_lt (length (kept_with w.kept (frozen_if same (unheld count stamp)))) (counters_of s))
       (sum_of_counts (kept_with w.kept (frozen_if same (unheld count stamp)))))
       (compare_next (nat_lt (length (kept_with w.kept (frozen_if same (unheld count stamp)))) (counters_of s)) object
@@ -383,65 +343,65 @@ module _ (s : Shape) (w : Sweep) (found : ℕ) (shape : IsShape s) (h : SweepsFr
       one = length-append w.kept (unheld count stamp ∷ [])
 
       before : ℕ
-      before = sweep_left s.cores object (length w.kept) (sweep.Compare count stamp)
+      before = sweep_left s.cores object (length w.kept) (SweepAt.Compare count stamp)
 
       scan : Option Quiet
       scan = quiet_scan (latest_stamp kept) w.core s.cores (may_be_cached w.word.kind object)
 
       by : (more : Bool) → nat_lt (length kept) (counters_of s) ≡ more
-          → FallsIf before (length kept) (sweep.Compare count stamp) (compare_refuses true more (sum_of_counts kept))
+          → FallsIf before (length kept) (SweepAt.Compare count stamp) (compare_refuses true more (sum_of_counts kept))
           (compare_next more object scan)
-      by true is = falls_to before (length kept) (sweep.Compare count stamp) sweep.Load None
+      by true is = falls_to before (length kept) (SweepAt.Compare count stamp) SweepAt.Load None
           (tt, let below = most in omega (arith, one, low, below))
-      by false is = falls_scan before (length kept) (sweep.Compare count stamp) (sum_refuses (sum_of_counts kept)) scan
+      by false is = falls_scan before (length kept) (SweepAt.Compare count stamp) (sum_refuses (sum_of_counts kept)) scan
           (scan_few s w.core (latest_stamp kept) object (may_be_cached w.word.kind object) here)
           (let below = most in omega (arith, low, below))
 
   falls_scanning : (q next : Quiet) (end : StageEnd (Unit {0})) → 1 ≤ quiet_left s.cores q
-      → (end ≡ ends.Going → QuietFalls s w.core object q next)
-      → FallsIf (sweep_left s.cores object (length w.kept) (sweep.Scan q)) (length w.kept) (sweep.Scan q) (quiet_refusal end)
+      → (end ≡ StageEnd.Going → QuietFalls s w.core object q next)
+      → FallsIf (sweep_left s.cores object (length w.kept) (SweepAt.Scan q)) (length w.kept) (SweepAt.Scan q) (quiet_refusal end)
       (scan_goes object end next)
-  falls_scanning q next ends.Going some falls =
+  falls_scanning q next StageEnd.Going some falls =
       let on = falls refl in
       let fewer = on.1 in
-      falls_to (quiet_left s.cores q + object_left object) (length w.kept) (sweep.Scan q) (sweep.Scan next) None
+      falls_to (quiet_left s.cores q + object_left object) (length w.kept) (SweepAt.Scan q) (SweepAt.Scan next) None
       (on.0, omega (arith, fewer))
-  falls_scanning q next (ends.Decided r) some falls = λ swept goes. absurd (cc)
-  falls_scanning q next (ends.Done x) some falls =
-      falls_empty (quiet_left s.cores q + object_left object) (length w.kept) (sweep.Scan q) None (omega (arith, some))
-  falls_scanning q next (ends.Refuse r) some falls = λ swept goes. absurd (cc)
+  falls_scanning q next (StageEnd.Decided r) some falls = λ swept goes. absurd (cc)
+  falls_scanning q next (StageEnd.Done x) some falls =
+      falls_empty (quiet_left s.cores q + object_left object) (length w.kept) (SweepAt.Scan q) None (omega (arith, some))
+  falls_scanning q next (StageEnd.Refuse r) some falls = λ swept goes. absurd (cc)
 
   falls_at : (at : SweepAt) → AtFits s w.kept at → SweepAtFits w.core object at
       → FallsIf (sweep_left s.cores object (length w.kept) at) (length (kept_with w.kept (frozen_at at found))) at
       (refuses_at s object (kept_with w.kept (frozen_at at found)) at found)
       (next_at s w.word w.core (kept_with w.kept (frozen_at at found)) at found)
-  falls_at sweep.Load fits is = by (count_of_word found)
+  falls_at SweepAt.Load fits is = by (count_of_word found)
     where
-      by : (o : Option CountWord) → FallsIf (sweep_left s.cores object (length w.kept) sweep.Load) (length w.kept) sweep.Load
+      by : (o : Option CountWord) → FallsIf (sweep_left s.cores object (length w.kept) SweepAt.Load) (length w.kept) SweepAt.Load
           (load_refuses o) (load_next o)
       by None = λ swept goes. absurd (cc)
-      by (Some v) = falls_to (sweep_left s.cores object (length w.kept) sweep.Load) (length w.kept) sweep.Load
-          (sweep.Compare v.count v.stamp) (hold_refuses v.hold)
+      by (Some v) = falls_to (sweep_left s.cores object (length w.kept) SweepAt.Load) (length w.kept) SweepAt.Load
+          (SweepAt.Compare v.count v.stamp) (hold_refuses v.hold)
           (tt, let below = most in omega (arith, fits, below))
-  falls_at (sweep.Compare count stamp) fits is = falls_compare count stamp fits.0 (found == word_of_count (unheld count stamp))
-  falls_at (sweep.Scan q) fits is = falls_scanning q (quiet_after s.cores q found) (quiet_end s.cores q found)
+  falls_at (SweepAt.Compare count stamp) fits is = falls_compare count stamp fits.0 (found == word_of_count (unheld count stamp))
+  falls_at (SweepAt.Scan q) fits is = falls_scanning q (quiet_after s.cores q found) (quiet_end s.cores q found)
       (quiet_some s w.core object q here fits is) (quiet_falls s w.core object q found here fits is)
-  falls_at (sweep.Empty entry) fits is = by (nat_lt (entry + 1) (loads_of object)) refl
+  falls_at (SweepAt.Empty entry) fits is = by (nat_lt (entry + 1) (loads_of object)) refl
     where
       by : (more : Bool) → nat_lt (entry + 1) (loads_of object) ≡ more
-          → FallsIf (sweep_left s.cores object (length w.kept) (sweep.Empty entry)) (length w.kept) (sweep.Empty entry)
+          → FallsIf (sweep_left s.cores object (length w.kept) (SweepAt.Empty entry)) (length w.kept) (SweepAt.Empty entry)
           (empty_refuses s.frames object entry found)
-          (if more then Some (sweep.Empty (entry + 1)) else None)
-      by true less = falls_to (sweep_left s.cores object (length w.kept) (sweep.Empty entry)) (length w.kept) (sweep.Empty entry)
-          (sweep.Empty (entry + 1)) (empty_refuses s.frames object entry found)
+          (if more then Some (SweepAt.Empty (entry + 1)) else None)
+      by true less = falls_to (sweep_left s.cores object (length w.kept) (SweepAt.Empty entry)) (length w.kept) (SweepAt.Empty entry)
+          (SweepAt.Empty (entry + 1)) (empty_refuses s.frames object entry found)
           (ltb-true (entry + 1) (loads_of object) less, let low = ltb-true (entry + 1) (loads_of object) less in omega (arith, low))
-      by false less = falls_none (sweep_left s.cores object (length w.kept) (sweep.Empty entry)) (length w.kept) (sweep.Empty entry)
+      by false less = falls_none (sweep_left s.cores object (length w.kept) (SweepAt.Empty entry)) (length w.kept) (SweepAt.Empty entry)
           (empty_refuses s.frames object entry found)
 
   kept_after : length (sweep_kept w found) ≤ counters_of s
   kept_after = kept_fits s w.kept w.at found h.fits.at h.kept
 
-  goes_on : sweep_end s w found ≡ ends.Going
+  goes_on : sweep_end s w found ≡ StageEnd.Going
       → SweepsFrame s (sweep_after s w found)
       × (sweep_left s.cores object (length (sweep_kept w found)) (sweep_after s w found).at
       < sweep_left s.cores object (length w.kept) w.at)
@@ -469,12 +429,12 @@ module _ (s : Shape) (w : Sweep) (found : ℕ) (shape : IsShape s) (h : SweepsFr
     where
       by : (at : SweepAt) → AtFits s w.kept at → SweepAtFits w.core object at
           → 1 + 3 * owned_most object ≤ sweep_left s.cores object (length w.kept) at
-      by sweep.Load fits is = let below = most in omega (arith, fits, below)
-      by (sweep.Compare count stamp) fits is = let low = fits.0 in let below = most in omega (arith, low, below)
-      by (sweep.Scan q) fits is = let some = quiet_some s w.core object q here fits is in omega (arith, some)
-      by (sweep.Empty entry) fits is = omega (arith, is)
+      by SweepAt.Load fits is = let below = most in omega (arith, fits, below)
+      by (SweepAt.Compare count stamp) fits is = let low = fits.0 in let below = most in omega (arith, low, below)
+      by (SweepAt.Scan q) fits is = let some = quiet_some s w.core object q here fits is in omega (arith, some)
+      by (SweepAt.Empty entry) fits is = omega (arith, is)
 
-done_is : (r : Option Reply) (next : Option SweepAt) (swept done : Swept) → end_by r next swept ≡ ends.Done done → done ≡ swept
+done_is : (r : Option Reply) (next : Option SweepAt) (swept done : Swept) → end_by r next swept ≡ StageEnd.Done done → done ≡ swept
 done_is (Some r) next swept done is = absurd (cc)
 done_is None (Some at) swept done is = absurd (cc)
 done_is None None swept done is = cc
@@ -487,7 +447,7 @@ abbrev thaw_next : Thaw → Bool → Thaw
 thaw_next t more = record { frame = t.frame; words = t.words; clear = t.clear; at = if more then t.at + 1 else t.at }
 
 abbrev thaw_more : Thaw → Bool → Option Thaw
-thaw_more t more = thaw_left_by (thaw_next t more) (if more then ends.Going else ends.Done tt)
+thaw_more t more = thaw_left_by (thaw_next t more) (if more then StageEnd.Going else StageEnd.Done tt)
 
 -- what is to be stored of a frame that was swept is of the machine, and so many stores
 release_fits : (s : Shape) (f word : ℕ) (w : Swept) (clear : Bool) → f < s.frames → SweptFits s w
@@ -591,13 +551,13 @@ module _ (own : Own) (a : ActiveCall) (facts : Facts own a) (room : own.made < o
 
       by : (v : FrameWord) → frame_of_word found ≡ Some v → (k : FrameKind) (mark : Option ℕ)
           → TookFits own left a (landed a (meets_untyped m found v k mark))
-      by v is k (Some d) = refused left (refusal.Busy d) (omega arith)
-      by v is Untyped None = refused left refusal.FrameKind (omega arith)
+      by v is k (Some d) = refused left (Refusal.Busy d) (omega arith)
+      by v is Untyped None = refused left Refusal.FrameKind (omega arith)
       by v is User None = marks v is
       by v is Kernel None = marks v is
 
       met : (o : Option FrameWord) → frame_of_word found ≡ o → TookFits own left a (landed a (meets_untyping m found o))
-      met None is = refused left refusal.Raced (omega arith)
+      met None is = refused left Refusal.Raced (omega arith)
       met (Some v) is = by v is v.kind v.mark
   untype_fits m (Mark word v) found fits waits = by (found == word)
     where
@@ -622,7 +582,7 @@ module _ (own : Own) (a : ActiveCall) (facts : Facts own a) (room : own.made < o
             omega arith,
             waits,
           ) (omega (arith, few, some))
-      by false = refused _ refusal.Raced (omega arith)
+      by false = refused _ Refusal.Raced (omega arith)
   untype_fits m (sweep_at word w) found fits waits =
       by (sweep_end own.layout w found) refl
     where
@@ -666,17 +626,17 @@ module _ (own : Own) (a : ActiveCall) (facts : Facts own a) (room : own.made < o
           ) (omega (arith, kept, below, some, few))
 
       by : (end : StageEnd Swept) → sweep_end own.layout w found ≡ end → TookFits own left a (landed a (took_sweep m word next end))
-      by ends.Going is =
+      by StageEnd.Going is =
           let on = goes_on own.layout w found shape sweeps is in
           let fewer = on.1 in
           landed_fits own a a refl refl facts.found facts.acquired room (untyping_left own.layout.cores (sweep_at word next)) left
           (Goes (Act (untype_act (record m { at = sweep_at word next }))))
           (record { frame = fits.frame; core = fits.core; at = on.0 }, omega arith, waits) (omega (arith, fewer))
-      by (ends.Decided r) is = undone left (refusal_of r) _ back.0 back.1
-      by (ends.Done swept) is =
+      by (StageEnd.Decided r) is = undone left (refusal_of r) _ back.0 back.1
+      by (StageEnd.Done swept) is =
           subst (λ (x : Swept). TookFits own left a (landed a (Goes (next_work m.core 0 (untype_act (record m { at = Draw word x }))))))
           (sym (done_is (sweep_refuses own.layout w found) (sweep_next own.layout w found) (swept_of next) swept is)) done
-      by (ends.Refuse r) is = undone left (refusal_of r) _ back.0 back.1
+      by (StageEnd.Refuse r) is = undone left (refusal_of r) _ back.0 back.1
   untype_fits m (Draw word w) found fits waits =
       let back = release_fits own.layout m.frame (word_of_frame (typed Untyped)) w
       true fits.frame fits.at in

@@ -1,92 +1,54 @@
 -- The acts of calls, and the counts that they change.
-use Rattle.std.specs.Prelude.{ℕ, ◌<◌, Bool, true, false, ◌&&◌, nat_lt, nat_le}
-use Rattle.std.specs.Prelude.{Option, Some, None, List, if◌then◌else◌}
-use Rattle.spk_nums.specs.Capability.{Capability, cap_of}
-use Rattle.spk_nums.specs.Rights.{kept, part_of}
-use Rattle.spk_nums.specs.declared.calls.Call.{Call}
-use Rattle.spk_nums.specs.declared.calls.Call.TheVariants.{Look, Copy, Remove, Shrink, Retype, Make as make_call, Unmap, Tick, Gate, Kill}
-use Rattle.spk_nums.specs.declared.calls.Call.TheVariants.{Grow, Flush, Map, Call as call_gate, Ret, Switch, Transfer, Delegate, Test, Part}
-use Rattle.spk_nums.specs.declared.calls.Call.TheVariants.{Replenish}
-use Rattle.spk_nums.specs.declared.calls.Make.{Make}
-use Rattle.spk_nums.specs.declared.calls.Make.TheVariants as make
-use Rattle.spk_nums.specs.declared.replies.Value.TheVariants.{Cap, Nothing as nothing}
-use Rattle.spk_nums.specs.declared.steps.StageEnd.{StageEnd}
-use Rattle.spk_nums.specs.declared.steps.StageEnd.TheVariants as ends
-use Rattle.stage_sweep.specs.entry_words.specs.EntryWord.{entry_of_word}
-use Rattle.stage_sweep.specs.entry_words.specs.declared.entry.Entry.{Entry}
-use Rattle.stage_sweep.specs.entry_words.specs.declared.entry.Entry.TheVariants as entry
-use Rattle.stage_sweep.specs.stage_look.specs.Shown.{CapNames}
-use Rattle.stage_sweep.specs.stage_quiet.specs.declared.close.Close.{Close}
-use Rattle.stage_sweep.specs.stage_quiet.specs.declared.close.Close.TheVariants.{AtCompare as close_compare, AtDraw, AtStore}
-use Rattle.stage_sweep.specs.stage_quiet.specs.declared.quiet.Quiet.{Quiet}
-use Rattle.stage_sweep.specs.stage_quiet.specs.Removal.{CloseFits, close_move, close_end, close_after}
-use Rattle.stage_sweep.specs.stage_quiet.specs.Scan.{quiet_scan}
-use Rattle.act_states.specs.declared.own.Own.{Own}
-use Rattle.stage_sweep.specs.word_map.specs.Places.{Shape}
-use Rattle.stage_sweep.specs.word_map.specs.Moves.{Move, LoadOf}
-use Rattle.stage_sweep.specs.stage_look.specs.declared.look.Found.{Found}
+use Rattle.stage_tcap.specs.{ℕ, ◌<◌, Bool, true, false, ◌&&◌, ltb as nat_lt, leb as nat_le, Option, Some, None, List, if◌then◌else◌}
+use Rattle.stage_tcap.specs.{Capability, cap_of, part_of, Call, Look, Copy, Remove, Shrink, Retype, Unmap, Tick, Gate, Kill, Grow, Flush}
+use Rattle.stage_tcap.specs.{Map, Ret, Switch, Transfer, Delegate, Test, Part, Replenish, Make, Nothing as nothing, StageEnd, Shape, Move}
+use Rattle.stage_tcap.specs.{LoadOf, ChargeFits, charge_move, RefillFits, refill_move, PairFits, pair_move, Kind, FrameKind, Untyped, User}
+use Rattle.stage_tcap.specs.{Kernel, PageFlags, EntryAt, FrameAt}
+use Rattle.call_plans.specs.kernel_invariant.specs.kernel_rules.specs.{kept, Cap, found as named, only, plain_cap, has_frame, has_frames}
+use Rattle.stage_sweep.specs.stage_quiet.specs.{CloseFits, close_move, close_end, close_after, quiet_scan, flush_move}
+use Rattle.stage_sweep.specs.stage_look.specs.{CapNames, look_move}
+use Rattle.spk_nums.specs.declared.calls.Call.TheVariants.{Make as make_call, Call as call_gate}
+use Rattle.stage_sweep.specs.entry_words.specs.{EntryWord.entry_of_word, declared.entry.Entry.Entry}
+use Rattle.stage_sweep.specs.stage_quiet.specs.{declared.close.Close.Close, declared.close.Close.TheVariants.AtCompare as close_compare}
+use Rattle.stage_sweep.specs.stage_quiet.specs.{declared.close.Close.TheVariants.AtDraw, declared.close.Close.TheVariants.AtStore}
+use Rattle.stage_sweep.specs.stage_quiet.specs.{declared.quiet.Quiet.Quiet, declared.flush_mark.FlushMark.TheVariants.AtLoad as flush_load}
 use Rattle.call_plans.specs.declared.plans.Nth.TheVariants.{First, Second, Third, Fourth}
-use Rattle.call_plans.specs.Plans.{at_place}
-use Rattle.act_states.specs.declared.refusals.Refusal.TheVariants.{Raced, OutOfRange}
-use Rattle.act_states.specs.declared.refusals.Refusal.TheVariants.{Deep, Bottom}
-use Rattle.act_states.specs.declared.work.Act.{Act}
-use Rattle.act_states.specs.declared.work.Act.TheVariants.{Fill as fill_act, Remove as remove_act, Retype as type_act}
-use Rattle.act_states.specs.declared.work.Act.TheVariants.{Make as make_act, Outside, Tick as tick_act, Flush as flush_act}
-use Rattle.act_states.specs.declared.work.Act.TheVariants.{Kill as kill_act, Untype as untype_act, Map as map_act}
-use Rattle.act_states.specs.declared.work.Act.TheVariants.{MakeComp as comp_act, Invoke as invoke_act, Return as return_act}
-use Rattle.act_states.specs.declared.work.Act.TheVariants.{Switch as switch_act, Touch as touch_act, Share as share_act}
-use Rattle.act_states.specs.declared.work.Act.TheVariants.{Refill as refill_act}
-use Rattle.act_states.specs.declared.work.Work.TheVariants.{Scan, Act as act_work}
-use Rattle.act_states.specs.declared.work.Tail.{Tail}
-use Rattle.act_states.specs.declared.work.Tail.TheVariants.{Nothing, Quiesce}
-use Rattle.act_states.specs.declared.work.WorkStep.{WorkStep}
-use Rattle.act_states.specs.declared.work.WorkStep.TheVariants.{Goes, Answers}
-use Rattle.act_states.specs.Refusals.{refusal_of}
-use Rattle.act_states.specs.WorkSteps.{refuse}
-use Rattle.act_states.specs.Fills.{FillFits, fill_move, took_fill}
-use Rattle.act_states.specs.declared.typings.TypingAt.TheVariants.{Load}
-use Rattle.act_states.specs.Typings.{TypingFits, typing_move, took_typing, is_typing, typing_left}
-use Rattle.act_states.specs.declared.objects.NewObject.{NewObject}
-use Rattle.act_states.specs.Objects.{object_cap, object_made}
-use Rattle.act_states.specs.declared.makings.MakingAt.TheVariants.{Load as make_load}
-use Rattle.act_states.specs.declared.comps.CompAt.TheVariants as comp_at_as
-use Rattle.act_states.specs.Comps.{CompMakingFits, comp_move, comp_undo, comp_filling, comp_left}
-use Rattle.act_states.specs.Makings.{MakingFits, making_move, undo_at, is_filling, making_left}
-use Rattle.stage_tcap.specs.Charging.{ChargeFits, charge_move}
-use Rattle.act_states.specs.Ticks.{charges, took_tick, is_charging, charge_left}
-use Rattle.stage_tcap.specs.Refilling.{RefillFits, refill_move}
-use Rattle.act_states.specs.Refills.{refills_at, took_refill, is_refilling, refill_left}
-use Rattle.stage_tcap.specs.Pairs.{PairFits, pair_move}
-use Rattle.stage_tcap.specs.declared.pair.PairWork.TheVariants as share
-use Rattle.act_states.specs.Shares.{took_share, is_sharing, share_left, shares_at}
-use Rattle.stage_sweep.specs.stage_quiet.specs.Flushing.{flush_move}
-use Rattle.stage_sweep.specs.stage_quiet.specs.declared.flush_mark.FlushMark.TheVariants.{AtLoad as flush_load}
-use Rattle.act_states.specs.Flushes.{flushes, took_flush}
-use Rattle.stage_sweep.specs.stage_look.specs.Lookup.{look_move}
-use Rattle.act_states.specs.Touches.{TouchFits, took_touch, is_answering, touch_left}
-use Rattle.act_states.specs.declared.kills.KillingAt.TheVariants.{LoadComp}
-use Rattle.act_states.specs.declared.invocations.InvokingAt.TheVariants as invoking
-use Rattle.act_states.specs.declared.invocations.ReturningAt.TheVariants as returning
-use Rattle.act_states.specs.Invocations.{InvokingFits, invoking_move, is_entering, invoking_left}
-use Rattle.act_states.specs.Invocations.{ReturningFits, returning_move, is_leaving, returning_left}
-use Rattle.act_states.specs.declared.switches.Switching.{Switching}
-use Rattle.act_states.specs.declared.switches.SwitchAt.TheVariants as switch_at
-use Rattle.act_states.specs.Switches.{SwitchingFits, switching_move, is_switching, switching_left}
-use Rattle.act_states.specs.Switches.{switching_undo}
-use Rattle.stage_thread.specs.declared.claim.Claim.TheVariants as claim
-use Rattle.act_states.specs.Kills.{KillingFits, killing_move, is_killing, killing_left}
-use Rattle.act_states.specs.declared.untypings.UntypingAt.TheVariants.{Load as untype_load}
-use Rattle.act_states.specs.Untypings.{UntypingFits, untyping_move, is_drawing, untyping_undo, untyping_left}
-use Rattle.spk_nums.specs.declared.kinds.Kind.{Kind}
-use Rattle.spk_nums.specs.declared.kinds.Kind.TheVariants as kind
-use Rattle.spk_nums.specs.declared.kinds.FrameKind.{FrameKind}
-use Rattle.spk_nums.specs.declared.kinds.FrameKind.TheVariants.{Untyped, User, Kernel}
-use Rattle.spk_nums.specs.declared.kinds.PageFlags.{PageFlags}
-use Rattle.stage_sweep.specs.frame_words.specs.Frame.{frame_of_word}
-use Rattle.stage_sweep.specs.word_map.specs.Word.{EntryAt, FrameAt}
-use Rattle.call_plans.specs.kernel_invariant.specs.kernel_rules.specs.Access.{found as named, only}
-use Rattle.call_plans.specs.kernel_invariant.specs.kernel_rules.specs.Start.{plain_cap}
-use Rattle.call_plans.specs.kernel_invariant.specs.kernel_rules.specs.CapabilityCalls.{has_frame, has_frames}
+use Rattle.act_states.specs.{declared.own.Own.Own, declared.refusals.Refusal.TheVariants.Raced}
+use Rattle.act_states.specs.{declared.refusals.Refusal.TheVariants.OutOfRange, declared.refusals.Refusal.TheVariants.Deep}
+use Rattle.act_states.specs.{declared.refusals.Refusal.TheVariants.Bottom, declared.work.Act.Act}
+use Rattle.act_states.specs.{declared.work.Act.TheVariants.Fill as fill_act, declared.work.Act.TheVariants.Remove as remove_act}
+use Rattle.act_states.specs.{declared.work.Act.TheVariants.Retype as type_act, declared.work.Act.TheVariants.Make as make_act}
+use Rattle.act_states.specs.{declared.work.Act.TheVariants.Outside, declared.work.Act.TheVariants.Tick as tick_act}
+use Rattle.act_states.specs.{declared.work.Act.TheVariants.Flush as flush_act, declared.work.Act.TheVariants.Kill as kill_act}
+use Rattle.act_states.specs.{declared.work.Act.TheVariants.Untype as untype_act, declared.work.Act.TheVariants.Map as map_act}
+use Rattle.act_states.specs.{declared.work.Act.TheVariants.MakeComp as comp_act, declared.work.Act.TheVariants.Invoke as invoke_act}
+use Rattle.act_states.specs.{declared.work.Act.TheVariants.Return as return_act, declared.work.Act.TheVariants.Switch as switch_act}
+use Rattle.act_states.specs.{declared.work.Act.TheVariants.Touch as touch_act, declared.work.Act.TheVariants.Share as share_act}
+use Rattle.act_states.specs.{declared.work.Act.TheVariants.Refill as refill_act, declared.work.Work.TheVariants.Scan}
+use Rattle.act_states.specs.{declared.work.Work.TheVariants.Act as act_work, declared.work.Tail.Tail}
+use Rattle.act_states.specs.{declared.work.Tail.TheVariants.Nothing, declared.work.Tail.TheVariants.Quiesce}
+use Rattle.act_states.specs.{declared.work.WorkStep.WorkStep, declared.work.WorkStep.TheVariants.Goes}
+use Rattle.act_states.specs.{declared.work.WorkStep.TheVariants.Answers, Refusals.refusal_of, WorkSteps.refuse, Fills.FillFits}
+use Rattle.act_states.specs.{Fills.fill_move, Fills.took_fill, declared.typings.TypingAt.TheVariants.Load, Typings.TypingFits}
+use Rattle.act_states.specs.{Typings.typing_move, Typings.took_typing, Typings.is_typing, Typings.typing_left}
+use Rattle.act_states.specs.{declared.objects.NewObject.NewObject, Objects.object_cap, Objects.object_made}
+use Rattle.act_states.specs.{declared.makings.MakingAt.TheVariants.Load as make_load, Comps.CompMakingFits, Comps.comp_move}
+use Rattle.act_states.specs.{Comps.comp_undo, Comps.comp_filling, Comps.comp_left, Makings.MakingFits, Makings.making_move, Makings.undo_at}
+use Rattle.act_states.specs.{Makings.is_filling, Makings.making_left, Ticks.charges, Ticks.took_tick, Ticks.is_charging, Ticks.charge_left}
+use Rattle.act_states.specs.{Refills.refills_at, Refills.took_refill, Refills.is_refilling, Refills.refill_left, Shares.took_share}
+use Rattle.act_states.specs.{Shares.is_sharing, Shares.share_left, Shares.shares_at, Flushes.flushes, Flushes.took_flush, Touches.TouchFits}
+use Rattle.act_states.specs.{Touches.took_touch, Touches.is_answering, Touches.touch_left, declared.kills.KillingAt.TheVariants.LoadComp}
+use Rattle.act_states.specs.{Invocations.InvokingFits, Invocations.invoking_move, Invocations.is_entering, Invocations.invoking_left}
+use Rattle.act_states.specs.{Invocations.ReturningFits, Invocations.returning_move, Invocations.is_leaving, Invocations.returning_left}
+use Rattle.act_states.specs.{declared.switches.Switching.Switching, Switches.SwitchingFits, Switches.switching_move, Switches.is_switching}
+use Rattle.act_states.specs.{Switches.switching_left, Switches.switching_undo, Kills.KillingFits, Kills.killing_move, Kills.is_killing}
+use Rattle.act_states.specs.{Kills.killing_left, declared.untypings.UntypingAt.TheVariants.Load as untype_load, Untypings.UntypingFits}
+use Rattle.act_states.specs.{Untypings.untyping_move, Untypings.is_drawing, Untypings.untyping_undo, Untypings.untyping_left}
+use Rattle.act_states.specs.{declared.comps.CompAt.CompAt, declared.invocations.InvokingAt.InvokingAt}
+use Rattle.act_states.specs.{declared.invocations.ReturningAt.ReturningAt, declared.switches.SwitchAt.SwitchAt}
+use Rattle.{stage_sweep.specs.stage_look.specs.declared.look.Found.Found, call_plans.specs.Plans.at_place}
+use Rattle.{stage_sweep.specs.frame_words.specs.Frame.frame_of_word, stage_tcap.specs.declared.pair.PairWork.PairWork}
+use Rattle.{stage_thread.specs.declared.claim.Claim.Claim}
 pub use Rattle.act_states.specs.Dues.{cap_dues, made_dues, killing_dues, invoking_dues, returning_dues, dues, acquires, next_work}
 pub use Rattle.act_states.specs.Taking.{meets_object, meets_kernel, meets_blank, meets_making, marks_if, published, took_making_at}
 pub use Rattle.act_states.specs.Taking.{took_making, meets_comp, meets_life, meets_number, meets_live, closes_if, drawn_dead}
@@ -125,10 +87,10 @@ drawn_by (AtStore node entry stamp) = Some stamp
 -- what a removal takes from its step, after which it stands here: it is lost, goes on to the draw, or is carried out with the stamp
 -- that it has drawn, and has then still to store the entry
 abbrev pub took_close : Capability → Close → StageEnd ℕ → WorkStep
-took_close cap close ends.Going = Goes (act_work (remove_act close cap))
-took_close cap close (ends.Decided r) = Answers nothing (drawn_by close) (Quiesce close)
-took_close cap close (ends.Done stamp) = refuse Raced
-took_close cap close (ends.Refuse r) = refuse (refusal_of r)
+took_close cap close StageEnd.Going = Goes (act_work (remove_act close cap))
+took_close cap close (StageEnd.Decided r) = Answers nothing (drawn_by close) (Quiesce close)
+took_close cap close (StageEnd.Done stamp) = refuse Raced
+took_close cap close (StageEnd.Refuse r) = refuse (refusal_of r)
 
 -- the next step of an act; one that is out of range makes none
 abbrev pub act_move : Act → Move
@@ -259,10 +221,10 @@ scans core (Some q) act = Goes (Scan q act)
 
 -- the stamp since which an entry is quiescing, 0 for one that is not
 abbrev pub stamp_in : Entry → ℕ
-stamp_in entry.Free = 0
-stamp_in (entry.Held k) = 0
-stamp_in (entry.Closing by) = 0
-stamp_in (entry.Quiescing stamp) = stamp
+stamp_in Entry.Free = 0
+stamp_in (Entry.Held k) = 0
+stamp_in (Entry.Closing by) = 0
+stamp_in (Entry.Quiescing stamp) = stamp
 
 -- a place is filled with a capability; one that is quiescing is scanned for first, and where it is one of a page table, so are the flushes
 abbrev pub filling : Capability → Found → Act
@@ -281,10 +243,10 @@ abbrev pub removing : ℕ → Capability → Found → Act
 removing core k f = remove_act (close_compare f.node f.entry f.word core) k
 
 abbrev pub removes_held : ℕ → Found → Entry → WorkStep
-removes_held core f entry.Free = refuse Raced
-removes_held core f (entry.Held k) = Goes (next_work core 0 (removing core k f))
-removes_held core f (entry.Closing by) = refuse Raced
-removes_held core f (entry.Quiescing stamp) = refuse Raced
+removes_held core f Entry.Free = refuse Raced
+removes_held core f (Entry.Held k) = Goes (next_work core 0 (removing core k f))
+removes_held core f (Entry.Closing by) = refuse Raced
+removes_held core f (Entry.Quiescing stamp) = refuse Raced
 
 abbrev pub removes_at : ℕ → Option Found → WorkStep
 removes_at core None = refuse Raced
@@ -293,11 +255,11 @@ removes_at core (Some f) = removes_held core f f.value
 -- a link to the leaf to which a name has led
 abbrev pub link_to : Option Capability → Option Capability
 link_to None = None
-link_to (Some leaf) = Some (plain_cap kind.Link leaf.frame)
+link_to (Some leaf) = Some (plain_cap Kind.Link leaf.frame)
 
 -- a mapping of a frame of this range, with these flags
 abbrev pub page_cap : ℕ → PageFlags → Capability
-page_cap f w = cap_of kind.Page f w.0
+page_cap f w = cap_of Kind.Page f w.0
 
 abbrev pub page_of : Option Capability → ℕ → PageFlags → Option Capability
 page_of None f w = None
@@ -310,7 +272,7 @@ part_in (Some range) f n = if has_frames (named range) f n then Some (part_of ra
 
 -- the gate to a component whose word has been read in this epoch; an epoch of 0 is none
 abbrev pub gate_if : Bool → ℕ → ℕ → Option Capability
-gate_if some f epoch = if some then Some (cap_of kind.Gate f epoch) else None
+gate_if some f epoch = if some then Some (cap_of Kind.Gate f epoch) else None
 
 abbrev pub gate_to : Option Capability → Option ℕ → Option Capability
 gate_to (Some comp) (Some epoch) = gate_if (nat_le 1 epoch) comp.frame epoch
@@ -342,7 +304,7 @@ reads_of _ found = None
 -- whether a name has led to the root of a page table
 abbrev pub is_pages : Option Capability → Bool
 is_pages None = false
-is_pages (Some k) = only kind.Pages k.kind
+is_pages (Some k) = only Kind.Pages k.kind
 
 -- whether a call fills a place of a page table: one that is quiescing is then free only where all cores have flushed
 abbrev pub fills_page : Call → List Capability → Bool
@@ -450,7 +412,7 @@ parts_at own _ frame n _ = refuse Raced
 
 -- a component is made in a frame of the range, and its capability put at the target
 abbrev pub comp_cap : ℕ → Capability
-comp_cap f = cap_of kind.Comp f 0
+comp_cap f = cap_of Kind.Comp f 0
 
 abbrev pub comp_making : Own → ℕ → Capability → Capability → ℕ → Found → Act
 comp_making own live table pages frame f = comp_act (record {
@@ -462,7 +424,7 @@ comp_making own live table pages frame f = comp_act (record {
   cores = own.layout.cores;
   epochs = own.epochs;
   fill = record { node = f.node; entry = f.entry; word = f.word; cap = comp_cap frame };
-  at = comp_at_as.Load;
+  at = CompAt.Load;
 })
 
 abbrev pub comp_if : Bool → Own → ℕ → Capability → Capability → ℕ → Found → Act
@@ -480,13 +442,13 @@ comps_at own live _ _ _ frame _ = refuse Raced
 
 -- what a `make` does whose names have led to these
 abbrev pub made_begun : Own → Make → List Capability → ℕ → Option Found → WorkStep
-made_begun own (make.Comp table pages live) found frame target =
+made_begun own (Make.Comp table pages live) found frame target =
     comps_at own live (at_place found First) (at_place found Third) (at_place found Fourth) frame target
 made_begun own what found frame target = makes_at own (object_made what found) (at_place found First) frame target
 
 -- the component to which a name has led is killed; a capability of another kind names none
 abbrev pub kills_in : ℕ → Kind → ℕ → WorkStep
-kills_in core kind.Comp f = Goes (act_work (kill_act (record { comp = f; core = core; at = LoadComp })))
+kills_in core Kind.Comp f = Goes (act_work (kill_act (record { comp = f; core = core; at = LoadComp })))
 kills_in core _ f = refuse Raced
 
 abbrev pub kills_at : Own → Option Capability → WorkStep
@@ -504,11 +466,11 @@ invokes_if deep own f epoch =
       depth = own.depth;
       core = own.core;
       frames = own.layout.frames;
-      at = invoking.LoadTable;
+      at = InvokingAt.LoadTable;
     })))
 
 abbrev pub invokes_in : Own → Kind → ℕ → ℕ → WorkStep
-invokes_in own kind.Gate f epoch = invokes_if (nat_le 16 own.depth) own f epoch
+invokes_in own Kind.Gate f epoch = invokes_if (nat_le 16 own.depth) own f epoch
 invokes_in own _ f epoch = refuse Raced
 
 abbrev pub invokes_at : Own → Option Capability → WorkStep
@@ -525,7 +487,7 @@ returns_if bottom own =
       depth = own.depth;
       core = own.core;
       frames = own.layout.frames;
-      at = returning.LoadBelow;
+      at = ReturningAt.LoadBelow;
     })))
 
 abbrev pub returns_at : Own → WorkStep
@@ -540,7 +502,7 @@ switching own f q = record {
   old = own.thread;
   old_depth = own.depth;
   old_tcap = own.tcap;
-  at = switch_at.Claim (claim.AtLoad f own.core);
+  at = SwitchAt.Claim (Claim.AtLoad f own.core);
 }
 
 abbrev pub switches_at : Own → Option Capability → Option Capability → WorkStep
@@ -565,9 +527,9 @@ act_begun own (Kill k) found read target = kills_at own (at_place found First)
 act_begun own (call_gate g) found read target = invokes_at own (at_place found First)
 act_begun own Ret found read target = returns_at own
 act_begun own (Switch h q) found read target = switches_at own (at_place found First) (at_place found Second)
-act_begun own (Transfer a b m) found read target = shares_at own.core (share.Transfer m) (at_place found First) (at_place found Second)
-act_begun own (Delegate a b m) found read target = shares_at own.core (share.Delegate m) (at_place found First) (at_place found Second)
-act_begun own (Test a b) found read target = shares_at own.core share.Test (at_place found First) (at_place found Second)
+act_begun own (Transfer a b m) found read target = shares_at own.core (PairWork.Transfer m) (at_place found First) (at_place found Second)
+act_begun own (Delegate a b m) found read target = shares_at own.core (PairWork.Delegate m) (at_place found First) (at_place found Second)
+act_begun own (Test a b) found read target = shares_at own.core PairWork.Test (at_place found First) (at_place found Second)
 act_begun own (Part r f n t b) found read target = parts_at own (at_place found First) f n target
 act_begun own (Replenish a m) found read target = refills_at own m (at_place found First)
 act_begun own _ found read target = refuse Raced

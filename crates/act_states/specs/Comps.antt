@@ -1,46 +1,28 @@
 -- The act that makes a component in a blank kernel frame.
-use Rattle.std.specs.Prelude.{ℕ, ◌+◌, ◌-◌, ◌<◌, ◌≤◌, ◌≡◌, ◌^◌, ◌==◌, pos, nat_lt, Bool}
-use Rattle.std.specs.Prelude.{true, false, Option, Some, None, List, [], ◌∷◌, if◌then◌else◌}
-use Rattle.spk_nums.specs.declared.kinds.FrameKind.{FrameKind}
-use Rattle.spk_nums.specs.declared.kinds.FrameKind.TheVariants as frame_kind
-use Rattle.spk_nums.specs.declared.kinds.Obj.{Obj}
-use Rattle.spk_nums.specs.declared.kinds.Obj.TheVariants as obj
-use Rattle.spk_nums.specs.declared.replies.Value.TheVariants.{Nothing as nothing}
-use Rattle.spk_nums.specs.declared.steps.StageEnd.{StageEnd}
-use Rattle.spk_nums.specs.declared.steps.StageEnd.TheVariants as ends
-use Rattle.stage_sweep.specs.frame_words.specs.Comp.{word_of_comp}
-use Rattle.stage_sweep.specs.frame_words.specs.Frame.{word_of_frame}
-use Rattle.stage_sweep.specs.frame_words.specs.Live.{word_of_live}
-use Rattle.stage_sweep.specs.frame_words.specs.declared.frame_word.FrameWord.{FrameWord}
-use Rattle.stage_sweep.specs.frame_words.specs.declared.live_word.LiveWord.{LiveWord}
-use Rattle.stage_sweep.specs.frame_words.specs.declared.live_word.LiveWord.TheVariants as live
-use Rattle.stage_sweep.specs.word_map.specs.Word.{EntryAt, FrameAt, LiveAt}
-use Rattle.stage_sweep.specs.word_map.specs.Places.{Shape}
-use Rattle.stage_sweep.specs.word_map.specs.Moves.{Move, LoadOf, CompareOf, StoreOf}
-use Rattle.stage_sweep.specs.stage_quiet.specs.Scan.{QuietFits, quiet_move, quiet_scan}
-use Rattle.stage_sweep.specs.stage_quiet.specs.declared.quiet.Quiet.{Quiet}
-use Rattle.act_states.specs.Fills.{FillFits, fill_move}
-use Rattle.act_states.specs.Makings.{marked}
-use Rattle.act_states.specs.Refusals.{refusal_of}
-use Rattle.act_states.specs.Scans.{IsUnpaged, ScanFits, left_of_scan}
-use Rattle.act_states.specs.WorkSteps.{refuse}
-use Rattle.act_states.specs.declared.comps.CompAt.{CompAt}
-use Rattle.act_states.specs.declared.comps.CompAt.TheVariants.{Load, Mark, LoadLive, Scan, Close, Store, Fill as fill_at}
-use Rattle.act_states.specs.declared.comps.CompMaking.{CompMaking}
-use Rattle.act_states.specs.declared.comps.LastEpoch.{LastEpoch}
-use Rattle.act_states.specs.declared.refusals.Refusal.{Refusal}
-use Rattle.act_states.specs.declared.refusals.Refusal.TheVariants.{Raced, Busy, Occupied, EpochsSpent, FrameKind as wrong_kind}
-use Rattle.act_states.specs.declared.work.Act.TheVariants.{MakeComp}
-use Rattle.act_states.specs.declared.work.Due.{Due}
-use Rattle.act_states.specs.declared.work.Tail.{Tail}
-use Rattle.act_states.specs.declared.work.Tail.TheVariants.{Nothing, Unmark, StoreLive}
-use Rattle.act_states.specs.declared.work.Work.TheVariants.{Act as act_work}
-use Rattle.act_states.specs.declared.work.WorkStep.{WorkStep}
-use Rattle.act_states.specs.declared.work.WorkStep.TheVariants.{Goes, Refuses, Answers}
+use Rattle.stage_tcap.specs.{ℕ, ◌+◌, ◌-◌, ◌<◌, ◌≤◌, ◌≡◌, ◌^◌, ◌==◌, pos, ltb as nat_lt, Bool, true, false, Option, Some, None, List, []}
+use Rattle.stage_tcap.specs.{◌∷◌, if◌then◌else◌, FrameKind, Obj, Nothing as nothing, StageEnd, EntryAt, FrameAt, LiveAt, Shape, Move}
+use Rattle.stage_tcap.specs.{LoadOf, CompareOf, StoreOf}
+use Rattle.stage_sweep.specs.stage_quiet.specs.{QuietFits, quiet_move, quiet_scan}
+use Rattle.stage_sweep.specs.frame_words.specs.{word_of_comp, word_of_frame, word_of_live, declared.frame_word.FrameWord.FrameWord}
+use Rattle.act_states.specs.{Fills.FillFits, Fills.fill_move, Makings.marked, Refusals.refusal_of, Scans.IsUnpaged, Scans.ScanFits}
+use Rattle.act_states.specs.{Scans.left_of_scan, WorkSteps.refuse, declared.comps.CompAt.CompAt, declared.comps.CompAt.TheVariants.Load}
+use Rattle.act_states.specs.{declared.comps.CompAt.TheVariants.Mark, declared.comps.CompAt.TheVariants.LoadLive}
+use Rattle.act_states.specs.{declared.comps.CompAt.TheVariants.Scan, declared.comps.CompAt.TheVariants.Close}
+use Rattle.act_states.specs.{declared.comps.CompAt.TheVariants.Store, declared.comps.CompAt.TheVariants.Fill as fill_at}
+use Rattle.act_states.specs.{declared.comps.CompMaking.CompMaking, declared.comps.LastEpoch.LastEpoch, declared.refusals.Refusal.Refusal}
+use Rattle.act_states.specs.{declared.refusals.Refusal.TheVariants.Raced, declared.refusals.Refusal.TheVariants.Busy}
+use Rattle.act_states.specs.{declared.refusals.Refusal.TheVariants.Occupied, declared.refusals.Refusal.TheVariants.EpochsSpent}
+use Rattle.act_states.specs.{declared.refusals.Refusal.TheVariants.FrameKind as wrong_kind, declared.work.Act.TheVariants.MakeComp}
+use Rattle.act_states.specs.{declared.work.Due.Due, declared.work.Tail.Tail, declared.work.Tail.TheVariants.Nothing}
+use Rattle.act_states.specs.{declared.work.Tail.TheVariants.Unmark, declared.work.Tail.TheVariants.StoreLive}
+use Rattle.act_states.specs.{declared.work.Work.TheVariants.Act as act_work, declared.work.WorkStep.WorkStep}
+use Rattle.act_states.specs.{declared.work.WorkStep.TheVariants.Goes, declared.work.WorkStep.TheVariants.Refuses}
+use Rattle.{stage_sweep.specs.frame_words.specs.declared.live_word.LiveWord.LiveWord}
+use Rattle.{stage_sweep.specs.stage_quiet.specs.declared.quiet.Quiet.Quiet, act_states.specs.declared.work.WorkStep.TheVariants.Answers}
 
 -- the word of a frame that holds a component
 abbrev pub component : FrameWord
-component = record { kind = frame_kind.Kernel; object = obj.Comp; mark = None }
+component = record { kind = FrameKind.Kernel; object = Obj.Comp; mark = None }
 
 -- the words of a component of this epoch: its table, its pages, and its liveness number with the epoch
 abbrev pub comp_word_at : CompMaking → ℕ → ℕ → ℕ
@@ -78,7 +60,7 @@ comp_at m Load = LoadOf (FrameAt m.frame)
 comp_at m (Mark word) = CompareOf (FrameAt m.frame) word (word_of_frame (marked m.core))
 comp_at m (LoadLive word) = LoadOf (LiveAt m.number)
 comp_at m (Scan word last q) = quiet_move q
-comp_at m (Close word last) = CompareOf (LiveAt m.number) last.word (word_of_live (live.Closing last.epoch m.core))
+comp_at m (Close word last) = CompareOf (LiveAt m.number) last.word (word_of_live (LiveWord.Closing last.epoch m.core))
 comp_at m (Store word last entry) = StoreOf (EntryAt m.frame entry) (comp_word_at m (last.epoch + 1) entry)
 comp_at m (fill_at word last) = fill_move m.fill
 
@@ -122,11 +104,11 @@ comp_refuses m word r = Refuses r (Unmark m.frame word)
 
 -- what the load of the frame's word leads to
 abbrev pub comp_meets_object : CompMaking → ℕ → Obj → WorkStep
-comp_meets_object m word obj.Blank = comp_goes m (Mark word)
+comp_meets_object m word Obj.Blank = comp_goes m (Mark word)
 comp_meets_object m word _ = refuse wrong_kind
 
 abbrev pub comp_meets_kernel : CompMaking → ℕ → FrameKind → Obj → WorkStep
-comp_meets_kernel m word frame_kind.Kernel o = comp_meets_object m word o
+comp_meets_kernel m word FrameKind.Kernel o = comp_meets_object m word o
 comp_meets_kernel m word _ o = refuse wrong_kind
 
 abbrev pub comp_meets_blank : CompMaking → ℕ → FrameKind → Obj → Option ℕ → WorkStep
@@ -147,10 +129,10 @@ scans_number m word last (Some q) = comp_goes m (Scan word last q)
 
 -- what the load of the number's word leads to
 abbrev pub number_shown : CompMaking → ℕ → ℕ → LiveWord → WorkStep
-number_shown m word found live.Free = takes_number m word (record { word = found; epoch = 0 })
-number_shown m word found (live.Live epoch f) = comp_refuses m word Occupied
-number_shown m word found (live.Closing epoch by) = comp_refuses m word (Busy by)
-number_shown m word found (live.Dead epoch stamp) =
+number_shown m word found LiveWord.Free = takes_number m word (record { word = found; epoch = 0 })
+number_shown m word found (LiveWord.Live epoch f) = comp_refuses m word Occupied
+number_shown m word found (LiveWord.Closing epoch by) = comp_refuses m word (Busy by)
+number_shown m word found (LiveWord.Dead epoch stamp) =
     scans_number m word (record { word = found; epoch = epoch }) (quiet_scan stamp m.core m.cores false)
 
 abbrev pub number_met : CompMaking → ℕ → ℕ → Option LiveWord → WorkStep
@@ -159,10 +141,10 @@ number_met m word found (Some shown) = number_shown m word found shown
 
 -- what a step of the scan leads to, which stands here after it
 abbrev pub number_scanned : CompMaking → ℕ → LastEpoch → Quiet → StageEnd (Unit {0}) → WorkStep
-number_scanned m word last q ends.Going = comp_goes m (Scan word last q)
-number_scanned m word last q (ends.Decided r) = comp_refuses m word (refusal_of r)
-number_scanned m word last q (ends.Done x) = takes_number m word last
-number_scanned m word last q (ends.Refuse r) = comp_refuses m word (refusal_of r)
+number_scanned m word last q StageEnd.Going = comp_goes m (Scan word last q)
+number_scanned m word last q (StageEnd.Decided r) = comp_refuses m word (refusal_of r)
+number_scanned m word last q (StageEnd.Done x) = takes_number m word last
+number_scanned m word last q (StageEnd.Refuse r) = comp_refuses m word (refusal_of r)
 
 -- what the compare leads to that marks the number's word
 abbrev pub closes_number : CompMaking → ℕ → LastEpoch → Bool → WorkStep
@@ -176,7 +158,7 @@ comp_stored word last entry = if nat_lt entry 2 then Store word last (entry + 1)
 abbrev pub comp_published : CompMaking → ℕ → LastEpoch → Bool → WorkStep
 comp_published m word last equal =
     if equal then Answers nothing None
-    (StoreLive m.number (word_of_live (live.Live (last.epoch + 1) m.frame)) m.frame (word_of_frame component))
+    (StoreLive m.number (word_of_live (LiveWord.Live (last.epoch + 1) m.frame)) m.frame (word_of_frame component))
     else Refuses Raced (StoreLive m.number last.word m.frame word)
 
 -- whether the frame is marked, and whether the number is

@@ -1,32 +1,25 @@
 -- The counts that an act changes, in the order in which they are acquired.
-use Rattle.std.specs.Prelude.{ℕ, ℤ, pos, negsuc, ◌≤◌}
-use Rattle.std.specs.Prelude.{Option, Some, None, List, map, slice_get, [], ◌∷◌}
-use Rattle.spk_nums.specs.Capability.{Capability}
-use Rattle.call_plans.specs.kernel_invariant.specs.kernel_rules.specs.References.{named_by}
+use Rattle.call_plans.specs.kernel_invariant.specs.kernel_rules.specs.{ℕ, ℤ, pos, negsuc, ◌≤◌, Option, Some, None, List, map, slice_get, []}
+use Rattle.call_plans.specs.kernel_invariant.specs.kernel_rules.specs.{◌∷◌, Capability, named_by}
 use Rattle.stage_sweep.specs.stage_pins.specs.declared.pin.Pin.TheVariants.{AtLoad}
-use Rattle.act_states.specs.declared.work.Act.{Act}
-use Rattle.act_states.specs.declared.work.Act.TheVariants.{Fill as fill_act, Remove as remove_act, Retype as type_act}
-use Rattle.act_states.specs.declared.work.Act.TheVariants.{Make as make_act, Outside, Tick as tick_act, Flush as flush_act}
-use Rattle.act_states.specs.declared.work.Act.TheVariants.{Kill as kill_act, Untype as untype_act, Map as map_act}
-use Rattle.act_states.specs.declared.work.Act.TheVariants.{MakeComp as comp_act, Invoke as invoke_act, Return as return_act}
-use Rattle.act_states.specs.declared.work.Act.TheVariants.{Switch as switch_act, Touch as touch_act, Share as share_act}
-use Rattle.act_states.specs.declared.work.Act.TheVariants.{Refill as refill_act}
-use Rattle.act_states.specs.declared.work.Due.{Due}
-use Rattle.act_states.specs.declared.work.Work.{Work}
-use Rattle.act_states.specs.declared.work.Work.TheVariants.{Acquire, Act as act_work}
-use Rattle.act_states.specs.declared.objects.NewObject.{NewObject}
-use Rattle.act_states.specs.Objects.{object_dues}
-use Rattle.act_states.specs.declared.makings.MakingAt.{MakingAt}
-use Rattle.act_states.specs.declared.makings.MakingAt.TheVariants.{Load as make_load, Mark, Store, Fill as fill_at}
-use Rattle.act_states.specs.Comps.{comp_dues}
-use Rattle.act_states.specs.declared.kills.KillingAt.{KillingAt}
-use Rattle.act_states.specs.declared.kills.KillingAt.TheVariants.{LoadComp, LoadLive, Close as kill_close, Draw as kill_draw}
-use Rattle.act_states.specs.declared.invocations.InvokingAt.{InvokingAt}
-use Rattle.act_states.specs.declared.invocations.InvokingAt.TheVariants as invoking
-use Rattle.act_states.specs.declared.invocations.ReturningAt.{ReturningAt}
-use Rattle.act_states.specs.declared.invocations.ReturningAt.TheVariants as returning
-use Rattle.act_states.specs.Switches.{switching_dues}
-use Rattle.act_states.specs.Untypings.{untyping_dues}
+use Rattle.act_states.specs.{declared.work.Act.Act, declared.work.Act.TheVariants.Fill as fill_act}
+use Rattle.act_states.specs.{declared.work.Act.TheVariants.Remove as remove_act, declared.work.Act.TheVariants.Retype as type_act}
+use Rattle.act_states.specs.{declared.work.Act.TheVariants.Make as make_act, declared.work.Act.TheVariants.Outside}
+use Rattle.act_states.specs.{declared.work.Act.TheVariants.Tick as tick_act, declared.work.Act.TheVariants.Flush as flush_act}
+use Rattle.act_states.specs.{declared.work.Act.TheVariants.Kill as kill_act, declared.work.Act.TheVariants.Untype as untype_act}
+use Rattle.act_states.specs.{declared.work.Act.TheVariants.Map as map_act, declared.work.Act.TheVariants.MakeComp as comp_act}
+use Rattle.act_states.specs.{declared.work.Act.TheVariants.Invoke as invoke_act, declared.work.Act.TheVariants.Return as return_act}
+use Rattle.act_states.specs.{declared.work.Act.TheVariants.Switch as switch_act, declared.work.Act.TheVariants.Touch as touch_act}
+use Rattle.act_states.specs.{declared.work.Act.TheVariants.Share as share_act, declared.work.Act.TheVariants.Refill as refill_act}
+use Rattle.act_states.specs.{declared.work.Due.Due, declared.work.Work.Work, declared.work.Work.TheVariants.Acquire}
+use Rattle.act_states.specs.{declared.work.Work.TheVariants.Act as act_work, declared.objects.NewObject.NewObject, Objects.object_dues}
+use Rattle.act_states.specs.{declared.makings.MakingAt.MakingAt, declared.makings.MakingAt.TheVariants.Load as make_load}
+use Rattle.act_states.specs.{declared.makings.MakingAt.TheVariants.Mark, declared.makings.MakingAt.TheVariants.Store}
+use Rattle.act_states.specs.{declared.makings.MakingAt.TheVariants.Fill as fill_at, Comps.comp_dues, declared.kills.KillingAt.KillingAt}
+use Rattle.act_states.specs.{declared.kills.KillingAt.TheVariants.LoadComp, declared.kills.KillingAt.TheVariants.LoadLive}
+use Rattle.act_states.specs.{declared.kills.KillingAt.TheVariants.Close as kill_close}
+use Rattle.act_states.specs.{declared.kills.KillingAt.TheVariants.Draw as kill_draw, declared.invocations.InvokingAt.InvokingAt}
+use Rattle.act_states.specs.{declared.invocations.ReturningAt.ReturningAt, Switches.switching_dues, Untypings.untyping_dues}
 
 -- a change of a count is of two references at most
 abbrev pub IsSmallChange : ℤ → Type 0
@@ -53,17 +46,17 @@ killing_dues f (kill_draw life word) = record { frame = f; change = negsuc 0 } �
 
 -- an entering changes the count of the component's frame, from when its words are loaded
 abbrev pub invoking_dues : ℕ → InvokingAt → List Due
-invoking_dues f invoking.LoadTable = []
-invoking_dues f (invoking.LoadPages table) = []
-invoking_dues f (invoking.LoadComp table pages) = []
-invoking_dues f (invoking.LoadLive table pages life) = record { frame = f; change = pos 1 } ∷ []
+invoking_dues f InvokingAt.LoadTable = []
+invoking_dues f (InvokingAt.LoadPages table) = []
+invoking_dues f (InvokingAt.LoadComp table pages) = []
+invoking_dues f (InvokingAt.LoadLive table pages life) = record { frame = f; change = pos 1 } ∷ []
 
 -- a leaving changes the count of the top's frame, from when the words of the component below are loaded
 abbrev pub returning_dues : ℕ → ReturningAt → List Due
-returning_dues f returning.LoadBelow = []
-returning_dues f (returning.LoadTable comp) = []
-returning_dues f (returning.LoadPages comp table) = []
-returning_dues f (returning.Draw comp table pages) = record { frame = f; change = negsuc 0 } ∷ []
+returning_dues f ReturningAt.LoadBelow = []
+returning_dues f (ReturningAt.LoadTable comp) = []
+returning_dues f (ReturningAt.LoadPages comp table) = []
+returning_dues f (ReturningAt.Draw comp table pages) = record { frame = f; change = negsuc 0 } ∷ []
 
 -- the counts that an act changes, in the order in which they are acquired
 abbrev pub dues : Act → List Due

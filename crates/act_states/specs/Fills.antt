@@ -1,17 +1,9 @@
 -- The act that fills a place.
-use Rattle.std.specs.Prelude.{ℕ, ◌==◌, ◌<◌, None, Bool, if◌then◌else◌}
-use Rattle.spk_nums.specs.declared.replies.Value.TheVariants.{Nothing as nothing}
-use Rattle.stage_sweep.specs.entry_words.specs.EntryWord.{word_of_entry}
-use Rattle.stage_sweep.specs.entry_words.specs.declared.entry.Entry.TheVariants.{Held}
-use Rattle.stage_sweep.specs.word_map.specs.Word.{EntryAt}
-use Rattle.stage_sweep.specs.word_map.specs.Places.{Shape}
-use Rattle.stage_sweep.specs.word_map.specs.Moves.{Move, CompareOf}
-use Rattle.stage_sweep.specs.stage_look.specs.Shown.{CapNames}
-use Rattle.act_states.specs.declared.refusals.Refusal.TheVariants.{Raced}
-use Rattle.act_states.specs.declared.fills.Fill.{Fill}
-use Rattle.act_states.specs.declared.work.Tail.TheVariants.{Nothing}
-use Rattle.act_states.specs.declared.work.WorkStep.{WorkStep}
-use Rattle.act_states.specs.declared.work.WorkStep.TheVariants.{Refuses, Answers}
+use Rattle.stage_tcap.specs.{ℕ, ◌==◌, ◌<◌, None, Bool, if◌then◌else◌, Nothing as nothing, EntryAt, Shape, Move, CompareOf}
+use Rattle.stage_sweep.specs.entry_words.specs.{EntryWord.word_of_entry, declared.entry.Entry.TheVariants.Held}
+use Rattle.act_states.specs.{declared.refusals.Refusal.TheVariants.Raced, declared.fills.Fill.Fill, declared.work.Tail.TheVariants.Nothing}
+use Rattle.act_states.specs.{declared.work.WorkStep.WorkStep, declared.work.WorkStep.TheVariants.Refuses}
+use Rattle.{stage_sweep.specs.stage_look.specs.Shown.CapNames, act_states.specs.declared.work.WorkStep.TheVariants.Answers}
 
 -- it names frames of the machine
 pub record FillFits (s : Shape) (fill : Fill) : Type 0 where

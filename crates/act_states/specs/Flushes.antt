@@ -1,18 +1,12 @@
 -- The act that drops the translations which its core has cached.
-use Rattle.std.specs.Prelude.{None, ℕ}
-use Rattle.spk_nums.specs.declared.replies.Reply.TheVariants.{Ok}
-use Rattle.spk_nums.specs.declared.replies.Value.TheVariants.{Nothing as nothing}
+use Rattle.stage_tcap.specs.{None, ℕ, Ok, Nothing as nothing}
 use Rattle.stage_sweep.specs.stage_quiet.specs.Flushing.{flush_after}
 use Rattle.stage_sweep.specs.stage_quiet.specs.declared.flush_mark.FlushMark.{FlushMark}
 use Rattle.stage_sweep.specs.stage_quiet.specs.declared.flush_mark.FlushMark.TheVariants.{AtLoad, AtStore}
-use Rattle.act_states.specs.declared.own.OwnChange.TheVariants.{Empties}
-use Rattle.act_states.specs.declared.refusals.Refusal.TheVariants.{Raced}
-use Rattle.act_states.specs.declared.work.Act.TheVariants.{Flush as flush_act}
-use Rattle.act_states.specs.declared.work.Tail.TheVariants.{StoreFlush}
-use Rattle.act_states.specs.declared.work.Work.TheVariants.{Act}
-use Rattle.act_states.specs.declared.work.WorkStep.{WorkStep}
-use Rattle.act_states.specs.declared.work.WorkStep.TheVariants.{Goes, Changes}
-use Rattle.act_states.specs.WorkSteps.{refuse}
+use Rattle.act_states.specs.{declared.own.OwnChange.TheVariants.Empties, declared.refusals.Refusal.TheVariants.Raced}
+use Rattle.act_states.specs.{declared.work.Act.TheVariants.Flush as flush_act, declared.work.Tail.TheVariants.StoreFlush}
+use Rattle.act_states.specs.{declared.work.Work.TheVariants.Act, declared.work.WorkStep.WorkStep, declared.work.WorkStep.TheVariants.Goes}
+use Rattle.act_states.specs.{declared.work.WorkStep.TheVariants.Changes, WorkSteps.refuse}
 
 -- the translations of a core are dropped
 abbrev pub flushes : ℕ → WorkStep

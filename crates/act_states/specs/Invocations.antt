@@ -1,36 +1,23 @@
 -- The acts by which a core enters a component through a gate, and leaves it.
-use Rattle.std.specs.Prelude.{◌≡◌, ℕ, ◌+◌, ◌-◌, ◌<◌, ◌≤◌, ◌==◌, ◌^◌, min, Bool, true, false, nat_lt, Option, Some, None, if◌then◌else◌}
-use Rattle.spk_nums.specs.declared.replies.Reply.TheVariants.{Ok}
-use Rattle.spk_nums.specs.declared.replies.Value.TheVariants.{Nothing as nothing}
-use Rattle.stage_sweep.specs.frame_words.specs.Comp.{CompFits}
-use Rattle.stage_sweep.specs.frame_words.specs.declared.live_word.LiveWord.{LiveWord}
-use Rattle.stage_sweep.specs.frame_words.specs.declared.live_word.LiveWord.TheVariants as live
-use Rattle.stage_sweep.specs.tcap_words.specs.Stack.{stack_of_word}
-use Rattle.stage_sweep.specs.tcap_words.specs.declared.stack_word.StackWord.{StackWord}
+use Rattle.stage_tcap.specs.{◌≡◌, ℕ, ◌+◌, ◌-◌, ◌<◌, ◌≤◌, ◌==◌, ◌^◌, min, Bool, true, false, ltb as nat_lt, Option, Some, None}
+use Rattle.stage_tcap.specs.{if◌then◌else◌, Ok, Nothing as nothing, stack_of_word, StackWord, EntryAt, LiveAt, ClockAt, Shape, Move, LoadOf}
+use Rattle.stage_tcap.specs.{AddOf}
+use Rattle.stage_sweep.specs.frame_words.specs.{Comp.CompFits, declared.live_word.LiveWord.LiveWord}
+use Rattle.act_states.specs.{declared.invocations.Invoking.Invoking, declared.invocations.InvokingAt.InvokingAt}
+use Rattle.act_states.specs.{declared.invocations.Returning.Returning, declared.invocations.ReturningAt.ReturningAt}
+use Rattle.act_states.specs.{declared.own.OwnChange.TheVariants.Works, declared.refusals.Refusal.TheVariants.Raced}
+use Rattle.act_states.specs.{declared.refusals.Refusal.TheVariants.Busy, declared.refusals.Refusal.TheVariants.Dead as is_dead}
+use Rattle.act_states.specs.{declared.work.Tail.TheVariants.Push, declared.work.Tail.TheVariants.Pop, declared.work.WorkStep.WorkStep}
+use Rattle.act_states.specs.{declared.work.WorkStep.TheVariants.Changes, WorkSteps.refuse}
 use Rattle.stage_thread.specs.declared.stack.Push.TheVariants as push
 use Rattle.stage_thread.specs.declared.stack.Pop.TheVariants as pop
-use Rattle.stage_sweep.specs.word_map.specs.Word.{EntryAt, LiveAt, ClockAt}
-use Rattle.stage_sweep.specs.word_map.specs.Places.{Shape}
-use Rattle.stage_sweep.specs.word_map.specs.Moves.{Move, LoadOf, AddOf}
-use Rattle.act_states.specs.declared.invocations.Invoking.{Invoking}
-use Rattle.act_states.specs.declared.invocations.InvokingAt.{InvokingAt}
-use Rattle.act_states.specs.declared.invocations.InvokingAt.TheVariants as invoking
-use Rattle.act_states.specs.declared.invocations.Returning.{Returning}
-use Rattle.act_states.specs.declared.invocations.ReturningAt.{ReturningAt}
-use Rattle.act_states.specs.declared.invocations.ReturningAt.TheVariants as returning
-use Rattle.act_states.specs.declared.own.OwnChange.TheVariants.{Works}
-use Rattle.act_states.specs.declared.refusals.Refusal.TheVariants.{Raced, Busy, Dead as is_dead}
-use Rattle.act_states.specs.declared.work.Tail.TheVariants.{Push, Pop}
-use Rattle.act_states.specs.declared.work.WorkStep.{WorkStep}
-use Rattle.act_states.specs.declared.work.WorkStep.TheVariants.{Changes}
-use Rattle.act_states.specs.WorkSteps.{refuse}
 
 -- what an entering names is of the machine, and there is a place above the top of the stack
 abbrev pub InvokingAtFits : Shape → InvokingAt → Type 0
-InvokingAtFits s invoking.LoadTable = Unit {0}
-InvokingAtFits s (invoking.LoadPages table) = table < s.frames
-InvokingAtFits s (invoking.LoadComp table pages) = (table < s.frames) × (pages < s.frames)
-InvokingAtFits s (invoking.LoadLive table pages life) = (table < s.frames) × (pages < s.frames) × CompFits life
+InvokingAtFits s InvokingAt.LoadTable = Unit {0}
+InvokingAtFits s (InvokingAt.LoadPages table) = table < s.frames
+InvokingAtFits s (InvokingAt.LoadComp table pages) = (table < s.frames) × (pages < s.frames)
+InvokingAtFits s (InvokingAt.LoadLive table pages life) = (table < s.frames) × (pages < s.frames) × CompFits life
 
 pub record InvokingFits (s : Shape) (m : Invoking) : Type 0 where
   pub comp : m.comp < s.frames
@@ -44,28 +31,28 @@ pub record InvokingFits (s : Shape) (m : Invoking) : Type 0 where
 
 -- its steps: the component's table, its pages and its liveness number are loaded, and that number's word
 abbrev pub invoking_at : ℕ → InvokingAt → Move
-invoking_at f invoking.LoadTable = LoadOf (EntryAt f 0)
-invoking_at f (invoking.LoadPages table) = LoadOf (EntryAt f 1)
-invoking_at f (invoking.LoadComp table pages) = LoadOf (EntryAt f 2)
-invoking_at f (invoking.LoadLive table pages life) = LoadOf (LiveAt life.number)
+invoking_at f InvokingAt.LoadTable = LoadOf (EntryAt f 0)
+invoking_at f (InvokingAt.LoadPages table) = LoadOf (EntryAt f 1)
+invoking_at f (InvokingAt.LoadComp table pages) = LoadOf (EntryAt f 2)
+invoking_at f (InvokingAt.LoadLive table pages life) = LoadOf (LiveAt life.number)
 
 abbrev pub invoking_move : Invoking → Move
 invoking_move m = invoking_at m.comp m.at
 
 -- whether the next step is the load of the number's word
 abbrev pub is_entering : InvokingAt → Bool
-is_entering invoking.LoadTable = false
-is_entering (invoking.LoadPages table) = false
-is_entering (invoking.LoadComp table pages) = false
-is_entering (invoking.LoadLive table pages life) = true
+is_entering InvokingAt.LoadTable = false
+is_entering (InvokingAt.LoadPages table) = false
+is_entering (InvokingAt.LoadComp table pages) = false
+is_entering (InvokingAt.LoadLive table pages life) = true
 
 -- the steps that are still to come with the stores of the push, and with the acquiring and the commit of the count where it is not
 -- acquired yet
 abbrev pub invoking_left : InvokingAt → ℕ
-invoking_left invoking.LoadTable = 9
-invoking_left (invoking.LoadPages table) = 8
-invoking_left (invoking.LoadComp table pages) = 7
-invoking_left (invoking.LoadLive table pages life) = 3
+invoking_left InvokingAt.LoadTable = 9
+invoking_left (InvokingAt.LoadPages table) = 8
+invoking_left (InvokingAt.LoadComp table pages) = 7
+invoking_left (InvokingAt.LoadLive table pages life) = 3
 
 -- the frame of the machine that a word names by its number, if it names one
 abbrev pub frame_in : ℕ → ℕ → Option ℕ
@@ -91,10 +78,10 @@ enters_if m table pages lives =
     else refuse is_dead
 
 abbrev pub enters_number : Invoking → ℕ → ℕ → LiveWord → WorkStep
-enters_number m table pages live.Free = refuse is_dead
-enters_number m table pages (live.Live epoch f) = enters_if m table pages (epoch == m.epoch)
-enters_number m table pages (live.Closing epoch by) = refuse (Busy by)
-enters_number m table pages (live.Dead epoch stamp) = refuse is_dead
+enters_number m table pages LiveWord.Free = refuse is_dead
+enters_number m table pages (LiveWord.Live epoch f) = enters_if m table pages (epoch == m.epoch)
+enters_number m table pages (LiveWord.Closing epoch by) = refuse (Busy by)
+enters_number m table pages (LiveWord.Dead epoch stamp) = refuse is_dead
 
 abbrev pub enters_live : Invoking → ℕ → ℕ → Option LiveWord → WorkStep
 enters_live m table pages None = refuse Raced
@@ -102,10 +89,10 @@ enters_live m table pages (Some shown) = enters_number m table pages shown
 
 -- what a leaving names is of the machine, and there is a component below the top of the stack
 abbrev pub ReturningAtFits : Shape → ReturningAt → Type 0
-ReturningAtFits s returning.LoadBelow = Unit {0}
-ReturningAtFits s (returning.LoadTable comp) = comp < s.frames
-ReturningAtFits s (returning.LoadPages comp table) = (comp < s.frames) × (table < s.frames)
-ReturningAtFits s (returning.Draw comp table pages) = (comp < s.frames) × (table < s.frames) × (pages < s.frames)
+ReturningAtFits s ReturningAt.LoadBelow = Unit {0}
+ReturningAtFits s (ReturningAt.LoadTable comp) = comp < s.frames
+ReturningAtFits s (ReturningAt.LoadPages comp table) = (comp < s.frames) × (table < s.frames)
+ReturningAtFits s (ReturningAt.Draw comp table pages) = (comp < s.frames) × (table < s.frames) × (pages < s.frames)
 
 pub record ReturningFits (s : Shape) (m : Returning) : Type 0 where
   pub top : m.top < s.frames
@@ -119,28 +106,28 @@ pub record ReturningFits (s : Shape) (m : Returning) : Type 0 where
 
 -- its steps: the component below the top is loaded, its table and its pages, and a stamp is drawn
 abbrev pub returning_at : ℕ → ℕ → ReturningAt → Move
-returning_at thread depth returning.LoadBelow = LoadOf (EntryAt thread (depth - 1))
-returning_at thread depth (returning.LoadTable comp) = LoadOf (EntryAt comp 0)
-returning_at thread depth (returning.LoadPages comp table) = LoadOf (EntryAt comp 1)
-returning_at thread depth (returning.Draw comp table pages) = AddOf ClockAt 1
+returning_at thread depth ReturningAt.LoadBelow = LoadOf (EntryAt thread (depth - 1))
+returning_at thread depth (ReturningAt.LoadTable comp) = LoadOf (EntryAt comp 0)
+returning_at thread depth (ReturningAt.LoadPages comp table) = LoadOf (EntryAt comp 1)
+returning_at thread depth (ReturningAt.Draw comp table pages) = AddOf ClockAt 1
 
 abbrev pub returning_move : Returning → Move
 returning_move m = returning_at m.thread m.depth m.at
 
 -- whether the next step draws the stamp
 abbrev pub is_leaving : ReturningAt → Bool
-is_leaving returning.LoadBelow = false
-is_leaving (returning.LoadTable comp) = false
-is_leaving (returning.LoadPages comp table) = false
-is_leaving (returning.Draw comp table pages) = true
+is_leaving ReturningAt.LoadBelow = false
+is_leaving (ReturningAt.LoadTable comp) = false
+is_leaving (ReturningAt.LoadPages comp table) = false
+is_leaving (ReturningAt.Draw comp table pages) = true
 
 -- the steps that are still to come with the stores of the pop, and with the acquiring and the commit of the count where it is not
 -- acquired yet
 abbrev pub returning_left : ReturningAt → ℕ
-returning_left returning.LoadBelow = 9
-returning_left (returning.LoadTable comp) = 8
-returning_left (returning.LoadPages comp table) = 7
-returning_left (returning.Draw comp table pages) = 3
+returning_left ReturningAt.LoadBelow = 9
+returning_left (ReturningAt.LoadTable comp) = 8
+returning_left (ReturningAt.LoadPages comp table) = 7
+returning_left (ReturningAt.Draw comp table pages) = 3
 
 -- the draw decides: the core works in the component below from then on, and the top is still to be popped
 abbrev pub left_to : Returning → ℕ → ℕ → ℕ → ℕ → WorkStep

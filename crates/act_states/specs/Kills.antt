@@ -1,15 +1,10 @@
 -- The act that kills a component.
-use Rattle.std.specs.Prelude.{ℕ, ◌<◌, Bool, true, false}
-use Rattle.stage_sweep.specs.frame_words.specs.Comp.{CompFits}
-use Rattle.stage_sweep.specs.frame_words.specs.Live.{word_of_live}
-use Rattle.stage_sweep.specs.frame_words.specs.declared.comp_word.CompWord.{CompWord}
+use Rattle.stage_tcap.specs.{ℕ, ◌<◌, Bool, true, false, EntryAt, LiveAt, ClockAt, Shape, Move, LoadOf, CompareOf, StoreOf, AddOf}
+use Rattle.stage_sweep.specs.frame_words.specs.{CompFits, word_of_live}
 use Rattle.stage_sweep.specs.frame_words.specs.declared.live_word.LiveWord.TheVariants.{Closing, Dead}
-use Rattle.stage_sweep.specs.word_map.specs.Word.{EntryAt, LiveAt, ClockAt}
-use Rattle.stage_sweep.specs.word_map.specs.Places.{Shape}
-use Rattle.stage_sweep.specs.word_map.specs.Moves.{Move, LoadOf, CompareOf, StoreOf, AddOf}
-use Rattle.act_states.specs.declared.kills.Killing.{Killing}
-use Rattle.act_states.specs.declared.kills.KillingAt.{KillingAt}
 use Rattle.act_states.specs.declared.kills.KillingAt.TheVariants.{LoadComp, LoadLive, Close, Draw}
+use Rattle.{stage_sweep.specs.frame_words.specs.declared.comp_word.CompWord.CompWord, act_states.specs.declared.kills.Killing.Killing}
+use Rattle.{act_states.specs.declared.kills.KillingAt.KillingAt}
 
 -- what it names is of the machine
 abbrev pub KillingAtFits : KillingAt → Type 0

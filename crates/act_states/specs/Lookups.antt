@@ -1,24 +1,17 @@
 -- The look-ups of a call, driven by its plan.
-use Rattle.std.specs.Prelude.{ℕ, Bool, nat_le, if◌then◌else◌, Option, Some, None, List}
-use Rattle.spk_nums.specs.Capability.{Capability}
-use Rattle.spk_nums.specs.Rights.{has_rights}
-use Rattle.spk_nums.specs.declared.calls.Call.{Call}
-use Rattle.stage_sweep.specs.entry_words.specs.declared.entry.Entry.{Entry}
-use Rattle.stage_sweep.specs.entry_words.specs.declared.entry.Entry.TheVariants as entry
-use Rattle.call_plans.specs.kernel_invariant.specs.kernel_rules.specs.Access.{Want, Target as place, Under, InRoot}
+use Rattle.call_plans.specs.kernel_invariant.specs.kernel_rules.specs.{ℕ, Bool, leb as nat_le, if◌then◌else◌, Option, Some, None, List}
+use Rattle.call_plans.specs.kernel_invariant.specs.kernel_rules.specs.{Capability, has_rights, Call, Want, Target as place, Under, InRoot}
+use Rattle.call_plans.specs.{NextName, NextFree, NextHeld, NextOwn, NextNothing}
 use Rattle.stage_sweep.specs.stage_look.specs.declared.look.Look.TheVariants.{AtRoot, AtEntry}
-use Rattle.stage_sweep.specs.stage_look.specs.declared.look.Found.{Found}
-use Rattle.call_plans.specs.After.{Next, NextName, NextFree, NextHeld, NextOwn, NextNothing}
-use Rattle.act_states.specs.declared.own.Own.{Own}
-use Rattle.act_states.specs.declared.refusals.Refusal.TheVariants.{NoSlot, Empty, WrongCap, NoRight, Occupied, Busy}
-use Rattle.act_states.specs.declared.lookups.Met.{Met}
-use Rattle.act_states.specs.declared.lookups.Met.TheVariants.{Finds, Refused}
-use Rattle.act_states.specs.declared.work.Work.TheVariants.{Lookup, Read}
-use Rattle.act_states.specs.declared.work.WorkStep.{WorkStep}
-use Rattle.act_states.specs.declared.work.WorkStep.TheVariants.{Goes}
-use Rattle.act_states.specs.WorkSteps.{refuse}
-use Rattle.act_states.specs.Acts.{act_begun, reads_of}
-use Rattle.act_states.specs.Touches.{touches}
+use Rattle.act_states.specs.{declared.own.Own.Own, declared.refusals.Refusal.TheVariants.NoSlot}
+use Rattle.act_states.specs.{declared.refusals.Refusal.TheVariants.Empty, declared.refusals.Refusal.TheVariants.WrongCap}
+use Rattle.act_states.specs.{declared.refusals.Refusal.TheVariants.NoRight, declared.refusals.Refusal.TheVariants.Occupied}
+use Rattle.act_states.specs.{declared.refusals.Refusal.TheVariants.Busy, declared.lookups.Met.Met, declared.lookups.Met.TheVariants.Finds}
+use Rattle.act_states.specs.{declared.lookups.Met.TheVariants.Refused, declared.work.Work.TheVariants.Lookup}
+use Rattle.act_states.specs.{declared.work.Work.TheVariants.Read, declared.work.WorkStep.WorkStep, declared.work.WorkStep.TheVariants.Goes}
+use Rattle.act_states.specs.{WorkSteps.refuse, Acts.act_begun, Acts.reads_of, Touches.touches}
+use Rattle.{stage_sweep.specs.entry_words.specs.declared.entry.Entry.Entry, stage_sweep.specs.stage_look.specs.declared.look.Found.Found}
+use Rattle.{call_plans.specs.After.Next}
 
 -- a number, or a root entry, is looked up, if it is within its range
 abbrev pub looks_under : Bool → ℕ → ℕ → WorkStep
@@ -54,21 +47,21 @@ met_cap want k = if want.kinds k.kind then met_right want.needs k else Refused W
 
 -- what a name has led to that wants this, where its place shows this entry
 abbrev pub met_name : Want → Entry → Met
-met_name want entry.Free = Refused Empty
-met_name want (entry.Held k) = met_cap want k
-met_name want (entry.Closing by) = Refused (Busy by)
-met_name want (entry.Quiescing stamp) = Refused Empty
+met_name want Entry.Free = Refused Empty
+met_name want (Entry.Held k) = met_cap want k
+met_name want (Entry.Closing by) = Refused (Busy by)
+met_name want (Entry.Quiescing stamp) = Refused Empty
 
 -- what a call of a core does that has read this and whose target is to be free, where its place shows this entry
 abbrev pub met_free : Own → Call → List Capability → Option ℕ → Found → Entry → WorkStep
-met_free own call found read target entry.Free = act_begun own call found read (Some target)
-met_free own call found read target (entry.Held k) = refuse Occupied
-met_free own call found read target (entry.Closing by) = refuse (Busy by)
-met_free own call found read target (entry.Quiescing stamp) = act_begun own call found read (Some target)
+met_free own call found read target Entry.Free = act_begun own call found read (Some target)
+met_free own call found read target (Entry.Held k) = refuse Occupied
+met_free own call found read target (Entry.Closing by) = refuse (Busy by)
+met_free own call found read target (Entry.Quiescing stamp) = act_begun own call found read (Some target)
 
 -- what a call of a core does whose target is to be held, where its place shows this entry
 abbrev pub met_held : Own → Call → List Capability → Found → Entry → WorkStep
-met_held own call found target entry.Free = refuse Empty
-met_held own call found target (entry.Held k) = act_begun own call found None (Some target)
-met_held own call found target (entry.Closing by) = refuse (Busy by)
-met_held own call found target (entry.Quiescing stamp) = refuse Empty
+met_held own call found target Entry.Free = refuse Empty
+met_held own call found target (Entry.Held k) = act_begun own call found None (Some target)
+met_held own call found target (Entry.Closing by) = refuse (Busy by)
+met_held own call found target (Entry.Quiescing stamp) = refuse Empty

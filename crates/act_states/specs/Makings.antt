@@ -1,28 +1,20 @@
 -- The act that makes an object in a blank kernel frame.
-use Rattle.std.specs.Prelude.{ℕ, ◌+◌, ◌-◌, ◌*◌, ◌<◌, ◌≤◌, nat_lt, Bool, true, false, Some, None, if◌then◌else◌}
-use Rattle.spk_nums.specs.declared.kinds.FrameKind.TheVariants as frame_kind
-use Rattle.spk_nums.specs.declared.kinds.Obj.TheVariants as obj
-use Rattle.stage_sweep.specs.frame_words.specs.Frame.{word_of_frame}
-use Rattle.stage_sweep.specs.frame_words.specs.declared.frame_word.FrameWord.{FrameWord}
-use Rattle.stage_sweep.specs.word_map.specs.Word.{EntryAt, FrameAt}
-use Rattle.stage_sweep.specs.word_map.specs.Places.{Shape}
-use Rattle.stage_sweep.specs.word_map.specs.Moves.{Move, LoadOf, CompareOf, StoreOf}
-use Rattle.act_states.specs.Fills.{FillFits, fill_move}
-use Rattle.act_states.specs.declared.fills.Fill.{Fill}
-use Rattle.act_states.specs.Objects.{object_obj, object_word, last_word, counts_of, ObjectFits}
-use Rattle.act_states.specs.declared.objects.NewObject.{NewObject}
-use Rattle.act_states.specs.declared.makings.MakingAt.{MakingAt}
-use Rattle.act_states.specs.declared.makings.MakingAt.TheVariants.{Load, Mark, Store, Fill as fill_at}
-use Rattle.act_states.specs.declared.makings.Making.{Making}
-use Rattle.act_states.specs.declared.work.Tail.{Tail}
-use Rattle.act_states.specs.declared.work.Tail.TheVariants.{Nothing, Unmark}
+use Rattle.stage_tcap.specs.{ℕ, ◌+◌, ◌-◌, ◌*◌, ◌<◌, ◌≤◌, ltb as nat_lt, Bool, true, false, Some, None, if◌then◌else◌, EntryAt, FrameAt}
+use Rattle.stage_tcap.specs.{Shape, Move, LoadOf, CompareOf, StoreOf, FrameKind, Obj}
+use Rattle.stage_sweep.specs.frame_words.specs.{Frame.word_of_frame, declared.frame_word.FrameWord.FrameWord}
+use Rattle.act_states.specs.{Fills.FillFits, Fills.fill_move, declared.fills.Fill.Fill, Objects.object_obj, Objects.object_word}
+use Rattle.act_states.specs.{Objects.last_word, Objects.counts_of, Objects.ObjectFits, declared.objects.NewObject.NewObject}
+use Rattle.act_states.specs.{declared.makings.MakingAt.MakingAt, declared.makings.MakingAt.TheVariants.Load}
+use Rattle.act_states.specs.{declared.makings.MakingAt.TheVariants.Mark, declared.makings.MakingAt.TheVariants.Store}
+use Rattle.act_states.specs.{declared.makings.MakingAt.TheVariants.Fill as fill_at, declared.makings.Making.Making, declared.work.Tail.Tail}
+use Rattle.act_states.specs.{declared.work.Tail.TheVariants.Nothing, declared.work.Tail.TheVariants.Unmark}
 
 -- the word of a blank frame that a core has marked, and that of a frame that holds an object
 abbrev pub marked : ℕ → FrameWord
-marked core = record { kind = frame_kind.Kernel; object = obj.Blank; mark = Some core }
+marked core = record { kind = FrameKind.Kernel; object = Obj.Blank; mark = Some core }
 
 abbrev pub made : NewObject → FrameWord
-made object = record { kind = frame_kind.Kernel; object = object_obj object; mark = None }
+made object = record { kind = FrameKind.Kernel; object = object_obj object; mark = None }
 
 -- what it names is of the machine
 abbrev pub MakingAtFits : NewObject → MakingAt → Type 0

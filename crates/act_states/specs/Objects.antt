@@ -1,42 +1,28 @@
 -- The objects that are made in a blank kernel frame: their words, and the references that they take.
-use Rattle.std.specs.Prelude.{ℕ, ◌+◌, ◌<◌, ◌≤◌, ◌^◌, ◌==◌, pos, Option, Some, None, List, [], ◌∷◌, map, length, if◌then◌else◌}
-use Rattle.spk_nums.specs.Capability.{Capability, cap_of}
-use Rattle.spk_nums.specs.declared.kinds.Kind.{Kind}
-use Rattle.spk_nums.specs.declared.kinds.Kind.TheVariants as kind
-use Rattle.spk_nums.specs.declared.kinds.Obj.{Obj}
-use Rattle.spk_nums.specs.declared.kinds.Obj.TheVariants as obj
-use Rattle.spk_nums.specs.declared.calls.Make.{Make}
-use Rattle.spk_nums.specs.declared.calls.Make.TheVariants as make
-use Rattle.stage_sweep.specs.entry_words.specs.EntryWord.{word_of_entry}
-use Rattle.stage_sweep.specs.entry_words.specs.declared.entry.Entry.TheVariants.{Free}
-use Rattle.stage_sweep.specs.tcap_words.specs.Head.{word_of_head}
-use Rattle.stage_sweep.specs.tcap_words.specs.Quality.{word_of_quality}
-use Rattle.stage_sweep.specs.tcap_words.specs.Stack.{word_of_stack}
-use Rattle.stage_sweep.specs.tcap_words.specs.Thread.{word_of_thread}
-use Rattle.stage_sweep.specs.tcap_words.specs.declared.thread_word.ThreadWord.TheVariants.{Idle}
-use Rattle.stage_sweep.specs.word_map.specs.Places.{Shape}
-use Rattle.call_plans.specs.Plans.{at_place}
-use Rattle.call_plans.specs.declared.plans.Nth.TheVariants.{Third}
-use Rattle.act_states.specs.declared.objects.NewObject.{NewObject}
+use Rattle.stage_tcap.specs.{ℕ, ◌+◌, ◌<◌, ◌≤◌, ◌^◌, ◌==◌, pos, Option, Some, None, List, [], ◌∷◌, map, length, if◌then◌else◌, Capability}
+use Rattle.stage_tcap.specs.{cap_of, Kind, Obj, Make, word_of_head, word_of_stack, word_of_thread, Idle, Shape}
+use Rattle.stage_sweep.specs.entry_words.specs.{EntryWord.word_of_entry, declared.entry.Entry.TheVariants.Free}
+use Rattle.call_plans.specs.{Plans.at_place, declared.plans.Nth.TheVariants.Third}
 use Rattle.act_states.specs.declared.objects.NewObject.TheVariants.{Table, Leaf, Pages, Pleaf, Thread, Tcap}
-use Rattle.act_states.specs.declared.work.Due.{Due}
+use Rattle.{stage_sweep.specs.tcap_words.specs.Quality.word_of_quality, act_states.specs.declared.objects.NewObject.NewObject}
+use Rattle.{act_states.specs.declared.work.Due.Due}
 
 -- what its frame's word says, and the kind of its capability
 abbrev pub object_obj : NewObject → Obj
-object_obj Table = obj.Table
-object_obj Leaf = obj.Leaf
-object_obj Pages = obj.Pages
-object_obj Pleaf = obj.Pleaf
-object_obj (Thread comp) = obj.Thread
-object_obj (Tcap sched quality) = obj.Tcap
+object_obj Table = Obj.Table
+object_obj Leaf = Obj.Leaf
+object_obj Pages = Obj.Pages
+object_obj Pleaf = Obj.Pleaf
+object_obj (Thread comp) = Obj.Thread
+object_obj (Tcap sched quality) = Obj.Tcap
 
 abbrev pub object_kind : NewObject → Kind
-object_kind Table = kind.Table
-object_kind Leaf = kind.Leaf
-object_kind Pages = kind.Pages
-object_kind Pleaf = kind.Pleaf
-object_kind (Thread comp) = kind.Thread
-object_kind (Tcap sched quality) = kind.Tcap
+object_kind Table = Kind.Table
+object_kind Leaf = Kind.Leaf
+object_kind Pages = Kind.Pages
+object_kind Pleaf = Kind.Pleaf
+object_kind (Thread comp) = Kind.Thread
+object_kind (Tcap sched quality) = Kind.Tcap
 
 abbrev pub object_cap : NewObject → ℕ → Capability
 object_cap object f = cap_of (object_kind object) f 0
@@ -47,13 +33,13 @@ thread_on None = None
 thread_on (Some k) = Some (Thread k.frame)
 
 abbrev pub object_made : Make → List Capability → Option NewObject
-object_made make.Table found = Some Table
-object_made make.Leaf found = Some Leaf
-object_made make.Pages found = Some Pages
-object_made make.Pleaf found = Some Pleaf
-object_made (make.Thread comp) found = thread_on (at_place found Third)
-object_made (make.Tcap sched quality) found = Some (Tcap sched quality)
-object_made (make.Comp table pages live) found = None
+object_made Make.Table found = Some Table
+object_made Make.Leaf found = Some Leaf
+object_made Make.Pages found = Some Pages
+object_made Make.Pleaf found = Some Pleaf
+object_made (Make.Thread comp) found = thread_on (at_place found Third)
+object_made (Make.Tcap sched quality) found = Some (Tcap sched quality)
+object_made (Make.Comp table pages live) found = None
 
 -- the words of a new thread: it is idle, and its stack has the component alone
 abbrev pub thread_word : ℕ → ℕ → ℕ

@@ -1,9 +1,7 @@
 -- What a decision changes of what its core has of its own, beside the calls that it has made.
-use Rattle.std.specs.Prelude.{ℕ, ◌+◌, ◌-◌, ◌^◌, min, []}
-use Rattle.call_plans.specs.kernel_invariant.specs.kernel_rules.specs.Edits.{caching}
-use Rattle.act_states.specs.declared.own.Own.{Own}
-use Rattle.act_states.specs.declared.own.OwnChange.{OwnChange}
+use Rattle.call_plans.specs.kernel_invariant.specs.kernel_rules.specs.{ℕ, ◌+◌, ◌-◌, ◌^◌, min, [], caching}
 use Rattle.act_states.specs.declared.own.OwnChange.TheVariants.{Ticks, GivesBack, Empties, Works, Switches, Caches}
+use Rattle.{act_states.specs.declared.own.Own.Own, act_states.specs.declared.own.OwnChange.OwnChange}
 
 -- so many ticks more are spent, or given back; ticks past their field never come, and stay at the field's end
 abbrev pub spent_more : ℕ → ℕ → ℕ

@@ -1,25 +1,12 @@
 -- The act that gives back to a temporal capability what its core has spent.
-use Rattle.std.specs.Prelude.{ℕ, ◌-◌, ◌^◌, min, Bool, true, false, Option, Some, None, []}
-use Rattle.spk_nums.specs.Capability.{Capability}
-use Rattle.spk_nums.specs.declared.replies.Reply.TheVariants.{Ok}
-use Rattle.spk_nums.specs.declared.replies.Value.{Value}
-use Rattle.spk_nums.specs.declared.steps.StageEnd.{StageEnd}
-use Rattle.spk_nums.specs.declared.steps.StageEnd.TheVariants as ends
-use Rattle.stage_tcap.specs.Heads.{head}
-use Rattle.stage_tcap.specs.Refilling.{refill_end, refill_after}
-use Rattle.stage_tcap.specs.declared.refill.Refill.{Refill}
-use Rattle.stage_tcap.specs.declared.refill.RefillAt.{RefillAt}
+use Rattle.stage_tcap.specs.{ℕ, ◌-◌, ◌^◌, min, Bool, true, false, Option, Some, None, [], Capability, Ok, Value, StageEnd, head, refill_end}
 use Rattle.stage_tcap.specs.declared.refill.RefillAt.TheVariants.{Load, List as at_list, Compare, Again}
-use Rattle.act_states.specs.declared.own.Own.{Own}
-use Rattle.act_states.specs.declared.own.OwnChange.TheVariants.{GivesBack}
-use Rattle.act_states.specs.declared.refusals.Refusal.TheVariants.{Raced}
-use Rattle.act_states.specs.declared.work.Act.TheVariants.{Refill as refill_act}
-use Rattle.act_states.specs.declared.work.Work.TheVariants.{Act}
-use Rattle.act_states.specs.declared.work.Tail.TheVariants.{Nothing}
-use Rattle.act_states.specs.declared.work.WorkStep.{WorkStep}
-use Rattle.act_states.specs.declared.work.WorkStep.TheVariants.{Goes, Changes}
-use Rattle.act_states.specs.Refusals.{refusal_of}
-use Rattle.act_states.specs.WorkSteps.{refuse}
+use Rattle.act_states.specs.{declared.own.Own.Own, declared.own.OwnChange.TheVariants.GivesBack}
+use Rattle.act_states.specs.{declared.refusals.Refusal.TheVariants.Raced, declared.work.Act.TheVariants.Refill as refill_act}
+use Rattle.act_states.specs.{declared.work.Work.TheVariants.Act, declared.work.Tail.TheVariants.Nothing, declared.work.WorkStep.WorkStep}
+use Rattle.act_states.specs.{declared.work.WorkStep.TheVariants.Goes, declared.work.WorkStep.TheVariants.Changes, Refusals.refusal_of}
+use Rattle.{stage_tcap.specs.refill_after, stage_tcap.specs.declared.refill.Refill.Refill}
+use Rattle.{stage_tcap.specs.declared.refill.RefillAt.RefillAt, act_states.specs.WorkSteps.refuse}
 
 -- the ticks that a core has spent and has not had back; more than a budget can have never come, and stay at its field's end
 abbrev pub left_among : ℕ → ℕ → ℕ
@@ -46,10 +33,10 @@ refills_at own m (Some k) = Goes (Act (refill_act (refilling own m k.frame)))
 
 -- what it takes from its step, after which it stands here: it goes on, is refused, or has given the ticks back
 abbrev pub took_refilled : Refill → StageEnd Value → WorkStep
-took_refilled r ends.Going = Goes (Act (refill_act r))
-took_refilled r (ends.Decided reply) = refuse (refusal_of reply)
-took_refilled r (ends.Done v) = Changes (Ok v) (GivesBack r.ticks) None Nothing
-took_refilled r (ends.Refuse reply) = refuse (refusal_of reply)
+took_refilled r StageEnd.Going = Goes (Act (refill_act r))
+took_refilled r (StageEnd.Decided reply) = refuse (refusal_of reply)
+took_refilled r (StageEnd.Done v) = Changes (Ok v) (GivesBack r.ticks) None Nothing
+took_refilled r (StageEnd.Refuse reply) = refuse (refusal_of reply)
 
 abbrev pub took_refill : Refill → ℕ → WorkStep
 took_refill r found = took_refilled (refill_after r found) (refill_end r found)

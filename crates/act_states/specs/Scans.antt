@@ -1,6 +1,5 @@
 -- The scans of the other cores' words and of flush words.
-use Rattle.std.specs.Prelude.{ℕ, ◌+◌, ◌-◌, ◌<◌, ◌≤◌, ◌≡◌, false, nat_lt, if◌then◌else◌}
-use Rattle.stage_sweep.specs.word_map.specs.Places.{Shape}
+use Rattle.stage_tcap.specs.{ℕ, ◌+◌, ◌-◌, ◌<◌, ◌≤◌, ◌≡◌, false, ltb as nat_lt, if◌then◌else◌, Shape}
 use Rattle.stage_sweep.specs.stage_quiet.specs.declared.quiet.Quiet.{Quiet}
 use Rattle.stage_sweep.specs.stage_quiet.specs.declared.quiet.Quiet.TheVariants.{AtCore, AtFlush}
 

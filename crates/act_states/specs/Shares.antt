@@ -1,29 +1,15 @@
 -- The acts on two temporal capabilities: a transfer, a delegation, and a test of preemption.
-use Rattle.std.specs.Prelude.{ℕ, ◌-◌, ◌+◌, ◌==◌, Bool, true, false, Option, Some, None, if◌then◌else◌, [], IsTrue}
-use Rattle.spk_nums.specs.Capability.{Capability}
-use Rattle.spk_nums.specs.declared.replies.Reply.{Reply}
-use Rattle.spk_nums.specs.declared.replies.Reply.TheVariants.{Ok}
-use Rattle.spk_nums.specs.declared.replies.Value.{Value}
-use Rattle.spk_nums.specs.declared.steps.StageEnd.{StageEnd}
-use Rattle.spk_nums.specs.declared.steps.StageEnd.TheVariants as ends
-use Rattle.stage_sweep.specs.word_map.specs.Places.{Shape}
-use Rattle.stage_tcap.specs.Heads.{head}
-use Rattle.stage_tcap.specs.Pairs.{PairFits, pair_after, pair_end}
-use Rattle.stage_tcap.specs.declared.pair.Pair.{Pair}
-use Rattle.stage_tcap.specs.declared.pair.PairAt.{PairAt}
-use Rattle.stage_tcap.specs.declared.pair.PairAt.TheVariants.{LoadA, MarkA, ListA, LoadB, ListB, CompareB}
-use Rattle.stage_tcap.specs.declared.pair.PairAt.TheVariants.{AgainB, StoreList, StoreB, StoreA}
-use Rattle.stage_tcap.specs.declared.pair.PairWork.{PairWork}
-use Rattle.stage_tcap.specs.declared.pair.PairWork.TheVariants.{Transfer, Delegate, Test}
-use Rattle.act_states.specs.declared.refusals.Refusal.TheVariants.{Raced, Same}
-use Rattle.act_states.specs.declared.work.Act.TheVariants.{Share as share_act}
-use Rattle.act_states.specs.declared.work.Work.TheVariants.{Act}
-use Rattle.act_states.specs.declared.work.Tail.{Tail}
-use Rattle.act_states.specs.declared.work.Tail.TheVariants.{Nothing, Share as share_tail}
-use Rattle.act_states.specs.declared.work.WorkStep.{WorkStep}
-use Rattle.act_states.specs.declared.work.WorkStep.TheVariants.{Goes, Refuses, Answers}
-use Rattle.act_states.specs.Refusals.{refusal_of}
-use Rattle.act_states.specs.WorkSteps.{refuse}
+use Rattle.stage_tcap.specs as low
+use low.{ℕ, ◌-◌, ◌+◌, ◌==◌, Bool, true, false, Option, Some, None, if◌then◌else◌, [], IsTrue, Capability, Reply, Ok, Value, StageEnd, Shape}
+use low.declared.pair.PairAt.TheVariants.{LoadA, MarkA, ListA, LoadB, ListB, CompareB, AgainB, StoreList, StoreB, StoreA}
+use Rattle.act_states.specs.{declared.refusals.Refusal.TheVariants.Raced, declared.refusals.Refusal.TheVariants.Same}
+use Rattle.act_states.specs.{declared.work.Act.TheVariants.Share as share_act, declared.work.Work.TheVariants.Act, declared.work.Tail.Tail}
+use Rattle.act_states.specs.{declared.work.Tail.TheVariants.Nothing, declared.work.Tail.TheVariants.Share as share_tail}
+use Rattle.act_states.specs.{declared.work.WorkStep.WorkStep, declared.work.WorkStep.TheVariants.Goes}
+use Rattle.act_states.specs.{declared.work.WorkStep.TheVariants.Refuses, declared.work.WorkStep.TheVariants.Answers, Refusals.refusal_of}
+use low.{head, PairFits, pair_after, pair_end, declared.pair.Pair.Pair, declared.pair.PairAt.PairAt, declared.pair.PairWork.PairWork}
+use low.{declared.pair.PairWork.TheVariants.Transfer, declared.pair.PairWork.TheVariants.Delegate, declared.pair.PairWork.TheVariants.Test}
+use Rattle.{act_states.specs.WorkSteps.refuse}
 
 -- the call is decided with this reply, and has still to store what stands here
 abbrev pub shared : Pair → Reply → WorkStep
@@ -32,10 +18,10 @@ shared p r = Refuses (refusal_of r) (share_tail p)
 
 -- what it takes from its step, after which it stands here: it goes on, is refused with nothing to store, or is decided
 abbrev pub took_shared : Pair → StageEnd Value → WorkStep
-took_shared p ends.Going = Goes (Act (share_act p))
-took_shared p (ends.Decided r) = shared p r
-took_shared p (ends.Done v) = refuse Raced
-took_shared p (ends.Refuse r) = refuse (refusal_of r)
+took_shared p StageEnd.Going = Goes (Act (share_act p))
+took_shared p (StageEnd.Decided r) = shared p r
+took_shared p (StageEnd.Done v) = refuse Raced
+took_shared p (StageEnd.Refuse r) = refuse (refusal_of r)
 
 abbrev pub took_share : Pair → ℕ → WorkStep
 took_share p found = took_shared (pair_after p found) (pair_end p found)
@@ -92,10 +78,10 @@ share_left what (StoreA moved v) = 1
 
 -- what is still to be stored after a store, after which it stands here: after that of head A nothing
 abbrev pub stores_more : Pair → StageEnd Value → Tail
-stores_more p ends.Going = share_tail p
-stores_more p (ends.Decided r) = Nothing
-stores_more p (ends.Done v) = Nothing
-stores_more p (ends.Refuse r) = Nothing
+stores_more p StageEnd.Going = share_tail p
+stores_more p (StageEnd.Decided r) = Nothing
+stores_more p (StageEnd.Done v) = Nothing
+stores_more p (StageEnd.Refuse r) = Nothing
 
 abbrev pub after_share : Pair → ℕ → Tail
 after_share p found = stores_more (pair_after p found) (pair_end p found)

@@ -1,31 +1,19 @@
 -- The act by which a core goes on as another thread, with a temporal capability.
-use Rattle.std.specs.Prelude.{◌≡◌, ℕ, ◌<◌, ◌≤◌, ◌==◌, pos, negsuc, Bool, true, false, Option, Some, None, List, [], ◌∷◌, if◌then◌else◌}
-use Rattle.spk_nums.specs.declared.replies.Reply.TheVariants.{Ok}
-use Rattle.spk_nums.specs.declared.replies.Value.TheVariants.{Nothing as nothing}
-use Rattle.spk_nums.specs.declared.steps.StageEnd.{StageEnd}
-use Rattle.spk_nums.specs.declared.steps.StageEnd.TheVariants as ends
-use Rattle.stage_sweep.specs.tcap_words.specs.Thread.{DepthFits, word_of_thread}
-use Rattle.stage_sweep.specs.tcap_words.specs.declared.thread_word.ThreadWord.TheVariants.{Idle, Running, Claimed as claimed_thread}
-use Rattle.stage_thread.specs.Claiming.{ClaimFits, ClaimedFits, claim_move}
-use Rattle.stage_thread.specs.declared.claim.Claim.{Claim as ClaimOf}
-use Rattle.stage_thread.specs.declared.claim.Claim.TheVariants.{AtLoad, AtCompare, AtStack}
-use Rattle.stage_thread.specs.declared.claim.Claimed.{Claimed}
-use Rattle.stage_sweep.specs.word_map.specs.Word.{EntryAt, ClockAt}
-use Rattle.stage_sweep.specs.word_map.specs.Places.{Shape}
-use Rattle.stage_sweep.specs.word_map.specs.Moves.{Move, LoadOf, StoreOf, AddOf}
-use Rattle.act_states.specs.Refusals.{refusal_of}
-use Rattle.act_states.specs.declared.own.OwnChange.TheVariants.{Switches}
-use Rattle.act_states.specs.declared.refusals.Refusal.TheVariants.{Raced}
-use Rattle.act_states.specs.declared.switches.Switching.{Switching}
-use Rattle.act_states.specs.declared.switches.SwitchAt.{SwitchAt}
-use Rattle.act_states.specs.declared.switches.SwitchAt.TheVariants.{Claim, LoadTable, LoadPages, Leave, Draw}
-use Rattle.act_states.specs.declared.work.Act.TheVariants.{Switch}
-use Rattle.act_states.specs.declared.work.Due.{Due}
-use Rattle.act_states.specs.declared.work.Tail.{Tail}
-use Rattle.act_states.specs.declared.work.Tail.TheVariants.{Nothing, StoreRunning, StoreIdle}
-use Rattle.act_states.specs.declared.work.Work.TheVariants.{Act as act_work}
-use Rattle.act_states.specs.declared.work.WorkStep.{WorkStep}
-use Rattle.act_states.specs.declared.work.WorkStep.TheVariants.{Goes, Refuses, Changes}
+use Rattle.stage_tcap.specs.{◌≡◌, ℕ, ◌<◌, ◌≤◌, ◌==◌, pos, negsuc, Bool, true, false, Option, Some, None, List, [], ◌∷◌, if◌then◌else◌, Ok}
+use Rattle.stage_tcap.specs.{Nothing as nothing, StageEnd, DepthFits, word_of_thread, Idle, Running, Claimed as claimed_thread, EntryAt}
+use Rattle.stage_tcap.specs.{ClockAt, Shape, Move, LoadOf, StoreOf, AddOf}
+use Rattle.stage_thread.specs.{Claiming.ClaimFits, Claiming.ClaimedFits, Claiming.claim_move, declared.claim.Claim.Claim as ClaimOf}
+use Rattle.stage_thread.specs.{declared.claim.Claim.TheVariants.AtLoad, declared.claim.Claim.TheVariants.AtCompare}
+use Rattle.stage_thread.specs.{declared.claim.Claim.TheVariants.AtStack, declared.claim.Claimed.Claimed}
+use Rattle.act_states.specs.{Refusals.refusal_of, declared.own.OwnChange.TheVariants.Switches, declared.refusals.Refusal.TheVariants.Raced}
+use Rattle.act_states.specs.{declared.switches.Switching.Switching, declared.switches.SwitchAt.SwitchAt}
+use Rattle.act_states.specs.{declared.switches.SwitchAt.TheVariants.Claim, declared.switches.SwitchAt.TheVariants.LoadTable}
+use Rattle.act_states.specs.{declared.switches.SwitchAt.TheVariants.LoadPages, declared.switches.SwitchAt.TheVariants.Leave}
+use Rattle.act_states.specs.{declared.switches.SwitchAt.TheVariants.Draw, declared.work.Act.TheVariants.Switch, declared.work.Due.Due}
+use Rattle.act_states.specs.{declared.work.Tail.Tail, declared.work.Tail.TheVariants.Nothing, declared.work.Tail.TheVariants.StoreRunning}
+use Rattle.act_states.specs.{declared.work.Tail.TheVariants.StoreIdle, declared.work.Work.TheVariants.Act as act_work}
+use Rattle.act_states.specs.{declared.work.WorkStep.WorkStep, declared.work.WorkStep.TheVariants.Goes}
+use Rattle.act_states.specs.{declared.work.WorkStep.TheVariants.Refuses, declared.work.WorkStep.TheVariants.Changes}
 
 -- what it names is of the machine
 abbrev pub SwitchAtFits : Shape → SwitchAt → Type 0
@@ -126,10 +114,10 @@ switch_goes m at = Goes (act_work (Switch (record m { at = at })))
 
 -- what a step of the claim leads to, which stands here after it
 abbrev pub took_claim : Switching → ClaimOf → StageEnd Claimed → WorkStep
-took_claim m claim ends.Going = switch_goes m (Claim claim)
-took_claim m claim (ends.Decided r) = Refuses (refusal_of r) (claim_undo claim)
-took_claim m claim (ends.Done to) = switch_goes m (LoadTable to)
-took_claim m claim (ends.Refuse r) = Refuses (refusal_of r) (claim_undo claim)
+took_claim m claim StageEnd.Going = switch_goes m (Claim claim)
+took_claim m claim (StageEnd.Decided r) = Refuses (refusal_of r) (claim_undo claim)
+took_claim m claim (StageEnd.Done to) = switch_goes m (LoadTable to)
+took_claim m claim (StageEnd.Refuse r) = Refuses (refusal_of r) (claim_undo claim)
 
 -- what the load of the table leads to, where it shows this
 abbrev pub switch_table : Switching → Claimed → Option ℕ → WorkStep

@@ -1,21 +1,10 @@
 -- The act that charges ticks to the core's temporal capability.
-use Rattle.std.specs.Prelude.{ℕ, ◌+◌, ◌-◌, ◌^◌, min, Bool, true, false, None}
-use Rattle.spk_nums.specs.declared.replies.Reply.{Reply}
-use Rattle.spk_nums.specs.declared.replies.Reply.TheVariants.{Ok}
-use Rattle.spk_nums.specs.declared.replies.Value.{Value}
-use Rattle.spk_nums.specs.declared.replies.Value.TheVariants.{Amount}
-use Rattle.spk_nums.specs.declared.steps.StageEnd.{StageEnd}
-use Rattle.spk_nums.specs.declared.steps.StageEnd.TheVariants as ends
-use Rattle.stage_tcap.specs.Charging.{charge_end, charge_after}
+use Rattle.stage_tcap.specs.{ℕ, ◌+◌, ◌-◌, ◌^◌, min, Bool, true, false, None, Reply, Ok, Value, Amount, StageEnd, charge_end, charge_after}
 use Rattle.stage_tcap.specs.declared.charge.Charge.{Charge}
 use Rattle.stage_tcap.specs.declared.charge.Charge.TheVariants.{AtLoad, AtCompare}
-use Rattle.act_states.specs.declared.own.Own.{Own}
-use Rattle.act_states.specs.declared.own.OwnChange.TheVariants.{Ticks}
-use Rattle.act_states.specs.declared.work.Act.TheVariants.{Tick as tick_act}
-use Rattle.act_states.specs.declared.work.Work.TheVariants.{Act}
-use Rattle.act_states.specs.declared.work.Tail.TheVariants.{Nothing}
-use Rattle.act_states.specs.declared.work.WorkStep.{WorkStep}
-use Rattle.act_states.specs.declared.work.WorkStep.TheVariants.{Goes, Changes}
+use Rattle.act_states.specs.{declared.own.Own.Own, declared.own.OwnChange.TheVariants.Ticks, declared.work.Act.TheVariants.Tick as tick_act}
+use Rattle.act_states.specs.{declared.work.Work.TheVariants.Act, declared.work.Tail.TheVariants.Nothing, declared.work.WorkStep.WorkStep}
+use Rattle.act_states.specs.{declared.work.WorkStep.TheVariants.Goes, declared.work.WorkStep.TheVariants.Changes}
 
 -- the ticks that are due: those asked for and those owed; ticks past their field never come, and stay at the field's end
 abbrev pub ticks_due : ℕ → ℕ → ℕ
@@ -41,10 +30,10 @@ owes r due = Changes r (Ticks 0 due) None Nothing
 
 -- what a tick of so many ticks takes from its step, after which it stands here: it goes on, is refused, or has charged so many of them
 abbrev pub took_charge : ℕ → Charge → StageEnd Value → WorkStep
-took_charge due charge ends.Going = Goes (Act (tick_act charge))
-took_charge due charge (ends.Decided r) = owes r due
-took_charge due charge (ends.Done v) = Changes (Ok v) (Ticks (charged_in v) (due - charged_in v)) None Nothing
-took_charge due charge (ends.Refuse r) = owes r due
+took_charge due charge StageEnd.Going = Goes (Act (tick_act charge))
+took_charge due charge (StageEnd.Decided r) = owes r due
+took_charge due charge (StageEnd.Done v) = Changes (Ok v) (Ticks (charged_in v) (due - charged_in v)) None Nothing
+took_charge due charge (StageEnd.Refuse r) = owes r due
 
 abbrev pub took_tick : Charge → ℕ → WorkStep
 took_tick charge found = took_charge (ticks_of charge) (charge_after charge found) (charge_end charge found)

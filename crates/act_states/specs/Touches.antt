@@ -1,32 +1,18 @@
 -- The act that touches a page of the core's own pages.
-use Rattle.std.specs.Prelude.{◌≡◌, ◌%◌, ◌||◌, ℕ, Bool, true, false, nat_le, if◌then◌else◌, is_some, Option, Some, None}
-use Rattle.spk_nums.specs.Capability.{Capability}
-use Rattle.spk_nums.specs.declared.replies.Reply.{Reply}
-use Rattle.spk_nums.specs.declared.replies.Reply.TheVariants as reply
-use Rattle.spk_nums.specs.declared.steps.StageEnd.{StageEnd}
-use Rattle.spk_nums.specs.declared.steps.StageEnd.TheVariants as ends
-use Rattle.spk_nums.specs.declared.translations.Translation.{Translation}
-use Rattle.stage_sweep.specs.entry_words.specs.declared.entry.Entry.{Entry}
-use Rattle.stage_sweep.specs.entry_words.specs.declared.entry.Entry.TheVariants as entry
-use Rattle.call_plans.specs.kernel_invariant.specs.kernel_rules.specs.MemoryCalls.{translation_of, translated}
-use Rattle.stage_sweep.specs.word_map.specs.Places.{Shape}
-use Rattle.stage_sweep.specs.stage_look.specs.Shown.{shown_in}
-use Rattle.stage_sweep.specs.stage_look.specs.Lookup.{LookFits, look_end, look_after}
-use Rattle.stage_sweep.specs.stage_look.specs.declared.look.Look.{Look}
+use Rattle.call_plans.specs.kernel_invariant.specs.kernel_rules.specs.{◌≡◌, ◌%◌, ◌||◌, ℕ, Bool, true, false, leb as nat_le, if◌then◌else◌}
+use Rattle.call_plans.specs.kernel_invariant.specs.kernel_rules.specs.{is_some, Option, Some, None, Capability, Reply, StageEnd}
+use Rattle.call_plans.specs.kernel_invariant.specs.kernel_rules.specs.{Translation, translation_of, translated}
+use Rattle.stage_sweep.specs.stage_look.specs.{shown_in, LookFits, look_end, look_after}
 use Rattle.stage_sweep.specs.stage_look.specs.declared.look.Look.TheVariants.{AtRoot, AtLeaf, AtEntry}
-use Rattle.stage_sweep.specs.stage_look.specs.declared.look.Found.{Found}
-use Rattle.act_states.specs.declared.own.Own.{Own}
-use Rattle.act_states.specs.declared.own.OwnChange.TheVariants.{Caches}
-use Rattle.act_states.specs.declared.refusals.Refusal.{Refusal}
-use Rattle.act_states.specs.declared.refusals.Refusal.TheVariants.{NoSlot, Fault, Raced}
-use Rattle.act_states.specs.declared.touches.Touching.{Touching}
-use Rattle.act_states.specs.declared.work.Act.TheVariants.{Touch as touch_act}
-use Rattle.act_states.specs.declared.work.Tail.TheVariants.{Nothing}
-use Rattle.act_states.specs.declared.work.Work.TheVariants.{Act}
-use Rattle.act_states.specs.declared.work.WorkStep.{WorkStep}
-use Rattle.act_states.specs.declared.work.WorkStep.TheVariants.{Goes, Answers, Changes}
-use Rattle.act_states.specs.Refusals.{refusal_of}
-use Rattle.act_states.specs.WorkSteps.{refuse}
+use Rattle.act_states.specs.{declared.own.Own.Own, declared.own.OwnChange.TheVariants.Caches, declared.refusals.Refusal.Refusal}
+use Rattle.act_states.specs.{declared.refusals.Refusal.TheVariants.NoSlot, declared.refusals.Refusal.TheVariants.Fault}
+use Rattle.act_states.specs.{declared.refusals.Refusal.TheVariants.Raced, declared.touches.Touching.Touching}
+use Rattle.act_states.specs.{declared.work.Act.TheVariants.Touch as touch_act, declared.work.Tail.TheVariants.Nothing}
+use Rattle.act_states.specs.{declared.work.Work.TheVariants.Act, declared.work.WorkStep.WorkStep, declared.work.WorkStep.TheVariants.Goes}
+use Rattle.act_states.specs.{declared.work.WorkStep.TheVariants.Answers, declared.work.WorkStep.TheVariants.Changes, Refusals.refusal_of}
+use Rattle.{stage_sweep.specs.entry_words.specs.declared.entry.Entry.Entry, stage_sweep.specs.word_map.specs.Places.Shape}
+use Rattle.{stage_sweep.specs.stage_look.specs.declared.look.Look.Look, stage_sweep.specs.stage_look.specs.declared.look.Found.Found}
+use Rattle.{act_states.specs.WorkSteps.refuse}
 
 -- a touch is on a machine of so many frames, and what it loads is of it
 pub record TouchFits (s : Shape) (m : Touching) : Type 0 where
@@ -35,7 +21,7 @@ pub record TouchFits (s : Shape) (m : Touching) : Type 0 where
 
 -- a look-up that leads to no slot leads to no page
 abbrev pub fault_of : Reply → Refusal
-fault_of reply.NoSlot = Fault
+fault_of Reply.NoSlot = Fault
 fault_of r = refusal_of r
 
 -- the translation that a mapping tells
@@ -44,17 +30,17 @@ mapping_of m k = record { pages = m.pages; page = m.page; frame = k.frame; flags
 
 -- what the entry of its page leads to: a mapping is answered, and its translation cached
 abbrev pub meets_page : Touching → Entry → WorkStep
-meets_page m entry.Free = refuse Fault
-meets_page m (entry.Held k) = Changes (reply.Ok (translated (mapping_of m k))) (Caches (mapping_of m k)) None Nothing
-meets_page m (entry.Closing by) = refuse Raced
-meets_page m (entry.Quiescing stamp) = refuse Fault
+meets_page m Entry.Free = refuse Fault
+meets_page m (Entry.Held k) = Changes (Reply.Ok (translated (mapping_of m k))) (Caches (mapping_of m k)) None Nothing
+meets_page m (Entry.Closing by) = refuse Raced
+meets_page m (Entry.Quiescing stamp) = refuse Fault
 
 -- what a touch takes from a step of its look-up, which stands here after it
 abbrev pub touch_end : Touching → Look → StageEnd Found → WorkStep
-touch_end m look ends.Going = Goes (Act (touch_act (record m { look = look })))
-touch_end m look (ends.Decided r) = refuse (fault_of r)
-touch_end m look (ends.Done f) = meets_page m f.value
-touch_end m look (ends.Refuse r) = refuse (fault_of r)
+touch_end m look StageEnd.Going = Goes (Act (touch_act (record m { look = look })))
+touch_end m look (StageEnd.Decided r) = refuse (fault_of r)
+touch_end m look (StageEnd.Done f) = meets_page m f.value
+touch_end m look (StageEnd.Refuse r) = refuse (fault_of r)
 
 -- a translation that is cached is answered, whatever was found
 abbrev pub touched : Touching → ℕ → Option Translation → WorkStep

@@ -1,24 +1,14 @@
 -- The act that makes an untyped frame a user frame or a blank kernel frame.
-use Rattle.std.specs.Prelude.{ℕ, ◌==◌, ◌<◌, Bool, true, false, Option, Some, None, if◌then◌else◌}
-use Rattle.spk_nums.specs.declared.kinds.FrameKind.{FrameKind}
-use Rattle.spk_nums.specs.declared.kinds.FrameKind.TheVariants as kind
-use Rattle.spk_nums.specs.declared.kinds.Obj.TheVariants.{Blank}
-use Rattle.spk_nums.specs.declared.replies.Value.TheVariants.{Nothing as nothing}
-use Rattle.stage_sweep.specs.frame_words.specs.Frame.{word_of_frame, frame_of_word}
+use Rattle.stage_tcap.specs.{ℕ, ◌==◌, ◌<◌, Bool, true, false, Option, Some, None, if◌then◌else◌, FrameKind, Blank, Nothing as nothing}
+use Rattle.stage_tcap.specs.{FrameAt, Shape, Move, LoadOf, CompareOf}
+use Rattle.stage_sweep.specs.frame_words.specs.{word_of_frame, frame_of_word}
 use Rattle.stage_sweep.specs.frame_words.specs.declared.frame_word.FrameWord.{FrameWord}
-use Rattle.stage_sweep.specs.word_map.specs.Word.{FrameAt}
-use Rattle.stage_sweep.specs.word_map.specs.Places.{Shape}
-use Rattle.stage_sweep.specs.word_map.specs.Moves.{Move, LoadOf, CompareOf}
-use Rattle.act_states.specs.declared.refusals.Refusal.TheVariants.{Raced, Busy, FrameKind as wrong_kind}
-use Rattle.act_states.specs.declared.typings.Typing.{Typing}
-use Rattle.act_states.specs.declared.typings.TypingAt.{TypingAt}
-use Rattle.act_states.specs.declared.typings.TypingAt.TheVariants.{Load, Compare}
-use Rattle.act_states.specs.declared.work.Act.TheVariants.{Retype as type_act}
-use Rattle.act_states.specs.declared.work.Work.TheVariants.{Act}
-use Rattle.act_states.specs.declared.work.Tail.TheVariants.{Nothing}
-use Rattle.act_states.specs.declared.work.WorkStep.{WorkStep}
-use Rattle.act_states.specs.declared.work.WorkStep.TheVariants.{Goes, Answers}
-use Rattle.act_states.specs.WorkSteps.{refuse}
+use Rattle.act_states.specs.{declared.refusals.Refusal.TheVariants.Raced, declared.refusals.Refusal.TheVariants.Busy}
+use Rattle.act_states.specs.{declared.refusals.Refusal.TheVariants.FrameKind as wrong_kind, declared.typings.Typing.Typing}
+use Rattle.act_states.specs.{declared.typings.TypingAt.TypingAt, declared.typings.TypingAt.TheVariants.Load}
+use Rattle.act_states.specs.{declared.typings.TypingAt.TheVariants.Compare, declared.work.Act.TheVariants.Retype as type_act}
+use Rattle.act_states.specs.{declared.work.Work.TheVariants.Act, declared.work.Tail.TheVariants.Nothing, declared.work.WorkStep.WorkStep}
+use Rattle.act_states.specs.{declared.work.WorkStep.TheVariants.Goes, declared.work.WorkStep.TheVariants.Answers, WorkSteps.refuse}
 
 -- what a frame becomes: of this kind, without an object
 abbrev pub typed : FrameKind → FrameWord
@@ -38,9 +28,9 @@ typing_move y = typing_at y.frame y.kind y.at
 
 -- what a load leads to: a frame that a core has marked is busy, and one that is not untyped is of another kind
 abbrev pub meets_kind : Typing → ℕ → FrameKind → WorkStep
-meets_kind y word kind.Untyped = Goes (Act (type_act (record { frame = y.frame; kind = y.kind; at = Compare word })))
-meets_kind y word kind.User = refuse wrong_kind
-meets_kind y word kind.Kernel = refuse wrong_kind
+meets_kind y word FrameKind.Untyped = Goes (Act (type_act (record { frame = y.frame; kind = y.kind; at = Compare word })))
+meets_kind y word FrameKind.User = refuse wrong_kind
+meets_kind y word FrameKind.Kernel = refuse wrong_kind
 
 abbrev pub meets_frame : Typing → ℕ → FrameKind → Option ℕ → WorkStep
 meets_frame y word k None = meets_kind y word k

@@ -1,35 +1,20 @@
 -- The act that makes a user frame or a kernel frame untyped again.
-use Rattle.std.specs.Prelude.{ℕ, negsuc, ◌+◌, ◌-◌, ◌*◌, ◌<◌, ◌≤◌, ◌≡◌, nat_lt, Bool, true, false}
-use Rattle.std.specs.Prelude.{Option, Some, None, IfSome, List, [], ◌∷◌, length, if◌then◌else◌}
-use Rattle.spk_nums.specs.declared.kinds.FrameKind.{FrameKind}
-use Rattle.spk_nums.specs.declared.kinds.Obj.{Obj}
-use Rattle.spk_nums.specs.declared.kinds.Obj.TheVariants as obj
-use Rattle.spk_nums.specs.declared.steps.StageEnd.{StageEnd}
+use Rattle.stage_tcap.specs.{ℕ, negsuc, ◌+◌, ◌-◌, ◌*◌, ◌<◌, ◌≤◌, ◌≡◌, ltb as nat_lt, Bool, true, false, Option, Some, None, IfSome, List}
+use Rattle.stage_tcap.specs.{[], ◌∷◌, length, if◌then◌else◌, FrameKind, Obj, StageEnd, FrameAt, ClockAt, Shape, Move, LoadOf, CompareOf}
+use Rattle.stage_tcap.specs.{StoreOf, AddOf}
+use Rattle.stage_sweep.specs.{counters_of, loads_of, SweepFits, sweep_move, swept_of, ThawFits, thaw_of}
+use Rattle.stage_sweep.specs.frame_words.specs.{FrameFits, word_of_frame}
 use Rattle.spk_nums.specs.declared.steps.StageEnd.TheVariants.{Going, Decided, Done, Refuse}
-use Rattle.stage_sweep.specs.frame_words.specs.Frame.{FrameFits, word_of_frame}
-use Rattle.stage_sweep.specs.frame_words.specs.declared.frame_word.FrameWord.{FrameWord}
-use Rattle.stage_sweep.specs.word_map.specs.Word.{FrameAt, ClockAt}
-use Rattle.stage_sweep.specs.word_map.specs.Places.{Shape}
-use Rattle.stage_sweep.specs.word_map.specs.Moves.{Move, LoadOf, CompareOf, StoreOf, AddOf}
-use Rattle.stage_sweep.specs.stage_quiet.specs.declared.quiet.Quiet.{Quiet}
 use Rattle.stage_sweep.specs.stage_quiet.specs.declared.quiet.Quiet.TheVariants.{AtCore, AtFlush}
-use Rattle.stage_sweep.specs.Counters.{counters_of}
-use Rattle.stage_sweep.specs.Emptiness.{loads_of}
-use Rattle.stage_sweep.specs.Freeze.{SweepFits, sweep_move, swept_of}
-use Rattle.stage_sweep.specs.Release.{ThawFits, thaw_move, thaw_end, thaw_after, thaw_of}
-use Rattle.stage_sweep.specs.declared.empty.Owned.{Owned}
-use Rattle.stage_sweep.specs.declared.sweep.Sweep.{Sweep}
-use Rattle.stage_sweep.specs.declared.sweep.SweepAt.{SweepAt}
-use Rattle.stage_sweep.specs.declared.sweep.SweepAt.TheVariants as sweep
-use Rattle.stage_sweep.specs.declared.sweep.Swept.{Swept}
-use Rattle.stage_sweep.specs.declared.thaw.Thaw.{Thaw}
-use Rattle.act_states.specs.declared.untypings.UntypingAt.{UntypingAt}
-use Rattle.act_states.specs.declared.untypings.UntypingAt.TheVariants.{Load, Mark, Sweep as sweep_at, Draw}
-use Rattle.act_states.specs.declared.untypings.Untyping.{Untyping}
-use Rattle.act_states.specs.declared.untypings.Release.{Release}
-use Rattle.act_states.specs.declared.work.Due.{Due}
-use Rattle.act_states.specs.declared.work.Tail.{Tail}
-use Rattle.act_states.specs.declared.work.Tail.TheVariants.{Nothing, Release as release_tail}
+use Rattle.stage_sweep.specs.{Release.thaw_move, Release.thaw_end, Release.thaw_after, declared.empty.Owned.Owned}
+use Rattle.stage_sweep.specs.{declared.sweep.Sweep.Sweep, declared.sweep.SweepAt.SweepAt, declared.sweep.Swept.Swept}
+use Rattle.act_states.specs.{declared.untypings.UntypingAt.UntypingAt, declared.untypings.UntypingAt.TheVariants.Load}
+use Rattle.act_states.specs.{declared.untypings.UntypingAt.TheVariants.Mark, declared.untypings.UntypingAt.TheVariants.Sweep as sweep_at}
+use Rattle.act_states.specs.{declared.untypings.UntypingAt.TheVariants.Draw, declared.untypings.Untyping.Untyping}
+use Rattle.act_states.specs.{declared.untypings.Release.Release, declared.work.Due.Due, declared.work.Tail.Tail}
+use Rattle.act_states.specs.{declared.work.Tail.TheVariants.Nothing, declared.work.Tail.TheVariants.Release as release_tail}
+use Rattle.{stage_sweep.specs.frame_words.specs.declared.frame_word.FrameWord.FrameWord}
+use Rattle.{stage_sweep.specs.stage_quiet.specs.declared.quiet.Quiet.Quiet, stage_sweep.specs.declared.thaw.Thaw.Thaw}
 
 -- a frame that is this, and that a core has marked
 abbrev pub held_by : ℕ → FrameKind → Obj → FrameWord
@@ -37,13 +22,13 @@ held_by core k o = record { kind = k; object = o; mark = Some core }
 
 -- the references that an object has itself: at most two of a component, to its table and its pages, and one of a thread
 abbrev pub OwnedBy : Obj → Owned → Type 0
-OwnedBy obj.Comp o = Unit {0}
-OwnedBy obj.Thread o = o.second ≡ None
+OwnedBy Obj.Comp o = Unit {0}
+OwnedBy Obj.Thread o = o.second ≡ None
 OwnedBy object o = (o.first ≡ None) × (o.second ≡ None)
 
 abbrev pub owned_most : Obj → ℕ
-owned_most obj.Comp = 2
-owned_most obj.Thread = 1
+owned_most Obj.Comp = 2
+owned_most Obj.Thread = 1
 owned_most object = 0
 
 -- they are to frames of the machine
@@ -53,11 +38,11 @@ pub record OwnedFits (frames : ℕ) (o : Owned) : Type 0 where
 
 -- a scan is by the core that sweeps, and a word of the object is one that is looked at
 abbrev pub SweepAtFits : ℕ → Obj → SweepAt → Type 0
-SweepAtFits core object sweep.Load = Unit {0}
-SweepAtFits core object (sweep.Compare count stamp) = Unit {0}
-SweepAtFits core object (sweep.Scan (AtCore stamp by at page)) = by ≡ core
-SweepAtFits core object (sweep.Scan (AtFlush stamp at)) = Unit {0}
-SweepAtFits core object (sweep.Empty entry) = entry < loads_of object
+SweepAtFits core object SweepAt.Load = Unit {0}
+SweepAtFits core object (SweepAt.Compare count stamp) = Unit {0}
+SweepAtFits core object (SweepAt.Scan (AtCore stamp by at page)) = by ≡ core
+SweepAtFits core object (SweepAt.Scan (AtFlush stamp at)) = Unit {0}
+SweepAtFits core object (SweepAt.Empty entry) = entry < loads_of object
 
 -- a sweep is on words of the machine, has frozen no more counters than the frame has, and knows what such an object may name
 pub record SweepsFrame (s : Shape) (w : Sweep) : Type 0 where
@@ -180,10 +165,10 @@ abbrev pub object_left : Obj → ℕ
 object_left object = loads_of object + 3 * owned_most object
 
 abbrev pub sweep_left : ℕ → Obj → ℕ → SweepAt → ℕ
-sweep_left cores object kept sweep.Load = 2 * (cores - kept) + (2 * cores - 1) + object_left object
-sweep_left cores object kept (sweep.Compare count stamp) = 2 * (cores - kept) - 1 + (2 * cores - 1) + object_left object
-sweep_left cores object kept (sweep.Scan q) = quiet_left cores q + object_left object
-sweep_left cores object kept (sweep.Empty entry) = loads_of object - entry + 3 * owned_most object
+sweep_left cores object kept SweepAt.Load = 2 * (cores - kept) + (2 * cores - 1) + object_left object
+sweep_left cores object kept (SweepAt.Compare count stamp) = 2 * (cores - kept) - 1 + (2 * cores - 1) + object_left object
+sweep_left cores object kept (SweepAt.Scan q) = quiet_left cores q + object_left object
+sweep_left cores object kept (SweepAt.Empty entry) = loads_of object - entry + 3 * owned_most object
 
 -- the steps of an untyping that are still to come, with those of what it leaves to be stored
 abbrev pub untyping_left : ℕ → UntypingAt → ℕ

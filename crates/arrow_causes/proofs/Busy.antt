@@ -1,33 +1,17 @@
 -- `busy d` has a line from the call of core d that has marked the word.
-use Rattle.std.proofs.Common.{◌≡◌, ◌≢◌, inl, inr, ℕ, ◌==◌, ◌&&◌, not, Bool, true, false, [], ◌∷◌}
-use Rattle.std.proofs.Common.{Some, IsTrue, refl, sym, ◌∙◌, ap, subst}
-use Rattle.std.specs.Prelude.{is_some}
-use Rattle.std.proofs.lemmas.Bool.{cases_eq, eq-eqb, ne_eqb, true≢false, false≢true}
-use Rattle.flight_laws.specs.time_laws.specs.spk_nums.specs.Setting.{Setting, IsSetting}
-use Rattle.flight_laws.specs.time_laws.specs.spk_nums.specs.declared.replies.Reply.TheVariants as reply
-use Rattle.flight_laws.specs.time_laws.specs.word_map.specs.Word.{Word, EntryAt, FrameAt, CountAt, CoreAt, FlushAt, LiveAt, ClockAt, same_word}
-use Rattle.flight_laws.specs.time_laws.specs.word_map.specs.Moves.{word_of, left_of}
-use Rattle.flight_laws.specs.time_laws.specs.kernel_rules.specs.State.{Frame, State}
-use Rattle.flight_laws.specs.time_laws.specs.kernel_history.specs.Marks.{mark_of}
-use Rattle.flight_laws.specs.time_laws.specs.kernel_history.specs.Marking.{marked_by, HasMarked}
-use Rattle.flight_laws.specs.time_laws.specs.kernel_history.specs.Stamps.{is_in}
-use Rattle.flight_laws.specs.time_laws.specs.kernel_history.specs.Legal.{MayDecide, IsLegal}
-use Rattle.flight_laws.specs.time_laws.specs.kernel_history.specs.Trace.{Step, Trace, Out, phase, after_enter, state_after}
-use Rattle.flight_laws.specs.time_laws.specs.kernel_history.specs.Trace.{state_before, IfNot}
-use Rattle.flight_laws.specs.time_laws.specs.kernel_history.proofs.Inside.{inside_is, entered-inside}
-use Rattle.flight_laws.specs.time_laws.specs.kernel_history.proofs.Markings.{cases_mark}
-use Rattle.flight_laws.specs.time_laws.specs.kernel_history.proofs.Names.{same_word-same, same_word-other, cases_word}
-use Rattle.flight_laws.specs.time_laws.specs.kept_facts.proofs.WordFrames.{mark_same}
-use Rattle.flight_laws.specs.time_laws.specs.core_invariant.specs.Invariant.{Invariant}
-use Rattle.flight_laws.specs.time_laws.specs.flight.specs.Made.{cores_after, IsMade}
-use Rattle.flight_laws.specs.time_laws.specs.flight.proofs.Made.{made_stands}
-use Rattle.arrow_laws.specs.page_layers.specs.Layers.{is_blamed}
-use Rattle.arrow_laws.specs.page_drawing.specs.page_touches.specs.Touches.{is_clock}
-use Rattle.arrow_laws.specs.Arrows.{changes}
-use Rattle.arrow_causes.specs.Causes.{BusyAreLines}
-use Rattle.arrow_causes.proofs.Puts.{puts_by_change, entered_frames}
-use Rattle.arrow_causes.proofs.Holders.{IsHolders, changes_parts, by_this, by_earlier}
-use Rattle.arrow_causes.proofs.Lines.{line_of}
+use Rattle.flight_laws.specs.trace_laws.specs.kernel_history.proofs as low
+use low.{◌≡◌, ◌≢◌, inl, inr, ℕ, ◌==◌, ◌&&◌, not, Bool, true, false, [], ◌∷◌, Some, IsTrue, refl, sym, ◌∙◌, ap, subst, is_some, eq-eqb}
+use low.{ne_eqb, true≢false, false≢true, Setting, IsSetting, Word, EntryAt, FrameAt, CountAt, CoreAt, FlushAt, LiveAt, ClockAt, same_word}
+use low.{word_of, left_of, Frame, State, mark_of, marked_by, is_in, MayDecide, IsLegal, Step, Out, phase, after_enter, state_after}
+use low.{state_before, IfNot, inside_is, entered-inside, same_word-same, same_word-other, cases_word, Reply}
+use Rattle.flight_laws.specs.flight.proofs.{Trace, Invariant, cores_after, IsMade}
+use Rattle.arrow_causes.proofs.{Puts.puts_by_change, Puts.entered_frames, Holders.IsHolders, Holders.changes_parts, Holders.by_this}
+use Rattle.arrow_causes.proofs.{Holders.by_earlier, Lines.line_of}
+use Rattle.{std.proofs.lemmas.Bool.cases_eq, flight_laws.specs.trace_laws.specs.kernel_history.specs.Marking.HasMarked}
+use Rattle.{flight_laws.specs.flight.specs.kept_facts.proofs.WordFrames.mark_same, flight_laws.specs.flight.proofs.Made.made_stands}
+use Rattle.{arrow_laws.specs.page_layers.specs.Layers.is_blamed, arrow_laws.specs.page_drawing.specs.page_touches.specs.Touches.is_clock}
+use Rattle.{arrow_laws.specs.Arrows.changes, arrow_causes.specs.Causes.BusyAreLines}
+use low.{Markings.cases_mark}
 
 module _ (setup : Setting) (setting : IsSetting setup) (e : Step) (t : Trace) (made : IsMade setup (e ∷ t)) (w : Word) (d : ℕ) where
   after : Invariant setup (cores_after setup (e ∷ t)) (e ∷ t)
@@ -89,7 +73,7 @@ no_clock s (LiveAt l) x d h = refl
 no_clock s ClockAt x d h = cc
 
 module _ (setup : Setting) (setting : IsSetting setup) (t : Trace) (e : Step) (d : ℕ) (legal : IsLegal setup (e ∷ t)) where
-  busy_may : e.decides ≡ Some (reply.Busy d) → MayDecide setup t e (Some (reply.Busy d)) (after_enter e.enters (phase t e.core))
+  busy_may : e.decides ≡ Some (Reply.Busy d) → MayDecide setup t e (Some (Reply.Busy d)) (after_enter e.enters (phase t e.core))
   busy_may is = subst (λ o. MayDecide setup t e o (after_enter e.enters (phase t e.core))) is legal.1.decides
 
   -- the mark was there before the step

@@ -1,31 +1,18 @@
 -- While a core is in a call, the newest change of its word is the entry of that call.
-use Rattle.std.proofs.Common.{◌≡◌, ◌≢◌, inl, inr, ℕ, suc, ◌==◌, ◌&&◌, not, cond, Bool, true, false, [], ◌∷◌, length}
-use Rattle.std.proofs.Common.{Option, Some, None, refl, sym, ◌∙◌, ap, subst}
-use Rattle.std.specs.Prelude.{is_some}
-use Rattle.std.proofs.lemmas.Bool.{cases_eq, eq-eqb, ne_eqb, eqb-true, true≢false}
-use Rattle.flight_laws.specs.time_laws.specs.spk_nums.specs.Setting.{Setting, IsSetting}
-use Rattle.flight_laws.specs.time_laws.specs.spk_nums.specs.declared.calls.Call.{Call}
-use Rattle.flight_laws.specs.time_laws.specs.spk_nums.specs.declared.replies.Reply.{Reply}
-use Rattle.flight_laws.specs.time_laws.specs.frame_words.specs.Core.{word_of_core, core_of_word}
-use Rattle.flight_laws.specs.time_laws.specs.frame_words.specs.declared.core_word.CoreWord.{CoreWord}
-use Rattle.flight_laws.specs.time_laws.specs.frame_words.proofs.CoreLemmas.{spelling}
-use Rattle.flight_laws.specs.time_laws.specs.word_map.specs.Word.{Word, CoreAt, same_word}
-use Rattle.flight_laws.specs.time_laws.specs.word_map.specs.Moves.{Move, LoadOf, CompareOf, StoreOf, AddOf, word_of, left_of}
-use Rattle.flight_laws.specs.time_laws.specs.kernel_rules.specs.State.{State}
-use Rattle.flight_laws.specs.time_laws.specs.kernel_history.specs.Discipline.{MayMove}
-use Rattle.flight_laws.specs.time_laws.specs.kernel_history.specs.Legal.{MayEnter, MayFollow}
-use Rattle.flight_laws.specs.time_laws.specs.kernel_history.specs.Stamps.{is_in, exit_of, exit_after, clock_seen}
-use Rattle.flight_laws.specs.time_laws.specs.kernel_history.specs.Trace.{Step, Trace, Phase, Out, Open, Decided, phase, after_enter, after_decide, after_return}
-use Rattle.flight_laws.specs.time_laws.specs.kernel_history.specs.Trace.{state_after, last_left}
-use Rattle.flight_laws.specs.time_laws.specs.kernel_history.proofs.Inside.{inside_is}
-use Rattle.flight_laws.specs.time_laws.specs.kernel_history.proofs.Names.{cases_word, same_word-same, same_word-other}
-use Rattle.flight_laws.specs.time_laws.specs.kernel_history.proofs.Steps.{phase-own, phase-other, last_left-here, last_left-there}
-use Rattle.flight_laws.specs.time_laws.specs.core_invariant.specs.Invariant.{Invariant}
-use Rattle.flight_laws.specs.time_laws.specs.flight.specs.Made.{cores_after, IsMade}
-use Rattle.flight_laws.specs.time_laws.specs.flight.proofs.Made.{made_stands}
-use Rattle.arrow_laws.specs.Arrows.{changes, entered_at}
-use Rattle.arrow_laws.proofs.Calls.{entered_own}
+use Rattle.flight_laws.specs.flight.specs.kept_facts.proofs as low
+use low.{◌≡◌, ◌≢◌, inl, inr, ℕ, suc, ◌==◌, ◌&&◌, not, cond, Bool, true, false, [], ◌∷◌, length, Option, Some, None, refl, sym, ◌∙◌, ap}
+use low.{subst, is_some, eq-eqb, ne_eqb, eqb-true, true≢false, Setting, IsSetting, Call, Reply, core_of_word, Word, CoreAt, same_word, Move}
+use low.{LoadOf, CompareOf, StoreOf, AddOf, word_of, left_of, State, MayEnter, MayFollow, is_in, exit_of, Step, Trace, Phase, Out, Open}
+use low.{phase, after_enter, after_decide, after_return, state_after, last_left, inside_is, cases_word, same_word-other, phase-own}
+use low.{phase-other, last_left-here, last_left-there, Invariant}
+use Rattle.flight_laws.specs.trace_laws.specs.kernel_history.specs.{CoreWord, MayMove, exit_after, clock_seen, Decided}
+use Rattle.flight_laws.specs.flight.specs.{cores_after, IsMade}
+use Rattle.arrow_laws.specs.{changes, entered_at}
 use Rattle.arrow_causes.proofs.Holders.{IsHolders, changes_parts, by_this, by_earlier, this_before, earlier_before}
+use Rattle.{std.proofs.lemmas.Bool.cases_eq, wait_steps.specs.call_stages.specs.frame_words.specs.Core.word_of_core}
+use Rattle.{wait_steps.specs.call_stages.specs.frame_words.proofs.CoreLemmas.spelling}
+use Rattle.{flight_laws.specs.trace_laws.specs.kernel_history.proofs.Names.same_word-same, flight_laws.specs.flight.proofs.Made.made_stands}
+use Rattle.{arrow_laws.proofs.Calls.entered_own}
 
 -- The newest change of core d's word is the entry of its call.
 pub record IsEntry (t : Trace) (d : ℕ) : Type 0 where

@@ -1,15 +1,10 @@
 -- The newest change of a word, where it is of one core's present call.
-use Rattle.std.proofs.Common.{◌≡◌, ◌≢◌, ◌⊎◌, inl, inr, ℕ, suc, ◌≤◌, ◌==◌, ◌&&◌, ◌++◌, not, cond, Bool, true, false, ◌∷◌, length}
-use Rattle.std.proofs.Common.{Option, Some, None, refl, sym, ◌∙◌, ap, subst}
-use Rattle.std.specs.Prelude.{is_some, option_to_list}
-use Rattle.std.proofs.lemmas.List.{append-nil}
-use Rattle.std.proofs.lemmas.Bool.{cases_eq, eq-eqb, true≢false}
-use Rattle.flight_laws.specs.time_laws.specs.spk_nums.specs.declared.calls.Call.{Call}
-use Rattle.flight_laws.specs.time_laws.specs.word_map.specs.Word.{Word}
-use Rattle.flight_laws.specs.time_laws.specs.kernel_history.specs.Trace.{Step, Trace, calls_of}
-use Rattle.flight_laws.specs.time_laws.specs.kernel_history.proofs.Steps.{calls_of-own, calls_of-other}
-use Rattle.arrow_laws.specs.Arrows.{changes, newest, entered_at}
-use Rattle.arrow_laws.proofs.Calls.{entered_before}
+use Rattle.flight_laws.specs.flight.specs.step_ways.proofs.{◌≡◌, ◌≢◌, ◌⊎◌, inl, inr, ℕ, suc, ◌≤◌, ◌==◌, ◌&&◌, ◌++◌, not, cond, Bool, true}
+use Rattle.flight_laws.specs.flight.specs.step_ways.proofs.{false, ◌∷◌, length, Option, Some, None, refl, sym, ◌∙◌, ap, subst, is_some}
+use Rattle.flight_laws.specs.flight.specs.step_ways.proofs.{option_to_list, append-nil, eq-eqb, true≢false, Call, Word, Step, Trace}
+use Rattle.flight_laws.specs.flight.specs.step_ways.proofs.{calls_of, calls_of-own, calls_of-other}
+use Rattle.arrow_laws.specs.{changes, newest, entered_at}
+use Rattle.{std.proofs.lemmas.Bool.cases_eq, arrow_laws.proofs.Calls.entered_before}
 
 -- The newest change of a word is core d's, in the call that it has entered last.
 pub record IsHolders (t : Trace) (w : Word) (d : ℕ) : Type 0 where

@@ -1,26 +1,14 @@
 -- A step that is blamed, and whose word's newest change is another core's in its present call, has a line from that.
-use Rattle.std.proofs.Common.{◌≡◌, ◌≢◌, ℕ, suc, ◌<◌, true, false, ◌∷◌, length, Option, Some, None, refl, sym, ◌∙◌, ap, subst, arith}
-use Rattle.std.specs.Prelude.{slice_index_or}
-use Rattle.flight_laws.specs.time_laws.specs.spk_nums.specs.Setting.{Setting, IsSetting}
-use Rattle.flight_laws.specs.time_laws.specs.word_map.specs.Places.{place_of}
-use Rattle.flight_laws.specs.time_laws.specs.word_map.specs.Moves.{word_of}
-use Rattle.flight_laws.specs.time_laws.specs.kernel_history.specs.Trace.{Step, Trace, Out, phase, calls_of}
-use Rattle.flight_laws.specs.time_laws.specs.kernel_history.specs.Legal.{IsLegal}
-use Rattle.flight_laws.specs.time_laws.specs.kernel_history.specs.BootWords.{shape_of}
-use Rattle.arrow_laws.specs.page_layers.specs.Seen.{Seen, seen}
-use Rattle.arrow_laws.specs.page_layers.specs.Layers.{is_blamed}
-use Rattle.arrow_laws.specs.page_layers.specs.declared.lanes.Change.{Change}
-use Rattle.arrow_laws.specs.page_drawing.specs.page_touches.specs.declared.touches.Touch.{Touch}
-use Rattle.arrow_laws.specs.page_drawing.specs.page_touches.specs.Touches.{untouched, is_clock}
-use Rattle.arrow_laws.specs.page_drawing.specs.Pages.{page_after}
-use Rattle.arrow_laws.specs.Arrows.{HasTaken, returned_at, before_entry}
-use Rattle.arrow_laws.proofs.Calls.{before_returns, returned_other, in_call_since}
-use Rattle.arrow_laws.proofs.Heads.{newest_core}
-use Rattle.arrow_laws.proofs.Known.{Says, page_known}
-use Rattle.arrow_laws.proofs.Lines.{line_from}
-use Rattle.arrow_laws.specs.page_drawing.specs.page_touches.proofs.Blamed.{blamed_are_met}
-use Rattle.arrow_causes.specs.Causes.{IsLineFrom}
-use Rattle.arrow_causes.proofs.Holders.{IsHolders}
+use Rattle.flight_laws.specs.flight.proofs.{◌≡◌, ◌≢◌, ℕ, suc, ◌<◌, true, false, ◌∷◌, length, Option, Some, None, refl, sym, ◌∙◌, ap, subst}
+use Rattle.flight_laws.specs.flight.proofs.{arith, get_or as slice_index_or, Setting, IsSetting, place_of, word_of, Step, Trace, Out, phase}
+use Rattle.flight_laws.specs.flight.proofs.{calls_of, IsLegal, shape_of}
+use Rattle.arrow_laws.specs.page_layers.specs.{Seen.Seen, Seen.seen, Layers.is_blamed, declared.lanes.Change.Change}
+use Rattle.arrow_laws.specs.page_drawing.specs.page_touches.specs.{declared.touches.Touch.Touch, Touches.untouched, Touches.is_clock}
+use Rattle.arrow_laws.proofs.{Calls.before_returns, Calls.returned_other, Calls.in_call_since, Heads.newest_core, Known.Says}
+use Rattle.{arrow_laws.specs.returned_at, arrow_laws.specs.before_entry, arrow_laws.specs.page_drawing.specs.Pages.page_after}
+use Rattle.{arrow_laws.specs.Arrows.HasTaken, arrow_laws.proofs.Known.page_known, arrow_laws.proofs.Lines.line_from}
+use Rattle.{arrow_laws.specs.page_drawing.specs.page_touches.proofs.Blamed.blamed_are_met, arrow_causes.specs.Causes.IsLineFrom}
+use Rattle.{arrow_causes.proofs.Holders.IsHolders}
 
 module _ (page : ℕ) (setup : Setting) (setting : IsSetting setup) (t : Trace) (e : Step) (legal : IsLegal setup (e ∷ t))
     (taken : HasTaken page setup t) (blamed : is_blamed e.decides ≡ true) (word : is_clock (word_of e.move) ≡ false) (d : ℕ)

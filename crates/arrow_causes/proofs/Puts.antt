@@ -1,52 +1,25 @@
 -- A step that puts a core's mark in its word leaves another value there.
-use Rattle.std.proofs.Common.{◌≡◌, ◌≢◌, ◌⊎◌, inl, inr, ℕ, ◌<◌, cond, Bool, true, false, List, [], ◌∷◌}
-use Rattle.std.proofs.Common.{Option, Some, None, IsTrue, refl, sym, ◌∙◌, ap, subst, arith}
-use Rattle.std.proofs.lemmas.Bool.{true≢false, false≢true}
-use Rattle.flight_laws.specs.time_laws.specs.spk_nums.specs.Capability.{Capability}
-use Rattle.flight_laws.specs.time_laws.specs.spk_nums.specs.Setting.{Setting, IsSetting}
-use Rattle.flight_laws.specs.time_laws.specs.spk_nums.specs.declared.calls.Call.{Call}
+use Rattle.flight_laws.specs.flight.specs.step_ways.proofs as low
+use low.{◌≡◌, ◌≢◌, ◌⊎◌, inl, inr, ℕ, ◌<◌, cond, Bool, true, false, List, [], ◌∷◌, Option, Some, None, IsTrue, refl, sym, ◌∙◌, ap, subst}
+use low.{arith, true≢false, false≢true, Capability, Setting, IsSetting, Call, Reply, word_of_entry, entry_of_word, Word, EntryAt, FrameAt}
+use low.{CountAt, CoreAt, FlushAt, LiveAt, ClockAt, word_of, left_of, IsIn, Place, Free, Holds, Quiescing, Table, Leaf, Pages, Pleaf, Frame}
+use low.{Kernel, State, is_node, state_by, mark_in_frame, mark_of, marked_by, changes_places, changes_threads, changes_budgets}
+use low.{changes_frames, shape_of, MayDecide, MayFollow, Step, Trace, Phase, Out, phase, after_enter, after_decide, after_return}
+use low.{state_after, state_entered, state_decided, state_returned, last_left, cases_word, same_word-other, phase-own, last_left-here, Tail}
+use low.{Nothing, Quiesce, Unmark, StoreDead, StoreFlush, Release, StoreLive, Push, Pop, StoreRunning, StoreIdle, Acquired, AtCompare}
+use low.{AtDraw, AtStore, Thaw, Stage, Enter, Living, Undecided, Decided, Leave, ActiveCall, Holding, holds_counts, settled_by, holds_thaw}
+use low.{PlaceIs, IsFrameWord, WordIs, KnowsTail, KnowsAt, CallIs, phase_at, Invariant, is_done, holds_tail, holds_in, held_by, times_of}
+use Rattle.{flight_laws.specs.flight.specs.cores_after, flight_laws.specs.flight.specs.IsMade}
+use Rattle.{wait_steps.specs.call_stages.specs.entry_words.proofs.Spelling.spelling}
+use Rattle.{flight_laws.specs.trace_laws.specs.kernel_history.proofs.Names.same_word-same}
+use Rattle.{wait_steps.specs.call_stages.specs.act_states.specs.declared.work.Tail.TheVariants.Share}
+use Rattle.{flight_laws.specs.core_invariant.specs.Invariant.holds_stage, flight_laws.specs.flight.proofs.Made.made_stands}
+use Rattle.{mark_kinds.specs.Reads.ReadAlike, mark_kinds.proofs.Alike.kinds_stay, mark_kinds.proofs.Alike.nodes_stay}
 use Rattle.flight_laws.specs.time_laws.specs.spk_nums.specs.declared.calls.Call.TheVariants as call_as
-use Rattle.flight_laws.specs.time_laws.specs.spk_nums.specs.declared.replies.Reply.{Reply}
-use Rattle.flight_laws.specs.time_laws.specs.entry_words.specs.EntryWord.{word_of_entry, entry_of_word}
 use Rattle.flight_laws.specs.time_laws.specs.entry_words.specs.declared.entry.Entry.TheVariants as entry
-use Rattle.flight_laws.specs.time_laws.specs.entry_words.proofs.Spelling.{spelling}
-use Rattle.flight_laws.specs.time_laws.specs.word_map.specs.Word.{Word, EntryAt, FrameAt, CountAt, CoreAt, FlushAt, LiveAt, ClockAt}
-use Rattle.flight_laws.specs.time_laws.specs.word_map.specs.Moves.{word_of, left_of}
-use Rattle.flight_laws.specs.time_laws.specs.word_map.specs.Places.{IsIn}
-use Rattle.flight_laws.specs.time_laws.specs.kernel_rules.specs.State.{Place, Free, Holds, Quiescing, Table, Leaf, Pages, Pleaf}
-use Rattle.flight_laws.specs.time_laws.specs.kernel_rules.specs.State.{Frame, Kernel, State}
-use Rattle.flight_laws.specs.time_laws.specs.kernel_rules.specs.Relies.{is_node}
-use Rattle.flight_laws.specs.time_laws.specs.kernel_rules.specs.CallRelation.{state_by}
-use Rattle.flight_laws.specs.time_laws.specs.kernel_history.specs.Marks.{mark_in_frame, mark_of}
-use Rattle.flight_laws.specs.time_laws.specs.kernel_history.specs.Marking.{marked_by}
-use Rattle.flight_laws.specs.time_laws.specs.kernel_history.specs.Discipline.{changes_places, changes_threads, changes_budgets, changes_frames}
-use Rattle.flight_laws.specs.time_laws.specs.kernel_history.specs.BootWords.{shape_of}
-use Rattle.flight_laws.specs.time_laws.specs.kernel_history.specs.Legal.{MayDecide, MayFollow}
-use Rattle.flight_laws.specs.time_laws.specs.kernel_history.specs.Trace.{Step, Trace, Phase, Out, phase, after_enter, after_decide, after_return}
-use Rattle.flight_laws.specs.time_laws.specs.kernel_history.specs.Trace.{state_after, state_entered, state_decided, state_returned, last_left}
 use Rattle.flight_laws.specs.time_laws.specs.kernel_history.specs.Trace as history
-use Rattle.flight_laws.specs.time_laws.specs.kernel_history.proofs.Names.{cases_word, same_word-same, same_word-other}
-use Rattle.flight_laws.specs.time_laws.specs.kernel_history.proofs.Steps.{phase-own, last_left-here}
-use Rattle.flight_laws.specs.time_laws.specs.act_states.specs.declared.work.Tail.{Tail}
-use Rattle.flight_laws.specs.time_laws.specs.act_states.specs.declared.work.Tail.TheVariants.{Nothing, Quiesce, Unmark, StoreDead, StoreFlush, Release}
-use Rattle.flight_laws.specs.time_laws.specs.act_states.specs.declared.work.Tail.TheVariants.{StoreLive, Push, Pop, Share, StoreRunning, StoreIdle}
-use Rattle.flight_laws.specs.time_laws.specs.stage_pins.specs.declared.held.Acquired.{Acquired}
-use Rattle.flight_laws.specs.time_laws.specs.stage_quiet.specs.declared.close.Close.TheVariants.{AtCompare, AtDraw, AtStore}
-use Rattle.flight_laws.specs.time_laws.specs.stage_sweep.specs.declared.thaw.Thaw.{Thaw}
 use Rattle.flight_laws.specs.time_laws.specs.stage_thread.specs.declared.stack.Push.TheVariants as push
 use Rattle.flight_laws.specs.time_laws.specs.stage_thread.specs.declared.stack.Pop.TheVariants as pop
-use Rattle.flight_laws.specs.time_laws.specs.call_stages.specs.declared.stages.Stage.{Stage}
-use Rattle.flight_laws.specs.time_laws.specs.call_stages.specs.declared.stages.Stage.TheVariants.{Enter, Living, Undecided, Decided, Leave}
-use Rattle.flight_laws.specs.time_laws.specs.call_stages.specs.declared.stages.ActiveCall.{ActiveCall}
-use Rattle.flight_laws.specs.time_laws.specs.core_invariant.specs.Holding.{Holding, holds_counts, settled_by}
-use Rattle.flight_laws.specs.time_laws.specs.core_invariant.specs.Frozen.{holds_thaw}
-use Rattle.flight_laws.specs.time_laws.specs.core_invariant.specs.Words.{PlaceIs, IsFrameWord, WordIs}
-use Rattle.flight_laws.specs.time_laws.specs.core_invariant.specs.Knows.{KnowsTail, KnowsAt, CallIs, phase_at}
-use Rattle.flight_laws.specs.time_laws.specs.core_invariant.specs.Invariant.{Invariant, is_done, holds_tail, holds_stage, holds_in, held_by, times_of}
-use Rattle.flight_laws.specs.time_laws.specs.flight.specs.Made.{cores_after, IsMade}
-use Rattle.flight_laws.specs.time_laws.specs.flight.proofs.Made.{made_stands}
-use Rattle.mark_kinds.specs.Reads.{ReadAlike}
-use Rattle.mark_kinds.proofs.Alike.{kinds_stay, nodes_stay}
 
 -- ---- what a call has marked
 

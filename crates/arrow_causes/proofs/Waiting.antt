@@ -1,45 +1,16 @@
 -- `quiescing d` has a line from the entry of the call in which core d is.
-use Rattle.std.proofs.Common.{◌≡◌, ◌≢◌, ℕ, suc, Bool, true, false, List, ◌∷◌, length, Option, Some, None, refl, sym, ◌∙◌, ap, subst}
-use Rattle.flight_laws.specs.time_laws.specs.spk_nums.specs.Setting.{Setting, IsSetting}
-use Rattle.flight_laws.specs.time_laws.specs.spk_nums.specs.declared.calls.Call.{Call}
-use Rattle.flight_laws.specs.time_laws.specs.spk_nums.specs.declared.replies.Reply.{Reply}
-use Rattle.flight_laws.specs.time_laws.specs.spk_nums.specs.declared.replies.Reply.TheVariants as reply
-use Rattle.flight_laws.specs.time_laws.specs.word_map.specs.Word.{Word, CoreAt}
-use Rattle.flight_laws.specs.time_laws.specs.word_map.specs.Moves.{word_of}
-use Rattle.flight_laws.specs.time_laws.specs.kernel_history.specs.Legal.{MayDecide}
-use Rattle.flight_laws.specs.time_laws.specs.kernel_history.specs.Trace.{Step, Trace, Out, phase, after_enter}
-use Rattle.flight_laws.specs.time_laws.specs.stage_tcap.specs.Pairs.{by_alike, by_room, judged}
-use Rattle.flight_laws.specs.time_laws.specs.stage_tcap.specs.declared.pair.Pair.{Pair}
-use Rattle.flight_laws.specs.time_laws.specs.stage_tcap.specs.declared.pair.PairAt.{PairAt}
-use Rattle.flight_laws.specs.time_laws.specs.stage_tcap.specs.declared.pair.PairAt.TheVariants as pair
-use Rattle.flight_laws.specs.time_laws.specs.stage_tcap.specs.declared.pair.PairWork.{PairWork}
-use Rattle.flight_laws.specs.time_laws.specs.stage_tcap.specs.declared.pair.PairWork.TheVariants as share
-use Rattle.flight_laws.specs.time_laws.specs.act_states.specs.declared.own.Own.{Own}
-use Rattle.flight_laws.specs.time_laws.specs.act_states.specs.declared.work.Act.{Act as ActType}
-use Rattle.flight_laws.specs.time_laws.specs.act_states.specs.declared.work.Act.TheVariants as act_as
-use Rattle.flight_laws.specs.time_laws.specs.act_states.specs.declared.work.Work.{Work}
-use Rattle.flight_laws.specs.time_laws.specs.act_states.specs.declared.work.Work.TheVariants.{Act}
-use Rattle.flight_laws.specs.time_laws.specs.call_stages.specs.Cores.{move_in, told_by, told_in}
-use Rattle.flight_laws.specs.time_laws.specs.call_stages.specs.Steps.{Took, GoesOn, Decides, Returns, Changes, took}
-use Rattle.flight_laws.specs.time_laws.specs.call_stages.specs.declared.stages.Stage.{Stage}
-use Rattle.flight_laws.specs.time_laws.specs.call_stages.specs.declared.stages.Stage.TheVariants.{Undecided}
-use Rattle.flight_laws.specs.time_laws.specs.call_stages.specs.declared.stages.ActiveCall.{ActiveCall}
-use Rattle.flight_laws.specs.time_laws.specs.core_invariant.specs.Events.{decided_in}
-use Rattle.flight_laws.specs.time_laws.specs.core_invariant.specs.Shares.{KnowsPairAt}
-use Rattle.flight_laws.specs.time_laws.specs.core_invariant.specs.Knows.{KnowsAct, KnowsWork, KnowsAt, CallIs}
-use Rattle.flight_laws.specs.time_laws.specs.flight.specs.Made.{turned, stepping_core, cores_after, IsMade}
-use Rattle.flight_laws.specs.time_laws.specs.flight.proofs.Made.{made_stands}
-use Rattle.arrow_laws.specs.page_layers.specs.Layers.{is_blamed}
-use Rattle.arrow_laws.specs.page_drawing.specs.page_touches.specs.Touches.{is_clock}
+use Rattle.flight_laws.specs.flight.specs.step_ways.proofs as low
+use low.{◌≡◌, ◌≢◌, ℕ, suc, Bool, true, false, List, ◌∷◌, length, Option, Some, None, refl, sym, ◌∙◌, ap, subst, Setting, IsSetting, Call}
+use low.{Reply, Word, CoreAt, word_of, MayDecide, Step, Trace, Out, phase, after_enter, by_alike, by_room, judged, Pair, PairAt, PairWork}
+use low.{Own, Work, Act, move_in, told_by, told_in, Took, GoesOn, Decides, Returns, Changes, took, Stage, Undecided, ActiveCall, decided_in}
+use low.{KnowsPairAt, KnowsAct, KnowsWork, KnowsAt, CallIs, plan_for}
+use Rattle.flight_laws.specs.flight.specs.{turned, stepping_core, cores_after, IsMade}
 use Rattle.wait_steps.specs.Waits.{RepliesAt, TookAt, IsAgain, AgainIn, AgainOf, AgainAt}
-use Rattle.wait_steps.proofs.Steps.{took_at_core}
-use Rattle.arrow_causes.specs.Causes.{WaitsAreLines}
-use Rattle.arrow_causes.proofs.Busy.{inside_then}
-use Rattle.arrow_causes.proofs.Entries.{newest_entry}
-use Rattle.arrow_causes.proofs.Holders.{IsHolders}
-use Rattle.arrow_laws.specs.Arrows.{entered_at}
-use Rattle.arrow_causes.proofs.Lines.{line_of}
-use Rattle.flight_laws.specs.time_laws.specs.act_states.specs.call_plans.specs.PlanOf.{plan_for}
+use Rattle.arrow_causes.proofs.{Busy.inside_then, Entries.newest_entry, Holders.IsHolders, Lines.line_of}
+use Rattle.{wait_steps.specs.call_stages.specs.act_states.specs.declared.work.Act.Act as ActType}
+use Rattle.{flight_laws.specs.flight.proofs.Made.made_stands, arrow_laws.specs.page_layers.specs.Layers.is_blamed}
+use Rattle.{arrow_laws.specs.page_drawing.specs.page_touches.specs.Touches.is_clock, wait_steps.proofs.Steps.took_at_core}
+use Rattle.{arrow_laws.specs.Arrows.entered_at, arrow_causes.specs.Causes.WaitsAreLines}
 
 -- What is decided at a second load of a head says of no wait.
 alike_again : (b : Bool) → IsAgain (by_alike b)
@@ -47,28 +18,28 @@ alike_again true = tt
 alike_again false = tt
 
 judged_again : (what : PairWork) (p : Pair) → IsAgain (judged what p)
-judged_again (share.Transfer ticks) p = alike_again _
-judged_again (share.Delegate ticks) p = by p.list_b where
+judged_again (PairWork.Transfer ticks) p = alike_again _
+judged_again (PairWork.Delegate ticks) p = by p.list_b where
   by : (o : Option (List (ℕ × ℕ))) → IsAgain (by_room o)
   by None = tt
   by (Some xs) = tt
-judged_again share.Test p = tt
+judged_again PairWork.Test p = tt
 
 pair_again : (setup : Setting) (t : Trace) (c : ℕ) (p : Pair) (at : PairAt) → KnowsPairAt setup t c p at → IsAgain at
-pair_again setup t c p pair.LoadA knows = tt
-pair_again setup t c p pair.MarkA knows = tt
-pair_again setup t c p (pair.ListA n) knows = tt
-pair_again setup t c p pair.LoadB knows = tt
-pair_again setup t c p (pair.ListB n) knows = tt
-pair_again setup t c p pair.CompareB knows = tt
-pair_again setup t c p (pair.AgainB r) knows = subst IsAgain knows.judges (judged_again p.what p)
-pair_again setup t c p (pair.StoreList n) knows = tt
-pair_again setup t c p pair.StoreB knows = tt
-pair_again setup t c p (pair.StoreA moved v) knows = tt
+pair_again setup t c p PairAt.LoadA knows = tt
+pair_again setup t c p PairAt.MarkA knows = tt
+pair_again setup t c p (PairAt.ListA n) knows = tt
+pair_again setup t c p PairAt.LoadB knows = tt
+pair_again setup t c p (PairAt.ListB n) knows = tt
+pair_again setup t c p PairAt.CompareB knows = tt
+pair_again setup t c p (PairAt.AgainB r) knows = subst IsAgain knows.judges (judged_again p.what p)
+pair_again setup t c p (PairAt.StoreList n) knows = tt
+pair_again setup t c p PairAt.StoreB knows = tt
+pair_again setup t c p (PairAt.StoreA moved v) knows = tt
 
 module _ (setup : Setting) (t : Trace) (c table : ℕ) (a : ActiveCall) where
   act_again : (upto : ℕ) (act : ActType) → KnowsAct setup t c a.call (plan_for a.call) a.found upto act → AgainIn act
-  act_again upto (act_as.Share p) knows = pair_again setup t c p p.at knows.at
+  act_again upto (ActType.Share p) knows = pair_again setup t c p p.at knows.at
   act_again upto _ knows = tt
 
   work_again : (work : Work) → KnowsWork setup t c table a work → AgainOf work
@@ -90,26 +61,26 @@ active_again setup t c table (Some b) call a is = subst (λ (x : ActiveCall). Ag
     same x y h = cc
 
 -- What a step has told is what it took.
-told_at : (w : Word) (k : Took) (d : ℕ) → TookAt w k → decided_in (told_by k) ≡ Some (reply.Quiescing d) → w ≡ CoreAt d
+told_at : (w : Word) (k : Took) (d : ℕ) → TookAt w k → decided_in (told_by k) ≡ Some (Reply.Quiescing d) → w ≡ CoreAt d
 told_at w k d at told = by k at told where
   same : (q r : Reply) → Some q ≡ Some r → q ≡ r
   same q r h = cc
 
-  by : (k : Took) → TookAt w k → decided_in (told_by k) ≡ Some (reply.Quiescing d) → w ≡ CoreAt d
+  by : (k : Took) → TookAt w k → decided_in (told_by k) ≡ Some (Reply.Quiescing d) → w ≡ CoreAt d
   by (GoesOn a) at told = cc
-  by (Decides q a) at told = subst (RepliesAt w) (same q (reply.Quiescing d) told) at
+  by (Decides q a) at told = subst (RepliesAt w) (same q (Reply.Quiescing d) told) at
   by (Returns q x) at told = cc
-  by (Changes q change a) at told = subst (RepliesAt w) (same q (reply.Quiescing d) told) at
+  by (Changes q change a) at told = subst (RepliesAt w) (same q (Reply.Quiescing d) told) at
 
 core_at : (own : Own) (o : Option ActiveCall) (found d : ℕ) → ((a : ActiveCall) → o ≡ Some a → AgainAt a.stage)
-    → decided_in (told_in own o found) ≡ Some (reply.Quiescing d) → word_of (move_in own o) ≡ CoreAt d
+    → decided_in (told_in own o found) ≡ Some (Reply.Quiescing d) → word_of (move_in own o) ≡ CoreAt d
 core_at own None found d again told = cc
 core_at own (Some a) found d again told =
     told_at _ (took own a found) d (took_at_core own a a.stage found (again a refl)) told
 
 -- A step of the machine that decides `quiescing d` is on the word of core d.
 on_core : (setup : Setting) → IsSetting setup → (t : Trace) (e : Step) → IsMade setup (e ∷ t) → (d : ℕ)
-    → e.decides ≡ Some (reply.Quiescing d) → word_of e.move ≡ CoreAt d
+    → e.decides ≡ Some (Reply.Quiescing d) → word_of e.move ≡ CoreAt d
 on_core setup setting t e made d is =
     ap (λ (x : Step). word_of x.move) made.1.made
     ∙ core_at (stepping_core setup t e).own (stepping_core setup t e).active _ d (by e.enters)

@@ -1,13 +1,10 @@
 -- Nothing overlaps.
-use Rattle.std.proofs.Common.{◌≡◌, ◌≢◌, ◌⊎◌, inl, inr, ℕ, ◌+◌, ◌<◌, ◌≤◌, ◌==◌, ◌&&◌, cond, Bool, true, false, max}
-use Rattle.std.proofs.Common.{List, [], ◌∷◌, ◌++◌, length, get_or, length-set, refl, sym, ◌∙◌, ap, subst, arith}
-use Rattle.std.specs.Prelude.{nat_lt, slice_set}
-use Rattle.std.proofs.lemmas.Bool.{cases_eq, eq-eqb, true≢false}
-use Rattle.std.proofs.lemmas.List.{get_or-set_same, get_or-set_other}
-use Rattle.picture_rows.specs.declared.rows.Placed.{Placed}
-use Rattle.picture_rows.specs.declared.rows.Rows.{Rows}
-use Rattle.picture_rows.specs.Rows.{has_event, has_text, quiet_after, own_y, text_y, event_y, room_after, rows_after}
+use Rattle.std.proofs.Common.{◌≡◌, ◌≢◌, ◌⊎◌, inl, inr, ℕ, ◌+◌, ◌<◌, ◌≤◌, ◌==◌, ◌&&◌, cond, Bool, true, false, max, List, [], ◌∷◌, ◌++◌}
+use Rattle.std.proofs.Common.{length, get_or, length-set, refl, sym, ◌∙◌, ap, subst, arith, nat_lt, slice_set, eq-eqb, true≢false}
+use Rattle.page_drawing.specs.picture_rows.specs.{declared.rows.Placed.Placed, declared.rows.Rows.Rows, Rows.has_event, Rows.has_text}
+use Rattle.page_drawing.specs.picture_rows.specs.{Rows.quiet_after, Rows.own_y, Rows.text_y, Rows.event_y, Rows.room_after, Rows.rows_after}
 use Rattle.arrow_laws.specs.Rows.{rows_of, height, AreQuiet, RowsAreApart}
+use Rattle.{std.proofs.Common.get_or-set_same, std.proofs.Common.get_or-set_other, std.proofs.lemmas.Bool.cases_eq}
 
 own_least : (b : Bool) (y : ℕ) → y ≤ cond b y (y + 2)
 own_least true y = omega arith

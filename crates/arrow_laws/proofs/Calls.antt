@@ -1,15 +1,10 @@
 -- Where a core has entered and returned last.
-use Rattle.std.proofs.Common.{◌≡◌, ◌≢◌, inl, inr, ℕ, suc, ◌<◌, ◌≤◌, ◌==◌, ◌&&◌, cond, Bool, true, false, [], ◌∷◌, length}
-use Rattle.std.proofs.Common.{Option, Some, None, refl, sym, ◌∙◌, ap, subst, arith}
-use Rattle.std.specs.Prelude.{is_some}
-use Rattle.std.proofs.lemmas.Bool.{cases_eq, eq-eqb, ne_eqb}
-use Rattle.spk_nums.specs.Setting.{Setting}
-use Rattle.spk_nums.specs.declared.calls.Call.{Call}
-use Rattle.spk_nums.specs.declared.replies.Reply.{Reply}
-use Rattle.kernel_history.specs.Trace.{Step, Trace, Phase, Out, phase, after_enter, after_decide, after_return}
-use Rattle.kernel_history.specs.Legal.{IsLegal}
-use Rattle.kernel_history.proofs.Steps.{phase-own, phase-other}
-use Rattle.arrow_laws.specs.Arrows.{entered_at, returned_at, before_entry}
+use Rattle.page_drawing.specs.kernel_history.proofs.{◌≡◌, ◌≢◌, inl, inr, ℕ, suc, ◌<◌, ◌≤◌, ◌==◌, ◌&&◌, cond, Bool, true, false, [], ◌∷◌}
+use Rattle.page_drawing.specs.kernel_history.proofs.{length, Option, Some, None, refl, sym, ◌∙◌, ap, subst, arith, is_some, eq-eqb, ne_eqb}
+use Rattle.page_drawing.specs.kernel_history.proofs.{Setting, Call, Reply, Step, Phase, Out, phase, after_enter, after_decide, after_return}
+use Rattle.page_drawing.specs.kernel_history.proofs.{IsLegal, phase-own, phase-other}
+use Rattle.arrow_laws.specs.{entered_at, returned_at, before_entry}
+use Rattle.{std.proofs.lemmas.Bool.cases_eq, page_drawing.specs.kernel_history.specs.Trace.Trace}
 
 pub entered_before : (t : Trace) (c : ℕ) → entered_at t c ≤ length t
 entered_before [] c = omega arith

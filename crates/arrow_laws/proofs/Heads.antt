@@ -1,24 +1,13 @@
 -- The head of an arrow finds what its tail left.
-use Rattle.std.proofs.Common.{◌≡◌, ◌≢◌, inl, inr, ◌<◌, ◌==◌, ◌&&◌, not, cond, Bool, true, false, [], ◌∷◌}
-use Rattle.std.proofs.Common.{Option, Some, None, refl, sym, ◌∙◌, ap, subst}
-use Rattle.std.specs.Prelude.{slice_index_or}
-use Rattle.std.proofs.lemmas.Bool.{eqb-true, eq-eqb, true≢false}
-use Rattle.spk_nums.specs.Setting.{Setting}
-use Rattle.word_map.specs.Word.{Word}
-use Rattle.word_map.specs.Places.{place_of}
-use Rattle.word_map.specs.Moves.{word_of, left_of}
-use Rattle.kernel_history.specs.Trace.{Step, Trace, last_left}
-use Rattle.kernel_history.specs.Legal.{IsLegal}
-use Rattle.kernel_history.specs.BootWords.{shape_of}
-use Rattle.kernel_history.proofs.Names.{cases_word, same_word-same, same_word-other}
-use Rattle.kernel_history.proofs.Steps.{last_left-here, last_left-there}
-use Rattle.page_drawing.specs.page_layers.specs.Seen.{Seen, seen}
-use Rattle.page_drawing.specs.page_layers.specs.declared.lanes.Change.{Change}
-use Rattle.page_drawing.specs.page_touches.specs.declared.touches.Touch.{Touch}
-use Rattle.page_drawing.specs.page_touches.specs.Touches.{untouched, is_told_of, met_by}
-use Rattle.page_drawing.specs.Pages.{page_after}
-use Rattle.arrow_laws.specs.Arrows.{changes, newest, ComesFrom, HeadsFindTails}
-use Rattle.arrow_laws.proofs.Known.{Says, page_known}
+use Rattle.page_drawing.specs.kernel_history.proofs.{◌≡◌, ◌≢◌, inl, inr, ◌<◌, ◌==◌, ◌&&◌, not, cond, Bool, true, false, [], ◌∷◌, Option}
+use Rattle.page_drawing.specs.kernel_history.proofs.{Some, None, refl, sym, ◌∙◌, ap, subst, get_or as slice_index_or, eqb-true, eq-eqb}
+use Rattle.page_drawing.specs.kernel_history.proofs.{true≢false, Setting, Word, place_of, word_of, left_of, Step, last_left, IsLegal}
+use Rattle.page_drawing.specs.kernel_history.proofs.{shape_of, cases_word, same_word-same, same_word-other, last_left-here, last_left-there}
+use Rattle.page_drawing.specs.page_layers.specs.{Seen.Seen, Seen.seen, declared.lanes.Change.Change}
+use Rattle.page_drawing.specs.page_touches.specs.{declared.touches.Touch.Touch, Touches.untouched, Touches.is_told_of, Touches.met_by}
+use Rattle.{arrow_laws.specs.changes, arrow_laws.specs.newest, page_drawing.specs.kernel_history.specs.Trace.Trace}
+use Rattle.{page_drawing.specs.Pages.page_after, arrow_laws.specs.Arrows.ComesFrom, arrow_laws.specs.Arrows.HeadsFindTails}
+use Rattle.{arrow_laws.proofs.Known.Says, arrow_laws.proofs.Known.page_known}
 
 -- The word has last what its newest change left.
 pub newest_left : (setup : Setting) (t : Trace) → IsLegal setup t → (w : Word) (a : Step) (u : Trace) → newest t w ≡ a ∷ u

@@ -1,32 +1,20 @@
 -- What a page that has taken all steps of a trace knows of it.
-use Rattle.std.proofs.Common.{◌≡◌, ◌≢◌, inl, inr, ℕ, zero, suc, ◌+◌, ◌<◌, ◌++◌, ◌==◌, not, cond, Bool, true, false, List, [], ◌∷◌}
-use Rattle.std.proofs.Common.{length, get_or, replicate, Option, Some, None, refl, sym, ◌∙◌, ap, subst, arith, length-set, length-append}
-use Rattle.std.specs.Prelude.{is_some, option_to_list, slice_index_or, slice_set, nat_lt}
-use Rattle.std.proofs.lemmas.Bool.{cases_eq, true≢false}
-use Rattle.std.proofs.lemmas.List.{get_or-set_same, get_or-set_other, get_or-replicate, length-replicate}
-use Rattle.spk_nums.specs.Setting.{Setting, IsSetting}
-use Rattle.spk_nums.specs.declared.calls.Call.{Call}
-use Rattle.spk_nums.specs.declared.replies.Reply.{Reply}
-use Rattle.word_map.specs.Word.{Word}
-use Rattle.word_map.specs.Places.{IsShape, IsIn, HasPlaces, place_of, size_of}
-use Rattle.word_map.specs.Moves.{word_of, left_of}
-use Rattle.word_map.proofs.PlaceLemmas.{has_places}
-use Rattle.kernel_history.specs.Trace.{Step, Trace, calls_of}
-use Rattle.kernel_history.specs.Legal.{IsLegal}
-use Rattle.kernel_history.specs.BootWords.{shape_of}
-use Rattle.kernel_history.proofs.Names.{cases_word, same_word-same, same_word-other}
-use Rattle.kernel_history.proofs.Steps.{calls_of-own, calls_of-other}
-use Rattle.page_drawing.specs.picture_rows.specs.Rows.{is_full, rows_after}
-use Rattle.page_drawing.specs.page_layers.specs.Seen.{Seen, seen}
-use Rattle.page_drawing.specs.page_layers.specs.Lanes.{no_call, lane_entered, lane_decided, lane_topped, lane_returned}
-use Rattle.page_drawing.specs.page_layers.specs.declared.lanes.Lane.{Lane}
-use Rattle.page_drawing.specs.page_layers.specs.declared.lanes.Change.{Change}
-use Rattle.page_drawing.specs.page_touches.specs.declared.touches.Touch.{Touch}
-use Rattle.page_drawing.specs.page_touches.specs.Touches.{untouched, touched}
-use Rattle.page_drawing.specs.Pages.{Page, blank, lane_of, returns_of, turned, placed, next_step, tail_at}
-use Rattle.page_drawing.specs.Pages.{taken, turned_to, page_after}
-use Rattle.arrow_laws.specs.Arrows.{newest, entered_at, returned_at, before_entry}
+use Rattle.page_drawing.specs.kernel_history.proofs as low
+use low.{◌≡◌, ◌≢◌, inl, inr, ℕ, zero, suc, ◌+◌, ◌<◌, ◌++◌, ◌==◌, not, cond, Bool, true, false, List, [], ◌∷◌, length, get_or, Option, Some}
+use low.{None, refl, sym, ◌∙◌, ap, subst, arith, length-set, length-append, is_some, option_to_list, get_or as slice_index_or}
+use low.{set as slice_set, ltb as nat_lt, true≢false, get_or-set_same, get_or-set_other, Setting, IsSetting, Call, Reply, Word, IsShape}
+use low.{IsIn, place_of, size_of, word_of, left_of, has_places, Step, calls_of, IsLegal, shape_of, cases_word, same_word-same}
+use low.{same_word-other, calls_of-own, calls_of-other}
+use Rattle.page_drawing.specs.page_layers.specs.{seen, no_call, lane_entered, lane_decided, lane_topped}
+use Rattle.arrow_laws.specs.{newest, entered_at, returned_at, before_entry}
+use Rattle.page_drawing.specs.{Page, blank, next_step, page_after}
+use Rattle.page_drawing.specs.page_layers.specs.{Seen.Seen, Lanes.lane_returned, declared.lanes.Lane.Lane, declared.lanes.Change.Change}
+use Rattle.page_drawing.specs.page_touches.specs.{declared.touches.Touch.Touch, Touches.untouched, Touches.touched}
+use Rattle.page_drawing.specs.Pages.{lane_of, returns_of, turned, placed, tail_at, taken, turned_to}
 use Rattle.arrow_laws.proofs.Calls.{entered_own, returned_own, before_own, entered_other, returned_other, before_other}
+use Rattle.{std.proofs.lemmas.List.get_or-replicate, std.proofs.lemmas.List.length-replicate, page_drawing.specs.picture_rows.specs.is_full}
+use Rattle.{page_drawing.specs.picture_rows.specs.rows_after, std.proofs.Common.replicate, std.proofs.lemmas.Bool.cases_eq}
+use Rattle.{page_drawing.specs.word_map.specs.Places.HasPlaces, page_drawing.specs.kernel_history.specs.Trace.Trace}
 
 -- The change tells of the newest one.
 abbrev pub Says : Trace → Option Change → Type 0

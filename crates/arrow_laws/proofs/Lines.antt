@@ -1,19 +1,12 @@
 -- An arrow is a line exactly where its two calls overlap.
-use Rattle.std.proofs.Common.{◌≡◌, ℕ, ◌<◌, cond, true, List, ◌∷◌, get_or, Option, Some, None, refl, sym, ◌∙◌, ap, arith}
-use Rattle.std.specs.Prelude.{is_some, nat_lt}
-use Rattle.std.proofs.lemmas.Bool.{lt-ltb}
-use Rattle.spk_nums.specs.Setting.{Setting}
-use Rattle.spk_nums.specs.declared.calls.Call.{Call}
-use Rattle.spk_nums.specs.declared.replies.Reply.{Reply}
-use Rattle.kernel_history.specs.Trace.{Step, Trace}
-use Rattle.page_drawing.specs.page_layers.specs.Lanes.{lane_entered, lane_decided}
-use Rattle.page_drawing.specs.page_layers.specs.declared.lanes.Lane.{Lane}
-use Rattle.page_drawing.specs.page_layers.specs.declared.lanes.Change.{Change}
-use Rattle.page_drawing.specs.Pages.{Page, page_after, lane_of, returns_of, next_step}
-use Rattle.arrow_laws.specs.Arrows.{returned_at, before_entry, is_line, LinesOverlap}
-use Rattle.arrow_laws.proofs.Calls.{before_own}
-use Rattle.arrow_laws.proofs.Heads.{heads_find_tails, newest_core}
-use Rattle.arrow_laws.proofs.Known.{Known, page_known, returns_more, returns_now}
+use Rattle.page_drawing.specs as low
+use low.kernel_history.proofs.{◌≡◌, ℕ, ◌<◌, cond, true, List, ◌∷◌, get_or, Option, Some, None, refl, sym, ◌∙◌, ap, arith, is_some}
+use low.kernel_history.proofs.{ltb as nat_lt, lt-ltb, Setting, Call, Reply, Step}
+use Rattle.arrow_laws.proofs.{Calls.before_own, Heads.heads_find_tails, Heads.newest_core, Known.Known, Known.page_known}
+use low.{Page, page_after, next_step, page_layers.specs.lane_entered, page_layers.specs.lane_decided, kernel_history.specs.Trace.Trace}
+use low.{page_layers.specs.declared.lanes.Lane.Lane, page_layers.specs.declared.lanes.Change.Change, Pages.lane_of, Pages.returns_of}
+use Rattle.{arrow_laws.specs.returned_at, arrow_laws.specs.before_entry, arrow_laws.specs.Arrows.is_line}
+use Rattle.{arrow_laws.specs.Arrows.LinesOverlap, arrow_laws.proofs.Known.returns_more, arrow_laws.proofs.Known.returns_now}
 
 others_at : (enters : Option Call) (decides : Option Reply) (n : ℕ) (o : List ℕ) (l : Lane)
     → (lane_decided decides n (lane_entered enters n o l)).others ≡ cond (is_some enters) o l.others

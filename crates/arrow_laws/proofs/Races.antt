@@ -1,36 +1,19 @@
 -- Each lost race is shown by a line from a step that is later than the call's own entry.
-use Rattle.std.proofs.Common.{◌≡◌, ◌≢◌, inl, inr, ℕ, suc, ◌<◌, ◌≤◌, ◌==◌, ◌&&◌, ◌||◌, not, cond, Bool, true, false, [], ◌∷◌}
-use Rattle.std.proofs.Common.{length, Option, Some, None, refl, sym, ◌∙◌, ap, subst, arith}
-use Rattle.std.specs.Prelude.{is_some, slice_index_or}
-use Rattle.std.proofs.lemmas.Bool.{ne_eqb, eq-eqb, true≢false}
-use Rattle.spk_nums.specs.Setting.{Setting}
-use Rattle.spk_nums.specs.declared.calls.Call.{Call}
-use Rattle.spk_nums.specs.declared.replies.Reply.TheVariants as reply
-use Rattle.word_map.specs.Word.{Word, EntryAt, FrameAt, CountAt, CoreAt, FlushAt, LiveAt, ClockAt, same_word}
-use Rattle.word_map.specs.Places.{place_of}
-use Rattle.word_map.specs.Moves.{word_of, left_of}
-use Rattle.kernel_rules.specs.Rules.{Rule}
-use Rattle.kernel_rules.specs.State.{State}
-use Rattle.kernel_rules.specs.CallRelation.{rule_of}
-use Rattle.kernel_history.specs.Trace.{Step, Trace, phase, after_enter, state_before, IfNot}
-use Rattle.kernel_history.specs.Legal.{IsLegal, MayDecide}
-use Rattle.kernel_history.specs.Justified.{MayLose}
-use Rattle.kernel_history.specs.Laws.{WasChanged}
-use Rattle.kernel_history.specs.BootWords.{shape_of}
-use Rattle.kernel_history.proofs.Names.{same_word-same}
-use Rattle.kernel_history.proofs.Races.{raced_by_another}
-use Rattle.page_drawing.specs.page_layers.specs.Seen.{Seen, seen}
-use Rattle.page_drawing.specs.page_layers.specs.Layers.{is_blamed}
-use Rattle.page_drawing.specs.page_layers.specs.declared.lanes.Change.{Change}
-use Rattle.page_drawing.specs.page_touches.specs.declared.touches.Touch.{Touch}
-use Rattle.page_drawing.specs.page_touches.specs.Touches.{untouched, is_clock}
-use Rattle.page_drawing.specs.page_touches.proofs.Blamed.{blamed_are_met}
-use Rattle.page_drawing.specs.Pages.{Page, page_after}
-use Rattle.arrow_laws.specs.Arrows.{changes, newest, entered_at, returned_at, before_entry, IsLateLine, RacesAreLines}
-use Rattle.arrow_laws.proofs.Calls.{entered_before, returned_before, before_less, before_own, entered_other}
-use Rattle.arrow_laws.proofs.Heads.{newest_core}
-use Rattle.arrow_laws.proofs.Known.{Says, Known, page_known}
-use Rattle.arrow_laws.proofs.Lines.{line_from}
+use Rattle.page_drawing.specs.kernel_history.proofs as low
+use low.{◌≡◌, ◌≢◌, inl, inr, ℕ, suc, ◌<◌, ◌≤◌, ◌==◌, ◌&&◌, ◌||◌, not, cond, Bool, true, false, [], ◌∷◌, length, Option, Some, None, refl}
+use low.{sym, ◌∙◌, ap, subst, arith, is_some, get_or as slice_index_or, ne_eqb, eq-eqb, true≢false, Setting, Call, Word, EntryAt, FrameAt}
+use low.{CountAt, CoreAt, FlushAt, LiveAt, ClockAt, same_word, place_of, word_of, left_of, Rule, State, rule_of, Step, phase, after_enter}
+use low.{state_before, IfNot, IsLegal, MayDecide, shape_of, same_word-same}
+use Rattle.arrow_laws.specs.{changes, newest, entered_at, returned_at, before_entry}
+use Rattle.page_drawing.specs.kernel_history.specs.{Trace.Trace, Justified.MayLose, Laws.WasChanged}
+use Rattle.page_drawing.specs.page_layers.specs.{Seen.Seen, Seen.seen, Layers.is_blamed, declared.lanes.Change.Change}
+use Rattle.page_drawing.specs.page_touches.specs.{declared.touches.Touch.Touch, Touches.untouched, Touches.is_clock}
+use Rattle.arrow_laws.proofs.{Calls.entered_before, Calls.returned_before, Calls.before_less, Calls.before_own, Calls.entered_other}
+use Rattle.arrow_laws.proofs.{Heads.newest_core, Known.Says, Known.Known, Known.page_known, Lines.line_from}
+use Rattle.{page_drawing.specs.Page, page_drawing.specs.page_after, page_drawing.specs.page_touches.proofs.Blamed.blamed_are_met}
+use Rattle.{arrow_laws.specs.Arrows.IsLateLine, arrow_laws.specs.Arrows.RacesAreLines}
+use low.{Races.raced_by_another}
+use Rattle.page_drawing.specs.spk_nums.specs.declared.replies.Reply.TheVariants as reply
 
 -- The newest change of a word is another core's than c, and later than c's last entry.
 pub record ByAnother (t : Trace) (c : ℕ) (w : Word) : Type 0 where

@@ -1,17 +1,10 @@
 -- What the arrows of a picture say of its trace.
-use Rattle.std.specs.Prelude.{◌≡◌, ◌≢◌, ◌<◌, ℕ, suc, Bool, true, false, ◌==◌, ◌&&◌, not, nat_lt, if◌then◌else◌, [], ◌∷◌, length}
-use Rattle.std.specs.Prelude.{Option, Some, is_some}
-use Rattle.spk_nums.specs.Setting.{Setting, IsSetting}
-use Rattle.spk_nums.specs.declared.replies.Reply.TheVariants as reply
-use Rattle.word_map.specs.Word.{Word, same_word}
-use Rattle.word_map.specs.Moves.{word_of, left_of}
-use Rattle.kernel_history.specs.Trace.{Step, Trace, calls_of}
-use Rattle.kernel_history.specs.Legal.{IsLegal}
-use Rattle.kernel_history.specs.BootWords.{shape_of}
-use Rattle.page_drawing.specs.page_layers.specs.Seen.{Seen, seen}
-use Rattle.page_drawing.specs.page_layers.specs.Lanes.{overlaps}
-use Rattle.page_drawing.specs.page_layers.specs.declared.lanes.Change.{Change}
-use Rattle.page_drawing.specs.Pages.{Page, page_after, tail_at, lane_at, next_step}
+use Rattle.page_drawing.specs.kernel_history.specs.{◌≡◌, ◌≢◌, ◌<◌, ℕ, suc, Bool, true, false, ◌==◌, ◌&&◌, not, ltb as nat_lt, if◌then◌else◌}
+use Rattle.page_drawing.specs.kernel_history.specs.{[], ◌∷◌, length, Option, Some, is_some, Setting, IsSetting, Word, same_word, word_of}
+use Rattle.page_drawing.specs.kernel_history.specs.{left_of, Step, calls_of, IsLegal, shape_of, Reply}
+use Rattle.page_drawing.specs.{Page, page_after, next_step}
+use Rattle.page_drawing.specs.page_layers.specs.{Seen.Seen, Seen.seen, Lanes.overlaps, declared.lanes.Change.Change}
+use Rattle.{page_drawing.specs.kernel_history.specs.Trace.Trace, page_drawing.specs.Pages.tail_at, page_drawing.specs.Pages.lane_at}
 
 -- A step leaves another value in this word.
 abbrev pub changes : Step → Word → Bool
@@ -82,4 +75,4 @@ pub record IsLateLine (page : ℕ) (setup : Setting) (t : Trace) (e : Step) : Ty
 
 abbrev pub RacesAreLines : Type 0
 RacesAreLines = (page : ℕ) (setup : Setting) (t : Trace) (e : Step) → IsSetting setup → IsLegal setup (e ∷ t)
-    → HasTaken page setup t → e.decides ≡ Some reply.Raced → IsLateLine page setup t e
+    → HasTaken page setup t → e.decides ≡ Some Reply.Raced → IsLateLine page setup t e

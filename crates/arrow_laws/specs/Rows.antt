@@ -1,8 +1,7 @@
 -- What the rows of a picture say: nothing overlaps.
 use Rattle.std.specs.Prelude.{◌≡◌, ◌<◌, ◌≤◌, ◌+◌, ◌==◌, ◌&&◌, ℕ, true, false, List, [], ◌∷◌, ◌++◌, length}
-use Rattle.picture_rows.specs.declared.rows.Placed.{Placed}
-use Rattle.picture_rows.specs.declared.rows.Rows.{Rows}
-use Rattle.picture_rows.specs.Rows.{has_event, has_text, room_after, rows_after, no_rows}
+use Rattle.page_drawing.specs.picture_rows.specs.{rows_after, no_rows, declared.rows.Placed.Placed, declared.rows.Rows.Rows, Rows.has_event}
+use Rattle.page_drawing.specs.picture_rows.specs.{Rows.has_text, Rows.room_after}
 
 -- The rows of the steps of a page, the newest first, where this is due of the cores at its beginning; and the height of the newest.
 abbrev pub rows_of : List ℕ → List Placed → Rows

@@ -1,20 +1,14 @@
 -- What holds along a sound trace of the table: the words are the counts of a legal history.
-use Rattle.std.proofs.Common.{◌≡◌, ◌≢◌, ℕ, ◌+◌, ◌*◌, ◌<◌, ◌≤◌, ◌^◌, List, [], ◌∷◌, Option, Some, None}
-use Rattle.std.proofs.Common.{refl, sym, ap, ◌∙◌, subst, arith}
-use mathlib.Core.Logic.{dite}
-use native.Mathlib.Decide.{ℕ_discrete}
-use Rattle.turn_rule.specs.declared.view.Entry.{Entry}
-use Rattle.turn_rule.specs.declared.view.Start.{Start}
-use Rattle.turn_rule.specs.Trace.{word_after, program_after, MayFollow, IsSound}
-use Rattle.turn_rule.proofs.Traces.{kept_along, word_here, word_elsewhere, program_here, program_elsewhere, core_inside}
-use Rattle.async_ends.specs.declared.endpoint.EndCall.{EndCall}
-use Rattle.async_ends.specs.Events.{Event, event, count_by, sends_in, receiving, AreOfOthers, IsLegal, untaken}
-use Rattle.async_ends.specs.Running.{EndCore, most_calls, end_steps}
-use Rattle.async_ends.specs.Seen.{history_of}
-use Rattle.async_ends.specs.Tables.{IsStart}
+use Rattle.std.proofs.Common.{◌≡◌, ◌≢◌, ℕ, ◌+◌, ◌*◌, ◌<◌, ◌≤◌, ◌^◌, List, [], ◌∷◌, Option, Some, None, refl, sym, ap, ◌∙◌, subst, arith}
+use Rattle.async_ends.specs.{Event, event, count_by, sends_in, receiving, AreOfOthers, IsLegal, untaken, EndCore, most_calls, end_steps}
+use Rattle.turn_rule.proofs.{kept_along, word_here, word_elsewhere, program_here, program_elsewhere, core_inside}
+use Rattle.turn_rule.specs.{word_after, program_after, MayFollow, IsSound, declared.view.Entry.Entry, declared.view.Start.Start}
 use Rattle.async_ends.proofs.Histories.{untaken_here, untaken_elsewhere, untaken_at_most, receiving_here, receiving_elsewhere}
 use Rattle.async_ends.proofs.Steps.{Knows, Did, made_of, did}
 use Rattle.async_ends.proofs.Totals.{total, total_changed, total_at_most}
+use Rattle.{async_ends.specs.history_of, async_ends.specs.IsStart, async_ends.specs.declared.endpoint.EndCall.EndCall}
+use mathlib.Core.Logic.{dite}
+use native.Mathlib.Decide.{ℕ_discrete}
 
 module _ (frames cores : ℕ) (start : Start EndCore) (is : IsStart frames cores start) where
   abbrev pub begun_in : Option EndCore → ℕ

@@ -1,32 +1,22 @@
 -- What a call adds to the events of its core, and that the sends to a frame are those of all cores.
-use Rattle.std.proofs.Common.{◌≡◌, ◌≢◌, inl, inr, ℕ, zero, suc, ◌+◌, ◌<◌, ◌≤◌, ◌==◌, List, [], ◌∷◌, ◌++◌, if◌then◌else◌}
-use Rattle.std.proofs.Common.{Some, None, Result, Ok, Err, refl, sym, ap, ◌∙◌, subst, arith, append-nil, append_assoc, eq-eqb, ne_eqb}
-use Rattle.std.specs.List.{flat_map}
-use Rattle.std.proofs.lemmas.Bool.{cases_eq, cases_lt}
-use Rattle.std.proofs.lemmas.Grind.{flat_map-append}
+use Rattle.std.proofs.Common.{◌≡◌, ◌≢◌, inl, inr, ℕ, zero, suc, ◌+◌, ◌<◌, ◌≤◌, ◌==◌, List, [], ◌∷◌, ◌++◌, if◌then◌else◌, Some, None, Result}
+use Rattle.std.proofs.Common.{Ok, Err, refl, sym, ap, ◌∙◌, subst, arith, append-nil, append_assoc, eq-eqb, ne_eqb, flat_map}
+use Rattle.async_ends.specs.{reached, Added, Loaded, Took, Missed, Event, event, events_by, AreOfOthers, ExtendsByOthers, sends_in, sent_to}
+use Rattle.async_ends.specs.{event_in, history_of, call_of, Comes, EndSeatValue, AreStepsOf, AreStepsOfAll}
+use Rattle.spk_nums.specs.{declared.replies.Reply.Reply, declared.steps.WordOp.TheVariants.Load, declared.steps.WordOp.TheVariants.Compare}
+use Rattle.async_ends.specs.{declared.asks.Look.Look, declared.endpoint.EndOp.EndOp, declared.endpoint.EndOp.TheVariants.Send}
+use Rattle.async_ends.specs.{declared.endpoint.EndOp.TheVariants.Recv, declared.endpoint.EndCall.EndCall}
+use Rattle.async_ends.specs.{declared.endpoint.EndReply.EndReply, declared.endpoint.EndReply.TheVariants.Sent}
+use Rattle.async_ends.specs.{declared.endpoint.EndReply.TheVariants.Taken, declared.endpoint.EndReply.TheVariants.Raced}
+use Rattle.async_ends.specs.{declared.asks.EndDone.EndDone, Calls.AddsOne, Calls.FindsNone, Calls.ComparesIt, Calls.ComesTo, Asked.taken_by}
+use Rattle.async_ends.proofs.{Histories.history_of-append, Histories.history_of-others, Closing.all_zip_push}
+use Rattle.{std.proofs.lemmas.Bool.cases_eq, std.proofs.lemmas.Bool.cases_lt, std.proofs.lemmas.Grind.flat_map-append}
+use Rattle.{spk_nums.specs.declared.steps.WordOp.TheVariants.Add, spk_nums.specs.WordSteps.left_by}
+use Rattle.{turn_rule.specs.declared.view.Entry.Entry, turn_rule.specs.Trace.entry, async_ends.specs.Asked.AreStepsBy}
+use Rattle.{async_ends.specs.Asked.look_in}
 use mathlib.Core.Logic.{dite}
 use native.Mathlib.Decide.{ℕ_discrete}
-use Rattle.spk_nums.specs.declared.replies.Reply.{Reply}
-use Rattle.spk_nums.specs.declared.steps.WordOp.TheVariants.{Load, Compare, Add}
-use Rattle.spk_nums.specs.WordSteps.{left_by}
-use Rattle.turn_rule.specs.declared.view.Entry.{Entry}
-use Rattle.turn_rule.specs.Trace.{entry}
 use Rattle.turn_rule.specs.Trace as table
-use Rattle.async_ends.specs.declared.asks.Look.{Look}
-use Rattle.async_ends.specs.declared.endpoint.EndOp.{EndOp}
-use Rattle.async_ends.specs.declared.endpoint.EndOp.TheVariants.{Send, Recv}
-use Rattle.async_ends.specs.declared.endpoint.EndCall.{EndCall}
-use Rattle.async_ends.specs.declared.endpoint.EndReply.{EndReply}
-use Rattle.async_ends.specs.declared.endpoint.EndReply.TheVariants.{Sent, Taken, Raced}
-use Rattle.async_ends.specs.declared.asks.EndDone.{EndDone}
-use Rattle.async_ends.specs.Looks.{reached}
-use Rattle.async_ends.specs.Events.{Added, Loaded, Took, Missed, Event, event, events_by, AreOfOthers, ExtendsByOthers, sends_in, sent_to}
-use Rattle.async_ends.specs.Seen.{event_in, history_of}
-use Rattle.async_ends.specs.Calls.{call_of, AddsOne, FindsNone, ComparesIt, ComesTo, Comes}
-use Rattle.async_ends.specs.Tables.{EndSeatValue}
-use Rattle.async_ends.specs.Asked.{taken_by, AreStepsBy, AreStepsOf, AreStepsOfAll, look_in}
-use Rattle.async_ends.proofs.Histories.{history_of-append, history_of-others}
-use Rattle.async_ends.proofs.Closing.{all_zip_push}
 
 -- ---- the events of a core
 

@@ -1,25 +1,16 @@
 -- How a table begins with its seats, and how it ends with them.
-use Rattle.std.proofs.Common.{◌≡◌, ℕ, zero, suc, ◌+◌, ◌<◌, ◌≤◌, List, [], ◌∷◌, ◌++◌, length, slice_get, get_or, map, replicate, All}
-use Rattle.std.proofs.Common.{inl, inr, Option, Some, None, refl, sym, ap, ◌∙◌, subst, arith}
-use Rattle.std.specs.List.{AllZip}
-use Rattle.std.specs.Option.{option_map}
-use Rattle.std.proofs.lemmas.Bool.{cases_lt}
-use Rattle.std.proofs.lemmas.List.{length-map, length-replicate}
-use Rattle.std.proofs.lemmas.Option.{slice_get-map, slice_get-get_or}
-use Rattle.turn_rule.specs.declared.view.Entry.{Entry}
-use Rattle.turn_rule.specs.declared.view.Start.{Start}
-use Rattle.turn_rule.specs.Trace.{program_after, IsSound}
+use Rattle.std.proofs.Common.{◌≡◌, ℕ, zero, suc, ◌+◌, ◌<◌, ◌≤◌, List, [], ◌∷◌, ◌++◌, length, slice_get, get_or, map, replicate, All, inl}
+use Rattle.std.proofs.Common.{inr, Option, Some, None, refl, sym, ap, ◌∙◌, subst, arith, option_map}
+use Rattle.async_ends.specs.{ExtendsByOthers, receiving, taken_at, EndCore, end_steps, history_of, EndSeatValue, seat_value, IsStart}
+use Rattle.async_ends.specs.{IsSeat, AreAllSeats, AreWrapped}
+use Rattle.turn_rule.specs.{program_after, IsSound, TableValue, SeatValue}
+use Rattle.std.proofs.{lemmas.Bool.cases_lt, lemmas.Option.slice_get-map, lemmas.Option.slice_get-get_or}
+use Rattle.async_ends.specs.{declared.endpoint.EndCall.EndCall, Running.unused, Tables.table_value, Tables.AreFresh, Tables.EndsAt}
+use Rattle.async_ends.proofs.{Along.along, Histories.extends_by_others, Histories.receiving_past, Histories.receiving_none}
+use Rattle.async_ends.proofs.{Histories.all_crossed, Histories.balance, Made.between}
+use Rattle.{std.proofs.lemmas.List.length-map, std.proofs.lemmas.List.length-replicate, std.specs.List.AllZip}
+use Rattle.{turn_rule.specs.declared.view.Entry.Entry, turn_rule.specs.declared.view.Start.Start, async_ends.specs.Tables.IsWrapped}
 use Rattle.turn_rule.specs.Seats as turns
-use Rattle.turn_rule.specs.Seats.{TableValue, SeatValue}
-use Rattle.async_ends.specs.declared.endpoint.EndCall.{EndCall}
-use Rattle.async_ends.specs.Events.{ExtendsByOthers, receiving, taken_at}
-use Rattle.async_ends.specs.Running.{EndCore, unused, end_steps}
-use Rattle.async_ends.specs.Seen.{history_of}
-use Rattle.async_ends.specs.Tables.{EndSeatValue, table_value, seat_value, IsStart, IsSeat, AreAllSeats, AreFresh, EndsAt}
-use Rattle.async_ends.specs.Tables.{IsWrapped, AreWrapped}
-use Rattle.async_ends.proofs.Along.{along}
-use Rattle.async_ends.proofs.Histories.{extends_by_others, receiving_past, receiving_none, all_crossed, balance}
-use Rattle.async_ends.proofs.Made.{between}
 
 abbrev Seat : Type 0
 Seat = SeatValue EndCore EndCall

@@ -1,17 +1,14 @@
 -- Histories that grow by a step.
-use Rattle.std.proofs.Common.{◌≡◌, ◌≢◌, ◌⊎◌, ⊎_elim, inl, inr, ℕ, ◌+◌, ◌≤◌, Bool, List, [], ◌∷◌, ◌++◌, if◌then◌else◌}
-use Rattle.std.proofs.Common.{Some, None, refl, sym, ap, ◌∙◌, subst, arith, eq-eqb, ne_eqb}
-use Rattle.std.proofs.lemmas.Option.{none-some}
+use Rattle.std.proofs.Common.{◌≡◌, ◌≢◌, ◌⊎◌, ⊎_elim, inl, inr, ℕ, ◌+◌, ◌≤◌, Bool, List, [], ◌∷◌, ◌++◌, if◌then◌else◌, Some, None, refl, sym}
+use Rattle.std.proofs.Common.{ap, ◌∙◌, subst, arith, eq-eqb, ne_eqb}
+use Rattle.async_ends.specs.{Added, Loaded, Took, Missed, Event, event, count_by, untaken, sends_in, sent_to, taken_at, receive_at}
+use Rattle.async_ends.specs.{receiving, MayDo, IsLegal, AreOfOthers, ExtendsByOthers, event_in, history_of}
+use Rattle.async_ends.specs.{declared.endpoint.EndCall.EndCall, Events.EndStep, Events.takes_in, Events.going, Events.Moves}
+use Rattle.async_ends.specs.{Events.WasCrossed, Events.CrossedBefore, Events.AreCrossed, Calls.IsMoved}
+use Rattle.{std.proofs.lemmas.Option.none-some, turn_rule.specs.declared.view.Entry.Entry}
 use mathlib.Core.Logic.{dite}
 use native.Mathlib.Decide.{ℕ_discrete}
-use Rattle.turn_rule.specs.declared.view.Entry.{Entry}
 use Rattle.turn_rule.specs.Trace as table
-use Rattle.async_ends.specs.declared.endpoint.EndCall.{EndCall}
-use Rattle.async_ends.specs.Events.{EndStep, Added, Loaded, Took, Missed, Event, event, count_by, untaken, sends_in, takes_in, sent_to}
-use Rattle.async_ends.specs.Events.{taken_at, receive_at, going, receiving, MayDo, IsLegal, AreOfOthers, ExtendsByOthers}
-use Rattle.async_ends.specs.Events.{Moves, WasCrossed, CrossedBefore, AreCrossed}
-use Rattle.async_ends.specs.Seen.{event_in, history_of}
-use Rattle.async_ends.specs.Calls.{IsMoved}
 
 counted_at_most : (step : EndStep) (n : ℕ) → count_by step n ≤ n + sends_in step
 counted_at_most (Added l) n = omega arith

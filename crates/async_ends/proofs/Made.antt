@@ -1,35 +1,22 @@
 -- What a seat has seen, and what a whole call adds to it.
-use Rattle.std.proofs.Common.{◌≡◌, ◌≢◌, inl, inr, ℕ, zero, suc, ◌+◌, ◌<◌, ◌==◌, Bool, true, false}
-use Rattle.std.proofs.Common.{if◌then◌else◌, List, [], ◌∷◌, ◌++◌}
-use Rattle.std.proofs.Common.{Some, None, IsNone, Err, refl, sym, ap, ◌∙◌, subst, arith, eq-eqb, ne_eqb}
-use Rattle.std.proofs.lemmas.Option.{none-some}
+use Rattle.std.proofs.Common.{◌≡◌, ◌≢◌, inl, inr, ℕ, zero, suc, ◌+◌, ◌<◌, ◌==◌, Bool, true, false, if◌then◌else◌, List, [], ◌∷◌, ◌++◌, Some}
+use Rattle.std.proofs.Common.{None, IsNone, Err, refl, sym, ap, ◌∙◌, subst, arith, eq-eqb, ne_eqb}
+use Rattle.async_ends.specs.{reached, Missed, Took, Event, untaken, receiving, MayDo, IsLegal, EndCore, most_calls, end_steps, event_in}
+use Rattle.async_ends.specs.{history_of, seat_value, IsStart, IsSeat, call_of, Comes}
+use Rattle.turn_rule.specs.{entry, AreOfOthers, SeatValue, FollowsTrace, Turns, TurnsOn}
+use Rattle.spk_nums.specs.{declared.replies.Reply.Reply, declared.steps.WordOp.WordOp, declared.steps.WordOp.TheVariants.Load}
+use Rattle.spk_nums.specs.{declared.steps.WordOp.TheVariants.Compare, declared.steps.WordOp.TheVariants.Add, WordSteps.left_by}
+use Rattle.async_ends.specs.{declared.asks.Look.Look, declared.endpoint.EndOp.EndOp, declared.endpoint.EndOp.TheVariants.Send}
+use Rattle.async_ends.specs.{declared.endpoint.EndOp.TheVariants.Recv, declared.endpoint.EndCall.EndCall, declared.endpoint.EndAct.EndAct}
+use Rattle.async_ends.specs.{declared.endpoint.EndReply.EndReply, declared.endpoint.EndReply.TheVariants.Taken}
+use Rattle.async_ends.specs.{declared.endpoint.EndReply.TheVariants.Raced, declared.endpoint.EndReply.TheVariants.Refused}
+use Rattle.async_ends.specs.{declared.run.EndStage.TheVariants.Idle, declared.run.EndStage.TheVariants.Takes, Running.end_core}
+use Rattle.async_ends.specs.{Running.next_at, Running.reply_of, Tables.table_value, Calls.compared, Calls.IsMoved, Calls.Does}
+use Rattle.async_ends.proofs.{Along.along, Histories.history_of-append, Histories.moved, Steps.Knows, Steps.idle_of}
+use Rattle.{std.proofs.lemmas.Option.none-some, spk_nums.specs.WordSteps.told_by, turn_rule.specs.declared.view.Entry.Entry}
+use Rattle.{turn_rule.specs.Seats.MakesCall, async_ends.specs.Calls.ComesTo, async_ends.specs.Calls.Acts}
 use mathlib.Core.Logic.{dite}
 use native.Mathlib.Decide.{ℕ_discrete}
-use Rattle.spk_nums.specs.declared.replies.Reply.{Reply}
-use Rattle.spk_nums.specs.declared.steps.WordOp.{WordOp}
-use Rattle.spk_nums.specs.declared.steps.WordOp.TheVariants.{Load, Compare, Add}
-use Rattle.spk_nums.specs.WordSteps.{left_by, told_by}
-use Rattle.turn_rule.specs.declared.view.Entry.{Entry}
-use Rattle.turn_rule.specs.Trace.{entry, AreOfOthers}
-use Rattle.turn_rule.specs.Seats.{SeatValue, FollowsTrace, Turns, TurnsOn, MakesCall}
-use Rattle.async_ends.specs.declared.asks.Look.{Look}
-use Rattle.async_ends.specs.declared.endpoint.EndOp.{EndOp}
-use Rattle.async_ends.specs.declared.endpoint.EndOp.TheVariants.{Send, Recv}
-use Rattle.async_ends.specs.declared.endpoint.EndCall.{EndCall}
-use Rattle.async_ends.specs.declared.endpoint.EndAct.{EndAct}
-use Rattle.async_ends.specs.declared.endpoint.EndAct.TheVariants as act
-use Rattle.async_ends.specs.declared.endpoint.EndReply.{EndReply}
-use Rattle.async_ends.specs.declared.endpoint.EndReply.TheVariants.{Taken, Raced, Refused}
-use Rattle.async_ends.specs.declared.run.EndStage.TheVariants.{Idle, Takes}
-use Rattle.async_ends.specs.Looks.{reached}
-use Rattle.async_ends.specs.Events.{Missed, Took, Event, untaken, receiving, MayDo, IsLegal}
-use Rattle.async_ends.specs.Running.{EndCore, end_core, most_calls, next_at, end_steps, reply_of}
-use Rattle.async_ends.specs.Seen.{event_in, history_of}
-use Rattle.async_ends.specs.Tables.{table_value, seat_value, IsStart, IsSeat}
-use Rattle.async_ends.specs.Calls.{call_of, compared, IsMoved, Does, ComesTo, Comes, Acts}
-use Rattle.async_ends.proofs.Along.{along}
-use Rattle.async_ends.proofs.Histories.{history_of-append, moved}
-use Rattle.async_ends.proofs.Steps.{Knows, idle_of}
 
 abbrev Seat : Type 0
 Seat = SeatValue EndCore EndCall
@@ -116,7 +103,7 @@ answered_send f l old new m =
     let next : Some (Add f 1) ≡ Some m.first.op = m.first.next in
     let is : m.first.op ≡ Add f 1 = cc in
     let s = m.first.makes in
-    answered_first Send f l old new m act.Sent s.program (
+    answered_first Send f l old new m EndAct.Sent s.program (
       record {
         found = s.found;
         others = s.others;
@@ -128,7 +115,7 @@ answered_send f l old new m =
 
 -- what a compare took or not, by the count that it found
 took : Bool → ℕ → EndAct
-took b n = if b then act.Taken n else act.Raced
+took b n = if b then EndAct.Taken n else EndAct.Raced
 
 answer_is : (b : Bool) (n : ℕ) → reply_of (took b n) ≡ (if b then Taken n else Raced)
 unfolding took
@@ -205,12 +192,12 @@ answered_recv f l old new m =
     let is : m.first.op ≡ Load f = cc in
     let told : told_by m.first.op n ≡ n = ap (λ o. told_by o n) is in
     let loaded : ℕ → Bool → EndCore = λ k b.
-    end_core (if b then Idle else Takes f k) p.frames (p.begun + 1) (if b then act.Taken 0 else p.last) in
+    end_core (if b then Idle else Takes f k) p.frames (p.begun + 1) (if b then EndAct.Taken 0 else p.last) in
     let program : m.begun.program ≡ loaded n (n == 0) = s.program ∙ ap (λ k. loaded k (k == 0)) told in
     let seen = begun_with Recv f l old new m (Load f) is in
     dite (ℕ_discrete n 0)
     (λ (none : n ≡ 0).
-    answered_first Recv f l old new m (act.Taken 0) (program ∙ ap (loaded n) (eq-eqb n 0 none)) (inl (
+    answered_first Recv f l old new m (EndAct.Taken 0) (program ∙ ap (loaded n) (eq-eqb n 0 none)) (inl (
       record {
         others = s.others;
         apart = s.apart;

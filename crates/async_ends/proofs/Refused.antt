@@ -1,11 +1,8 @@
 -- The worked histories that are not legal; the checker computes what each core may do.
 use Rattle.std.proofs.Common.{◌≡◌, ℕ, refl, sym, ap, arith, Some, Result, Ok}
-use Rattle.std.proofs.lemmas.Option.{none-some}
-use Rattle.spk_nums.specs.declared.replies.Reply.{Reply}
-use Rattle.async_ends.specs.declared.endpoint.EndOp.TheVariants.{Send}
-use Rattle.async_ends.specs.Looks.{reached}
-use Rattle.async_ends.specs.Events.{Receiving, receive_at}
-use Rattle.async_ends.specs.Refusals.{gate_look, HistoriesRefuse}
+use Rattle.async_ends.specs.{reached, receive_at}
+use Rattle.async_ends.specs.{declared.endpoint.EndOp.TheVariants.Send, Events.Receiving, Refusals.gate_look, Refusals.HistoriesRefuse}
+use Rattle.{std.proofs.lemmas.Option.none-some, spk_nums.specs.declared.replies.Reply.Reply}
 
 same_receive : (a b : Receiving) → Some a ≡ Some b → a ≡ b
 same_receive a b e = cc

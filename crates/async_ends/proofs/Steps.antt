@@ -1,26 +1,19 @@
 -- What the step of an entry has done, by the call and the stage.
-use Rattle.std.proofs.Common.{◌≡◌, ◌≢◌, ℕ, ◌+◌, ◌<◌, ◌≤◌, ◌%◌, ◌^◌, ◌==◌, Bool, if◌then◌else◌, Option, Some, None, IsNone, Ok}
-use Rattle.std.proofs.Common.{List, refl, sym, ap, ◌∙◌, subst, arith, eq-eqb, ne_eqb}
-use Rattle.std.proofs.lemmas.Option.{none-some}
+use Rattle.std.proofs.Common.{◌≡◌, ◌≢◌, ℕ, ◌+◌, ◌<◌, ◌≤◌, ◌%◌, ◌^◌, ◌==◌, Bool, if◌then◌else◌, Option, Some, None, IsNone, Ok, List, refl}
+use Rattle.std.proofs.Common.{sym, ap, ◌∙◌, subst, arith, eq-eqb, ne_eqb}
+use Rattle.async_ends.specs.{reached, Added, Loaded, Took, Missed, Event, count_by, untaken, sends_in, receive_at, receiving, MayDo}
+use Rattle.async_ends.specs.{EndCore, most_calls, end_steps, call_of}
+use Rattle.spk_nums.specs.{declared.steps.WordOp.WordOp, declared.steps.WordOp.TheVariants.Load, declared.steps.WordOp.TheVariants.Compare}
+use Rattle.spk_nums.specs.{declared.steps.WordOp.TheVariants.Add, WordSteps.place_in, WordSteps.left_by, WordSteps.told_by}
+use Rattle.async_ends.specs.{declared.asks.Look.Look, declared.endpoint.EndOp.EndOp, declared.endpoint.EndOp.TheVariants.Send}
+use Rattle.async_ends.specs.{declared.endpoint.EndOp.TheVariants.Recv, declared.endpoint.EndCall.EndCall, declared.run.EndStage.EndStage}
+use Rattle.async_ends.specs.{declared.run.EndStage.TheVariants.Idle, declared.run.EndStage.TheVariants.Adds}
+use Rattle.async_ends.specs.{declared.run.EndStage.TheVariants.Loads, declared.run.EndStage.TheVariants.Takes, Events.EndStep}
+use Rattle.async_ends.specs.{Events.Receiving, Events.going, Events.MayBegin, Running.next_at, Running.stage_after, Seen.step_in}
+use Rattle.{std.proofs.lemmas.Option.none-some, turn_rule.specs.Trace.called}
 use mathlib.Core.Logic.{dite}
 use native.Mathlib.Decide.{ℕ_discrete}
-use Rattle.spk_nums.specs.declared.steps.WordOp.{WordOp}
-use Rattle.spk_nums.specs.declared.steps.WordOp.TheVariants.{Load, Compare, Add}
-use Rattle.spk_nums.specs.WordSteps.{place_in, left_by, told_by}
-use Rattle.turn_rule.specs.Trace.{called}
 use Rattle.turn_rule.specs.Trace as table
-use Rattle.async_ends.specs.declared.asks.Look.{Look}
-use Rattle.async_ends.specs.declared.endpoint.EndOp.{EndOp}
-use Rattle.async_ends.specs.declared.endpoint.EndOp.TheVariants.{Send, Recv}
-use Rattle.async_ends.specs.declared.endpoint.EndCall.{EndCall}
-use Rattle.async_ends.specs.declared.run.EndStage.{EndStage}
-use Rattle.async_ends.specs.declared.run.EndStage.TheVariants.{Idle, Adds, Loads, Takes}
-use Rattle.async_ends.specs.Looks.{reached}
-use Rattle.async_ends.specs.Events.{EndStep, Added, Loaded, Took, Missed, Event, count_by, untaken, sends_in, Receiving, receive_at, going}
-use Rattle.async_ends.specs.Events.{receiving, MayBegin, MayDo}
-use Rattle.async_ends.specs.Running.{EndCore, most_calls, next_at, stage_after, end_steps}
-use Rattle.async_ends.specs.Seen.{step_in}
-use Rattle.async_ends.specs.Calls.{call_of}
 
 -- a core between calls has no receive in progress, and one before its compare has the count that it has loaded
 abbrev pub Knows : Option Receiving → EndStage → Type 0

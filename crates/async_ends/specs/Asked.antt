@@ -1,17 +1,12 @@
 -- Endpoint calls that were made: what each has done, and whether its answer is the one due.
-use Rattle.std.specs.Prelude.{◌≡◌, ◌≢◌, ℕ, ◌<◌, ◌==◌, List, [], ◌∷◌, ◌++◌, if◌then◌else◌, Result, Ok, Err}
-use Rattle.std.specs.List.{AllZip, flat_map}
-use Rattle.spk_nums.specs.declared.replies.Reply.{Reply}
-use Rattle.async_ends.specs.declared.endpoint.EndOp.{EndOp}
-use Rattle.async_ends.specs.declared.endpoint.EndOp.TheVariants.{Send, Recv}
-use Rattle.async_ends.specs.declared.endpoint.EndReply.{EndReply}
-use Rattle.async_ends.specs.declared.endpoint.EndReply.TheVariants.{Sent, Taken, Raced, Refused}
-use Rattle.async_ends.specs.declared.asks.Look.{Look}
-use Rattle.async_ends.specs.declared.asks.EndDone.{EndDone}
-use Rattle.async_ends.specs.Looks.{look, reached}
-use Rattle.async_ends.specs.Events.{Added, Loaded, Took, Missed, Event, event}
-use Rattle.async_ends.specs.Calls.{Comes}
-use Rattle.async_ends.specs.Tables.{EndSeatValue}
+use Rattle.std.specs.Prelude.{◌≡◌, ◌≢◌, ℕ, ◌<◌, ◌==◌, List, [], ◌∷◌, ◌++◌, if◌then◌else◌, Result, Ok, Err, flat_map}
+use Rattle.async_ends.specs.{declared.endpoint.EndOp.EndOp, declared.endpoint.EndOp.TheVariants.Send}
+use Rattle.async_ends.specs.{declared.endpoint.EndOp.TheVariants.Recv, declared.endpoint.EndReply.EndReply}
+use Rattle.async_ends.specs.{declared.endpoint.EndReply.TheVariants.Sent, declared.endpoint.EndReply.TheVariants.Taken}
+use Rattle.async_ends.specs.{declared.endpoint.EndReply.TheVariants.Raced, declared.endpoint.EndReply.TheVariants.Refused}
+use Rattle.async_ends.specs.{declared.asks.Look.Look, declared.asks.EndDone.EndDone, Looks.look, Looks.reached, Events.Added, Events.Loaded}
+use Rattle.async_ends.specs.{Events.Took, Events.Missed, Events.Event, Events.event, Calls.Comes, Tables.EndSeatValue}
+use Rattle.{std.specs.List.AllZip, spk_nums.specs.declared.replies.Reply.Reply}
 
 -- The events of a receive that took k: a load, and a compare where k is not 0.
 abbrev pub taken_by : ℕ → ℕ → Look → ℕ → List Event

@@ -1,19 +1,14 @@
 -- What calls at endpoints answer, and the steps by which they extend what a seat has seen.
 use Rattle.std.specs.Prelude.{◌≡◌, ℕ, ◌+◌, ◌<◌, ◌==◌, ◌⊎◌, List, [], ◌∷◌, ◌++◌, if◌then◌else◌, Some, None, Result, Ok, Err}
-use Rattle.spk_nums.specs.declared.replies.Reply.{Reply}
+use Rattle.turn_rule.specs.{entry, AreOfOthers}
 use Rattle.spk_nums.specs.declared.steps.WordOp.TheVariants.{Load, Compare, Add}
-use Rattle.turn_rule.specs.declared.view.Entry.{Entry}
-use Rattle.turn_rule.specs.Trace.{entry, AreOfOthers}
-use Rattle.async_ends.specs.declared.asks.Look.{Look}
-use Rattle.async_ends.specs.declared.endpoint.EndOp.{EndOp}
-use Rattle.async_ends.specs.declared.endpoint.EndOp.TheVariants.{Send, Recv}
-use Rattle.async_ends.specs.declared.endpoint.EndCall.{EndCall}
-use Rattle.async_ends.specs.declared.endpoint.EndReply.{EndReply}
-use Rattle.async_ends.specs.declared.endpoint.EndReply.TheVariants.{Sent, Taken, Raced, Refused}
-use Rattle.async_ends.specs.Looks.{look, reached}
-use Rattle.async_ends.specs.Events.{Event, Moves, IsLegal}
-use Rattle.async_ends.specs.Seen.{history_of}
-use Rattle.async_ends.specs.Tables.{EndSeatValue}
+use Rattle.async_ends.specs.{declared.asks.Look.Look, declared.endpoint.EndOp.EndOp, declared.endpoint.EndOp.TheVariants.Send}
+use Rattle.async_ends.specs.{declared.endpoint.EndOp.TheVariants.Recv, declared.endpoint.EndCall.EndCall}
+use Rattle.async_ends.specs.{declared.endpoint.EndReply.EndReply, declared.endpoint.EndReply.TheVariants.Sent}
+use Rattle.async_ends.specs.{declared.endpoint.EndReply.TheVariants.Taken, declared.endpoint.EndReply.TheVariants.Raced}
+use Rattle.async_ends.specs.{declared.endpoint.EndReply.TheVariants.Refused, Looks.look, Looks.reached, Events.Event, Events.Moves}
+use Rattle.async_ends.specs.{Events.IsLegal, Seen.history_of, Tables.EndSeatValue}
+use Rattle.{spk_nums.specs.declared.replies.Reply.Reply, turn_rule.specs.declared.view.Entry.Entry}
 
 abbrev pub call_of : EndOp → ℕ → Look → EndCall
 call_of op f l = record { op = op; frame = f; look = l }

@@ -1,9 +1,7 @@
 -- Endpoint histories: the steps that cores make at endpoints, the newest first.
 use Rattle.std.specs.Prelude.{◌≡◌, ◌≢◌, ℕ, ◌+◌, ◌==◌, List, [], ◌∷◌, ◌++◌, if◌then◌else◌, Option, Some, None, Ok}
-use Rattle.async_ends.specs.declared.asks.Look.{Look}
-use Rattle.async_ends.specs.declared.endpoint.EndOp.{EndOp}
-use Rattle.async_ends.specs.declared.endpoint.EndOp.TheVariants.{Send, Recv}
-use Rattle.async_ends.specs.Looks.{reached}
+use Rattle.async_ends.specs.{declared.asks.Look.Look, declared.endpoint.EndOp.EndOp, declared.endpoint.EndOp.TheVariants.Send}
+use Rattle.async_ends.specs.{declared.endpoint.EndOp.TheVariants.Recv, Looks.reached}
 
 -- A send is one step: it adds one to the count. A receive begins with a load of the count; where that is 0 it has taken nothing, else it
 -- goes on to a compare, which takes the count that was loaded, or misses: it finds another one and takes nothing. The step with which

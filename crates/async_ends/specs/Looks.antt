@@ -1,23 +1,17 @@
 -- Looks at capabilities, and the endpoints to which they lead.
 use Rattle.std.specs.Prelude.{◌≡◌, ◌≢◌, ℕ, ◌<◌, Bool, true, false, Result, Ok, Err}
-use Rattle.spk_nums.specs.Capability.{Capability}
-use Rattle.spk_nums.specs.declared.kinds.Kind.{Kind}
-use Rattle.spk_nums.specs.declared.kinds.Kind.TheVariants.{Range, Gate, Comp}
-use Rattle.spk_nums.specs.declared.replies.Value.{Value}
-use Rattle.spk_nums.specs.declared.replies.Value.TheVariants.{Cap}
-use Rattle.spk_nums.specs.declared.replies.Reply.{Reply}
-use Rattle.spk_nums.specs.declared.replies.Reply.TheVariants.{WrongCap}
-use Rattle.spk_nums.specs.declared.replies.Reply.TheVariants as reply
-use Rattle.async_ends.specs.declared.asks.Look.{Look}
-use Rattle.async_ends.specs.declared.endpoint.EndOp.{EndOp}
-use Rattle.async_ends.specs.declared.endpoint.EndOp.TheVariants.{Send, Recv}
+use Rattle.spk_nums.specs.{Capability.Capability, declared.kinds.Kind.Kind, declared.kinds.Kind.TheVariants.Range}
+use Rattle.spk_nums.specs.{declared.kinds.Kind.TheVariants.Gate, declared.kinds.Kind.TheVariants.Comp, declared.replies.Value.Value}
+use Rattle.spk_nums.specs.{declared.replies.Value.TheVariants.Cap, declared.replies.Reply.Reply}
+use Rattle.async_ends.specs.{declared.asks.Look.Look, declared.endpoint.EndOp.EndOp, declared.endpoint.EndOp.TheVariants.Send}
+use Rattle.{spk_nums.specs.declared.replies.Reply.TheVariants.WrongCap, async_ends.specs.declared.endpoint.EndOp.TheVariants.Recv}
 
 abbrev pub look : ℕ → Reply → Look
 look number r = record { number = number; reply = r }
 
 -- A capability that the reply has names a frame below n, if it is no range.
 abbrev pub NamesBelow : ℕ → Reply → Type 0
-NamesBelow n r = (cap : Capability) → r ≡ reply.Ok (Cap cap) → cap.kind ≢ Range → cap.frame < n
+NamesBelow n r = (cap : Capability) → r ≡ Reply.Ok (Cap cap) → cap.kind ≢ Range → cap.frame < n
 
 -- A send goes through a gate, a receive through a component capability.
 abbrev pub serves : EndOp → Kind → Bool
@@ -37,5 +31,5 @@ reached_by op _ = Err WrongCap
 
 -- The frame whose endpoint a look leads to, or the refusal: the look's own, or `wrong-cap` where it answered another kind.
 abbrev pub reached : EndOp → Reply → Result ℕ Reply
-reached op (reply.Ok value) = reached_by op value
+reached op (Reply.Ok value) = reached_by op value
 reached op refusal = Err refusal

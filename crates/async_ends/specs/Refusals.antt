@@ -1,19 +1,15 @@
 -- What a legal endpoint history refuses: worked histories of two cores, each of which breaks one rule.
-use Rattle.std.specs.Prelude.{[], ◌∷◌, List}
-use Rattle.spk_nums.specs.Capability.{cap_of}
-use Rattle.spk_nums.specs.declared.kinds.Kind.TheVariants.{Gate, Comp}
-use Rattle.spk_nums.specs.declared.replies.Value.TheVariants.{Cap}
-use Rattle.spk_nums.specs.declared.replies.Reply.TheVariants as reply
-use Rattle.async_ends.specs.declared.asks.Look.{Look}
-use Rattle.async_ends.specs.Looks.{look}
-use Rattle.async_ends.specs.Events.{Added, Loaded, Took, Missed, Event, event, IsLegal}
+use Rattle.spk_nums.specs.{Capability.cap_of, declared.kinds.Kind.TheVariants.Gate, declared.kinds.Kind.TheVariants.Comp}
+use Rattle.async_ends.specs.{declared.asks.Look.Look, Looks.look, Events.Added, Events.Loaded, Events.Took, Events.Missed, Events.Event}
+use Rattle.{std.specs.Prelude.[], std.specs.Prelude.◌∷◌, std.specs.Prelude.List, spk_nums.specs.declared.replies.Value.TheVariants.Cap}
+use Rattle.{spk_nums.specs.declared.replies.Reply.Reply, async_ends.specs.Events.event, async_ends.specs.Events.IsLegal}
 
 -- Capability 20 is a gate to component 3, and capability 3 that component.
 abbrev pub gate_look : Look
-gate_look = look 20 (reply.Ok (Cap (cap_of Gate 3 0)))
+gate_look = look 20 (Reply.Ok (Cap (cap_of Gate 3 0)))
 
 abbrev pub comp_look : Look
-comp_look = look 3 (reply.Ok (Cap (cap_of Comp 3 0)))
+comp_look = look 3 (Reply.Ok (Cap (cap_of Comp 3 0)))
 
 -- Core 1 sends one to component 3.
 abbrev pub sends : List Event → List Event

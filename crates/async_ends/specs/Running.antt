@@ -1,24 +1,19 @@
 -- The program of an endpoint call.
 use Rattle.std.specs.Prelude.{ℕ, ◌+◌, ◌-◌, ◌^◌, ◌<◌, ◌==◌, ◌≡◌, if◌then◌else◌, Option, Some, None, Ok}
-use Rattle.spk_nums.specs.declared.steps.WordOp.{WordOp}
 use Rattle.spk_nums.specs.declared.steps.WordOp.TheVariants.{Load, Compare, Add}
-use Rattle.turn_rule.specs.Steps.{Steps}
-use Rattle.async_ends.specs.declared.endpoint.EndOp.{EndOp}
-use Rattle.async_ends.specs.declared.endpoint.EndOp.TheVariants.{Send, Recv}
-use Rattle.async_ends.specs.declared.endpoint.EndCall.{EndCall}
-use Rattle.async_ends.specs.declared.endpoint.EndAct.{EndAct}
-use Rattle.async_ends.specs.declared.endpoint.EndAct.TheVariants.{Sent, Taken, Raced}
-use Rattle.async_ends.specs.declared.endpoint.EndReply.{EndReply}
-use Rattle.async_ends.specs.declared.endpoint.EndReply.TheVariants as answer
-use Rattle.async_ends.specs.declared.run.EndStage.{EndStage}
-use Rattle.async_ends.specs.declared.run.EndStage.TheVariants.{Idle, Adds, Loads, Takes}
-use Rattle.async_ends.specs.Looks.{reached}
+use Rattle.async_ends.specs.{declared.endpoint.EndOp.EndOp, declared.endpoint.EndOp.TheVariants.Send}
+use Rattle.async_ends.specs.{declared.endpoint.EndOp.TheVariants.Recv, declared.endpoint.EndCall.EndCall, declared.endpoint.EndAct.EndAct}
+use Rattle.async_ends.specs.{declared.endpoint.EndAct.TheVariants.Sent, declared.endpoint.EndAct.TheVariants.Taken}
+use Rattle.async_ends.specs.{declared.endpoint.EndAct.TheVariants.Raced, declared.endpoint.EndReply.EndReply}
+use Rattle.async_ends.specs.{declared.run.EndStage.EndStage, declared.run.EndStage.TheVariants.Idle, declared.run.EndStage.TheVariants.Adds}
+use Rattle.async_ends.specs.{declared.run.EndStage.TheVariants.Loads, declared.run.EndStage.TheVariants.Takes, Looks.reached}
+use Rattle.{spk_nums.specs.declared.steps.WordOp.WordOp, turn_rule.specs.Steps.Steps}
 
 -- What a call is answered that has done so.
 abbrev pub reply_of : EndAct → EndReply
-reply_of Sent = answer.Sent
-reply_of (Taken k) = answer.Taken k
-reply_of Raced = answer.Raced
+reply_of Sent = EndReply.Sent
+reply_of (Taken k) = EndReply.Taken k
+reply_of Raced = EndReply.Raced
 
 -- A core as contracts see it: where its call stands, the number of frames, how many calls it has begun, and what the last one did.
 pub record EndCore : Type 0 where

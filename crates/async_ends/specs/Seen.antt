@@ -1,11 +1,9 @@
 -- What the entries of the table are as a history: each is one event, which the entry alone tells.
 use Rattle.std.specs.Prelude.{ℕ, ◌==◌, List, [], ◌∷◌, if◌then◌else◌, Option, Some, None}
 use Rattle.turn_rule.specs.declared.view.Entry.{Entry}
-use Rattle.async_ends.specs.declared.asks.Look.{Look}
-use Rattle.async_ends.specs.declared.endpoint.EndOp.{EndOp}
-use Rattle.async_ends.specs.declared.endpoint.EndOp.TheVariants.{Send, Recv}
-use Rattle.async_ends.specs.declared.endpoint.EndCall.{EndCall}
-use Rattle.async_ends.specs.Events.{EndStep, Added, Loaded, Took, Missed, Event, event}
+use Rattle.async_ends.specs.{declared.asks.Look.Look, declared.endpoint.EndOp.EndOp, declared.endpoint.EndOp.TheVariants.Send}
+use Rattle.async_ends.specs.{declared.endpoint.EndOp.TheVariants.Recv, declared.endpoint.EndCall.EndCall, Events.EndStep, Events.Added}
+use Rattle.async_ends.specs.{Events.Loaded, Events.Took, Events.Missed, Events.Event, Events.event}
 
 -- The step with which a call begins: a send's add, or a receive's load.
 abbrev pub first_step : EndOp → Look → ℕ → EndStep

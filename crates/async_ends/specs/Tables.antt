@@ -1,14 +1,11 @@
 -- A table of endpoints and its seats as contracts see them.
 use Rattle.std.specs.Prelude.{◌≡◌, ℕ, ◌+◌, ◌<◌, ◌≤◌, List, [], length, slice_get, slice_index, Some, None}
-use Rattle.std.specs.List.{AllZip}
-use Rattle.turn_rule.specs.declared.view.Entry.{Entry}
-use Rattle.turn_rule.specs.declared.view.Start.{Start}
-use Rattle.turn_rule.specs.Seats.{TableValue, SeatValue, FollowsTrace}
-use Rattle.async_ends.specs.declared.endpoint.EndCall.{EndCall}
-use Rattle.async_ends.specs.declared.run.EndStage.TheVariants.{Idle}
-use Rattle.async_ends.specs.Events.{Event, ExtendsByOthers, IsLegal, AreCrossed, AreOfOthers, receiving, untaken, sent_to, taken_at}
-use Rattle.async_ends.specs.Running.{EndCore, unused, end_steps, most_calls}
-use Rattle.async_ends.specs.Seen.{history_of}
+use Rattle.turn_rule.specs.{TableValue, SeatValue, FollowsTrace}
+use Rattle.async_ends.specs.{declared.endpoint.EndCall.EndCall, declared.run.EndStage.TheVariants.Idle, Events.Event}
+use Rattle.async_ends.specs.{Events.ExtendsByOthers, Events.IsLegal, Events.AreCrossed, Events.AreOfOthers, Events.receiving}
+use Rattle.async_ends.specs.{Events.untaken, Events.sent_to, Events.taken_at, Running.EndCore, Running.unused, Running.end_steps}
+use Rattle.{std.specs.List.AllZip, turn_rule.specs.declared.view.Entry.Entry, turn_rule.specs.declared.view.Start.Start}
+use Rattle.{async_ends.specs.Running.most_calls, async_ends.specs.Seen.history_of}
 
 -- Which table it is, and its numbers of frames and cores.
 pub record EndTableValue : Type 0 where

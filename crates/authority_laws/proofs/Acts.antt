@@ -1,47 +1,21 @@
 -- Every call that is carried out is a list of edits, each with the capabilities by which it is made.
-use Rattle.std.proofs.Common.{◌≡◌, ◌≢◌, ◌⊎◌, inl, inr, ℕ, ◌≤◌, ◌+◌, ◌/◌, ◌%◌, Bool, true, false, not, refl, sym, ◌∙◌, ap, subst}
-use Rattle.std.proofs.Common.{◌==◌, nat_lt, nat_le, if◌then◌else◌, length, IsTrue, List, [], ◌∷◌, Option, Some, None, min}
-use Rattle.std.proofs.lemmas.Bool.{false≢true, eqb-true, eqb-false, ltb-false}
-use Rattle.state_laws.specs.spk_nums.specs.Capability.{Capability, cap_of}
-use Rattle.state_laws.specs.spk_nums.specs.Rights.{both, kept, has_rights, part_of}
-use Rattle.state_laws.specs.spk_nums.specs.declared.kinds.Kind.{Kind}
-use Rattle.state_laws.specs.spk_nums.specs.declared.kinds.Kind.TheVariants as kind
-use Rattle.state_laws.specs.spk_nums.specs.declared.kinds.FrameKind.{FrameKind}
-use Rattle.state_laws.specs.spk_nums.specs.declared.kinds.FrameKind.TheVariants as frame_kind
-use Rattle.state_laws.specs.spk_nums.specs.declared.calls.Make.{Make}
-use Rattle.state_laws.specs.spk_nums.specs.declared.calls.Make.TheVariants as make
-use Rattle.state_laws.specs.spk_nums.specs.declared.calls.Call.{Call}
-use Rattle.state_laws.specs.spk_nums.specs.declared.calls.Call.TheVariants as call
-use Rattle.state_laws.specs.spk_nums.specs.declared.translations.Translation.{Translation}
-use Rattle.state_laws.specs.spk_nums.specs.declared.replies.Reply.TheVariants as reply
-use Rattle.state_laws.specs.kernel_rules.specs.State.{Holds, CompFields, Object, Blank, Table, Leaf, Pages, Pleaf, Thread, Tcap}
-use Rattle.state_laws.specs.kernel_rules.specs.State.{outstanding}
-use Rattle.state_laws.specs.kernel_rules.specs.State.{Frame, User, Kernel, FrameOf, State, tcap_in, comp_in, comp_of, thread_in, thread_of}
-use Rattle.state_laws.specs.kernel_rules.specs.Start.{plain_cap}
-use Rattle.state_laws.specs.kernel_rules.specs.Access.{Want, to_use, to_copy, any, only, root, found, Slot, Target, Under, InRoot}
-use Rattle.state_laws.specs.kernel_rules.specs.Access.{linked, slot_in, usable, reached, own, place_at, root_slot, to_part}
-use Rattle.state_laws.specs.kernel_rules.specs.Fitting.{fits}
-use Rattle.state_laws.specs.kernel_rules.specs.References.{refs}
-use Rattle.state_laws.specs.kernel_rules.specs.Rules.{waits_of, flushes_of, WaitedFor, Unflushed, Cause, When, Found, name_of}
-use Rattle.state_laws.specs.kernel_rules.specs.Rules.{named, vacant, held, first_cause, refusal_of}
-use Rattle.state_laws.specs.kernel_rules.specs.CapabilityCalls.{has_frame, outside, not_blank, make_node, make_rule, not_taken, is_live}
-use Rattle.state_laws.specs.kernel_rules.specs.CapabilityCalls.{epoch_of, leaf_of, leaf_for, has_frames}
-use Rattle.state_laws.specs.kernel_rules.specs.MemoryCalls.{not_user, not_untyped, not_retyped, retype_rule, touch_by, translation_of}
-use Rattle.state_laws.specs.kernel_rules.specs.MemoryCalls.{is_empty, is_untyped_now}
-use Rattle.state_laws.specs.kernel_rules.specs.Life.{is_live_in}
-use Rattle.state_laws.specs.kernel_rules.specs.InvocationCalls.{not_live, switch_to}
-use Rattle.state_laws.specs.kernel_rules.specs.TimeCalls.{merged_list, are_same, is_short, are_unlike, are_many, is_finer, is_less}
-use Rattle.state_laws.specs.kernel_rules.specs.Edits.{tcap_at, Edit, Fill, Remove, Node, Become, Untype, Component, Deaden, Push, Pop}
-use Rattle.state_laws.specs.kernel_rules.specs.CallRelation.{rule_of}
-use Rattle.state_laws.specs.kernel_rules.specs.Edits.{Switch, Cache, Flush, Charge, Move, Merge, Give, begins_in}
-use Rattle.state_laws.specs.kernel_invariant.proofs.Sound.{only_is}
-use Rattle.state_laws.specs.kernel_invariant.proofs.SoundCalls.{IsOpen, blank_by, untyped_by, within_by}
-use Rattle.state_laws.specs.kernel_invariant.proofs.Facts.{EditsFrom, Suits, suits, none_some, some_inj, some_none, vacant_facts}
-use Rattle.state_laws.specs.kernel_invariant.proofs.Facts.{held_facts, none_parts, when_not, not_not, first_two}
-use Rattle.state_laws.specs.kernel_invariant.proofs.Edited.{is_bare, Calm}
-use Rattle.state_laws.specs.found_stays.proofs.Stays.{name_parts}
-use Rattle.call_names.specs.Names.{IsName}
-use Rattle.authority_laws.specs.Authority.{IsUnder, LivesBy, MayUse}
+use Rattle.state_laws.specs.kernel_rules.proofs as low
+use low.{◌≡◌, ◌≢◌, ◌⊎◌, inl, inr, ℕ, ◌≤◌, ◌+◌, ◌/◌, ◌%◌, Bool, true, false, not, refl, sym, ◌∙◌, ap, subst, ◌==◌, ltb as nat_lt}
+use low.{leb as nat_le, if◌then◌else◌, length, IsTrue, List, [], ◌∷◌, Option, Some, None, min, false≢true, eqb-true, eqb-false, ltb-false}
+use low.{Capability, cap_of, both, kept, has_rights, part_of, Kind, FrameKind, Make, Call, Translation, Holds, CompFields, Object, Blank}
+use low.{Table, Leaf, Pages, Pleaf, Thread, Tcap, outstanding, Frame, User, Kernel, FrameOf, tcap_in, comp_in, comp_of, thread_in}
+use low.{thread_of, plain_cap, Want, to_use, to_copy, any, only, root, found, Slot, Target, Under, InRoot, linked, slot_in, usable, reached}
+use low.{own, place_at, root_slot, to_part, fits, refs, waits_of, flushes_of, WaitedFor, Unflushed, Cause, When, Found, name_of, named}
+use low.{vacant, held, first_cause, refusal_of, has_frame, outside, not_blank, make_node, make_rule, not_taken, is_live, epoch_of, leaf_of}
+use low.{leaf_for, has_frames, not_user, not_retyped, retype_rule, touch_by, translation_of, is_empty, is_untyped_now, is_live_in, not_live}
+use low.{switch_to, merged_list, are_same, is_short, are_unlike, are_many, is_finer, is_less, tcap_at, Edit, Fill, Node, Become, Untype}
+use low.{Component, Deaden, Push, Pop, rule_of, Cache, Charge, Move, Merge, Give, Reply}
+use Rattle.state_laws.specs.kernel_invariant.proofs.{only_is, IsOpen, blank_by, untyped_by, within_by, Suits, suits, none_some, some_inj}
+use Rattle.state_laws.specs.kernel_invariant.proofs.{some_none, vacant_facts, held_facts, none_parts, when_not, not_not, is_bare, Calm}
+use Rattle.state_laws.specs.kernel_rules.specs.{MemoryCalls.not_untyped, Edits.Remove, Edits.Switch, Edits.Flush, Edits.begins_in}
+use Rattle.{authority_laws.specs.IsUnder, authority_laws.specs.MayUse, state_laws.specs.kernel_laws.proofs.State}
+use Rattle.{state_laws.specs.kernel_laws.proofs.name_parts, state_laws.specs.kernel_invariant.proofs.Facts.EditsFrom}
+use Rattle.{state_laws.specs.kernel_invariant.proofs.Facts.first_two, call_names.specs.Names.IsName, authority_laws.specs.Authority.LivesBy}
 
 -- A number leads core c to a capability of one of these kinds, on this frame, which may be used.
 pub record LedTo (act : Call) (s : State) (c : ℕ) (kinds : Kind → Bool) (f : ℕ) : Type 0 where
@@ -54,14 +28,14 @@ pub record LedTo (act : Call) (s : State) (c : ℕ) (kinds : Kind → Bool) (f :
 pub record InRange (act : Call) (s : State) (c f : ℕ) : Type 0 where
   pub range : Capability
   pub may : MayUse act s c range
-  pub kind : range.kind ≡ kind.Range
+  pub kind : range.kind ≡ Kind.Range
   pub has : has_frame (found range) f ≡ true
 
 -- A node is one of a table, or of pages, that core c may use.
 pub record InNode (act : Call) (s : State) (c f : ℕ) : Type 0 where
   pub root : Capability
   pub may : MayUse act s c root
-  pub kind : (root.kind ≡ kind.Table) ⊎ (root.kind ≡ kind.Pages)
+  pub kind : (root.kind ≡ Kind.Table) ⊎ (root.kind ≡ Kind.Pages)
   pub under : IsUnder s c root.frame f
 
 -- A copy of a capability that core c may use.
@@ -81,7 +55,7 @@ pub record IsParted (s : State) (c : ℕ) (k : Capability) : Type 0 where
   pub reaches : reached s c (own s c number) ≡ Some at
   pub source : Capability
   pub from : usable s c at ≡ Some source
-  pub kind : source.kind ≡ kind.Range
+  pub kind : source.kind ≡ Kind.Range
   pub frame : ℕ
   pub count : ℕ
   pub has : has_frames (found source) frame count ≡ true
@@ -93,25 +67,25 @@ IsTaken s c k = IsCopied s c k ⊎ IsParted s c k
 
 -- Whether a kind is that of a leaf, or of a component.
 abbrev pub is_given : Kind → Bool
-is_given kind.Leaf = true
-is_given kind.Pleaf = true
-is_given kind.Comp = true
+is_given Kind.Leaf = true
+is_given Kind.Pleaf = true
+is_given Kind.Comp = true
 is_given _ = false
 
 -- What else is put has both rights, is no range, and is on a frame of a range that core c may use, or on that of a leaf or component.
 pub record IsGiven (act : Call) (s : State) (c : ℕ) (k : Capability) : Type 0 where
   pub rights : k.rights ≡ both
-  pub kind : only kind.Range k.kind ≡ false
+  pub kind : only Kind.Range k.kind ≡ false
   pub frame : InRange act s c k.frame ⊎ LedTo act s c is_given k.frame
 
 -- A call enters a component by a gate.
 pub record Enters (act : Call) (s : State) (c f : ℕ) : Type 0 where
   pub number : ℕ
-  pub is : act ≡ call.Call number
+  pub is : act ≡ Call.Call number
   pub gate : Capability
-  pub names : named s c number (to_use (only kind.Gate)) ≡ Found gate
+  pub names : named s c number (to_use (only Kind.Gate)) ≡ Found gate
   pub may : MayUse act s c gate
-  pub kind : gate.kind ≡ kind.Gate
+  pub kind : gate.kind ≡ Kind.Gate
   pub frame : gate.frame ≡ f
   pub lives : is_live_in (s.number (comp_in (s.frame f)).number) gate.arg ≡ true
 
@@ -119,19 +93,19 @@ pub record Enters (act : Call) (s : State) (c f : ℕ) : Type 0 where
 pub record GoesOn (act : Call) (s : State) (c h q : ℕ) : Type 0 where
   pub first : ℕ
   pub second : ℕ
-  pub is : act ≡ call.Switch first second
+  pub is : act ≡ Call.Switch first second
   pub thread : Capability
-  pub names : named s c first (to_use (only kind.Thread)) ≡ Found thread
+  pub names : named s c first (to_use (only Kind.Thread)) ≡ Found thread
   pub frame : thread.frame ≡ h
-  pub led : LedTo act s c (only kind.Thread) h
-  pub tcap : LedTo act s c (only kind.Tcap) q
+  pub led : LedTo act s c (only Kind.Thread) h
+  pub tcap : LedTo act s c (only Kind.Tcap) q
   pub idle : (thread_in (s.frame h)).runs_on ≡ None
 
 -- A component is made of a table and of pages that core c may use, with a number that is not live.
 pub record Makes (act : Call) (s : State) (c : ℕ) (k : CompFields) : Type 0 where
   pub dead : is_live (s.number k.number) ≡ false
-  pub table : LedTo act s c (only kind.Table) k.table
-  pub pages : LedTo act s c (only kind.Pages) k.pages
+  pub table : LedTo act s c (only Kind.Table) k.table
+  pub pages : LedTo act s c (only Kind.Pages) k.pages
 
 -- A temporal capability has as many ticks to move to another one.
 pub record Affords (s : State) (a b m : ℕ) : Type 0 where
@@ -140,7 +114,7 @@ pub record Affords (s : State) (a b m : ℕ) : Type 0 where
 
 -- What is no component, and has no budget.
 pub record IsFresh (x : Frame) : Type 0 where
-  pub no_comp : fits kind.Comp x ≡ false
+  pub no_comp : fits Kind.Comp x ≡ false
   pub poor : (tcap_in x).budget ≡ 0
 
 -- By what core c makes an edit for a call, in the state in which the call is decided.
@@ -151,16 +125,16 @@ By act s c (Node f object) = InRange act s c f × IsTrue (is_bare (s.frame f)) �
 By act s c (Become f x) = InRange act s c f × IsTrue (is_bare (s.frame f)) × IsFresh x
 By act s c (Untype f) = InRange act s c f × ((tcap_in (s.frame f)).budget ≡ 0)
 By act s c (Component f k) = InRange act s c f × IsTrue (is_bare (s.frame f)) × Makes act s c k
-By act s c (Deaden l e) = (k : Capability) × MayUse act s c k × (k.kind ≡ kind.Comp) × LivesBy s k.frame l
+By act s c (Deaden l e) = (k : Capability) × MayUse act s c k × (k.kind ≡ Kind.Comp) × LivesBy s k.frame l
 By act s c (Push f) = Enters act s c f
-By act s c Pop = act ≡ call.Ret
+By act s c Pop = act ≡ Call.Ret
 By act s c (Switch h q) = GoesOn act s c h q
 By act s c (Cache t) = Unit {0}
 By act s c Flush = Unit {0}
-By act s c (Charge n) = act ≡ call.Tick n
-By act s c (Move a b m) = LedTo act s c (only kind.Tcap) a × LedTo act s c (only kind.Tcap) b × Affords s a b m
-By act s c (Merge f qs) = LedTo act s c (only kind.Tcap) f
-By act s c (Give f m) = LedTo act s c (only kind.Tcap) f × (m ≤ outstanding (s.core c))
+By act s c (Charge n) = act ≡ Call.Tick n
+By act s c (Move a b m) = LedTo act s c (only Kind.Tcap) a × LedTo act s c (only Kind.Tcap) b × Affords s a b m
+By act s c (Merge f qs) = LedTo act s c (only Kind.Tcap) f
+By act s c (Give f m) = LedTo act s c (only Kind.Tcap) f × (m ≤ outstanding (s.core c))
 
 abbrev pub EachBy : Call → State → ℕ → List Edit → Type 0
 EachBy call s c [] = Unit {0}
@@ -226,16 +200,16 @@ module _ (s : State) (c : ℕ) where
       by_entry true q = ap (λ (x : Slot). x.node) (sym (some_inj record { node = table.frame; index = i } at q))
       by_entry false q = absurd (none_some at q)
 
-root_kind : (k : Kind) → IsTrue (root k) → (k ≡ kind.Table) ⊎ (k ≡ kind.Pages)
-root_kind kind.Table h = inl refl
-root_kind kind.Pages h = inr refl
+root_kind : (k : Kind) → IsTrue (root k) → (k ≡ Kind.Table) ⊎ (k ≡ Kind.Pages)
+root_kind Kind.Table h = inl refl
+root_kind Kind.Pages h = inr refl
 root_kind _ h = absurd (false≢true h)
 
 leaf_kind : (j k : Kind) → IsTrue (only (leaf_of j) k) → IsTrue (is_given k)
 leaf_kind j k h = by_kind (leaf_of j) (leaf_is j) (only_is (leaf_of j) k h)
   where
     leaf_is : (j : Kind) → IsTrue (is_given (leaf_of j))
-    leaf_is kind.Table = refl
+    leaf_is Kind.Table = refl
     leaf_is _ = refl
 
     by_kind : (i : Kind) → IsTrue (is_given i) → k ≡ i → IsTrue (is_given k)
@@ -255,29 +229,29 @@ module _ (call : Call) (s : State) (c : ℕ) where
   led_by n kinds k is e = let p = may_by n kinds k is e in record { cap = k; may = p.0; kind = p.1; frame = refl }
 
   -- the frame of a call is in its range
-  range_by : (n f : ℕ) (range : Capability) (causes : List Cause) → Uses n (only kind.Range)
-      → named s c n (to_use (only kind.Range)) ≡ Found range
+  range_by : (n f : ℕ) (range : Capability) (causes : List Cause) → Uses n (only Kind.Range)
+      → named s c n (to_use (only Kind.Range)) ≡ Found range
       → first_cause s c (outside (found range) f ∷ causes) ≡ None → InRange call s c f
   range_by n f range causes is e calm =
-      let p = may_by n (only kind.Range) range is e in
+      let p = may_by n (only Kind.Range) range is e in
       record {
         range = range;
         may = p.0;
-        kind = only_is kind.Range range.kind p.1;
-        has = not_not (has_frame (found range) f) (when_not (not (has_frame (found range) f)) reply.OutOfRange (none_parts _ _ calm).0);
+        kind = only_is Kind.Range range.kind p.1;
+        has = not_not (has_frame (found range) f) (when_not (not (has_frame (found range) f)) Reply.OutOfRange (none_parts _ _ calm).0);
       }
 
-  table_node : (t : ℕ) (table : Capability) (f : ℕ) → Uses t (only kind.Table) → named s c t (to_use (only kind.Table)) ≡ Found table
+  table_node : (t : ℕ) (table : Capability) (f : ℕ) → Uses t (only Kind.Table) → named s c t (to_use (only Kind.Table)) ≡ Found table
       → IsUnder s c table.frame f → InNode call s c f
   table_node t table f is e under =
-      let p = may_by t (only kind.Table) table is e in
-      record { root = table; may = p.0; kind = inl (only_is kind.Table table.kind p.1); under = under }
+      let p = may_by t (only Kind.Table) table is e in
+      record { root = table; may = p.0; kind = inl (only_is Kind.Table table.kind p.1); under = under }
 
-  pages_node : (t : ℕ) (pages : Capability) (f : ℕ) → Uses t (only kind.Pages) → named s c t (to_use (only kind.Pages)) ≡ Found pages
+  pages_node : (t : ℕ) (pages : Capability) (f : ℕ) → Uses t (only Kind.Pages) → named s c t (to_use (only Kind.Pages)) ≡ Found pages
       → IsUnder s c pages.frame f → InNode call s c f
   pages_node t pages f is e under =
-      let p = may_by t (only kind.Pages) pages is e in
-      record { root = pages; may = p.0; kind = inr (only_is kind.Pages pages.kind p.1); under = under }
+      let p = may_by t (only Kind.Pages) pages is e in
+      record { root = pages; may = p.0; kind = inr (only_is Kind.Pages pages.kind p.1); under = under }
 
   root_node : (t : ℕ) (table : Capability) (f : ℕ) → Uses t root → named s c t (to_use root) ≡ Found table → f ≡ table.frame
       → InNode call s c f
@@ -286,13 +260,13 @@ module _ (call : Call) (s : State) (c : ℕ) where
       record { root = table; may = p.0; kind = root_kind table.kind p.1; under = inl same }
 
   -- the place of a named table
-  place_by : (t b : ℕ) (table : Capability) (at : Slot) → Uses t (only kind.Table) → named s c t (to_use (only kind.Table)) ≡ Found table
+  place_by : (t b : ℕ) (table : Capability) (at : Slot) → Uses t (only Kind.Table) → named s c t (to_use (only Kind.Table)) ≡ Found table
       → vacant s c (Under (found table) b) ≡ Found at → InNode call s c at.node
   place_by t b table at is e g =
       table_node t table at.node is e (under_leaf s c table b at (vacant_facts s c (Under (found table) b) at g).0)
 
   -- the capability of what is made
-  made_cap : (k : Kind) (f : ℕ) → only kind.Range k ≡ false → InRange call s c f
+  made_cap : (k : Kind) (f : ℕ) → only Kind.Range k ≡ false → InRange call s c f
       → IsTaken s c (plain_cap k f) ⊎ IsGiven call s c (plain_cap k f)
   made_cap k f other range = inr (record { rights = refl; kind = other; frame = inl range })
 
@@ -322,16 +296,16 @@ empty_budget s f (Kernel (Tcap q)) e = eqb-true q.budget 0 e
 empty_budget s f _ e = refl
 
 module _ (s : State) (c : ℕ) (o : ℕ → Bool) (h : IsOpen s o c) where
-  bare_blank : (r f : ℕ) (range : Capability) (causes : List Cause) → named s c r (to_use (only kind.Range)) ≡ Found range
+  bare_blank : (r f : ℕ) (range : Capability) (causes : List Cause) → named s c r (to_use (only Kind.Range)) ≡ Found range
       → first_cause s c (outside (found range) f ∷ not_blank s f ∷ causes) ≡ None → IsTrue (is_bare (s.frame f))
   bare_blank r f range causes e calm = subst (λ x. IsTrue (is_bare x)) (sym (blank_by s o c r f range causes h e calm).1) refl
 
-  bare_untyped : (r f : ℕ) (range : Capability) → named s c r (to_use (only kind.Range)) ≡ Found range
+  bare_untyped : (r f : ℕ) (range : Capability) → named s c r (to_use (only Kind.Range)) ≡ Found range
       → first_cause s c (outside (found range) f ∷ not_untyped s f ∷ []) ≡ None → IsTrue (is_bare (s.frame f))
   bare_untyped r f range e calm = subst (λ x. IsTrue (is_bare x)) (sym (untyped_by s o c r f range h e calm).1) refl
 
-  node_acts : (call : Call) (object : Object) (k : Kind) (r f t b : ℕ) → Uses call s c r (only kind.Range)
-      → Uses call s c t (only kind.Table) → IsFresh (Kernel object) → only kind.Range k ≡ false
+  node_acts : (call : Call) (object : Object) (k : Kind) (r f t b : ℕ) → Uses call s c r (only Kind.Range)
+      → Uses call s c t (only Kind.Table) → IsFresh (Kernel object) → only Kind.Range k ≡ false
       → ((at : Slot) → Calm c s (Node f object ∷ Fill at (plain_cap k f) ∷ []))
       → EditsFrom (λ x es. Acts call c s es) s c (make_node s object k r f t b)
   node_acts call object k r f t b by_range by_table none other calm_at = λ range e table g at v calm.
@@ -341,8 +315,8 @@ module _ (s : State) (c : ℕ) (o : ℕ → Bool) (h : IsOpen s o c) where
       (place_by call s c t b table at by_table g v, made_cap call s c k f other within)
 
   made_acts : (call : Call) (object : Object) (k : Kind) (r f t b : ℕ) (range table : Capability) (at : Slot)
-      → Uses call s c r (only kind.Range) → Uses call s c t (only kind.Table) → IsFresh (Kernel object) → only kind.Range k ≡ false
-      → named s c r (to_use (only kind.Range)) ≡ Found range → named s c t (to_use (only kind.Table)) ≡ Found table
+      → Uses call s c r (only Kind.Range) → Uses call s c t (only Kind.Table) → IsFresh (Kernel object) → only Kind.Range k ≡ false
+      → named s c r (to_use (only Kind.Range)) ≡ Found range → named s c t (to_use (only Kind.Table)) ≡ Found table
       → vacant s c (Under (found table) b) ≡ Found at
       → first_cause s c (outside (found range) f ∷ not_blank s f ∷ []) ≡ None
       → Acts call c s (Become f (Kernel object) ∷ Fill at (plain_cap k f) ∷ [])
@@ -359,61 +333,61 @@ module _ (s : State) (c : ℕ) (o : ℕ → Bool) (h : IsOpen s o c) where
   second : {m n : ℕ} {other want : Want} {A : Type 0} → ((n ≡ m) × (want ≡ other)) ⊎ (((n ≡ n) × (want ≡ want)) ⊎ A)
   second = inr (inl (refl, refl))
 
-  make_acts : (what : Make) (r f t b : ℕ) → EditsFrom (λ x es. Acts (call.Make what r f t b) c s es) s c (make_rule s what r f t b)
-  make_acts make.Table r f t b = node_acts (call.Make make.Table r f t b) Table kind.Table r f t b first second
+  make_acts : (what : Make) (r f t b : ℕ) → EditsFrom (λ x es. Acts (Call.Make what r f t b) c s es) s c (make_rule s what r f t b)
+  make_acts Make.Table r f t b = node_acts (Call.Make Make.Table r f t b) Table Kind.Table r f t b first second
       (record { no_comp = refl; poor = refl }) refl
       (λ at. (refl, λ x. refl, tt))
-  make_acts make.Leaf r f t b = node_acts (call.Make make.Leaf r f t b) Leaf kind.Leaf r f t b first second
+  make_acts Make.Leaf r f t b = node_acts (Call.Make Make.Leaf r f t b) Leaf Kind.Leaf r f t b first second
       (record { no_comp = refl; poor = refl }) refl
       (λ at. (refl, λ x. refl, tt))
-  make_acts make.Pages r f t b = node_acts (call.Make make.Pages r f t b) Pages kind.Pages r f t b first second
+  make_acts Make.Pages r f t b = node_acts (Call.Make Make.Pages r f t b) Pages Kind.Pages r f t b first second
       (record { no_comp = refl; poor = refl }) refl
       (λ at. (refl, λ x. refl, tt))
-  make_acts make.Pleaf r f t b = node_acts (call.Make make.Pleaf r f t b) Pleaf kind.Pleaf r f t b first second
+  make_acts Make.Pleaf r f t b = node_acts (Call.Make Make.Pleaf r f t b) Pleaf Kind.Pleaf r f t b first second
       (record { no_comp = refl; poor = refl }) refl
       (λ at. (refl, λ x. refl, tt))
-  make_acts (make.Thread comp) r f t b = λ range e table g k j at v calm.
-      made_acts (call.Make (make.Thread comp) r f t b) (Thread (record { stack = k.frame ∷ []; runs_on = None })) kind.Thread r f t b
+  make_acts (Make.Thread comp) r f t b = λ range e table g k j at v calm.
+      made_acts (Call.Make (Make.Thread comp) r f t b) (Thread (record { stack = k.frame ∷ []; runs_on = None })) Kind.Thread r f t b
       range table at first second (record { no_comp = refl; poor = refl }) refl e g v calm
-  make_acts (make.Tcap sched quality) r f t b = λ range e table g at v calm.
-      made_acts (call.Make (make.Tcap sched quality) r f t b) (Tcap (record { budget = 0; qualities = (sched, quality) ∷ [] }))
-      kind.Tcap r f t b range table at first second (record { no_comp = refl; poor = refl }) refl e g v calm
-  make_acts (make.Comp x p l) r f t b = λ range e table g own_table a own_pages d at v calm.
-      let act : Call = call.Make (make.Comp x p l) r f t b in
+  make_acts (Make.Tcap sched quality) r f t b = λ range e table g at v calm.
+      made_acts (Call.Make (Make.Tcap sched quality) r f t b) (Tcap (record { budget = 0; qualities = (sched, quality) ∷ [] }))
+      Kind.Tcap r f t b range table at first second (record { no_comp = refl; poor = refl }) refl e g v calm
+  make_acts (Make.Comp x p l) r f t b = λ range e table g own_table a own_pages d at v calm.
+      let act : Call = Call.Make (Make.Comp x p l) r f t b in
       let within = range_by act s c r f range (not_blank s f ∷ not_taken s l) first e calm in
       let q1 = none_parts (refusal_of s c (outside (found range) f)) (first_cause s c (not_blank s f ∷ not_taken s l)) calm in
       let q2 = none_parts (refusal_of s c (not_blank s f)) (first_cause s c (not_taken s l)) q1.1 in
-      let q3 = none_parts (refusal_of s c (When (is_live (s.number l)) reply.Occupied)) _ q2.1 in
+      let q3 = none_parts (refusal_of s c (When (is_live (s.number l)) Reply.Occupied)) _ q2.1 in
       let fields : CompFields =
       record { table = own_table.frame; pages = own_pages.frame; number = l; epoch = epoch_of (s.number l) + 1 } in
-      two act s c (Component f fields) (Fill at (plain_cap kind.Comp f)) (refl, λ x. refl, tt) refl (
+      two act s c (Component f fields) (Fill at (plain_cap Kind.Comp f)) (refl, λ x. refl, tt) refl (
         within,
         bare_blank r f range (not_taken s l) e calm,
         record {
-          dead = when_not (is_live (s.number l)) reply.Occupied q3.0;
-          table = led_by act s c x (only kind.Table) own_table (inr (inr (inl (refl, refl)))) a;
-          pages = led_by act s c p (only kind.Pages) own_pages (inr (inr (inr (inl (refl, refl))))) d;
+          dead = when_not (is_live (s.number l)) Reply.Occupied q3.0;
+          table = led_by act s c x (only Kind.Table) own_table (inr (inr (inl (refl, refl)))) a;
+          pages = led_by act s c p (only Kind.Pages) own_pages (inr (inr (inr (inl (refl, refl))))) d;
         },
       )
-      (place_by act s c t b table at second g v, made_cap act s c kind.Comp f refl within)
+      (place_by act s c t b table at second g v, made_cap act s c Kind.Comp f refl within)
 
-  retype_acts : (r f : ℕ) (k : FrameKind) → EditsFrom (λ x es. Acts (call.Retype r f k) c s es) s c (retype_rule s r f k)
-  retype_acts r f frame_kind.User = λ range e calm.
-      one (call.Retype r f frame_kind.User) s c (Become f User) (
-        range_by (call.Retype r f frame_kind.User) s c r f range (not_untyped s f ∷ []) first e calm,
+  retype_acts : (r f : ℕ) (k : FrameKind) → EditsFrom (λ x es. Acts (Call.Retype r f k) c s es) s c (retype_rule s r f k)
+  retype_acts r f FrameKind.User = λ range e calm.
+      one (Call.Retype r f FrameKind.User) s c (Become f User) (
+        range_by (Call.Retype r f FrameKind.User) s c r f range (not_untyped s f ∷ []) first e calm,
         bare_untyped r f range e calm,
         record { no_comp = refl; poor = refl },
       )
-  retype_acts r f frame_kind.Kernel = λ range e calm.
-      one (call.Retype r f frame_kind.Kernel) s c (Become f (Kernel Blank)) (
-        range_by (call.Retype r f frame_kind.Kernel) s c r f range (not_untyped s f ∷ []) first e calm,
+  retype_acts r f FrameKind.Kernel = λ range e calm.
+      one (Call.Retype r f FrameKind.Kernel) s c (Become f (Kernel Blank)) (
+        range_by (Call.Retype r f FrameKind.Kernel) s c r f range (not_untyped s f ∷ []) first e calm,
         bare_untyped r f range e calm,
         record { no_comp = refl; poor = refl },
       )
-  retype_acts r f frame_kind.Untyped = λ range e calm.
-      let full : Cause = When (not (is_empty s f (s.frame f))) reply.NotEmpty in
-      let referenced : Cause = When (nat_lt 0 (refs s f)) (reply.Referenced (refs s f)) in
-      let p = none_parts (refusal_of s c (outside (found range) f)) (first_cause s c (not_retyped s f frame_kind.Untyped)) calm in
+  retype_acts r f FrameKind.Untyped = λ range e calm.
+      let full : Cause = When (not (is_empty s f (s.frame f))) Reply.NotEmpty in
+      let referenced : Cause = When (nat_lt 0 (refs s f)) (Reply.Referenced (refs s f)) in
+      let p = none_parts (refusal_of s c (outside (found range) f)) (first_cause s c (not_retyped s f FrameKind.Untyped)) calm in
       let p1 = none_parts (refusal_of s c (is_untyped_now s f))
       (first_cause s c (referenced ∷ WaitedFor (FrameOf f) ∷ Unflushed (FrameOf f) ∷ full ∷ [])) p.1 in
       let p2 = none_parts (refusal_of s c referenced) (first_cause s c (WaitedFor (FrameOf f) ∷ Unflushed (FrameOf f) ∷ full ∷ [])) p1.1 in
@@ -421,32 +395,32 @@ module _ (s : State) (c : ℕ) (o : ℕ → Bool) (h : IsOpen s o c) where
       let p4 = none_parts (flushes_of s (FrameOf f)) (first_cause s c (full ∷ [])) p3.1 in
       let p5 = none_parts (refusal_of s c full) None p4.1 in
       let empty : is_empty s f (s.frame f) ≡ true =
-      not_not (is_empty s f (s.frame f)) (when_not (not (is_empty s f (s.frame f))) reply.NotEmpty p5.0) in
-      one (call.Retype r f frame_kind.Untyped) s c (Untype f) (
-        range_by (call.Retype r f frame_kind.Untyped) s c r f range (not_retyped s f frame_kind.Untyped) first e calm,
+      not_not (is_empty s f (s.frame f)) (when_not (not (is_empty s f (s.frame f))) Reply.NotEmpty p5.0) in
+      one (Call.Retype r f FrameKind.Untyped) s c (Untype f) (
+        range_by (Call.Retype r f FrameKind.Untyped) s c r f range (not_retyped s f FrameKind.Untyped) first e calm,
         empty_budget s f (s.frame f) empty,
       )
 
-  touch_acts : (v : ℕ) (t : Option Translation) → EditsFrom (λ x es. Acts (call.Touch v) c s es) s c (touch_by (comp_of s c).pages v t)
+  touch_acts : (v : ℕ) (t : Option Translation) → EditsFrom (λ x es. Acts (Call.Touch v) c s es) s c (touch_by (comp_of s c).pages v t)
   touch_acts v None = λ mapping e calm.
       let t : Translation = record { pages = (comp_of s c).pages; page = v; frame = mapping.frame; flags = record { 0 = mapping.arg } } in
-      one (call.Touch v) s c (Cache t) tt
-  touch_acts v (Some t) = λ calm. nothing (call.Touch v) s c
+      one (Call.Touch v) s c (Cache t) tt
+  touch_acts v (Some t) = λ calm. nothing (Call.Touch v) s c
 
-  switch_acts : (a b : ℕ) (j k : Capability) → named s c a (to_use (only kind.Thread)) ≡ Found j
-      → named s c b (to_use (only kind.Tcap)) ≡ Found k → (e : Option ℕ) → (thread_in (s.frame j.frame)).runs_on ≡ e
-      → EditsFrom (λ x es. Acts (call.Switch a b) c s es) s c (switch_to (found j) k.frame e)
-  switch_acts a b j k g q (Some e) is = λ calm. absurd (some_none (reply.Running e) (none_parts (Some (reply.Running e)) None calm).0)
+  switch_acts : (a b : ℕ) (j k : Capability) → named s c a (to_use (only Kind.Thread)) ≡ Found j
+      → named s c b (to_use (only Kind.Tcap)) ≡ Found k → (e : Option ℕ) → (thread_in (s.frame j.frame)).runs_on ≡ e
+      → EditsFrom (λ x es. Acts (Call.Switch a b) c s es) s c (switch_to (found j) k.frame e)
+  switch_acts a b j k g q (Some e) is = λ calm. absurd (some_none (Reply.Running e) (none_parts (Some (Reply.Running e)) None calm).0)
   switch_acts a b j k g q None is = λ calm.
-      one (call.Switch a b) s c (Switch j.frame k.frame) (record {
+      one (Call.Switch a b) s c (Switch j.frame k.frame) (record {
         first = a;
         second = b;
         is = refl;
         thread = j;
         names = g;
         frame = refl;
-        led = led_by (call.Switch a b) s c a (only kind.Thread) j first g;
-        tcap = led_by (call.Switch a b) s c b (only kind.Tcap) k second q;
+        led = led_by (Call.Switch a b) s c a (only Kind.Thread) j first g;
+        tcap = led_by (Call.Switch a b) s c b (only Kind.Tcap) k second q;
         idle = is;
       })
 
@@ -456,123 +430,123 @@ module _ (s : State) (c : ℕ) (o : ℕ → Bool) (h : IsOpen s o c) where
       let p = first_two s c (are_same (found j) (found k)) (is_short s (found j) m) causes calm in
       let budget : ℕ = (tcap_at s j.frame).budget in
       record {
-        apart = eqb-false j.frame k.frame (when_not (j.frame == k.frame) reply.Same p.0);
-        enough = ltb-false budget m (when_not (nat_lt budget m) (reply.Short budget) p.1);
+        apart = eqb-false j.frame k.frame (when_not (j.frame == k.frame) Reply.Same p.0);
+        enough = ltb-false budget m (when_not (nat_lt budget m) (Reply.Short budget) p.1);
       }
 
   has_left : (a m : ℕ) (j : Capability) → first_cause s c (is_finer s c (found j) ∷ is_less s c m ∷ []) ≡ None → m ≤ outstanding (s.core c)
   has_left a m j calm =
       let p = first_two s c (is_finer s c (found j)) (is_less s c m) [] calm in
       let left : ℕ = outstanding (s.core c) in
-      ltb-false left m (when_not (nat_lt left m) (reply.Short (min left m)) p.1)
+      ltb-false left m (when_not (nat_lt left m) (Reply.Short (min left m)) p.1)
 
   pub rule_acts : (call : Call) → EditsFrom (λ x es. Acts call c s es) s c (rule_of s c call)
-  rule_acts (call.Look a) = λ k e calm. nothing (call.Look a) s c
-  rule_acts (call.Copy a t b rights) = λ k e table g at v calm.
+  rule_acts (Call.Look a) = λ k e calm. nothing (Call.Look a) s c
+  rule_acts (Call.Copy a t b rights) = λ k e table g at v calm.
       let x = named_at s c a (to_copy any) k e in
-      filled (call.Copy a t b rights) s c at (kept k rights.0) (place_by (call.Copy a t b rights) s c t b table at second g v)
+      filled (Call.Copy a t b rights) s c at (kept k rights.0) (place_by (Call.Copy a t b rights) s c t b table at second g v)
       (inl (inl (record { number = a; at = x.at; reaches = x.reaches; source = k; from = x.from; rights = rights.0; is = refl })))
-  rule_acts (call.Remove t b) = λ table e at k g calm.
-      removed (call.Remove t b) s c (Under (found table) b) at k
-      (table_node (call.Remove t b) s c t table at.node first e
+  rule_acts (Call.Remove t b) = λ table e at k g calm.
+      removed (Call.Remove t b) s c (Under (found table) b) at k
+      (table_node (Call.Remove t b) s c t table at.node first e
       (under_leaf s c table b at (held_facts s c (Under (found table) b) at k g).0)) g
-  rule_acts (call.Grow t i l) = λ table e leaf f at g calm.
-      filled (call.Grow t i l) s c at (plain_cap kind.Link leaf.frame)
-      (root_node (call.Grow t i l) s c t table at.node first e
+  rule_acts (Call.Grow t i l) = λ table e leaf f at g calm.
+      filled (Call.Grow t i l) s c at (plain_cap Kind.Link leaf.frame)
+      (root_node (Call.Grow t i l) s c t table at.node first e
       (entry_root s c table i at (vacant_facts s c (InRoot (found table) i) at g).0))
       (inr (record { rights = refl; kind = refl; frame = inr (leaf_led t i l table leaf e f) }))
     where
       leaf_led : (t i l : ℕ) (table leaf : Capability) → named s c t (to_use root) ≡ Found table
-          → named s c l (to_use (leaf_for (found table))) ≡ Found leaf → LedTo (call.Grow t i l) s c is_given leaf.frame
+          → named s c l (to_use (leaf_for (found table))) ≡ Found leaf → LedTo (Call.Grow t i l) s c is_given leaf.frame
       leaf_led t i l table leaf e f =
-          let p = may_by (call.Grow t i l) s c l (leaf_for (found table)) leaf
+          let p = may_by (Call.Grow t i l) s c l (leaf_for (found table)) leaf
           (inr (inl (refl, ap (λ j. to_use (leaf_for (name_of j))) (sym e)))) f in
           record { cap = leaf; may = p.0; kind = leaf_kind table.kind leaf.kind p.1; frame = refl }
-  rule_acts (call.Shrink t i) = λ table e at k g calm.
-      removed (call.Shrink t i) s c (InRoot (found table) i) at k
-      (root_node (call.Shrink t i) s c t table at.node first e
+  rule_acts (Call.Shrink t i) = λ table e at k g calm.
+      removed (Call.Shrink t i) s c (InRoot (found table) i) at k
+      (root_node (Call.Shrink t i) s c t table at.node first e
       (entry_root s c table i at (held_facts s c (InRoot (found table) i) at k g).0)) g
-  rule_acts (call.Retype r f k) = retype_acts r f k
-  rule_acts (call.Make what r f t b) = make_acts what r f t b
-  rule_acts (call.Map p v r f w) = λ pages e range g at u calm.
-      filled (call.Map p v r f w) s c at (cap_of kind.Page f w.0)
-      (pages_node (call.Map p v r f w) s c p pages at.node first e
+  rule_acts (Call.Retype r f k) = retype_acts r f k
+  rule_acts (Call.Make what r f t b) = make_acts what r f t b
+  rule_acts (Call.Map p v r f w) = λ pages e range g at u calm.
+      filled (Call.Map p v r f w) s c at (cap_of Kind.Page f w.0)
+      (pages_node (Call.Map p v r f w) s c p pages at.node first e
       (under_leaf s c pages v at (vacant_facts s c (Under (found pages) v) at u).0))
       (inr (record {
         rights = refl;
         kind = refl;
-        frame = inl (range_by (call.Map p v r f w) s c r f range (not_user s f ∷ []) second g calm);
+        frame = inl (range_by (Call.Map p v r f w) s c r f range (not_user s f ∷ []) second g calm);
       }))
-  rule_acts (call.Unmap p v) = λ pages e at k g calm.
-      removed (call.Unmap p v) s c (Under (found pages) v) at k
-      (pages_node (call.Unmap p v) s c p pages at.node first e
+  rule_acts (Call.Unmap p v) = λ pages e at k g calm.
+      removed (Call.Unmap p v) s c (Under (found pages) v) at k
+      (pages_node (Call.Unmap p v) s c p pages at.node first e
       (under_leaf s c pages v at (held_facts s c (Under (found pages) v) at k g).0)) g
-  rule_acts (call.Touch v) = touch_acts v (translation_of (s.core c).cached (comp_of s c).pages v)
-  rule_acts call.Flush = λ calm. one call.Flush s c Flush tt
-  rule_acts (call.Gate k t b) = λ comp e table g at v calm.
-      filled (call.Gate k t b) s c at (cap_of kind.Gate comp.frame (comp_in (s.frame comp.frame)).epoch)
-      (place_by (call.Gate k t b) s c t b table at second g v)
+  rule_acts (Call.Touch v) = touch_acts v (translation_of (s.core c).cached (comp_of s c).pages v)
+  rule_acts Call.Flush = λ calm. one Call.Flush s c Flush tt
+  rule_acts (Call.Gate k t b) = λ comp e table g at v calm.
+      filled (Call.Gate k t b) s c at (cap_of Kind.Gate comp.frame (comp_in (s.frame comp.frame)).epoch)
+      (place_by (Call.Gate k t b) s c t b table at second g v)
       (inr (record { rights = refl; kind = refl; frame = inr (comp_led k t b comp e) }))
     where
-      comp_led : (k t b : ℕ) (comp : Capability) → named s c k (to_use (only kind.Comp)) ≡ Found comp
-          → LedTo (call.Gate k t b) s c is_given comp.frame
+      comp_led : (k t b : ℕ) (comp : Capability) → named s c k (to_use (only Kind.Comp)) ≡ Found comp
+          → LedTo (Call.Gate k t b) s c is_given comp.frame
       comp_led k t b comp e =
-          let p = may_by (call.Gate k t b) s c k (only kind.Comp) comp first e in
-          let given = subst (λ j. IsTrue (is_given j)) (sym (only_is kind.Comp comp.kind p.1)) refl in
+          let p = may_by (Call.Gate k t b) s c k (only Kind.Comp) comp first e in
+          let given = subst (λ j. IsTrue (is_given j)) (sym (only_is Kind.Comp comp.kind p.1)) refl in
           record { cap = comp; may = p.0; kind = given; frame = refl }
-  rule_acts (call.Kill k) = λ comp e calm.
+  rule_acts (Call.Kill k) = λ comp e calm.
       let fields = comp_in (s.frame comp.frame) in
       let p = none_parts (refusal_of s c (not_live s (found comp) fields.number fields.epoch)) None calm in
-      let live : is_live_in (s.number fields.number) fields.epoch ≡ true = not_not _ (when_not _ reply.Dead p.0) in
-      let q = may_by (call.Kill k) s c k (only kind.Comp) comp first e in
-      one (call.Kill k) s c (Deaden fields.number fields.epoch) (comp, q.0, only_is kind.Comp comp.kind q.1, (refl, live))
-  rule_acts (call.Call g) = λ gate e calm.
-      let p = none_parts (refusal_of s c (When (nat_le 16 (length (thread_of s c).stack)) reply.Deep)) _ calm in
+      let live : is_live_in (s.number fields.number) fields.epoch ≡ true = not_not _ (when_not _ Reply.Dead p.0) in
+      let q = may_by (Call.Kill k) s c k (only Kind.Comp) comp first e in
+      one (Call.Kill k) s c (Deaden fields.number fields.epoch) (comp, q.0, only_is Kind.Comp comp.kind q.1, (refl, live))
+  rule_acts (Call.Call g) = λ gate e calm.
+      let p = none_parts (refusal_of s c (When (nat_le 16 (length (thread_of s c).stack)) Reply.Deep)) _ calm in
       let q = none_parts (refusal_of s c (not_live s (found gate) (comp_in (s.frame gate.frame)).number gate.arg)) None p.1 in
-      let m = may_by (call.Call g) s c g (only kind.Gate) gate first e in
-      one (call.Call g) s c (Push gate.frame) (record {
+      let m = may_by (Call.Call g) s c g (only Kind.Gate) gate first e in
+      one (Call.Call g) s c (Push gate.frame) (record {
         number = g;
         is = refl;
         gate = gate;
         names = e;
         may = m.0;
-        kind = only_is kind.Gate gate.kind m.1;
+        kind = only_is Kind.Gate gate.kind m.1;
         frame = refl;
-        lives = not_not _ (when_not _ reply.Dead q.0);
+        lives = not_not _ (when_not _ Reply.Dead q.0);
       })
-  rule_acts call.Ret = λ calm. one call.Ret s c Pop refl
-  rule_acts (call.Switch f q) = λ thread e tcap g.
+  rule_acts Call.Ret = λ calm. one Call.Ret s c Pop refl
+  rule_acts (Call.Switch f q) = λ thread e tcap g.
       switch_acts f q thread tcap e g (thread_in (s.frame thread.frame)).runs_on refl
-  rule_acts (call.Tick n) = λ calm. one (call.Tick n) s c (Charge n) refl
-  rule_acts (call.Transfer a b m) = λ j e k f calm.
-      one (call.Transfer a b m) s c (Move j.frame k.frame m) (
-        led_by (call.Transfer a b m) s c a (only kind.Tcap) j first e,
-        led_by (call.Transfer a b m) s c b (only kind.Tcap) k second f,
+  rule_acts (Call.Tick n) = λ calm. one (Call.Tick n) s c (Charge n) refl
+  rule_acts (Call.Transfer a b m) = λ j e k f calm.
+      one (Call.Transfer a b m) s c (Move j.frame k.frame m) (
+        led_by (Call.Transfer a b m) s c a (only Kind.Tcap) j first e,
+        led_by (Call.Transfer a b m) s c b (only Kind.Tcap) k second f,
         affords m j k (are_unlike s (found j) (found k) ∷ []) calm,
       )
-  rule_acts (call.Delegate a b m) = λ j e k f calm.
-      two (call.Delegate a b m) s c (Move j.frame k.frame m) (Merge k.frame (merged_list s j.frame k.frame))
+  rule_acts (Call.Delegate a b m) = λ j e k f calm.
+      two (Call.Delegate a b m) s c (Move j.frame k.frame m) (Merge k.frame (merged_list s j.frame k.frame))
       (refl, λ x. refl, tt) refl (
-        led_by (call.Delegate a b m) s c a (only kind.Tcap) j first e,
-        led_by (call.Delegate a b m) s c b (only kind.Tcap) k second f,
+        led_by (Call.Delegate a b m) s c a (only Kind.Tcap) j first e,
+        led_by (Call.Delegate a b m) s c b (only Kind.Tcap) k second f,
         affords m j k (are_many s (found j) (found k) ∷ []) calm,
-      ) (led_by (call.Delegate a b m) s c b (only kind.Tcap) k second f)
-  rule_acts (call.Test a b) = λ j e k f calm. nothing (call.Test a b) s c
-  rule_acts (call.Replenish a m) = λ j e calm.
-      one (call.Replenish a m) s c (Give j.frame m) (
-        led_by (call.Replenish a m) s c a (only kind.Tcap) j first e,
+      ) (led_by (Call.Delegate a b m) s c b (only Kind.Tcap) k second f)
+  rule_acts (Call.Test a b) = λ j e k f calm. nothing (Call.Test a b) s c
+  rule_acts (Call.Replenish a m) = λ j e calm.
+      one (Call.Replenish a m) s c (Give j.frame m) (
+        led_by (Call.Replenish a m) s c a (only Kind.Tcap) j first e,
         has_left a m j calm,
       )
-  rule_acts (call.Part r f n t b) = λ k e table g at v calm.
-      let x = named_at s c r (to_part (only kind.Range)) k e in
-      filled (call.Part r f n t b) s c at (part_of k f n) (place_by (call.Part r f n t b) s c t b table at second g v)
+  rule_acts (Call.Part r f n t b) = λ k e table g at v calm.
+      let x = named_at s c r (to_part (only Kind.Range)) k e in
+      filled (Call.Part r f n t b) s c at (part_of k f n) (place_by (Call.Part r f n t b) s c t b table at second g v)
       (inl (inr (record {
         number = r;
         at = x.at;
         reaches = x.reaches;
         source = k;
         from = x.from;
-        kind = only_is kind.Range k.kind x.kind;
+        kind = only_is Kind.Range k.kind x.kind;
         frame = f;
         count = n;
         has = within_by s c k f n calm;

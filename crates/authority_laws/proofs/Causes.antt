@@ -1,41 +1,19 @@
 -- Where a decision begins a grace period, a part of the state has changed so.
-use Rattle.std.proofs.Common.{◌≡◌, ◌≢◌, inl, inr, ℕ, ◌<◌, ◌≤◌, arith, Bool, true, false, ◌&&◌, ◌||◌, ◌==◌, cond}
-use Rattle.std.proofs.Common.{if◌then◌else◌, refl, sym, ◌∙◌, ap, subst, IsTrue, List, [], ◌∷◌, take, drop, Some}
-use Rattle.std.proofs.lemmas.Bool.{cases_eq, false≢true, eqb-true, eq-eqb, ne_eqb, and_parts}
-use Rattle.std.specs.List.{list_any}
-use Rattle.state_laws.specs.spk_nums.specs.declared.kinds.Kind.{Kind}
-use Rattle.state_laws.specs.spk_nums.specs.declared.kinds.Kind.TheVariants as kind
-use Rattle.state_laws.specs.spk_nums.specs.declared.calls.Call.{Call}
-use Rattle.state_laws.specs.spk_nums.specs.declared.replies.Value.{Value}
-use Rattle.state_laws.specs.spk_nums.specs.declared.replies.Reply.{Reply}
-use Rattle.state_laws.specs.spk_nums.specs.declared.replies.Reply.TheVariants as reply
-use Rattle.state_laws.specs.kernel_rules.specs.State.{Place, Holds, Quiescing, Thread, Frame, Untyped, Kernel, Liveness, Unused, Live, Dead}
-use Rattle.state_laws.specs.kernel_rules.specs.State.{ThreadFields}
-use Rattle.state_laws.specs.kernel_rules.specs.State.{Grace, Thing, PlaceOf, FrameOf, NumberOf, State, put, thread_in, thread_of}
-use Rattle.state_laws.specs.kernel_rules.specs.References.{place_names, frame_names, number_names, core_names, times}
-use Rattle.state_laws.specs.kernel_rules.specs.Access.{only, to_use}
-use Rattle.state_laws.specs.kernel_rules.specs.Fitting.{fits}
-use Rattle.state_laws.specs.kernel_rules.specs.GracePeriods.{same_thing, begun}
-use Rattle.state_laws.specs.kernel_rules.specs.Rules.{Change, does, Judged, Refused, Found}
-use Rattle.state_laws.specs.kernel_rules.specs.Edits.{frames_of, with_thread, Edit, Remove, Untype, Deaden, Pop, Switch, edited}
-use Rattle.state_laws.specs.kernel_rules.specs.CapabilityCalls.{is_live}
-use Rattle.state_laws.specs.kernel_rules.specs.Edits.{after_edits, begins_in, begins_all}
-use Rattle.state_laws.specs.kernel_rules.specs.Life.{is_live_in}
-use Rattle.state_laws.specs.kernel_rules.specs.CallRelation.{rule_of, change_of, changed, counted, state_by, begins, begins_in as begun_in}
-use Rattle.state_laws.specs.kernel_rules.specs.Runs.{after, is_open}
-use Rattle.state_laws.specs.kernel_rules.proofs.Changes.{IfFound}
-use Rattle.state_laws.specs.kernel_rules.proofs.Within.{put_same}
-use Rattle.state_laws.specs.kernel_invariant.proofs.Sums.{times_cons, times_first}
-use Rattle.state_laws.specs.kernel_invariant.proofs.Sound.{put_all, only_is}
-use Rattle.state_laws.specs.kernel_invariant.proofs.SoundRemovals.{frames_no_place}
-use Rattle.state_laws.specs.kernel_invariant.proofs.SoundCalls.{IsOpen}
-use Rattle.state_laws.specs.kernel_invariant.proofs.SoundRuns.{opened, open_is}
-use Rattle.state_laws.specs.kernel_invariant.proofs.Facts.{outcome_from, edits_map, usable_good, none_some}
-use Rattle.state_laws.specs.kernel_invariant.proofs.Edited.{Calm}
-use Rattle.state_laws.proofs.Threads.{threads_run}
-use Rattle.authority_laws.specs.Authority.{Part, PlaceIs, FrameIs, NumberIs, CoreIs}
+use Rattle.state_laws.specs.kernel_laws.proofs as low
+use low.{◌≡◌, ◌≢◌, inl, inr, ℕ, ◌<◌, ◌≤◌, arith, Bool, true, false, ◌&&◌, ◌||◌, ◌==◌, cond, if◌then◌else◌, refl, sym, ◌∙◌, ap, subst}
+use low.{IsTrue, List, [], ◌∷◌, take, drop, Some, false≢true, eqb-true, eq-eqb, ne_eqb, Kind, Call, Value, Reply, Place, Holds, Quiescing}
+use low.{Thread, Frame, Untyped, Kernel, Liveness, Unused, Live, Dead, ThreadFields, Grace, Thing, PlaceOf, FrameOf, NumberOf, State, put}
+use low.{thread_in, thread_of, place_names, frame_names, number_names, core_names, times, only, to_use, fits, same_thing, begun, Change}
+use low.{does, Judged, Refused, Found, frames_of, with_thread, Edit, Untype, Deaden, Pop, edited, is_live, after_edits, begins_all}
+use low.{is_live_in, rule_of, change_of, changed, counted, state_by, begins, begins_in as begun_in, after, is_open, IfFound, put_same}
+use low.{times_cons, times_first, put_all, only_is, IsOpen, opened, open_is, outcome_from, none_some, Calm}
+use Rattle.authority_laws.specs.{Part, PlaceIs, FrameIs, NumberIs, CoreIs}
+use Rattle.std.proofs.lemmas.Bool.{cases_eq, and_parts}
+use Rattle.state_laws.specs.kernel_invariant.proofs.{frames_no_place, usable_good}
+use Rattle.state_laws.specs.kernel_rules.specs.Edits.{Remove, Switch, begins_in}
 use Rattle.authority_laws.specs.Graces.{names_of, LosesOne, HasCause, GracesHaveCause}
 use Rattle.authority_laws.proofs.Acts.{LedTo, By, EachBy, Quiet, Acts, NamedAt, used_at, rule_acts}
+use Rattle.{std.specs.List.list_any, state_laws.specs.kernel_invariant.proofs.Facts.edits_map, state_laws.proofs.Threads.threads_run}
 
 -- ---- lists of frames
 
@@ -103,24 +81,24 @@ live_in (Live d f) e is = refl
 live_in Unused e is = absurd (false≢true is)
 live_in (Dead d) e is = absurd (false≢true is)
 
-stack_names : (x : Frame) → IsTrue (fits kind.Thread x) → frame_names x ≡ (thread_in x).stack
+stack_names : (x : Frame) → IsTrue (fits Kind.Thread x) → frame_names x ≡ (thread_in x).stack
 stack_names (Kernel (Thread t)) fit = refl
 stack_names _ fit = absurd (false≢true fit)
 
-put_names : (x : Frame) (t : ThreadFields) → IsTrue (fits kind.Thread x) → frame_names (with_thread x t) ≡ t.stack
+put_names : (x : Frame) (t : ThreadFields) → IsTrue (fits Kind.Thread x) → frame_names (with_thread x t) ≡ t.stack
 put_names (Kernel (Thread u)) t fit = refl
 put_names _ t fit = absurd (false≢true fit)
 
-no_both : (x : Frame) → IsTrue (fits kind.Thread x) → IsTrue (fits kind.Tcap x) → ⊥
+no_both : (x : Frame) → IsTrue (fits Kind.Thread x) → IsTrue (fits Kind.Tcap x) → ⊥
 no_both (Kernel (Thread t)) a b = false≢true b
 no_both _ a b = false≢true a
 
 module _ (call : Call) (s : State) (c : ℕ) (o : ℕ → Bool) (h : IsOpen s o c)
     (runs : (thread_in (s.frame (s.core c).thread)).runs_on ≡ Some c) where
-  own_thread : IsTrue (fits kind.Thread (s.frame (s.core c).thread))
+  own_thread : IsTrue (fits Kind.Thread (s.frame (s.core c).thread))
   own_thread = (h.sound.cores c (h.sound.inside c h.is).1).0
 
-  own_tcap : IsTrue (fits kind.Tcap (s.frame (s.core c).tcap))
+  own_tcap : IsTrue (fits Kind.Tcap (s.frame (s.core c).tcap))
   own_tcap = (h.sound.cores c (h.sound.inside c h.is).1).1
 
   led_fit : (j : Kind) (f : ℕ) → LedTo call s c (only j) f → IsTrue (fits j (s.frame f))
@@ -198,14 +176,14 @@ module _ (call : Call) (s : State) (c : ℕ) (o : ℕ → Bool) (h : IsOpen s o 
   remove_cause (Switch h q) by (FrameOf g) is =
       let old : ℕ = (s.core c).thread in
       let past : ℕ = (s.core c).tcap in
-      let thread_fit = led_fit kind.Thread h by.led in
-      let tcap_fit = led_fit kind.Tcap q by.tcap in
+      let thread_fit = led_fit Kind.Thread h by.led in
+      let tcap_fit = led_fit Kind.Tcap q by.tcap in
       lost (edited c s (Switch h q)) g (CoreIs c) (h ∷ q ∷ []) (old ∷ past ∷ [])
       (ap core_names (put_same s.core c (record (s.core c) { thread = h; tcap = q }) c refl)) refl
       (both_lost g old past h q
       (λ e. none_some c (sym by.idle ∙ ap (λ n. (thread_in (s.frame n)).runs_on) e ∙ runs))
-      (λ e. no_both (s.frame h) thread_fit (subst (λ n. IsTrue (fits kind.Tcap (s.frame n))) (sym e) own_tcap))
-      (λ e. no_both (s.frame q) (subst (λ n. IsTrue (fits kind.Thread (s.frame n))) (sym e) own_thread) tcap_fit)
+      (λ e. no_both (s.frame h) thread_fit (subst (λ n. IsTrue (fits Kind.Tcap (s.frame n))) (sym e) own_tcap))
+      (λ e. no_both (s.frame q) (subst (λ n. IsTrue (fits Kind.Thread (s.frame n))) (sym e) own_thread) tcap_fit)
       (any_frames g (old ∷ (if q == past then [] else past ∷ [])) is))
   remove_cause _ by x is = absurd (false≢true is)
 
@@ -259,7 +237,7 @@ graces_have_cause setting lim events c call r run x is = by_reply r is
 
     by_reply : (r : Reply) → begins (after setting events) c call r x ≡ true
         → HasCause (after setting events) (state_by (after setting events) c call r) x
-    by_reply (reply.Ok v) is = ok_cause call (after setting events) c (opened events) open_call
+    by_reply (Reply.Ok v) is = ok_cause call (after setting events) c (opened events) open_call
         ((threads_run setting lim events run.0 (((after setting events).core c).thread) c).runs
         (open_call.sound.inside c open_call.is).1 refl) x is
     by_reply _ is = absurd (false≢true is)

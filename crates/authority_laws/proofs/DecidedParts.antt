@@ -1,29 +1,17 @@
 -- What a decision changes is its core's own, or lies under a capability that it named and that has the right to use.
-use Rattle.std.proofs.Common.{◌≡◌, ◌⊎◌, inl, inr, ℕ, Bool, refl, ap, List}
-use Rattle.state_laws.specs.spk_nums.specs.declared.calls.Call.{Call}
-use Rattle.state_laws.specs.spk_nums.specs.declared.calls.Call.TheVariants.{Tick}
-use Rattle.state_laws.specs.spk_nums.specs.declared.replies.Value.{Value}
-use Rattle.state_laws.specs.spk_nums.specs.declared.replies.Reply.{Reply}
-use Rattle.state_laws.specs.spk_nums.specs.declared.replies.Reply.TheVariants as reply
-use Rattle.state_laws.specs.kernel_rules.specs.State.{Core, Grace, Thing, State, with_core, with_grace, outstanding}
-use Rattle.state_laws.specs.kernel_rules.specs.GracePeriods.{begun}
-use Rattle.state_laws.specs.kernel_rules.specs.Rules.{Change, does, Judged, Refused, Found, IsFoundAnd}
-use Rattle.state_laws.specs.kernel_rules.specs.CallRelation.{MayReply, rule_of, change_of, changed, owed_by, state_by}
-use Rattle.state_laws.specs.kernel_rules.specs.Runs.{is_open, after}
-use Rattle.state_laws.specs.kernel_rules.proofs.Changes.{IfFound}
-use Rattle.state_laws.specs.kernel_rules.specs.Edits.{Edit, after_edits, begins_all}
-use Rattle.state_laws.specs.kernel_invariant.proofs.Facts.{outcome_from, edits_map}
-use Rattle.state_laws.specs.kernel_invariant.proofs.SoundCalls.{IsOpen}
-use Rattle.state_laws.specs.kernel_invariant.proofs.SoundRuns.{opened, open_is}
-use Rattle.state_laws.specs.kernel_invariant.proofs.Edited.{Calm}
-use Rattle.authority_laws.specs.Authority.{Part, PlaceIs, FrameIs, StackIs, RunsIs, BudgetIs, ListIs, NumberIs, CoreIs}
-use Rattle.authority_laws.specs.Authority.{IsOwn, OwnBy, SamePart, DecisionsHaveAuthority, CallsChangeTheirOwn}
+use Rattle.state_laws.specs.kernel_laws.proofs.{◌≡◌, ◌⊎◌, inl, inr, ℕ, Bool, refl, ap, List, Call, Tick, Value, Reply, Core, Grace, Thing}
+use Rattle.state_laws.specs.kernel_laws.proofs.{State, with_core, with_grace, outstanding, begun, Change, does, Judged, Refused, Found}
+use Rattle.state_laws.specs.kernel_laws.proofs.{IsFoundAnd, MayReply, rule_of, change_of, changed, owed_by, state_by, is_open, after}
+use Rattle.state_laws.specs.kernel_laws.proofs.{IfFound, Edit, after_edits, begins_all, outcome_from, IsOpen, opened, open_is, Calm}
+use Rattle.authority_laws.specs.{Part, PlaceIs, FrameIs, StackIs, RunsIs, BudgetIs, ListIs, NumberIs, CoreIs, OwnBy, SamePart}
+use Rattle.state_laws.specs.kernel_invariant.proofs.Facts.{edits_map}
+use Rattle.authority_laws.specs.Authority.{IsOwn, DecisionsHaveAuthority, CallsChangeTheirOwn}
 use Rattle.authority_laws.proofs.Acts.{EachBy, Acts, rule_acts}
 use Rattle.authority_laws.proofs.EditParts.{MayBy, Within, within_same, within_core, within_grace, edits_within}
 
 module _ (s : State) (c : ℕ) (o : ℕ → Bool) (h : IsOpen s o c) (call : Call) where
   -- What holds after a call's edits, whose grace periods begin, holds after its answer `ok`.
-  pub acts_ok : (v : Value) (Q : State → Type 0) → MayReply s c call (reply.Ok v)
+  pub acts_ok : (v : Value) (Q : State → Type 0) → MayReply s c call (Reply.Ok v)
       → ((es : List Edit) → Calm c s es → EachBy call s c es → Q (begun s (begins_all c s es) (after_edits c s es)))
       → Q (changed s (change_of s c call))
   acts_ok v Q may by = found_after (change_of s c call)
@@ -52,11 +40,11 @@ module _ (s : State) (c : ℕ) (o : ℕ → Bool) (h : IsOpen s o c) (call : Cal
       owed _ = same
 
       by_reply : (r : Reply) → MayReply s c call r → Q (state_by s c call r)
-      by_reply (reply.Ok v) may = core (changed s (change_of s c call)) _ refl refl
+      by_reply (Reply.Ok v) may = core (changed s (change_of s c call)) _ refl refl
           (acts_ok v Q may (λ es calm each. grace (after_edits c s es) _ (by es calm each)))
-      by_reply reply.CallsSpent may = same
-      by_reply reply.Raced may = core (owed_by s c call) _ refl refl (owed call)
-      by_reply (reply.Busy d) may = core (owed_by s c call) _ refl refl (owed call)
+      by_reply Reply.CallsSpent may = same
+      by_reply Reply.Raced may = core (owed_by s c call) _ refl refl (owed call)
+      by_reply (Reply.Busy d) may = core (owed_by s c call) _ refl refl (owed call)
       by_reply _ may = core s _ refl refl same
 
   pub decided_within : (r : Reply) → MayReply s c call r → Within call s c (state_by s c call r)

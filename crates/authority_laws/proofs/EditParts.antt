@@ -1,22 +1,14 @@
 -- What an edit changes of the parts of a state is what its core may change.
-use Rattle.std.proofs.Common.{◌≡◌, ◌⊎◌, inl, inr, ℕ, ◌+◌, ◌-◌, false, refl, sym, ◌∙◌, ap, subst, IsTrue, List, [], ◌∷◌, drop, Some, None}
-use Rattle.std.proofs.lemmas.Bool.{false≢true}
-use Rattle.state_laws.specs.spk_nums.specs.declared.kinds.Kind.TheVariants as kind
-use Rattle.state_laws.specs.spk_nums.specs.declared.calls.Call.{Call}
-use Rattle.state_laws.specs.kernel_rules.specs.State.{Place, Free, Holds, Quiescing, ThreadFields, TcapFields, Blank, Comp, Thread, Tcap}
-use Rattle.state_laws.specs.kernel_rules.specs.State.{Frame, Untyped, Kernel, Liveness, Live, Dead, Grace, Thing, Core, State, put}
-use Rattle.state_laws.specs.kernel_rules.specs.State.{with_place, with_frame, with_core, with_grace, thread_in, thread_of, tcap_in}
-use Rattle.state_laws.specs.kernel_rules.specs.Access.{Slot, only}
-use Rattle.state_laws.specs.kernel_rules.specs.Fitting.{fits}
-use Rattle.state_laws.specs.kernel_rules.specs.CapabilityCalls.{is_live}
-use Rattle.state_laws.specs.kernel_rules.specs.Edits.{with_thread, running, tcap_at, with_tcap, with_budget, charge, Edit, Fill, Remove}
-use Rattle.state_laws.specs.kernel_rules.specs.Edits.{Node, Become, Untype, Component, Deaden, Push, Pop, Switch, Cache, Flush, Charge}
-use Rattle.state_laws.specs.kernel_rules.specs.Edits.{Move, Merge, Give, edited, after_edits}
-use Rattle.state_laws.specs.kernel_invariant.proofs.Sound.{put_all, only_is}
-use Rattle.state_laws.specs.kernel_invariant.proofs.SoundSteps.{place_all}
-use Rattle.state_laws.specs.kernel_invariant.proofs.Edited.{is_bare, AreLater, Calm}
-use Rattle.authority_laws.specs.Authority.{PlaceIs, FrameIs, StackIs, RunsIs, BudgetIs, ListIs, NumberIs, CoreIs}
-use Rattle.authority_laws.specs.Authority.{bare_of, Part, Over, IsUnderOne, OwnBy, Stays, is_of_stack, is_of_thread, is_of_budget}
+use Rattle.state_laws.specs.kernel_laws.proofs as low
+use low.{◌≡◌, ◌⊎◌, inl, inr, ℕ, ◌+◌, ◌-◌, false, refl, sym, ◌∙◌, ap, subst, IsTrue, List, [], ◌∷◌, drop, Some, None, false≢true, Call}
+use low.{Place, Free, Holds, Quiescing, ThreadFields, TcapFields, Blank, Comp, Thread, Tcap, Frame, Untyped, Kernel, Liveness, Live, Dead}
+use low.{Grace, Thing, Core, State, put, with_place, with_frame, with_core, with_grace, thread_in, thread_of, tcap_in, Slot, only, fits}
+use low.{is_live, with_thread, running, tcap_at, with_tcap, with_budget, charge, Edit, Fill, Node, Become, Untype, Component, Deaden, Push}
+use low.{Pop, Cache, Charge, Move, Merge, Give, edited, after_edits, put_all, only_is, place_all, is_bare, AreLater, Calm, Kind}
+use Rattle.authority_laws.specs.{PlaceIs, FrameIs, StackIs, RunsIs, BudgetIs, ListIs, NumberIs, CoreIs, bare_of, Part, Over, IsUnderOne}
+use Rattle.authority_laws.specs.{OwnBy, Stays}
+use Rattle.state_laws.specs.kernel_rules.specs.Edits.{Remove, Switch, Flush}
+use Rattle.authority_laws.specs.Authority.{is_of_stack, is_of_thread, is_of_budget}
 use Rattle.authority_laws.proofs.Acts.{LedTo, InRange, InNode, By, EachBy}
 
 -- Core c may change this part by a call.
@@ -34,10 +26,10 @@ record KeptAt (call : Call) (s : State) (c g : ℕ) (x y : Frame) : Type 0 where
 -- Each part of the frame g is the same in x and y, or core c may change it.
 pub record FieldsAt (call : Call) (s : State) (c g : ℕ) (x y : Frame) : Type 0 where
   pub bare : (bare_of y ≡ bare_of x) ⊎ MayBy call s c (FrameIs g)
-  pub stack : (Stays kind.Thread x y → (thread_in y).stack ≡ (thread_in x).stack) ⊎ MayBy call s c (StackIs g)
-  pub runs : (Stays kind.Thread x y → (thread_in y).runs_on ≡ (thread_in x).runs_on) ⊎ MayBy call s c (RunsIs g)
-  pub budget : (Stays kind.Tcap x y → (tcap_in y).budget ≡ (tcap_in x).budget) ⊎ MayBy call s c (BudgetIs g)
-  pub list : (Stays kind.Tcap x y → (tcap_in y).qualities ≡ (tcap_in x).qualities) ⊎ MayBy call s c (ListIs g)
+  pub stack : (Stays Kind.Thread x y → (thread_in y).stack ≡ (thread_in x).stack) ⊎ MayBy call s c (StackIs g)
+  pub runs : (Stays Kind.Thread x y → (thread_in y).runs_on ≡ (thread_in x).runs_on) ⊎ MayBy call s c (RunsIs g)
+  pub budget : (Stays Kind.Tcap x y → (tcap_in y).budget ≡ (tcap_in x).budget) ⊎ MayBy call s c (BudgetIs g)
+  pub list : (Stays Kind.Tcap x y → (tcap_in y).qualities ≡ (tcap_in x).qualities) ⊎ MayBy call s c (ListIs g)
 
 -- Each part is the same in s and t, or core c may change it.
 pub record Within (call : Call) (s : State) (c : ℕ) (t : State) : Type 0 where
@@ -49,28 +41,28 @@ pub record Within (call : Call) (s : State) (c : ℕ) (t : State) : Type 0 where
 -- ---- frames
 
 -- Frames of one kind both have a thread, or neither; so with a temporal capability.
-thread_fit : (x : Frame) → fits kind.Thread (bare_of x) ≡ fits kind.Thread x
+thread_fit : (x : Frame) → fits Kind.Thread (bare_of x) ≡ fits Kind.Thread x
 thread_fit (Kernel (Thread t)) = refl
 thread_fit (Kernel (Tcap q)) = refl
 thread_fit _ = refl
 
-tcap_fit : (x : Frame) → fits kind.Tcap (bare_of x) ≡ fits kind.Tcap x
+tcap_fit : (x : Frame) → fits Kind.Tcap (bare_of x) ≡ fits Kind.Tcap x
 tcap_fit (Kernel (Thread t)) = refl
 tcap_fit (Kernel (Tcap q)) = refl
 tcap_fit _ = refl
 
-thread_back : (y z : Frame) → bare_of z ≡ bare_of y → IsTrue (fits kind.Thread z) → IsTrue (fits kind.Thread y)
-thread_back y z e h = sym (thread_fit y) ∙ ap (fits kind.Thread) (sym e) ∙ thread_fit z ∙ h
+thread_back : (y z : Frame) → bare_of z ≡ bare_of y → IsTrue (fits Kind.Thread z) → IsTrue (fits Kind.Thread y)
+thread_back y z e h = sym (thread_fit y) ∙ ap (fits Kind.Thread) (sym e) ∙ thread_fit z ∙ h
 
-tcap_back : (y z : Frame) → bare_of z ≡ bare_of y → IsTrue (fits kind.Tcap z) → IsTrue (fits kind.Tcap y)
-tcap_back y z e h = sym (tcap_fit y) ∙ ap (fits kind.Tcap) (sym e) ∙ tcap_fit z ∙ h
+tcap_back : (y z : Frame) → bare_of z ≡ bare_of y → IsTrue (fits Kind.Tcap z) → IsTrue (fits Kind.Tcap y)
+tcap_back y z e h = sym (tcap_fit y) ∙ ap (fits Kind.Tcap) (sym e) ∙ tcap_fit z ∙ h
 
-no_thread : (x : Frame) → IsTrue (is_bare x) → IsTrue (fits kind.Thread x) → ⊥
+no_thread : (x : Frame) → IsTrue (is_bare x) → IsTrue (fits Kind.Thread x) → ⊥
 no_thread (Kernel Blank) b h = false≢true h
 no_thread Untyped b h = false≢true h
 no_thread _ b h = false≢true b
 
-no_tcap : (x : Frame) → IsTrue (is_bare x) → IsTrue (fits kind.Tcap x) → ⊥
+no_tcap : (x : Frame) → IsTrue (is_bare x) → IsTrue (fits Kind.Tcap x) → ⊥
 no_tcap (Kernel Blank) b h = false≢true h
 no_tcap Untyped b h = false≢true h
 no_tcap _ b h = false≢true b
@@ -91,7 +83,7 @@ module _ (call : Call) (s : State) (c : ℕ) where
   node_may : (f i : ℕ) → InNode call s c f → MayBy call s c (PlaceIs f i)
   node_may f i n = inr (record { cap = n.root; may = n.may; over = by_kind n.kind })
     where
-      by_kind : (n.root.kind ≡ kind.Table) ⊎ (n.root.kind ≡ kind.Pages) → Over s c n.root.kind n.root (PlaceIs f i)
+      by_kind : (n.root.kind ≡ Kind.Table) ⊎ (n.root.kind ≡ Kind.Pages) → Over s c n.root.kind n.root (PlaceIs f i)
       by_kind (inl is) = subst (λ k. Over s c k n.root (PlaceIs f i)) (sym is) n.under
       by_kind (inr is) = subst (λ k. Over s c k n.root (PlaceIs f i)) (sym is) n.under
 
@@ -105,28 +97,28 @@ module _ (call : Call) (s : State) (c : ℕ) where
   range_number f l r none =
       inr (record { cap = r.range; may = r.may; over = subst (λ k. Over s c k r.range (NumberIs l)) (sym r.kind) none })
 
-  thread_may : (h : ℕ) → LedTo call s c (only kind.Thread) h → MayBy call s c (RunsIs h)
+  thread_may : (h : ℕ) → LedTo call s c (only Kind.Thread) h → MayBy call s c (RunsIs h)
   thread_may h l =
       inr (record {
         cap = l.cap;
         may = l.may;
-        over = subst (λ k. Over s c k l.cap (RunsIs h)) (sym (only_is kind.Thread l.cap.kind l.kind)) (sym l.frame);
+        over = subst (λ k. Over s c k l.cap (RunsIs h)) (sym (only_is Kind.Thread l.cap.kind l.kind)) (sym l.frame);
       })
 
-  budget_may : (q : ℕ) → LedTo call s c (only kind.Tcap) q → MayBy call s c (BudgetIs q)
+  budget_may : (q : ℕ) → LedTo call s c (only Kind.Tcap) q → MayBy call s c (BudgetIs q)
   budget_may q l =
       inr (record {
         cap = l.cap;
         may = l.may;
-        over = subst (λ k. Over s c k l.cap (BudgetIs q)) (sym (only_is kind.Tcap l.cap.kind l.kind)) (sym l.frame);
+        over = subst (λ k. Over s c k l.cap (BudgetIs q)) (sym (only_is Kind.Tcap l.cap.kind l.kind)) (sym l.frame);
       })
 
-  list_may : (q : ℕ) → LedTo call s c (only kind.Tcap) q → MayBy call s c (ListIs q)
+  list_may : (q : ℕ) → LedTo call s c (only Kind.Tcap) q → MayBy call s c (ListIs q)
   list_may q l =
       inr (record {
         cap = l.cap;
         may = l.may;
-        over = subst (λ k. Over s c k l.cap (ListIs q)) (sym (only_is kind.Tcap l.cap.kind l.kind)) (sym l.frame);
+        over = subst (λ k. Over s c k l.cap (ListIs q)) (sym (only_is Kind.Tcap l.cap.kind l.kind)) (sym l.frame);
       })
 
   -- ---- frames

@@ -1,21 +1,9 @@
 -- Authority: which parts of the state a core may change, and by which capability.
-use Rattle.std.specs.Prelude.{◌≡◌, ◌⊎◌, ℕ, Bool, true, false, List, [], ◌∷◌, Some, None, IsTrue}
-use Rattle.state_laws.specs.spk_nums.specs.Setting.{Setting, IsSetting}
-use Rattle.state_laws.specs.spk_nums.specs.declared.calls.Call.{Call}
-use Rattle.state_laws.specs.spk_nums.specs.declared.calls.Call.TheVariants as call
-use Rattle.state_laws.specs.spk_nums.specs.declared.replies.Reply.{Reply}
-use Rattle.state_laws.specs.spk_nums.specs.Capability.{Capability}
-use Rattle.state_laws.specs.spk_nums.specs.declared.kinds.Kind.{Kind}
-use Rattle.state_laws.specs.spk_nums.specs.declared.kinds.Kind.TheVariants as kind
-use Rattle.state_laws.specs.kernel_rules.specs.State.{Thread, Tcap, Frame, Kernel, State, comp_in, thread_in, tcap_in}
-use Rattle.state_laws.specs.kernel_rules.specs.Access.{found, to_use, usable, linked}
-use Rattle.state_laws.specs.kernel_rules.specs.Fitting.{fits}
-use Rattle.state_laws.specs.kernel_rules.specs.Rules.{Found, named}
-use Rattle.state_laws.specs.kernel_rules.specs.CapabilityCalls.{has_frame, is_live}
-use Rattle.state_laws.specs.kernel_rules.specs.Life.{is_live_in}
-use Rattle.state_laws.specs.kernel_rules.specs.CallRelation.{rule_of}
-use Rattle.state_laws.specs.kernel_rules.specs.Runs.{Event, Decides, after, IsRun}
-use Rattle.call_names.specs.Names.{IsName}
+use Rattle.state_laws.specs.kernel_rules.specs.{◌≡◌, ◌⊎◌, ℕ, Bool, true, false, List, [], ◌∷◌, Some, None, IsTrue, Setting, IsSetting, Call}
+use Rattle.state_laws.specs.kernel_rules.specs.{Reply, Capability, Kind, Thread, Tcap, Frame, Kernel, comp_in, thread_in, tcap_in, found}
+use Rattle.state_laws.specs.kernel_rules.specs.{to_use, usable, linked, fits, Found, named, has_frame, is_live, is_live_in, rule_of, Event}
+use Rattle.state_laws.specs.kernel_rules.specs.{Decides, after, IsRun}
+use Rattle.{state_laws.specs.kernel_rules.specs.State.State, call_names.specs.Names.IsName}
 
 -- A part of the state: what a place of a node is; what kind of frame it is, and what object but for what follows; the stack of a thread,
 -- and where it runs; the budget and the list of a temporal capability; a liveness number; a core.
@@ -47,15 +35,15 @@ LivesBy s f l = ((comp_in (s.frame f)).number ≡ l) × (is_live_in (s.number l)
 -- frames with their places, and a number that is not live; a component, the number by which it lives; a thread, where it runs; a
 -- temporal capability, its budget and its list.
 abbrev pub Over : State → ℕ → Kind → Capability → Part → Type 0
-Over s c kind.Table k (PlaceIs f i) = IsUnder s c k.frame f
-Over s c kind.Pages k (PlaceIs f i) = IsUnder s c k.frame f
-Over s c kind.Range k (PlaceIs f i) = has_frame (found k) f ≡ true
-Over s c kind.Range k (FrameIs f) = has_frame (found k) f ≡ true
-Over s c kind.Range k (NumberIs l) = is_live (s.number l) ≡ false
-Over s c kind.Comp k (NumberIs l) = LivesBy s k.frame l
-Over s c kind.Thread k (RunsIs f) = f ≡ k.frame
-Over s c kind.Tcap k (BudgetIs f) = f ≡ k.frame
-Over s c kind.Tcap k (ListIs f) = f ≡ k.frame
+Over s c Kind.Table k (PlaceIs f i) = IsUnder s c k.frame f
+Over s c Kind.Pages k (PlaceIs f i) = IsUnder s c k.frame f
+Over s c Kind.Range k (PlaceIs f i) = has_frame (found k) f ≡ true
+Over s c Kind.Range k (FrameIs f) = has_frame (found k) f ≡ true
+Over s c Kind.Range k (NumberIs l) = is_live (s.number l) ≡ false
+Over s c Kind.Comp k (NumberIs l) = LivesBy s k.frame l
+Over s c Kind.Thread k (RunsIs f) = f ≡ k.frame
+Over s c Kind.Tcap k (BudgetIs f) = f ≡ k.frame
+Over s c Kind.Tcap k (ListIs f) = f ≡ k.frame
 Over s c _ k x = ⊥
 
 -- One of the numbers that the call names, and would use, leads core c to this capability; so this has the right to use.
@@ -92,25 +80,25 @@ Stays k x y = IsTrue (fits k x) × IsTrue (fits k y)
 abbrev pub SamePart : State → State → Part → Type 0
 SamePart s t (PlaceIs f i) = t.place f i ≡ s.place f i
 SamePart s t (FrameIs f) = bare_of (t.frame f) ≡ bare_of (s.frame f)
-SamePart s t (StackIs f) = Stays kind.Thread (s.frame f) (t.frame f) → (thread_in (t.frame f)).stack ≡ (thread_in (s.frame f)).stack
-SamePart s t (RunsIs f) = Stays kind.Thread (s.frame f) (t.frame f) → (thread_in (t.frame f)).runs_on ≡ (thread_in (s.frame f)).runs_on
-SamePart s t (BudgetIs f) = Stays kind.Tcap (s.frame f) (t.frame f) → (tcap_in (t.frame f)).budget ≡ (tcap_in (s.frame f)).budget
-SamePart s t (ListIs f) = Stays kind.Tcap (s.frame f) (t.frame f) → (tcap_in (t.frame f)).qualities ≡ (tcap_in (s.frame f)).qualities
+SamePart s t (StackIs f) = Stays Kind.Thread (s.frame f) (t.frame f) → (thread_in (t.frame f)).stack ≡ (thread_in (s.frame f)).stack
+SamePart s t (RunsIs f) = Stays Kind.Thread (s.frame f) (t.frame f) → (thread_in (t.frame f)).runs_on ≡ (thread_in (s.frame f)).runs_on
+SamePart s t (BudgetIs f) = Stays Kind.Tcap (s.frame f) (t.frame f) → (tcap_in (t.frame f)).budget ≡ (tcap_in (s.frame f)).budget
+SamePart s t (ListIs f) = Stays Kind.Tcap (s.frame f) (t.frame f) → (tcap_in (t.frame f)).qualities ≡ (tcap_in (s.frame f)).qualities
 SamePart s t (NumberIs l) = t.number l ≡ s.number l
 SamePart s t (CoreIs c) = t.core c ≡ s.core c
 
 -- Whether a call is for the stack of its core's thread, for where that runs, or for its budget.
 abbrev pub is_of_stack : Call → Bool
-is_of_stack (call.Call gate) = true
-is_of_stack call.Ret = true
+is_of_stack (Call.Call gate) = true
+is_of_stack Call.Ret = true
 is_of_stack _ = false
 
 abbrev pub is_of_thread : Call → Bool
-is_of_thread (call.Switch thread tcap) = true
+is_of_thread (Call.Switch thread tcap) = true
 is_of_thread _ = false
 
 abbrev pub is_of_budget : Call → Bool
-is_of_budget (call.Tick n) = true
+is_of_budget (Call.Tick n) = true
 is_of_budget _ = false
 
 -- What of its core's own a call may change: the core; the stack by `call` and `ret`; where the thread runs by `switch`; the budget by

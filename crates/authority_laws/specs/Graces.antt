@@ -1,14 +1,8 @@
 -- Why grace periods begin.
-use Rattle.std.specs.Prelude.{◌≡◌, ◌<◌, ℕ, true, false, List, [], ◌∷◌}
-use Rattle.state_laws.specs.spk_nums.specs.Setting.{Setting, IsSetting}
-use Rattle.state_laws.specs.spk_nums.specs.Capability.{Capability}
-use Rattle.state_laws.specs.spk_nums.specs.declared.calls.Call.{Call}
-use Rattle.state_laws.specs.spk_nums.specs.declared.replies.Reply.{Reply}
-use Rattle.state_laws.specs.kernel_rules.specs.State.{Holds, Quiescing, Thing, PlaceOf, FrameOf, NumberOf, State}
-use Rattle.state_laws.specs.kernel_rules.specs.References.{place_names, frame_names, number_names, core_names, times}
-use Rattle.state_laws.specs.kernel_rules.specs.CapabilityCalls.{is_live}
-use Rattle.state_laws.specs.kernel_rules.specs.CallRelation.{begins}
-use Rattle.state_laws.specs.kernel_rules.specs.Runs.{Event, Decides, after, IsRun}
+use Rattle.state_laws.specs.kernel_rules.specs.{◌≡◌, ◌<◌, ℕ, true, false, List, [], ◌∷◌, Setting, IsSetting, Capability, Call, Reply, Holds}
+use Rattle.state_laws.specs.kernel_rules.specs.{Quiescing, Thing, PlaceOf, FrameOf, NumberOf, place_names, frame_names, number_names}
+use Rattle.state_laws.specs.kernel_rules.specs.{core_names, times, is_live, begins, Event, Decides, after, IsRun}
+use Rattle.state_laws.specs.kernel_rules.specs.State.{State}
 use Rattle.authority_laws.specs.Authority.{Part, PlaceIs, FrameIs, NumberIs, CoreIs}
 
 -- The frames to which a part has references: those of a thread's stack are its frame's.

@@ -9,3 +9,6 @@ pub use Rattle.call_names
 -- Its own.
 pub mod Authority
 pub mod Graces
+-- The names that are used most outside of this library.
+pub use Rattle.authority_laws.specs.Authority.{CoreIs, Part, SamePart, OwnBy, FrameIs, PlaceIs, NumberIs, BudgetIs, ListIs, RunsIs, StackIs, IsUnderOne, MayUse, Stays}
+pub use Rattle.authority_laws.specs.Authority.{IsUnder, Over, bare_of}

@@ -1,13 +1,7 @@
 -- The frame to which an earlier name has led.
-use Rattle.std.proofs.Common.{◌≡◌, List, [], Some, None, ◌∙◌, ap}
-use Rattle.std.specs.Prelude.{option_map}
-use Rattle.spk_nums.specs.Capability.{Capability}
-use Rattle.act_counts.specs.kernel_rules.specs.Access.{found}
-use Rattle.act_counts.specs.call_plans.specs.declared.plans.Nth.{Nth}
-use Rattle.act_counts.specs.call_plans.specs.Plans.{at_place}
-use Rattle.act_counts.specs.call_plans.specs.GoesBy.{earlier, or_not_found}
-use Rattle.act_counts.specs.call_plans.specs.After.{with_found}
-use Rattle.act_counts.specs.call_plans.proofs.Roots.{earlier_found}
+use Rattle.act_counts.specs.act_states.proofs.{◌≡◌, List, [], Some, None, ◌∙◌, ap, option_map, Capability, found, at_place, earlier}
+use Rattle.act_counts.specs.call_plans.specs.{declared.plans.Nth.Nth, GoesBy.or_not_found}
+use Rattle.{act_counts.specs.act_states.proofs.with_found, act_counts.specs.call_plans.proofs.Roots.earlier_found}
 
 pub some_frame : (ks : List Capability) (i : Nth) (k : Capability) → at_place ks i ≡ Some k
     → (earlier (with_found [] ks) i).frame ≡ k.frame

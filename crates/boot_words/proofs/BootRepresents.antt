@@ -1,49 +1,33 @@
 -- The boot words represent the start state.
-use Rattle.std.proofs.Common.{◌≡◌, inl, inr, ℕ, ◌+◌, ◌-◌, ◌*◌, ◌^◌, ◌<◌, ◌≤◌, Bool, true, false, refl, sym, ◌∙◌, ap}
-use Rattle.std.proofs.Common.{subst, arith, ◌==◌, nat_lt, if◌then◌else◌, [], ◌∷◌, length, Option, Some, None, pos, ◌+ℤ◌}
-use Rattle.std.specs.List.{slice_get}
-use Rattle.std.proofs.lemmas.Bool.{cases_eq, ne_eqb, ltb-true, true≢false}
-use Rattle.std.proofs.lemmas.Int.{ints}
-use Rattle.std.proofs.lemmas.Option.{slice_get_past, slice_get_within, get_or_from_slice_get}
-use Rattle.std.proofs.lemmas.List.Elements.{All-get_or, All-nil, All-cons}
-use Rattle.spk_nums.specs.Capability.{Capability}
-use Rattle.spk_nums.specs.Setting.{Setting, IsSetting, GrantFits}
-use Rattle.spk_nums.specs.declared.grants.Grant.{Grant}
-use Rattle.entry_words.specs.declared.entry.Entry.TheVariants as entry
-use Rattle.entry_words.specs.EntryWord.{EntryFits, word_of_entry, entry_of_word}
-use Rattle.entry_words.proofs.Spelling as entries
-use Rattle.frame_words.specs.Frame.{FrameFits}
-use Rattle.frame_words.specs.Count.{word_of_count}
-use Rattle.frame_words.specs.Residue.{residue}
-use Rattle.frame_words.specs.Live.{word_of_live, live_of_word}
-use Rattle.frame_words.specs.declared.live_word.LiveWord.TheVariants as live_word
-use Rattle.frame_words.specs.declared.count_word.Hold.TheVariants.{Unheld}
-use Rattle.frame_words.proofs.CompLemmas as comps
-use Rattle.frame_words.proofs.CoreLemmas as core_words
-use Rattle.frame_words.proofs.CountLemmas as counts
-use Rattle.frame_words.proofs.ResidueLemmas.{residue_pos}
-use Rattle.frame_words.proofs.FlushLemmas as flushes
-use Rattle.frame_words.proofs.FrameLemmas as frames
-use Rattle.frame_words.proofs.LiveLemmas as lives
-use Rattle.tcap_words.specs.Stack.{PlaceFits}
-use Rattle.tcap_words.specs.Quality.{PairFits}
-use Rattle.tcap_words.specs.declared.thread_word.ThreadWord.TheVariants.{Running}
-use Rattle.tcap_words.proofs.HeadLemmas as heads
-use Rattle.tcap_words.proofs.QualityLemmas as qualities
-use Rattle.tcap_words.proofs.StackLemmas as stacks
-use Rattle.tcap_words.proofs.ThreadLemmas as threads
-use Rattle.kernel_rules.specs.State.{Place, Free, Holds, Quiescing, TcapFields, Blank, Table, Leaf}
-use Rattle.kernel_rules.specs.State.{Pages, Pleaf, Comp, Thread, Tcap, Frame, Untyped, User, Kernel}
-use Rattle.word_map.specs.Word.{Word, EntryAt, FrameAt, CountAt, CoreAt, FlushAt, LiveAt, ClockAt}
-use Rattle.kernel_rules.specs.Start.{start, start_place, start_cap, core_cap, start_comp, start_frame, start_number, place_with, granted}
-use Rattle.kernel_rules.specs.References.{refs}
-use Rattle.kernel_history.specs.ObjectWords.{holds_node, frame_value, comp_word, at_height}
-use Rattle.kernel_history.specs.BootWords.{boot_entry, boot_frame, boot_thread, boot_tcap, boot_live, boot_word}
-use Rattle.kernel_history.specs.FinalWords.{SaysPlace, AreThread, AreTcap, AreFrame, SaysNumber, HoldNothing}
-use Rattle.kernel_history.specs.Counts.{count_at, IsUnheld, count_in}
-use Rattle.kernel_history.proofs.Counters.{all_counters, sum_of_first}
-use Rattle.boot_words.specs.BootLaws.{BootRepresents, BootRepresentsStart}
-use Rattle.boot_words.proofs.StartRefs.{refs_most}
+use Rattle.kernel_history.specs as low
+use Rattle.kernel_history.proofs.{◌≡◌, inl, inr, ℕ, ◌+◌, ◌-◌, ◌*◌, ◌^◌, ◌<◌, ◌≤◌, Bool, true, false, refl, sym, ◌∙◌, ap, subst, arith, ◌==◌}
+use Rattle.kernel_history.proofs.{ltb as nat_lt, if◌then◌else◌, [], ◌∷◌, length, Option, Some, None, pos, ◌+ℤ◌, slice_get, ne_eqb, ltb-true}
+use Rattle.kernel_history.proofs.{true≢false, Capability, Setting, IsSetting, EntryFits, word_of_entry, entry_of_word, FrameFits}
+use Rattle.kernel_history.proofs.{word_of_count, residue, word_of_live, live_of_word, Unheld, Running, Place, Free, Holds, Quiescing}
+use Rattle.kernel_history.proofs.{TcapFields, Blank, Table, Leaf, Pages, Pleaf, Comp, Thread, Tcap, Frame, Untyped, User, Kernel, Word}
+use Rattle.kernel_history.proofs.{EntryAt, FrameAt, CountAt, CoreAt, FlushAt, LiveAt, ClockAt, start, refs, holds_node, frame_value}
+use Rattle.kernel_history.proofs.{at_height, boot_word, SaysPlace, AreFrame, count_at, count_in, all_counters}
+use low.kernel_rules.specs.{Grant, start_place, start_cap, core_cap, start_comp, start_frame, start_number, place_with, granted}
+use Rattle.std.proofs.{lemmas.Bool.cases_eq, lemmas.Int.ints, lemmas.Option.slice_get_past, lemmas.Option.slice_get_within}
+use Rattle.std.proofs.{lemmas.Option.get_or_from_slice_get, lemmas.List.Elements.All-get_or, lemmas.List.Elements.All-nil}
+use low.{ObjectWords.comp_word, BootWords.boot_thread, BootWords.boot_tcap, BootWords.boot_live, FinalWords.AreThread, FinalWords.AreTcap}
+use low.{boot_entry, boot_frame, SaysNumber, IsUnheld, frame_words.proofs.ResidueLemmas.residue_pos, tcap_words.specs.Stack.PlaceFits}
+use low.{tcap_words.specs.Quality.PairFits, FinalWords.HoldNothing}
+use Rattle.{std.proofs.lemmas.List.Elements.All-cons, spk_nums.specs.Setting.GrantFits, kernel_history.proofs.Counters.sum_of_first}
+use Rattle.{boot_words.specs.BootLaws.BootRepresents, boot_words.specs.BootLaws.BootRepresentsStart, boot_words.proofs.StartRefs.refs_most}
+use Rattle.kernel_history.specs.entry_words.specs.declared.entry.Entry.TheVariants as entry
+use Rattle.kernel_history.specs.entry_words.proofs.Spelling as entries
+use Rattle.kernel_history.specs.frame_words.specs.declared.live_word.LiveWord.TheVariants as live_word
+use Rattle.kernel_history.specs.frame_words.proofs.CompLemmas as comps
+use Rattle.kernel_history.specs.frame_words.proofs.CoreLemmas as core_words
+use Rattle.kernel_history.specs.frame_words.proofs.CountLemmas as counts
+use Rattle.kernel_history.specs.frame_words.proofs.FlushLemmas as flushes
+use Rattle.kernel_history.specs.frame_words.proofs.FrameLemmas as frames
+use Rattle.kernel_history.specs.frame_words.proofs.LiveLemmas as lives
+use Rattle.kernel_history.specs.tcap_words.proofs.HeadLemmas as heads
+use Rattle.kernel_history.specs.tcap_words.proofs.QualityLemmas as qualities
+use Rattle.kernel_history.specs.tcap_words.proofs.StackLemmas as stacks
+use Rattle.kernel_history.specs.tcap_words.proofs.ThreadLemmas as threads
 
 -- A choice has what each of its cases has.
 choose : {A : Type 0} (P : A → Type 0) (b : Bool) (x y : A) → (b ≡ true → P x) → (b ≡ false → P y) → P (if b then x else y)

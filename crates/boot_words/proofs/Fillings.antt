@@ -1,14 +1,10 @@
 -- A write of the start's word at its place keeps the words that are right.
-use Rattle.std.proofs.Common.{◌≡◌, ℕ, ◌<◌, inl, inr, sym, ap, subst, ◌∙◌, refl, arith, List, length, get_or}
-use Rattle.std.proofs.Math.ListN.{set}
-use Rattle.std.proofs.lemmas.List.{length-set, get_or-set_same, get_or-set_other}
-use Rattle.std.proofs.lemmas.Bool.{cases_eq}
-use Rattle.spk_nums.specs.Setting.{Setting, IsSetting}
-use Rattle.word_map.specs.Word.{Word, EntryAt, FrameAt, CountAt, CoreAt, FlushAt, LiveAt, ClockAt}
-use Rattle.word_map.specs.Places.{IsShape, IsIn, HasPlaces, place_of, size_of}
-use Rattle.word_map.proofs.PlaceLemmas.{has_places}
-use Rattle.kernel_history.specs.BootWords.{boot_word, shape_of}
-use Rattle.boot_words.specs.Filling.{IsRight, Fills, Puts, IsFrameRight, IsCoreRight}
+use Rattle.kernel_history.proofs.{◌≡◌, ℕ, ◌<◌, inl, inr, sym, ap, subst, ◌∙◌, refl, arith, List, length, get_or, length-set}
+use Rattle.kernel_history.proofs.{get_or-set_same, get_or-set_other, Setting, IsSetting, Word, EntryAt, FrameAt, CountAt, CoreAt, FlushAt}
+use Rattle.kernel_history.proofs.{LiveAt, ClockAt, IsShape, IsIn, place_of, size_of, has_places, boot_word, shape_of}
+use Rattle.boot_words.specs.{IsRight, Fills, IsFrameRight}
+use Rattle.{std.proofs.Math.ListN.set, std.proofs.lemmas.Bool.cases_eq, kernel_history.specs.word_map.specs.Places.HasPlaces}
+use Rattle.{boot_words.specs.Filling.Puts, boot_words.specs.Filling.IsCoreRight}
 
 pub shape_fits : (setup : Setting) → IsSetting setup → IsShape (shape_of setup)
 shape_fits setup h =

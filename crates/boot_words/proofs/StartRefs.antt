@@ -1,12 +1,10 @@
 -- The references to each frame at the start.
-use Rattle.std.proofs.Common.{◌≡◌, ◌≢◌, inl, inr, ℕ, ◌+◌, ◌-◌, ◌*◌, ◌<◌, ◌≤◌, Bool, true}
-use Rattle.std.proofs.Common.{false, refl, sym, ap, ◌∙◌, arith, ◌==◌, nat_lt, [], ◌∷◌}
-use Rattle.std.proofs.lemmas.Bool.{ne_eqb, ltb-true, lt-ltb, cases_eq, cases_lt}
-use Rattle.spk_nums.specs.Setting.{Setting, IsSetting}
-use Rattle.kernel_rules.specs.Start.{start, start_place, start_cap, core_cap, start_frame, start_number, place_with}
-use Rattle.kernel_rules.specs.References.{place_names, frame_names, number_names, core_names, sum_below, times, node_refs, refs}
-use Rattle.kernel_history.proofs.Sums.{sum_same, sum_zero, sum_const, sum_both, sum_split}
-use Rattle.kernel_history.proofs.Sums.{times_append, one_same, one_other, hits, hits_in, hits_out}
+use Rattle.kernel_history.specs.kernel_rules.proofs.{◌≡◌, ◌≢◌, inl, inr, ℕ, ◌+◌, ◌-◌, ◌*◌, ◌<◌, ◌≤◌, Bool, true, false, refl, sym, ap, ◌∙◌}
+use Rattle.kernel_history.specs.kernel_rules.proofs.{arith, ◌==◌, ltb as nat_lt, [], ◌∷◌, ne_eqb, ltb-true, lt-ltb, Setting, IsSetting}
+use Rattle.kernel_history.specs.kernel_rules.proofs.{start, start_place, start_cap, core_cap, start_frame, start_number, place_with}
+use Rattle.kernel_history.specs.kernel_rules.proofs.{place_names, frame_names, number_names, core_names, sum_below, times, node_refs, refs}
+use Rattle.kernel_history.proofs.Sums.{sum_same, sum_zero, sum_const, sum_both, sum_split, times_append, one_same, one_other, hits, hits_in}
+use Rattle.{std.proofs.lemmas.Bool.cases_eq, std.proofs.lemmas.Bool.cases_lt, kernel_history.proofs.Sums.hits_out}
 
 pub not_below : (a b : ℕ) → b ≤ a → nat_lt a b ≡ false
 not_below a b h = tested (nat_lt a b) refl where

@@ -1,9 +1,5 @@
 -- What is promised of the words of the machine at the start.
-use Rattle.spk_nums.specs.Setting.{Setting, IsSetting}
-use Rattle.kernel_rules.specs.Start.{start}
-use Rattle.kernel_history.specs.BootWords.{boot_word}
-use Rattle.kernel_history.specs.FinalWords.{Represent, end_of}
-use Rattle.kernel_history.specs.Counts.{RepresentCounts}
+use Rattle.kernel_history.specs.{Setting, IsSetting, start, boot_word, Represent, end_of, RepresentCounts}
 
 -- The boot words, with the ends that the cores have at the start, represent the start state, and so do their counts.
 pub record BootRepresents (setup : Setting) : Type 0 where

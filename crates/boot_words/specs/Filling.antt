@@ -1,10 +1,6 @@
 -- The table as it is filled with the words of the start.
-use Rattle.std.specs.Prelude.{◌≡◌, ◌<◌, ℕ, List, length}
-use Rattle.spk_nums.specs.Setting.{Setting}
-use Rattle.word_map.specs.Word.{Word, EntryAt, FrameAt, CountAt, CoreAt, FlushAt}
-use Rattle.word_map.specs.Places.{IsIn}
-use Rattle.kernel_history.specs.BootWords.{boot_word, shape_of}
-use Rattle.kernel_history.specs.FinalWords.{word_in}
+use Rattle.kernel_history.specs.{◌≡◌, ◌<◌, ℕ, List, length, Setting, Word, EntryAt, FrameAt, CountAt, CoreAt, FlushAt, IsIn, boot_word}
+use Rattle.kernel_history.specs.{shape_of, word_in}
 
 -- The word of this name is that of the start.
 abbrev pub IsRight : Setting → List ℕ → Word → Type 0

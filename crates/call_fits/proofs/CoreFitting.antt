@@ -1,22 +1,13 @@
 -- The core and its call after a step stay in their ranges.
-use Rattle.std.proofs.Common.{◌≡◌, ℕ, ◌+◌, ◌<◌, ◌≤◌, Option, Some, refl, sym, ◌∙◌, ap, subst, arith}
-use Rattle.act_fits.specs.spk_nums.specs.Bounds.{bound_of}
-use Rattle.act_fits.specs.spk_nums.specs.CallLimits.{InLimits}
-use Rattle.act_fits.specs.spk_nums.specs.declared.replies.Reply.{Reply}
-use Rattle.act_fits.specs.kernel_rules.specs.Laws.{calls_counted}
-use Rattle.act_fits.specs.kernel_rules.specs.Access.{found}
-use Rattle.act_fits.specs.act_states.specs.declared.own.Own.{Own}
-use Rattle.act_fits.specs.act_states.specs.declared.own.OwnChange.{OwnChange}
+use Rattle.act_fits.specs.act_states.proofs.{◌≡◌, ℕ, ◌+◌, ◌<◌, ◌≤◌, Option, Some, refl, sym, ◌∙◌, ap, subst, arith, bound_of, InLimits}
+use Rattle.act_fits.specs.act_states.proofs.{Reply, calls_counted, found, own_changed}
+use Rattle.act_fits.specs.call_stages.specs.{left_of, IsActive, CallFits, IsOwn, IsCore, left_for, GoesOn, Decides, took, told, call_after}
 use Rattle.act_fits.specs.act_states.specs.declared.own.OwnChange.TheVariants.{Ticks, GivesBack, Empties, Works, Switches, Caches}
-use Rattle.act_fits.specs.act_states.specs.OwnChanges.{own_changed}
-use Rattle.act_fits.specs.call_stages.specs.Fits.{left_of, IsActive, CallFits, IsOwn, IsCore, left_for}
-use Rattle.act_fits.specs.call_stages.specs.declared.stages.ActiveCall.{ActiveCall}
-use Rattle.act_fits.specs.call_stages.specs.declared.stages.Told.TheVariants as told_as
-use Rattle.act_fits.specs.call_stages.specs.Steps.{GoesOn, Decides, took, told, call_after, Changes}
-use Rattle.call_fits.proofs.Landing.{told_goes, told_decides, told_changes}
-use Rattle.act_fits.proofs.DuesFit.{ChangeFits}
-use Rattle.act_fits.proofs.LandsFit.{IsNext, TookFits}
-use Rattle.call_fits.proofs.Fitting.{took_fits}
+use Rattle.act_fits.specs.call_stages.specs.{declared.stages.ActiveCall.ActiveCall, declared.stages.Told.Told}
+use Rattle.act_fits.proofs.{DuesFit.ChangeFits, LandsFit.IsNext, LandsFit.TookFits}
+use Rattle.call_fits.proofs.{Landing.told_goes, Landing.told_decides, Landing.told_changes, Fitting.took_fits}
+use Rattle.{act_fits.specs.call_stages.specs.Changes, act_fits.specs.act_states.specs.declared.own.Own.Own}
+use Rattle.{act_fits.specs.act_states.specs.declared.own.OwnChange.OwnChange}
 
 -- The call after a step is the core's call.
 active_on : (own : Own) (made : ℕ) (old a : ActiveCall) → IsActive own old → IsNext own made (left_of own.layout.cores old) old a
@@ -144,7 +135,7 @@ own_on own made h counted = record {
 -- A core after a step that goes on, and after one that decides.
 pub goes_on : (own : Own) (active : Option ActiveCall) (a new : ActiveCall) (found : ℕ) → IsCore (record { own = own; active = active })
     → active ≡ Some a
-    → told_as.Going ≡ told (took own a found) → new ≡ call_after a (took own a found)
+    → Told.Going ≡ told (took own a found) → new ≡ call_after a (took own a found)
     → IsCore (record { own = own; active = Some new }) × (left_of own.layout.cores new < left_for own.layout.cores active)
 goes_on own active a new found h is going next =
     let fits : IsActive own a = subst (CallFits own) is h.active in
@@ -157,7 +148,7 @@ goes_on own active a new found h is going next =
 
 pub decides_on : (own : Own) (active : Option ActiveCall) (a new : ActiveCall) (r : Reply) (counted found : ℕ)
     → IsCore (record { own = own; active = active }) → active ≡ Some a
-    → told_as.Decided r ≡ told (took own a found) → new ≡ call_after a (took own a found) → counted ≡ calls_counted r
+    → Told.Decided r ≡ told (took own a found) → new ≡ call_after a (took own a found) → counted ≡ calls_counted r
     → IsCore (record { own = record own { made = own.made + counted }; active = Some new }) ×
     (left_of own.layout.cores new < left_for own.layout.cores active)
 decides_on own active a new r counted found h is decided next count =
@@ -256,7 +247,7 @@ active_changed own (Caches item) made a on = record {
 
 pub changes_on : (own : Own) (active : Option ActiveCall) (a new : ActiveCall) (r : Reply) (change : OwnChange) (counted found : ℕ)
     → IsCore (record { own = own; active = active }) → active ≡ Some a
-    → told_as.Changed r change ≡ told (took own a found) → new ≡ call_after a (took own a found) → counted ≡ calls_counted r
+    → Told.Changed r change ≡ told (took own a found) → new ≡ call_after a (took own a found) → counted ≡ calls_counted r
     → IsCore (record { own = record (own_changed own change) { made = (own_changed own change).made + counted }; active = Some new }) ×
     (left_of own.layout.cores new < left_for own.layout.cores active)
 changes_on own active a new r change counted found h is decided next count =
@@ -287,7 +278,7 @@ layout_changed own (Caches item) = refl
 
 pub changes_to : (own own' : Own) (active : Option ActiveCall) (a new : ActiveCall) (r : Reply) (change : OwnChange) (counted found : ℕ)
     → IsCore (record { own = own; active = active }) → active ≡ Some a
-    → told_as.Changed r change ≡ told (took own a found) → new ≡ call_after a (took own a found) → counted ≡ calls_counted r
+    → Told.Changed r change ≡ told (took own a found) → new ≡ call_after a (took own a found) → counted ≡ calls_counted r
     → own' ≡ own_changed own change
     → IsCore (record { own = record own' { made = own'.made + counted }; active = Some new }) ×
     (left_of own'.layout.cores new < left_for own.layout.cores active)

@@ -1,127 +1,66 @@
 -- A core stays in its ranges, and each step leaves fewer to come, whatever words are found.
+use Rattle.act_fits.specs.act_states.specs.{word_of_count, count_of_word, unheld, ◌≡◌, ℕ, suc, ℤ, ltb as nat_lt, if◌then◌else◌, ◌+◌, ◌*◌}
+use Rattle.act_fits.specs.act_states.specs.{◌-◌, ◌++◌, slice_get, ◌<◌, ◌≤◌, Bool, true, false, ◌==◌, List, [], ◌∷◌, length, Option, Some}
+use Rattle.act_fits.specs.act_states.specs.{None, refl, negsuc, Nothing as nothing, Amount, drawn_stamp, Close, AtCompare as close_compare}
+use Rattle.act_fits.specs.act_states.specs.{AtDraw, AtStore, Quiet, close_end, close_after, QuietFits, quiet_end, quiet_after, Pin, AtLoad}
+use Rattle.act_fits.specs.act_states.specs.{Pinned, Acquired, compare_end, pinned_at, pin_after, pin_end, CountWord, Hold, StageEnd, AllFit}
+use Rattle.act_fits.specs.act_states.specs.{FrameKind, Capability, Reply, Shape, found, CapNames, shown_in, Look, look_steps, act_steps}
+use Rattle.act_fits.specs.act_states.specs.{took_charge, took_tick, Charge, end_by_mark, head_end, charged_end, head, ◌^◌, min}
+use Rattle.act_fits.specs.act_states.specs.{word_of_head, head_of_word, HeadWord, frame_of_word, FrameWord, meets_frame, meets_word}
+use Rattle.act_fits.specs.act_states.specs.{typed_if, took_typing_at, Obj, counts_of, last_word, MakingFits, undo_at, comp_of_word}
+use Rattle.act_fits.specs.act_states.specs.{CompWord, ScanFits, left_of_scan, live_of_word, LiveWord, alive_end, alive_after, Alive, AtComp}
+use Rattle.act_fits.specs.act_states.specs.{AtLive, refusal_of, filled_if, refuse, ActFits, act_left, took_close, maps_frame, maps_word}
+use Rattle.act_fits.specs.act_states.specs.{took_act, dues, next_work, cap_dues, starts, undo, made_dues, meets_object, meets_blank}
+use Rattle.act_fits.specs.act_states.specs.{meets_making, marks_if, published, took_making_at, plan_for}
+use Rattle.act_fits.specs.call_stages.specs.{tail_left, took_tail, tail_counts, TailFits, StageFits, HasRoom, CountsAt, names_left}
+use Rattle.act_fits.specs.call_stages.specs.{steps_later, IsFirst, work_left, left_at, left_of, IsActive, IsOwn, GoesOn, landed, took_first}
+use Rattle.act_fits.specs.call_stages.specs.{took_enter, took_alive, read_more, took_read, took_look, took_scan, took_count, took_work}
+use Rattle.act_fits.specs.call_stages.specs.{went_with, is_spent, took_at, took}
+use Rattle.act_fits.specs.act_states.proofs.{length-append, lt-ltb, sym, ap, subst, arith, leb-false, ltb-true, AtLoad as charge_load}
+use Rattle.act_fits.specs.stage_thread.specs.{AliveFits, lives_end, number_end, live_end, comp_end, comp_after}
+use Rattle.act_fits.specs.stage_pins.specs.{PinFits, end_by_hold, load_end, after_load, AcquiredFits, pushed as count_pushed}
+use Rattle.act_fits.specs.stage_tcap.specs.{Untyped, ChargeFits, after_mark, after_head, Blank}
+use Rattle.act_fits.specs.stage_quiet.specs.{stamp_of_clock, CloseFits, close_compared, close_at}
+use Rattle.act_fits.proofs.{few_dues, TookFits}
 use Rattle.std.proofs.lemmas.List.Elements.{All-nil, All-cons, All-tail, All-append}
-use Rattle.act_fits.specs.frame_words.specs.Count.{word_of_count, count_of_word}
-use Rattle.act_fits.specs.stage_pins.specs.Counts.{unheld}
-use Rattle.act_fits.specs.stage_pins.proofs.PinLemmas.{after_fits}
-use Rattle.std.proofs.Common.{◌≡◌, ℕ, suc, ℤ, nat_lt, if◌then◌else◌, ◌+◌, ◌*◌, ◌-◌, ◌++◌, slice_get}
-use Rattle.std.proofs.Common.{◌<◌, ◌≤◌, Bool, true, false, ◌==◌, List, [], ◌∷◌, length, length-append}
-use Rattle.std.proofs.Common.{lt-ltb, Option, Some, None, refl, sym, ap, subst, arith, negsuc}
-use Rattle.std.proofs.lemmas.Bool.{leb-false, ltb-true}
-use Rattle.act_fits.specs.spk_nums.specs.declared.replies.Value.TheVariants.{Nothing as nothing, Amount}
-use Rattle.act_fits.specs.stage_quiet.specs.Clocks.{drawn_stamp, stamp_of_clock}
-use Rattle.act_fits.specs.stage_quiet.specs.declared.close.Close.{Close}
-use Rattle.act_fits.specs.stage_quiet.specs.declared.close.Close.TheVariants.{AtCompare as close_compare, AtDraw, AtStore}
-use Rattle.act_fits.specs.stage_quiet.specs.declared.quiet.Quiet.{Quiet}
-use Rattle.act_fits.specs.stage_quiet.specs.Removal.{CloseFits, close_compared, close_at, close_end, close_after}
-use Rattle.act_fits.specs.stage_quiet.specs.Scan.{QuietFits, quiet_end, quiet_after}
-use Rattle.act_fits.specs.stage_pins.specs.declared.pin.Pin.{Pin}
-use Rattle.act_fits.specs.stage_pins.specs.declared.pin.Pin.TheVariants.{AtLoad, AtCompare}
-use Rattle.act_fits.specs.stage_pins.specs.declared.pin.Pinned.{Pinned}
-use Rattle.act_fits.specs.stage_pins.specs.declared.held.Acquired.{Acquired}
-use Rattle.act_fits.specs.stage_pins.specs.Acquire.{PinFits, PinnedFits, EndFits, end_by_hold, load_end, compare_end}
-use Rattle.act_fits.specs.stage_pins.specs.Acquire.{pinned_at, pin_after, pin_end, after_hold, after_load}
-use Rattle.act_fits.specs.frame_words.specs.declared.count_word.CountWord.{CountWord}
-use Rattle.act_fits.specs.frame_words.specs.declared.count_word.Hold.{Hold}
-use Rattle.act_fits.specs.frame_words.specs.declared.count_word.Hold.TheVariants as hold
-use Rattle.act_fits.specs.spk_nums.specs.declared.steps.StageEnd.{StageEnd}
-use Rattle.act_fits.specs.spk_nums.specs.declared.steps.StageEnd.TheVariants as ends
-use Rattle.act_fits.specs.stage_pins.specs.Held.{AllFit, AcquiredFits, pushed as count_pushed}
-use Rattle.act_fits.specs.spk_nums.specs.declared.kinds.FrameKind.{FrameKind}
-use Rattle.act_fits.specs.spk_nums.specs.declared.kinds.FrameKind.TheVariants.{Untyped}
-use Rattle.act_fits.specs.spk_nums.specs.Capability.{Capability}
-use Rattle.act_fits.specs.spk_nums.specs.declared.replies.Reply.{Reply}
-use Rattle.act_fits.specs.spk_nums.specs.declared.replies.Reply.TheVariants as reply
-use Rattle.act_fits.specs.word_map.specs.Places.{Shape}
-use Rattle.act_fits.specs.kernel_rules.specs.Access.{found}
-use Rattle.act_fits.specs.stage_look.specs.Shown.{CapNames, shown_in}
-use Rattle.act_fits.specs.stage_look.specs.Lookup.{LookFits}
-use Rattle.act_fits.specs.stage_look.specs.declared.look.Look.{Look}
-use Rattle.act_fits.specs.stage_look.proofs.LookLemmas.{shown_names}
-use Rattle.act_fits.specs.call_plans.specs.Bounds.{living_steps, look_steps, act_steps}
-use Rattle.act_fits.specs.act_states.specs.declared.refusals.Refusal.{Refusal}
-use Rattle.act_fits.specs.act_states.specs.declared.refusals.Refusal.TheVariants as refusal
-use Rattle.act_fits.specs.act_states.specs.declared.own.Own.{Own}
-use Rattle.act_fits.specs.act_states.specs.declared.own.OwnChange.{OwnChange}
+use Rattle.act_fits.specs.stage_pins.specs.{declared.pin.Pin.TheVariants.AtCompare, Acquire.PinnedFits, Acquire.EndFits, Acquire.after_hold}
 use Rattle.act_fits.specs.act_states.specs.declared.own.OwnChange.TheVariants.{Ticks, Empties}
-use Rattle.act_fits.specs.act_states.specs.Ticks.{took_charge, took_tick, charge_left}
-use Rattle.act_fits.specs.stage_tcap.specs.declared.charge.Charge.{Charge}
-use Rattle.act_fits.specs.stage_tcap.specs.declared.charge.Charge.TheVariants.{AtLoad as charge_load, AtCompare as charge_compare}
-use Rattle.act_fits.specs.stage_tcap.specs.Charging.{ChargeFits, after_mark, after_head, end_by_mark, head_end, charged_end}
-use Rattle.act_fits.specs.stage_tcap.specs.Heads.{head}
-use Rattle.act_fits.specs.tcap_words.proofs.HeadLemmas.{spelling}
-use Rattle.std.specs.Prelude.{◌^◌, min}
-use Rattle.act_fits.specs.tcap_words.specs.Head.{word_of_head, head_of_word}
-use Rattle.act_fits.specs.tcap_words.specs.declared.head_word.HeadWord.{HeadWord}
-use Rattle.act_fits.specs.spk_nums.specs.declared.kinds.FrameKind.TheVariants as frame_kind
-use Rattle.act_fits.specs.frame_words.specs.Frame.{frame_of_word}
-use Rattle.act_fits.specs.frame_words.specs.declared.frame_word.FrameWord.{FrameWord}
-use Rattle.act_fits.specs.act_states.specs.declared.typings.Typing.{Typing}
-use Rattle.act_fits.specs.act_states.specs.declared.typings.TypingAt.{TypingAt}
 use Rattle.act_fits.specs.act_states.specs.declared.typings.TypingAt.TheVariants.{Load, Compare}
-use Rattle.act_fits.specs.act_states.specs.Typings.{meets_frame, meets_word, typed_if, took_typing_at, typing_left}
-use Rattle.act_fits.specs.spk_nums.specs.declared.kinds.Obj.{Obj}
-use Rattle.act_fits.specs.spk_nums.specs.declared.kinds.Obj.TheVariants.{Blank}
-use Rattle.act_fits.specs.act_states.specs.declared.makings.Making.{Making}
-use Rattle.act_fits.specs.act_states.specs.declared.makings.MakingAt.{MakingAt}
 use Rattle.act_fits.specs.act_states.specs.declared.makings.MakingAt.TheVariants.{Load as make_load, Mark, Store, Fill as fill_at}
-use Rattle.act_fits.specs.act_states.specs.Objects.{counts_of, last_word}
-use Rattle.act_fits.specs.act_states.specs.Makings.{MakingFits, making_left, undo_at}
-use Rattle.act_fits.specs.frame_words.specs.Comp.{comp_of_word}
-use Rattle.act_fits.specs.frame_words.specs.declared.comp_word.CompWord.{CompWord}
-use Rattle.act_fits.specs.call_stages.specs.Tails.{tail_left, took_tail, tail_counts}
-use Rattle.act_fits.specs.call_stages.specs.Fits.{TailFits, WorkFits, StageFits, HasRoom, CountsWait}
-use Rattle.act_fits.specs.call_stages.specs.Fits.{CountsAt, names_left, steps_later}
-use Rattle.act_fits.specs.call_stages.specs.Fits.{IsFirst, left_of_alive, left_of_look, left_of_pin, work_left, left_at, left_of}
-use Rattle.act_fits.specs.call_stages.specs.Fits.{IsActive, IsOwn}
-use Rattle.act_fits.specs.act_states.specs.Scans.{ScanFits, left_of_scan}
-use Rattle.act_fits.proofs.StepsFit.{starts_fit}
-use Rattle.act_fits.proofs.DuesFit.{StepFits, few_dues, object_count, work_next, counts_next, ChangeFits}
-use Rattle.act_fits.specs.act_states.specs.declared.work.Act.{Act as ActType}
 use Rattle.act_fits.specs.act_states.specs.declared.work.Act.TheVariants.{Fill as fill_act, Remove as remove_act, Retype as type_act}
-use Rattle.act_fits.specs.act_states.specs.declared.work.Act.TheVariants.{Make as make_act, Outside, Tick as tick_act}
-use Rattle.act_fits.specs.act_states.specs.declared.work.Act.TheVariants.{Flush as flush_act}
+use Rattle.act_fits.specs.act_states.specs.declared.work.Act.TheVariants.{Make as make_act, Outside, Tick as tick_act, Flush as flush_act}
 use Rattle.act_fits.specs.act_states.specs.declared.work.Act.TheVariants.{Kill as kill_act, Untype as untype_act, Map as map_act}
-use Rattle.act_fits.specs.act_states.specs.declared.work.Act.TheVariants.{MakeComp as comp_act, Invoke as invoke_act}
-use Rattle.act_fits.specs.act_states.specs.declared.work.Act.TheVariants.{Return as return_act}
+use Rattle.act_fits.specs.act_states.specs.declared.work.Act.TheVariants.{MakeComp as comp_act, Invoke as invoke_act, Return as return_act}
 use Rattle.act_fits.specs.act_states.specs.declared.work.Act.TheVariants.{Switch as switch_act, Touch as touch_act, Share as share_act}
-use Rattle.act_fits.specs.act_states.specs.declared.work.Act.TheVariants.{Refill as refill_act}
-use Rattle.act_fits.specs.act_states.specs.declared.work.Tail.{Tail}
 use Rattle.act_fits.specs.act_states.specs.declared.work.Tail.TheVariants.{Nothing, Quiesce, Unmark, StoreDead, StoreFlush, Release}
 use Rattle.act_fits.specs.act_states.specs.declared.work.Tail.TheVariants.{StoreLive, Push, Pop, StoreRunning, StoreIdle, Share}
-use Rattle.act_fits.specs.call_stages.specs.declared.stages.Stage.{Stage}
-use Rattle.act_fits.specs.call_stages.specs.declared.stages.Stage.TheVariants.{Enter, Living, Undecided, Decided, Leave}
-use Rattle.act_fits.specs.frame_words.specs.Live.{live_of_word}
-use Rattle.act_fits.specs.frame_words.specs.declared.live_word.LiveWord.{LiveWord}
-use Rattle.act_fits.specs.frame_words.specs.declared.live_word.LiveWord.TheVariants as live_word
-use Rattle.act_fits.specs.stage_thread.specs.Living.{AliveFits, lives_end, number_end, live_end, comp_end, comp_after, alive_end}
-use Rattle.act_fits.specs.stage_thread.specs.Living.{alive_after}
-use Rattle.act_fits.specs.stage_thread.specs.declared.alive.Alive.{Alive}
-use Rattle.act_fits.specs.stage_thread.specs.declared.alive.Alive.TheVariants.{AtComp, AtLive}
-use Rattle.act_fits.specs.stage_thread.proofs.ThreadLemmas.{alive_after_fits}
-use Rattle.act_fits.specs.call_stages.specs.declared.stages.ActiveCall.{ActiveCall}
-use Rattle.act_fits.specs.act_states.specs.declared.work.Work.{Work}
 use Rattle.act_fits.specs.act_states.specs.declared.work.Work.TheVariants.{Lookup, Read, Scan, Acquire, Act}
 use Rattle.act_fits.specs.act_states.specs.declared.work.WorkStep.TheVariants.{Goes, Acquires, Refuses, Answers, Changes as work_changes}
-use Rattle.act_fits.specs.act_states.specs.Refusals.{refusal_of}
-use Rattle.act_fits.specs.act_states.specs.Fills.{filled_if}
-use Rattle.act_fits.specs.act_states.specs.WorkSteps.{refuse}
-use Rattle.act_fits.specs.act_states.specs.Acts.{ActFits, close_left, act_left, took_close, maps_frame, maps_word, took_act}
-use Rattle.act_fits.specs.act_states.specs.Acts.{dues, next_work, cap_dues, starts, undo, made_dues, meets_object}
-use Rattle.act_fits.specs.act_states.specs.Acts.{meets_blank, meets_making, marks_if, published, took_making_at}
-use Rattle.act_fits.specs.call_stages.specs.Steps.{GoesOn, landed, took_first, took_enter, took_alive, read_more, took_read}
-use Rattle.act_fits.specs.call_stages.specs.Steps.{took_look, took_scan, took_count, took_work, went_with, is_spent, took_at, took}
-use Rattle.act_fits.proofs.LandsFit.{TookFits, Facts, next_fits, landed_fits}
-use Rattle.act_fits.proofs.ScansFit.{scan_goes, scan_left}
-use Rattle.act_fits.proofs.KillsFit.{kill_fits}
-use Rattle.act_fits.proofs.UntypingsFit.{untype_fits, undone_fits, released_fits}
-use Rattle.act_fits.proofs.CompsFit.{comp_fits, comp_undone}
-use Rattle.act_fits.proofs.SwitchesFit.{switch_fits, switching_undone}
-use Rattle.act_fits.proofs.InvocationsFit.{invoke_fits, return_fits, push_fits, pop_fits}
-use Rattle.act_fits.proofs.TouchesFit.{touch_fits}
-use Rattle.act_fits.proofs.RefillsFit.{refill_fits}
-use Rattle.act_fits.proofs.SharesFit.{share_fits, shared_fits}
+use Rattle.act_fits.specs.call_stages.specs.Fits.{WorkFits, CountsWait, left_of_alive, left_of_look, left_of_pin}
+use Rattle.act_fits.specs.call_stages.specs.declared.stages.Stage.TheVariants.{Enter, Living, Undecided, Decided, Leave}
+use Rattle.act_fits.proofs.{StepsFit.starts_fit, DuesFit.StepFits, DuesFit.object_count, DuesFit.work_next, DuesFit.counts_next}
+use Rattle.act_fits.proofs.{DuesFit.ChangeFits, LandsFit.Facts, LandsFit.next_fits, LandsFit.landed_fits, ScansFit.scan_goes}
+use Rattle.act_fits.proofs.{ScansFit.scan_left, KillsFit.kill_fits, UntypingsFit.untype_fits, UntypingsFit.undone_fits}
+use Rattle.act_fits.proofs.{UntypingsFit.released_fits, CompsFit.comp_fits, CompsFit.comp_undone, SwitchesFit.switch_fits}
+use Rattle.act_fits.proofs.{SwitchesFit.switching_undone, InvocationsFit.invoke_fits, InvocationsFit.return_fits, InvocationsFit.push_fits}
+use Rattle.act_fits.proofs.{InvocationsFit.pop_fits, TouchesFit.touch_fits, RefillsFit.refill_fits, SharesFit.share_fits}
 use Rattle.call_fits.proofs.LookingFits.{refused_fits, works_fits, look_fits}
-use Rattle.act_fits.specs.call_plans.specs.PlanOf.{plan_for}
+use Rattle.{act_fits.specs.act_states.proofs.spelling, act_fits.specs.stage_pins.proofs.PinLemmas.after_fits}
+use Rattle.{act_fits.specs.stage_look.specs.Lookup.LookFits, act_fits.specs.stage_look.proofs.LookLemmas.shown_names}
+use Rattle.{act_fits.specs.call_plans.specs.Bounds.living_steps, act_fits.specs.act_states.specs.declared.refusals.Refusal.Refusal}
+use Rattle.{act_fits.specs.act_states.specs.declared.own.Own.Own, act_fits.specs.act_states.specs.declared.own.OwnChange.OwnChange}
+use Rattle.{act_fits.specs.act_states.specs.Ticks.charge_left, act_fits.specs.act_states.specs.declared.typings.Typing.Typing}
+use Rattle.{act_fits.specs.act_states.specs.declared.typings.TypingAt.TypingAt, act_fits.specs.act_states.specs.Typings.typing_left}
+use Rattle.{act_fits.specs.act_states.specs.declared.makings.Making.Making}
+use Rattle.{act_fits.specs.act_states.specs.declared.makings.MakingAt.MakingAt, act_fits.specs.act_states.specs.Makings.making_left}
+use Rattle.{act_fits.specs.act_states.specs.declared.work.Act.Act as ActType}
+use Rattle.{act_fits.specs.act_states.specs.declared.work.Act.TheVariants.Refill as refill_act}
+use Rattle.{act_fits.specs.act_states.specs.declared.work.Tail.Tail, act_fits.specs.act_states.specs.declared.work.Work.Work}
+use Rattle.{act_fits.specs.act_states.specs.Acts.close_left}
+use Rattle.{act_fits.specs.stage_tcap.specs.declared.charge.Charge.TheVariants.AtCompare as charge_compare}
+use Rattle.{act_fits.specs.call_stages.specs.declared.stages.Stage.Stage}
+use Rattle.{act_fits.specs.call_stages.specs.declared.stages.ActiveCall.ActiveCall, act_fits.proofs.SharesFit.shared_fits}
+use Rattle.{act_fits.specs.stage_thread.proofs.ThreadLemmas.alive_after_fits}
 
 -- a step of the work of a call that has acquired its counts, or acquires them
 module _ (own : Own) (a : ActiveCall) (facts : Facts own a) (room : own.made < own.limit) where
@@ -142,7 +81,7 @@ module _ (own : Own) (a : ActiveCall) (facts : Facts own a) (room : own.made < o
   compared_fits left cap node index word core true below small names waits some =
       landed_fits own a a refl refl facts.found facts.acquired room 2 left (Goes (Act (remove_act (AtDraw node index) cap)))
       (((below, small), names), omega arith, waits) (omega arith)
-  compared_fits left cap node index word core false below small names waits some = act_refused left (refusal_of reply.Raced) (omega arith)
+  compared_fits left cap node index word core false below small names waits some = act_refused left (refusal_of Reply.Raced) (omega arith)
 
   close_fits : (close : Close) (cap : Capability) (found : ℕ) → CloseFits own.layout close → CapNames own.layout.frames cap
       → length a.counts ≡ length (cap_dues cap (negsuc 0))
@@ -157,28 +96,28 @@ module _ (own : Own) (a : ActiveCall) (facts : Facts own a) (room : own.made < o
     where
       some_stamp : 1 ≤ drawn_stamp found
       some_stamp = omega arith
-  close_fits (AtStore node index stamp) cap found fits names waits = act_refused _ refusal.Raced (omega arith)
+  close_fits (AtStore node index stamp) cap found fits names waits = act_refused _ Refusal.Raced (omega arith)
 
   type_fits : (y : Typing) (at : TypingAt) (found : ℕ) → y.frame < own.layout.frames → length a.counts ≡ 0
       → TookFits own (2 + length a.counts + typing_left at) a (landed a (took_typing_at y at found))
   type_fits y Load found below waits = met (frame_of_word found)
     where
       by : (k : FrameKind) (mark : Option ℕ) → TookFits own (2 + length a.counts + 2) a (landed a (meets_frame y found k mark))
-      by k (Some d) = act_refused _ (refusal.Busy d) (omega arith)
-      by frame_kind.Untyped None =
+      by k (Some d) = act_refused _ (Refusal.Busy d) (omega arith)
+      by FrameKind.Untyped None =
           landed_fits own a a refl refl facts.found facts.acquired room 1 _
           (Goes (Act (type_act (record { frame = y.frame; kind = y.kind; at = Compare found })))) (below, omega arith, waits) (omega arith)
-      by frame_kind.User None = act_refused _ refusal.FrameKind (omega arith)
-      by frame_kind.Kernel None = act_refused _ refusal.FrameKind (omega arith)
+      by FrameKind.User None = act_refused _ Refusal.FrameKind (omega arith)
+      by FrameKind.Kernel None = act_refused _ Refusal.FrameKind (omega arith)
 
       met : (o : Option FrameWord) → TookFits own (2 + length a.counts + 2) a (landed a (meets_word y found o))
-      met None = act_refused _ refusal.Raced (omega arith)
+      met None = act_refused _ Refusal.Raced (omega arith)
       met (Some v) = by v.kind v.mark
   type_fits y (Compare word) found below waits = by (found == word)
     where
       by : (equal : Bool) → TookFits own (2 + length a.counts + 1) a (landed a (typed_if equal))
       by true = landed_fits own a a refl refl facts.found facts.acquired room 0 _ (typed_if true) (omega arith, tt) (omega arith)
-      by false = act_refused _ refusal.Raced (omega arith)
+      by false = act_refused _ Refusal.Raced (omega arith)
 
   -- a refusal with something to store
   act_undone : (left : ℕ) (r : Refusal) (tail : Tail) → TailFits own.layout tail → 2 + length a.counts + tail_left tail < left
@@ -200,18 +139,18 @@ module _ (own : Own) (a : ActiveCall) (facts : Facts own a) (room : own.made < o
           (Goes (Act (make_act (record m { at = Mark found }))))
           (record { frame = fits.frame; core = fits.core; object = fits.object; fill = fits.fill; at = tt }, omega arith, waits)
           (omega arith)
-      blank o = act_refused _ refusal.FrameKind some
+      blank o = act_refused _ Refusal.FrameKind some
 
       by : (k : FrameKind) (o : Obj) (mark : Option ℕ) → TookFits own (2 + length a.counts + making_left m.object make_load) a
           (landed a (meets_blank m found k o mark))
-      by k o (Some d) = act_refused _ (refusal.Busy d) some
-      by frame_kind.Untyped o None = act_refused _ refusal.FrameKind some
-      by frame_kind.User o None = act_refused _ refusal.FrameKind some
-      by frame_kind.Kernel o None = blank o
+      by k o (Some d) = act_refused _ (Refusal.Busy d) some
+      by FrameKind.Untyped o None = act_refused _ Refusal.FrameKind some
+      by FrameKind.User o None = act_refused _ Refusal.FrameKind some
+      by FrameKind.Kernel o None = blank o
 
       met : (o : Option FrameWord) → TookFits own (2 + length a.counts + making_left m.object make_load) a
           (landed a (meets_making m found o))
-      met None = act_refused _ refusal.Raced some
+      met None = act_refused _ Refusal.Raced some
       met (Some v) = by v.kind v.object v.mark
   make_fits m (Mark word) found fits waits = by (found == word)
     where
@@ -228,7 +167,7 @@ module _ (own : Own) (a : ActiveCall) (facts : Facts own a) (room : own.made < o
                 (let fewer = next.1 in omega (arith, fewer, many)),
             counts_next m.core 0 a.counts act (slice_get (dues act) 0) refl (sym waits) (omega arith),
           ) (omega arith)
-      by false = act_refused _ refusal.Raced (omega arith)
+      by false = act_refused _ Refusal.Raced (omega arith)
   make_fits m (Store word entry) found fits waits = by (nat_lt entry (last_word m.object)) refl
     where
       by : (more : Bool) → nat_lt entry (last_word m.object) ≡ more
@@ -251,7 +190,7 @@ module _ (own : Own) (a : ActiveCall) (facts : Facts own a) (room : own.made < o
       by : (equal : Bool) → TookFits own (2 + length a.counts + 2) a (landed a (published m word equal))
       by true = landed_fits own a a refl refl facts.found facts.acquired room 1 _ (published m word true)
           (omega arith, fits.frame) (omega arith)
-      by false = act_undone _ refusal.Raced (Unmark m.frame word) fits.frame (omega arith)
+      by false = act_undone _ Refusal.Raced (Unmark m.frame word) fits.frame (omega arith)
 
   -- the call is decided with nothing to store
   act_changed : (left : ℕ) (r : Reply) (change : OwnChange) → ChangeFits own.layout change → 2 + length a.counts < left
@@ -268,19 +207,19 @@ module _ (own : Own) (a : ActiveCall) (facts : Facts own a) (room : own.made < o
       landed_fits own a a refl refl facts.found facts.acquired room 1 (2 + length a.counts + 2)
       (Goes (Act (tick_act (charge_compare tcap ticks budget version)))) ((fits, small), omega arith, waits) (omega arith)
   marked_fits tcap ticks budget version (Some d) fits small waits =
-      act_changed (2 + length a.counts + 2) (reply.Busy d) (Ticks 0 ticks) tt (omega arith)
+      act_changed (2 + length a.counts + 2) (Reply.Busy d) (Ticks 0 ticks) tt (omega arith)
 
   head_fits : (tcap ticks word : ℕ) (o : Option HeadWord) → head_of_word word ≡ o → tcap < own.layout.frames → length a.counts ≡ 0
       → TookFits own (2 + length a.counts + 2) a (landed a (took_charge ticks (after_head tcap ticks o) (head_end o)))
-  head_fits tcap ticks word None is fits waits = act_changed (2 + length a.counts + 2) reply.Raced (Ticks 0 ticks) tt (omega arith)
+  head_fits tcap ticks word None is fits waits = act_changed (2 + length a.counts + 2) Reply.Raced (Ticks 0 ticks) tt (omega arith)
   head_fits tcap ticks word (Some v) is fits waits =
       marked_fits tcap ticks v.budget v.version v.mark fits (spelling.spells word v is).0.2 waits
 
   charged_fits : (due charged : ℕ) (charge : Charge) (equal : Bool)
       → TookFits own (2 + length a.counts + 1) a (landed a (took_charge due charge (charged_end equal charged)))
   charged_fits due charged charge true =
-      act_changed (2 + length a.counts + 1) (reply.Ok (Amount charged)) (Ticks charged (due - charged)) tt (omega arith)
-  charged_fits due charged charge false = act_changed (2 + length a.counts + 1) reply.Raced (Ticks 0 due) tt (omega arith)
+      act_changed (2 + length a.counts + 1) (Reply.Ok (Amount charged)) (Ticks charged (due - charged)) tt (omega arith)
+  charged_fits due charged charge false = act_changed (2 + length a.counts + 1) Reply.Raced (Ticks 0 due) tt (omega arith)
 
   tick_fits : (charge : Charge) (word : ℕ) → ChargeFits own.layout charge → length a.counts ≡ 0
       → TookFits own (2 + length a.counts + charge_left charge) a (landed a (took_tick charge word))
@@ -300,22 +239,22 @@ module _ (own : Own) (a : ActiveCall) (facts : Facts own a) (room : own.made < o
       some = omega arith
 
       by : (k : FrameKind) (mark : Option ℕ) → TookFits own (2 + length a.counts + 2) a (landed a (maps_frame fill k mark))
-      by k (Some d) = act_refused _ (refusal.Busy d) some
-      by frame_kind.User None =
+      by k (Some d) = act_refused _ (Refusal.Busy d) some
+      by FrameKind.User None =
           landed_fits own a a refl refl facts.found facts.acquired room 1 _ (Goes (Act (fill_act fill))) (fits.0, omega arith, waits)
           (omega arith)
-      by frame_kind.Untyped None = act_refused _ refusal.FrameKind some
-      by frame_kind.Kernel None = act_refused _ refusal.FrameKind some
+      by FrameKind.Untyped None = act_refused _ Refusal.FrameKind some
+      by FrameKind.Kernel None = act_refused _ Refusal.FrameKind some
 
       met : (o : Option FrameWord) → TookFits own (2 + length a.counts + 2) a (landed a (maps_word fill o))
-      met None = act_refused _ refusal.Raced some
+      met None = act_refused _ Refusal.Raced some
       met (Some v) = by v.kind v.mark
-  done_fits (Outside node entry word) found fits waits = act_refused _ refusal.OutOfRange (omega arith)
+  done_fits (Outside node entry word) found fits waits = act_refused _ Refusal.OutOfRange (omega arith)
   done_fits (tick_act charge) found fits waits = tick_fits charge found fits waits
   done_fits (touch_act m) found fits waits = touch_fits own a facts room waits m found fits
   done_fits (flush_act core) found fits waits =
       landed_fits own a a refl refl facts.found facts.acquired room 1 _
-      (work_changes (reply.Ok nothing) Empties None (StoreFlush core (stamp_of_clock found))) (omega arith, fits, tt) (omega arith)
+      (work_changes (Reply.Ok nothing) Empties None (StoreFlush core (stamp_of_clock found))) (omega arith, fits, tt) (omega arith)
   done_fits (kill_act m) found fits waits = kill_fits own a facts room m m.at found fits waits
   done_fits (untype_act m) found fits waits = untype_fits own a facts room m m.at found fits waits
   done_fits (comp_act m) found fits waits = comp_fits own a facts room m m.at found fits waits
@@ -352,18 +291,18 @@ module _ (own : Own) (a : ActiveCall) (facts : Facts own a) (room : own.made < o
   undo_fits (refill_act r) fits = (tt, omega arith)
 
   scan_end_fits : (left : ℕ) (act : ActType) (q : Quiet) (end : StageEnd (Unit {0})) → a.counts ≡ [] → ActFits own.layout act
-      → (end ≡ ends.Going → QuietFits own.layout q × ScanFits own.layout q ×
+      → (end ≡ StageEnd.Going → QuietFits own.layout q × ScanFits own.layout q ×
       (2 + (left_of_scan own.layout.cores q + 3 * length (dues act) + act_left own.layout.cores act) < left))
       → 2 + (3 * length (dues act) + act_left own.layout.cores act) < left → TookFits own left a (landed a (took_scan own.core act q end))
-  scan_end_fits left act q ends.Going none fits goes some =
+  scan_end_fits left act q StageEnd.Going none fits goes some =
       let empty : length a.counts ≡ 0 = ap length none in
       let on = goes refl in
       landed_fits own a a refl refl facts.found facts.acquired room
       (left_of_scan own.layout.cores q + 3 * length (dues act) + act_left own.layout.cores act) left (Goes (Scan q act))
       ((on.0, on.1, fits), omega arith, none) (let fewer = on.2 in omega arith)
-  scan_end_fits left act q (ends.Decided r) none fits goes some =
+  scan_end_fits left act q (StageEnd.Decided r) none fits goes some =
       let empty : length a.counts ≡ 0 = ap length none in act_refused left (refusal_of r) (omega arith)
-  scan_end_fits left act q (ends.Done x) none fits goes some =
+  scan_end_fits left act q (StageEnd.Done x) none fits goes some =
       let empty : length a.counts ≡ 0 = ap length none in
       landed_fits own a a refl refl facts.found facts.acquired room
       (3 * length (dues act) + act_left own.layout.cores act) left (starts own.core act)
@@ -373,7 +312,7 @@ module _ (own : Own) (a : ActiveCall) (facts : Facts own a) (room : own.made < o
       (starts_fit own.layout (steps_later own.layout.cores a)
       (3 * length (dues act) + act_left own.layout.cores act) own.core act facts.own_fits.core fits
       (omega arith))) (omega arith)
-  scan_end_fits left act q (ends.Refuse r) none fits goes some =
+  scan_end_fits left act q (StageEnd.Refuse r) none fits goes some =
       let empty : length a.counts ≡ 0 = ap length none in act_refused left (refusal_of r) (omega arith)
 
   scan_fits : (q : Quiet) (act : ActType) (found : ℕ) → QuietFits own.layout q → ScanFits own.layout q → ActFits own.layout act
@@ -429,35 +368,35 @@ module _ (own : Own) (a : ActiveCall) (facts : Facts own a) (room : own.made < o
   count_end : (left : ℕ) (change : ℤ) (act : ActType) (pin : Pin) (end : StageEnd Pinned) → PinFits own.layout pin
       → EndFits own.layout end → ActFits own.layout act
       → length a.counts < length (dues act)
-      → (end ≡ ends.Going → 2 + length a.counts
+      → (end ≡ StageEnd.Going → 2 + length a.counts
       + (left_of_pin pin + 1 + 3 * (length (dues act) - (length a.counts + 1)) + act_left own.layout.cores act) < left)
       → 2 + length a.counts + (1 + 3 * (length (dues act) - (length a.counts + 1)) + act_left own.layout.cores act) < left
       → TookFits own left a (landed a (took_count own.core (length a.counts) change act pin end))
-  count_end left change act pin ends.Going pin_fits end fits more goes some =
+  count_end left change act pin StageEnd.Going pin_fits end fits more goes some =
       landed_fits own a a refl refl facts.found facts.acquired room
       (left_of_pin pin + 1 + 3 * (length (dues act) - (length a.counts + 1)) + act_left own.layout.cores act) left
       (Goes (Acquire pin change act)) ((pin_fits, fits), omega arith, more) (goes refl)
-  count_end left change act pin (ends.Decided r) pin_fits end fits more goes some =
+  count_end left change act pin (StageEnd.Decided r) pin_fits end fits more goes some =
       let undone = undo_fits act fits in act_undone left (refusal_of r) (undo act) undone.0 (let few = undone.1 in omega arith)
-  count_end left change act pin (ends.Done p) pin_fits end fits more goes some = count_done left p change act end fits more some
-  count_end left change act pin (ends.Refuse r) pin_fits end fits more goes some =
+  count_end left change act pin (StageEnd.Done p) pin_fits end fits more goes some = count_done left p change act end fits more some
+  count_end left change act pin (StageEnd.Refuse r) pin_fits end fits more goes some =
       let undone = undo_fits act fits in act_undone left (refusal_of r) (undo act) undone.0 (let few = undone.1 in omega arith)
 
   -- the load goes on only to the compare
-  pin_goes : (pin : Pin) (found : ℕ) → pin_end pin found ≡ ends.Going → left_of_pin (pin_after pin found) < left_of_pin pin
+  pin_goes : (pin : Pin) (found : ℕ) → pin_end pin found ≡ StageEnd.Going → left_of_pin (pin_after pin found) < left_of_pin pin
   pin_goes (AtLoad frame core) found is = by (count_of_word found) is
     where
-      by_hold : (v : CountWord) (h : Hold) → end_by_hold h ≡ ends.Going → left_of_pin (after_hold frame core v.count v.stamp h) < 2
-      by_hold v hold.Unheld is = omega arith
-      by_hold v (hold.Pinned d) is = absurd (cc)
-      by_hold v (hold.Closed d) is = absurd (cc)
+      by_hold : (v : CountWord) (h : Hold) → end_by_hold h ≡ StageEnd.Going → left_of_pin (after_hold frame core v.count v.stamp h) < 2
+      by_hold v Hold.Unheld is = omega arith
+      by_hold v (Hold.Pinned d) is = absurd (cc)
+      by_hold v (Hold.Closed d) is = absurd (cc)
 
-      by : (o : Option CountWord) → load_end o ≡ ends.Going → left_of_pin (after_load frame core o) < 2
+      by : (o : Option CountWord) → load_end o ≡ StageEnd.Going → left_of_pin (after_load frame core o) < 2
       by None is = absurd (cc)
       by (Some v) is = by_hold v v.hold is
   pin_goes (AtCompare frame core count stamp) found is = absurd (never _ is)
     where
-      never : (b : Bool) → compare_end b (pinned_at frame core count stamp) ≡ ends.Going → ⊥
+      never : (b : Bool) → compare_end b (pinned_at frame core count stamp) ≡ StageEnd.Going → ⊥
       never true h = cc
       never false h = cc
 
@@ -466,9 +405,9 @@ module _ (own : Own) (a : ActiveCall) (facts : Facts own a) (room : own.made < o
   end_fits s (AtLoad frame core) found h = by (count_of_word found)
     where
       by_hold : (h : Hold) → EndFits s (end_by_hold h)
-      by_hold hold.Unheld = tt
-      by_hold (hold.Pinned d) = tt
-      by_hold (hold.Closed d) = tt
+      by_hold Hold.Unheld = tt
+      by_hold (Hold.Pinned d) = tt
+      by_hold (Hold.Closed d) = tt
 
       by : (o : Option CountWord) → EndFits s (load_end o)
       by None = tt
@@ -496,7 +435,7 @@ module _ (own : Own) (a : ActiveCall) (facts : Facts own a) (room : own.made < o
 read_fits : (own : Own) (a : ActiveCall) (look : Look) (o : Option CompWord) → Facts own a → own.made < own.limit
     → LookFits own.layout look → a.counts ≡ []
     → TookFits own (2 + length a.counts + (1 + left_of_look look + steps_later own.layout.cores a)) a (took_read a look o)
-read_fits own a look None facts room fits counts = refused_fits own a facts counts room _ refusal.Raced (omega arith)
+read_fits own a look None facts room fits counts = refused_fits own a facts counts room _ Refusal.Raced (omega arith)
 read_fits own a look (Some life) facts room fits counts =
     landed_fits own a (read_more a life.epoch) refl refl facts.found facts.acquired room
     (left_of_look look + steps_later own.layout.cores a) _ (Goes (Lookup look)) (fits, omega arith, counts) (omega arith)
@@ -541,7 +480,7 @@ module _ (own : Own) (a : ActiveCall) (facts : Facts own a) (none : a.counts ≡
   -- it is asked on, in fewer steps
   asks_fits : (left : ℕ) (alive : Alive) → AliveFits own.layout alive → left_of_alive alive < left
       → TookFits own (2 + left + look_steps (names_left a) (plan_for a.call).target + act_steps a.call own.layout.cores) a
-      (took_alive own a alive ends.Going)
+      (took_alive own a alive StageEnd.Going)
   asks_fits left alive fits fewer = record {
     call = refl;
     found = facts.found;
@@ -561,26 +500,26 @@ module _ (own : Own) (a : ActiveCall) (facts : Facts own a) (none : a.counts ≡
   lives_fits alive true =
       works_fits own a facts none room (look_steps (names_left a) (plan_for a.call).target + act_steps a.call own.layout.cores) _ _
       (next_fits own a facts) (omega arith)
-  lives_fits alive false = refused_fits own a facts none room _ (refusal_of reply.Dead) (omega arith)
+  lives_fits alive false = refused_fits own a facts none room _ (refusal_of Reply.Dead) (omega arith)
 
   number_fits : (alive : Alive) (epoch : ℕ) (number : LiveWord)
       → TookFits own (2 + 1 + look_steps (names_left a) (plan_for a.call).target + act_steps a.call own.layout.cores) a
       (took_alive own a alive (number_end epoch number))
-  number_fits alive epoch live_word.Free = refused_fits own a facts none room _ (refusal_of reply.Dead) (omega arith)
-  number_fits alive epoch (live_word.Live now frame) = lives_fits alive (now == epoch)
-  number_fits alive epoch (live_word.Closing now by) = refused_fits own a facts none room _ (refusal_of (reply.Busy by)) (omega arith)
-  number_fits alive epoch (live_word.Dead now stamp) = refused_fits own a facts none room _ (refusal_of reply.Dead) (omega arith)
+  number_fits alive epoch LiveWord.Free = refused_fits own a facts none room _ (refusal_of Reply.Dead) (omega arith)
+  number_fits alive epoch (LiveWord.Live now frame) = lives_fits alive (now == epoch)
+  number_fits alive epoch (LiveWord.Closing now by) = refused_fits own a facts none room _ (refusal_of (Reply.Busy by)) (omega arith)
+  number_fits alive epoch (LiveWord.Dead now stamp) = refused_fits own a facts none room _ (refusal_of Reply.Dead) (omega arith)
 
   live_fits : (alive : Alive) (epoch : ℕ) (o : Option LiveWord)
       → TookFits own (2 + 1 + look_steps (names_left a) (plan_for a.call).target + act_steps a.call own.layout.cores) a
       (took_alive own a alive (live_end epoch o))
-  live_fits alive epoch None = refused_fits own a facts none room _ (refusal_of reply.Raced) (omega arith)
+  live_fits alive epoch None = refused_fits own a facts none room _ (refusal_of Reply.Raced) (omega arith)
   live_fits alive epoch (Some number) = number_fits alive epoch number
 
   loaded_fits : (comp : ℕ) (o : Option CompWord) → AliveFits own.layout (comp_after comp o)
       → TookFits own (2 + 2 + look_steps (names_left a) (plan_for a.call).target + act_steps a.call own.layout.cores) a
       (took_alive own a (comp_after comp o) (comp_end o))
-  loaded_fits comp None fits = refused_fits own a facts none room _ (refusal_of reply.Raced) (omega arith)
+  loaded_fits comp None fits = refused_fits own a facts none room _ (refusal_of Reply.Raced) (omega arith)
   loaded_fits comp (Some life) fits = asks_fits 2 (AtLive life) fits (omega arith)
 
   alive_fits : (alive : Alive) (found : ℕ) → AliveFits own.layout alive

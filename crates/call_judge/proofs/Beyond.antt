@@ -1,35 +1,19 @@
 -- A retype of a frame that the machine does not have is refused by its range alone: nothing refers to such a frame, and its grace
 -- period never began.
-use Rattle.std.proofs.Common.{◌≡◌, ◌≢◌, ◌⊎◌, inl, inr, ℕ, zero, suc, ◌+◌, ◌<◌, ◌≤◌, ◌==◌, Bool, true, false, not, ◌&&◌, nat_lt, cond}
-use Rattle.std.proofs.Common.{if◌then◌else◌, refl, sym, ◌∙◌, ap, subst, arith, List, [], ◌∷◌, IsTrue}
-use Rattle.std.proofs.lemmas.Bool.{false≢true, ne_eqb, ltb-false}
-use Rattle.spk_nums.specs.Setting.{Setting, IsSetting}
-use Rattle.spk_nums.specs.declared.kinds.Kind.{Kind}
+use Rattle.plain_kernel.specs.kernel_laws.proofs as low
+use low.{◌≡◌, ◌≢◌, ◌⊎◌, inl, inr, ℕ, zero, suc, ◌+◌, ◌<◌, ◌≤◌, ◌==◌, Bool, true, false, not, ◌&&◌, ltb as nat_lt, cond, if◌then◌else◌, refl}
+use low.{sym, ◌∙◌, ap, subst, arith, List, [], ◌∷◌, IsTrue, false≢true, ne_eqb, ltb-false, Setting, IsSetting, Kind, Call, Retype, Reply}
+use low.{Place, Free, Holds, Quiescing, Comp, Thread, Frame, Untyped, Kernel, Liveness, Unused, Live, Dead, Grace, FrameOf, Limits, State}
+use low.{put, no_grace, named_by, place_names, frame_names, number_names, core_names, sum_below, times, node_refs, refs, new_grace, RuleMay}
+use low.{OneMay, retype_rule, is_empty, rule_of, begins, ends, flushes, Event, Enters, Decides, Returns, after, Open, phase_of, is_open}
+use low.{IsRun, fits, IsSound, IsStack, IsObjectGood, IsOpen, opened, limits_stay, runs_sound, grace_is, flushed_by}
+use Rattle.seq_plans.specs.{retype_beyond, judged_rule, Iff}
+use Rattle.seq_state.specs.kernel_invariant.proofs.{AreComps, is_typed, begins_typed}
+use Rattle.plain_kernel.specs.same_changes.proofs.{is_some_kind, fit_below}
+use Rattle.seq_state.specs.kernel_rules.specs.GracePeriods.{passed}
 use Rattle.spk_nums.specs.declared.kinds.Kind.TheVariants as kind
 use Rattle.spk_nums.specs.declared.kinds.FrameKind.TheVariants as frame_kind
-use Rattle.spk_nums.specs.declared.calls.Call.{Call}
-use Rattle.spk_nums.specs.declared.calls.Call.TheVariants.{Retype}
-use Rattle.spk_nums.specs.declared.replies.Reply.{Reply}
 use Rattle.spk_nums.specs.declared.replies.Reply.TheVariants as reply
-use Rattle.kernel_rules.specs.State.{Place, Free, Holds, Quiescing, Comp, Thread, Frame, Untyped, Kernel, Liveness, Unused, Live, Dead}
-use Rattle.kernel_rules.specs.State.{Grace, FrameOf, Limits, State, put}
-use Rattle.kernel_rules.specs.Start.{no_grace}
-use Rattle.kernel_rules.specs.References.{named_by, place_names, frame_names, number_names, core_names, sum_below, times, node_refs, refs}
-use Rattle.kernel_rules.specs.GracePeriods.{new_grace, passed}
-use Rattle.kernel_rules.specs.Rules.{RuleMay, OneMay}
-use Rattle.kernel_rules.specs.MemoryCalls.{retype_rule, is_empty}
-use Rattle.kernel_rules.specs.CallRelation.{rule_of, begins, ends, flushes}
-use Rattle.kernel_rules.specs.Runs.{Event, Enters, Decides, Returns, after, Open, phase_of, is_open, IsRun}
-use Rattle.kernel_rules.specs.Fitting.{fits}
-use Rattle.kernel_invariant.proofs.Sound.{IsSound, IsStack, AreComps, IsObjectGood}
-use Rattle.kernel_invariant.proofs.SoundCalls.{IsOpen}
-use Rattle.kernel_invariant.proofs.SoundRuns.{opened, limits_stay, runs_sound}
-use Rattle.kernel_invariant.proofs.GraceChanges.{grace_is, flushed_by}
-use Rattle.kernel_invariant.proofs.FrameTurns.{is_typed}
-use Rattle.kernel_invariant.proofs.Releases.{begins_typed}
-use Rattle.plain_kernel.specs.same_changes.proofs.Reaching.{is_some_kind, fit_below}
-use Rattle.seq_plans.specs.OwnCauses.{retype_beyond, judged_rule}
-use Rattle.seq_plans.specs.Refusals.{Iff}
 
 -- ---- references
 
@@ -162,9 +146,9 @@ no_grace_of setting lim (Decides c call r ∷ events) run f past =
 
 module _ (s : State) (c r f : ℕ) (q : Reply) (past : nat_lt f s.limits.frames ≡ false) (untyped : s.frame f ≡ Untyped)
     (bare : refs s f ≡ 0) (calm : IsNone (s.grace (FrameOf f))) where
-  not_else : OneMay s c (Rattle.kernel_rules.specs.MemoryCalls.not_retyped s f frame_kind.Untyped) q → ⊥
+  not_else : OneMay s c (Rattle.seq_state.specs.kernel_rules.specs.MemoryCalls.not_retyped s f frame_kind.Untyped) q → ⊥
   not_else h = elim h [
-    | inl kind ↦ false≢true (sym (ap (λ b. b && Rattle.kernel_rules.specs.MemoryCalls.is_untyped (s.frame f)) past) ∙ kind.0)
+    | inl kind ↦ false≢true (sym (ap (λ b. b && Rattle.seq_state.specs.kernel_rules.specs.MemoryCalls.is_untyped (s.frame f)) past) ∙ kind.0)
     | inr h1 ↦ elim h1 [
       | inl refs ↦ false≢true (sym (ap (nat_lt 0) bare) ∙ refs.0)
       | inr h2 ↦ elim h2 [
@@ -180,11 +164,11 @@ module _ (s : State) (c r f : ℕ) (q : Reply) (past : nat_lt f s.limits.frames 
     ]
   ]
     where
-      no_wait : (q : Reply) → Rattle.kernel_rules.specs.Rules.WaitedMay s c (FrameOf f) q → ⊥
+      no_wait : (q : Reply) → Rattle.seq_state.specs.kernel_rules.specs.Rules.WaitedMay s c (FrameOf f) q → ⊥
       no_wait (reply.Quiescing e) h = false≢true (sym (calm.passed e) ∙ h.not_passed)
       no_wait _ h = h
 
-      no_flush : (q : Reply) → Rattle.kernel_rules.specs.Rules.UnflushedMay s (FrameOf f) q → ⊥
+      no_flush : (q : Reply) → Rattle.seq_state.specs.kernel_rules.specs.Rules.UnflushedMay s (FrameOf f) q → ⊥
       no_flush (reply.Unflushed e) h = false≢true (sym (calm.flushed e) ∙ h.flush_unknown)
       no_flush _ h = h
 

@@ -1,40 +1,16 @@
 -- A call carried out with a value, or put back.
-use Rattle.std.proofs.Common.{◌≡◌, ◌≢◌, inl, inr, ℕ, ◌<◌, ◌==◌, true, false, if◌then◌else◌, refl, sym, ◌∙◌, ap, subst, [], ◌∷◌}
-use Rattle.std.proofs.Common.{Option, Some, None, IsTrue, IsFalse}
-use Rattle.std.proofs.lemmas.Bool.{cases_eq, false≢true, true≢false}
-use Rattle.spk_nums.specs.declared.calls.Make.{Make}
-use Rattle.spk_nums.specs.declared.calls.Make.TheVariants as make
-use Rattle.spk_nums.specs.declared.kinds.FrameKind.{FrameKind}
-use Rattle.spk_nums.specs.declared.kinds.FrameKind.TheVariants as frame_kind
-use Rattle.spk_nums.specs.declared.calls.Call.{Call}
-use Rattle.spk_nums.specs.declared.calls.Call.TheVariants.{Look, Copy, Remove, Grow, Shrink, Retype, Make as make_call}
-use Rattle.spk_nums.specs.declared.calls.Call.TheVariants.{Map, Unmap, Touch, Flush, Gate, Kill, Call as call_gate}
-use Rattle.spk_nums.specs.declared.calls.Call.TheVariants.{Ret, Switch, Tick, Transfer, Delegate, Test, Part, Replenish}
-use Rattle.spk_nums.specs.declared.translations.Translation.{Translation}
-use Rattle.spk_nums.specs.declared.replies.Value.{Value}
-use Rattle.spk_nums.specs.declared.replies.Value.TheVariants.{Nothing}
-use Rattle.spk_nums.specs.declared.replies.Reply.{Reply}
-use Rattle.spk_nums.specs.declared.replies.Reply.TheVariants as reply
-use Rattle.kernel_rules.specs.State.{Core, Frame, Limits, State, with_frame, with_core, comp_of, thread_in}
-use Rattle.kernel_rules.specs.Access.{found}
-use Rattle.kernel_rules.specs.GracePeriods.{begun}
-use Rattle.kernel_rules.specs.Laws.{IsRefusal}
-use Rattle.kernel_rules.specs.Rules.{Change, Judged, Refused, Found}
-use Rattle.kernel_rules.specs.MemoryCalls.{translation_of, touch_by}
-use Rattle.kernel_rules.specs.InvocationCalls.{switch_to}
-use Rattle.kernel_rules.specs.CallRelation.{rule_of, change_of}
-use Rattle.kernel_rules.specs.Alone.{reply_in}
-use Rattle.kernel_rules.proofs.AloneLaw.{core_inside}
-use Rattle.kernel_rules.proofs.Changes.{AllChanges, IfFound, outcome_all}
-use Rattle.kernel_rules.proofs.Within.{put_same, put_other}
-use Rattle.seq_state.specs.Maps.{Maps, state_of}
-use Rattle.seq_state.specs.Representation.{SameState, Represents}
-use Rattle.seq_state.proofs.Same.{same_then, same_grace_by, same_frame, same_core}
-use Rattle.seq_lookups.specs.Carried.{IsCarriedOut}
-use Rattle.call_judge.specs.Judged.{RefusesPlainly, CarriesOut, IsAnswerOf}
-use Rattle.call_judge.specs.Putting.{AgreesBut, answers_value}
+use Rattle.seq_state.proofs.{◌≡◌, ◌≢◌, inl, inr, ℕ, ◌<◌, ◌==◌, true, false, if◌then◌else◌, refl, sym, ◌∙◌, ap, subst, [], ◌∷◌, Option, Some}
+use Rattle.seq_state.proofs.{None, IsTrue, IsFalse, false≢true, true≢false, FrameKind, Call, Look, Copy, Remove, Grow, Shrink, Retype}
+use Rattle.seq_state.proofs.{Make as make_call, Map, Unmap, Touch, Flush, Gate, Kill, Ret, Switch, Tick, Transfer, Delegate, Test, Part}
+use Rattle.seq_state.proofs.{Replenish, Translation, Value, Nothing, Reply, Limits, State, with_frame, with_core, comp_of, thread_in, found}
+use Rattle.seq_state.proofs.{begun, Change, Judged, Refused, Found, translation_of, touch_by, switch_to, rule_of, change_of, reply_in}
+use Rattle.seq_state.proofs.{IfFound, state_of, SameState, Represents, same_then, same_grace_by, same_frame, same_core}
+use Rattle.seq_state.specs.kernel_rules.proofs.{Make, Core, Frame, IsRefusal, AllChanges, outcome_all, put_same, put_other}
+use Rattle.call_judge.specs.{Judged.RefusesPlainly, Judged.CarriesOut, Judged.IsAnswerOf, Putting.AgreesBut, Putting.answers_value}
+use Rattle.{std.proofs.lemmas.Bool.cases_eq, spk_nums.specs.declared.calls.Call.TheVariants.Call as call_gate}
+use Rattle.{seq_state.specs.kernel_rules.proofs.AloneLaw.core_inside, seq_state.specs.Maps.Maps, seq_lookups.specs.Carried.IsCarriedOut}
 
-value_is : (v u : Value) → reply.Ok v ≡ reply.Ok u → v ≡ u
+value_is : (v u : Value) → Reply.Ok v ≡ Reply.Ok u → v ≡ u
 value_is v u e = cc
 
 -- ---- calls that answer nothing
@@ -43,19 +19,19 @@ answers_nothing : Change → Type 0
 answers_nothing change = change.value ≡ Nothing
 
 nothing_made : (s : State) (c : ℕ) (what : Make) (r f x b : ℕ)
-    → AllChanges s c (λ change. change.value ≡ Nothing) (Rattle.kernel_rules.specs.CapabilityCalls.make_rule s what r f x b)
-nothing_made s c make.Table r f x b = λ range table at. refl
-nothing_made s c (make.Thread comp) r f x b = λ range table comp at. refl
-nothing_made s c (make.Comp y p l) r f x b = λ range table own_table own_pages at. refl
+    → AllChanges s c (λ change. change.value ≡ Nothing) (Rattle.seq_state.specs.kernel_rules.specs.CapabilityCalls.make_rule s what r f x b)
+nothing_made s c Make.Table r f x b = λ range table at. refl
+nothing_made s c (Make.Thread comp) r f x b = λ range table comp at. refl
+nothing_made s c (Make.Comp y p l) r f x b = λ range table own_table own_pages at. refl
 nothing_made s c _ r f x b = λ range table at. refl
 
 nothing_typed : (s : State) (c : ℕ) (r f : ℕ) (k : FrameKind)
-    → AllChanges s c (λ change. change.value ≡ Nothing) (Rattle.kernel_rules.specs.MemoryCalls.retype_rule s r f k)
-nothing_typed s c r f frame_kind.Untyped = λ range. refl
-nothing_typed s c r f frame_kind.User = λ range. refl
-nothing_typed s c r f frame_kind.Kernel = λ range. refl
+    → AllChanges s c (λ change. change.value ≡ Nothing) (Rattle.seq_state.specs.kernel_rules.specs.MemoryCalls.retype_rule s r f k)
+nothing_typed s c r f FrameKind.Untyped = λ range. refl
+nothing_typed s c r f FrameKind.User = λ range. refl
+nothing_typed s c r f FrameKind.Kernel = λ range. refl
 
-nothing_switched : (s : State) (c : ℕ) (h : Rattle.kernel_rules.specs.Access.Named) (q : ℕ) (e : Option ℕ)
+nothing_switched : (s : State) (c : ℕ) (h : Rattle.seq_state.specs.kernel_rules.specs.Access.Named) (q : ℕ) (e : Option ℕ)
     → AllChanges s c (λ change. change.value ≡ Nothing) (switch_to h q e)
 nothing_switched s c h q None = refl
 nothing_switched s c h q (Some e) = refl
@@ -158,7 +134,7 @@ restored s u v f c near put_back = same_then v (with_core (with_frame u f (s.fra
 -- ---- what is answered
 
 -- What was carried out with a value, of what is judged.
-found_value : (s : State) (j : Judged Change) (v : Value) (k : Maps) → RefusesPlainly j → IsCarriedOut s j (reply.Ok v) k
+found_value : (s : State) (j : Judged Change) (v : Value) (k : Maps) → RefusesPlainly j → IsCarriedOut s j (Reply.Ok v) k
     → (P : Change → Type 0) → IfFound j P
     → (change : Change) × (change.value ≡ v) × P change × Represents k (begun s change.begins change.next)
 found_value s (Refused r) v k plain h P all = absurd (subst IsRefusal (sym h.reply) plain)
@@ -170,7 +146,7 @@ left_alone : (s : State) (j : Judged Change) (r : Reply) (k : Maps) → IsRefusa
 left_alone s (Refused q) r k refused h = h.state
 left_alone s (Found change) r k refused h = absurd (subst IsRefusal h.reply refused)
 
-not_this : (r p : Reply) (v : Value) → IsRefusal r → r ≡ p → p ≡ reply.Ok v → ⊥
+not_this : (r p : Reply) (v : Value) → IsRefusal r → r ≡ p → p ≡ Reply.Ok v → ⊥
 not_this r p v refused e is = subst IsRefusal (e ∙ is) refused
 
 -- A call that answers nothing.
@@ -180,35 +156,35 @@ pub plain_result : (s : State) (c : ℕ) (call : Call) (o : Option Value) (r : R
 plain_result s c call None r k plain is calm h =
     (not_this r (reply_in (change_of s c call)) Nothing is h.reply, left_alone s (change_of s c call) r k is h)
 plain_result s c call (Some v) r k plain is calm h =
-    let here : IsCarriedOut s (change_of s c call) (reply.Ok v) k = subst (λ q. IsCarriedOut s (change_of s c call) q k) is h in
+    let here : IsCarriedOut s (change_of s c call) (Reply.Ok v) k = subst (λ q. IsCarriedOut s (change_of s c call) q k) is h in
     let got = found_value s (change_of s c call) v k calm here (λ change. change.value ≡ Nothing)
     (outcome_all (λ change. change.value ≡ Nothing) s c (rule_of s c call) (nothing s c call plain)) in
-    subst (λ u. IsCarriedOut s (change_of s c call) (reply.Ok u) k) (sym got.1 ∙ got.2) here
+    subst (λ u. IsCarriedOut s (change_of s c call) (Reply.Ok u) k) (sym got.1 ∙ got.2) here
 
 -- A call that answers nothing does not answer another value.
 pub other_result : (s : State) (c : ℕ) (call : Call) (v : Value) → IsFalse (answers_value call) → (v ≡ Nothing → ⊥)
-    → RefusesPlainly (change_of s c call) → reply_in (change_of s c call) ≡ reply.Ok v → ⊥
+    → RefusesPlainly (change_of s c call) → reply_in (change_of s c call) ≡ Reply.Ok v → ⊥
 other_result s c call v plain other calm is = by_outcome (change_of s c call) calm
     (outcome_all (λ change. change.value ≡ Nothing) s c (rule_of s c call) (nothing s c call plain)) is
   where
-    by_outcome : (j : Judged Change) → RefusesPlainly j → IfFound j (λ change. change.value ≡ Nothing) → reply_in j ≡ reply.Ok v → ⊥
+    by_outcome : (j : Judged Change) → RefusesPlainly j → IfFound j (λ change. change.value ≡ Nothing) → reply_in j ≡ Reply.Ok v → ⊥
     by_outcome (Refused r) calm all e = subst IsRefusal e calm
     by_outcome (Found change) calm all e = other (sym (value_is change.value v e) ∙ all)
 
 -- A call that answers this value.
-pub same_result : (s : State) (j : Judged Change) (u v : Value) (r : Reply) (k : Maps) → r ≡ reply.Ok u → u ≡ v → IsCarriedOut s j r k
-    → IsCarriedOut s j (reply.Ok v) k
-same_result s j u v r k is same h = subst (λ q. IsCarriedOut s j q k) (is ∙ ap reply.Ok same) h
+pub same_result : (s : State) (j : Judged Change) (u v : Value) (r : Reply) (k : Maps) → r ≡ Reply.Ok u → u ≡ v → IsCarriedOut s j r k
+    → IsCarriedOut s j (Reply.Ok v) k
+same_result s j u v r k is same h = subst (λ q. IsCarriedOut s j q k) (is ∙ ap Reply.Ok same) h
 
 -- A call that answers another value, and is put back.
 pub put_back_result : (s : State) (c : ℕ) (call : Call) (u v : Value) (r : Reply) (k k' : Maps) (kept : Core) (tcap : Frame)
     → c < s.limits.cores → IsTrue (answers_value call) → kept ≡ s.core c → tcap ≡ s.frame kept.tcap
-    → r ≡ reply.Ok u → (u ≡ v → ⊥) → RefusesPlainly (change_of s c call) → IsCarriedOut s (change_of s c call) r k
+    → r ≡ Reply.Ok u → (u ≡ v → ⊥) → RefusesPlainly (change_of s c call) → IsCarriedOut s (change_of s c call) r k
     → (c < (state_of k).limits.cores → kept.inside ≡ ((state_of k).core c).inside
     → Represents k' (with_core (with_frame (state_of k) kept.tcap tcap) c kept))
-    → (reply_in (change_of s c call) ≡ reply.Ok v → ⊥) × Represents k' s
+    → (reply_in (change_of s c call) ≡ Reply.Ok v → ⊥) × Represents k' s
 put_back_result s c call u v r k k' kept tcap below some kept_is tcap_is is other calm h puts =
-    let here : IsCarriedOut s (change_of s c call) (reply.Ok u) k = subst (λ q. IsCarriedOut s (change_of s c call) q k) is h in
+    let here : IsCarriedOut s (change_of s c call) (Reply.Ok u) k = subst (λ q. IsCarriedOut s (change_of s c call) q k) is h in
     let got = found_value s (change_of s c call) u k calm here (Nearly s c)
     (outcome_all (Nearly s c) s c (rule_of s c call) (nearly s c call some)) in
     let f = (s.core c).tcap in
@@ -228,5 +204,5 @@ put_back_result s c call u v r k k' kept tcap below some kept_is tcap_is is othe
 
 -- A refused call.
 pub refused_result : (s : State) (j : Judged Change) (v : Value) (r : Reply) (k : Maps) → IsRefusal r → IsCarriedOut s j r k
-    → (reply_in j ≡ reply.Ok v → ⊥) × Represents k s
+    → (reply_in j ≡ Reply.Ok v → ⊥) × Represents k s
 refused_result s j v r k refused h = (not_this r (reply_in j) v refused h.reply, left_alone s j r k refused h)

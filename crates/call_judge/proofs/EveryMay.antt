@@ -1,43 +1,22 @@
 -- Every call may be refused alike in two states that are one for the machine, one of them reached.
-use Rattle.std.proofs.Common.{◌≡◌, ℕ, ◌+◌, ◌<◌, ◌==◌, Bool, true, false, not, ◌&&◌, refl, sym, ◌∙◌, ap, subst}
-use Rattle.std.proofs.Common.{nat_le, nat_lt, if◌then◌else◌, arith, [], ◌∷◌, length, Option, Some, None, IsTrue, min}
-use Rattle.std.proofs.lemmas.Bool.{false≢true, ltb-true}
-use Rattle.spk_nums.specs.Capability.{Capability}
-use Rattle.spk_nums.specs.Merging.{merged, covers}
-use Rattle.spk_nums.specs.CallLimits.{InLimits, MakeInLimits}
-use Rattle.spk_nums.specs.declared.kinds.Kind.{Kind}
-use Rattle.spk_nums.specs.declared.kinds.Kind.TheVariants as kind
-use Rattle.spk_nums.specs.declared.kinds.FrameKind.TheVariants as frame_kind
-use Rattle.spk_nums.specs.declared.translations.Translation.{Translation}
-use Rattle.spk_nums.specs.declared.calls.Make.{Make}
-use Rattle.spk_nums.specs.declared.calls.Make.TheVariants as make
-use Rattle.spk_nums.specs.declared.calls.Call.{Call}
-use Rattle.spk_nums.specs.declared.calls.Call.TheVariants.{Look, Copy, Remove, Grow, Shrink, Retype, Make as make_call}
-use Rattle.spk_nums.specs.declared.calls.Call.TheVariants.{Map, Unmap, Touch, Flush, Gate, Kill, Call as call_gate}
-use Rattle.spk_nums.specs.declared.calls.Call.TheVariants.{Ret, Switch, Tick, Transfer, Delegate, Test, Part, Replenish}
-use Rattle.spk_nums.specs.declared.replies.Reply.TheVariants as reply
-use Rattle.kernel_rules.specs.State.{Limits, CompFields, ThreadFields, TcapFields, Object, State, comp_in, comp_of, thread_in, tcap_in, Core}
-use Rattle.kernel_rules.specs.State.{outstanding}
-use Rattle.kernel_rules.specs.Access.{to_use, Named, found, not_found, only, root}
-use Rattle.kernel_rules.specs.Rules.{Judged, Refused, Found, named, name_of}
-use Rattle.kernel_rules.specs.CapabilityCalls.{is_live, epoch_of, is_blank, not_blank}
-use Rattle.kernel_rules.specs.MemoryCalls.{is_untyped, is_user, is_empty, translation_of, touch_by, retype_rule}
-use Rattle.kernel_rules.specs.InvocationCalls.{kill_comp, switch_to}
-use Rattle.kernel_rules.specs.Life.{is_live_in}
-use Rattle.kernel_rules.specs.TimeCalls.{are_alike}
-use Rattle.kernel_rules.specs.Edits.{tcap_at}
-use Rattle.kernel_rules.specs.CallRelation.{rule_of}
-use Rattle.kernel_rules.specs.Fitting.{fits}
-use Rattle.kernel_rules.specs.Relies.{is_node}
-use Rattle.kernel_invariant.proofs.Facts.{named_fit}
-use Rattle.seq_state.proofs.Same.{same_refs}
-use Rattle.plain_kernel.specs.same_changes.proofs.Reaching.{Twins, is_some_kind, fit_below, core_below, pages_good, core_same, comp_same}
-use Rattle.plain_kernel.specs.same_changes.proofs.Reaching.{thread_same}
+use Rattle.plain_kernel.specs.kernel_laws.proofs as low
+use low.{◌≡◌, ℕ, ◌+◌, ◌<◌, ◌==◌, Bool, true, false, not, ◌&&◌, refl, sym, ◌∙◌, ap, subst, leb as nat_le, ltb as nat_lt, if◌then◌else◌}
+use low.{arith, [], ◌∷◌, length, Option, Some, None, IsTrue, min, false≢true, ltb-true, Capability, covers, InLimits, Kind, Translation}
+use low.{Call, Look, Copy, Remove, Grow, Shrink, Retype, Make as make_call, Map, Unmap, Touch, Flush, Gate, Kill, Ret, Switch, Tick}
+use low.{Transfer, Delegate, Test, Part, Replenish, Limits, CompFields, ThreadFields, TcapFields, Object, State, comp_in, comp_of}
+use low.{thread_in, tcap_in, Core, outstanding, to_use, Named, found, only, root, Judged, Refused, Found, named, name_of, is_live, epoch_of}
+use low.{is_blank, not_blank, is_untyped, is_user, is_empty, translation_of, touch_by, retype_rule, switch_to, is_live_in, are_alike}
+use low.{tcap_at, rule_of, fits, is_node, named_fit, FrameKind, Reply}
+use Rattle.plain_kernel.specs.same_changes.proofs.{Twins, is_some_kind, fit_below, core_below, comp_same}
+use Rattle.seq_state.specs.kernel_rules.specs.{merged, Make, not_found}
+use Rattle.seq_plans.specs.{retype_beyond, judged_rule}
+use Rattle.spk_nums.specs.{CallLimits.MakeInLimits, declared.calls.Call.TheVariants.Call as call_gate}
+use Rattle.plain_kernel.specs.same_changes.proofs.Reaching.{pages_good, core_same, thread_same}
 use Rattle.plain_kernel.specs.same_changes.proofs.CapabilityRules.{root_named, frame_test}
 use Rattle.plain_kernel.specs.same_changes.proofs.MemoryRules.{named_pages, empty_same}
 use Rattle.plain_kernel.specs.same_changes.proofs.TimeRules.{named_frame, named_table, alive_same, gate_comp}
-use Rattle.seq_plans.specs.OwnCauses.{retype_beyond, judged_rule}
 use Rattle.call_judge.proofs.SameMay.{SameMayCause, SameMayRule}
+use Rattle.{seq_state.specs.kernel_rules.specs.InvocationCalls.kill_comp, seq_state.proofs.Same.same_refs}
 
 -- P holds of what a name leads to, where it holds of what was found and of what was not.
 name_all : (P : Named → Type 0) (j : Judged Capability) → ((k : Capability) → j ≡ Found k → P (found k)) → P not_found → P (name_of j)
@@ -45,14 +24,14 @@ name_all P (Refused r) of_found of_none = of_none
 name_all P (Found k) of_found of_none = of_found k refl
 
 module _ {t s : State} {o : ℕ → Bool} {c : ℕ} (w : Twins t s o c) where
-  table_root : (n : ℕ) → (let k : Named = name_of (named s c n (to_use (only kind.Table))) in
+  table_root : (n : ℕ) → (let k : Named = name_of (named s c n (to_use (only Kind.Table))) in
       k.found ≡ true → IsTrue (is_node (s.frame k.frame)))
-  table_root n = name_all (λ k. k.found ≡ true → IsTrue (is_node (s.frame k.frame))) (named s c n (to_use (only kind.Table)))
+  table_root n = name_all (λ k. k.found ≡ true → IsTrue (is_node (s.frame k.frame))) (named s c n (to_use (only Kind.Table)))
       (λ k is on. named_table w n k is) (λ no. absurd (false≢true no))
 
-  pages_root : (n : ℕ) → (let k : Named = name_of (named s c n (to_use (only kind.Pages))) in
+  pages_root : (n : ℕ) → (let k : Named = name_of (named s c n (to_use (only Kind.Pages))) in
       k.found ≡ true → IsTrue (is_node (s.frame k.frame)))
-  pages_root n = name_all (λ k. k.found ≡ true → IsTrue (is_node (s.frame k.frame))) (named s c n (to_use (only kind.Pages)))
+  pages_root n = name_all (λ k. k.found ≡ true → IsTrue (is_node (s.frame k.frame))) (named s c n (to_use (only Kind.Pages)))
       (λ k is on. named_pages w n k is) (λ no. absurd (false≢true no))
 
   root_root : (n : ℕ) → (let k : Named = name_of (named s c n (to_use root)) in k.found ≡ true → IsTrue (is_node (s.frame k.frame)))
@@ -62,7 +41,7 @@ module _ {t s : State} {o : ℕ → Bool} {c : ℕ} (w : Twins t s o c) where
   -- The machine has a frame 0, which stands for what was not found.
   some_frame : 0 < s.limits.frames
   some_frame =
-      let below = fit_below s o kind.Thread (s.core c).thread w.sound refl (w.sound.cores c (core_below w)).0 in
+      let below = fit_below s o Kind.Thread (s.core c).thread w.sound refl (w.sound.cores c (core_below w)).0 in
       omega (arith, below)
 
   -- The frame of what a name of this kind leads to is the same in both states.
@@ -77,23 +56,23 @@ module _ {t s : State} {o : ℕ → Bool} {c : ℕ} (w : Twins t s o c) where
   -- ---- capabilities
 
   make_node_may : (object : Object) (k : Kind) (r f x b : ℕ)
-      → SameMayRule w (Rattle.kernel_rules.specs.CapabilityCalls.make_node t object k r f x b)
-      (Rattle.kernel_rules.specs.CapabilityCalls.make_node s object k r f x b)
+      → SameMayRule w (Rattle.seq_state.specs.kernel_rules.specs.CapabilityCalls.make_node t object k r f x b)
+      (Rattle.seq_state.specs.kernel_rules.specs.CapabilityCalls.make_node s object k r f x b)
   make_node_may object k r f x b =
       (refl, refl, (refl, refl, (refl, table_root x, ((refl, λ on. refl), (blank_may f, tt)))))
 
   make_may : (what : Make) (r f x b : ℕ) → MakeInLimits what
-      → SameMayRule w (Rattle.kernel_rules.specs.CapabilityCalls.make_rule t what r f x b)
-      (Rattle.kernel_rules.specs.CapabilityCalls.make_rule s what r f x b)
-  make_may make.Table r f x b fit = make_node_may Rattle.kernel_rules.specs.State.Table kind.Table r f x b
-  make_may make.Leaf r f x b fit = make_node_may Rattle.kernel_rules.specs.State.Leaf kind.Leaf r f x b
-  make_may make.Pages r f x b fit = make_node_may Rattle.kernel_rules.specs.State.Pages kind.Pages r f x b
-  make_may make.Pleaf r f x b fit = make_node_may Rattle.kernel_rules.specs.State.Pleaf kind.Pleaf r f x b
-  make_may (make.Thread comp) r f x b fit =
+      → SameMayRule w (Rattle.seq_state.specs.kernel_rules.specs.CapabilityCalls.make_rule t what r f x b)
+      (Rattle.seq_state.specs.kernel_rules.specs.CapabilityCalls.make_rule s what r f x b)
+  make_may Make.Table r f x b fit = make_node_may Rattle.seq_state.specs.kernel_rules.specs.State.Table Kind.Table r f x b
+  make_may Make.Leaf r f x b fit = make_node_may Rattle.seq_state.specs.kernel_rules.specs.State.Leaf Kind.Leaf r f x b
+  make_may Make.Pages r f x b fit = make_node_may Rattle.seq_state.specs.kernel_rules.specs.State.Pages Kind.Pages r f x b
+  make_may Make.Pleaf r f x b fit = make_node_may Rattle.seq_state.specs.kernel_rules.specs.State.Pleaf Kind.Pleaf r f x b
+  make_may (Make.Thread comp) r f x b fit =
       (refl, refl, (refl, refl, (refl, refl, (refl, table_root x, ((refl, λ on. refl), (blank_may f, tt))))))
-  make_may (make.Tcap sched quality) r f x b fit =
+  make_may (Make.Tcap sched quality) r f x b fit =
       (refl, refl, (refl, refl, (refl, table_root x, ((refl, λ on. refl), (blank_may f, tt)))))
-  make_may (make.Comp y p l) r f x b fit =
+  make_may (Make.Comp y p l) r f x b fit =
       let number = w.same.number l fit in (
         refl,
         refl,
@@ -128,7 +107,7 @@ module _ {t s : State} {o : ℕ → Bool} {c : ℕ} (w : Twins t s o c) where
   -- ---- memory
 
   retype_may : (r f : ℕ) → f < s.limits.frames
-      → SameMayRule w (retype_rule t r f frame_kind.Untyped) (retype_rule s r f frame_kind.Untyped)
+      → SameMayRule w (retype_rule t r f FrameKind.Untyped) (retype_rule s r f FrameKind.Untyped)
   retype_may r f below = (
     refl,
     refl,
@@ -137,7 +116,7 @@ module _ {t s : State} {o : ℕ → Bool} {c : ℕ} (w : Twins t s o c) where
       (
         (frame_test w f is_untyped, λ on. refl),
         (
-          (ap (nat_lt 0) (same_refs t s f w.same), λ on. ap reply.Referenced (same_refs t s f w.same)),
+          (ap (nat_lt 0) (same_refs t s f w.same), λ on. ap Reply.Referenced (same_refs t s f w.same)),
           (
             (refl, below),
             (
@@ -153,10 +132,10 @@ module _ {t s : State} {o : ℕ → Bool} {c : ℕ} (w : Twins t s o c) where
     ),
   )
 
-  user_may : (r f : ℕ) → SameMayRule w (retype_rule t r f frame_kind.User) (retype_rule s r f frame_kind.User)
+  user_may : (r f : ℕ) → SameMayRule w (retype_rule t r f FrameKind.User) (retype_rule s r f FrameKind.User)
   user_may r f = (refl, refl, ((refl, λ on. refl), ((frame_test w f (λ x. not (is_untyped x)), λ on. refl), tt)))
 
-  kernel_may : (r f : ℕ) → SameMayRule w (retype_rule t r f frame_kind.Kernel) (retype_rule s r f frame_kind.Kernel)
+  kernel_may : (r f : ℕ) → SameMayRule w (retype_rule t r f FrameKind.Kernel) (retype_rule s r f FrameKind.Kernel)
   kernel_may r f = (refl, refl, ((refl, λ on. refl), ((frame_test w f (λ x. not (is_untyped x)), λ on. refl), tt)))
 
   touched_may : (v : ℕ) (tr : Option Translation)
@@ -188,14 +167,14 @@ module _ {t s : State} {o : ℕ → Bool} {c : ℕ} (w : Twins t s o c) where
     refl,
     name_all
         (λ comp. SameMayRule w (kill_comp t comp (comp_in (t.frame comp.frame))) (kill_comp s comp (comp_in (s.frame comp.frame))))
-        (named s c k (to_use (only kind.Comp)))
-        (λ comp is. kill_found comp (named_frame w k kind.Comp comp refl is)
-        (alive_same w comp.frame (named_fit s _ c k kind.Comp comp w.sound w.is_open is)))
+        (named s c k (to_use (only Kind.Comp)))
+        (λ comp is. kill_found comp (named_frame w k Kind.Comp comp refl is)
+        (alive_same w comp.frame (named_fit s _ c k Kind.Comp comp w.sound w.is_open is)))
         ((refl, λ on. refl), tt),
   )
 
-  deep_same : nat_le 16 (length (Rattle.kernel_rules.specs.State.thread_of t c).stack)
-      ≡ nat_le 16 (length (Rattle.kernel_rules.specs.State.thread_of s c).stack)
+  deep_same : nat_le 16 (length (Rattle.seq_state.specs.kernel_rules.specs.State.thread_of t c).stack)
+      ≡ nat_le 16 (length (Rattle.seq_state.specs.kernel_rules.specs.State.thread_of s c).stack)
   deep_same = ap (λ (k : ThreadFields). nat_le 16 (length k.stack)) (thread_same w)
 
   call_may : (g : ℕ) → SameMayRule w (rule_of t c (call_gate g)) (rule_of s c (call_gate g))
@@ -208,11 +187,11 @@ module _ {t s : State} {o : ℕ → Bool} {c : ℕ} (w : Twins t s o c) where
         name_all
             (λ gate. (gate.found && not (is_live_in (t.number (comp_in (t.frame gate.frame)).number) gate.arg)
             ≡ gate.found && not (is_live_in (s.number (comp_in (s.frame gate.frame)).number) gate.arg))
-            × (gate.found && not (is_live_in (t.number (comp_in (t.frame gate.frame)).number) gate.arg) ≡ true → reply.Dead ≡ reply.Dead))
-            (named s c g (to_use (only kind.Gate)))
+            × (gate.found && not (is_live_in (t.number (comp_in (t.frame gate.frame)).number) gate.arg) ≡ true → Reply.Dead ≡ Reply.Dead))
+            (named s c g (to_use (only Kind.Gate)))
             (λ gate is.
-            let frame = named_frame w g kind.Gate gate refl is in
-            let fit = gate_comp (s.frame gate.frame) (named_fit s _ c g kind.Gate gate w.sound w.is_open is) in
+            let frame = named_frame w g Kind.Gate gate refl is in
+            let fit = gate_comp (s.frame gate.frame) (named_fit s _ c g Kind.Gate gate w.sound w.is_open is) in
             let number : t.number (comp_in (t.frame gate.frame)).number ≡ s.number (comp_in (s.frame gate.frame)).number =
             ap (λ x. t.number (comp_in x).number) frame ∙ alive_same w gate.frame fit in
             (ap (λ n. not (is_live_in n gate.arg)) number, λ on. refl))
@@ -228,15 +207,15 @@ module _ {t s : State} {o : ℕ → Bool} {c : ℕ} (w : Twins t s o c) where
 
   switch_may : (h q : ℕ) → SameMayRule w (rule_of t c (Switch h q)) (rule_of s c (Switch h q))
   switch_may h q =
-      let thread : Named = name_of (named s c h (to_use (only kind.Thread))) in
-      let tcap : Named = name_of (named s c q (to_use (only kind.Tcap))) in (
+      let thread : Named = name_of (named s c h (to_use (only Kind.Thread))) in
+      let tcap : Named = name_of (named s c q (to_use (only Kind.Tcap))) in (
         refl,
         refl,
         (
           refl,
           refl,
           subst (λ x. SameMayRule w (switch_to thread tcap.frame (thread_in x).runs_on)
-              (switch_to thread tcap.frame (thread_in (s.frame thread.frame)).runs_on)) (sym (name_frame h kind.Thread refl))
+              (switch_to thread tcap.frame (thread_in (s.frame thread.frame)).runs_on)) (sym (name_frame h Kind.Thread refl))
               (switch_found thread tcap.frame (thread_in (s.frame thread.frame)).runs_on),
         ),
       )
@@ -246,14 +225,14 @@ module _ {t s : State} {o : ℕ → Bool} {c : ℕ} (w : Twins t s o c) where
 
   -- ---- time
 
-  two_tcaps : (a b : ℕ) → (let x : Named = name_of (named s c a (to_use (only kind.Tcap))) in tcap_at t x.frame ≡ tcap_at s x.frame)
-      × (let y : Named = name_of (named s c b (to_use (only kind.Tcap))) in tcap_at t y.frame ≡ tcap_at s y.frame)
-  two_tcaps a b = (ap tcap_in (name_frame a kind.Tcap refl), ap tcap_in (name_frame b kind.Tcap refl))
+  two_tcaps : (a b : ℕ) → (let x : Named = name_of (named s c a (to_use (only Kind.Tcap))) in tcap_at t x.frame ≡ tcap_at s x.frame)
+      × (let y : Named = name_of (named s c b (to_use (only Kind.Tcap))) in tcap_at t y.frame ≡ tcap_at s y.frame)
+  two_tcaps a b = (ap tcap_in (name_frame a Kind.Tcap refl), ap tcap_in (name_frame b Kind.Tcap refl))
 
   transfer_may : (a b m : ℕ) → SameMayRule w (rule_of t c (Transfer a b m)) (rule_of s c (Transfer a b m))
   transfer_may a b m =
-      let x : Named = name_of (named s c a (to_use (only kind.Tcap))) in
-      let y : Named = name_of (named s c b (to_use (only kind.Tcap))) in
+      let x : Named = name_of (named s c a (to_use (only Kind.Tcap))) in
+      let y : Named = name_of (named s c b (to_use (only Kind.Tcap))) in
       let one : tcap_at t x.frame ≡ tcap_at s x.frame = (two_tcaps a b).0 in
       let other : tcap_at t y.frame ≡ tcap_at s y.frame = (two_tcaps a b).1 in (
         refl,
@@ -264,7 +243,7 @@ module _ {t s : State} {o : ℕ → Bool} {c : ℕ} (w : Twins t s o c) where
           (
             (refl, λ on. refl),
             (
-              (ap (λ (q : TcapFields). x.found && nat_lt q.budget m) one, λ on. ap (λ (q : TcapFields). reply.Short q.budget) one),
+              (ap (λ (q : TcapFields). x.found && nat_lt q.budget m) one, λ on. ap (λ (q : TcapFields). Reply.Short q.budget) one),
               (((λ i. x.found && (y.found && not (are_alike (one i).qualities (other i).qualities))), λ on. refl), tt),
             ),
           ),
@@ -273,7 +252,7 @@ module _ {t s : State} {o : ℕ → Bool} {c : ℕ} (w : Twins t s o c) where
 
   replenish_may : (a m : ℕ) → SameMayRule w (rule_of t c (Replenish a m)) (rule_of s c (Replenish a m))
   replenish_may a m =
-      let x : Named = name_of (named s c a (to_use (only kind.Tcap))) in
+      let x : Named = name_of (named s c a (to_use (only Kind.Tcap))) in
       let one : tcap_at t x.frame ≡ tcap_at s x.frame = (two_tcaps a a).0 in
       let core : t.core c ≡ s.core c = core_same w in (
         refl,
@@ -283,7 +262,7 @@ module _ {t s : State} {o : ℕ → Bool} {c : ℕ} (w : Twins t s o c) where
           (
             (
               ap (λ (k : Core). nat_lt (outstanding k) m) core,
-              λ on. ap (λ (k : Core). reply.Short (min (outstanding k) m)) core,
+              λ on. ap (λ (k : Core). Reply.Short (min (outstanding k) m)) core,
             ),
             tt,
           ),
@@ -292,8 +271,8 @@ module _ {t s : State} {o : ℕ → Bool} {c : ℕ} (w : Twins t s o c) where
 
   delegate_may : (a b m : ℕ) → SameMayRule w (rule_of t c (Delegate a b m)) (rule_of s c (Delegate a b m))
   delegate_may a b m =
-      let x : Named = name_of (named s c a (to_use (only kind.Tcap))) in
-      let y : Named = name_of (named s c b (to_use (only kind.Tcap))) in
+      let x : Named = name_of (named s c a (to_use (only Kind.Tcap))) in
+      let y : Named = name_of (named s c b (to_use (only Kind.Tcap))) in
       let one : tcap_at t x.frame ≡ tcap_at s x.frame = (two_tcaps a b).0 in
       let other : tcap_at t y.frame ≡ tcap_at s y.frame = (two_tcaps a b).1 in (
         refl,
@@ -304,7 +283,7 @@ module _ {t s : State} {o : ℕ → Bool} {c : ℕ} (w : Twins t s o c) where
           (
             (refl, λ on. refl),
             (
-              (ap (λ (q : TcapFields). x.found && nat_lt q.budget m) one, λ on. ap (λ (q : TcapFields). reply.Short q.budget) one),
+              (ap (λ (q : TcapFields). x.found && nat_lt q.budget m) one, λ on. ap (λ (q : TcapFields). Reply.Short q.budget) one),
               (((λ i. x.found && (y.found && nat_lt 8 (length (merged (one i).qualities (other i).qualities)))), λ on. refl), tt),
             ),
           ),
@@ -312,15 +291,15 @@ module _ {t s : State} {o : ℕ → Bool} {c : ℕ} (w : Twins t s o c) where
       )
 
 retype_judged : {t s : State} {o : ℕ → Bool} {c : ℕ} (w : Twins t s o c) (r f : ℕ)
-    → SameMayRule w (judged_rule t c (Retype r f frame_kind.Untyped)) (judged_rule s c (Retype r f frame_kind.Untyped))
+    → SameMayRule w (judged_rule t c (Retype r f FrameKind.Untyped)) (judged_rule s c (Retype r f FrameKind.Untyped))
 retype_judged {t} {s} {o} {c} w r f =
     subst (λ (l : Limits). SameMayRule w
-    (if nat_lt f l.frames then retype_rule t r f frame_kind.Untyped else retype_beyond r f)
-    (judged_rule s c (Retype r f frame_kind.Untyped))) (sym w.same.limits) (by_frame (nat_lt f s.limits.frames) refl)
+    (if nat_lt f l.frames then retype_rule t r f FrameKind.Untyped else retype_beyond r f)
+    (judged_rule s c (Retype r f FrameKind.Untyped))) (sym w.same.limits) (by_frame (nat_lt f s.limits.frames) refl)
   where
     by_frame : (b : Bool) → nat_lt f s.limits.frames ≡ b
-        → SameMayRule w (if b then retype_rule t r f frame_kind.Untyped else retype_beyond r f)
-        (if b then retype_rule s r f frame_kind.Untyped else retype_beyond r f)
+        → SameMayRule w (if b then retype_rule t r f FrameKind.Untyped else retype_beyond r f)
+        (if b then retype_rule s r f FrameKind.Untyped else retype_beyond r f)
     by_frame true below = retype_may w r f (ltb-true f s.limits.frames below)
     by_frame false past = (refl, refl, ((refl, λ on. refl), tt))
 
@@ -331,9 +310,9 @@ every_may w (Copy a x b rights) fits = (refl, refl, (refl, refl, (refl, table_ro
 every_may w (Remove x b) fits = (refl, refl, (refl, table_root w x, λ at k. tt))
 every_may w (Grow x i l) fits = (refl, refl, (refl, refl, (refl, root_root w x, tt)))
 every_may w (Shrink x i) fits = (refl, refl, (refl, root_root w x, λ at k. tt))
-every_may w (Retype r f frame_kind.Untyped) fits = retype_judged w r f
-every_may w (Retype r f frame_kind.User) fits = user_may w r f
-every_may w (Retype r f frame_kind.Kernel) fits = kernel_may w r f
+every_may w (Retype r f FrameKind.Untyped) fits = retype_judged w r f
+every_may w (Retype r f FrameKind.User) fits = user_may w r f
+every_may w (Retype r f FrameKind.Kernel) fits = kernel_may w r f
 every_may w (make_call what r f x b) fits = make_may w what r f x b fits
 every_may w (Map p v r f flags) fits =
     (refl, refl, (refl, refl, (refl, pages_root w p, ((refl, λ on. refl), ((frame_test w f (λ x. not (is_user x)), λ on. refl), tt)))))

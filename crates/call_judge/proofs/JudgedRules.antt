@@ -1,33 +1,20 @@
 -- The rule of a call as it is judged goes by the call's plan.
-use Rattle.std.proofs.Common.{◌≡◌, ℕ, ◌≤◌, Bool, true, false, nat_lt, if◌then◌else◌, refl, subst, List}
-use Rattle.spk_nums.specs.declared.kinds.FrameKind.TheVariants as frame_kind
-use Rattle.spk_nums.specs.declared.calls.Call.{Call}
-use Rattle.spk_nums.specs.declared.calls.Call.TheVariants.{Retype}
-use Rattle.spk_nums.specs.declared.replies.Reply.{Reply}
-use Rattle.kernel_rules.specs.State.{State}
-use Rattle.kernel_rules.specs.Rules.{RuleMay, OneMay, Cause}
-use Rattle.kernel_rules.specs.MemoryCalls.{retype_rule}
-use Rattle.call_plans.specs.declared.plans.Plan.{Plan}
-use Rattle.call_plans.specs.PlanOf.{plan_for}
-use Rattle.call_plans.specs.GoesBy.{own_pages, GoesBy}
-use Rattle.call_plans.proofs.CallsGoBy.{calls_go}
-use Rattle.call_plans.proofs.FewNames.{few_names}
-use Rattle.seq_plans.specs.declared.reaching.Reach.TheVariants.{Own}
-use Rattle.seq_plans.specs.declared.walking.Looked.{Looked}
-use Rattle.seq_plans.specs.Walks.{looked, left_of, causes_of}
-use Rattle.seq_plans.specs.OwnCauses.{retype_beyond, judged_rule}
-use Rattle.seq_plans.specs.Refusals.{Decides, LooksMay, Iff}
-use Rattle.seq_plans.proofs.Deciding.{decides_either}
-use Rattle.seq_plans.proofs.ByPlan.{refused_by_plan}
+use Rattle.plain_kernel.specs.kernel_laws.proofs.{◌≡◌, ℕ, ◌≤◌, Bool, true, false, ltb as nat_lt, if◌then◌else◌, refl, subst, List, Call}
+use Rattle.plain_kernel.specs.kernel_laws.proofs.{Retype, Reply, State, RuleMay, OneMay, Cause, retype_rule, FrameKind}
+use Rattle.seq_plans.specs.{left_of, causes_of, retype_beyond, judged_rule, Decides, Iff}
+use Rattle.seq_plans.specs.{declared.reaching.Reach.TheVariants.Own, declared.walking.Looked.Looked, Walks.looked, Refusals.LooksMay}
+use Rattle.{call_plans.specs.plan_for, call_plans.specs.own_pages, call_plans.proofs.calls_go, call_plans.proofs.few_names}
+use Rattle.{call_plans.specs.declared.plans.Plan.Plan, call_plans.specs.GoesBy.GoesBy, seq_plans.proofs.Deciding.decides_either}
+use Rattle.{seq_plans.proofs.ByPlan.refused_by_plan}
 
 untyped_goes : (s : State) (c r f : ℕ) (b : Bool)
-    → GoesBy (own_pages s c) (plan_for (Retype r f frame_kind.Untyped))
-    (if b then retype_rule s r f frame_kind.Untyped else retype_beyond r f)
-untyped_goes s c r f true = calls_go s c (Retype r f frame_kind.Untyped)
+    → GoesBy (own_pages s c) (plan_for (Retype r f FrameKind.Untyped))
+    (if b then retype_rule s r f FrameKind.Untyped else retype_beyond r f)
+untyped_goes s c r f true = calls_go s c (Retype r f FrameKind.Untyped)
 untyped_goes s c r f false = (refl, refl, λ k. tt)
 
 judged_goes : (s : State) (c : ℕ) (call : Call) → GoesBy (own_pages s c) (plan_for call) (judged_rule s c call)
-judged_goes s c (Retype r f frame_kind.Untyped) = untyped_goes s c r f (nat_lt f s.limits.frames)
+judged_goes s c (Retype r f FrameKind.Untyped) = untyped_goes s c r f (nat_lt f s.limits.frames)
 judged_goes s c call = calls_go s c call
 
 decides_iff : (A B : Type 0) (b : Bool) → Iff A B → Decides b B → Decides b A

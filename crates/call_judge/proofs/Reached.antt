@@ -1,45 +1,22 @@
 -- A decision judged in the kernel's own state is judged in every reached state that the kernel represents.
-use Rattle.std.proofs.Common.{◌≡◌, ◌⊎◌, ℕ, ◌+◌, ◌-◌, ◌^◌, ◌<◌, ◌≤◌, ◌==◌, ◌&&◌, Bool, true, false, not, nat_le, if◌then◌else◌, refl, sym}
-use Rattle.std.proofs.Common.{◌∙◌, ap, subst}
-use Rattle.std.proofs.Common.{arith, List, ◌∷◌, IsTrue, IsFalse}
-use Rattle.std.proofs.lemmas.Bool.{false≢true, true≢false, eq-eqb}
-use Rattle.spk_nums.specs.Setting.{Setting, IsSetting}
-use Rattle.spk_nums.specs.CallLimits.{InLimits}
-use Rattle.spk_nums.specs.declared.calls.Call.{Call}
-use Rattle.spk_nums.specs.declared.calls.Call.TheVariants.{Tick}
-use Rattle.spk_nums.specs.declared.replies.Value.{Value}
-use Rattle.spk_nums.specs.declared.replies.Reply.{Reply}
-use Rattle.spk_nums.specs.declared.replies.Reply.TheVariants as reply
-use Rattle.kernel_rules.specs.State.{CompFields, Core, Limits, State, comp_of, with_core, put}
-use Rattle.kernel_rules.specs.GracePeriods.{begun}
-use Rattle.kernel_rules.specs.Laws.{IsRefusal}
-use Rattle.kernel_rules.specs.Rules.{Change, Judged, Refused, Found, IsFoundAnd, RuleMay}
-use Rattle.kernel_rules.specs.CallRelation.{rule_of, change_of, changed, owed_by, counted, state_by, are_calls_spent, MayBeDead, MayReply}
-use Rattle.kernel_rules.specs.Life.{is_live_in, lives, asks_life, acts}
-use Rattle.kernel_rules.specs.Alone.{reply_in}
-use Rattle.kernel_rules.specs.Runs.{Event, Decides as decides, after, Open, phase_of, IsRun}
-use Rattle.kernel_rules.proofs.Agrees.{IsBounded, IsPlain, IfRefused, rule_refused}
-use Rattle.kernel_rules.proofs.AloneLaw.{Waits, found_waits, rule_plain, waits_inside}
-use Rattle.kernel_rules.proofs.Changes.{IfFound}
-use Rattle.kernel_rules.proofs.Within.{waits_within}
-use Rattle.kernel_invariant.proofs.SoundRuns.{opened, limits_stay, open_limits}
-use Rattle.plain_kernel.specs.kernel_laws.proofs.RangesLaw.{ranges_hold}
-use Rattle.seq_state.specs.Maps.{Maps, state_of}
-use Rattle.seq_state.specs.Representation.{SameState, Represents}
-use Rattle.seq_state.proofs.Same.{same_by, same_then, same_core}
-use Rattle.seq_lookups.specs.Ranges.{IsInRange}
-use Rattle.plain_kernel.specs.same_changes.specs.Same.{SameOutcome}
-use Rattle.plain_kernel.specs.same_changes.proofs.Reaching.{Twins, core_below, here, here_fit, comp_same}
-use Rattle.plain_kernel.specs.same_changes.proofs.Alike.{begun_same}
-use Rattle.plain_kernel.specs.same_changes.proofs.EveryCall.{changes_same, same_acts, stays_in_range, twins}
-use Rattle.plain_kernel.specs.same_changes.proofs.TimeRules.{alive_same}
-use Rattle.seq_plans.specs.OwnCauses.{judged_rule}
-use Rattle.seq_plans.specs.Refusals.{Decides, Iff}
+use Rattle.seq_state.specs.kernel_rules.proofs as low
+use low.{◌≡◌, ◌⊎◌, ℕ, ◌+◌, ◌-◌, ◌^◌, ◌<◌, ◌≤◌, ◌==◌, ◌&&◌, Bool, true, false, not, leb as nat_le, if◌then◌else◌, refl, sym, ◌∙◌, ap, subst}
+use low.{arith, List, ◌∷◌, IsTrue, IsFalse, false≢true, true≢false, eq-eqb, Setting, IsSetting, InLimits, Call, Tick, Value, Reply}
+use low.{CompFields, Core, Limits, comp_of, with_core, put, begun, IsRefusal, Change, Judged, Refused, Found, IsFoundAnd, RuleMay, rule_of}
+use low.{change_of, changed, owed_by, counted, state_by, are_calls_spent, MayReply, is_live_in, lives, asks_life, acts, reply_in, Event}
+use low.{Decides as decides, after, Open, phase_of, IsRun, IfRefused, Waits, found_waits, waits_inside, IfFound}
+use Rattle.seq_state.proofs.{State, opened, limits_stay, state_of, SameState, Represents, same_by, same_then, same_core}
+use Rattle.plain_kernel.specs.same_changes.proofs.{Twins, core_below, comp_same, changes_same, twins}
+use Rattle.seq_plans.specs.{judged_rule, Decides, Iff}
+use low.{Agrees.IsBounded, Agrees.IsPlain, Agrees.rule_refused, AloneLaw.rule_plain, Within.waits_within}
+use Rattle.plain_kernel.specs.same_changes.proofs.{Reaching.here, Reaching.here_fit, Alike.begun_same, EveryCall.same_acts}
+use Rattle.plain_kernel.specs.same_changes.proofs.{EveryCall.stays_in_range, TimeRules.alive_same}
 use Rattle.seq_plans.proofs.Deciding.{decides_true, decides_false, decides_both}
 use Rattle.call_judge.specs.Judged.{RefusesPlainly, DecidesAs, IsDecided, IsJudged}
-use Rattle.call_judge.proofs.SameMay.{rule_iff, either_iff}
-use Rattle.call_judge.proofs.EveryMay.{every_may}
-use Rattle.call_judge.proofs.Beyond.{judged_here}
+use Rattle.call_judge.proofs.{SameMay.rule_iff, SameMay.either_iff, EveryMay.every_may, Beyond.judged_here}
+use Rattle.{seq_state.specs.kernel_rules.specs.CallRelation.MayBeDead, seq_state.specs.kernel_invariant.proofs.SoundRuns.open_limits}
+use Rattle.{plain_kernel.specs.kernel_laws.proofs.RangesLaw.ranges_hold, seq_state.specs.Maps.Maps, seq_lookups.specs.Ranges.IsInRange}
+use Rattle.{plain_kernel.specs.same_changes.specs.Same.SameOutcome}
 
 -- ---- states that are one
 
@@ -66,15 +43,15 @@ changed_same t s e (Found x) (Refused q) same limits = absurd same
 
 reply_same : (x y : Judged Change) → SameOutcome x y → reply_in x ≡ reply_in y
 reply_same (Refused p) (Refused q) same = same
-reply_same (Found x) (Found y) same = ap reply.Ok same.value
+reply_same (Found x) (Found y) same = ap Reply.Ok same.value
 reply_same (Refused p) (Found y) same = absurd same
 reply_same (Found x) (Refused q) same = absurd same
 
 plain_refusal : (r : Reply) → IsPlain r → IsRefusal r
-plain_refusal (reply.Ok v) plain = absurd plain
-plain_refusal reply.Raced plain = absurd plain
-plain_refusal (reply.Busy d) plain = absurd plain
-plain_refusal reply.CallsSpent plain = absurd plain
+plain_refusal (Reply.Ok v) plain = absurd plain
+plain_refusal Reply.Raced plain = absurd plain
+plain_refusal (Reply.Busy d) plain = absurd plain
+plain_refusal Reply.CallsSpent plain = absurd plain
 plain_refusal _ plain = tt
 
 plainly : (P : Reply → Type 0) (x y : Judged Change) → SameOutcome x y → IfRefused y (λ r. P r × IsPlain r) → RefusesPlainly x
@@ -85,16 +62,16 @@ plainly P (Found x) (Refused q) same h = absurd same
 
 -- ---- what is answered
 
-value_is : (v u : Value) → reply.Ok v ≡ reply.Ok u → v ≡ u
+value_is : (v u : Value) → Reply.Ok v ≡ Reply.Ok u → v ≡ u
 value_is v u e = cc
 
-answers : (j : Judged Change) (v : Value) → RefusesPlainly j → reply_in j ≡ reply.Ok v → IsFoundAnd j (λ change. change.value ≡ v)
+answers : (j : Judged Change) (v : Value) → RefusesPlainly j → reply_in j ≡ Reply.Ok v → IsFoundAnd j (λ change. change.value ≡ v)
 answers (Refused r) v plain e = absurd (subst IsRefusal e plain)
 answers (Found change) v plain e = value_is change.value v e
 
-answered : (j : Judged Change) (v : Value) → IsFoundAnd j (λ change. change.value ≡ v) → reply_in j ≡ reply.Ok v
+answered : (j : Judged Change) (v : Value) → IsFoundAnd j (λ change. change.value ≡ v) → reply_in j ≡ Reply.Ok v
 answered (Refused r) v h = absurd h
-answered (Found change) v h = ap reply.Ok h
+answered (Found change) v h = ap Reply.Ok h
 
 one_less : {n m : ℕ} (d : ℕ) → m ≡ n + 1 → m ≤ d → n < d
 one_less d is most = omega (arith, is, most)
@@ -189,23 +166,23 @@ module _ (setting : Setting) (lim : IsSetting setting) (events : List Event) (ru
 
   -- ---- calls that are spent
 
-  pub spent_judged : (b : Bool) (r : Reply) → b ≡ are_calls_spent (state_of k) c → r ≡ reply.CallsSpent
+  pub spent_judged : (b : Bool) (r : Reply) → b ≡ are_calls_spent (state_of k) c → r ≡ Reply.CallsSpent
       → IsJudged (after setting events) c call r b k
   spent_judged b r is says = subst (λ q. IsJudged s c call q b k) (sym says) (by_test b (is ∙ spent_same))
     where
-      by_test : (b : Bool) → b ≡ are_calls_spent (after setting events) c → IsJudged (after setting events) c call reply.CallsSpent b k
+      by_test : (b : Bool) → b ≡ are_calls_spent (after setting events) c → IsJudged (after setting events) c call Reply.CallsSpent b k
       by_test true is = record { permitted = sym is; state = same }
       by_test false is = record { forbidden = λ h. false≢true (is ∙ h); state = same }
 
-  not_spent : (r : Reply) → (r ≡ reply.CallsSpent → ⊥) → MayReply (after setting events) c call r
+  not_spent : (r : Reply) → (r ≡ Reply.CallsSpent → ⊥) → MayReply (after setting events) c call r
       → are_calls_spent (after setting events) c ≡ false
-  not_spent reply.CallsSpent other h = absurd (other refl)
-  not_spent (reply.Ok v) other h = h.0
-  not_spent reply.Raced other h = h.0
-  not_spent (reply.Busy d) other h = h.0
+  not_spent Reply.CallsSpent other h = absurd (other refl)
+  not_spent (Reply.Ok v) other h = h.0
+  not_spent Reply.Raced other h = h.0
+  not_spent (Reply.Busy d) other h = h.0
   not_spent _ other h = h.0
 
-  pub none_left : (r : Reply) → (r ≡ reply.CallsSpent → ⊥) → true ≡ are_calls_spent (state_of k) c
+  pub none_left : (r : Reply) → (r ≡ Reply.CallsSpent → ⊥) → true ≡ are_calls_spent (state_of k) c
       → IsJudged (after setting events) c call r false k
   none_left r other spent = record {
     forbidden = λ h. true≢false (spent ∙ spent_same ∙ not_spent r other h);
@@ -247,19 +224,19 @@ module _ (setting : Setting) (lim : IsSetting setting) (events : List Event) (ru
       let second = judged_here setting lim events run c call opens r in
       record { there = λ h. second.there (first.there h); back = λ h. first.back (second.back h) }
 
-  dead_iff : Iff (MayBeDead (state_of k) c call ⊎ RuleMay (state_of k) c (judged_rule (state_of k) c call) reply.Dead)
-      (MayBeDead (after setting events) c call ⊎ RuleMay (after setting events) c (rule_of (after setting events) c call) reply.Dead)
+  dead_iff : Iff (MayBeDead (state_of k) c call ⊎ RuleMay (state_of k) c (judged_rule (state_of k) c call) Reply.Dead)
+      (MayBeDead (after setting events) c call ⊎ RuleMay (after setting events) c (rule_of (after setting events) c call) Reply.Dead)
   dead_iff = either_iff (MayBeDead t c call) (MayBeDead s c call) _ _
-      (record { there = λ h. (h.0, sym lives_same ∙ h.1); back = λ h. (h.0, lives_same ∙ h.1) }) (may_iff reply.Dead)
+      (record { there = λ h. (h.0, sym lives_same ∙ h.1); back = λ h. (h.0, lives_same ∙ h.1) }) (may_iff Reply.Dead)
 
   pub decided_judged : (r : Reply) (k2 k3 : Maps) → false ≡ are_calls_spent (state_of k) c → DecidesAs (state_of k) c call r true k2
       → (c < (state_of k2).limits.cores → ((state_of k2).core c).counted < 2 ^ 40 - 1 → Represents k3 (counted (state_of k2) c))
       → IsJudged (after setting events) c call r true k3
-  decided_judged (reply.Ok v) k2 k3 some h counts = by_acts (acts t c call) refl
+  decided_judged (Reply.Ok v) k2 k3 some h counts = by_acts (acts t c call) refl
     where
-      by_acts : (b : Bool) → acts (state_of k) c call ≡ b → IsJudged (after setting events) c call (reply.Ok v) true k3
+      by_acts : (b : Bool) → acts (state_of k) c call ≡ b → IsJudged (after setting events) c call (Reply.Ok v) true k3
       by_acts true may =
-          finish (reply.Ok v) (changed s (change_of s c call)) (
+          finish (Reply.Ok v) (changed s (change_of s c call)) (
             sym (some ∙ spent_same),
             (
               sym acts_same ∙ may,
@@ -270,23 +247,23 @@ module _ (setting : Setting) (lim : IsSetting setting) (events : List Event) (ru
           refl (changed_limits (change_of s c call) kept_limits) k2 k3
           (same_then _ _ _ (h.0 may).state (changed_same t s same (change_of t c call) (change_of s c call) outcomes kept_limits)) counts
       by_acts false may = absurd (true≢false (h.1 may).0)
-  decided_judged reply.Raced k2 k3 some h counts =
-      finish reply.Raced (owed_by s c call) (sym (some ∙ spent_same), tt) refl (owed_limits call) k2 k3
+  decided_judged Reply.Raced k2 k3 some h counts =
+      finish Reply.Raced (owed_by s c call) (sym (some ∙ spent_same), tt) refl (owed_limits call) k2 k3
       (same_then _ _ _ h.1 (owed_same t s c call below same)) counts
-  decided_judged (reply.Busy d) k2 k3 some h counts =
-      finish (reply.Busy d) (owed_by s c call) (sym (some ∙ spent_same), tt) refl (owed_limits call) k2 k3
+  decided_judged (Reply.Busy d) k2 k3 some h counts =
+      finish (Reply.Busy d) (owed_by s c call) (sym (some ∙ spent_same), tt) refl (owed_limits call) k2 k3
       (same_then _ _ _ h.1 (owed_same t s c call below same)) counts
-  decided_judged reply.CallsSpent k2 k3 some h counts = absurd (true≢false h.0)
-  decided_judged reply.Dead k2 k3 some h counts =
-      finish reply.Dead s (sym (some ∙ spent_same), dead_iff.there h.0) refl refl k2 k3 (same_then _ _ _ h.1 same) counts
+  decided_judged Reply.CallsSpent k2 k3 some h counts = absurd (true≢false h.0)
+  decided_judged Reply.Dead k2 k3 some h counts =
+      finish Reply.Dead s (sym (some ∙ spent_same), dead_iff.there h.0) refl refl k2 k3 (same_then _ _ _ h.1 same) counts
   decided_judged r k2 k3 some h counts =
       finish r s (sym (some ∙ spent_same), (may_iff r).there h.0) refl refl k2 k3 (same_then _ _ _ h.1 same) counts
 
-  pub refused_judged : (r : Reply) (k2 : Maps) → (r ≡ reply.CallsSpent → ⊥) → DecidesAs (state_of k) c call r false k2
+  pub refused_judged : (r : Reply) (k2 : Maps) → (r ≡ Reply.CallsSpent → ⊥) → DecidesAs (state_of k) c call r false k2
       → IsJudged (after setting events) c call r false k2
-  refused_judged (reply.Ok v) k2 other h = by_acts (acts t c call) refl
+  refused_judged (Reply.Ok v) k2 other h = by_acts (acts t c call) refl
     where
-      by_acts : (b : Bool) → acts (state_of k) c call ≡ b → IsJudged (after setting events) c call (reply.Ok v) false k2
+      by_acts : (b : Bool) → acts (state_of k) c call ≡ b → IsJudged (after setting events) c call (Reply.Ok v) false k2
       by_acts true is = record {
         forbidden = λ may. (h.0 is).0 (reply_same (change_of t c call) (change_of s c call) outcomes
             ∙ answered (change_of s c call) v may.1.1);
@@ -296,10 +273,10 @@ module _ (setting : Setting) (lim : IsSetting setting) (events : List Event) (ru
         forbidden = λ may. false≢true (sym is ∙ acts_same ∙ may.1.0);
         state = same_then _ _ _ (h.1 is).1 same;
       }
-  refused_judged reply.Raced k2 other h = absurd (false≢true h.0)
-  refused_judged (reply.Busy d) k2 other h = absurd (false≢true h.0)
-  refused_judged reply.CallsSpent k2 other h = absurd (other refl)
-  refused_judged reply.Dead k2 other h = record {
+  refused_judged Reply.Raced k2 other h = absurd (false≢true h.0)
+  refused_judged (Reply.Busy d) k2 other h = absurd (false≢true h.0)
+  refused_judged Reply.CallsSpent k2 other h = absurd (other refl)
+  refused_judged Reply.Dead k2 other h = record {
     forbidden = λ may. h.0 (dead_iff.back may.1);
     state = same_then _ _ _ h.1 same;
   }

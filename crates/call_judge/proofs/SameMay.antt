@@ -1,26 +1,16 @@
 -- A call may be refused alike in two states that are one for all that the machine has, one of them reached.
-use Rattle.std.proofs.Common.{◌≡◌, ◌⊎◌, inl, inr, ℕ, ◌<◌, ◌≤◌, ◌==◌, Bool, true, false, not, ◌&&◌, ◌||◌, refl, sym, ◌∙◌, ap, subst}
-use Rattle.std.proofs.Common.{nat_le, nat_lt, if◌then◌else◌, List, [], ◌∷◌, Option, Some, None, is_some, IsTrue, IsFalse}
-use Rattle.std.specs.Prelude.{IsSomeAnd}
-use Rattle.std.proofs.lemmas.Bool.{false≢true, true≢false, le-leb, ltb-false}
-use Rattle.spk_nums.specs.Capability.{Capability}
-use Rattle.spk_nums.specs.declared.replies.Reply.{Reply}
-use Rattle.spk_nums.specs.declared.replies.Reply.TheVariants as reply
-use Rattle.kernel_rules.specs.State.{Thing, PlaceOf, Limits, Core, State}
-use Rattle.kernel_rules.specs.Access.{Want, Slot, Named, found, root_at, Target, Under, InRoot, place_at, held_in, usable}
-use Rattle.kernel_rules.specs.Access.{reached, root_slot, holds_link, has_no_slot, own}
-use Rattle.kernel_rules.specs.GracePeriods.{MayWait, MayBeUnflushed}
-use Rattle.kernel_rules.specs.Rules.{Cause, When, WaitedFor, Unflushed, Rule, Name, Vacant, Held, Mapped, Does, Judged, Refused, Found}
-use Rattle.kernel_rules.specs.Rules.{and_then, or_refuse, named, held, mapped, IsFoundAnd, ReachesNone, ReachesHeld, ReachesOther}
-use Rattle.kernel_rules.specs.Rules.{ReachesLacking, Lacks, NameMay, VacantMay, HeldMay, MappedMay, WaitedMay, UnflushedMay, CauseMay}
-use Rattle.kernel_rules.specs.Rules.{OneMay, name_of, slot_of, RuleMay}
-use Rattle.kernel_rules.specs.Relies.{is_node}
-use Rattle.seq_state.specs.Representation.{IsThing}
-use Rattle.plain_kernel.specs.same_changes.proofs.Reaching.{Twins, IsSlot, place_same, usable_same, own_good, own_same}
-use Rattle.plain_kernel.specs.same_changes.proofs.Reaching.{root_is}
-use Rattle.plain_kernel.specs.same_changes.proofs.Reaching.{named_same, held_same, mapped_same, reached_same}
-use Rattle.plain_kernel.specs.same_changes.proofs.Reaching.{RootGood}
-use Rattle.seq_plans.specs.Refusals.{Iff}
+use Rattle.seq_state.specs.kernel_rules.proofs as low
+use low.{◌≡◌, ◌⊎◌, inl, inr, ℕ, ◌<◌, ◌≤◌, ◌==◌, Bool, true, false, not, ◌&&◌, ◌||◌, refl, sym, ◌∙◌, ap, subst, leb as nat_le, ltb as nat_lt}
+use low.{if◌then◌else◌, List, [], ◌∷◌, Option, Some, None, is_some, IsTrue, IsFalse, IsSomeAnd, false≢true, true≢false, le-leb, ltb-false}
+use low.{Capability, Reply, Thing, PlaceOf, Limits, Core, Want, Slot, Named, found, root_at, Target, Under, InRoot, place_at, held_in}
+use low.{usable, reached, root_slot, holds_link, has_no_slot, own, MayWait, MayBeUnflushed, Cause, When, WaitedFor, Unflushed, Rule, Name}
+use low.{Vacant, Held, Mapped, Does, Judged, Refused, Found, and_then, or_refuse, named, held, mapped, IsFoundAnd, Lacks, NameMay}
+use low.{VacantMay, HeldMay, MappedMay, OneMay, name_of, RuleMay, is_node}
+use Rattle.seq_state.specs.kernel_rules.specs.{ReachesNone, ReachesHeld, ReachesOther, ReachesLacking, WaitedMay, UnflushedMay, CauseMay}
+use Rattle.plain_kernel.specs.same_changes.proofs.{Twins, named_same, reached_same, RootGood}
+use Rattle.plain_kernel.specs.same_changes.proofs.Reaching.{IsSlot, place_same, usable_same, own_good, own_same, root_is, held_same}
+use Rattle.{seq_state.specs.kernel_rules.specs.slot_of, seq_state.specs.State, seq_state.specs.IsThing}
+use Rattle.{plain_kernel.specs.same_changes.proofs.Reaching.mapped_same, seq_plans.specs.Refusals.Iff}
 
 -- ---- exactly where
 
@@ -164,34 +154,34 @@ module _ {t s : State} {o : ℕ → Bool} {c : ℕ} (w : Twins t s o c) where
   own_root n = own_good w n
 
   name_iff : (n : ℕ) (want : Want) (r : Reply) → Iff (NameMay t c n want r) (NameMay s c n want r)
-  name_iff n want reply.NoSlot = iff_along _ _ (ap IsTrue (ap (has_no_slot t) (own_same w n) ∙ no_slot_same (own s c n) (own_root n)))
-  name_iff n want reply.Empty =
+  name_iff n want Reply.NoSlot = iff_along _ _ (ap IsTrue (ap (has_no_slot t) (own_same w n) ∙ no_slot_same (own s c n) (own_root n)))
+  name_iff n want Reply.Empty =
       subst (λ target. Iff (ReachesNone t c target) (ReachesNone s c (own s c n))) (sym (own_same w n)) (none_iff (own s c n) (own_root n))
-  name_iff n want reply.WrongCap =
+  name_iff n want Reply.WrongCap =
       subst (λ target. Iff (ReachesOther t c target want) (ReachesOther s c (own s c n) want)) (sym (own_same w n))
       (usable_iff (own s c n) (λ k. IsFalse (want.kinds k.kind)) (own_root n))
-  name_iff n want reply.NoRight =
+  name_iff n want Reply.NoRight =
       subst (λ target. Iff (ReachesLacking t c target want) (ReachesLacking s c (own s c n) want)) (sym (own_same w n))
       (usable_iff (own s c n) (Lacks want) (own_root n))
   name_iff n want _ = iff_same ⊥
 
   vacant_iff : (target : Target) (r : Reply) → RootMay s target → Iff (VacantMay t c target r) (VacantMay s c target r)
-  vacant_iff target reply.NoSlot good = iff_along _ _ (ap IsTrue (no_slot_same target good))
-  vacant_iff target reply.Occupied good = held_iff target good
-  vacant_iff target (reply.Quiescing e) good = some_iff _ _ _ _ (may_reach target good)
+  vacant_iff target Reply.NoSlot good = iff_along _ _ (ap IsTrue (no_slot_same target good))
+  vacant_iff target Reply.Occupied good = held_iff target good
+  vacant_iff target (Reply.Quiescing e) good = some_iff _ _ _ _ (may_reach target good)
       (λ at is. let slot = is_slot target at good is in wait_iff (PlaceOf at.node at.index) e (slot.node, slot.index))
-  vacant_iff target (reply.Unflushed e) good = some_iff _ _ _ _ (may_reach target good)
+  vacant_iff target (Reply.Unflushed e) good = some_iff _ _ _ _ (may_reach target good)
       (λ at is. let slot = is_slot target at good is in unflushed_iff (PlaceOf at.node at.index) e (slot.node, slot.index))
   vacant_iff target _ good = iff_same ⊥
 
   held_may_iff : (target : Target) (r : Reply) → RootMay s target → Iff (HeldMay t c target r) (HeldMay s c target r)
-  held_may_iff target reply.NoSlot good = iff_along _ _ (ap IsTrue (no_slot_same target good))
-  held_may_iff target reply.Empty good = none_iff target good
+  held_may_iff target Reply.NoSlot good = iff_along _ _ (ap IsTrue (no_slot_same target good))
+  held_may_iff target Reply.Empty good = none_iff target good
   held_may_iff target _ good = iff_same ⊥
 
   mapped_iff : (table v : ℕ) (r : Reply) → IsTrue (is_node (s.frame table)) → Iff (MappedMay t c table v r) (MappedMay s c table v r)
-  mapped_iff table v reply.NoSlot node = iff_same _
-  mapped_iff table v reply.Fault node = record {
+  mapped_iff table v Reply.NoSlot node = iff_same _
+  mapped_iff table v Reply.Fault node = record {
     there = λ h. (h.0, (parts h.0).there h.1);
     back = λ h. (h.0, (parts h.0).back h.1);
   }
@@ -220,11 +210,11 @@ module _ {t s : State} {o : ℕ → Bool} {c : ℕ} (w : Twins t s o c) where
   SameMayCauses _ _ = ⊥
 
   waited_iff : (x : Thing) (r : Reply) → IsThing s.limits x → Iff (WaitedMay t c x r) (WaitedMay s c x r)
-  waited_iff x (reply.Quiescing e) is = wait_iff x e is
+  waited_iff x (Reply.Quiescing e) is = wait_iff x e is
   waited_iff x _ is = iff_same ⊥
 
   flushed_iff : (x : Thing) (r : Reply) → IsThing s.limits x → Iff (UnflushedMay t x r) (UnflushedMay s x r)
-  flushed_iff x (reply.Unflushed e) is = unflushed_iff x e is
+  flushed_iff x (Reply.Unflushed e) is = unflushed_iff x e is
   flushed_iff x _ is = iff_same ⊥
 
   when_iff : (b d : Bool) (p q r : Reply) → b ≡ d → (b ≡ true → p ≡ q) → Iff (IsTrue b × (r ≡ p)) (IsTrue d × (r ≡ q))
@@ -269,10 +259,10 @@ module _ {t s : State} {o : ℕ → Bool} {c : ℕ} (w : Twins t s o c) where
   held_found : (target : Target) → RootMay s target → held t c target ≡ held s c target
   held_found target good = elim (good_or_none s target good) [
     | inl root ↦ held_same w target root
-    | inr none ↦ ap (λ r. and_then (or_refuse r reply.NoSlot) λ at.
-        and_then (or_refuse (held_in (place_at t at)) reply.Empty) λ k. Found (at, k)) (none t c)
-        ∙ sym (ap (λ r. and_then (or_refuse r reply.NoSlot) λ at.
-        and_then (or_refuse (held_in (place_at s at)) reply.Empty) λ k. Found (at, k)) (none s c))
+    | inr none ↦ ap (λ r. and_then (or_refuse r Reply.NoSlot) λ at.
+        and_then (or_refuse (held_in (place_at t at)) Reply.Empty) λ k. Found (at, k)) (none t c)
+        ∙ sym (ap (λ r. and_then (or_refuse r Reply.NoSlot) λ at.
+        and_then (or_refuse (held_in (place_at s at)) Reply.Empty) λ k. Found (at, k)) (none s c))
   ]
 
   pub rule_iff : (x y : Rule) (r : Reply) → SameMayRule x y → Iff (RuleMay t c x r) (RuleMay s c y r)

@@ -1,49 +1,36 @@
 -- What it means that the plain kernel has judged a decision.
-use Rattle.std.specs.Prelude.{◌≡◌, ◌⊎◌, ℕ, Bool, true, false, MatchBool, List, Option, Some, None, IsTrue, IsFalse}
-use Rattle.spk_nums.specs.Setting.{Setting, IsSetting}
-use Rattle.spk_nums.specs.declared.calls.Call.{Call}
-use Rattle.spk_nums.specs.declared.replies.Value.{Value}
-use Rattle.spk_nums.specs.declared.replies.Reply.{Reply}
-use Rattle.spk_nums.specs.declared.replies.Reply.TheVariants as reply
-use Rattle.kernel_rules.specs.State.{State}
-use Rattle.kernel_rules.specs.Rules.{RuleMay, Change, Judged, Refused as refused, Found as carried}
-use Rattle.kernel_rules.specs.Laws.{IsRefusal}
-use Rattle.kernel_rules.specs.Life.{acts}
-use Rattle.kernel_rules.specs.CallRelation.{MayBeDead, MayReply, change_of, owed_by, state_by}
-use Rattle.kernel_rules.specs.Alone.{reply_in}
-use Rattle.kernel_rules.specs.Runs.{Event, after, Open, phase_of, IsRun}
-use Rattle.seq_state.specs.Maps.{Maps}
-use Rattle.seq_state.specs.Representation.{Represents}
-use Rattle.seq_lookups.specs.Carried.{IsCarriedOut}
-use Rattle.seq_plans.specs.OwnCauses.{judged_rule}
-use Rattle.seq_plans.specs.Refusals.{Decides}
-use Rattle.call_judge.specs.declared.deciding.Sort.{Sort}
+use Rattle.seq_state.specs.{◌≡◌, ◌⊎◌, ℕ, Bool, true, false, List, Option, Some, None, IsTrue, IsFalse, Setting, IsSetting, Call, Value}
+use Rattle.seq_state.specs.{Reply, State, RuleMay, Change, Judged, Refused as refused, Found as carried, IsRefusal, acts, MayReply}
+use Rattle.seq_state.specs.{change_of, owed_by, state_by, reply_in, Event, after, Open, phase_of, IsRun, Represents}
+use Rattle.seq_plans.specs.{judged_rule, Decides}
 use Rattle.call_judge.specs.declared.deciding.Sort.TheVariants.{Spent, Carried, Lost, Refused}
+use Rattle.{std.specs.Prelude.MatchBool, seq_state.specs.kernel_rules.specs.CallRelation.MayBeDead, seq_state.specs.Maps.Maps}
+use Rattle.{seq_lookups.specs.Carried.IsCarriedOut, call_judge.specs.declared.deciding.Sort.Sort}
 
 -- A lost race, and a refusal of a call's own.
 abbrev pub IsLost : Reply → Type 0
-IsLost reply.Raced = Unit {0}
-IsLost (reply.Busy d) = Unit {0}
+IsLost Reply.Raced = Unit {0}
+IsLost (Reply.Busy d) = Unit {0}
 IsLost _ = ⊥
 
 abbrev pub IsOwn : Reply → Type 0
-IsOwn (reply.Ok v) = ⊥
-IsOwn reply.Raced = ⊥
-IsOwn (reply.Busy d) = ⊥
-IsOwn reply.CallsSpent = ⊥
+IsOwn (Reply.Ok v) = ⊥
+IsOwn Reply.Raced = ⊥
+IsOwn (Reply.Busy d) = ⊥
+IsOwn Reply.CallsSpent = ⊥
 IsOwn _ = Unit {0}
 
 -- A reply is of this sort.
 abbrev pub IsOfSort : Sort → Reply → Type 0
-IsOfSort Spent r = r ≡ reply.CallsSpent
-IsOfSort (Carried v) r = r ≡ reply.Ok v
+IsOfSort Spent r = r ≡ Reply.CallsSpent
+IsOfSort (Carried v) r = r ≡ Reply.Ok v
 IsOfSort Lost r = IsLost r
 IsOfSort Refused r = IsOwn r
 
 -- The answer of a reply that is none of a refusal.
 abbrev pub IsAnswerOf : Option Value → Reply → Type 0
 IsAnswerOf None r = IsRefusal r
-IsAnswerOf (Some v) r = r ≡ reply.Ok v
+IsAnswerOf (Some v) r = r ≡ Reply.Ok v
 
 -- What is judged is refused with a refusal, if it is.
 abbrev pub RefusesPlainly : Judged Change → Type 0
@@ -52,7 +39,7 @@ RefusesPlainly (carried change) = Unit {0}
 
 -- What is judged is carried out where its reply is `ok` with this value; else the kernel represents s as before.
 abbrev pub CarriesOut : State → Judged Change → Value → Bool → Maps → Type 0
-CarriesOut s outcome v b k = MatchBool b (IsCarriedOut s outcome (reply.Ok v) k) ((reply_in outcome ≡ reply.Ok v → ⊥) × Represents k s)
+CarriesOut s outcome v b k = MatchBool b (IsCarriedOut s outcome (Reply.Ok v) k) ((reply_in outcome ≡ Reply.Ok v → ⊥) × Represents k s)
 
 -- In state s, core c's call may be decided so, and the kernel then represents the state that the decision leaves.
 pub record IsDecided (s : State) (c : ℕ) (call : Call) (r : Reply) (k : Maps) : Type 0 where
@@ -81,13 +68,13 @@ CarriesOutActing s c call v b k = (IsTrue (acts s c call) → CarriesOut s (chan
 
 -- A call may be refused so: by its rule, and with `dead` also before all else.
 abbrev pub MayRefuse : State → ℕ → Call → Reply → Type 0
-MayRefuse s c call reply.Dead = MayBeDead s c call ⊎ RuleMay s c (judged_rule s c call) reply.Dead
+MayRefuse s c call Reply.Dead = MayBeDead s c call ⊎ RuleMay s c (judged_rule s c call) Reply.Dead
 MayRefuse s c call r = RuleMay s c (judged_rule s c call) r
 
 -- What is decided of a call of core c in state s whose calls are not spent, before it is counted.
 abbrev pub DecidesAs : State → ℕ → Call → Reply → Bool → Maps → Type 0
-DecidesAs s c call (reply.Ok v) b k = CarriesOutActing s c call v b k
-DecidesAs s c call reply.Raced b k = (b ≡ true) × Represents k (owed_by s c call)
-DecidesAs s c call (reply.Busy d) b k = (b ≡ true) × Represents k (owed_by s c call)
-DecidesAs s c call reply.CallsSpent b k = (b ≡ false) × Represents k s
+DecidesAs s c call (Reply.Ok v) b k = CarriesOutActing s c call v b k
+DecidesAs s c call Reply.Raced b k = (b ≡ true) × Represents k (owed_by s c call)
+DecidesAs s c call (Reply.Busy d) b k = (b ≡ true) × Represents k (owed_by s c call)
+DecidesAs s c call Reply.CallsSpent b k = (b ≡ false) × Represents k s
 DecidesAs s c call r b k = Decides b (MayRefuse s c call r) × Represents k s

@@ -2,8 +2,8 @@
 
 ghost use Rattle.std.specs.Prelude.{◌≡◌, ◌<◌, IsOk, IfOk, IsTrue, IsFalse};
 ghost use Rattle.spk_nums.specs.CallLimits.{InLimits};
-ghost use Rattle.kernel_rules.specs.CallRelation.{change_of};
-ghost use Rattle.kernel_rules.specs.State.{with_frame, with_core};
+ghost use Rattle.seq_state.specs.kernel_rules.specs.CallRelation.{change_of};
+ghost use Rattle.seq_state.specs.kernel_rules.specs.State.{with_frame, with_core};
 ghost use Rattle.seq_state.specs.Parts.{frame_of, core_of};
 ghost use Rattle.seq_state.specs.Maps.{state_of};
 ghost use Rattle.seq_state.specs.Representation.{Represents};

@@ -2,9 +2,9 @@
 
 ghost use Rattle.std.specs.Prelude.{◌≡◌, ◌<◌, ◌≤◌, ◌-◌, ◌^◌, IsOk, IfOk};
 ghost use Rattle.spk_nums.specs.CallLimits.{InLimits};
-ghost use Rattle.kernel_rules.specs.Life.{lives};
-ghost use Rattle.kernel_rules.specs.Rules.{RuleMay};
-ghost use Rattle.kernel_rules.specs.CallRelation.{counted, owed_by, MayBeDead};
+ghost use Rattle.seq_state.specs.kernel_rules.specs.Life.{lives};
+ghost use Rattle.seq_state.specs.kernel_rules.specs.Rules.{RuleMay};
+ghost use Rattle.seq_state.specs.kernel_rules.specs.CallRelation.{counted, owed_by, MayBeDead};
 ghost use Rattle.seq_state.specs.Maps.{state_of};
 ghost use Rattle.seq_state.specs.Representation.{Represents};
 ghost use Rattle.seq_lookups.specs.Ranges.{IsInRange};
@@ -239,5 +239,5 @@ pub fn decide_by(
 }
 
 ghost use Rattle.spk_nums.specs.declared.replies.Reply.TheVariants.{CallsSpent, Dead};
-ghost use Rattle.kernel_rules.specs.CallRelation.{change_of};
+ghost use Rattle.seq_state.specs.kernel_rules.specs.CallRelation.{change_of};
 ghost use Rattle.call_judge.specs.Judged.{RefusesPlainly, CarriesOutActing, MayRefuse, DecidesAs};

@@ -1,7 +1,7 @@
 //! Values told apart.
 
 ghost use Rattle.std.specs.Prelude.{◌≡◌};
-ghost use Rattle.kernel_rules.specs.Access.{kind_number};
+ghost use Rattle.seq_state.specs.kernel_rules.specs.Access.{kind_number};
 ghost use Rattle.seq_plans.specs.Refusals.{Decides};
 
 use spk_nums::{Cap, FrameNo, Kind, PageFlags, Value};

@@ -1,20 +1,8 @@
 -- The names of the rule of each call.
-use Rattle.std.proofs.Common.{◌≡◌, inl, inr, ℕ, List, [], ◌∷◌, Option, Some, None, refl, ap, subst}
-use Rattle.spk_nums.specs.declared.kinds.FrameKind.{FrameKind}
-use Rattle.spk_nums.specs.declared.kinds.FrameKind.TheVariants as frame_kind
-use Rattle.spk_nums.specs.declared.calls.Make.{Make}
-use Rattle.spk_nums.specs.declared.calls.Make.TheVariants as make
-use Rattle.spk_nums.specs.declared.calls.Call.{Call}
-use Rattle.spk_nums.specs.declared.calls.Call.TheVariants as call
-use Rattle.spk_nums.specs.declared.kinds.Kind.TheVariants as kind
-use Rattle.spk_nums.specs.declared.translations.Translation.{Translation}
-use Rattle.kernel_rules.specs.State.{State, comp_of, thread_in}
-use Rattle.kernel_rules.specs.Access.{Named, Want, only, to_use}
-use Rattle.kernel_rules.specs.Rules.{Rule, Name, Vacant, Held, Mapped, Does, named, name_of}
-use Rattle.kernel_rules.specs.CallRelation.{rule_of}
-use Rattle.kernel_rules.specs.CapabilityCalls.{make_rule}
-use Rattle.kernel_rules.specs.InvocationCalls.{switch_to}
-use Rattle.kernel_rules.specs.MemoryCalls.{retype_rule, touch_by, translation_of}
+use Rattle.kernel_rules.proofs.{◌≡◌, inl, inr, ℕ, List, [], ◌∷◌, Option, Some, None, refl, ap, subst, FrameKind, Make, Call, Translation}
+use Rattle.kernel_rules.proofs.{comp_of, thread_in, Named, Want, only, to_use, Rule, Name, Vacant, Held, Mapped, Does, named, name_of}
+use Rattle.kernel_rules.proofs.{rule_of, make_rule, switch_to, retype_rule, touch_by, translation_of, Kind}
+use Rattle.kernel_rules.specs.State.{State}
 use Rattle.call_names.specs.Names.{IsName, IsAmong, numbers_named, CallsName}
 
 -- The numbers of a rule's names.
@@ -31,14 +19,14 @@ among s c (Mapped table v rest) n want h = absurd h
 among s c (Does causes value edits) n want h = absurd h
 
 module _ (s : State) (c : ℕ) where
-  made : (what : Make) (r f t b : ℕ) → names_in s c (make_rule s what r f t b) ≡ numbers_named (call.Make what r f t b)
-  made make.Table r f t b = refl
+  made : (what : Make) (r f t b : ℕ) → names_in s c (make_rule s what r f t b) ≡ numbers_named (Call.Make what r f t b)
+  made Make.Table r f t b = refl
   made _ r f t b = refl
 
   retyped : (r f : ℕ) (k : FrameKind) → names_in s c (retype_rule s r f k) ≡ r ∷ []
-  retyped r f frame_kind.User = refl
-  retyped r f frame_kind.Kernel = refl
-  retyped r f frame_kind.Untyped = refl
+  retyped r f FrameKind.User = refl
+  retyped r f FrameKind.Kernel = refl
+  retyped r f FrameKind.Untyped = refl
 
   touched : (pages v : ℕ) (t : Option Translation) → names_in s c (touch_by pages v t) ≡ []
   touched pages v None = refl
@@ -49,12 +37,12 @@ module _ (s : State) (c : ℕ) where
   switched thread tcap (Some d) = refl
 
   names : (call : Call) → names_in s c (rule_of s c call) ≡ numbers_named call
-  names (call.Retype r f k) = retyped r f k
-  names (call.Make what r f t b) = made what r f t b
-  names (call.Touch v) = touched (comp_of s c).pages v (translation_of (s.core c).cached (comp_of s c).pages v)
-  names (call.Switch h q) =
-      let thread : Named = name_of (named s c h (to_use (only kind.Thread))) in
-      let tcap : Named = name_of (named s c q (to_use (only kind.Tcap))) in
+  names (Call.Retype r f k) = retyped r f k
+  names (Call.Make what r f t b) = made what r f t b
+  names (Call.Touch v) = touched (comp_of s c).pages v (translation_of (s.core c).cached (comp_of s c).pages v)
+  names (Call.Switch h q) =
+      let thread : Named = name_of (named s c h (to_use (only Kind.Thread))) in
+      let tcap : Named = name_of (named s c q (to_use (only Kind.Tcap))) in
       ap (λ (rest : List ℕ). h ∷ q ∷ rest) (switched thread tcap.frame (thread_in (s.frame thread.frame)).runs_on)
   names _ = refl
 

@@ -1,15 +1,9 @@
 -- What a call names: the numbers that it looks up in the table of the component in which its core works.
-use Rattle.std.specs.Prelude.{◌≡◌, ◌⊎◌, ℕ, List, [], ◌∷◌}
-use Rattle.spk_nums.specs.declared.calls.Call.{Call}
-use Rattle.spk_nums.specs.declared.calls.Call.TheVariants.{Look, Copy, Remove, Grow, Shrink, Retype, Make as make_call}
-use Rattle.spk_nums.specs.declared.calls.Call.TheVariants.{Map, Unmap, Gate, Kill, Call as call_gate, Switch, Transfer, Delegate, Test}
-use Rattle.spk_nums.specs.declared.calls.Call.TheVariants.{Part, Replenish}
-use Rattle.spk_nums.specs.declared.calls.Make.{Make}
-use Rattle.spk_nums.specs.declared.calls.Make.TheVariants as make
+use Rattle.kernel_rules.specs.{◌≡◌, ◌⊎◌, ℕ, List, [], ◌∷◌, Call, Look, Copy, Remove, Grow, Shrink, Retype, Map, Unmap, Gate, Kill, Switch}
+use Rattle.kernel_rules.specs.{Transfer, Delegate, Test, Part, Replenish, Make, Want, Rule, Name, Vacant, Held, Mapped, Does, named}
+use Rattle.kernel_rules.specs.{name_of, rule_of}
+use Rattle.kernel_rules.specs.spk_nums.specs.declared.calls.Call.TheVariants.{Make as make_call, Call as call_gate}
 use Rattle.kernel_rules.specs.State.{State}
-use Rattle.kernel_rules.specs.Access.{Want}
-use Rattle.kernel_rules.specs.Rules.{Rule, Name, Vacant, Held, Mapped, Does, named, name_of}
-use Rattle.kernel_rules.specs.CallRelation.{rule_of}
 
 -- A rule names this number, and this is what it wants of it: it is one of the rule's names, each of which comes after what those before
 -- it have led to.
@@ -22,8 +16,8 @@ IsName s c (Does causes value edits) n want = ⊥
 
 -- The numbers that a call names, in order.
 abbrev pub numbers_made_of : Make → List ℕ
-numbers_made_of (make.Thread comp) = comp ∷ []
-numbers_made_of (make.Comp table pages live) = table ∷ pages ∷ []
+numbers_made_of (Make.Thread comp) = comp ∷ []
+numbers_made_of (Make.Comp table pages live) = table ∷ pages ∷ []
 numbers_made_of _ = []
 
 abbrev pub numbers_named : Call → List ℕ

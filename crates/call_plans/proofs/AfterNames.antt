@@ -1,19 +1,15 @@
 -- What is left of a rule and of its plan after the names that have led to capabilities.
-use Rattle.std.proofs.Common.{◌≡◌, inl, inr, ℕ, Bool, true, false, IsTrue, IsFalse, List, [], ◌∷◌, ◌++◌, refl, sym, ◌∙◌, ap, subst}
-use Rattle.spk_nums.specs.Capability.{Capability}
-use Rattle.spk_nums.specs.declared.replies.Reply.{Reply}
-use Rattle.kernel_rules.specs.State.{State}
-use Rattle.kernel_rules.specs.Access.{Named, found, Want}
-use Rattle.kernel_rules.specs.Rules.{Rule, Name as name_rule, Vacant as vacant_rule, Held as held_rule, Mapped as mapped_rule}
-use Rattle.kernel_rules.specs.Rules.{Does, and_then, name_of, outcome, NameMay, VacantMay, HeldMay, MappedMay, RuleMay}
-use Rattle.call_plans.specs.declared.plans.Name.{Name}
-use Rattle.call_plans.specs.declared.plans.Target.{Target}
-use Rattle.call_plans.specs.declared.plans.Target.TheVariants.{Nowhere, Free, Held, Own}
-use Rattle.call_plans.specs.declared.plans.Plan.{Plan}
-use Rattle.call_plans.specs.GoesBy.{OwnPages, GoesBy, GoesOn, want_of}
-use Rattle.call_plans.specs.After.{rule_after, with_found, names_after, Leads, LeadsIn, Next, NextName, NextFree}
-use Rattle.call_plans.specs.After.{NextHeld, NextOwn, NextNothing, next_target, next_in, next_of, NextMay}
-use Rattle.call_plans.specs.Laws.{LeftGoesBy, OutcomeIsLeft, LeftMayRefuse, NextMayRefuse, NextLeads, LeadsMore}
+use Rattle.kernel_invariant.specs.kernel_rules.proofs.{◌≡◌, inl, inr, ℕ, Bool, true, false, IsTrue, IsFalse, List, [], ◌∷◌, ◌++◌, refl, sym}
+use Rattle.kernel_invariant.specs.kernel_rules.proofs.{◌∙◌, ap, subst, Capability, Reply, Named, found, Want, Rule, Name as name_rule}
+use Rattle.kernel_invariant.specs.kernel_rules.proofs.{Vacant as vacant_rule, Held as held_rule, Mapped as mapped_rule, Does, and_then}
+use Rattle.kernel_invariant.specs.kernel_rules.proofs.{name_of, outcome, NameMay, VacantMay, HeldMay, MappedMay, RuleMay}
+use Rattle.call_plans.specs.{OwnPages, GoesOn, want_of, rule_after, with_found, names_after, Leads, LeadsIn, NextName, NextFree, NextHeld}
+use Rattle.call_plans.specs.{NextOwn, NextNothing, next_target, next_in, next_of, NextMay}
+use Rattle.kernel_invariant.specs.kernel_rules.specs.State.{State}
+use Rattle.call_plans.specs.{declared.plans.Name.Name, declared.plans.Target.Target, declared.plans.Target.TheVariants.Nowhere}
+use Rattle.call_plans.specs.{declared.plans.Target.TheVariants.Free, declared.plans.Target.TheVariants.Held}
+use Rattle.call_plans.specs.{declared.plans.Target.TheVariants.Own, declared.plans.Plan.Plan, GoesBy.GoesBy, After.Next, Laws.LeftGoesBy}
+use Rattle.call_plans.specs.{Laws.OutcomeIsLeft, Laws.LeftMayRefuse, Laws.NextMayRefuse, Laws.NextLeads, Laws.LeadsMore}
 
 -- What is true of a rule whose first name leads on to a rule of which it is true, is true of the rule before the names that lead.
 pub before : (P : ℕ → Want → Capability → Type 0) (Q : Rule → Type 0)

@@ -1,23 +1,12 @@
 -- The rule of each call goes by the call's plan.
-use Rattle.std.proofs.Common.{◌≡◌, ℕ, Option, Some, None, refl}
-use Rattle.std.specs.Prelude.{is_some}
-use Rattle.spk_nums.specs.declared.calls.Make.{Make}
-use Rattle.spk_nums.specs.declared.calls.Make.TheVariants as make
-use Rattle.spk_nums.specs.declared.calls.Call.{Call}
-use Rattle.spk_nums.specs.declared.calls.Call.TheVariants.{Look, Copy, Remove, Grow, Shrink, Retype, Make as make_call}
-use Rattle.spk_nums.specs.declared.calls.Call.TheVariants.{Map, Unmap, Touch, Flush, Gate, Kill, Call as call_gate}
-use Rattle.spk_nums.specs.declared.calls.Call.TheVariants.{Ret, Switch, Tick, Transfer, Delegate, Test, Part, Replenish}
-use Rattle.spk_nums.specs.declared.translations.Translation.{Translation}
-use Rattle.kernel_rules.specs.State.{State, thread_in, comp_of}
-use Rattle.kernel_rules.specs.Access.{Named}
-use Rattle.kernel_rules.specs.CapabilityCalls.{make_rule}
-use Rattle.kernel_rules.specs.MemoryCalls.{translation_of, touch_by}
-use Rattle.kernel_rules.specs.InvocationCalls.{switch_to}
-use Rattle.kernel_rules.specs.CallRelation.{rule_of}
-use Rattle.spk_nums.specs.declared.kinds.FrameKind.{FrameKind}
-use Rattle.spk_nums.specs.declared.kinds.FrameKind.TheVariants.{Untyped, User, Kernel}
-use Rattle.call_plans.specs.PlanOf.{plan_of_retype, plan_of_make, plan_for}
-use Rattle.call_plans.specs.GoesBy.{OwnPages, own_pages, OnlyDoes, GoesBy}
+use Rattle.kernel_invariant.specs.kernel_rules.specs.{◌≡◌, ℕ, Option, Some, None, refl, is_some, Make, Call, Look, Copy, Remove, Grow}
+use Rattle.kernel_invariant.specs.kernel_rules.specs.{Shrink, Retype, Map, Unmap, Touch, Flush, Gate, Kill, Ret, Switch, Tick, Transfer}
+use Rattle.kernel_invariant.specs.kernel_rules.specs.{Delegate, Test, Part, Replenish, Translation, thread_in, comp_of, Named, make_rule}
+use Rattle.kernel_invariant.specs.kernel_rules.specs.{translation_of, touch_by, switch_to, rule_of, FrameKind}
+use Rattle.call_plans.specs.{plan_of_retype, plan_of_make, plan_for, OwnPages, own_pages, OnlyDoes}
+use Rattle.kernel_invariant.specs.spk_nums.specs.declared.calls.Call.TheVariants.{Make as make_call, Call as call_gate}
+use Rattle.kernel_invariant.specs.spk_nums.specs.declared.kinds.FrameKind.TheVariants.{Untyped, User, Kernel}
+use Rattle.{kernel_invariant.specs.kernel_rules.specs.State.State, call_plans.specs.GoesBy.GoesBy}
 
 switch_does : (s : State) (c : ℕ) (h : Named) (q : ℕ) (runs_on : Option ℕ) → OnlyDoes (switch_to h q runs_on)
 switch_does s c h q None = tt
@@ -35,9 +24,9 @@ retype_goes s c pages r f User = (refl, refl, λ k. tt)
 retype_goes s c pages r f Kernel = (refl, refl, λ k. tt)
 
 make_goes : (s : State) (pages : OwnPages) (what : Make) (r f t b : ℕ) → GoesBy pages (plan_of_make what r t b) (make_rule s what r f t b)
-make_goes s pages make.Table r f t b = (refl, refl, λ k. (refl, refl, λ l. (refl, λ at. tt)))
-make_goes s pages (make.Thread comp) r f t b = (refl, refl, λ k. (refl, refl, λ l. (refl, refl, λ m. (refl, λ at. tt))))
-make_goes s pages (make.Comp table own_pages live) r f t b =
+make_goes s pages Make.Table r f t b = (refl, refl, λ k. (refl, refl, λ l. (refl, λ at. tt)))
+make_goes s pages (Make.Thread comp) r f t b = (refl, refl, λ k. (refl, refl, λ l. (refl, refl, λ m. (refl, λ at. tt))))
+make_goes s pages (Make.Comp table own_pages live) r f t b =
     (refl, refl, λ k. (refl, refl, λ l. (refl, refl, λ m. (refl, refl, λ n. (refl, λ at. tt)))))
 make_goes s pages _ r f t b = (refl, refl, λ k. (refl, refl, λ l. (refl, λ at. tt)))
 

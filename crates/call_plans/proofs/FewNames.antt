@@ -1,12 +1,8 @@
 -- A call has four names at most.
-use Rattle.std.proofs.Common.{ℕ, ◌≤◌, length, arith}
-use Rattle.spk_nums.specs.declared.kinds.FrameKind.{FrameKind}
-use Rattle.spk_nums.specs.declared.kinds.FrameKind.TheVariants.{Untyped, User, Kernel}
-use Rattle.spk_nums.specs.declared.calls.Make.{Make}
-use Rattle.spk_nums.specs.declared.calls.Make.TheVariants as make
-use Rattle.spk_nums.specs.declared.calls.Call.{Call}
-use Rattle.spk_nums.specs.declared.calls.Call.TheVariants.{Retype, Make as make_call}
-use Rattle.call_plans.specs.PlanOf.{plan_of_retype, plan_of_make, plan_for}
+use Rattle.kernel_invariant.specs.kernel_rules.proofs.{ℕ, ◌≤◌, length, arith, FrameKind, Make, Call, Retype}
+use Rattle.call_plans.specs.{plan_of_retype, plan_of_make, plan_for}
+use Rattle.kernel_invariant.specs.spk_nums.specs.declared.kinds.FrameKind.TheVariants.{Untyped, User, Kernel}
+use Rattle.kernel_invariant.specs.spk_nums.specs.declared.calls.Call.TheVariants.{Make as make_call}
 
 few_of_retype : (k : FrameKind) (r : ℕ) → length (plan_of_retype k r).names ≤ 4
 few_of_retype Untyped r = omega arith
@@ -14,13 +10,13 @@ few_of_retype User r = omega arith
 few_of_retype Kernel r = omega arith
 
 few_of_make : (what : Make) (r t b : ℕ) → length (plan_of_make what r t b).names ≤ 4
-few_of_make make.Table r t b = omega arith
-few_of_make make.Leaf r t b = omega arith
-few_of_make make.Pages r t b = omega arith
-few_of_make make.Pleaf r t b = omega arith
-few_of_make (make.Thread comp) r t b = omega arith
-few_of_make (make.Tcap sched quality) r t b = omega arith
-few_of_make (make.Comp table pages live) r t b = omega arith
+few_of_make Make.Table r t b = omega arith
+few_of_make Make.Leaf r t b = omega arith
+few_of_make Make.Pages r t b = omega arith
+few_of_make Make.Pleaf r t b = omega arith
+few_of_make (Make.Thread comp) r t b = omega arith
+few_of_make (Make.Tcap sched quality) r t b = omega arith
+few_of_make (Make.Comp table pages live) r t b = omega arith
 
 pub few_names : (call : Call) → length (plan_for call).names ≤ 4
 few_names (Retype r f k) = few_of_retype k r

@@ -1,21 +1,14 @@
 -- After all names, the name at a place has led to the capability at that place.
-use Rattle.std.proofs.Common.{◌≡◌, ℕ, ◌+◌, ◌<◌, length, nat_lt, if◌then◌else◌, slice_get, arith, true, ◌==◌}
-use Rattle.std.proofs.Common.{Bool, List, [], ◌∷◌, ◌++◌, Option, Some, refl, sym, ◌∙◌, ap, subst, map}
-use Rattle.std.specs.Prelude.{option_map}
-use Rattle.std.proofs.lemmas.List.{append_assoc, append-nil}
-use Rattle.std.proofs.lemmas.Bool.{lt-ltb}
-use Rattle.kernel_invariant.proofs.Facts.{some_inj, none_some, some_none}
-use Rattle.spk_nums.specs.Capability.{Capability}
-use Rattle.spk_nums.specs.declared.kinds.Kind.{Kind}
-use Rattle.kernel_rules.specs.Access.{Named, kind_number, found, Want}
-use Rattle.call_plans.specs.declared.plans.Nth.{Nth}
-use Rattle.call_plans.specs.declared.plans.Nth.TheVariants.{First, Second, Third, Fourth}
-use Rattle.kernel_rules.specs.CapabilityCalls.{leaf_of, leaf_for}
-use Rattle.call_plans.specs.declared.plans.Wanted.TheVariants.{LeafOf}
-use Rattle.call_plans.specs.declared.plans.Name.{Name}
-use Rattle.call_plans.specs.Plans.{head, tail, index_of, at_place, pushed}
-use Rattle.call_plans.specs.GoesBy.{wants, want_of, or_not_found, earlier}
-use Rattle.call_plans.specs.After.{with_found, names_after, Leads}
+use Rattle.kernel_invariant.specs.kernel_rules.proofs.{◌≡◌, ℕ, ◌+◌, ◌<◌, length, ltb as nat_lt, if◌then◌else◌, slice_get, arith, true, ◌==◌}
+use Rattle.kernel_invariant.specs.kernel_rules.proofs.{Bool, List, [], ◌∷◌, ◌++◌, Option, Some, refl, sym, ◌∙◌, ap, subst, map, option_map}
+use Rattle.kernel_invariant.specs.kernel_rules.proofs.{append_assoc, append-nil, lt-ltb, Capability, Kind, Named, found, Want, leaf_of}
+use Rattle.call_plans.specs.{head, at_place, pushed, wants, want_of, earlier, with_found, names_after, Leads}
+use Rattle.kernel_invariant.proofs.{some_inj, none_some, some_none}
+use Rattle.call_plans.specs.{declared.plans.Nth.Nth, declared.plans.Nth.TheVariants.First, declared.plans.Nth.TheVariants.Second}
+use Rattle.call_plans.specs.{declared.plans.Nth.TheVariants.Third, declared.plans.Nth.TheVariants.Fourth}
+use Rattle.call_plans.specs.{declared.plans.Wanted.TheVariants.LeafOf, declared.plans.Name.Name, Plans.tail, Plans.index_of}
+use Rattle.{kernel_invariant.specs.kernel_rules.proofs.leaf_for, kernel_invariant.specs.kernel_rules.specs.Access.kind_number}
+use Rattle.{call_plans.specs.GoesBy.or_not_found}
 
 -- what the names have led to, as one list
 pub with_is : (caps : List Named) (ks : List Capability) → with_found caps ks ≡ caps ++ map found ks

@@ -1,16 +1,11 @@
 -- What is left of a rule and of a plan after the names that have led to capabilities, and what is looked up next.
-use Rattle.std.specs.Prelude.{◌≡◌, ℕ, Bool, List, [], ◌∷◌, ◌++◌, Option, Some, None, IsFalse}
-use Rattle.spk_nums.specs.Capability.{Capability}
-use Rattle.spk_nums.specs.declared.replies.Reply.{Reply}
-use Rattle.kernel_rules.specs.State.{State}
-use Rattle.kernel_rules.specs.Access.{Named, found, Want, Target as place}
-use Rattle.kernel_rules.specs.Rules.{Rule, Name as name_rule, Found, named, NameMay, VacantMay, HeldMay, MappedMay}
-use Rattle.call_plans.specs.declared.plans.Name.{Name}
-use Rattle.call_plans.specs.declared.plans.Target.{Target}
-use Rattle.call_plans.specs.declared.plans.Target.TheVariants.{Nowhere, Free, Held, Own}
-use Rattle.call_plans.specs.declared.plans.Plan.{Plan}
-use Rattle.call_plans.specs.Plans.{head}
-use Rattle.call_plans.specs.GoesBy.{OwnPages, want_of, place_of_spot}
+use Rattle.kernel_invariant.specs.kernel_rules.specs.{◌≡◌, ℕ, Bool, List, [], ◌∷◌, ◌++◌, Option, Some, None, IsFalse, Capability, Reply}
+use Rattle.kernel_invariant.specs.kernel_rules.specs.{Named, found, Want, Target as place, Rule, Name as name_rule, Found, named, NameMay}
+use Rattle.kernel_invariant.specs.kernel_rules.specs.{VacantMay, HeldMay, MappedMay}
+use Rattle.call_plans.specs.{declared.plans.Name.Name, declared.plans.Target.Target, declared.plans.Target.TheVariants.Nowhere}
+use Rattle.call_plans.specs.{declared.plans.Target.TheVariants.Free, declared.plans.Target.TheVariants.Held}
+use Rattle.call_plans.specs.{declared.plans.Target.TheVariants.Own, declared.plans.Plan.Plan, Plans.head, GoesBy.OwnPages, GoesBy.want_of}
+use Rattle.{kernel_invariant.specs.kernel_rules.specs.State.State, call_plans.specs.GoesBy.place_of_spot}
 
 -- The rule after its first names, which have led to these capabilities.
 abbrev pub rule_after : Rule → List Capability → Rule

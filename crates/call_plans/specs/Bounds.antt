@@ -1,19 +1,14 @@
 -- The most own steps of a call, by its plan: three for entry and exit, those by which it asks whether its component lives, those of its
 -- look-ups, and those of its act.
-use Rattle.std.specs.Prelude.{ℕ, ◌+◌, ◌*◌, Bool, List, length, if◌then◌else◌}
-use Rattle.spk_nums.specs.declared.kinds.FrameKind.{FrameKind}
-use Rattle.spk_nums.specs.declared.kinds.FrameKind.TheVariants.{Untyped}
-use Rattle.spk_nums.specs.declared.calls.Make.{Make}
-use Rattle.spk_nums.specs.declared.calls.Make.TheVariants as make
-use Rattle.spk_nums.specs.declared.calls.Call.{Call}
-use Rattle.spk_nums.specs.declared.calls.Call.TheVariants.{Look, Copy, Remove, Grow, Shrink, Retype, Make as make_call}
-use Rattle.spk_nums.specs.declared.calls.Call.TheVariants.{Map, Unmap, Touch, Flush, Gate, Kill, Call as call_gate}
-use Rattle.spk_nums.specs.declared.calls.Call.TheVariants.{Ret, Switch, Tick, Transfer, Delegate, Test, Part, Replenish}
-use Rattle.call_plans.specs.declared.plans.Name.{Name}
-use Rattle.call_plans.specs.declared.plans.Spot.{Spot}
-use Rattle.call_plans.specs.declared.plans.Spot.TheVariants.{Under, InRoot}
-use Rattle.call_plans.specs.declared.plans.Target.{Target}
-use Rattle.call_plans.specs.declared.plans.Target.TheVariants.{Nowhere, Free, Held, Own}
+use Rattle.kernel_invariant.specs.kernel_rules.specs.{ℕ, ◌+◌, ◌*◌, Bool, List, length, if◌then◌else◌, FrameKind, Make, Call, Look, Copy}
+use Rattle.kernel_invariant.specs.kernel_rules.specs.{Remove, Grow, Shrink, Retype, Map, Unmap, Touch, Flush, Gate, Kill, Ret, Switch, Tick}
+use Rattle.kernel_invariant.specs.kernel_rules.specs.{Transfer, Delegate, Test, Part, Replenish}
+use Rattle.kernel_invariant.specs.spk_nums.specs.declared.kinds.FrameKind.TheVariants.{Untyped}
+use Rattle.kernel_invariant.specs.spk_nums.specs.declared.calls.Call.TheVariants.{Make as make_call, Call as call_gate}
+use Rattle.call_plans.specs.{declared.plans.Name.Name, declared.plans.Spot.Spot, declared.plans.Spot.TheVariants.Under}
+use Rattle.call_plans.specs.{declared.plans.Spot.TheVariants.InRoot, declared.plans.Target.Target}
+use Rattle.call_plans.specs.{declared.plans.Target.TheVariants.Nowhere, declared.plans.Target.TheVariants.Free}
+use Rattle.call_plans.specs.{declared.plans.Target.TheVariants.Held, declared.plans.Target.TheVariants.Own}
 
 -- it is asked in two steps whether a component lives
 abbrev pub living_steps : Bool → ℕ
@@ -45,9 +40,9 @@ retype_steps _ n = 2
 
 -- a frame word loaded, marked and stored, the target compared, a scan, the counts, and the stores of the object's words
 abbrev pub make_steps : Make → ℕ → ℕ
-make_steps (make.Thread comp) n = 26 + n
-make_steps (make.Tcap sched quality) n = 15 + n
-make_steps (make.Comp table pages live) n = 17 + 2 * n
+make_steps (Make.Thread comp) n = 26 + n
+make_steps (Make.Tcap sched quality) n = 15 + n
+make_steps (Make.Comp table pages live) n = 17 + 2 * n
 make_steps _ n = 70 + n
 
 abbrev pub act_steps : Call → ℕ → ℕ

@@ -1,8 +1,6 @@
 -- The capabilities to which the names of a call have led, as a list.
-use Rattle.std.specs.Prelude.{◌≡◌, List, length, take}
-use Rattle.spk_nums.specs.Capability.{Capability, cap_of}
-use Rattle.spk_nums.specs.declared.kinds.Kind.TheVariants.{Range}
-use Rattle.spk_nums.specs.Listed.{IsListed, padded, padded-listed, length-listed}
+use Rattle.kernel_invariant.specs.kernel_rules.specs.{◌≡◌, List, length, take, Capability, cap_of, Range}
+use Rattle.kernel_invariant.specs.spk_nums.specs.Listed.{IsListed, padded, padded-listed, length-listed}
 use Rattle.call_plans.specs.declared.found.Caps.TheInside.{Inside}
 
 -- an unused cell

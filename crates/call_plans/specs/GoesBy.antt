@@ -1,22 +1,15 @@
 -- A rule goes by a plan: its names, what they want, and its target are those of the plan, whatever the names lead to.
-use Rattle.std.specs.Prelude.{◌≡◌, ℕ, Bool, List, [], ◌∷◌, ◌++◌, Option, Some, None, is_some, IsTrue, IsFalse}
-use Rattle.spk_nums.specs.Capability.{Capability}
-use Rattle.spk_nums.specs.declared.kinds.Kind.{Kind}
-use Rattle.kernel_rules.specs.State.{State, comp_of}
-use Rattle.kernel_rules.specs.MemoryCalls.{translation_of}
-use Rattle.kernel_rules.specs.Access.{Slot, Named, not_found, Want, any, only, root, Target as place, Under as under, InRoot as in_root}
-use Rattle.kernel_rules.specs.Rules.{Rule, Name as name_rule, Vacant as vacant_rule, Held as held_rule, Mapped as mapped_rule, Does}
-use Rattle.kernel_rules.specs.CapabilityCalls.{leaf_for}
-use Rattle.call_plans.specs.declared.plans.Nth.{Nth}
-use Rattle.call_plans.specs.declared.plans.Wanted.{Wanted}
-use Rattle.call_plans.specs.declared.plans.Wanted.TheVariants.{Any, Only, Root, LeafOf}
-use Rattle.call_plans.specs.declared.plans.Name.{Name}
-use Rattle.call_plans.specs.declared.plans.Spot.{Spot}
-use Rattle.call_plans.specs.declared.plans.Spot.TheVariants.{Under, InRoot}
-use Rattle.call_plans.specs.declared.plans.Target.{Target}
-use Rattle.call_plans.specs.declared.plans.Target.TheVariants.{Nowhere, Free, Held, Own}
-use Rattle.call_plans.specs.declared.plans.Plan.{Plan}
-use Rattle.call_plans.specs.Plans.{at_place}
+use Rattle.kernel_invariant.specs.kernel_rules.specs.{◌≡◌, ℕ, Bool, List, [], ◌∷◌, ◌++◌, Option, Some, None, is_some, IsTrue, IsFalse}
+use Rattle.kernel_invariant.specs.kernel_rules.specs.{Capability, Kind, comp_of, translation_of, Slot, Named, not_found, Want, any, only}
+use Rattle.kernel_invariant.specs.kernel_rules.specs.{root, Target as place, Under as under, InRoot as in_root, Rule, Name as name_rule}
+use Rattle.kernel_invariant.specs.kernel_rules.specs.{Vacant as vacant_rule, Held as held_rule, Mapped as mapped_rule, Does, leaf_for}
+use Rattle.call_plans.specs.{declared.plans.Nth.Nth, declared.plans.Wanted.Wanted, declared.plans.Wanted.TheVariants.Any}
+use Rattle.call_plans.specs.{declared.plans.Wanted.TheVariants.Only, declared.plans.Wanted.TheVariants.Root}
+use Rattle.call_plans.specs.{declared.plans.Wanted.TheVariants.LeafOf, declared.plans.Name.Name, declared.plans.Spot.Spot}
+use Rattle.call_plans.specs.{declared.plans.Spot.TheVariants.Under, declared.plans.Spot.TheVariants.InRoot, declared.plans.Target.Target}
+use Rattle.call_plans.specs.{declared.plans.Target.TheVariants.Nowhere, declared.plans.Target.TheVariants.Free}
+use Rattle.call_plans.specs.{declared.plans.Target.TheVariants.Held, declared.plans.Target.TheVariants.Own, declared.plans.Plan.Plan}
+use Rattle.{kernel_invariant.specs.kernel_rules.specs.State.State, call_plans.specs.Plans.at_place}
 
 -- What an earlier name has led to.
 abbrev pub or_not_found : Option Named → Named

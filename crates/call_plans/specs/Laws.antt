@@ -1,18 +1,10 @@
 -- What is proved of plans.
-use Rattle.std.specs.Prelude.{◌≡◌, ℕ, ◌+◌, List, [], ◌∷◌, ◌++◌}
-use Rattle.spk_nums.specs.Capability.{Capability}
-use Rattle.spk_nums.specs.declared.calls.Call.{Call}
-use Rattle.spk_nums.specs.declared.replies.Reply.{Reply}
-use Rattle.kernel_rules.specs.State.{State}
-use Rattle.kernel_rules.specs.Rules.{Rule, outcome, RuleMay}
-use Rattle.kernel_rules.specs.Life.{asks_life}
-use Rattle.kernel_rules.specs.CallRelation.{rule_of}
-use Rattle.call_plans.specs.declared.plans.Plan.{Plan}
-use Rattle.spk_nums.specs.Bounds.{bound_of}
-use Rattle.call_plans.specs.Bounds.{living_steps, look_steps, act_steps}
-use Rattle.call_plans.specs.PlanOf.{plan_for}
-use Rattle.call_plans.specs.GoesBy.{OwnPages, own_pages, GoesBy, GoesOn}
-use Rattle.call_plans.specs.After.{rule_after, with_found, names_after, Leads, LeadsIn, Next, NextName, next_of, NextMay}
+use Rattle.kernel_invariant.specs.kernel_rules.specs.{◌≡◌, ℕ, ◌+◌, List, [], ◌∷◌, ◌++◌, Capability, Call, Reply, Rule, outcome, RuleMay}
+use Rattle.kernel_invariant.specs.kernel_rules.specs.{asks_life, rule_of, bound_of}
+use Rattle.kernel_invariant.specs.kernel_rules.specs.State.{State}
+use Rattle.call_plans.specs.{declared.plans.Plan.Plan, Bounds.living_steps, Bounds.look_steps, Bounds.act_steps, PlanOf.plan_for}
+use Rattle.call_plans.specs.{GoesBy.OwnPages, GoesBy.own_pages, GoesBy.GoesBy, GoesBy.GoesOn, After.rule_after, After.with_found}
+use Rattle.call_plans.specs.{After.names_after, After.Leads, After.LeadsIn, After.Next, After.NextName, After.next_of, After.NextMay}
 
 -- The rule of a call goes by the call's plan, in each state and for each core.
 abbrev pub GoesByPlan : Type 0

@@ -1,9 +1,7 @@
 -- The names of a plan as a list.
 use Rattle.std.specs.Prelude.{◌≡◌, List, length, take}
-use Rattle.spk_nums.specs.Listed.{IsListed, padded, padded-listed, length-listed}
-use Rattle.call_plans.specs.declared.plans.Name.{Name}
-use Rattle.call_plans.specs.declared.plans.Wanted.TheVariants.{Any}
-use Rattle.call_plans.specs.declared.plans.Names.TheInside.{Inside}
+use Rattle.kernel_invariant.specs.spk_nums.specs.Listed.{IsListed, padded, padded-listed, length-listed}
+use Rattle.call_plans.specs.{declared.plans.Name.Name, declared.plans.Wanted.TheVariants.Any, declared.plans.Names.TheInside.Inside}
 
 -- an unused cell
 abbrev pub blank_name : Name

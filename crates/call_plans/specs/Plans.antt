@@ -1,13 +1,11 @@
 -- What stands at a place of a list of names, and where a target is.
 use Rattle.std.specs.Prelude.{ℕ, List, [], ◌∷◌, ◌++◌, length, nat_lt, if◌then◌else◌, Option, Some, None}
-use Rattle.call_plans.specs.declared.plans.Nth.{Nth}
-use Rattle.call_plans.specs.declared.plans.Nth.TheVariants.{First, Second, Third, Fourth}
-use Rattle.call_plans.specs.declared.plans.Spot.{Spot}
-use Rattle.call_plans.specs.declared.plans.Spot.TheVariants.{Under, InRoot}
-use Rattle.call_plans.specs.declared.plans.Target.{Target}
-use Rattle.call_plans.specs.declared.plans.Target.TheVariants.{Nowhere, Free, Held, Own}
-use Rattle.call_plans.specs.declared.plans.TargetKind.{TargetKind}
-use Rattle.call_plans.specs.declared.plans.TargetKind.TheVariants as target_kind
+use Rattle.call_plans.specs.{declared.plans.Nth.Nth, declared.plans.Nth.TheVariants.First, declared.plans.Nth.TheVariants.Second}
+use Rattle.call_plans.specs.{declared.plans.Nth.TheVariants.Third, declared.plans.Nth.TheVariants.Fourth, declared.plans.Spot.Spot}
+use Rattle.call_plans.specs.{declared.plans.Spot.TheVariants.Under, declared.plans.Spot.TheVariants.InRoot, declared.plans.Target.Target}
+use Rattle.call_plans.specs.{declared.plans.Target.TheVariants.Nowhere, declared.plans.Target.TheVariants.Free}
+use Rattle.call_plans.specs.{declared.plans.Target.TheVariants.Held, declared.plans.Target.TheVariants.Own}
+use Rattle.call_plans.specs.{declared.plans.TargetKind.TargetKind}
 
 -- the first of a list, if it has one, and the list after it
 abbrev pub head : {A : Type 0} → List A → Option A
@@ -38,12 +36,12 @@ pushed xs x = if nat_lt (length xs) 4 then xs ++ x ∷ [] else xs
 
 -- a place under a number, or a root entry
 abbrev pub kind_of_spot : Spot → TargetKind
-kind_of_spot (Under root n) = target_kind.Place
-kind_of_spot (InRoot root i) = target_kind.Root
+kind_of_spot (Under root n) = TargetKind.Place
+kind_of_spot (InRoot root i) = TargetKind.Root
 
 -- where a target is; a call names no page of the caller's own pages as its target
 abbrev pub kind_of_target : Target → TargetKind
-kind_of_target Nowhere = target_kind.Nowhere
+kind_of_target Nowhere = TargetKind.Nowhere
 kind_of_target (Free spot) = kind_of_spot spot
 kind_of_target (Held spot) = kind_of_spot spot
-kind_of_target (Own v) = target_kind.Nowhere
+kind_of_target (Own v) = TargetKind.Nowhere

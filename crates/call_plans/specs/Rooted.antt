@@ -1,18 +1,10 @@
 -- The target of a plan is in a table to whose root one of the plan's names is to lead.
-use Rattle.std.specs.Prelude.{List, IsTrue, IsSomeAnd}
-use Rattle.spk_nums.specs.declared.kinds.Kind.{Kind}
-use Rattle.spk_nums.specs.declared.calls.Call.{Call}
-use Rattle.kernel_rules.specs.Access.{Named, root}
-use Rattle.call_plans.specs.declared.plans.Nth.{Nth}
-use Rattle.call_plans.specs.declared.plans.Wanted.{Wanted}
-use Rattle.call_plans.specs.declared.plans.Name.{Name}
-use Rattle.call_plans.specs.declared.plans.Spot.{Spot}
-use Rattle.call_plans.specs.declared.plans.Spot.TheVariants.{Under, InRoot}
-use Rattle.call_plans.specs.declared.plans.Target.{Target}
-use Rattle.call_plans.specs.declared.plans.Target.TheVariants.{Nowhere, Free, Held, Own}
-use Rattle.call_plans.specs.Plans.{at_place}
-use Rattle.call_plans.specs.PlanOf.{plan_for}
-use Rattle.call_plans.specs.GoesBy.{wants}
+use Rattle.kernel_invariant.specs.kernel_rules.specs.{List, IsTrue, IsSomeAnd, Kind, Call, Named, root}
+use Rattle.call_plans.specs.{declared.plans.Nth.Nth, declared.plans.Wanted.Wanted, declared.plans.Name.Name, declared.plans.Spot.Spot}
+use Rattle.call_plans.specs.{declared.plans.Spot.TheVariants.Under, declared.plans.Spot.TheVariants.InRoot, declared.plans.Target.Target}
+use Rattle.call_plans.specs.{declared.plans.Target.TheVariants.Nowhere, declared.plans.Target.TheVariants.Free}
+use Rattle.call_plans.specs.{declared.plans.Target.TheVariants.Held, declared.plans.Target.TheVariants.Own, Plans.at_place, PlanOf.plan_for}
+use Rattle.call_plans.specs.{GoesBy.wants}
 
 -- the name that leads to the root of a spot
 abbrev pub root_of : Spot → Nth

@@ -1,7 +1,7 @@
 //! How many own steps a call makes at most.
 
 ghost use Rattle.std.specs.Prelude.{◌≡◌, ◌≤◌};
-ghost use Rattle.spk_nums.specs.Bounds.{bound_of};
+ghost use Rattle.kernel_invariant.specs.spk_nums.specs.Bounds.{bound_of};
 ghost use Rattle.call_plans.specs.Bounds.{living_steps, spot_steps, target_steps, look_steps, retype_steps, make_steps, act_steps};
 
 use crate::calls::plan_of;

@@ -1,10 +1,10 @@
 //! The plan of each call.
 
 ghost use Rattle.std.specs.Prelude.{◌≡◌, ℕ};
-ghost use Rattle.spk_nums.specs.declared.kinds.Kind.TheVariants.{Tcap};
-ghost use Rattle.kernel_rules.specs.State.{State};
-ghost use Rattle.kernel_rules.specs.Life.{asks_life};
-ghost use Rattle.kernel_rules.specs.CallRelation.{rule_of};
+ghost use Rattle.kernel_invariant.specs.spk_nums.specs.declared.kinds.Kind.TheVariants.{Tcap};
+ghost use Rattle.kernel_invariant.specs.kernel_rules.specs.State.{State};
+ghost use Rattle.kernel_invariant.specs.kernel_rules.specs.Life.{asks_life};
+ghost use Rattle.kernel_invariant.specs.kernel_rules.specs.CallRelation.{rule_of};
 ghost use Rattle.call_plans.specs.PlanOf.{any_cap, a_root, of_kind, fills, removes, names_alone, of_core};
 ghost use Rattle.call_plans.specs.PlanOf.{on_two_tcaps, plan_of_retype, plan_of_make, plan_for, a_leaf, a_whole};
 ghost use Rattle.call_plans.specs.GoesBy.{GoesBy, own_pages};

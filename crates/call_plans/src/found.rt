@@ -1,8 +1,8 @@
 //! The capabilities to which the first names of a call have led.
 
 ghost use Rattle.std.specs.Prelude.{◌≡◌, ◌≤◌, [], length, slice_get};
-ghost use Rattle.kernel_rules.specs.Access.{kind_number};
-ghost use Rattle.kernel_rules.specs.CapabilityCalls.{leaf_of};
+ghost use Rattle.kernel_invariant.specs.kernel_rules.specs.Access.{kind_number};
+ghost use Rattle.kernel_invariant.specs.kernel_rules.specs.CapabilityCalls.{leaf_of};
 ghost use Rattle.call_plans.specs.Plans.{at_place, pushed};
 ghost use Rattle.call_plans.specs.GoesBy.{wants};
 ghost use Rattle.call_plans.specs.After.{with_found, next_of};
@@ -21,7 +21,7 @@ pub struct Caps {
 
 impl Model for Caps {
     ghost use Rattle.std.specs.Prelude.{List};
-    ghost use Rattle.spk_nums.specs.Capability.{Capability};
+    ghost use Rattle.kernel_invariant.specs.spk_nums.specs.Capability.{Capability};
 
     ghost Value = { List Capability };
 

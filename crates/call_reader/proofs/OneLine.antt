@@ -1,12 +1,9 @@
 -- The words that were cut are those of the bytes, so their call is that of the bytes.
 use Rattle.std.proofs.Common.{◌≡◌, ℕ, List, [], ◌∷◌, map, Result, refl, sym, ◌∙◌, ap}
-use Rattle.spk_nums.specs.declared.calls.Call.{Call}
-use Rattle.script_tokens.specs.declared.token.Token.{Token}
-use Rattle.script_tokens.specs.declared.scanning.Ending.{Ending}
-use Rattle.script_tokens.specs.Words.{Word, views, words_of, ending_of}
-use Rattle.line_reader.specs.declared.cause.Cause.{Cause}
-use Rattle.line_reader.specs.Arguments.{texts}
-use Rattle.call_reader.specs.OneLine.{call_by, call_of}
+use Rattle.script_tokens.specs.{Word, views, words_of, ending_of}
+use Rattle.{spk_nums.specs.declared.calls.Call.Call, script_tokens.specs.declared.token.Token.Token}
+use Rattle.{script_tokens.specs.declared.scanning.Ending.Ending, line_reader.specs.declared.cause.Cause.Cause}
+use Rattle.{line_reader.specs.Arguments.texts, call_reader.specs.OneLine.call_by, call_reader.specs.OneLine.call_of}
 
 -- the texts of tokens are those of the words that they are
 texts_of_views : (ts : List Token) → map (λ (w : Word). w.text) (views ts) ≡ texts ts

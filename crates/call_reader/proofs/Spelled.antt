@@ -1,35 +1,33 @@
 -- A word of a call, spelled, is that first word.
 use Rattle.std.proofs.Common.{◌≡◌, ℕ, List, Bool, true, refl, sym, ap, ◌∙◌}
-use Rattle.std.proofs.lemmas.Slice.Eq.{bytes_eq-Decides}
-use Rattle.line_reader.specs.Arguments.{is_word}
-use Rattle.call_reader.specs.declared.first_words.Verb.{Verb}
-use Rattle.call_reader.specs.declared.first_words.Verb.TheVariants as verb
-use Rattle.call_reader.specs.FirstWords.{verb_of, later_verb_of, first_word, spelled, in_version}
+use Rattle.call_reader.specs.{verb_of, later_verb_of, first_word}
+use Rattle.call_reader.specs.{declared.first_words.Verb.Verb, FirstWords.spelled, FirstWords.in_version}
+use Rattle.{std.proofs.lemmas.Slice.Eq.bytes_eq-Decides, line_reader.specs.Arguments.is_word}
 
 word_of : (version : ℕ) (v : Verb) → first_word version (spelled v) ≡ in_version version v
 unfolding first_word verb_of later_verb_of is_word
-word_of version verb.Look = refl
-word_of version verb.Copy = refl
-word_of version verb.Remove = refl
-word_of version verb.Grow = refl
-word_of version verb.Shrink = refl
-word_of version verb.Retype = refl
-word_of version verb.Make = refl
-word_of version verb.Map = refl
-word_of version verb.Unmap = refl
-word_of version verb.Touch = refl
-word_of version verb.Flush = refl
-word_of version verb.Gate = refl
-word_of version verb.Kill = refl
-word_of version verb.Call = refl
-word_of version verb.Ret = refl
-word_of version verb.Switch = refl
-word_of version verb.Tick = refl
-word_of version verb.Transfer = refl
-word_of version verb.Delegate = refl
-word_of version verb.Test = refl
-word_of version verb.Part = refl
-word_of version verb.Replenish = refl
+word_of version Verb.Look = refl
+word_of version Verb.Copy = refl
+word_of version Verb.Remove = refl
+word_of version Verb.Grow = refl
+word_of version Verb.Shrink = refl
+word_of version Verb.Retype = refl
+word_of version Verb.Make = refl
+word_of version Verb.Map = refl
+word_of version Verb.Unmap = refl
+word_of version Verb.Touch = refl
+word_of version Verb.Flush = refl
+word_of version Verb.Gate = refl
+word_of version Verb.Kill = refl
+word_of version Verb.Call = refl
+word_of version Verb.Ret = refl
+word_of version Verb.Switch = refl
+word_of version Verb.Tick = refl
+word_of version Verb.Transfer = refl
+word_of version Verb.Delegate = refl
+word_of version Verb.Test = refl
+word_of version Verb.Part = refl
+word_of version Verb.Replenish = refl
 
 is_same : (word name : List ℕ) → is_word word name ≡ true → word ≡ name
 unfolding is_word

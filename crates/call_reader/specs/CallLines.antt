@@ -1,29 +1,18 @@
 -- The line of each call: its arguments from left to right, and then nothing. The call's word is at 0.
-use Rattle.std.specs.Prelude.{ℕ, ◌&&◌, nat_le, nat_lt, List, length, Option, Some, None, Result, Ok, codes, if◌then◌else◌}
-use Rattle.std.specs.Option.{ok_or}
-use Rattle.spk_nums.specs.Rights.{both}
-use Rattle.spk_nums.specs.declared.rights.Rights.{Rights}
-use Rattle.spk_nums.specs.declared.kinds.FrameKind.{FrameKind}
-use Rattle.spk_nums.specs.declared.kinds.FrameKind.TheVariants.{Untyped, User, Kernel}
-use Rattle.spk_nums.specs.declared.calls.Call.{Call}
-use Rattle.spk_nums.specs.declared.calls.Call.TheVariants as call
-use Rattle.spk_nums.specs.declared.calls.Make.{Make}
-use Rattle.spk_nums.specs.declared.calls.Make.TheVariants as make
-use Rattle.line_reader.specs.declared.cause.Cause.{Cause}
-use Rattle.line_reader.specs.declared.cause.Cause.TheVariants.{S2}
-use Rattle.line_reader.specs.Causes.{◌>>=◌}
-use Rattle.line_reader.specs.Arguments.{is_word, word_at, number_at, name_at, amount_at, end_at}
-use Rattle.call_reader.specs.declared.first_words.Verb.{Verb}
-use Rattle.call_reader.specs.declared.first_words.Verb.TheVariants as verb
-use Rattle.call_reader.specs.declared.call_lines.Object.{Object}
-use Rattle.call_reader.specs.declared.call_lines.Object.TheVariants as object
+use Rattle.std.specs.Prelude.{ℕ, ◌&&◌, nat_le, nat_lt, List, length, Option, Some, None, Result, Ok, codes, if◌then◌else◌, ok_or}
+use Rattle.line_reader.specs.{◌>>=◌, is_word, word_at, number_at, name_at, end_at}
+use Rattle.spk_nums.specs.{Rights.both, declared.rights.Rights.Rights, declared.kinds.FrameKind.FrameKind}
+use Rattle.spk_nums.specs.{declared.kinds.FrameKind.TheVariants.Untyped, declared.kinds.FrameKind.TheVariants.User}
+use Rattle.spk_nums.specs.{declared.kinds.FrameKind.TheVariants.Kernel, declared.calls.Call.Call, declared.calls.Make.Make}
+use Rattle.line_reader.specs.{declared.cause.Cause.Cause, declared.cause.Cause.TheVariants.S2, Arguments.amount_at}
+use Rattle.call_reader.specs.{declared.first_words.Verb.Verb, declared.call_lines.Object.Object}
 
 -- `look A`
 unfoldable pub look_line : List (List ℕ) → Result Call Cause
 look_line words = do
   a ← name_at words 1
   done ← end_at words 2
-  Ok (call.Look a)
+  Ok (Call.Look a)
 
 -- the fourth number of a `copy`: its rights
 unfoldable pub fourth_at : List (List ℕ) → Result Rights Cause
@@ -49,7 +38,7 @@ copy_line version words = do
   t ← name_at words 2
   b ← name_at words 3
   rights ← rights_at version words
-  Ok (call.Copy a t b rights)
+  Ok (Call.Copy a t b rights)
 
 -- `remove T B`
 unfoldable pub remove_line : List (List ℕ) → Result Call Cause
@@ -57,7 +46,7 @@ remove_line words = do
   t ← name_at words 1
   b ← name_at words 2
   done ← end_at words 3
-  Ok (call.Remove t b)
+  Ok (Call.Remove t b)
 
 -- `grow T I L`
 unfoldable pub grow_line : List (List ℕ) → Result Call Cause
@@ -66,7 +55,7 @@ grow_line words = do
   i ← name_at words 2
   l ← name_at words 3
   done ← end_at words 4
-  Ok (call.Grow t i l)
+  Ok (Call.Grow t i l)
 
 -- `shrink T I`
 unfoldable pub shrink_line : List (List ℕ) → Result Call Cause
@@ -74,7 +63,7 @@ shrink_line words = do
   t ← name_at words 1
   i ← name_at words 2
   done ← end_at words 3
-  Ok (call.Shrink t i)
+  Ok (Call.Shrink t i)
 
 -- the kinds of frame that a `retype` names
 unfoldable pub frame_kind_of : List ℕ → Option FrameKind
@@ -97,7 +86,7 @@ retype_line words = do
   f ← name_at words 2
   k ← frame_kind_at words 3
   done ← end_at words 4
-  Ok (call.Retype r f k)
+  Ok (Call.Retype r f k)
 
 -- `map P V R F W`
 unfoldable pub map_line : List (List ℕ) → Result Call Cause
@@ -108,7 +97,7 @@ map_line words = do
   f ← name_at words 4
   w ← number_at words 5 0 3
   done ← end_at words 6
-  Ok (call.Map p v r f (record { 0 = w }))
+  Ok (Call.Map p v r f (record { 0 = w }))
 
 -- `unmap P V`
 unfoldable pub unmap_line : List (List ℕ) → Result Call Cause
@@ -116,20 +105,20 @@ unmap_line words = do
   p ← name_at words 1
   v ← name_at words 2
   done ← end_at words 3
-  Ok (call.Unmap p v)
+  Ok (Call.Unmap p v)
 
 -- `touch V`
 unfoldable pub touch_line : List (List ℕ) → Result Call Cause
 touch_line words = do
   v ← name_at words 1
   done ← end_at words 2
-  Ok (call.Touch v)
+  Ok (Call.Touch v)
 
 -- `flush`
 unfoldable pub flush_line : List (List ℕ) → Result Call Cause
 flush_line words = do
   done ← end_at words 1
-  Ok call.Flush
+  Ok Call.Flush
 
 -- `gate C T B`
 unfoldable pub gate_line : List (List ℕ) → Result Call Cause
@@ -138,27 +127,27 @@ gate_line words = do
   t ← name_at words 2
   b ← name_at words 3
   done ← end_at words 4
-  Ok (call.Gate c t b)
+  Ok (Call.Gate c t b)
 
 -- `kill C`
 unfoldable pub kill_line : List (List ℕ) → Result Call Cause
 kill_line words = do
   c ← name_at words 1
   done ← end_at words 2
-  Ok (call.Kill c)
+  Ok (Call.Kill c)
 
 -- `call G`
 unfoldable pub enter_line : List (List ℕ) → Result Call Cause
 enter_line words = do
   g ← name_at words 1
   done ← end_at words 2
-  Ok (call.Call g)
+  Ok (Call.Call g)
 
 -- `ret`
 unfoldable pub ret_line : List (List ℕ) → Result Call Cause
 ret_line words = do
   done ← end_at words 1
-  Ok call.Ret
+  Ok Call.Ret
 
 -- `switch H Q`
 unfoldable pub switch_line : List (List ℕ) → Result Call Cause
@@ -166,14 +155,14 @@ switch_line words = do
   h ← name_at words 1
   q ← name_at words 2
   done ← end_at words 3
-  Ok (call.Switch h q)
+  Ok (Call.Switch h q)
 
 -- `tick N`
 unfoldable pub tick_line : List (List ℕ) → Result Call Cause
 tick_line words = do
   n ← number_at words 1 0 1000000
   done ← end_at words 2
-  Ok (call.Tick n)
+  Ok (Call.Tick n)
 
 -- `transfer A B M`
 unfoldable pub transfer_line : List (List ℕ) → Result Call Cause
@@ -182,7 +171,7 @@ transfer_line words = do
   b ← name_at words 2
   m ← amount_at words 3
   done ← end_at words 4
-  Ok (call.Transfer a b m)
+  Ok (Call.Transfer a b m)
 
 -- `delegate A B M`
 unfoldable pub delegate_line : List (List ℕ) → Result Call Cause
@@ -191,7 +180,7 @@ delegate_line words = do
   b ← name_at words 2
   m ← amount_at words 3
   done ← end_at words 4
-  Ok (call.Delegate a b m)
+  Ok (Call.Delegate a b m)
 
 -- `test A B`
 unfoldable pub test_line : List (List ℕ) → Result Call Cause
@@ -199,7 +188,7 @@ test_line words = do
   a ← name_at words 1
   b ← name_at words 2
   done ← end_at words 3
-  Ok (call.Test a b)
+  Ok (Call.Test a b)
 
 -- `part R F N T B`
 unfoldable pub part_line : List (List ℕ) → Result Call Cause
@@ -210,7 +199,7 @@ part_line words = do
   t ← name_at words 4
   b ← name_at words 5
   done ← end_at words 6
-  Ok (call.Part r f n t b)
+  Ok (Call.Part r f n t b)
 
 -- `replenish A M`
 unfoldable pub replenish_line : List (List ℕ) → Result Call Cause
@@ -218,18 +207,18 @@ replenish_line words = do
   a ← name_at words 1
   m ← amount_at words 2
   done ← end_at words 3
-  Ok (call.Replenish a m)
+  Ok (Call.Replenish a m)
 
 -- the objects that a `make` names
 unfoldable pub object_of : List ℕ → Option Object
 object_of word =
-    if is_word word (codes "table") then Some object.Table
-    else (if is_word word (codes "leaf") then Some object.Leaf
-    else (if is_word word (codes "pages") then Some object.Pages
-    else (if is_word word (codes "pleaf") then Some object.Pleaf
-    else (if is_word word (codes "thread") then Some object.Thread
-    else (if is_word word (codes "tcap") then Some object.Tcap
-    else (if is_word word (codes "comp") then Some object.Comp
+    if is_word word (codes "table") then Some Object.Table
+    else (if is_word word (codes "leaf") then Some Object.Leaf
+    else (if is_word word (codes "pages") then Some Object.Pages
+    else (if is_word word (codes "pleaf") then Some Object.Pleaf
+    else (if is_word word (codes "thread") then Some Object.Thread
+    else (if is_word word (codes "tcap") then Some Object.Tcap
+    else (if is_word word (codes "comp") then Some Object.Comp
     else None))))))
 
 -- the object at 1: S3, then S2
@@ -243,7 +232,7 @@ unfoldable pub thread_at : List (List ℕ) → Result Make Cause
 thread_at words = do
   comp ← name_at words 6
   done ← end_at words 7
-  Ok (make.Thread comp)
+  Ok (Make.Thread comp)
 
 -- after `make tcap R F T B`: `S W`
 unfoldable pub tcap_at : List (List ℕ) → Result Make Cause
@@ -251,7 +240,7 @@ tcap_at words = do
   sched ← number_at words 6 0 63
   quality ← number_at words 7 1 16777215
   done ← end_at words 8
-  Ok (make.Tcap sched quality)
+  Ok (Make.Tcap sched quality)
 
 -- after `make comp R F T B`: `X P L`
 unfoldable pub comp_at : List (List ℕ) → Result Make Cause
@@ -260,7 +249,7 @@ comp_at words = do
   pages ← name_at words 7
   live ← number_at words 8 0 63
   done ← end_at words 9
-  Ok (make.Comp table pages live)
+  Ok (Make.Comp table pages live)
 
 -- after `make O R F T B` for the other objects: nothing
 unfoldable pub plain_at : List (List ℕ) → Make → Result Make Cause
@@ -270,13 +259,13 @@ plain_at words what = do
 
 -- what is made, by the arguments after `make O R F T B`
 unfoldable pub made_at : List (List ℕ) → Object → Result Make Cause
-made_at words object.Table = plain_at words make.Table
-made_at words object.Leaf = plain_at words make.Leaf
-made_at words object.Pages = plain_at words make.Pages
-made_at words object.Pleaf = plain_at words make.Pleaf
-made_at words object.Thread = thread_at words
-made_at words object.Tcap = tcap_at words
-made_at words object.Comp = comp_at words
+made_at words Object.Table = plain_at words Make.Table
+made_at words Object.Leaf = plain_at words Make.Leaf
+made_at words Object.Pages = plain_at words Make.Pages
+made_at words Object.Pleaf = plain_at words Make.Pleaf
+made_at words Object.Thread = thread_at words
+made_at words Object.Tcap = tcap_at words
+made_at words Object.Comp = comp_at words
 
 -- `make O R F T B`, and the arguments of the object
 unfoldable pub make_line : List (List ℕ) → Result Call Cause
@@ -287,29 +276,29 @@ make_line words = do
   table ← name_at words 4
   slot ← name_at words 5
   what ← made_at words o
-  Ok (call.Make what range frame table slot)
+  Ok (Call.Make what range frame table slot)
 
 -- the line of the call of that word, in a script of this version
 unfoldable pub call_line : ℕ → List (List ℕ) → Verb → Result Call Cause
-call_line version words verb.Look = look_line words
-call_line version words verb.Copy = copy_line version words
-call_line version words verb.Remove = remove_line words
-call_line version words verb.Grow = grow_line words
-call_line version words verb.Shrink = shrink_line words
-call_line version words verb.Retype = retype_line words
-call_line version words verb.Make = make_line words
-call_line version words verb.Map = map_line words
-call_line version words verb.Unmap = unmap_line words
-call_line version words verb.Touch = touch_line words
-call_line version words verb.Flush = flush_line words
-call_line version words verb.Gate = gate_line words
-call_line version words verb.Kill = kill_line words
-call_line version words verb.Call = enter_line words
-call_line version words verb.Ret = ret_line words
-call_line version words verb.Switch = switch_line words
-call_line version words verb.Tick = tick_line words
-call_line version words verb.Transfer = transfer_line words
-call_line version words verb.Delegate = delegate_line words
-call_line version words verb.Test = test_line words
-call_line version words verb.Part = part_line words
-call_line version words verb.Replenish = replenish_line words
+call_line version words Verb.Look = look_line words
+call_line version words Verb.Copy = copy_line version words
+call_line version words Verb.Remove = remove_line words
+call_line version words Verb.Grow = grow_line words
+call_line version words Verb.Shrink = shrink_line words
+call_line version words Verb.Retype = retype_line words
+call_line version words Verb.Make = make_line words
+call_line version words Verb.Map = map_line words
+call_line version words Verb.Unmap = unmap_line words
+call_line version words Verb.Touch = touch_line words
+call_line version words Verb.Flush = flush_line words
+call_line version words Verb.Gate = gate_line words
+call_line version words Verb.Kill = kill_line words
+call_line version words Verb.Call = enter_line words
+call_line version words Verb.Ret = ret_line words
+call_line version words Verb.Switch = switch_line words
+call_line version words Verb.Tick = tick_line words
+call_line version words Verb.Transfer = transfer_line words
+call_line version words Verb.Delegate = delegate_line words
+call_line version words Verb.Test = test_line words
+call_line version words Verb.Part = part_line words
+call_line version words Verb.Replenish = replenish_line words

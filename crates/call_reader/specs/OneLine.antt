@@ -1,21 +1,14 @@
 -- One call by itself: its bytes, then that it is one line, then its first word, then its arguments.
 use Rattle.std.specs.Prelude.{◌≡◌, ℕ, List, Option, Some, None, Result, Ok, Err, map, nat_lt, if◌then◌else◌}
-use Rattle.spk_nums.specs.declared.calls.Call.{Call}
+use Rattle.script_tokens.specs.{Word, words_of, ending_of}
+use Rattle.line_reader.specs.{◌>>=◌, word_at}
 use Rattle.script_tokens.specs.declared.scanning.ByteFault.TheVariants.{NotAscii, TooManyLines}
-use Rattle.script_tokens.specs.declared.scanning.Ending.{Ending}
 use Rattle.script_tokens.specs.declared.scanning.Ending.TheVariants.{Whole, Fault as Faulty}
-use Rattle.script_tokens.specs.Words.{Word, words_of, ending_of}
-use Rattle.line_reader.specs.declared.cause.Cause.{Cause}
-use Rattle.line_reader.specs.declared.cause.Cause.TheVariants.{S2, S7, S8, S9}
-use Rattle.line_reader.specs.declared.cause.LineFault.{LineFault}
-use Rattle.line_reader.specs.declared.cause.LineFault.TheVariants as line_fault
-use Rattle.line_reader.specs.Causes.{◌>>=◌}
-use Rattle.line_reader.specs.Arguments.{word_at}
-use Rattle.call_reader.specs.declared.first_words.Verb.{Verb}
-use Rattle.call_reader.specs.declared.first_words.FirstWord.{FirstWord}
-use Rattle.call_reader.specs.declared.first_words.FirstWord.TheVariants.{Call as call_first}
-use Rattle.call_reader.specs.FirstWords.{first_word}
-use Rattle.call_reader.specs.CallLines.{call_line}
+use Rattle.line_reader.specs.{declared.cause.Cause.Cause, declared.cause.Cause.TheVariants.S2, declared.cause.Cause.TheVariants.S7}
+use Rattle.line_reader.specs.{declared.cause.Cause.TheVariants.S8, declared.cause.Cause.TheVariants.S9, declared.cause.LineFault.LineFault}
+use Rattle.call_reader.specs.{declared.first_words.Verb.Verb, declared.first_words.FirstWord.FirstWord}
+use Rattle.call_reader.specs.{declared.first_words.FirstWord.TheVariants.Call as call_first, FirstWords.first_word, CallLines.call_line}
+use Rattle.{spk_nums.specs.declared.calls.Call.Call, script_tokens.specs.declared.scanning.Ending.Ending}
 
 -- the word of a call that a first word is; S2 of an unknown one, S7 of another
 abbrev pub verb_in : Option FirstWord → Result Verb Cause
@@ -44,5 +37,5 @@ call_of source = call_by (map (λ (w : Word). w.text) (words_of source)) (ending
 -- the answer is the call that the bytes are, or their first fault, unless memory has run out
 abbrev pub IsCallOf : List ℕ → Result Call LineFault → Type 0
 IsCallOf source (Ok call) = call_of source ≡ Ok call
-IsCallOf source (Err (line_fault.Cause c)) = call_of source ≡ Err c
-IsCallOf source (Err line_fault.Memory) = Unit {0}
+IsCallOf source (Err (LineFault.Cause c)) = call_of source ≡ Err c
+IsCallOf source (Err LineFault.Memory) = Unit {0}

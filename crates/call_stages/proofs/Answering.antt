@@ -1,7 +1,6 @@
 -- What a step of the work of a call decides.
-use Rattle.act_states.specs.kernel_rules.specs.Laws.{IsRefusal}
-use Rattle.act_states.specs.declared.work.WorkStep.{WorkStep}
 use Rattle.act_states.specs.declared.work.WorkStep.TheVariants.{Goes, Acquires, Refuses as refuses_to, Answers, Changes as work_changes}
+use Rattle.{act_states.specs.kernel_rules.specs.Laws.IsRefusal, act_states.specs.declared.work.WorkStep.WorkStep}
 
 -- A step of the work that carries nothing out.
 abbrev pub NoAnswer : WorkStep → Type 0

@@ -1,49 +1,19 @@
 -- What an act answers where it begins: nothing, but of a call that is decided where its last name is found.
-use Rattle.act_states.specs.stage_quiet.specs.declared.quiet.Quiet.{Quiet}
-use Rattle.act_states.specs.stage_quiet.specs.Scan.{quiet_scan}
-use Rattle.std.proofs.Common.{◌≡◌, ℕ, nat_lt, Bool, true, false, List, Option}
-use Rattle.std.proofs.Common.{Some, None, nat_le}
-use Rattle.act_states.specs.call_plans.specs.Plans.{at_place}
-use Rattle.spk_nums.specs.Capability.{Capability}
-use Rattle.spk_nums.specs.declared.kinds.PageFlags.{PageFlags}
-use Rattle.spk_nums.specs.declared.kinds.FrameKind.{FrameKind}
-use Rattle.spk_nums.specs.declared.calls.Make.{Make}
-use Rattle.spk_nums.specs.declared.calls.Make.TheVariants as make
-use Rattle.spk_nums.specs.declared.calls.Call.{Call}
-use Rattle.spk_nums.specs.declared.calls.Call.TheVariants.{Look as look_call, Copy, Remove, Shrink, Unmap, Retype}
-use Rattle.spk_nums.specs.declared.calls.Call.TheVariants.{Make as make_call, Gate, Kill, Grow, Map}
-use Rattle.spk_nums.specs.declared.calls.Call.TheVariants.{Call as call_gate, Ret, Switch, Transfer, Delegate, Test, Part, Replenish}
-use Rattle.act_states.specs.entry_words.specs.declared.entry.Entry.{Entry}
-use Rattle.act_states.specs.entry_words.specs.declared.entry.Entry.TheVariants as entry
-use Rattle.act_states.specs.kernel_rules.specs.Access.{found, Target as place, Under, InRoot}
-use Rattle.act_states.specs.stage_look.specs.declared.look.Found.{Found}
-use Rattle.act_states.specs.call_plans.specs.PlanOf.{plan_for}
-use Rattle.act_states.specs.declared.own.Own.{Own}
-use Rattle.std.specs.Prelude.{nat_le}
-use Rattle.act_states.specs.declared.objects.NewObject.{NewObject}
-use Rattle.act_states.specs.Objects.{object_made}
-use Rattle.act_states.specs.declared.work.Act.{Act as ActType}
-use Rattle.act_states.specs.declared.work.Act.TheVariants.{Fill as fill_act, Remove as remove_act, Retype as type_act}
-use Rattle.act_states.specs.declared.work.Act.TheVariants.{Make as make_act, Outside, Tick as tick_act, Flush as flush_act}
-use Rattle.act_states.specs.declared.work.Act.TheVariants.{Kill as kill_act, Untype as untype_act, Map as map_act}
-use Rattle.act_states.specs.declared.work.Act.TheVariants.{MakeComp as comp_act, Invoke as invoke_act, Return as return_act}
-use Rattle.act_states.specs.declared.work.Act.TheVariants.{Switch as switch_act, Touch as touch_act, Share as share_act}
-use Rattle.act_states.specs.declared.work.Act.TheVariants.{Refill as refill_act}
-use Rattle.act_states.specs.Acts.{fills_with, removes_held, removes_at, act_begun}
-use Rattle.act_states.specs.Acts.{types_if, types_at, stamp_in, filling, starts, scans, makes_at}
-use Rattle.act_states.specs.Acts.{kills_in, kills_at}
-use Rattle.act_states.specs.Acts.{maps_if, maps_at, parts_at, comps_at, made_begun, invokes_if}
-use Rattle.act_states.specs.Acts.{invokes_in, invokes_at, returns_if}
-use Rattle.act_states.specs.Acts.{switches_at}
-use Rattle.act_states.specs.call_plans.specs.declared.plans.Nth.TheVariants.{First, Second, Third, Fourth}
-use Rattle.spk_nums.specs.declared.kinds.Kind.{Kind}
-use Rattle.spk_nums.specs.declared.kinds.Kind.TheVariants as kind
-use Rattle.act_states.specs.Lookups.{looks_under, looks_entry, looks_at}
-use Rattle.call_stages.specs.Steps.{decides_at_name}
-use Rattle.act_states.specs.stage_tcap.specs.declared.pair.PairWork.TheVariants as share
-use Rattle.act_states.specs.Refills.{refills_at}
-use Rattle.call_stages.proofs.Answering.{NoAnswer}
-use Rattle.call_stages.proofs.ShareDecisions.{shares_no}
+use Rattle.act_states.specs as low
+use low.{Quiet, quiet_scan, ◌≡◌, ℕ, ltb as nat_lt, Bool, true, false, List, Option, Some, None, leb as nat_le, at_place, Capability}
+use low.{PageFlags, FrameKind, Call, Copy, Remove, Shrink, Unmap, Retype, Make as make_call, Gate, Kill, Grow, Map, Ret, Switch, Transfer}
+use low.{Delegate, Test, Part, Replenish, Entry, found, Target as place, Under, InRoot, plan_for, fills_with, removes_held, removes_at}
+use low.{act_begun, types_if, types_at, stamp_in, filling, starts, scans, makes_at, kills_in, kills_at, maps_if, maps_at, parts_at}
+use low.{comps_at, made_begun, invokes_if, invokes_in, invokes_at, returns_if, switches_at, First, Second, Third, Fourth, Kind, looks_under}
+use low.{looks_entry, looks_at, refills_at, PairWork}
+use low.declared.work.Act.TheVariants.{Fill as fill_act, Remove as remove_act, Retype as type_act, Make as make_act, Outside}
+use low.declared.work.Act.TheVariants.{Tick as tick_act, Flush as flush_act, Kill as kill_act, Untype as untype_act, Map as map_act}
+use low.declared.work.Act.TheVariants.{MakeComp as comp_act, Invoke as invoke_act, Return as return_act, Switch as switch_act}
+use low.declared.work.Act.TheVariants.{Touch as touch_act, Share as share_act, Refill as refill_act}
+use low.{stage_tcap.specs.Make, stage_tcap.specs.Look as look_call, stage_look.specs.declared.look.Found.Found, declared.own.Own.Own}
+use low.{declared.objects.NewObject.NewObject, Objects.object_made, declared.work.Act.Act as ActType}
+use Rattle.{spk_nums.specs.declared.calls.Call.TheVariants.Call as call_gate, call_stages.specs.Steps.decides_at_name}
+use Rattle.{call_stages.proofs.Answering.NoAnswer, call_stages.proofs.ShareDecisions.shares_no}
 
 pub under_no : (within : Bool) (top n : ℕ) → NoAnswer (looks_under within top n)
 under_no true top n = tt
@@ -87,10 +57,10 @@ fill_no own (Some k) page None = tt
 fill_no own (Some k) page (Some f) = scans_no own.core (quiet_scan (stamp_in f.value) own.core own.layout.cores page) (filling k f)
 
 pub held_no : (core : ℕ) (f : Found) (value : Entry) → NoAnswer (removes_held core f value)
-held_no core f entry.Free = tt
-held_no core f (entry.Held k) = tt
-held_no core f (entry.Closing by) = tt
-held_no core f (entry.Quiescing stamp) = tt
+held_no core f Entry.Free = tt
+held_no core f (Entry.Held k) = tt
+held_no core f (Entry.Closing by) = tt
+held_no core f (Entry.Quiescing stamp) = tt
 
 pub remove_no : (core : ℕ) (target : Option Found) → NoAnswer (removes_at core target)
 remove_no core None = tt
@@ -136,12 +106,12 @@ comps_no own live (Some range) (Some table) (Some pages) f None = tt
 
 pub made_no : (own : Own) (what : Make) (found : List Capability) (f : ℕ) (target : Option Found)
     → NoAnswer (made_begun own what found f target)
-made_no own (make.Comp table pages live) found f target =
+made_no own (Make.Comp table pages live) found f target =
     comps_no own live (at_place found First) (at_place found Third) (at_place found Fourth) f target
 made_no own what found f target = makes_no own (object_made what found) (at_place found First) f target
 
 pub kill_no : (core : ℕ) (kind : Kind) (f : ℕ) → NoAnswer (kills_in core kind f)
-kill_no core kind.Comp f = tt
+kill_no core Kind.Comp f = tt
 kill_no core kind f = tt
 
 pub kills_no : (own : Own) (comp : Option Capability) → NoAnswer (kills_at own comp)
@@ -153,7 +123,7 @@ enter_no true own f epoch = tt
 enter_no false own f epoch = tt
 
 pub invoke_no : (own : Own) (kind : Kind) (f epoch : ℕ) → NoAnswer (invokes_in own kind f epoch)
-invoke_no own kind.Gate f epoch = enter_no (nat_le 16 own.depth) own f epoch
+invoke_no own Kind.Gate f epoch = enter_no (nat_le 16 own.depth) own f epoch
 invoke_no own kind f epoch = tt
 
 pub invokes_no : (own : Own) (gate : Option Capability) → NoAnswer (invokes_at own gate)
@@ -190,9 +160,9 @@ act_no own (Kill k) found read target not = kills_no own (at_place found First)
 act_no own (call_gate g) found read target not = invokes_no own (at_place found First)
 act_no own Ret found read target not = return_no (nat_le own.depth 1) own
 act_no own (Switch h q) found read target not = switches_no own (at_place found First) (at_place found Second)
-act_no own (Transfer a b m) found read target not = shares_no own.core (share.Transfer m) (at_place found First) (at_place found Second)
-act_no own (Delegate a b m) found read target not = shares_no own.core (share.Delegate m) (at_place found First) (at_place found Second)
-act_no own (Test a b) found read target not = shares_no own.core share.Test (at_place found First) (at_place found Second)
+act_no own (Transfer a b m) found read target not = shares_no own.core (PairWork.Transfer m) (at_place found First) (at_place found Second)
+act_no own (Delegate a b m) found read target not = shares_no own.core (PairWork.Delegate m) (at_place found First) (at_place found Second)
+act_no own (Test a b) found read target not = shares_no own.core PairWork.Test (at_place found First) (at_place found Second)
 act_no own (Replenish a m) found read target not = refills_no own m (at_place found First)
 act_no own (Part r f n t b) found read target not = parts_no own (at_place found First) f n target
 act_no own call found read target not = tt

@@ -1,140 +1,61 @@
 -- When a call is decided, and what a step of it may decide.
-use Rattle.act_states.specs.stage_quiet.specs.declared.close.Close.TheVariants.{AtCompare, AtDraw, AtStore}
-use Rattle.act_states.specs.stage_quiet.specs.declared.quiet.Quiet.{Quiet}
-use Rattle.act_states.specs.stage_quiet.specs.Scan.{quiet_after, quiet_end}
-use Rattle.act_states.specs.stage_pins.specs.declared.pin.Pin.{Pin}
-use Rattle.act_states.specs.stage_pins.specs.declared.pin.Pinned.{Pinned}
-use Rattle.act_states.specs.stage_pins.specs.declared.held.Acquired.{Acquired}
-use Rattle.act_states.specs.stage_pins.specs.Acquire.{pin_after, pin_end}
-use Rattle.std.proofs.Common.{◌≡◌, ℕ, ℤ, ◌+◌, ◌==◌, ◌&&◌, Bool, true, false, List, [], ◌∷◌, length, Option}
-use Rattle.std.proofs.Common.{Some, None, refl, sym, ap, subst, arith, eqb-true, nat_le, ◌||◌}
-use Rattle.act_states.specs.call_plans.specs.Plans.{pushed}
-use Rattle.spk_nums.specs.Capability.{Capability}
-use Rattle.spk_nums.specs.Rights.{neither}
-use Rattle.spk_nums.specs.declared.kinds.FrameKind.{FrameKind}
-use Rattle.spk_nums.specs.declared.kinds.FrameKind.TheVariants.{Untyped, User, Kernel}
-use Rattle.spk_nums.specs.declared.calls.Make.{Make}
-use Rattle.spk_nums.specs.declared.calls.Make.TheVariants as make
-use Rattle.spk_nums.specs.declared.calls.Call.{Call}
-use Rattle.spk_nums.specs.declared.calls.Call.TheVariants.{Look as look_call, Copy, Remove, Shrink, Unmap, Retype}
-use Rattle.spk_nums.specs.declared.calls.Call.TheVariants.{Make as make_call, Tick, Gate, Kill, Grow, Flush, Map}
-use Rattle.spk_nums.specs.declared.calls.Call.TheVariants.{Call as call_gate, Ret, Switch, Transfer, Delegate, Test, Part, Replenish}
-use Rattle.spk_nums.specs.declared.replies.Reply.{Reply}
-use Rattle.act_states.specs.entry_words.specs.declared.entry.Entry.{Entry}
-use Rattle.act_states.specs.entry_words.specs.declared.entry.Entry.TheVariants as entry
-use Rattle.act_states.specs.kernel_rules.specs.Access.{found}
-use Rattle.act_states.specs.stage_look.specs.Shown.{shown_in, is_link}
-use Rattle.act_states.specs.stage_look.specs.Lookup.{look_end, look_after, end_by_link, root_end, place_end}
-use Rattle.act_states.specs.stage_look.specs.declared.look.Look.{Look}
-use Rattle.act_states.specs.stage_look.specs.declared.look.Look.TheVariants.{AtRoot, AtLeaf, AtEntry}
-use Rattle.act_states.specs.stage_look.specs.declared.look.Found.{Found}
-use Rattle.spk_nums.specs.declared.steps.StageEnd.{StageEnd}
-use Rattle.spk_nums.specs.declared.steps.StageEnd.TheVariants as ends
-use Rattle.act_states.specs.call_plans.specs.declared.plans.Name.{Name}
-use Rattle.act_states.specs.call_plans.specs.declared.plans.Target.{Target}
-use Rattle.act_states.specs.call_plans.specs.declared.plans.Target.TheVariants.{Nowhere}
-use Rattle.act_states.specs.call_plans.specs.declared.plans.Plan.{Plan}
-use Rattle.act_states.specs.call_plans.specs.PlanOf.{any_cap, plan_of_retype, plan_of_make, plan_for}
-use Rattle.act_states.specs.declared.refusals.Refusal.TheVariants as refusal
-use Rattle.act_states.specs.declared.own.Own.{Own}
-use Rattle.act_states.specs.Ticks.{took_charge, took_tick, is_charging}
-use Rattle.act_states.specs.stage_tcap.specs.declared.charge.Charge.{Charge}
-use Rattle.act_states.specs.stage_tcap.specs.declared.charge.Charge.TheVariants.{AtLoad as charge_load, AtCompare as charge_compare}
-use Rattle.act_states.specs.stage_tcap.specs.Charging.{charged_end}
-use Rattle.act_states.specs.stage_tcap.specs.Heads.{head}
-use Rattle.act_states.specs.tcap_words.specs.Head.{word_of_head}
-use Rattle.std.specs.Prelude.{min, nat_le, is_some}
-use Rattle.act_states.specs.declared.lookups.Met.{Met}
-use Rattle.act_states.specs.declared.lookups.Met.TheVariants.{Finds, Refused}
-use Rattle.act_states.specs.declared.makings.Making.{Making}
-use Rattle.act_states.specs.declared.makings.MakingAt.{MakingAt}
-use Rattle.act_states.specs.declared.makings.MakingAt.TheVariants.{Load as make_load, Mark, Store, Fill as fill_at}
-use Rattle.act_states.specs.Makings.{is_filling}
-use Rattle.act_states.specs.declared.work.Act.{Act as ActType}
-use Rattle.act_states.specs.declared.work.Act.TheVariants.{Fill as fill_act, Remove as remove_act, Retype as type_act}
-use Rattle.act_states.specs.declared.work.Act.TheVariants.{Make as make_act, Outside, Tick as tick_act, Flush as flush_act}
-use Rattle.act_states.specs.declared.work.Act.TheVariants.{Kill as kill_act, Untype as untype_act, Map as map_act}
-use Rattle.act_states.specs.declared.work.Act.TheVariants.{MakeComp as comp_act, Invoke as invoke_act, Return as return_act}
-use Rattle.act_states.specs.declared.work.Act.TheVariants.{Switch as switch_act, Touch as touch_act, Share as share_act}
-use Rattle.act_states.specs.declared.work.Act.TheVariants.{Refill as refill_act}
-use Rattle.act_states.specs.declared.work.Work.{Work}
-use Rattle.act_states.specs.declared.work.Work.TheVariants.{Lookup, Read, Scan, Acquire, Act}
-use Rattle.call_stages.specs.declared.stages.Stage.{Stage}
+use Rattle.act_states.specs as low
+use low.{AtCompare, AtDraw, AtStore, Quiet, quiet_after, quiet_end, Pin, Pinned, Acquired, pin_after, pin_end, ◌≡◌, ℕ, ℤ, ◌+◌, ◌==◌, ◌&&◌}
+use low.{Bool, true, false, List, [], ◌∷◌, length, Option, Some, None, refl, leb as nat_le, ◌||◌, pushed, Capability, FrameKind, Call, Copy}
+use low.{Remove, Shrink, Unmap, Retype, Make as make_call, Tick, Gate, Kill, Grow, Flush, Map, Ret, Switch, Transfer, Delegate, Test, Part}
+use low.{Replenish, Reply, Entry, found, shown_in, is_link, look_end, look_after, end_by_link, place_end, Look, AtRoot, AtLeaf, AtEntry}
+use low.{StageEnd, Name, Nowhere, Plan, plan_for, took_charge, took_tick, is_charging, Charge, charged_end, head, word_of_head, min}
+use low.{is_some, is_filling, alive_end, alive_after, Alive, refusal_of, filled_if, refuse, took_act, act_ready, reads_of, act_begun}
+use low.{starts, published, took_making_at, took_killing_at, took_untyping_at, took_comp_at, took_invoking_at, took_returning_at}
+use low.{took_switching_at, comp_filling, comp_published, live_of_word, CompWord, LiveWord, is_killing, Shape, is_drawing, is_entering}
+use low.{enters_if, enters_live, is_leaving, is_switching, typed_if, took_typing_at, is_typing, read_first, next_step, met_free, met_held}
+use low.{Translation, touches_if, touch_end, touched, is_at_page, with_found, names_after, next_in, next_of, Next, NextName, NextFree}
+use low.{NextHeld, NextOwn, NextNothing, took_refilled, took_refill, refill_after, Refill, RefillAt}
+use Rattle.call_stages.specs.{FoundFits, IsFirst, IsActive, took_tail, tail_counts, GoesOn, landed, next_by, found_more, took_first}
+use Rattle.call_stages.specs.{took_enter, took_alive, named_one, read_more, took_read, took_found, took_end, took_look, took_scan}
+use Rattle.call_stages.specs.{took_count, gives_up, took_work, went_with, took_at, reply_at}
+use low.stage_tcap.proofs.{sym, ap, subst, arith, eqb-true, Untyped, User, Kernel, Make, Look as look_call}
+use low.{declared.own.Own.Own, declared.lookups.Met.Met, declared.lookups.Met.TheVariants.Finds, declared.lookups.Met.TheVariants.Refused}
+use low.{declared.makings.Making.Making, declared.makings.MakingAt.MakingAt, declared.makings.MakingAt.TheVariants.Load as make_load}
+use low.{declared.makings.MakingAt.TheVariants.Mark, declared.makings.MakingAt.TheVariants.Store}
+use low.{declared.makings.MakingAt.TheVariants.Fill as fill_at, declared.work.Act.Act as ActType}
+use low.{declared.work.Act.TheVariants.Fill as fill_act, declared.work.Act.TheVariants.Remove as remove_act}
+use low.{declared.work.Act.TheVariants.Retype as type_act, declared.work.Act.TheVariants.Make as make_act}
+use low.{declared.work.Act.TheVariants.Outside, declared.work.Act.TheVariants.Tick as tick_act}
+use low.{declared.work.Act.TheVariants.Flush as flush_act, declared.work.Act.TheVariants.Kill as kill_act}
+use low.{declared.work.Act.TheVariants.Untype as untype_act, declared.work.Act.TheVariants.Map as map_act}
+use low.{declared.work.Act.TheVariants.MakeComp as comp_act, declared.work.Act.TheVariants.Invoke as invoke_act}
+use low.{declared.work.Act.TheVariants.Return as return_act, declared.work.Act.TheVariants.Switch as switch_act}
+use low.{declared.work.Act.TheVariants.Touch as touch_act, declared.work.Act.TheVariants.Share as share_act}
+use low.{declared.work.Act.TheVariants.Refill as refill_act, declared.work.Work.Work, declared.work.Work.TheVariants.Lookup}
+use low.{declared.work.Work.TheVariants.Read, declared.work.Work.TheVariants.Scan, declared.work.Work.TheVariants.Acquire}
+use low.{declared.work.Work.TheVariants.Act, declared.work.Tail.Tail, declared.work.Tail.TheVariants.Nothing}
+use low.{declared.work.Tail.TheVariants.Quiesce, declared.work.Tail.TheVariants.Unmark, declared.work.Tail.TheVariants.StoreDead}
+use low.{declared.work.Tail.TheVariants.StoreFlush, declared.work.Tail.TheVariants.Release, declared.work.Tail.TheVariants.StoreLive}
+use low.{declared.work.Tail.TheVariants.Push as push_tail, declared.work.Tail.TheVariants.Pop as pop_tail}
+use low.{declared.work.Tail.TheVariants.StoreRunning, declared.work.Tail.TheVariants.StoreIdle, declared.work.Tail.TheVariants.Share}
+use low.{declared.work.WorkStep.WorkStep, declared.work.WorkStep.TheVariants.Goes, declared.work.WorkStep.TheVariants.Acquires}
+use low.{declared.work.WorkStep.TheVariants.Refuses as refuses_to, declared.work.WorkStep.TheVariants.Answers}
+use low.{declared.work.WorkStep.TheVariants.Changes as work_changes, declared.comps.CompAt.CompAt, declared.comps.CompMaking.CompMaking}
+use low.{declared.kills.Killing.Killing, declared.kills.KillingAt.KillingAt, declared.kills.KillingAt.TheVariants.LoadComp}
+use low.{declared.kills.KillingAt.TheVariants.LoadLive, declared.kills.KillingAt.TheVariants.Close as kill_close}
+use low.{declared.kills.KillingAt.TheVariants.Draw as kill_draw, declared.untypings.Untyping.Untyping}
+use low.{declared.untypings.UntypingAt.UntypingAt, declared.invocations.Invoking.Invoking, declared.invocations.InvokingAt.InvokingAt}
+use low.{declared.invocations.Returning.Returning, declared.invocations.ReturningAt.ReturningAt, declared.switches.Switching.Switching}
+use low.{declared.switches.SwitchAt.SwitchAt, declared.typings.Typing.Typing, declared.typings.TypingAt.TypingAt}
+use low.{declared.typings.TypingAt.TheVariants.Load, declared.typings.TypingAt.TheVariants.Compare as type_compare}
 use Rattle.call_stages.specs.declared.stages.Stage.TheVariants.{Enter, Living, Undecided, Decided, Leave}
-use Rattle.act_states.specs.stage_thread.specs.Living.{alive_end, alive_after}
-use Rattle.act_states.specs.stage_thread.specs.declared.alive.Alive.{Alive}
-use Rattle.act_states.specs.declared.work.Tail.{Tail}
-use Rattle.act_states.specs.declared.work.Tail.TheVariants.{Nothing, Quiesce, Unmark, StoreDead, StoreFlush, Release, StoreLive}
-use Rattle.act_states.specs.declared.work.Tail.TheVariants.{Push as push_tail, Pop as pop_tail, StoreRunning, StoreIdle, Share}
-use Rattle.call_stages.specs.declared.stages.ActiveCall.{ActiveCall}
-use Rattle.act_states.specs.declared.work.WorkStep.{WorkStep}
-use Rattle.act_states.specs.declared.work.WorkStep.TheVariants.{Goes, Acquires, Refuses as refuses_to, Answers, Changes as work_changes}
-use Rattle.act_states.specs.Refusals.{refusal_of}
-use Rattle.act_states.proofs.Refusing.{refusal_refuses}
-use Rattle.act_states.specs.Fills.{filled_if}
-use Rattle.act_states.specs.WorkSteps.{refuse}
-use Rattle.act_states.specs.Acts.{took_act, act_ready, reads_of, act_begun}
-use Rattle.act_states.specs.Acts.{starts}
-use Rattle.act_states.specs.Acts.{published, took_making_at}
-use Rattle.act_states.specs.Acts.{took_killing_at, took_untyping_at}
-use Rattle.act_states.specs.Acts.{took_comp_at}
-use Rattle.act_states.specs.Acts.{took_invoking_at}
-use Rattle.act_states.specs.Acts.{took_returning_at, took_switching_at}
-use Rattle.act_states.specs.Comps.{comp_filling}
-use Rattle.act_states.specs.Comps.{comp_published}
-use Rattle.act_states.specs.frame_words.specs.Live.{live_of_word}
-use Rattle.act_states.specs.declared.comps.CompAt.{CompAt}
-use Rattle.act_states.specs.declared.comps.CompAt.TheVariants as comp_at_as
-use Rattle.act_states.specs.declared.comps.CompMaking.{CompMaking}
-use Rattle.act_states.specs.frame_words.specs.declared.comp_word.CompWord.{CompWord}
-use Rattle.act_states.specs.frame_words.specs.declared.live_word.LiveWord.{LiveWord}
-use Rattle.act_states.specs.frame_words.specs.declared.live_word.LiveWord.TheVariants as live
-use Rattle.act_states.specs.declared.kills.Killing.{Killing}
-use Rattle.act_states.specs.declared.kills.KillingAt.{KillingAt}
-use Rattle.act_states.specs.declared.kills.KillingAt.TheVariants.{LoadComp, LoadLive, Close as kill_close, Draw as kill_draw}
-use Rattle.act_states.specs.Kills.{is_killing}
-use Rattle.act_states.specs.word_map.specs.Places.{Shape}
-use Rattle.act_states.specs.declared.untypings.Untyping.{Untyping}
-use Rattle.act_states.specs.declared.untypings.UntypingAt.{UntypingAt}
-use Rattle.act_states.specs.declared.untypings.UntypingAt.TheVariants as untype
-use Rattle.act_states.specs.Untypings.{is_drawing}
-use Rattle.act_states.specs.declared.invocations.Invoking.{Invoking}
-use Rattle.act_states.specs.declared.invocations.InvokingAt.{InvokingAt}
-use Rattle.act_states.specs.declared.invocations.InvokingAt.TheVariants as invoking
-use Rattle.act_states.specs.declared.invocations.Returning.{Returning}
-use Rattle.act_states.specs.declared.invocations.ReturningAt.{ReturningAt}
-use Rattle.act_states.specs.declared.invocations.ReturningAt.TheVariants as returning
-use Rattle.act_states.specs.Invocations.{is_entering, enters_if, enters_live, is_leaving}
-use Rattle.act_states.specs.declared.switches.Switching.{Switching}
-use Rattle.act_states.specs.declared.switches.SwitchAt.{SwitchAt}
-use Rattle.act_states.specs.declared.switches.SwitchAt.TheVariants as switch_at
-use Rattle.act_states.specs.Switches.{is_switching}
-use Rattle.act_states.specs.declared.typings.Typing.{Typing}
-use Rattle.act_states.specs.declared.typings.TypingAt.{TypingAt}
-use Rattle.act_states.specs.declared.typings.TypingAt.TheVariants.{Load, Compare as type_compare}
-use Rattle.act_states.specs.Typings.{typed_if, took_typing_at, is_typing}
-use Rattle.act_states.specs.Lookups.{read_first, next_step, met_free, met_held}
-use Rattle.spk_nums.specs.declared.translations.Translation.{Translation}
-use Rattle.act_states.specs.declared.touches.Touching.{Touching}
-use Rattle.act_states.specs.Touches.{touches_if, touch_end, touched, is_at_page}
-use Rattle.call_stages.specs.Fits.{FoundFits, IsFirst, IsActive}
-use Rattle.call_stages.specs.Tails.{took_tail, tail_counts}
-use Rattle.act_states.specs.call_plans.specs.After.{with_found, names_after, next_in, next_of}
-use Rattle.act_states.specs.call_plans.specs.After.{Next, NextName, NextFree, NextHeld, NextOwn, NextNothing}
-use Rattle.act_states.specs.Refills.{is_refilling, took_refilled, took_refill}
-use Rattle.act_states.specs.stage_tcap.specs.Refilling.{refill_after, won}
-use Rattle.act_states.specs.stage_tcap.specs.declared.refill.Refill.{Refill}
-use Rattle.act_states.specs.stage_tcap.specs.declared.refill.RefillAt.{RefillAt}
-use Rattle.act_states.specs.stage_tcap.specs.declared.refill.RefillAt.TheVariants as refill
-use Rattle.call_stages.specs.Steps.{GoesOn, landed, next_by, found_more, took_first, took_enter, took_alive, named_one, read_more}
-use Rattle.call_stages.specs.Steps.{took_read}
-use Rattle.call_stages.specs.Steps.{took_found, took_end, took_look, took_scan, took_count, gives_up, took_work}
-use Rattle.call_stages.specs.Steps.{went_with, took_at, is_last, decides_at_name, is_last_name, work_ready, ready_at}
-use Rattle.call_stages.proofs.Answering.{NoAnswer, IsOver}
-use Rattle.call_stages.proofs.ShareDecisions.{share_over}
-use Rattle.call_stages.specs.Laws.{reply_at, Turns, DecidesOnce, Refuses, UnreadyRefuses, IsDecision, ReadyDecides}
-use Rattle.call_stages.proofs.Unready.{act_unready}
-use Rattle.call_stages.proofs.Beginning.{under_no, target_no, starts_no, act_no}
+use Rattle.call_stages.specs.Steps.{is_last, decides_at_name, is_last_name, work_ready, ready_at}
+use Rattle.call_stages.specs.Laws.{Turns, DecidesOnce, Refuses, UnreadyRefuses, IsDecision, ReadyDecides}
+use Rattle.call_stages.proofs.{Answering.NoAnswer, Answering.IsOver, ShareDecisions.share_over, Unready.act_unready, Beginning.under_no}
+use low.{call_plans.specs.any_cap, call_plans.specs.plan_of_retype, call_plans.specs.plan_of_make, stage_look.specs.Lookup.root_end}
+use low.{stage_look.specs.declared.look.Found.Found, call_plans.specs.declared.plans.Target.Target, declared.touches.Touching.Touching}
+use low.{Refills.is_refilling, declared.refusals.Refusal.Refusal, stage_tcap.specs.declared.charge.Charge.TheVariants.AtLoad as charge_load}
+use low.{stage_tcap.specs.declared.charge.Charge.TheVariants.AtCompare as charge_compare, stage_tcap.specs.Refilling.won}
+use Rattle.{spk_nums.specs.Rights.neither, spk_nums.specs.declared.calls.Call.TheVariants.Call as call_gate}
+use Rattle.{act_states.proofs.Refusing.refusal_refuses, call_stages.specs.declared.stages.Stage.Stage}
+use Rattle.{call_stages.specs.declared.stages.ActiveCall.ActiveCall, call_stages.proofs.Beginning.target_no}
+use Rattle.{call_stages.proofs.Beginning.starts_no, call_stages.proofs.Beginning.act_no}
 
 -- a call is decided once
 
@@ -153,31 +74,31 @@ found_turns : (own : Own) (a : ActiveCall) (next : Next) (f : Found) → Turns N
 found_turns own a (NextName n wanted) f = named_turns own a _
 found_turns own a (NextFree target) f = landed_turns a _
 found_turns own a (NextHeld target) f = landed_turns a _
-found_turns own a (NextOwn v) f = landed_turns a (refuse refusal.Raced)
-found_turns own a NextNothing f = landed_turns a (refuse refusal.Raced)
+found_turns own a (NextOwn v) f = landed_turns a (refuse Refusal.Raced)
+found_turns own a NextNothing f = landed_turns a (refuse Refusal.Raced)
 
 end_turns : (own : Own) (a : ActiveCall) (look : Look) (end : StageEnd Found) → Turns None (took_end own a look end)
-end_turns own a look ends.Going = landed_turns a (Goes (Lookup look))
-end_turns own a look (ends.Decided r) = landed_turns a (refuse (refusal_of r))
-end_turns own a look (ends.Done f) = found_turns own a _ f
-end_turns own a look (ends.Refuse r) = landed_turns a (refuse (refusal_of r))
+end_turns own a look StageEnd.Going = landed_turns a (Goes (Lookup look))
+end_turns own a look (StageEnd.Decided r) = landed_turns a (refuse (refusal_of r))
+end_turns own a look (StageEnd.Done f) = found_turns own a _ f
+end_turns own a look (StageEnd.Refuse r) = landed_turns a (refuse (refusal_of r))
 
 first_turns : (living : Bool) (own : Own) (a : ActiveCall) → Turns None (took_first living own a)
 first_turns true own a = refl
 first_turns false own a = landed_turns a (next_by own a)
 
 enter_turns : (spent : Bool) (own : Own) (a : ActiveCall) → Turns None (took_enter spent own a)
-enter_turns true own a = landed_turns a (refuse refusal.CallsSpent)
+enter_turns true own a = landed_turns a (refuse Refusal.CallsSpent)
 enter_turns false own a = first_turns (plan_for a.call).living own a
 
 alive_turns : (own : Own) (a : ActiveCall) (alive : Alive) (end : StageEnd (Unit {0})) → Turns None (took_alive own a alive end)
-alive_turns own a alive ends.Going = refl
-alive_turns own a alive (ends.Decided r) = landed_turns a (refuse (refusal_of r))
-alive_turns own a alive (ends.Done x) = landed_turns a (next_by own a)
-alive_turns own a alive (ends.Refuse r) = landed_turns a (refuse (refusal_of r))
+alive_turns own a alive StageEnd.Going = refl
+alive_turns own a alive (StageEnd.Decided r) = landed_turns a (refuse (refusal_of r))
+alive_turns own a alive (StageEnd.Done x) = landed_turns a (next_by own a)
+alive_turns own a alive (StageEnd.Refuse r) = landed_turns a (refuse (refusal_of r))
 
 read_turns : (a : ActiveCall) (look : Look) (o : Option CompWord) → Turns None (took_read a look o)
-read_turns a look None = landed_turns a (refuse refusal.Raced)
+read_turns a look None = landed_turns a (refuse Refusal.Raced)
 read_turns a look (Some life) = landed_turns (read_more a life.epoch) (Goes (Lookup look))
 
 work_turns : (own : Own) (a : ActiveCall) (work : Work) (found : ℕ) → Turns None (took_work own a work found)
@@ -235,13 +156,13 @@ retype_one User r is = absurd (cc)
 retype_one Kernel r is = absurd (cc)
 
 make_one : (what : Make) (r t b : ℕ) → decides_at_name (plan_of_make what r t b).decides ≡ true → OneName (plan_of_make what r t b)
-make_one make.Table r t b is = absurd (cc)
-make_one make.Leaf r t b is = absurd (cc)
-make_one make.Pages r t b is = absurd (cc)
-make_one make.Pleaf r t b is = absurd (cc)
-make_one (make.Thread comp) r t b is = absurd (cc)
-make_one (make.Tcap sched quality) r t b is = absurd (cc)
-make_one (make.Comp own pages live) r t b is = absurd (cc)
+make_one Make.Table r t b is = absurd (cc)
+make_one Make.Leaf r t b is = absurd (cc)
+make_one Make.Pages r t b is = absurd (cc)
+make_one Make.Pleaf r t b is = absurd (cc)
+make_one (Make.Thread comp) r t b is = absurd (cc)
+make_one (Make.Tcap sched quality) r t b is = absurd (cc)
+make_one (Make.Comp own pages live) r t b is = absurd (cc)
 
 one_name : (call : Call) → decides_at_name (plan_for call).decides ≡ true → OneName (plan_for call)
 one_name (look_call a) is = record { name = any_cap neither a; names = refl; target = refl }
@@ -279,16 +200,16 @@ module _ (own : Own) (a : ActiveCall) (not : decides_at_name (plan_for a.call).d
   met_refuses (Refused r) = landed_refuses a (refuse r) tt
 
   free_refuses : (f : Found) (value : Entry) → Refuses (landed a (met_free own a.call a.found a.read f value))
-  free_refuses f entry.Free = landed_refuses a _ (act_no own a.call a.found a.read (Some f) not)
-  free_refuses f (entry.Held k) = tt
-  free_refuses f (entry.Closing by) = tt
-  free_refuses f (entry.Quiescing stamp) = landed_refuses a _ (act_no own a.call a.found a.read (Some f) not)
+  free_refuses f Entry.Free = landed_refuses a _ (act_no own a.call a.found a.read (Some f) not)
+  free_refuses f (Entry.Held k) = tt
+  free_refuses f (Entry.Closing by) = tt
+  free_refuses f (Entry.Quiescing stamp) = landed_refuses a _ (act_no own a.call a.found a.read (Some f) not)
 
   held_refuses : (f : Found) (value : Entry) → Refuses (landed a (met_held own a.call a.found f value))
-  held_refuses f entry.Free = tt
-  held_refuses f (entry.Held k) = landed_refuses a _ (act_no own a.call a.found None (Some f) not)
-  held_refuses f (entry.Closing by) = tt
-  held_refuses f (entry.Quiescing stamp) = tt
+  held_refuses f Entry.Free = tt
+  held_refuses f (Entry.Held k) = landed_refuses a _ (act_no own a.call a.found None (Some f) not)
+  held_refuses f (Entry.Closing by) = tt
+  held_refuses f (Entry.Quiescing stamp) = tt
 
   plain_found : (next : Next) (f : Found) → Refuses (took_found own a next f)
   plain_found (NextName n wanted) f = met_refuses _
@@ -304,19 +225,19 @@ link_refuses own a look false = tt
 
 root_refuses : (own : Own) (a : ActiveCall) (look : Look) (shown : Option Entry) → Refuses (took_end own a look (root_end shown))
 root_refuses own a look None = tt
-root_refuses own a look (Some entry.Free) = tt
-root_refuses own a look (Some (entry.Held k)) = link_refuses own a look (is_link k.kind)
-root_refuses own a look (Some (entry.Closing by)) = tt
-root_refuses own a look (Some (entry.Quiescing stamp)) = tt
+root_refuses own a look (Some Entry.Free) = tt
+root_refuses own a look (Some (Entry.Held k)) = link_refuses own a look (is_link k.kind)
+root_refuses own a look (Some (Entry.Closing by)) = tt
+root_refuses own a look (Some (Entry.Quiescing stamp)) = tt
 
 place_refuses : (own : Own) (a : ActiveCall) (look : Look) (node index word : ℕ) (shown : Option Entry)
     → ((f : Found) → Refuses (took_found own a (next_of (plan_for a.call) a.found) f))
     → Refuses (took_end own a look (place_end node index word shown))
 place_refuses own a look node index word None found = tt
-place_refuses own a look node index word (Some entry.Free) found = found _
-place_refuses own a look node index word (Some (entry.Held k)) found = found _
-place_refuses own a look node index word (Some (entry.Closing by)) found = tt
-place_refuses own a look node index word (Some (entry.Quiescing stamp)) found = found _
+place_refuses own a look node index word (Some Entry.Free) found = found _
+place_refuses own a look node index word (Some (Entry.Held k)) found = found _
+place_refuses own a look node index word (Some (Entry.Closing by)) found = tt
+place_refuses own a look node index word (Some (Entry.Quiescing stamp)) found = found _
 
 look_refuses : (own : Own) (a : ActiveCall) (look : Look) (word : ℕ) (shown : Option Entry)
     → (is_last look ≡ true → (f : Found) → Refuses (took_found own a (next_of (plan_for a.call) a.found) f))
@@ -366,21 +287,21 @@ last_not false c is last = refl
 -- a step of a scan answers nothing
 scan_refuses : (core : ℕ) (act : ActType) (a : ActiveCall) (q : Quiet) (end : StageEnd (Unit {0}))
     → Refuses (landed a (took_scan core act q end))
-scan_refuses core act a q ends.Going = tt
-scan_refuses core act a q (ends.Decided r) = landed_refuses a (refuse (refusal_of r)) tt
-scan_refuses core act a q (ends.Done x) = landed_refuses a (starts core act) (starts_no core act)
-scan_refuses core act a q (ends.Refuse r) = landed_refuses a (refuse (refusal_of r)) tt
+scan_refuses core act a q StageEnd.Going = tt
+scan_refuses core act a q (StageEnd.Decided r) = landed_refuses a (refuse (refusal_of r)) tt
+scan_refuses core act a q (StageEnd.Done x) = landed_refuses a (starts core act) (starts_no core act)
+scan_refuses core act a q (StageEnd.Refuse r) = landed_refuses a (refuse (refusal_of r)) tt
 
 -- a step by which a count is acquired answers nothing
 count_refuses : (core n : ℕ) (change : ℤ) (act : ActType) (a : ActiveCall) (pin : Pin) (end : StageEnd Pinned)
     → Refuses (landed a (took_count core n change act pin end))
-count_refuses core n change act a pin ends.Going = tt
-count_refuses core n change act a pin (ends.Decided r) = landed_refuses a (gives_up (refusal_of r) act) tt
-count_refuses core n change act a pin (ends.Done p) = tt
-count_refuses core n change act a pin (ends.Refuse r) = landed_refuses a (gives_up (refusal_of r) act) tt
+count_refuses core n change act a pin StageEnd.Going = tt
+count_refuses core n change act a pin (StageEnd.Decided r) = landed_refuses a (gives_up (refusal_of r) act) tt
+count_refuses core n change act a pin (StageEnd.Done p) = tt
+count_refuses core n change act a pin (StageEnd.Refuse r) = landed_refuses a (gives_up (refusal_of r) act) tt
 
 read_refuses : (a : ActiveCall) (look : Look) (o : Option CompWord) → Refuses (took_read a look o)
-read_refuses a look None = landed_refuses a (refuse refusal.Raced) tt
+read_refuses a look None = landed_refuses a (refuse Refusal.Raced) tt
 read_refuses a look (Some life) = tt
 
 work_refuses : (own : Own) (a : ActiveCall) (decides : Bool) (work : Work) (found : ℕ) → decides ≡ decides_at_name (plan_for a.call).decides
@@ -423,10 +344,10 @@ enter_refuses own a false active zero = first_refuses own a (plan_for a.call).li
 
 alive_refuses : (own : Own) (a : ActiveCall) (alive : Alive) (end : StageEnd (Unit {0})) → IsActive own a → a.found ≡ []
     → Refuses (took_alive own a alive end)
-alive_refuses own a alive ends.Going active zero = tt
-alive_refuses own a alive (ends.Decided r) active zero = landed_refuses a (refuse (refusal_of r)) tt
-alive_refuses own a alive (ends.Done x) active zero = next_refuses own a _ refl active zero
-alive_refuses own a alive (ends.Refuse r) active zero = landed_refuses a (refuse (refusal_of r)) tt
+alive_refuses own a alive StageEnd.Going active zero = tt
+alive_refuses own a alive (StageEnd.Decided r) active zero = landed_refuses a (refuse (refusal_of r)) tt
+alive_refuses own a alive (StageEnd.Done x) active zero = next_refuses own a _ refl active zero
+alive_refuses own a alive (StageEnd.Refuse r) active zero = landed_refuses a (refuse (refusal_of r)) tt
 
 stage_refuses : (own : Own) (a : ActiveCall) (stage : Stage) (found : ℕ) → IsActive own a → IsFirst stage a.found
     → ready_at (plan_for a.call) a.found stage ≡ false → Refuses (took_at own a stage found)
@@ -484,14 +405,14 @@ charge_decides a (charge_compare tcap ticks budget version) found ready = by (fo
 
 refill_decides : (a : ActiveCall) (r : Refill) (at : RefillAt) (found : ℕ) → is_refilling at ≡ true
     → IsDecision (landed a (took_refill (record r { at = at }) found))
-refill_decides a r refill.Load found ready = absurd (cc)
-refill_decides a r (refill.List entry) found ready = absurd (cc)
-refill_decides a r refill.Compare found ready = by (found == word_of_head r.head)
+refill_decides a r RefillAt.Load found ready = absurd (cc)
+refill_decides a r (RefillAt.List entry) found ready = absurd (cc)
+refill_decides a r RefillAt.Compare found ready = by (found == word_of_head r.head)
   where
-    by : (equal : Bool) → IsDecision (landed a (took_refilled (refill_after (record r { at = refill.Compare }) found) (won equal)))
+    by : (equal : Bool) → IsDecision (landed a (took_refilled (refill_after (record r { at = RefillAt.Compare }) found) (won equal)))
     by true = tt
     by false = tt
-refill_decides a r refill.Again found ready = absurd (cc)
+refill_decides a r RefillAt.Again found ready = absurd (cc)
 
 killing_decides : (a : ActiveCall) (m : Killing) (at : KillingAt) (found : ℕ) → is_killing at ≡ true
     → IsDecision (landed a (took_killing_at m at found))
@@ -502,10 +423,10 @@ killing_decides a m (kill_draw life word) found ready = tt
 
 invoking_decides : (a : ActiveCall) (m : Invoking) (at : InvokingAt) (found : ℕ) → is_entering at ≡ true
     → IsDecision (landed a (took_invoking_at m at found))
-invoking_decides a m invoking.LoadTable found ready = absurd (cc)
-invoking_decides a m (invoking.LoadPages table) found ready = absurd (cc)
-invoking_decides a m (invoking.LoadComp table pages) found ready = absurd (cc)
-invoking_decides a m (invoking.LoadLive table pages life) found ready = by (live_of_word found)
+invoking_decides a m InvokingAt.LoadTable found ready = absurd (cc)
+invoking_decides a m (InvokingAt.LoadPages table) found ready = absurd (cc)
+invoking_decides a m (InvokingAt.LoadComp table pages) found ready = absurd (cc)
+invoking_decides a m (InvokingAt.LoadLive table pages life) found ready = by (live_of_word found)
   where
     lives : (same : Bool) → IsDecision (landed a (enters_if m table pages same))
     lives true = tt
@@ -513,35 +434,35 @@ invoking_decides a m (invoking.LoadLive table pages life) found ready = by (live
 
     by : (o : Option LiveWord) → IsDecision (landed a (enters_live m table pages o))
     by None = tt
-    by (Some live.Free) = tt
-    by (Some (live.Live epoch f)) = lives (epoch == m.epoch)
-    by (Some (live.Closing epoch d)) = tt
-    by (Some (live.Dead epoch stamp)) = tt
+    by (Some LiveWord.Free) = tt
+    by (Some (LiveWord.Live epoch f)) = lives (epoch == m.epoch)
+    by (Some (LiveWord.Closing epoch d)) = tt
+    by (Some (LiveWord.Dead epoch stamp)) = tt
 
 returning_decides : (a : ActiveCall) (m : Returning) (at : ReturningAt) (found : ℕ) → is_leaving at ≡ true
     → IsDecision (landed a (took_returning_at m at found))
-returning_decides a m returning.LoadBelow found ready = absurd (cc)
-returning_decides a m (returning.LoadTable comp) found ready = absurd (cc)
-returning_decides a m (returning.LoadPages comp table) found ready = absurd (cc)
-returning_decides a m (returning.Draw comp table pages) found ready = tt
+returning_decides a m ReturningAt.LoadBelow found ready = absurd (cc)
+returning_decides a m (ReturningAt.LoadTable comp) found ready = absurd (cc)
+returning_decides a m (ReturningAt.LoadPages comp table) found ready = absurd (cc)
+returning_decides a m (ReturningAt.Draw comp table pages) found ready = tt
 
 switching_decides : (a : ActiveCall) (m : Switching) (at : SwitchAt) (found : ℕ) → is_switching at ≡ true
     → IsDecision (landed a (took_switching_at m at found))
-switching_decides a m (switch_at.Claim claim) found ready = absurd (cc)
-switching_decides a m (switch_at.LoadTable to) found ready = absurd (cc)
-switching_decides a m (switch_at.LoadPages to table) found ready = absurd (cc)
-switching_decides a m (switch_at.Leave to table pages) found ready = absurd (cc)
-switching_decides a m (switch_at.Draw to table pages) found ready = tt
+switching_decides a m (SwitchAt.Claim claim) found ready = absurd (cc)
+switching_decides a m (SwitchAt.LoadTable to) found ready = absurd (cc)
+switching_decides a m (SwitchAt.LoadPages to table) found ready = absurd (cc)
+switching_decides a m (SwitchAt.Leave to table pages) found ready = absurd (cc)
+switching_decides a m (SwitchAt.Draw to table pages) found ready = tt
 
 component_decides : (a : ActiveCall) (m : CompMaking) (at : CompAt) (found : ℕ) → comp_filling at ≡ true
     → IsDecision (landed a (took_comp_at m at found))
-component_decides a m comp_at_as.Load found ready = absurd (cc)
-component_decides a m (comp_at_as.Mark word) found ready = absurd (cc)
-component_decides a m (comp_at_as.LoadLive word) found ready = absurd (cc)
-component_decides a m (comp_at_as.Scan word last q) found ready = absurd (cc)
-component_decides a m (comp_at_as.Close word last) found ready = absurd (cc)
-component_decides a m (comp_at_as.Store word last entry) found ready = absurd (cc)
-component_decides a m (comp_at_as.Fill word last) found ready = by (found == m.fill.word)
+component_decides a m CompAt.Load found ready = absurd (cc)
+component_decides a m (CompAt.Mark word) found ready = absurd (cc)
+component_decides a m (CompAt.LoadLive word) found ready = absurd (cc)
+component_decides a m (CompAt.Scan word last q) found ready = absurd (cc)
+component_decides a m (CompAt.Close word last) found ready = absurd (cc)
+component_decides a m (CompAt.Store word last entry) found ready = absurd (cc)
+component_decides a m (CompAt.Fill word last) found ready = by (found == m.fill.word)
   where
     by : (equal : Bool) → IsDecision (landed a (comp_published m word last equal))
     by true = tt
@@ -549,18 +470,18 @@ component_decides a m (comp_at_as.Fill word last) found ready = by (found == m.f
 
 untyping_decides : (s : Shape) (a : ActiveCall) (m : Untyping) (at : UntypingAt) (found : ℕ) → is_drawing at ≡ true
     → IsDecision (landed a (took_untyping_at s m at found))
-untyping_decides s a m untype.Load found ready = absurd (cc)
-untyping_decides s a m (untype.Mark word v) found ready = absurd (cc)
-untyping_decides s a m (untype.Sweep word w) found ready = absurd (cc)
-untyping_decides s a m (untype.Draw word w) found ready = tt
+untyping_decides s a m UntypingAt.Load found ready = absurd (cc)
+untyping_decides s a m (UntypingAt.Mark word v) found ready = absurd (cc)
+untyping_decides s a m (UntypingAt.Sweep word w) found ready = absurd (cc)
+untyping_decides s a m (UntypingAt.Draw word w) found ready = tt
 
 page_decides : (a : ActiveCall) (m : Touching) (look : Look) (node index word : ℕ) (shown : Option Entry)
     → IsDecision (landed a (touch_end m look (place_end node index word shown)))
 page_decides a m look node index word None = tt
-page_decides a m look node index word (Some entry.Free) = tt
-page_decides a m look node index word (Some (entry.Held k)) = tt
-page_decides a m look node index word (Some (entry.Closing by)) = tt
-page_decides a m look node index word (Some (entry.Quiescing stamp)) = tt
+page_decides a m look node index word (Some Entry.Free) = tt
+page_decides a m look node index word (Some (Entry.Held k)) = tt
+page_decides a m look node index word (Some (Entry.Closing by)) = tt
+page_decides a m look node index word (Some (Entry.Quiescing stamp)) = tt
 
 touched_decides : (a : ActiveCall) (m : Touching) (found : ℕ) (cached : Option Translation)
     → (is_some cached || is_at_page m.look) ≡ true → IsDecision (landed a (touched m found cached))
@@ -607,13 +528,13 @@ begun_over own (Unmap p v) k is = absurd (cc)
 begun_over own (Retype r f Untyped) k is = absurd (cc)
 begun_over own (Retype r f User) k is = absurd (cc)
 begun_over own (Retype r f Kernel) k is = absurd (cc)
-begun_over own (make_call make.Table r f t b) k is = absurd (cc)
-begun_over own (make_call make.Leaf r f t b) k is = absurd (cc)
-begun_over own (make_call make.Pages r f t b) k is = absurd (cc)
-begun_over own (make_call make.Pleaf r f t b) k is = absurd (cc)
-begun_over own (make_call (make.Thread comp) r f t b) k is = absurd (cc)
-begun_over own (make_call (make.Tcap sched quality) r f t b) k is = absurd (cc)
-begun_over own (make_call (make.Comp table pages live) r f t b) k is = absurd (cc)
+begun_over own (make_call Make.Table r f t b) k is = absurd (cc)
+begun_over own (make_call Make.Leaf r f t b) k is = absurd (cc)
+begun_over own (make_call Make.Pages r f t b) k is = absurd (cc)
+begun_over own (make_call Make.Pleaf r f t b) k is = absurd (cc)
+begun_over own (make_call (Make.Thread comp) r f t b) k is = absurd (cc)
+begun_over own (make_call (Make.Tcap sched quality) r f t b) k is = absurd (cc)
+begun_over own (make_call (Make.Comp table pages live) r f t b) k is = absurd (cc)
 begun_over own Flush k is = absurd (cc)
 begun_over own (Tick n) k is = absurd (cc)
 begun_over own (Gate c t b) k is = absurd (cc)
@@ -660,10 +581,10 @@ place_decides : (own : Own) (a : ActiveCall) (look : Look) (node index word : �
     → ((f : Found) → IsDecision (took_found own a (next_of (plan_for a.call) a.found) f))
     → IsDecision (took_end own a look (place_end node index word shown))
 place_decides own a look node index word None found = tt
-place_decides own a look node index word (Some entry.Free) found = found _
-place_decides own a look node index word (Some (entry.Held k)) found = found _
-place_decides own a look node index word (Some (entry.Closing by)) found = tt
-place_decides own a look node index word (Some (entry.Quiescing stamp)) found = found _
+place_decides own a look node index word (Some Entry.Free) found = found _
+place_decides own a look node index word (Some (Entry.Held k)) found = found _
+place_decides own a look node index word (Some (Entry.Closing by)) found = tt
+place_decides own a look node index word (Some (Entry.Quiescing stamp)) found = found _
 
 look_decides : (own : Own) (a : ActiveCall) (look : Look) (word : ℕ) (shown : Option Entry) → is_last look ≡ true
     → ((f : Found) → IsDecision (took_found own a (next_of (plan_for a.call) a.found) f)) → IsDecision (took_look own a look word shown)

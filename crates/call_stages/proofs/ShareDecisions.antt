@@ -1,21 +1,9 @@
 -- Which steps of a call on two temporal capabilities answer, and which only refuse.
-use Rattle.std.proofs.Common.{◌≡◌, ℕ, ◌==◌, Bool, true, false, Option, Some, None}
-use Rattle.spk_nums.specs.Capability.{Capability}
-use Rattle.spk_nums.specs.declared.replies.Reply.{Reply}
-use Rattle.spk_nums.specs.declared.replies.Reply.TheVariants as reply
-use Rattle.spk_nums.specs.declared.replies.Value.TheVariants as value
-use Rattle.act_states.specs.tcap_words.specs.Head.{word_of_head, head_of_word}
-use Rattle.act_states.specs.tcap_words.specs.Quality.{quality_of_word}
-use Rattle.act_states.specs.tcap_words.specs.declared.head_word.HeadWord.{HeadWord}
-use Rattle.act_states.specs.tcap_words.specs.declared.quality_word.QualityWord.{QualityWord}
-use Rattle.act_states.specs.stage_tcap.specs.Charging.{end_by_mark, head_end}
-use Rattle.act_states.specs.stage_tcap.specs.Pairs.{decided_by_mark, b_end, list_end, again_end, marked_end}
-use Rattle.act_states.specs.stage_tcap.specs.declared.pair.Pair.{Pair}
-use Rattle.act_states.specs.stage_tcap.specs.declared.pair.PairAt.{PairAt}
-use Rattle.act_states.specs.stage_tcap.specs.declared.pair.PairAt.TheVariants.{LoadA, MarkA, ListA, LoadB, ListB, CompareB}
-use Rattle.act_states.specs.stage_tcap.specs.declared.pair.PairAt.TheVariants.{AgainB, StoreList, StoreB, StoreA}
-use Rattle.act_states.specs.stage_tcap.specs.declared.pair.PairWork.{PairWork}
-use Rattle.act_states.specs.Shares.{shared, took_shared, took_share, is_carried, is_sharing, shares_if, shares_at}
+use Rattle.act_states.specs.{◌≡◌, ℕ, ◌==◌, Bool, true, false, Option, Some, None, Capability, Reply, word_of_head, head_of_word}
+use Rattle.act_states.specs.{quality_of_word, HeadWord, QualityWord, end_by_mark, head_end, decided_by_mark, b_end, list_end, again_end}
+use Rattle.act_states.specs.{marked_end, Pair, PairAt, LoadA, MarkA, ListA, LoadB, ListB, CompareB, AgainB, StoreList, StoreB, StoreA}
+use Rattle.act_states.specs.{PairWork, shared, took_shared, took_share, shares_if, shares_at, Value}
+use Rattle.act_states.specs.Shares.{is_carried, is_sharing}
 use Rattle.call_stages.proofs.Answering.{NoAnswer, IsOver}
 
 share_no : (same : Bool) (core : ℕ) (what : PairWork) (f g : ℕ) → NoAnswer (shares_if same core what f g)
@@ -28,7 +16,7 @@ shares_no core what None b = tt
 shares_no core what (Some a) None = tt
 
 shared_no : (p : Pair) (r : Reply) → is_carried r ≡ false → NoAnswer (shared p r)
-shared_no p (reply.Ok v) not = absurd (cc)
+shared_no p (Reply.Ok v) not = absurd (cc)
 shared_no p r not = tt
 
 marking_no : (p : Pair) (same short : Bool) (budget : ℕ) → NoAnswer (took_shared p (marked_end same short budget))
@@ -73,7 +61,7 @@ share_unready p StoreB found not = tt
 share_unready p (StoreA moved v) found not = tt
 
 shared_over : (p : Pair) (r : Reply) → IsOver (shared p r)
-shared_over p (reply.Ok v) = tt
+shared_over p (Reply.Ok v) = tt
 shared_over p r = tt
 
 again_over : (p : Pair) (same : Bool) (r : Reply) → IsOver (took_shared p (again_end same r))
@@ -86,7 +74,7 @@ share_over p MarkA found ready = absurd (cc)
 share_over p (ListA entry) found ready = absurd (cc)
 share_over p LoadB found ready = absurd (cc)
 share_over p (ListB entry) found ready = absurd (cc)
-share_over p CompareB found ready = again_over _ (found == word_of_head p.head_b) (reply.Ok value.Nothing)
+share_over p CompareB found ready = again_over _ (found == word_of_head p.head_b) (Reply.Ok Value.Nothing)
 share_over p (AgainB r) found ready = again_over _ (found == word_of_head p.head_b) r
 share_over p (StoreList entry) found ready = absurd (cc)
 share_over p StoreB found ready = absurd (cc)

@@ -1,21 +1,10 @@
 -- The steps of a core: its next one, and the core after it. Which calls there are is not said here.
-use Rattle.std.specs.Prelude.{ℕ, ◌+◌, Bool, false, [], Option, Some, None, slice_get}
-use Rattle.spk_nums.specs.Setting.{Setting}
-use Rattle.spk_nums.specs.declared.calls.Call.{Call}
-use Rattle.spk_nums.specs.declared.replies.Reply.{Reply}
-use Rattle.spk_nums.specs.declared.translations.CoreEnd.{CoreEnd}
-use Rattle.act_states.specs.word_map.specs.Word.{ClockAt}
-use Rattle.act_states.specs.word_map.specs.Moves.{Move, LoadOf}
-use Rattle.act_states.specs.kernel_rules.specs.Laws.{calls_counted}
-use Rattle.act_states.specs.kernel_rules.specs.Start.{grant_pair}
-use Rattle.act_states.specs.declared.own.Own.{Own}
-use Rattle.act_states.specs.OwnChanges.{own_changed}
-use Rattle.call_stages.specs.declared.stages.Stage.TheVariants.{Enter}
-use Rattle.call_stages.specs.declared.stages.ActiveCall.{ActiveCall}
-use Rattle.call_stages.specs.declared.stages.Absorbed.{Absorbed}
-use Rattle.call_stages.specs.declared.stages.Absorbed.TheVariants as absorbed_as
-use Rattle.call_stages.specs.View.{Core}
-use Rattle.call_stages.specs.Steps.{stage_move, Took, GoesOn, Decides, Returns, Changes, took, is_ready}
+use Rattle.act_states.specs.{ℕ, ◌+◌, Bool, false, [], Option, Some, None, slice_get, Setting, Call, Reply, CoreEnd, ClockAt, Move, LoadOf}
+use Rattle.act_states.specs.{calls_counted, own_changed}
+use Rattle.call_stages.specs.{declared.stages.Stage.TheVariants.Enter, declared.stages.ActiveCall.ActiveCall}
+use Rattle.call_stages.specs.{declared.stages.Absorbed.Absorbed, View.Core, Steps.stage_move, Steps.Took, Steps.GoesOn, Steps.Decides}
+use Rattle.call_stages.specs.{Steps.Returns, Steps.Changes, Steps.took, Steps.is_ready}
+use Rattle.{act_states.specs.kernel_rules.specs.Start.grant_pair, act_states.specs.declared.own.Own.Own}
 
 -- core c at the start: on its own thread and temporal capability, in the component of the start, in no call
 abbrev pub started : ℕ → Setting → Core
@@ -100,13 +89,13 @@ absorbed c found = absorbed_in c.own c.active found
 
 -- what a core tells of a step that led to this
 abbrev pub told_by : Took → Absorbed
-told_by (GoesOn a) = absorbed_as.Going
-told_by (Decides r a) = absorbed_as.Decided r
-told_by (Returns r stamp) = absorbed_as.Returned r
-told_by (Changes r change a) = absorbed_as.Decided r
+told_by (GoesOn a) = Absorbed.Going
+told_by (Decides r a) = Absorbed.Decided r
+told_by (Returns r stamp) = Absorbed.Returned r
+told_by (Changes r change a) = Absorbed.Decided r
 
 abbrev pub told_in : Own → Option ActiveCall → ℕ → Absorbed
-told_in own None found = absorbed_as.Going
+told_in own None found = Absorbed.Going
 told_in own (Some a) found = told_by (took own a found)
 
 -- what a core tells of its step

@@ -1,50 +1,19 @@
 -- What holds of a core at every moment: its numbers are in range, and its call keeps within its bound of steps.
-use Rattle.std.specs.Prelude.{ℕ, ◌+◌, ◌*◌, ◌-◌, ◌<◌, ◌≤◌, ◌≡◌, Bool, IsTrue, List, [], ◌∷◌, length, Option, Some, None, ◌^◌}
-use Rattle.spk_nums.specs.Bounds.{bound_of}
-use Rattle.spk_nums.specs.CallLimits.{InLimits}
-use Rattle.spk_nums.specs.Capability.{Capability}
-use Rattle.spk_nums.specs.declared.calls.Call.{Call}
-use Rattle.spk_nums.specs.declared.calls.Call.TheVariants.{Gate}
-use Rattle.act_states.specs.frame_words.specs.Comp.{CompFits}
-use Rattle.act_states.specs.kernel_rules.specs.Access.{Want}
-use Rattle.act_states.specs.word_map.specs.Places.{Shape, IsShape}
-use Rattle.act_states.specs.stage_look.specs.Shown.{CapNames}
-use Rattle.act_states.specs.stage_look.specs.Lookup.{LookFits}
-use Rattle.act_states.specs.stage_look.specs.declared.look.Look.{Look}
-use Rattle.act_states.specs.stage_look.specs.declared.look.Look.TheVariants.{AtRoot, AtLeaf, AtEntry}
-use Rattle.act_states.specs.call_plans.specs.declared.plans.Name.{Name}
-use Rattle.act_states.specs.call_plans.specs.declared.plans.Target.{Target}
-use Rattle.act_states.specs.call_plans.specs.declared.plans.Plan.{Plan}
-use Rattle.act_states.specs.call_plans.specs.PlanOf.{plan_for}
-use Rattle.act_states.specs.call_plans.specs.After.{Leads, names_after}
-use Rattle.act_states.specs.call_plans.specs.Bounds.{living_steps, look_steps, act_steps}
-use Rattle.act_states.specs.declared.own.Own.{Own}
-use Rattle.act_states.specs.declared.work.Work.{Work}
-use Rattle.act_states.specs.declared.work.Work.TheVariants.{Lookup, Read, Scan, Acquire, Act}
-use Rattle.call_stages.specs.declared.stages.Stage.{Stage}
-use Rattle.call_stages.specs.declared.stages.Stage.TheVariants.{Enter, Living, Undecided, Decided, Leave}
-use Rattle.act_states.specs.declared.work.Tail.{Tail}
-use Rattle.act_states.specs.declared.work.Tail.TheVariants.{Nothing, Quiesce, Unmark, StoreDead, StoreFlush, Release}
-use Rattle.act_states.specs.declared.work.Tail.TheVariants.{StoreLive, Push, Pop, StoreRunning, StoreIdle, Share}
-use Rattle.act_states.specs.Untypings.{ReleaseFits}
-use Rattle.act_states.specs.Shares.{SharedFits}
-use Rattle.call_stages.specs.declared.stages.ActiveCall.{ActiveCall}
-use Rattle.act_states.specs.stage_quiet.specs.Scan.{QuietFits}
-use Rattle.act_states.specs.stage_quiet.specs.Removal.{CloseFits}
-use Rattle.act_states.specs.stage_pins.specs.declared.pin.Pin.{Pin}
-use Rattle.act_states.specs.stage_pins.specs.declared.pin.Pin.TheVariants.{AtLoad, AtCompare}
-use Rattle.act_states.specs.stage_pins.specs.declared.held.Acquired.{Acquired}
-use Rattle.act_states.specs.stage_pins.specs.Acquire.{PinFits}
-use Rattle.act_states.specs.stage_pins.specs.Held.{AllFit}
-use Rattle.act_states.specs.stage_thread.specs.Living.{AliveFits}
-use Rattle.act_states.specs.stage_thread.specs.declared.alive.Alive.{Alive}
-use Rattle.act_states.specs.stage_thread.specs.declared.alive.Alive.TheVariants.{AtComp, AtLive}
-use Rattle.act_states.specs.stage_thread.specs.Stacking.{PushFits, PopFits}
-use Rattle.act_states.specs.tcap_words.specs.Thread.{DepthFits}
-use Rattle.act_states.specs.Acts.{ActFits, act_left, dues}
-use Rattle.act_states.specs.Scans.{ScanFits, left_of_scan}
-use Rattle.call_stages.specs.Tails.{tail_left}
-use Rattle.call_stages.specs.View.{Core}
+use Rattle.act_states.specs as low
+use low.{ℕ, ◌+◌, ◌*◌, ◌-◌, ◌<◌, ◌≤◌, ◌≡◌, Bool, IsTrue, List, [], ◌∷◌, length, Option, Some, None, ◌^◌, bound_of, InLimits, Capability}
+use low.{Call, Gate, CompFits, Want, Shape, IsShape, CapNames, Look, AtRoot, AtLeaf, AtEntry, Name, Plan, plan_for, Leads, names_after}
+use low.{look_steps, act_steps, QuietFits, Pin, AtLoad, Acquired, AllFit, Alive, AtComp, AtLive, ActFits, act_left, dues, ScanFits}
+use low.declared.work.Work.TheVariants.{Lookup, Read, Scan, Acquire, Act}
+use low.declared.work.Tail.TheVariants.{Nothing, Quiesce, Unmark, StoreDead, StoreFlush, Release, StoreLive, Push, Pop, StoreRunning}
+use Rattle.call_stages.specs.{declared.stages.Stage.Stage, declared.stages.Stage.TheVariants.Enter}
+use Rattle.call_stages.specs.{declared.stages.Stage.TheVariants.Living, declared.stages.Stage.TheVariants.Undecided}
+use Rattle.call_stages.specs.{declared.stages.Stage.TheVariants.Decided, declared.stages.Stage.TheVariants.Leave}
+use low.{left_of_scan, stage_thread.specs.AliveFits, stage_thread.specs.PushFits, stage_thread.specs.PopFits}
+use low.{stage_look.specs.Lookup.LookFits, call_plans.specs.declared.plans.Target.Target, call_plans.specs.Bounds.living_steps}
+use low.{declared.own.Own.Own, declared.work.Work.Work, declared.work.Tail.Tail, declared.work.Tail.TheVariants.StoreIdle}
+use low.{declared.work.Tail.TheVariants.Share, Untypings.ReleaseFits, Shares.SharedFits, stage_quiet.specs.Removal.CloseFits}
+use low.{stage_pins.specs.declared.pin.Pin.TheVariants.AtCompare, stage_pins.specs.Acquire.PinFits, tcap_words.specs.Thread.DepthFits}
+use Rattle.{call_stages.specs.declared.stages.ActiveCall.ActiveCall, call_stages.specs.Tails.tail_left, call_stages.specs.View.Core}
 
 -- a stage names frames of the machine alone
 abbrev pub WorkFits : Shape → Work → Type 0

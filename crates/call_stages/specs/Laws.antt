@@ -1,13 +1,9 @@
 -- When a call is decided, and what a step of it may decide. Each is the contract of a function of this crate.
-use Rattle.std.specs.Prelude.{◌≡◌, ℕ, true, false, Option, Some, None}
-use Rattle.spk_nums.specs.declared.replies.Reply.{Reply}
-use Rattle.act_states.specs.kernel_rules.specs.Laws.{IsRefusal}
-use Rattle.act_states.specs.declared.own.Own.{Own}
-use Rattle.call_stages.specs.declared.stages.Stage.{Stage}
+use Rattle.act_states.specs.kernel_rules.specs.{◌≡◌, ℕ, true, false, Option, Some, None, Reply, IsRefusal}
 use Rattle.call_stages.specs.declared.stages.Stage.TheVariants.{Enter, Living, Undecided, Decided, Leave}
-use Rattle.call_stages.specs.declared.stages.ActiveCall.{ActiveCall}
 use Rattle.call_stages.specs.Steps.{Took, GoesOn, Decides, Returns, Changes, took, is_ready}
-use Rattle.call_stages.specs.Fits.{IsActive}
+use Rattle.{act_states.specs.declared.own.Own.Own, call_stages.specs.declared.stages.Stage.Stage}
+use Rattle.{call_stages.specs.declared.stages.ActiveCall.ActiveCall, call_stages.specs.Fits.IsActive}
 
 -- The reply with which a call is decided, at a stage at which it is.
 abbrev pub reply_at : Stage → Option Reply

@@ -1,60 +1,25 @@
 -- The steps of a call: the next one, and what it takes from the word found. They depend on what the core has of its own, on
 -- where the call stands, and on the word found, and on nothing else.
-use Rattle.std.specs.Prelude.{ℕ, ℤ, ◌+◌, Bool, true, false, ◌&&◌, ◌==◌, nat_le, length, Option, Some, None, if◌then◌else◌, List}
-use Rattle.act_states.specs.call_plans.specs.Plans.{pushed}
-use Rattle.spk_nums.specs.Capability.{Capability}
-use Rattle.spk_nums.specs.declared.replies.Reply.{Reply}
-use Rattle.spk_nums.specs.declared.replies.Reply.TheVariants.{Ok}
-use Rattle.spk_nums.specs.declared.steps.StageEnd.{StageEnd}
-use Rattle.spk_nums.specs.declared.steps.StageEnd.TheVariants as ends
-use Rattle.act_states.specs.entry_words.specs.declared.entry.Entry.{Entry}
-use Rattle.act_states.specs.frame_words.specs.Comp.{comp_of_word}
-use Rattle.act_states.specs.frame_words.specs.Core.{word_of_core}
-use Rattle.act_states.specs.frame_words.specs.declared.comp_word.CompWord.{CompWord}
-use Rattle.act_states.specs.word_map.specs.Word.{EntryAt, CoreAt}
-use Rattle.act_states.specs.word_map.specs.Moves.{Move, LoadOf, StoreOf}
-use Rattle.act_states.specs.stage_look.specs.Shown.{shown_in}
-use Rattle.act_states.specs.stage_look.specs.Lookup.{look_move, look_end, look_after}
-use Rattle.act_states.specs.stage_look.specs.declared.look.Look.{Look}
-use Rattle.act_states.specs.stage_look.specs.declared.look.Look.TheVariants.{AtRoot, AtLeaf, AtEntry}
-use Rattle.act_states.specs.stage_look.specs.declared.look.Found.{Found}
-use Rattle.act_states.specs.stage_quiet.specs.declared.quiet.Quiet.{Quiet}
-use Rattle.act_states.specs.stage_quiet.specs.Scan.{quiet_move, quiet_end, quiet_after}
-use Rattle.act_states.specs.stage_pins.specs.declared.pin.Pin.{Pin}
-use Rattle.act_states.specs.stage_pins.specs.declared.pin.Pinned.{Pinned}
-use Rattle.act_states.specs.stage_pins.specs.declared.held.Acquired.{Acquired}
-use Rattle.act_states.specs.stage_pins.specs.Acquire.{pin_move, pin_after, pin_end}
-use Rattle.act_states.specs.stage_pins.specs.Held.{pushed as count_pushed}
-use Rattle.act_states.specs.stage_thread.specs.Living.{alive_move, alive_end, alive_after}
-use Rattle.act_states.specs.stage_thread.specs.declared.alive.Alive.{Alive}
-use Rattle.act_states.specs.stage_thread.specs.declared.alive.Alive.TheVariants.{AtComp}
-use Rattle.act_states.specs.call_plans.specs.declared.plans.Decides.{Decides as Deciding}
-use Rattle.act_states.specs.call_plans.specs.declared.plans.Decides.TheVariants.{LeafEntry}
-use Rattle.act_states.specs.call_plans.specs.declared.plans.Plan.{Plan}
-use Rattle.act_states.specs.call_plans.specs.After.{Next, NextName, NextFree, NextHeld, NextOwn, NextNothing, next_of}
-use Rattle.act_states.specs.declared.refusals.Refusal.TheVariants as refusal
-use Rattle.act_states.specs.declared.own.Own.{Own}
-use Rattle.act_states.specs.declared.own.OwnChange.{OwnChange}
-use Rattle.act_states.specs.declared.lookups.Met.{Met}
-use Rattle.act_states.specs.declared.lookups.Met.TheVariants.{Finds, Refused}
-use Rattle.act_states.specs.declared.work.Act.{Act as ActType}
-use Rattle.act_states.specs.declared.work.Work.{Work}
-use Rattle.act_states.specs.declared.work.Work.TheVariants.{Lookup, Read, Scan, Acquire, Act}
-use Rattle.act_states.specs.declared.work.Tail.{Tail}
-use Rattle.call_stages.specs.declared.stages.Stage.{Stage}
+use Rattle.act_states.specs as low
+use low.{ℕ, ℤ, ◌+◌, Bool, true, false, ◌&&◌, ◌==◌, leb as nat_le, length, Option, Some, None, if◌then◌else◌, List, pushed, Capability}
+use low.{Reply, Ok, StageEnd, Entry, comp_of_word, CompWord, EntryAt, CoreAt, Move, LoadOf, StoreOf, shown_in, look_move, look_end}
+use low.{look_after, Look, AtRoot, AtLeaf, AtEntry, Quiet, quiet_move, quiet_end, quiet_after, Pin, Pinned, Acquired, pin_move, pin_after}
+use low.{pin_end, alive_end, alive_after, Alive, AtComp, Plan, Next, NextName, NextFree, NextHeld, NextOwn, NextNothing, next_of, reply_of}
+use low.{refusal_of, refuse, act_move, took_act, act_ready, next_work, starts, undo, next_step, met_name, met_free, met_held, plan_for}
+use low.call_plans.specs.{declared.plans.Decides.Decides as Deciding, declared.plans.Decides.TheVariants.LeafEntry}
+use low.{declared.own.Own.Own, declared.own.OwnChange.OwnChange, declared.lookups.Met.Met, declared.lookups.Met.TheVariants.Finds}
+use low.{declared.lookups.Met.TheVariants.Refused, declared.work.Act.Act as ActType, declared.work.Work.Work}
+use low.{declared.work.Work.TheVariants.Lookup, declared.work.Work.TheVariants.Read, declared.work.Work.TheVariants.Scan}
+use low.{declared.work.Work.TheVariants.Acquire, declared.work.Work.TheVariants.Act, declared.work.Tail.Tail}
+use low.{declared.work.WorkStep.WorkStep, declared.work.WorkStep.TheVariants.Goes, declared.work.WorkStep.TheVariants.Acquires}
+use low.{declared.work.WorkStep.TheVariants.Refuses, declared.work.WorkStep.TheVariants.Answers}
+use low.{declared.work.WorkStep.TheVariants.Changes as work_changes, declared.refusals.Refusal.Refusal}
 use Rattle.call_stages.specs.declared.stages.Stage.TheVariants.{Enter, Living, Undecided, Decided, Leave}
-use Rattle.call_stages.specs.declared.stages.ActiveCall.{ActiveCall}
-use Rattle.act_states.specs.declared.work.WorkStep.{WorkStep}
-use Rattle.act_states.specs.declared.work.WorkStep.TheVariants.{Goes, Acquires, Refuses, Answers, Changes as work_changes}
-use Rattle.call_stages.specs.declared.stages.Told.{Told}
-use Rattle.call_stages.specs.declared.stages.Told.TheVariants as told_as
-use Rattle.act_states.specs.Refusals.{reply_of, refusal_of}
-use Rattle.act_states.specs.declared.refusals.Refusal.{Refusal}
-use Rattle.act_states.specs.WorkSteps.{refuse}
-use Rattle.act_states.specs.Acts.{act_move, took_act, act_ready, next_work, starts, undo}
-use Rattle.act_states.specs.Lookups.{next_step, met_name, met_free, met_held}
 use Rattle.call_stages.specs.Tails.{tail_move, took_tail, tail_counts}
-use Rattle.act_states.specs.call_plans.specs.PlanOf.{plan_for}
+use low.{frame_words.specs.Core.word_of_core, stage_look.specs.declared.look.Found.Found, stage_pins.specs.Held.pushed as count_pushed}
+use low.{stage_thread.specs.Living.alive_move}
+use Rattle.{call_stages.specs.declared.stages.Stage.Stage, call_stages.specs.declared.stages.ActiveCall.ActiveCall}
+use Rattle.{call_stages.specs.declared.stages.Told.Told}
 
 -- the word of a core that is or is not inside a call, with the stamp of its last exit
 abbrev pub core_word : Bool → ℕ → ℕ
@@ -122,14 +87,14 @@ took_first living own a = if living then GoesOn (went a (Living (AtComp own.comp
 
 -- at its entry a call is refused where the core's calls are spent
 abbrev pub took_enter : Bool → Own → ActiveCall → Took
-took_enter spent own a = if spent then landed a (refuse refusal.CallsSpent) else took_first (plan_for a.call).living own a
+took_enter spent own a = if spent then landed a (refuse Refusal.CallsSpent) else took_first (plan_for a.call).living own a
 
 -- what a call takes from a step of the question whether its component lives, which stands here after it
 abbrev pub took_alive : Own → ActiveCall → Alive → StageEnd (Unit {0}) → Took
-took_alive own a alive ends.Going = GoesOn (went a (Living alive))
-took_alive own a alive (ends.Decided r) = landed a (refuse (refusal_of r))
-took_alive own a alive (ends.Done x) = landed a (next_by own a)
-took_alive own a alive (ends.Refuse r) = landed a (refuse (refusal_of r))
+took_alive own a alive StageEnd.Going = GoesOn (went a (Living alive))
+took_alive own a alive (StageEnd.Decided r) = landed a (refuse (refusal_of r))
+took_alive own a alive (StageEnd.Done x) = landed a (next_by own a)
+took_alive own a alive (StageEnd.Refuse r) = landed a (refuse (refusal_of r))
 
 -- one name more has led to a capability, or the call is refused
 abbrev pub named_one : Own → ActiveCall → Met → Took
@@ -141,15 +106,15 @@ abbrev pub took_found : Own → ActiveCall → Next → Found → Took
 took_found own a (NextName n wanted) f = named_one own a (met_name wanted f.value)
 took_found own a (NextFree target) f = landed a (met_free own a.call a.found a.read f f.value)
 took_found own a (NextHeld target) f = landed a (met_held own a.call a.found f f.value)
-took_found own a (NextOwn v) f = landed a (refuse refusal.Raced)
-took_found own a NextNothing f = landed a (refuse refusal.Raced)
+took_found own a (NextOwn v) f = landed a (refuse Refusal.Raced)
+took_found own a NextNothing f = landed a (refuse Refusal.Raced)
 
 -- what a call takes from a step of a look-up, which stands at `look` after it
 abbrev pub took_end : Own → ActiveCall → Look → StageEnd Found → Took
-took_end own a look ends.Going = landed a (Goes (Lookup look))
-took_end own a look (ends.Decided r) = landed a (refuse (refusal_of r))
-took_end own a look (ends.Done f) = took_found own a (next_of (plan_for a.call) a.found) f
-took_end own a look (ends.Refuse r) = landed a (refuse (refusal_of r))
+took_end own a look StageEnd.Going = landed a (Goes (Lookup look))
+took_end own a look (StageEnd.Decided r) = landed a (refuse (refusal_of r))
+took_end own a look (StageEnd.Done f) = took_found own a (next_of (plan_for a.call) a.found) f
+took_end own a look (StageEnd.Refuse r) = landed a (refuse (refusal_of r))
 
 -- what a call takes from a step of a look-up that has found this word, which shows this
 abbrev pub took_look : Own → ActiveCall → Look → ℕ → Option Entry → Took
@@ -157,7 +122,7 @@ took_look own a look word shown = took_end own a (look_after look shown) (look_e
 
 -- what a call takes from the load of a component's word, which names this: its target is looked up next
 abbrev pub took_read : ActiveCall → Look → Option CompWord → Took
-took_read a look None = landed a (refuse refusal.Raced)
+took_read a look None = landed a (refuse Refusal.Raced)
 took_read a look (Some life) = landed (read_more a life.epoch) (Goes (Lookup look))
 
 -- a call that acquires a count for an act is refused, with what it has then still to store
@@ -166,17 +131,17 @@ gives_up r act = Refuses r (undo act)
 
 -- what a call takes from a step by which it acquires a count for an act: it is refused, or goes on to the next count or the act
 abbrev pub took_count : ℕ → ℕ → ℤ → ActType → Pin → StageEnd Pinned → WorkStep
-took_count core n change act pin ends.Going = Goes (Acquire pin change act)
-took_count core n change act pin (ends.Decided r) = gives_up (refusal_of r) act
-took_count core n change act pin (ends.Done p) = Acquires (record { pin = p; change = change }) (next_work core (n + 1) act)
-took_count core n change act pin (ends.Refuse r) = gives_up (refusal_of r) act
+took_count core n change act pin StageEnd.Going = Goes (Acquire pin change act)
+took_count core n change act pin (StageEnd.Decided r) = gives_up (refusal_of r) act
+took_count core n change act pin (StageEnd.Done p) = Acquires (record { pin = p; change = change }) (next_work core (n + 1) act)
+took_count core n change act pin (StageEnd.Refuse r) = gives_up (refusal_of r) act
 
 -- what a call takes from a step of a scan, which stands here after it: it is refused, or goes on to the next core or to its act
 abbrev pub took_scan : ℕ → ActType → Quiet → StageEnd (Unit {0}) → WorkStep
-took_scan core act q ends.Going = Goes (Scan q act)
-took_scan core act q (ends.Decided r) = refuse (refusal_of r)
-took_scan core act q (ends.Done x) = starts core act
-took_scan core act q (ends.Refuse r) = refuse (refusal_of r)
+took_scan core act q StageEnd.Going = Goes (Scan q act)
+took_scan core act q (StageEnd.Decided r) = refuse (refusal_of r)
+took_scan core act q (StageEnd.Done x) = starts core act
+took_scan core act q (StageEnd.Refuse r) = refuse (refusal_of r)
 
 -- what a call takes from a step of its work
 abbrev pub took_work : Own → ActiveCall → Work → ℕ → Took
@@ -205,10 +170,10 @@ took own a found = took_at own a a.stage found
 
 -- what is told of a step that led to this
 abbrev pub told : Took → Told
-told (GoesOn a) = told_as.Going
-told (Decides r a) = told_as.Decided r
-told (Returns r stamp) = told_as.Returned r stamp
-told (Changes r change a) = told_as.Changed r change
+told (GoesOn a) = Told.Going
+told (Decides r a) = Told.Decided r
+told (Returns r stamp) = Told.Returned r stamp
+told (Changes r change a) = Told.Changed r change
 
 -- the call after a step that led to this; one that returns stays as it was
 abbrev pub call_after : ActiveCall → Took → ActiveCall

@@ -1,30 +1,14 @@
 -- What a decided call has still to store, and its exit.
-use Rattle.std.specs.Prelude.{ℕ, ◌-◌, ◌^◌, Bool, true, false, nat_lt, Option, List, [], ◌∷◌, if◌then◌else◌}
-use Rattle.spk_nums.specs.declared.replies.Reply.{Reply}
-use Rattle.spk_nums.specs.declared.replies.Reply.TheVariants.{Ok}
-use Rattle.act_states.specs.word_map.specs.Word.{ClockAt, FrameAt, LiveAt}
-use Rattle.act_states.specs.word_map.specs.Moves.{Move, LoadOf, StoreOf}
-use Rattle.act_states.specs.stage_quiet.specs.Removal.{close_move}
-use Rattle.act_states.specs.stage_quiet.specs.Flushing.{flush_move}
-use Rattle.act_states.specs.stage_quiet.specs.declared.flush_mark.FlushMark.TheVariants.{AtStore}
-use Rattle.act_states.specs.stage_pins.specs.declared.held.Acquired.{Acquired}
-use Rattle.act_states.specs.stage_pins.specs.Commit.{settle_move}
-use Rattle.act_states.specs.stage_pins.specs.Held.{commit_of, rest_of}
-use Rattle.act_states.specs.stage_thread.specs.Stacking.{push_move, pop_move}
-use Rattle.act_states.specs.stage_thread.specs.declared.stack.Push.{Push}
-use Rattle.act_states.specs.stage_thread.specs.declared.stack.Push.TheVariants as push
-use Rattle.act_states.specs.stage_thread.specs.declared.stack.Pop.{Pop}
-use Rattle.act_states.specs.stage_thread.specs.declared.stack.Pop.TheVariants as pop
-use Rattle.act_states.specs.Kills.{dead_move}
-use Rattle.act_states.specs.Switches.{running_move, idle_move}
-use Rattle.act_states.specs.declared.work.Tail.{Tail}
-use Rattle.act_states.specs.declared.work.Tail.TheVariants.{Nothing, Quiesce, Unmark, StoreDead, StoreFlush, Release, StoreLive}
-use Rattle.act_states.specs.declared.work.Tail.TheVariants.{Push as push_tail, Pop as pop_tail, StoreRunning, StoreIdle, Share}
-use Rattle.act_states.specs.Untypings.{release_move, release_after, release_left}
-use Rattle.act_states.specs.stage_tcap.specs.Pairs.{pair_move}
-use Rattle.act_states.specs.Shares.{after_share, share_left}
-use Rattle.call_stages.specs.declared.stages.Stage.{Stage}
-use Rattle.call_stages.specs.declared.stages.Stage.TheVariants.{Decided, Leave}
+use Rattle.act_states.specs as low
+use low.{ℕ, ◌-◌, ◌^◌, Bool, true, false, ltb as nat_lt, Option, List, [], ◌∷◌, if◌then◌else◌, Reply, Ok, ClockAt, FrameAt, LiveAt, Move}
+use low.{LoadOf, StoreOf, close_move, Acquired, settle_move, commit_of, Push, Pop, running_move, idle_move, release_after, after_share}
+use low.declared.work.Tail.TheVariants.{Nothing, Quiesce, Unmark, StoreDead, StoreFlush, Release, StoreLive, Push as push_tail}
+use low.declared.work.Tail.TheVariants.{Pop as pop_tail, StoreRunning, StoreIdle, Share}
+use low.{share_left, stage_thread.specs.push_move, stage_thread.specs.pop_move, stage_quiet.specs.Flushing.flush_move}
+use low.{stage_quiet.specs.declared.flush_mark.FlushMark.TheVariants.AtStore, stage_pins.specs.Held.rest_of, Kills.dead_move}
+use low.{declared.work.Tail.Tail, Untypings.release_move, Untypings.release_left, stage_tcap.specs.Pairs.pair_move}
+use Rattle.{call_stages.specs.declared.stages.Stage.Stage, call_stages.specs.declared.stages.Stage.TheVariants.Decided}
+use Rattle.{call_stages.specs.declared.stages.Stage.TheVariants.Leave}
 
 -- whether a reply says that the call was carried out
 abbrev pub is_ok : Reply → Bool
@@ -33,20 +17,20 @@ is_ok _ = false
 
 -- what of a push and of a pop is to be stored after its next store, and how many stores these are with it
 abbrev pub pushed_on : Push → Tail
-pushed_on (push.AtStack t core depth comp) = push_tail (push.AtThread t core depth)
-pushed_on (push.AtThread t core depth) = Nothing
+pushed_on (Push.AtStack t core depth comp) = push_tail (Push.AtThread t core depth)
+pushed_on (Push.AtThread t core depth) = Nothing
 
 abbrev pub popped_on : Pop → Tail
-popped_on (pop.AtThread t core depth) = pop_tail (pop.AtStack t depth)
-popped_on (pop.AtStack t depth) = Nothing
+popped_on (Pop.AtThread t core depth) = pop_tail (Pop.AtStack t depth)
+popped_on (Pop.AtStack t depth) = Nothing
 
 abbrev pub push_left : Push → ℕ
-push_left (push.AtStack t core depth comp) = 2
-push_left (push.AtThread t core depth) = 1
+push_left (Push.AtStack t core depth comp) = 2
+push_left (Push.AtThread t core depth) = 1
 
 abbrev pub pop_left : Pop → ℕ
-pop_left (pop.AtThread t core depth) = 2
-pop_left (pop.AtStack t depth) = 1
+pop_left (Pop.AtThread t core depth) = 2
+pop_left (Pop.AtStack t depth) = 1
 
 -- the next step of a decided call: its next store, then the commit of each count that it has acquired, then the load of the clock;
 -- counters that it has frozen, and their frame's word, are stored after the commits

@@ -1,11 +1,8 @@
 -- What the command `check` writes.
 use Rattle.std.specs.Prelude.{◌≡◌, ℕ, List, Ok}
-use Rattle.line_reader.specs.declared.cause.ReadFault.{ReadFault}
-use Rattle.line_reader.specs.Lines.{Fails}
-use Rattle.marked_history.specs.declared.marks.Verdict.{Verdict}
-use Rattle.marked_history.specs.Verdicts.{IsVerdict}
-use Rattle.history_reader.specs.Inputs.{History, history_of}
-use Rattle.check_run.specs.Texts.{verdict_text}
+use Rattle.{history_reader.specs.History, history_reader.specs.history_of, line_reader.specs.declared.cause.ReadFault.ReadFault}
+use Rattle.{line_reader.specs.Lines.Fails, marked_history.specs.declared.marks.Verdict.Verdict, marked_history.specs.Verdicts.IsVerdict}
+use Rattle.{check_run.specs.Texts.verdict_text}
 
 -- The text is that of the verdict on a given history.
 pub record IsJudged (history : History) (written : List ℕ) : Type 0 where

@@ -1,15 +1,13 @@
 -- The text of a verdict.
 use Rattle.std.specs.Prelude.{ℕ, List, ◌++◌, codes, decimal}
-use Rattle.marked_history.specs.declared.marks.Why.{Why}
-use Rattle.marked_history.specs.declared.marks.Why.TheVariants as why
-use Rattle.marked_history.specs.declared.marks.Verdict.{Verdict}
-use Rattle.marked_history.specs.declared.marks.Verdict.TheVariants.{Legal, Illegal}
+use Rattle.marked_history.specs.{declared.marks.Why.Why, declared.marks.Verdict.Verdict, declared.marks.Verdict.TheVariants.Legal}
+use Rattle.marked_history.specs.{declared.marks.Verdict.TheVariants.Illegal}
 
 -- The word for why no history goes on with a line.
 abbrev pub why_word : Why → List ℕ
-why_word why.Marks = codes "marks"
-why_word why.Race = codes "race"
-why_word why.Reply = codes "reply"
+why_word Why.Marks = codes "marks"
+why_word Why.Race = codes "race"
+why_word Why.Reply = codes "reply"
 
 -- The text that names a line, and why no history goes on with it.
 abbrev pub illegal_text : ℕ → List ℕ → List ℕ

@@ -1,38 +1,22 @@
 -- What a call that makes a component knows of its rule: what is left of it after its names, and what refuses it; and what it knows of the
 -- frame and of the number that it has marked.
-use Rattle.scan_invariant.proofs.Common.{◌≡◌, ◌+◌, Bool, true, false, Option, Some, None, ℕ, ◌<◌, ◌≢◌, sym, ◌&&◌, [], ◌∷◌}
-use Rattle.scan_invariant.proofs.Common.{ap, ◌∙◌, subst, IsTrue, not, inr, lt-ltb, false≢true, Capability, Setting, IsSetting, Reply}
-use Rattle.scan_invariant.proofs.Common.{frame_of_word, live_of_word, EntryAt, FrameAt, LiveAt, found, Target, Under, Slot, reached}
-use Rattle.scan_invariant.proofs.Common.{rule_of, change_of, has_frame, not_blank, is_blank, fits, is_node, Found}
-use Rattle.scan_invariant.proofs.Common.{Change, first_cause, and_then, unless, vacant, outcome, first_of, RuleMay, Blank, Kernel, State}
-use Rattle.scan_invariant.proofs.Common.{Leaf, NumberOf, named_fit, opened, events_of, sound_of, opened_is, marked_by, mark_in_frame}
-use Rattle.scan_invariant.proofs.Common.{frame_value, stamp, Trace, Open, phase, state_after, last_left, target_of, outcome_left}
-use Rattle.scan_invariant.proofs.Common.{left_may, names_after, Leads, NextFree, next_of, rule_after, LeadsIn, own_pages, GoesBy}
-use Rattle.scan_invariant.proofs.Common.{plan_for, Plan, CompMakingFits, comp_due_list, CompMaking, Act, StageFits, HasRoom, Core}
-use Rattle.scan_invariant.proofs.Common.{ActiveCall, Undecided, limits_of, settled_by, settled, AreDuesApart, phase_at, KnowsUndecided}
-use Rattle.scan_invariant.proofs.Common.{KnowsComp, Invariant, holds, held_by, NumberIs}
-use Rattle.std.specs.Prelude.{if◌then◌else◌}
-use Rattle.state_laws.specs.spk_nums.specs.declared.calls.Call.TheVariants.{Make as make_call}
-use Rattle.state_laws.specs.spk_nums.specs.declared.calls.Make.TheVariants as make_of
-use Rattle.state_laws.specs.spk_nums.specs.declared.kinds.Kind.TheVariants as kind
-use Rattle.state_laws.specs.spk_nums.specs.declared.replies.Reply.TheVariants as reply
-use Rattle.state_laws.specs.kernel_rules.specs.CapabilityCalls.{not_taken}
-use Rattle.state_laws.specs.kernel_rules.specs.Rules.{OneMay, does}
-use Rattle.scan_invariant.specs.plan_ways.proofs.Ways.{target_is as target_is_of}
-use Rattle.scan_invariant.specs.plan_ways.specs.Laws.{IsTargetOf}
-use Rattle.scan_invariant.specs.act_states.specs.declared.work.Act.TheVariants.{MakeComp as comp_act}
-use Rattle.scan_invariant.specs.step_ways.proofs.Good.{blank_is}
-use Rattle.scan_invariant.specs.step_ways.proofs.Loads.{is_active, call_is}
-use Rattle.scan_invariant.specs.core_invariant.specs.Knows.{SaysBlank}
-use Rattle.scan_invariant.specs.count_invariant.proofs.Acquiring.{plan_leads, goes_by}
-use Rattle.scan_invariant.specs.count_invariant.proofs.CompCounts.{IsCompCall, comp_call}
-use Rattle.scan_invariant.specs.place_invariant.proofs.CompMakes.{IsCompMake, comp_make, comp_rest, new_comp, comp_dues_apart}
-use Rattle.scan_invariant.specs.place_invariant.proofs.Outside.{none_left_of}
-use Rattle.scan_invariant.specs.place_invariant.proofs.Vacancy.{in_leaf}
-use Rattle.state_laws.specs.kernel_rules.specs.Start.{plain_cap}
-use Rattle.state_laws.specs.kernel_rules.specs.Edits.{Component as component_edit, Fill as fill_edit}
-use Rattle.state_laws.specs.spk_nums.specs.declared.replies.Value.TheVariants.{Nothing as no_value}
-use Rattle.scan_invariant.specs.act_states.specs.call_plans.specs.PlanOf.{plan_for}
+use Rattle.scan_invariant.specs.step_ways.proofs as low
+use low.{◌≡◌, ◌+◌, Bool, true, false, Option, Some, None, ℕ, ◌<◌, ◌≢◌, sym, ◌&&◌, [], ◌∷◌, ap, ◌∙◌, subst, IsTrue, not, inr, lt-ltb}
+use low.{false≢true, Capability, Setting, IsSetting, Reply, frame_of_word, live_of_word, EntryAt, FrameAt, LiveAt, found, Target, Under}
+use low.{Slot, reached, rule_of, change_of, has_frame, not_blank, is_blank, fits, is_node, Found, Change, first_cause, and_then, unless}
+use low.{vacant, outcome, first_of, RuleMay, Blank, Kernel, State, Leaf, NumberOf, named_fit, opened, events_of, sound_of, opened_is}
+use low.{marked_by, mark_in_frame, frame_value, stamp, Trace, Open, phase, state_after, last_left, target_of, outcome_left, left_may}
+use low.{names_after, Leads, NextFree, next_of, rule_after, LeadsIn, own_pages, GoesBy, plan_for, Plan, comp_due_list, CompMaking, Act}
+use low.{StageFits, HasRoom, Core, ActiveCall, Undecided, limits_of, settled_by, settled, AreDuesApart, phase_at, KnowsUndecided, KnowsComp}
+use low.{Invariant, holds, held_by, NumberIs, if◌then◌else◌, Make as make_call, does, MakeComp as comp_act, blank_is, is_active, call_is}
+use low.{plain_cap, Kind}
+use Rattle.state_laws.specs.kernel_rules.specs.{not_taken, OneMay, Component as component_edit, Fill as fill_edit, Nothing as no_value}
+use Rattle.scan_invariant.specs.count_invariant.proofs.{plan_leads, goes_by, IsCompCall}
+use Rattle.scan_invariant.specs.place_invariant.proofs.{CompMakes.IsCompMake, CompMakes.comp_make, CompMakes.comp_rest, CompMakes.new_comp}
+use Rattle.scan_invariant.specs.place_invariant.proofs.{CompMakes.comp_dues_apart, Outside.none_left_of, Vacancy.in_leaf}
+use Rattle.{state_laws.specs.kernel_rules.specs.Make, scan_invariant.specs.act_states.specs.Comps.CompMakingFits}
+use Rattle.{scan_invariant.specs.plan_ways.proofs.Ways.target_is as target_is_of, scan_invariant.specs.plan_ways.specs.Laws.IsTargetOf}
+use Rattle.{scan_invariant.specs.core_invariant.specs.Acting.SaysBlank, scan_invariant.specs.count_invariant.proofs.CompCounts.comp_call}
 
 module _ (setup : Setting) (setting : IsSetting setup) (cores : ℕ → Core) (t : Trace) (stands : Invariant setup cores t) (c : ℕ)
     (here : c < setup.cores)
@@ -89,7 +73,7 @@ module _ (setup : Setting) (setting : IsSetting setup) (cores : ℕ → Core) (t
   pub by_plan : GoesBy (own_pages s c) (plan_for a.call) (rule_of s c a.call)
   by_plan = goes_by setup setting cores t stands c here a active has.names
 
-  plan_call : plan_for a.call ≡ plan_for (make_call (make_of.Comp is.x is.p m.number) is.name m.frame is.root is.slot)
+  plan_call : plan_for a.call ≡ plan_for (make_call (Make.Comp is.x is.p m.number) is.name m.frame is.root is.slot)
   plan_call = ap plan_for is.call_is
 
   pub make : IsCompMake s c is.name m.frame is.root is.slot is.x is.p m.number a.found
@@ -144,25 +128,25 @@ module _ (setup : Setting) (setting : IsSetting setup) (cores : ℕ → Core) (t
 
   -- the change that it makes, and what comes of the call where its target is vacant
   abbrev pub change : Change
-  change = does c s no_value (component_edit m.frame (new_comp s m.table m.pages m.number) ∷ fill_edit slot (plain_cap kind.Comp m.frame)
+  change = does c s no_value (component_edit m.frame (new_comp s m.table m.pages m.number) ∷ fill_edit slot (plain_cap Kind.Comp m.frame)
       ∷ [])
 
   abbrev pub taken : Option Reply
   taken = first_cause s c (not_taken s m.number)
 
   pub by_blank : vacant s c target ≡ Found slot → (blank : Bool) → is_blank (s.frame m.frame) ≡ blank
-      → change_of s c a.call ≡ unless (first_of (if not blank then Some reply.FrameKind else None) taken) change
+      → change_of s c a.call ≡ unless (first_of (if not blank then Some Reply.FrameKind else None) taken) change
   by_blank free blank at_frame =
       outcome_left s c (own_pages s c) (plan_for a.call) (rule_of s c a.call) a.found by_plan leads ∙ ap (outcome s c) left
-      ∙ ap (λ x. and_then x λ at. unless (first_of (if not (has_frame (found make.range) m.frame) then Some reply.OutOfRange else None)
+      ∙ ap (λ x. and_then x λ at. unless (first_of (if not (has_frame (found make.range) m.frame) then Some Reply.OutOfRange else None)
       (first_cause s c (not_blank s m.frame ∷ not_taken s m.number)))
-      (does c s no_value (component_edit m.frame (new_comp s m.table m.pages m.number) ∷ fill_edit at (plain_cap kind.Comp m.frame)
+      (does c s no_value (component_edit m.frame (new_comp s m.table m.pages m.number) ∷ fill_edit at (plain_cap Kind.Comp m.frame)
       ∷ []))) free
-      ∙ ap (λ b. unless (first_of (if not b then Some reply.OutOfRange else None)
+      ∙ ap (λ b. unless (first_of (if not b then Some Reply.OutOfRange else None)
       (first_cause s c (not_blank s m.frame ∷ not_taken s m.number))) change) within
-      ∙ ap (λ b. unless (first_of (if b && not (is_blank (s.frame m.frame)) then Some reply.FrameKind else None) taken) change)
+      ∙ ap (λ b. unless (first_of (if b && not (is_blank (s.frame m.frame)) then Some Reply.FrameKind else None) taken) change)
       (lt-ltb m.frame s.limits.frames below)
-      ∙ ap (λ b. unless (first_of (if not b then Some reply.FrameKind else None) taken) change) at_frame
+      ∙ ap (λ b. unless (first_of (if not b then Some Reply.FrameKind else None) taken) change) at_frame
 
   pub by_taken : vacant s c target ≡ Found slot → s.frame m.frame ≡ Kernel Blank → (o : Option Reply) → taken ≡ o
       → change_of s c a.call ≡ unless o change
@@ -174,14 +158,14 @@ module _ (setup : Setting) (setting : IsSetting setup) (cores : ℕ → Core) (t
       (subst (λ x. RuleMay s c x r) (sym left) (inr (inr (inr may))))
 
   -- its table and its pages are such
-  pub table_fits : IsTrue (fits kind.Table (s.frame m.table))
-  table_fits = subst (λ (x : ℕ). IsTrue (fits kind.Table (s.frame x))) table_is
-      (named_fit s (opened (events_of t)) c is.x kind.Table make.table (sound_of setup setting t stands.legal)
+  pub table_fits : IsTrue (fits Kind.Table (s.frame m.table))
+  table_fits = subst (λ (x : ℕ). IsTrue (fits Kind.Table (s.frame x))) table_is
+      (named_fit s (opened (events_of t)) c is.x Kind.Table make.table (sound_of setup setting t stands.legal)
       (opened_is t c a.call is_open) make.third)
 
-  pub pages_fits : IsTrue (fits kind.Pages (s.frame m.pages))
-  pages_fits = subst (λ (x : ℕ). IsTrue (fits kind.Pages (s.frame x))) pages_is
-      (named_fit s (opened (events_of t)) c is.p kind.Pages make.pages (sound_of setup setting t stands.legal)
+  pub pages_fits : IsTrue (fits Kind.Pages (s.frame m.pages))
+  pages_fits = subst (λ (x : ℕ). IsTrue (fits Kind.Pages (s.frame x))) pages_is
+      (named_fit s (opened (events_of t)) c is.p Kind.Pages make.pages (sound_of setup setting t stands.legal)
       (opened_is t c a.call is_open) make.fourth)
 
   pub counts_apart : s.frame m.frame ≡ Kernel Blank → AreDuesApart (comp_due_list m)

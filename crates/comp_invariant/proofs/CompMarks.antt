@@ -1,47 +1,30 @@
 -- The first steps by which a call makes a component: the load of the frame's word, and the compare that marks it.
-use Rattle.scan_invariant.proofs.Common.{◌≡◌, ◌≤◌, Bool, true, false, cond, Option, Some, None, refl, ℕ, ◌<◌, ◌^◌, ◌==◌, arith, ◌≢◌, ◌+◌}
-use Rattle.scan_invariant.proofs.Common.{sym, ◌&&◌, [], ◌∷◌, ◌++◌, length, ap, ◌∙◌, subst, inl, inr, not, map, lt-ltb}
-use Rattle.scan_invariant.proofs.Common.{eqb-true, eqb-false, eq-eqb, Setting, IsSetting}
-use Rattle.scan_invariant.proofs.Common.{left_if, FrameKind, Obj, frame_of_word, FrameFits}
-use Rattle.scan_invariant.proofs.Common.{word_of_frame, FrameWord, same_same, left_of, word_of, LoadOf, Move, CompareOf, EntryAt}
-use Rattle.scan_invariant.proofs.Common.{FrameAt, put_same, Target, alone, rule_of, change_of, are_calls_spent, is_frame, is_blank}
-use Rattle.scan_invariant.proofs.Common.{Refused, RuleMay, Blank, Kernel, State, put}
-use Rattle.scan_invariant.proofs.Common.{refused_first, Carries, same_word-other}
-use Rattle.scan_invariant.proofs.Common.{own_read-here, own_read-there, IsAlone}
-use Rattle.scan_invariant.proofs.Common.{footprint_frames, is_one_of, marked_by, frame_mark}
-use Rattle.scan_invariant.proofs.Common.{frame_value, Trace, Open, phase, state_after, Step, last_left, own_read}
-use Rattle.scan_invariant.proofs.Common.{left_may, own_pages, Acquired, dues, next_work, comp_dues, refuse, CompMaking, CompAt}
-use Rattle.scan_invariant.proofs.Common.{Act, Goes, landed, Core, ActiveCall, Undecided, names_on}
-use Rattle.scan_invariant.proofs.Common.{counts_on, spot_on, holds_counts, settled_by, keeps, phase_at, due_of}
-use Rattle.scan_invariant.proofs.Common.{KnowsUndecided, KnowsComp, KnowsCompAt, blank_word, holds_at, holds_in, Invariant}
-use Rattle.scan_invariant.proofs.Common.{holds, held_by, holds_comp, as_none, counts_bare, exclusive_elsewhere}
-use Rattle.std.specs.Prelude.{if◌then◌else◌, List}
-use Rattle.std.proofs.Common.{is_some}
-use Rattle.state_laws.specs.spk_nums.specs.declared.kinds.FrameKind.TheVariants.{Untyped as FrameUntyped, User as FrameUser}
-use Rattle.state_laws.specs.spk_nums.specs.declared.kinds.FrameKind.TheVariants.{Kernel as FrameKernel}
-use Rattle.state_laws.specs.spk_nums.specs.declared.kinds.Obj.TheVariants as obj
-use Rattle.state_laws.specs.spk_nums.specs.declared.replies.Reply.TheVariants as reply
+use Rattle.scan_invariant.specs.step_ways.proofs as low
+use low.{◌≡◌, ◌≤◌, Bool, true, false, cond, Option, Some, None, refl, ℕ, ◌<◌, ◌^◌, ◌==◌, arith, ◌≢◌, ◌+◌, sym, ◌&&◌, [], ◌∷◌, ◌++◌, length}
+use low.{ap, ◌∙◌, subst, inl, inr, not, map, lt-ltb, eqb-true, eqb-false, eq-eqb, Setting, IsSetting, left_if, FrameKind, Obj}
+use low.{frame_of_word, FrameFits, word_of_frame, FrameWord, same_same, left_of, word_of, LoadOf, Move, CompareOf, EntryAt, FrameAt}
+use low.{put_same, Target, alone, rule_of, change_of, are_calls_spent, is_frame, is_blank, Refused, RuleMay, Blank, Kernel, State, put}
+use low.{refused_first, Carries, same_word-other, own_read-here, own_read-there, IsAlone, footprint_frames, is_one_of, marked_by}
+use low.{frame_mark, frame_value, Trace, Open, phase, state_after, Step, last_left, own_read, left_may, own_pages, Acquired, dues}
+use low.{next_work, comp_dues, refuse, CompMaking, CompAt, Act, Goes, landed, Core, ActiveCall, Undecided, names_on, counts_on, spot_on}
+use low.{holds_counts, settled_by, keeps, phase_at, due_of, KnowsUndecided, KnowsComp, KnowsCompAt, holds_at, holds_in, Invariant, holds}
+use low.{held_by, holds_comp, as_none, counts_bare, exclusive_elsewhere, if◌then◌else◌, List, is_some, MakeComp as comp_act, spares_other}
+use low.{blank_is, decides_on, step_to, OnlyLooks, next_at, loads_on, IsOfCall, core_in_call, inner, call_is, core_is, GoodTook, ticks_at}
+use low.{refuses_busy, refuses_raced, not_spent, plan_for, Reply, Refusal}
+use Rattle.scan_invariant.specs.count_invariant.proofs.{knows_next, next_holds, IsCompCall, makes_comp_on, comp_changes}
+use Rattle.scan_invariant.specs.act_states.specs.{comp_marks, comp_meets, comp_meets_object, comp_meets_blank}
+use Rattle.scan_invariant.specs.stage_tcap.specs.{Untyped as FrameUntyped, User as FrameUser, Kernel as FrameKernel}
+use Rattle.scan_invariant.specs.place_invariant.proofs.{vacant_slot, vacant_here, stands_alone}
+use Rattle.scan_invariant.specs.core_invariant.specs.Acting.{blank_word, HasBlank}
+use Rattle.scan_invariant.specs.act_states.specs.{Comps.comp_meets_kernel, Makings.marked, declared.comps.CompAt.TheVariants.Load}
+use Rattle.scan_invariant.specs.act_states.specs.{declared.comps.CompAt.TheVariants.Mark, declared.comps.CompAt.TheVariants.LoadLive}
+use Rattle.scan_invariant.specs.act_states.specs.{declared.work.Act.Act as ActOf}
+use Rattle.scan_invariant.specs.count_invariant.proofs.CompCounts.{comp_footprint}
+use Rattle.frame_invariant.proofs.Makes.{made_looks, not_blank_by, not_kernel_by, marked_fits}
 use Rattle.scan_invariant.specs.entry_words.specs.declared.entry.Entry.TheVariants as entry
 use Rattle.scan_invariant.specs.frame_words.proofs.FrameLemmas as frames
-use Rattle.scan_invariant.specs.act_states.specs.Acts.{comp_marks}
-use Rattle.scan_invariant.specs.act_states.specs.Comps.{comp_meets, comp_meets_object, comp_meets_blank, comp_meets_kernel}
-use Rattle.scan_invariant.specs.act_states.specs.Makings.{marked}
-use Rattle.scan_invariant.specs.act_states.specs.declared.comps.CompAt.TheVariants.{Load, Mark, LoadLive}
-use Rattle.scan_invariant.specs.act_states.specs.declared.refusals.Refusal.TheVariants as refusal
-use Rattle.scan_invariant.specs.act_states.specs.declared.work.Act.{Act as ActOf}
-use Rattle.scan_invariant.specs.act_states.specs.declared.work.Act.TheVariants.{MakeComp as comp_act}
 use Rattle.scan_invariant.specs.step_ways.proofs.Counting as counting
-use Rattle.scan_invariant.specs.step_ways.proofs.Good.{spares_other, blank_is}
-use Rattle.scan_invariant.specs.step_ways.proofs.Loads.{decides_on, step_to, OnlyLooks, next_at, loads_on, IsOfCall, core_in_call, inner}
-use Rattle.scan_invariant.specs.step_ways.proofs.Loads.{call_is, core_is}
-use Rattle.scan_invariant.specs.step_ways.proofs.Refusals.{GoodTook, ticks_at, refuses_busy, refuses_raced, not_spent}
-use Rattle.scan_invariant.specs.core_invariant.specs.Knows.{HasBlank}
-use Rattle.scan_invariant.specs.count_invariant.proofs.Acquiring.{knows_next, next_holds}
-use Rattle.scan_invariant.specs.count_invariant.proofs.CompCounts.{IsCompCall, makes_comp_on, comp_changes, comp_footprint}
-use Rattle.scan_invariant.specs.place_invariant.proofs.Outside.{vacant_slot, vacant_here, stands_alone}
 use Rattle.comp_invariant.proofs.CompCalls as calls
-use Rattle.frame_invariant.proofs.Makes.{made_looks, not_blank_by, not_kernel_by, marked_fits}
-use Rattle.scan_invariant.specs.act_states.specs.call_plans.specs.PlanOf.{plan_for}
 
 module _ (setup : Setting) (setting : IsSetting setup) (cores : ℕ → Core) (t : Trace) (stands : Invariant setup cores t) (c : ℕ)
     (here : c < setup.cores)
@@ -132,7 +115,7 @@ module _ (setup : Setting) (setting : IsSetting setup) (cores : ℕ → Core) (t
         none_of (x ∷ xs) h = absurd (cc)
 
     marked_good : (d : ℕ) → marked_by setup t (FrameAt f) ≡ Some d
-        → GoodTook setup cores t c (LoadOf (FrameAt f)) (landed a (refuse (refusal.Busy d)))
+        → GoodTook setup cores t c (LoadOf (FrameAt f)) (landed a (refuse (Refusal.Busy d)))
     marked_good d mark = refuses_busy setup setting cores t stands c here a active opens held_is room (LoadOf (FrameAt f)) loading
         (ap ticks_at stage_is) d
         (ap (λ (xs : List Acquired). (holds_counts None xs).marks (FrameAt f)) no_counts) mark tt
@@ -141,29 +124,29 @@ module _ (setup : Setting) (setting : IsSetting setup) (cores : ℕ → Core) (t
     target = calls.target setup setting cores t stands c here a active m stage_is has
 
     -- the frame is not blank
-    kind_good : is_blank (s.frame f) ≡ false → GoodTook setup cores t c (LoadOf (FrameAt f)) (landed a (refuse refusal.FrameKind))
+    kind_good : is_blank (s.frame f) ≡ false → GoodTook setup cores t c (LoadOf (FrameAt f)) (landed a (refuse Refusal.FrameKind))
     kind_good other lands =
         let unspent : are_calls_spent s c ≡ false = not_spent setup (cores c) t c
         (core_is setup setting cores t stands c here a active) room in
-        decides_on setup setting cores t stands c here a active (LoadOf (FrameAt f)) reply.FrameKind a.found loading lands (sym held_is)
+        decides_on setup setting cores t stands c here a active (LoadOf (FrameAt f)) Reply.FrameKind a.found loading lands (sym held_is)
         opens
         refl refl
         (λ x. refl) (λ x. refl) refl (unspent, may) tt
-        (λ is_alone. refused_first s c a.call reply.FrameKind has.acts unspent (first is_alone))
+        (λ is_alone. refused_first s c a.call Reply.FrameKind has.acts unspent (first is_alone))
       where
         stands_so : (is_frame s f && not (is_blank (s.frame f))) ≡ true
         stands_so = ap (λ b. b && not (is_blank (s.frame f)))
             (lt-ltb f s.limits.frames (calls.below setup setting cores t stands c here a active m stage_is has)) ∙ ap (λ b. not b) other
 
-        may : RuleMay s c (rule_of s c a.call) reply.FrameKind
+        may : RuleMay s c (rule_of s c a.call) Reply.FrameKind
         may = left_may s c (own_pages s c) (plan_for a.call) (rule_of s c a.call) a.found
             (calls.by_plan setup setting cores t stands c here a active m stage_is has)
-            (calls.leads setup setting cores t stands c here a active m stage_is has) reply.FrameKind
-            (subst (λ x. RuleMay s c x reply.FrameKind) (sym (calls.left setup setting cores t stands c here a active m stage_is has))
+            (calls.leads setup setting cores t stands c here a active m stage_is has) Reply.FrameKind
+            (subst (λ x. RuleMay s c x Reply.FrameKind) (sym (calls.left setup setting cores t stands c here a active m stage_is has))
             (inr (inr (inl (stands_so, refl)))))
 
-        first : IsAlone t (step_to c None (LoadOf (FrameAt f)) was (Some reply.FrameKind) None)
-            → change_of s c a.call ≡ Refused reply.FrameKind
+        first : IsAlone t (step_to c None (LoadOf (FrameAt f)) was (Some Reply.FrameKind) None)
+            → change_of s c a.call ≡ Refused Reply.FrameKind
         first alone = calls.by_blank setup setting cores t stands c here a active m stage_is has
             (vacant_slot s c target (record { node = node; index = index })
             (calls.reached_is setup setting cores t stands c here a active m stage_is has)
@@ -171,7 +154,7 @@ module _ (setup : Setting) (setting : IsSetting setup) (cores : ℕ → Core) (t
             (calls.fits_in setup setting cores t stands c here a active m stage_is has).fill.entry
             (calls.leaf setup setting cores t stands c here a active m stage_is has)
             (stands_alone setup t c node index m.fill.word knows.spot.own
-            (LoadOf (FrameAt f)) reply.FrameKind alone)).vacant) false other
+            (LoadOf (FrameAt f)) Reply.FrameKind alone)).vacant) false other
 
     -- it is blank
     blank_good : frame_of_word was ≡ Some blank_word
@@ -215,14 +198,14 @@ module _ (setup : Setting) (setting : IsSetting setup) (cores : ℕ → Core) (t
 
             blank_or : (o : Obj) → v ≡ record { kind = FrameKernel; object = o; mark = None } → frame_value (s.frame f) ≡ v
                 → GoodTook setup cores t c (LoadOf (FrameAt f)) (landed a (comp_meets_object m was o))
-            blank_or obj.Blank is same = blank_good (shown ∙ ap (λ (v : FrameWord). Some v) is)
-            blank_or obj.Table is same = kind_good (not_blank_by (s.frame f) obj.Table (ap (λ v. v.object) (same ∙ is)) (λ h. cc))
-            blank_or obj.Leaf is same = kind_good (not_blank_by (s.frame f) obj.Leaf (ap (λ v. v.object) (same ∙ is)) (λ h. cc))
-            blank_or obj.Pages is same = kind_good (not_blank_by (s.frame f) obj.Pages (ap (λ v. v.object) (same ∙ is)) (λ h. cc))
-            blank_or obj.Pleaf is same = kind_good (not_blank_by (s.frame f) obj.Pleaf (ap (λ v. v.object) (same ∙ is)) (λ h. cc))
-            blank_or obj.Comp is same = kind_good (not_blank_by (s.frame f) obj.Comp (ap (λ v. v.object) (same ∙ is)) (λ h. cc))
-            blank_or obj.Thread is same = kind_good (not_blank_by (s.frame f) obj.Thread (ap (λ v. v.object) (same ∙ is)) (λ h. cc))
-            blank_or obj.Tcap is same = kind_good (not_blank_by (s.frame f) obj.Tcap (ap (λ v. v.object) (same ∙ is)) (λ h. cc))
+            blank_or Obj.Blank is same = blank_good (shown ∙ ap (λ (v : FrameWord). Some v) is)
+            blank_or Obj.Table is same = kind_good (not_blank_by (s.frame f) Obj.Table (ap (λ v. v.object) (same ∙ is)) (λ h. cc))
+            blank_or Obj.Leaf is same = kind_good (not_blank_by (s.frame f) Obj.Leaf (ap (λ v. v.object) (same ∙ is)) (λ h. cc))
+            blank_or Obj.Pages is same = kind_good (not_blank_by (s.frame f) Obj.Pages (ap (λ v. v.object) (same ∙ is)) (λ h. cc))
+            blank_or Obj.Pleaf is same = kind_good (not_blank_by (s.frame f) Obj.Pleaf (ap (λ v. v.object) (same ∙ is)) (λ h. cc))
+            blank_or Obj.Comp is same = kind_good (not_blank_by (s.frame f) Obj.Comp (ap (λ v. v.object) (same ∙ is)) (λ h. cc))
+            blank_or Obj.Thread is same = kind_good (not_blank_by (s.frame f) Obj.Thread (ap (λ v. v.object) (same ∙ is)) (λ h. cc))
+            blank_or Obj.Tcap is same = kind_good (not_blank_by (s.frame f) Obj.Tcap (ap (λ v. v.object) (same ∙ is)) (λ h. cc))
 
         by_kind : (v : FrameWord) → frame_of_word was ≡ Some v → v.mark ≡ None → (k : FrameKind) → v.kind ≡ k
             → GoodTook setup cores t c (LoadOf (FrameAt f)) (landed a (comp_meets_kernel m was k v.object))

@@ -1,56 +1,45 @@
 -- The steps by which the making of a component takes its liveness number: the load of the number's word, the scan for a number that has
 -- died, and what refuses them.
-use Rattle.scan_invariant.proofs.Common.{◌≡◌, ◌≤◌, Bool, true, false, Option, Some, None, refl, ℕ, ◌<◌, ◌^◌, ◌==◌, arith, ◌≢◌, ◌+◌, sym}
-use Rattle.scan_invariant.proofs.Common.{nat_lt, ◌&&◌, [], ◌∷◌, ◌++◌, ap, ◌∙◌, subst, IsTrue, inl, inr, map, ◌⊎◌, nat_le, if◌then◌else◌}
-use Rattle.scan_invariant.proofs.Common.{List, ◌||◌, false≢true, ltb-false, eq-eqb, leb-true, leb-false, ltb-true, Setting, IsSetting}
-use Rattle.scan_invariant.proofs.Common.{Reply, same_same, word_of, LoadOf, Move, EntryAt, FrameAt, CoreAt, LiveAt, Slot, alone, rule_of}
-use Rattle.scan_invariant.proofs.Common.{are_calls_spent, epoch_of, first_of, waits_of, vacant, Found, Blank, Kernel, State, Thing}
-use Rattle.scan_invariant.proofs.Common.{NumberOf, Unused, Live, Dead, Liveness, refused_first, nobody_waits, Carries, was_now}
-use Rattle.scan_invariant.proofs.Common.{own_read-here, own_read-there, IsAlone, IsRemoved, marked_by, live_mark, stamp, exit_of}
-use Rattle.scan_invariant.proofs.Common.{awaits_flushes, begins_at, ends_at, Trace, Open, phase, state_after, Step, last_left, own_read}
-use Rattle.scan_invariant.proofs.Common.{own_pages, Acquired, comp_dues, comp_due_list, CompMaking, CompAt, Unmark, Act, Scan, landed}
-use Rattle.scan_invariant.proofs.Common.{Core, ActiveCall, Undecided, names_on, spot_on, holds_counts, settled_by, keeps, phase_at}
-use Rattle.scan_invariant.proofs.Common.{due_of, KnowsUndecided, KnowsComp, KnowsCompAt, IsScanned, KnowsUnmark, HasFlushed, holds_in}
-use Rattle.scan_invariant.proofs.Common.{Invariant, holds, held_by, holds_comp, NumberIs, list_any, core_of_word, CoreWord, same_thing}
-use Rattle.scan_invariant.proofs.Common.{MayWait, waited_in, asked_of, not_inside, out_passed, later_passed, may_wait, Quiet, AtCore}
-use Rattle.scan_invariant.proofs.Common.{next_other, core_scan, flush_scan, core_refuses, scan_end, scan_after, quiet_next, quiet_end}
-use Rattle.scan_invariant.proofs.Common.{quiet_after, quiet_scan, limits_of, live_of_word, LiveWord}
-use Rattle.std.specs.Prelude.{if◌then◌else◌, List, ◌==◌, ◌||◌}
+use Rattle.scan_invariant.specs.step_ways.proofs.{◌≡◌, ◌≤◌, Bool, true, false, Option, Some, None, refl, ℕ, ◌<◌, ◌^◌, ◌==◌, arith, ◌≢◌, ◌+◌}
+use Rattle.scan_invariant.specs.step_ways.proofs.{sym, ltb as nat_lt, ◌&&◌, [], ◌∷◌, ◌++◌, ap, ◌∙◌, subst, IsTrue, inl, inr, map, ◌⊎◌}
+use Rattle.scan_invariant.specs.step_ways.proofs.{leb as nat_le, if◌then◌else◌, List, ◌||◌, false≢true, ltb-false, eq-eqb, leb-true}
+use Rattle.scan_invariant.specs.step_ways.proofs.{leb-false, ltb-true, Setting, IsSetting, Reply, same_same, word_of, LoadOf, Move, EntryAt}
+use Rattle.scan_invariant.specs.step_ways.proofs.{FrameAt, CoreAt, LiveAt, Slot, alone, rule_of, are_calls_spent, first_of, vacant, Found}
+use Rattle.scan_invariant.specs.step_ways.proofs.{Blank, Kernel, State, Thing, NumberOf, Unused, Live, Dead, Liveness, refused_first}
+use Rattle.scan_invariant.specs.step_ways.proofs.{Carries, was_now, own_read-here, own_read-there, IsAlone, IsRemoved, marked_by, live_mark}
+use Rattle.scan_invariant.specs.step_ways.proofs.{stamp, exit_of, begins_at, ends_at, Trace, Open, phase, state_after, Step, last_left}
+use Rattle.scan_invariant.specs.step_ways.proofs.{own_read, own_pages, Acquired, comp_dues, comp_due_list, CompMaking, CompAt, Unmark, Act}
+use Rattle.scan_invariant.specs.step_ways.proofs.{landed, Core, ActiveCall, Undecided, names_on, spot_on, holds_counts, settled_by, keeps}
+use Rattle.scan_invariant.specs.step_ways.proofs.{phase_at, due_of, KnowsUndecided, KnowsComp, KnowsCompAt, KnowsUnmark, HasFlushed}
+use Rattle.scan_invariant.specs.step_ways.proofs.{holds_in, Invariant, holds, held_by, holds_comp, NumberIs, core_of_word, same_thing}
+use Rattle.scan_invariant.specs.step_ways.proofs.{not_inside, Quiet, AtCore, core_scan, scan_end, scan_after, quiet_next, quiet_end}
+use Rattle.scan_invariant.specs.step_ways.proofs.{quiet_after, quiet_scan, limits_of, live_of_word, LiveWord, Close, MakeComp as comp_act}
+use Rattle.scan_invariant.specs.step_ways.proofs.{step_to, OnlyLooks, loads_on, IsOfCall, inner, call_is, core_is, decides_with, GoodTook}
+use Rattle.scan_invariant.specs.step_ways.proofs.{ticks_at, not_spent, plan_for, Refusal}
+use Rattle.scan_invariant.specs.act_states.specs.{CoreWord, next_other, flush_scan, comp_goes, comp_refuses, takes_number, scans_number}
+use Rattle.scan_invariant.specs.act_states.specs.{number_met, number_shown, number_scanned, CompAtFits}
+use Rattle.scan_invariant.specs.kernel_history.specs.{epoch_of, awaits_flushes, waited_in, asked_of, looks_at_numbers, GraceIs}
+use Rattle.scan_invariant.specs.count_invariant.proofs.{IsCompCall, makes_comp_on, comp_changes, comp_argument, number_footprint}
+use Rattle.scan_invariant.proofs.{ScanBegins, AtCores, AtFlushes, scan_begins, scan_none}
+use Rattle.scan_invariant.specs.trace_laws.proofs.{nobody_waits, out_passed, later_passed, may_wait, was_before}
+use Rattle.scan_invariant.specs.core_invariant.specs.{IsScanned, HasPassed, SaysBlank, MayTake}
+use Rattle.scan_invariant.specs.place_invariant.proofs.{vacant_slot, vacant_here, stands_alone, none_waits}
+use Rattle.state_laws.specs.kernel_rules.specs.{waits_of, MayWait, is_live}
+use Rattle.scan_invariant.specs.act_states.specs.{declared.comps.CompAt.TheVariants.Scan, declared.comps.LastEpoch.LastEpoch}
+use Rattle.scan_invariant.specs.kernel_history.specs.{Justified.IsDeadNumber, Ways.thing_at}
+use Rattle.comp_invariant.proofs.LaterEvents.{IsSpent, spent_at, spent_now}
+use Rattle.{scan_invariant.specs.count_invariant.proofs.blank_left, std.specs.List.list_any}
+use Rattle.{scan_invariant.specs.stage_quiet.specs.Scan.core_refuses, scan_invariant.specs.trace_laws.proofs.Carries.IsDeadIn}
+use Rattle.{scan_invariant.specs.plan_ways.proofs.Ways.asked_left, scan_invariant.specs.kept_facts.proofs.Carries.number_on}
+use Rattle.{scan_invariant.specs.step_ways.proofs.Refusals.busy_leaving, scan_invariant.specs.core_invariant.specs.Acting.ScansNumber}
+use Rattle.{scan_invariant.proofs.Scans.before_next}
 use Rattle.state_laws.specs.spk_nums.specs.declared.kinds.Obj.TheVariants as obj
-use Rattle.state_laws.specs.spk_nums.specs.declared.replies.Reply.TheVariants as reply
 use Rattle.scan_invariant.specs.entry_words.specs.declared.entry.Entry.TheVariants as entry
 use Rattle.scan_invariant.specs.frame_words.proofs.FrameLemmas as frames
-use Rattle.state_laws.specs.kernel_rules.specs.CapabilityCalls.{is_live}
-use Rattle.scan_invariant.specs.trace_laws.proofs.Carries.{was_before, IsDeadIn}
-use Rattle.scan_invariant.specs.kernel_history.specs.Discipline.{looks_at_numbers}
-use Rattle.scan_invariant.specs.kernel_history.specs.Justified.{IsDeadNumber}
-use Rattle.scan_invariant.specs.plan_ways.proofs.Ways.{asked_left}
-use Rattle.scan_invariant.specs.act_states.specs.Comps.{comp_goes, comp_refuses, takes_number}
-use Rattle.scan_invariant.specs.act_states.specs.Comps.{scans_number, number_met, number_shown, number_scanned, CompAtFits}
-use Rattle.scan_invariant.specs.act_states.specs.declared.comps.CompAt.TheVariants.{Scan, Close}
-use Rattle.scan_invariant.specs.act_states.specs.declared.refusals.Refusal.TheVariants as refusal
-use Rattle.scan_invariant.specs.act_states.specs.declared.work.Act.TheVariants.{MakeComp as comp_act}
-use Rattle.scan_invariant.specs.kept_facts.proofs.Carries.{number_on}
 use Rattle.scan_invariant.specs.step_ways.proofs.Counting as counting
-use Rattle.scan_invariant.specs.step_ways.proofs.Loads.{step_to, OnlyLooks, loads_on, IsOfCall, inner, call_is, core_is, decides_with}
-use Rattle.scan_invariant.specs.step_ways.proofs.Refusals.{GoodTook, ticks_at, not_spent, busy_leaving}
-use Rattle.scan_invariant.specs.core_invariant.specs.Knows.{HasPassed}
-use Rattle.scan_invariant.specs.core_invariant.specs.Knows.{SaysBlank, MayTake, ScansNumber}
-use Rattle.scan_invariant.specs.count_invariant.proofs.CompCounts.{IsCompCall, makes_comp_on, comp_changes, comp_argument, number_footprint}
-use Rattle.scan_invariant.specs.place_invariant.proofs.Outside.{vacant_slot, vacant_here, stands_alone}
 use Rattle.comp_invariant.proofs.CompCalls as calls
 use Rattle.state_laws.specs.kernel_rules.specs.Rules as rules
-use Rattle.scan_invariant.specs.kernel_history.specs.Ways.{thing_at}
-use Rattle.scan_invariant.proofs.Scans.{ScanBegins, AtCores, AtFlushes, before_next, scan_begins, scan_none}
-use Rattle.scan_invariant.specs.frame_words.specs.declared.live_word.LiveWord.TheVariants as live_word
 use Rattle.scan_invariant.specs.frame_words.proofs.LiveLemmas as lives
-use Rattle.scan_invariant.specs.act_states.specs.declared.kills.KillingAt.TheVariants.{Close}
-use Rattle.scan_invariant.specs.act_states.specs.declared.comps.LastEpoch.{LastEpoch}
-use Rattle.scan_invariant.specs.count_invariant.proofs.MakingCounts.{blank_left}
-use Rattle.scan_invariant.specs.place_invariant.proofs.Vacancy.{none_waits}
-use Rattle.comp_invariant.proofs.LaterEvents.{IsSpent, spent_at, spent_now}
-use Rattle.scan_invariant.specs.kernel_history.specs.Graces.{GraceIs}
-use Rattle.scan_invariant.specs.act_states.specs.call_plans.specs.PlanOf.{plan_for}
 
 -- A liveness number waits for no flush.
 number_awaits : (setup : Setting) (t : Trace) (l : ℕ) → awaits_flushes setup t (NumberOf l) ≡ false
@@ -79,26 +68,26 @@ no_number fate [] l = refl
 no_number fate (x ∷ xs) l = no_number fate xs l
 
 -- A word without a mark says what the number is.
-pub free_number : (p : Liveness) (r : ℕ) (o : Option LiveWord) → NumberIs p r o → o ≡ Some live_word.Free → p ≡ Unused
+pub free_number : (p : Liveness) (r : ℕ) (o : Option LiveWord) → NumberIs p r o → o ≡ Some LiveWord.Free → p ≡ Unused
 free_number Unused r o is shows = refl
 free_number (Live e f) r o is shows = absurd (not_free (sym is ∙ shows))
   where
-    not_free : Some (live_word.Live e f) ≡ Some live_word.Free → ⊥
+    not_free : Some (LiveWord.Live e f) ≡ Some LiveWord.Free → ⊥
     not_free h = cc
 free_number (Dead e) r o is shows = absurd (not_free (sym is.says ∙ shows))
   where
-    not_free : Some (live_word.Dead e r) ≡ Some live_word.Free → ⊥
+    not_free : Some (LiveWord.Dead e r) ≡ Some LiveWord.Free → ⊥
     not_free h = cc
 
-live_number : (p : Liveness) (r e f : ℕ) (o : Option LiveWord) → NumberIs p r o → o ≡ Some (live_word.Live e f) → is_live p ≡ true
+live_number : (p : Liveness) (r e f : ℕ) (o : Option LiveWord) → NumberIs p r o → o ≡ Some (LiveWord.Live e f) → is_live p ≡ true
 live_number Unused r e f o is shows = absurd (not_live (sym is ∙ shows))
   where
-    not_live : Some live_word.Free ≡ Some (live_word.Live e f) → ⊥
+    not_live : Some LiveWord.Free ≡ Some (LiveWord.Live e f) → ⊥
     not_live h = cc
 live_number (Live d g) r e f o is shows = refl
 live_number (Dead d) r e f o is shows = absurd (not_live (sym is.says ∙ shows))
   where
-    not_live : Some (live_word.Dead d r) ≡ Some (live_word.Live e f) → ⊥
+    not_live : Some (LiveWord.Dead d r) ≡ Some (LiveWord.Live e f) → ⊥
     not_live h = cc
 
 -- It is dead since this stamp.
@@ -107,26 +96,26 @@ pub record IsDeadSince (p : Liveness) (r e x : ℕ) : Type 0 where
   pub same : r ≡ x
   pub drawn : 1 ≤ x
 
-pub dead_number : (p : Liveness) (r e x : ℕ) (o : Option LiveWord) → NumberIs p r o → o ≡ Some (live_word.Dead e x) → IsDeadSince p r e x
+pub dead_number : (p : Liveness) (r e x : ℕ) (o : Option LiveWord) → NumberIs p r o → o ≡ Some (LiveWord.Dead e x) → IsDeadSince p r e x
 dead_number Unused r e x o is shows = absurd (not_dead (sym is ∙ shows))
   where
-    not_dead : Some live_word.Free ≡ Some (live_word.Dead e x) → ⊥
+    not_dead : Some LiveWord.Free ≡ Some (LiveWord.Dead e x) → ⊥
     not_dead h = cc
 dead_number (Live d g) r e x o is shows = absurd (not_dead (sym is ∙ shows))
   where
-    not_dead : Some (live_word.Live d g) ≡ Some (live_word.Dead e x) → ⊥
+    not_dead : Some (LiveWord.Live d g) ≡ Some (LiveWord.Dead e x) → ⊥
     not_dead h = cc
 dead_number (Dead d) r e x o is shows =
     let both = same_dead (sym is.says ∙ shows) in let some = is.drawn in
     record { dead = ap (λ (n : ℕ). Dead n) both.0; same = both.1; drawn = (let q = both.1 in omega (arith, q, some)) }
   where
-    same_dead : Some (live_word.Dead d r) ≡ Some (live_word.Dead e x) → (d ≡ e) × (r ≡ x)
+    same_dead : Some (LiveWord.Dead d r) ≡ Some (LiveWord.Dead e x) → (d ≡ e) × (r ≡ x)
     same_dead h = (cc, cc)
 
 shows_none : (p : Liveness) (r : ℕ) (o : Option LiveWord) → NumberIs p r o → o ≡ None → ⊥
 shows_none Unused r o is none = absurd (cc)
 shows_none (Live d f) r o is none = absurd (cc)
-shows_none (Dead d) r o is none = not_none (live_word.Dead d r) (sym none ∙ is.says)
+shows_none (Dead d) r o is none = not_none (LiveWord.Dead d r) (sym none ∙ is.says)
   where
     not_none : (v : LiveWord) → None ≡ Some v → ⊥
     not_none v h = cc
@@ -203,38 +192,38 @@ module _ (setup : Setting) (setting : IsSetting setup) (cores : ℕ → Core) (t
 
   module _ (move : Move) (looks : OnlyLooks setup t c a.call move) where
     -- the number is live
-    occupied_good : is_live (s.number l) ≡ true → GoodTook setup cores t c move (landed a (comp_refuses m word refusal.Occupied))
+    occupied_good : is_live (s.number l) ≡ true → GoodTook setup cores t c move (landed a (comp_refuses m word Refusal.Occupied))
     occupied_good live lands =
-        decides_with setup setting cores t stands c here a active move reply.Occupied (Unmark m.frame word) a.found looks lands
+        decides_with setup setting cores t stands c here a active move Reply.Occupied (Unmark m.frame word) a.found looks lands
         (sym held_is) opens refl refl (λ x. refl) (λ x. refl) refl
-        (unspent, calls.may_refuse setup setting cores t stands c here a active m stage_is has reply.Occupied (inl (live, refl))) tt
-        (λ is_alone. refused_first s c a.call reply.Occupied has.acts unspent
-        (calls.by_taken setup setting cores t stands c here a active m stage_is has (vacant_alone move reply.Occupied is_alone) blank
-        (Some reply.Occupied)
-        (ap (λ b. first_of (if b then Some reply.Occupied else None) (first_of (waits_of s c thing)
-        (first_of (if epoch_of (s.number l) == s.limits.epochs then Some reply.EpochsSpent else None) None))) live)))
+        (unspent, calls.may_refuse setup setting cores t stands c here a active m stage_is has Reply.Occupied (inl (live, refl))) tt
+        (λ is_alone. refused_first s c a.call Reply.Occupied has.acts unspent
+        (calls.by_taken setup setting cores t stands c here a active m stage_is has (vacant_alone move Reply.Occupied is_alone) blank
+        (Some Reply.Occupied)
+        (ap (λ b. first_of (if b then Some Reply.Occupied else None) (first_of (waits_of s c thing)
+        (first_of (if epoch_of (s.number l) == s.limits.epochs then Some Reply.EpochsSpent else None) None))) live)))
         left
 
     -- its epochs are spent
     spent_good : IsSpent (s.number l) s.limits.epochs
-        → GoodTook setup cores t c move (landed a (comp_refuses m word refusal.EpochsSpent))
+        → GoodTook setup cores t c move (landed a (comp_refuses m word Refusal.EpochsSpent))
     spent_good spent lands =
-        decides_with setup setting cores t stands c here a active move reply.EpochsSpent (Unmark m.frame word) a.found looks lands
+        decides_with setup setting cores t stands c here a active move Reply.EpochsSpent (Unmark m.frame word) a.found looks lands
         (sym held_is) opens refl refl (λ x. refl) (λ x. refl) refl (
           unspent,
-          calls.may_refuse setup setting cores t stands c here a active m stage_is has reply.EpochsSpent
+          calls.may_refuse setup setting cores t stands c here a active m stage_is has Reply.EpochsSpent
               (inr (inr (inl (eq-eqb _ _ spent.last, refl)))),
         ) tt
-        (λ is_alone. refused_first s c a.call reply.EpochsSpent has.acts unspent
-        (calls.by_taken setup setting cores t stands c here a active m stage_is has (vacant_alone move reply.EpochsSpent is_alone) blank
-        (Some reply.EpochsSpent)
-        (ap (λ b. first_of (if b then Some reply.Occupied else None) (first_of (waits_of s c thing)
-        (first_of (if epoch_of (s.number l) == s.limits.epochs then Some reply.EpochsSpent else None) None))) spent.dead
-        ∙ ap (λ o. first_of o (first_of (if epoch_of (s.number l) == s.limits.epochs then Some reply.EpochsSpent else None) None))
+        (λ is_alone. refused_first s c a.call Reply.EpochsSpent has.acts unspent
+        (calls.by_taken setup setting cores t stands c here a active m stage_is has (vacant_alone move Reply.EpochsSpent is_alone) blank
+        (Some Reply.EpochsSpent)
+        (ap (λ b. first_of (if b then Some Reply.Occupied else None) (first_of (waits_of s c thing)
+        (first_of (if epoch_of (s.number l) == s.limits.epochs then Some Reply.EpochsSpent else None) None))) spent.dead
+        ∙ ap (λ o. first_of o (first_of (if epoch_of (s.number l) == s.limits.epochs then Some Reply.EpochsSpent else None) None))
         (none_waits s c thing (λ d below other. nobody_waits setup t
-        (step_to c None move (last_left setup t (word_of move)) (Some reply.EpochsSpent) None) stands.legal tt is_alone a.call is_open thing
+        (step_to c None move (last_left setup t (word_of move)) (Some Reply.EpochsSpent) None) stands.legal tt is_alone a.call is_open thing
         d))
-        ∙ ap (λ b. first_of (if b then Some reply.EpochsSpent else None) None) (eq-eqb _ _ spent.last))))
+        ∙ ap (λ b. first_of (if b then Some Reply.EpochsSpent else None) None) (eq-eqb _ _ spent.last))))
         left
 
     -- it goes on
@@ -277,7 +266,7 @@ module _ (setup : Setting) (setting : IsSetting setup) (cores : ℕ → Core) (t
       where
         by : (b : Bool) → nat_lt last.epoch m.epochs ≡ b
             → GoodTook setup cores t c move
-            (landed a (if b then comp_goes m (Close word last) else comp_refuses m word refusal.EpochsSpent))
+            (landed a (if b then comp_goes m (Close word last) else comp_refuses m word Refusal.EpochsSpent))
         by true low = goes_good (Close word last) refl refl there
             (λ carries. (
               says,
@@ -308,7 +297,7 @@ module _ (setup : Setting) (setting : IsSetting setup) (cores : ℕ → Core) (t
       bare (stands.words (LiveAt l))
 
   closing_good : (d : ℕ) → marked_by setup t (LiveAt l) ≡ Some d
-      → GoodTook setup cores t c (LoadOf (LiveAt l)) (landed a (comp_refuses m word (refusal.Busy d)))
+      → GoodTook setup cores t c (LoadOf (LiveAt l)) (landed a (comp_refuses m word (Refusal.Busy d)))
   closing_good d mark =
       busy_leaving setup setting cores t stands c here a active opens (Unmark m.frame word) (sym held_is) (λ e. left) room
       (LoadOf (LiveAt l)) looking (ap ticks_at stage_is) d
@@ -321,13 +310,13 @@ module _ (setup : Setting) (setting : IsSetting setup) (cores : ℕ → Core) (t
   read_here = own_read-here c (e (LoadOf (LiveAt l)) looking) t refl (LiveAt l) refl
       ∙ ap (λ b. if b then Some found_there else None) (eq-eqb found_there found_there refl)
 
-  free_good : live_of_word found_there ≡ Some live_word.Free
+  free_good : live_of_word found_there ≡ Some LiveWord.Free
       → GoodTook setup cores t c (LoadOf (LiveAt l)) (landed a (takes_number m word (record { word = found_there; epoch = 0 })))
   free_good shown = takes_good (LoadOf (LiveAt l)) looking (record { word = found_there; epoch = 0 }) there_apart
       (λ most. let some = setting.some_epoch in absurd (omega (arith, most, some)))
       (λ carries. (subst (MayTake setup (e (LoadOf (LiveAt l)) looking ∷ t) c l 0 setup.cores) (sym shown) refl, read_here))
 
-  module _ (d x : ℕ) (shown : live_of_word found_there ≡ Some (live_word.Dead d x)) where
+  module _ (d x : ℕ) (shown : live_of_word found_there ≡ Some (LiveWord.Dead d x)) where
     since : IsDeadSince (s.number l) (stamp setup t thing) d x
     since = dead_number (s.number l) (stamp setup t thing) d x (live_of_word found_there) (says_number (ap live_mark shown)) shown
 
@@ -391,11 +380,11 @@ module _ (setup : Setting) (setting : IsSetting setup) (cores : ℕ → Core) (t
     where
       by_number : (v : LiveWord) → live_of_word found_there ≡ Some v
           → GoodTook setup cores t c (LoadOf (LiveAt l)) (landed a (number_shown m word found_there v))
-      by_number live_word.Free shown = free_good shown
-      by_number (live_word.Live d f) shown = occupied_good (LoadOf (LiveAt l)) looking
+      by_number LiveWord.Free shown = free_good shown
+      by_number (LiveWord.Live d f) shown = occupied_good (LoadOf (LiveAt l)) looking
           (live_number (s.number l) (stamp setup t thing) d f (live_of_word found_there) (says_number (ap live_mark shown)) shown)
-      by_number (live_word.Closing d b) shown = closing_good b (ap live_mark shown)
-      by_number (live_word.Dead d x) shown = died_good d x shown
+      by_number (LiveWord.Closing d b) shown = closing_good b (ap live_mark shown)
+      by_number (LiveWord.Dead d x) shown = died_good d x shown
 
       by_word : (o : Option LiveWord) → live_of_word found_there ≡ o
           → GoodTook setup cores t c (LoadOf (LiveAt l)) (landed a (number_met m word found_there o))
@@ -445,7 +434,7 @@ module _ (setup : Setting) (setting : IsSetting setup) (cores : ℕ → Core) (t
       }
 
       abbrev decides : Step
-      decides = inner setup setting cores t stands c here a active load (Some (reply.Quiescing at)) None
+      decides = inner setup setting cores t stands c here a active load (Some (Reply.Quiescing at)) None
 
       asks : IsTrue (list_any (same_thing thing) (asked_of waited_in s c (rule_of s c a.call)))
       asks = subst (λ things. IsTrue (list_any (same_thing thing) things))
@@ -458,11 +447,11 @@ module _ (setup : Setting) (setting : IsSetting setup) (cores : ℕ → Core) (t
           (sym (calls.reached_is setup setting cores t stands c here a active m stage_is has))
           (ap (λ b. b || false) (eq-eqb l l refl))))
 
-      still_inside : GoodTook setup cores t c load (landed a (comp_refuses m word (refusal.Quiescing at)))
+      still_inside : GoodTook setup cores t c load (landed a (comp_refuses m word (Refusal.Quiescing at)))
       still_inside lands =
-          decides_with setup setting cores t stands c here a active load (reply.Quiescing at) (Unmark m.frame word) a.found core_looks
+          decides_with setup setting cores t stands c here a active load (Reply.Quiescing at) (Unmark m.frame word) a.found core_looks
           lands (sym held_is) opens refl refl (λ x. refl) (λ x. refl) refl
-          (unspent, calls.may_refuse setup setting cores t stands c here a active m stage_is has (reply.Quiescing at) (inr (inl waits)))
+          (unspent, calls.may_refuse setup setting cores t stands c here a active m stage_is has (Reply.Quiescing at) (inr (inl waits)))
           (record {
             thing = thing;
             asked = asks;
@@ -535,9 +524,9 @@ module _ (setup : Setting) (setting : IsSetting setup) (cores : ℕ → Core) (t
       where
         by_inside : (inside : Bool) → (s.core at).inside ≡ inside → (early : Bool) → nat_le (exit_of t at) x ≡ early
             → GoodTook setup cores t c load (landed a (number_scanned m word last
-            (scan_after (AtCore x by at page) (if inside && early then Some (reply.Quiescing at) else None)
+            (scan_after (AtCore x by at page) (if inside && early then Some (Reply.Quiescing at) else None)
             (quiet_next setup.cores (AtCore x by at page)))
-            (scan_end (if inside && early then Some (reply.Quiescing at) else None) (quiet_next setup.cores (AtCore x by at page)))))
+            (scan_end (if inside && early then Some (Reply.Quiescing at) else None) (quiet_next setup.cores (AtCore x by at page)))))
         by_inside false is early le = has_passed (out_passed setup t thing (stands.graces thing) at x is)
         by_inside true is true le = still_inside is (leb-true (exit_of t at) x le)
         by_inside true is false le = has_passed (later_passed setup t thing (stands.graces thing) at x (leb-false (exit_of t at) x le))

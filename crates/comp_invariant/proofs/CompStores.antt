@@ -1,53 +1,44 @@
 -- The steps of the making of a component from its number on: the compare that marks it, the stores of the words, a compare of the target
 -- that is lost; and the store that gives the number's word back.
-use Rattle.scan_invariant.proofs.Common.{◌≡◌, ◌≤◌, Bool, true, false, Option, Some, None, refl, ℕ, ◌<◌, ◌^◌, arith, ◌≢◌, ◌+◌, sym, nat_lt}
-use Rattle.scan_invariant.proofs.Common.{◌&&◌, ◌∷◌, ◌++◌, ap, ◌∙◌, subst, IsTrue, inl, inr, ◌⊎◌, eqb-true, eqb-false, ltb-false, cases_eq}
-use Rattle.scan_invariant.proofs.Common.{eq-eqb, Setting, IsSetting, left_if, Reply, word_of_entry, same_same, left_of, Move, StoreOf}
-use Rattle.scan_invariant.proofs.Common.{CompareOf, EntryAt, FrameAt, LiveAt, put_same, rule_of, Blank, Kernel, State, put}
-use Rattle.scan_invariant.proofs.Common.{PlaceOf, same_word-other, last_left-here, last_left-there, own_read-there}
-use Rattle.scan_invariant.proofs.Common.{changes_in_frame, changes_numbers, IsSlot, marked_by, mark_in_frame, live_mark, stamp, Trace}
-use Rattle.scan_invariant.proofs.Common.{Open, phase, state_after, Step, last_left, own_pages, Unmark, StoreLive, Act, GoesOn, landed}
-use Rattle.scan_invariant.proofs.Common.{went_with, went, Core, ActiveCall, Undecided, Decided, names_on, counts_on, spot_on}
-use Rattle.scan_invariant.proofs.Common.{holds_counts, Holding, settled_by, settled, keeps, phase_at, KnowsUndecided, KnowsUnmark}
-use Rattle.scan_invariant.proofs.Common.{KnowsComp, KnowsCompAt, holds_at, holds_in, Invariant, done_by, holds, held_by, holds_comp}
-use Rattle.scan_invariant.proofs.Common.{IsFrameWord, comp_dues, comp_due_list, CompMakingFits, CompMaking, CompAt}
-use Rattle.scan_invariant.proofs.Common.{live_of_word, LiveFits, word_of_live, LiveWord, as_none, counts_bare, may_keep, not_exclusive_word}
-use Rattle.scan_invariant.proofs.Common.{exclusive_elsewhere}
-use Rattle.std.specs.Prelude.{if◌then◌else◌, ◌==◌, ◌||◌}
-use Rattle.state_laws.specs.spk_nums.specs.declared.calls.Call.TheVariants.{Make as make_call}
+use Rattle.scan_invariant.specs.step_ways.proofs.{◌≡◌, ◌≤◌, Bool, true, false, Option, Some, None, refl, ℕ, ◌<◌, ◌^◌, arith, ◌≢◌, ◌+◌, sym}
+use Rattle.scan_invariant.specs.step_ways.proofs.{ltb as nat_lt, ◌&&◌, ◌∷◌, ◌++◌, ap, ◌∙◌, subst, IsTrue, inl, inr, ◌⊎◌, eqb-true}
+use Rattle.scan_invariant.specs.step_ways.proofs.{eqb-false, ltb-false, eq-eqb, Setting, IsSetting, left_if, Reply, word_of_entry}
+use Rattle.scan_invariant.specs.step_ways.proofs.{same_same, left_of, Move, StoreOf, CompareOf, EntryAt, FrameAt, LiveAt, put_same, rule_of}
+use Rattle.scan_invariant.specs.step_ways.proofs.{Blank, Kernel, State, put, PlaceOf, same_word-other, last_left-here, last_left-there}
+use Rattle.scan_invariant.specs.step_ways.proofs.{own_read-there, changes_in_frame, marked_by, mark_in_frame, live_mark, stamp, Trace, Open}
+use Rattle.scan_invariant.specs.step_ways.proofs.{phase, state_after, Step, last_left, own_pages, Unmark, StoreLive, Act, GoesOn, landed}
+use Rattle.scan_invariant.specs.step_ways.proofs.{went_with, went, Core, ActiveCall, Undecided, Decided, names_on, counts_on, spot_on}
+use Rattle.scan_invariant.specs.step_ways.proofs.{holds_counts, Holding, settled_by, settled, keeps, phase_at, KnowsUndecided, KnowsUnmark}
+use Rattle.scan_invariant.specs.step_ways.proofs.{KnowsComp, KnowsCompAt, holds_at, holds_in, Invariant, done_by, holds, held_by}
+use Rattle.scan_invariant.specs.step_ways.proofs.{holds_comp, IsFrameWord, comp_dues, comp_due_list, CompMaking, CompAt, live_of_word}
+use Rattle.scan_invariant.specs.step_ways.proofs.{word_of_live, LiveWord, as_none, counts_bare, may_keep, not_exclusive_word}
+use Rattle.scan_invariant.specs.step_ways.proofs.{exclusive_elsewhere, if◌then◌else◌, ◌==◌, ◌||◌, Make as make_call, MakeComp as comp_act}
+use Rattle.scan_invariant.specs.step_ways.proofs.{spares_other, IsOfCall, core_in_call, inner, call_is, GoodTook, ticks_at, raced_leaving}
+use Rattle.scan_invariant.specs.step_ways.proofs.{plan_for, Entry}
+use Rattle.scan_invariant.specs.count_invariant.proofs.{footprint_way, blank_left, IsCompCall, makes_comp_on, comp_changes, comp_argument}
+use Rattle.scan_invariant.specs.act_states.specs.{CompMakingFits, comp_goes, CompAtFits, comp_word_at, closes_number, comp_published}
+use Rattle.scan_invariant.specs.core_invariant.specs.{SaysBlank, MayTake, KnowsLive}
+use Rattle.scan_invariant.specs.kernel_history.specs.{changes_numbers, IsSlot}
+use Rattle.scan_invariant.specs.frame_words.specs.{LiveFits, word_of_comp}
+use Rattle.scan_invariant.specs.step_ways.proofs.{Good.spares_blank, Writes.stores_on}
+use Rattle.scan_invariant.specs.core_invariant.specs.Acting.{TakesNumber, HasWords}
+use Rattle.scan_invariant.specs.place_invariant.proofs.Fills.{target_way, changes_node}
+use Rattle.scan_invariant.specs.act_states.specs.declared.comps.CompAt.TheVariants.{Close, Store, Fill}
+use Rattle.scan_invariant.specs.count_invariant.proofs.CompCounts.{comp_places, comp_numbers, comp_footprint}
+use Rattle.{scan_invariant.specs.count_invariant.proofs.number_footprint, std.proofs.lemmas.Bool.cases_eq}
+use Rattle.{scan_invariant.specs.plan_ways.proofs.Ways.next_on_way, scan_invariant.specs.plan_ways.specs.Laws.NextPlace}
+use Rattle.{scan_invariant.specs.kept_facts.proofs.Carries.takes_on, scan_invariant.specs.act_states.specs.Comps.comp_stored}
+use Rattle.{scan_invariant.specs.act_states.specs.declared.comps.LastEpoch.LastEpoch}
+use Rattle.{state_laws.specs.spk_nums.specs.declared.calls.Make.Make, comp_invariant.proofs.CompNumbers.no_number}
 use Rattle.state_laws.specs.spk_nums.specs.declared.kinds.Obj.TheVariants as obj
 use Rattle.state_laws.specs.spk_nums.specs.declared.replies.Reply.TheVariants as reply
-use Rattle.scan_invariant.specs.entry_words.specs.declared.entry.Entry.TheVariants as entry
 use Rattle.scan_invariant.specs.frame_words.proofs.FrameLemmas as frames
-use Rattle.scan_invariant.specs.plan_ways.proofs.Ways.{next_on_way}
-use Rattle.scan_invariant.specs.plan_ways.specs.Laws.{NextPlace}
 use Rattle.scan_invariant.specs.act_states.specs.declared.refusals.Refusal.TheVariants as refusal
-use Rattle.scan_invariant.specs.act_states.specs.declared.work.Act.TheVariants.{MakeComp as comp_act}
-use Rattle.scan_invariant.specs.kept_facts.proofs.Carries.{takes_on}
 use Rattle.scan_invariant.specs.step_ways.proofs.Counting as counting
-use Rattle.scan_invariant.specs.step_ways.proofs.Good.{spares_blank, spares_other}
-use Rattle.scan_invariant.specs.step_ways.proofs.Loads.{IsOfCall, core_in_call, inner, call_is}
-use Rattle.scan_invariant.specs.step_ways.proofs.Refusals.{GoodTook, ticks_at, raced_leaving}
-use Rattle.scan_invariant.specs.step_ways.proofs.Writes.{stores_on}
-use Rattle.scan_invariant.specs.core_invariant.specs.Knows.{SaysBlank, MayTake, TakesNumber, HasWords, KnowsLive}
-use Rattle.scan_invariant.specs.count_invariant.proofs.Lookups.{footprint_way}
-use Rattle.scan_invariant.specs.count_invariant.proofs.MakingCounts.{blank_left}
-use Rattle.scan_invariant.specs.place_invariant.proofs.Fills.{target_way, changes_node}
-use Rattle.scan_invariant.specs.act_states.specs.Comps.{comp_goes, CompAtFits}
-use Rattle.scan_invariant.specs.act_states.specs.Comps.{comp_word_at, comp_stored, closes_number, comp_published}
-use Rattle.scan_invariant.specs.act_states.specs.declared.comps.CompAt.TheVariants.{Close, Store, Fill}
-use Rattle.scan_invariant.specs.count_invariant.proofs.CompCounts.{IsCompCall, makes_comp_on, comp_changes, comp_argument}
-use Rattle.scan_invariant.specs.count_invariant.proofs.CompCounts.{number_footprint, comp_places, comp_numbers, comp_footprint}
 use Rattle.comp_invariant.proofs.CompCalls as calls
 use Rattle.state_laws.specs.kernel_rules.specs.Rules as rules
-use Rattle.scan_invariant.specs.frame_words.specs.declared.live_word.LiveWord.TheVariants as live_word
 use Rattle.scan_invariant.specs.frame_words.proofs.LiveLemmas as lives
-use Rattle.scan_invariant.specs.act_states.specs.declared.comps.LastEpoch.{LastEpoch}
-use Rattle.scan_invariant.specs.frame_words.specs.Comp.{word_of_comp}
-use Rattle.comp_invariant.proofs.CompNumbers.{no_number}
 use Rattle.scan_invariant.specs.frame_words.proofs.CompLemmas as comps
-use Rattle.state_laws.specs.spk_nums.specs.declared.calls.Make.TheVariants as make
-use Rattle.scan_invariant.specs.act_states.specs.call_plans.specs.PlanOf.{plan_for}
 
 none_some : (d : ℕ) → None ≡ Some d → ⊥
 none_some d h = cc
@@ -75,7 +66,7 @@ module _ (setup : Setting) (setting : IsSetting setup) (cores : ℕ → Core) (t
   was = last_left setup t (LiveAt l)
 
   abbrev closing : ℕ
-  closing = word_of_live (live_word.Closing last.epoch m.core)
+  closing = word_of_live (LiveWord.Closing last.epoch m.core)
 
   abbrev close_it : Move
   close_it = CompareOf (LiveAt l) last.word closing
@@ -131,15 +122,15 @@ module _ (setup : Setting) (setting : IsSetting setup) (cores : ℕ → Core) (t
 
     unmarked_by : (o : Option LiveWord) → MayTake setup t c l last.epoch setup.cores o → live_mark o ≡ None
     unmarked_by None may = absurd may
-    unmarked_by (Some live_word.Free) may = refl
-    unmarked_by (Some (live_word.Live d f)) may = refl
-    unmarked_by (Some (live_word.Closing d b)) may = absurd may
-    unmarked_by (Some (live_word.Dead d x)) may = refl
+    unmarked_by (Some LiveWord.Free) may = refl
+    unmarked_by (Some (LiveWord.Live d f)) may = refl
+    unmarked_by (Some (LiveWord.Closing d b)) may = absurd may
+    unmarked_by (Some (LiveWord.Dead d x)) may = refl
 
     bare : marked_by setup t (LiveAt l) ≡ None
     bare = ap (λ (n : ℕ). live_mark (live_of_word n)) same ∙ unmarked_by (live_of_word last.word) at_knows.1.takes.may
 
-    by_fits : LiveFits (live_word.Closing last.epoch m.core)
+    by_fits : LiveFits (LiveWord.Closing last.epoch m.core)
     by_fits = (
       (let low = at_knows.1.takes.more in let most = (calls.fits_in setup setting cores t stands c here a active m stage_is has).epochs in
           omega (arith, low, most)),
@@ -168,7 +159,7 @@ module _ (setup : Setting) (setting : IsSetting setup) (cores : ℕ → Core) (t
     close_won lands =
         let e : Step = inner setup setting cores t stands c here a active close_it None None in
         counting.holds_on setup setting cores t stands c here a active close_it next (λ b. refl) (λ h. cc) refl close_of_call lands
-        (subst (λ (n : ℕ). n < 2 ^ 64) (sym leaves) (lives.spelling.small (live_word.Closing last.epoch m.core) by_fits))
+        (subst (λ (n : ℕ). n < 2 ^ 64) (sym leaves) (lives.spelling.small (LiveWord.Closing last.epoch m.core) by_fits))
         (λ w there. (
           ap (λ b. if b then true else before_held.marks w) (same_word-other w (LiveAt l) there) ∙ sym (ap (λ h. h.marks w) held_before),
           ap (λ b. if b then last.word else before_held.stands w) (same_word-other w (LiveAt l) there)
@@ -177,7 +168,7 @@ module _ (setup : Setting) (setting : IsSetting setup) (cores : ℕ → Core) (t
         (as_none (holds (cores c)) (holds after) (LiveAt l) (λ g i. ap (λ h. h.bare g i) held_before ∙ counts_bare None a.counts g i)
         (counts_bare None a.counts))
         (ap (λ (n : ℕ). live_mark (live_of_word n)) leaves
-        ∙ ap live_mark (lives.spelling.reads (live_word.Closing last.epoch m.core) by_fits)
+        ∙ ap live_mark (lives.spelling.reads (LiveWord.Closing last.epoch m.core) by_fits)
         ∙ ap (λ (n : ℕ). Some n) knows.core ∙ sym (ap (λ b. if b then Some c else None) marks_number))
         (λ b other is. none_some b (sym bare ∙ is))
         (ap (λ b. settled_by (if b then Some c else None) (held_by (put cores c after)) (LiveAt l) (left_of close_it was)) marks_number
@@ -370,7 +361,7 @@ module _ (setup : Setting) (setting : IsSetting setup) (cores : ℕ → Core) (t
       word_small
       (record {
         moves = subst (λ x. IsTrue (changes_in_frame x (now.frame f))) (sym of.call_is)
-            (ap (changes_in_frame (make_call (make.Comp of.x of.p m.number) of.name f of.root of.slot)) blank);
+            (ap (changes_in_frame (make_call (Make.Comp of.x of.p m.number) of.name f of.root of.slot)) blank);
         footprint = inl (comp_footprint a.call a.found m of now c);
       })
       (λ b. refl) (λ h. cc) (λ g b h. cc) lands
@@ -416,7 +407,7 @@ module _ (setup : Setting) (setting : IsSetting setup) (cores : ℕ → Core) (t
   st_now = state_after setup t
 
   abbrev put_it : Move
-  put_it = CompareOf (EntryAt m.fill.node m.fill.entry) m.fill.word (word_of_entry (entry.Held m.fill.cap))
+  put_it = CompareOf (EntryAt m.fill.node m.fill.entry) m.fill.word (word_of_entry (Entry.Held m.fill.cap))
 
   abbrev found_there : ℕ
   found_there = last_left setup t (EntryAt m.fill.node m.fill.entry)
@@ -449,10 +440,10 @@ module _ (setup : Setting) (setting : IsSetting setup) (cores : ℕ → Core) (t
   spelled : (o : Option LiveWord) → live_of_word last.word ≡ o → MayTake setup t c m.number last.epoch setup.cores o
       → (live_mark o ≡ None) × (last.word < 2 ^ 64)
   spelled None shown may = absurd may
-  spelled (Some live_word.Free) shown may = (refl, small_word last.word live_word.Free shown)
-  spelled (Some (live_word.Live d f)) shown may = absurd may
-  spelled (Some (live_word.Closing d b)) shown may = absurd may
-  spelled (Some (live_word.Dead d x)) shown may = (refl, small_word last.word (live_word.Dead d x) shown)
+  spelled (Some LiveWord.Free) shown may = (refl, small_word last.word LiveWord.Free shown)
+  spelled (Some (LiveWord.Live d f)) shown may = absurd may
+  spelled (Some (LiveWord.Closing d b)) shown may = absurd may
+  spelled (Some (LiveWord.Dead d x)) shown may = (refl, small_word last.word (LiveWord.Dead d x) shown)
 
   pub gives_back : (e : Step) → KnowsLive setup (e ∷ t) c a.call m.number last.word m.frame word
   gives_back e = record {
@@ -479,7 +470,7 @@ module _ (setup : Setting) (setting : IsSetting setup) (cores : ℕ → Core) (t
       })
     where
       kept : left_of put_it found_there ≡ found_there
-      kept = ap (λ b. left_if b found_there (word_of_entry (entry.Held m.fill.cap))) other
+      kept = ap (λ b. left_if b found_there (word_of_entry (Entry.Held m.fill.cap))) other
 
 -- The store that gives the number's word back; then the frame's is still to be stored.
 module _ (setup : Setting) (setting : IsSetting setup) (cores : ℕ → Core) (t : Trace) (stands : Invariant setup cores t) (c : ℕ)

@@ -1,19 +1,14 @@
 -- The events of a longer trace are those of the shorter one and later ones; so a liveness number that was dead at a moment of a call is
 -- past the epoch in which it died.
-use Rattle.scan_invariant.proofs.Common.{◌≡◌, ◌≤◌, ◌<◌, ◌⊎◌, inl, inr, arith, ℕ, Bool, true, false, ◌&&◌, ◌==◌, List, [], ◌∷◌, ◌++◌}
-use Rattle.scan_invariant.proofs.Common.{Option, Some, None, refl, sym, ◌∙◌, ap, subst, Setting, IsSetting, Call, Reply, epoch_of}
-use Rattle.scan_invariant.proofs.Common.{InRanges, after, IsRun, Liveness, Unused, Live, Dead, State, state_is, run_of, events_of}
-use Rattle.scan_invariant.proofs.Common.{IsLegal, Trace, Step, Phase, Out, Open, phase, after_enter, state_after, WasAt, limits_of}
-use Rattle.std.proofs.Common.{is_some}
-use Rattle.state_laws.specs.kernel_rules.specs.CapabilityCalls.{is_live}
-use Rattle.state_laws.specs.kernel_rules.specs.Ranges.{NumberInRange}
-use Rattle.state_laws.specs.kernel_rules.specs.Runs.{Event, Enters, Decides, Returns}
-use Rattle.state_laws.specs.kernel_laws.proofs.RangesLaw.{ranges_hold}
-use Rattle.scan_invariant.specs.trace_laws.proofs.Carries.{IsDeadIn}
-use Rattle.scan_invariant.specs.kernel_history.specs.Events.{with_entry, with_decision, with_return}
-use Rattle.scan_invariant.specs.kernel_history.specs.Trace.{Decided}
-use Rattle.scan_invariant.specs.kernel_history.specs.Trace.{IfNot}
+use Rattle.scan_invariant.specs.kernel_history.proofs as low
+use low.{◌≡◌, ◌≤◌, ◌<◌, ◌⊎◌, inl, inr, arith, ℕ, Bool, true, false, ◌&&◌, ◌==◌, List, [], ◌∷◌, ◌++◌, Option, Some, None, refl, sym, ◌∙◌, ap}
+use low.{subst, Setting, IsSetting, Call, Reply, epoch_of, after, IsRun, Liveness, Unused, Live, Dead, State, state_is, run_of, events_of}
+use low.{IsLegal, Step, Phase, Out, phase, after_enter, state_after, WasAt, is_some, Event, Enters, Decides, Returns, with_entry}
+use low.{with_decision, with_return, Decided, IfNot}
+use Rattle.state_laws.specs.kernel_rules.specs.{InRanges, is_live, NumberInRange}
+use Rattle.scan_invariant.specs.step_ways.proofs.{Trace, Open, limits_of}
 use Rattle.state_laws.proofs.Lives.{IsPast, past_stays}
+use Rattle.{state_laws.specs.kernel_laws.proofs.RangesLaw.ranges_hold, scan_invariant.specs.trace_laws.proofs.Carries.IsDeadIn}
 
 -- The events of a longer trace are those of the shorter one, and later ones.
 pub record Later (more events : List Event) : Type 0 where

@@ -1,5 +1,3 @@
--- The names that most proofs use.
-pub use Rattle.scan_invariant.proofs.Common
 -- Making a component.
 pub mod CompCalls
 pub mod CompMarks

@@ -1,86 +1,68 @@
 -- The decision of a call that makes a component: the compare of its target, where it is won, makes the frame the component, its number live
 -- for it, and puts its capability there.
-use Rattle.scan_invariant.proofs.Common.{Want, All, ◌≡◌, Bool, true, false, Some, None, refl, ℕ, ◌<◌, ◌^◌, arith, ◌≢◌, ◌+◌, sym, ◌&&◌, []}
-use Rattle.scan_invariant.proofs.Common.{◌∷◌}
-use Rattle.scan_invariant.proofs.Common.{ap, ◌∙◌, subst, ◌≤◌, IsTrue, ◌⊎◌, inl, inr, max, map, ◌+ℤ◌, Option, ◌++◌, zero, suc, All-nil}
-use Rattle.scan_invariant.proofs.Common.{All-cons, All-head, All-tail, ne_eqb, eqb-true, cases_eq, false≢true, Capability, Setting}
-use Rattle.scan_invariant.proofs.Common.{IsSetting, left_if, Kind, entry_of_word, EntryFits, word_of_entry, Held, frame_of_word}
-use Rattle.scan_invariant.proofs.Common.{word_of_frame, same_same, left_of, word_of, Move, CompareOf, told_of, EntryAt, Word, same_word}
-use Rattle.scan_invariant.proofs.Common.{ClockAt, FrameAt, CountAt, CoreAt, FlushAt, LiveAt, slot_is, place_here, place_there, frame_refs}
-use Rattle.scan_invariant.proofs.Common.{IsSound, opened, put_same, put_other, events_of, Slot, own, rule_of, change_of, changed, counted}
-use Rattle.scan_invariant.proofs.Common.{MayReply, begins_in, ends_by, flushes_by, epoch_of, calls_counted, refs, place_names}
-use Rattle.scan_invariant.proofs.Common.{times, frame_names, is_node, Found, IsFoundAnd, first_of, waits_of, Blank, Kernel, State}
-use Rattle.scan_invariant.proofs.Common.{put, comp_of, thread_in, thread_of, first_of_stack, Object, FrameOf, with_frame, Thing, NumberOf}
-use Rattle.scan_invariant.proofs.Common.{comp_in, Holds, PlaceOf, with_place, Live, Liveness, Comp, CompFields, ok_first}
-use Rattle.scan_invariant.proofs.Common.{decided-inside, cases_word, same_word-other, sound_of, last_left-there, stamp-kept, HasReached}
-use Rattle.scan_invariant.proofs.Common.{marked_by, frame_mark, mark_of, entry_mark, mark_in_frame, live_mark, frame_value, stamp}
-use Rattle.scan_invariant.proofs.Common.{ends_in, flushes_in, Trace, Open, phase, state_after, Step, last_left, state_decided_in, way_to}
-use Rattle.scan_invariant.proofs.Common.{ways, leads_by, LeadsIn, own_pages, CapNames, Due, StoreLive, Act, landed, Core, ActiveCall}
-use Rattle.scan_invariant.proofs.Common.{Stage, Undecided, Decided, calm_counted, plain_exit, counted_rises, BeginsNone}
-use Rattle.scan_invariant.proofs.Common.{counts, own_kept, counted_refs, limits_of, ReadsAlike, StaysSaid, word_stays, SameFor}
-use Rattle.scan_invariant.proofs.Common.{holds_counts, settled_by, settled, keeps, AreDuesApart, HasFound, own_in, phase_at, due_of}
-use Rattle.scan_invariant.proofs.Common.{KnowsUndecided, WorksIn, MayFill, KnowsComp, KnowsCompAt, untypes, holds_at, holds_in, Invariant}
-use Rattle.scan_invariant.proofs.Common.{holds, held_by, times_of, SumIs, counted_in, holds_comp, PlaceIs, IsFrameWord}
-use Rattle.scan_invariant.proofs.Common.{WordIs, NumberIs, later, stamp_of_change, comp_dues, comp_due_list, CompMakingFits, CompMaking}
-use Rattle.scan_invariant.proofs.Common.{CompAt, Quiet, AtCore, AtFlush, quiet_end, quiet_after, quiet_move, live_of_word, LiveFits}
-use Rattle.scan_invariant.proofs.Common.{word_of_live, LiveWord, comp_of_word, cases_bool, counts_bare, may_keep, not_exclusive_value}
-use Rattle.scan_invariant.proofs.Common.{not_exclusive_word, node_keeps_none}
-use Rattle.std.specs.Prelude.{if◌then◌else◌, pos, List, ◌==◌, ◌||◌}
-use Rattle.state_laws.specs.spk_nums.specs.declared.kinds.Kind.TheVariants as kind
-use Rattle.state_laws.specs.spk_nums.specs.declared.replies.Reply.TheVariants as reply
-use Rattle.state_laws.specs.spk_nums.specs.declared.replies.Value.TheVariants.{Nothing}
+use Rattle.scan_invariant.specs.step_ways.proofs.{Want, All, ◌≡◌, Bool, true, false, Some, None, refl, ℕ, ◌<◌, ◌^◌, arith, ◌≢◌, ◌+◌, sym}
+use Rattle.scan_invariant.specs.step_ways.proofs.{◌&&◌, [], ◌∷◌, ap, ◌∙◌, subst, ◌≤◌, IsTrue, ◌⊎◌, inl, inr, max, map, ◌+ℤ◌, Option, ◌++◌}
+use Rattle.scan_invariant.specs.step_ways.proofs.{zero, suc, ne_eqb, eqb-true, false≢true, Capability, Setting, IsSetting, left_if, Kind}
+use Rattle.scan_invariant.specs.step_ways.proofs.{entry_of_word, EntryFits, word_of_entry, Held, frame_of_word, word_of_frame, same_same}
+use Rattle.scan_invariant.specs.step_ways.proofs.{left_of, word_of, Move, CompareOf, told_of, EntryAt, Word, same_word, ClockAt, FrameAt}
+use Rattle.scan_invariant.specs.step_ways.proofs.{CountAt, CoreAt, FlushAt, LiveAt, frame_refs, IsSound, opened, put_same, put_other}
+use Rattle.scan_invariant.specs.step_ways.proofs.{events_of, Slot, own, rule_of, change_of, changed, counted, MayReply, ends_by, flushes_by}
+use Rattle.scan_invariant.specs.step_ways.proofs.{calls_counted, refs, place_names, times, frame_names, is_node, Found, IsFoundAnd}
+use Rattle.scan_invariant.specs.step_ways.proofs.{first_of, Blank, Kernel, State, put, comp_of, thread_in, thread_of, first_of_stack}
+use Rattle.scan_invariant.specs.step_ways.proofs.{Object, FrameOf, with_frame, Thing, NumberOf, comp_in, Holds, PlaceOf, with_place, Live}
+use Rattle.scan_invariant.specs.step_ways.proofs.{Liveness, Comp, CompFields, ok_first, decided-inside, cases_word, same_word-other}
+use Rattle.scan_invariant.specs.step_ways.proofs.{sound_of, last_left-there, stamp-kept, HasReached, marked_by, frame_mark, mark_of}
+use Rattle.scan_invariant.specs.step_ways.proofs.{entry_mark, mark_in_frame, live_mark, frame_value, stamp, ends_in, flushes_in, Trace}
+use Rattle.scan_invariant.specs.step_ways.proofs.{Open, phase, state_after, Step, last_left, state_decided_in, way_to, ways, leads_by}
+use Rattle.scan_invariant.specs.step_ways.proofs.{LeadsIn, own_pages, CapNames, Due, StoreLive, Act, landed, Core, ActiveCall, Stage}
+use Rattle.scan_invariant.specs.step_ways.proofs.{Undecided, Decided, calm_counted, plain_exit, counted_rises, counts, own_kept}
+use Rattle.scan_invariant.specs.step_ways.proofs.{counted_refs, limits_of, ReadsAlike, StaysSaid, word_stays, SameFor, holds_counts}
+use Rattle.scan_invariant.specs.step_ways.proofs.{settled_by, settled, keeps, AreDuesApart, HasFound, own_in, phase_at, due_of}
+use Rattle.scan_invariant.specs.step_ways.proofs.{KnowsUndecided, WorksIn, MayFill, KnowsComp, KnowsCompAt, untypes, holds_at, holds_in}
+use Rattle.scan_invariant.specs.step_ways.proofs.{Invariant, holds, held_by, times_of, SumIs, counted_in, holds_comp, PlaceIs, IsFrameWord}
+use Rattle.scan_invariant.specs.step_ways.proofs.{WordIs, NumberIs, later, stamp_of_change, comp_dues, comp_due_list, CompMaking, CompAt}
+use Rattle.scan_invariant.specs.step_ways.proofs.{Quiet, AtCore, AtFlush, quiet_end, quiet_after, live_of_word, word_of_live, LiveWord}
+use Rattle.scan_invariant.specs.step_ways.proofs.{comp_of_word, counts_bare, may_keep, not_exclusive_value, not_exclusive_word}
+use Rattle.scan_invariant.specs.step_ways.proofs.{if◌then◌else◌, pos, List, ◌==◌, ◌||◌, fits as fits_kind, begins_in as begins_then}
+use Rattle.scan_invariant.specs.step_ways.proofs.{MakeComp as comp_act, spares_node, next_at, IsOfCall, core_in_call, inner, call_is}
+use Rattle.scan_invariant.specs.step_ways.proofs.{IsMarked, place_reads, IsUnmarked, node_mark, GoodTook, not_spent, same_marks}
+use Rattle.scan_invariant.specs.step_ways.proofs.{decides_writing, plain_cap, does, plan_for, Reply}
+use Rattle.scan_invariant.specs.act_states.specs.{begins_in, CompMakingFits, quiet_move, Nothing, comp_cap, took_comp_at, number_scanned}
+use Rattle.scan_invariant.specs.act_states.specs.{comp_published, comp_at, CompFits, Component as component_edit}
+use Rattle.scan_invariant.specs.count_invariant.proofs.{found_named, own_is, way_gone, dues_commit, dues_sum, IsCompCall, comp_changes}
+use Rattle.scan_invariant.specs.count_invariant.proofs.{comp_argument, number_footprint}
+use Rattle.state_laws.specs.kernel_rules.specs.{epoch_of, waits_of, is_live, number_names, with_number, Fill as fill_edit}
+use Rattle.state_laws.specs.found_stays.proofs.{slot_is, place_here, place_there, comp_fit}
+use Rattle.scan_invariant.specs.place_invariant.proofs.{vacant_slot, vacant_here, none_waits}
+use Rattle.scan_invariant.specs.kept_facts.proofs.{BeginsNone, node_keeps_none, same_works}
+use Rattle.scan_invariant.specs.core_invariant.specs.{MayTake, KnowsLive}
+use Rattle.state_laws.specs.kernel_invariant.proofs.{place_refs, number_refs}
+use Rattle.std.proofs.lemmas.List.Elements.{All-nil, All-cons, All-head, All-tail}
+use Rattle.scan_invariant.specs.act_states.specs.Comps.{component, comp_move}
+use Rattle.scan_invariant.specs.act_states.specs.declared.comps.CompAt.TheVariants.{Load, Mark, LoadLive, Scan, Close, Store, Fill}
+use Rattle.scan_invariant.specs.kept_facts.proofs.{Calm.none_flush, CountSums.times_here, CountSums.times_there}
+use Rattle.scan_invariant.specs.place_invariant.proofs.{Fills.node_word, Vacancy.IsVacant}
+use Rattle.comp_invariant.proofs.CompNumbers.{free_number, dead_number, load_live_good, scan_step_good}
+use Rattle.comp_invariant.proofs.CompStores.{held_fill, at_fill, frame_marked, frame_stands, number_marked, number_stands, put_of_call}
+use Rattle.comp_invariant.proofs.CompStores.{put_lost, close_good, store_good}
+use Rattle.comp_invariant.proofs.CompMarks.{load_good, mark_good}
+use Rattle.{std.proofs.lemmas.Bool.cases_eq, scan_invariant.specs.frame_words.specs.Live.LiveFits}
+use Rattle.{scan_invariant.specs.trace_laws.proofs.GraceSteps.cases_bool, scan_invariant.specs.call_plans.proofs.AfterNames.before}
+use Rattle.{scan_invariant.specs.plan_ways.proofs.Ways.all_ways, scan_invariant.specs.act_states.specs.Taking.took_comp}
+use Rattle.{scan_invariant.specs.act_states.specs.declared.comps.LastEpoch.LastEpoch}
+use Rattle.{scan_invariant.specs.core_invariant.specs.Words.IsCompWord, scan_invariant.specs.count_invariant.proofs.CompCounts.comp_numbers}
+use Rattle.{comp_invariant.proofs.UnusedNumbers.unused_waits}
 use Rattle.scan_invariant.specs.entry_words.proofs.Spelling as entries
 use Rattle.scan_invariant.specs.frame_words.proofs.FrameLemmas as frames
-use Rattle.state_laws.specs.kernel_invariant.proofs.Refs.{place_refs, number_refs}
-use Rattle.state_laws.specs.found_stays.proofs.Stays.{comp_fit}
 use Rattle.state_laws.specs.kernel_invariant.proofs.Sums as sums
-use Rattle.state_laws.specs.kernel_rules.specs.Fitting.{fits as fits_kind}
-use Rattle.state_laws.specs.kernel_rules.specs.CapabilityCalls.{is_live}
-use Rattle.state_laws.specs.kernel_rules.specs.References.{number_names}
-use Rattle.state_laws.specs.kernel_rules.specs.State.{with_number}
-use Rattle.scan_invariant.specs.kernel_history.specs.Stamps.{begins_in as begins_then}
-use Rattle.scan_invariant.specs.call_plans.proofs.AfterNames.{before}
-use Rattle.scan_invariant.specs.plan_ways.proofs.Ways.{all_ways}
-use Rattle.scan_invariant.specs.act_states.specs.Acts.{comp_cap, took_comp, took_comp_at}
-use Rattle.scan_invariant.specs.act_states.specs.declared.work.Act.TheVariants.{MakeComp as comp_act}
-use Rattle.scan_invariant.specs.kept_facts.proofs.Calm.{same_works, none_flush}
-use Rattle.scan_invariant.specs.kept_facts.proofs.CountSums.{times_here, times_there}
-use Rattle.scan_invariant.specs.step_ways.proofs.Good.{spares_node}
-use Rattle.scan_invariant.specs.step_ways.proofs.Loads.{next_at, IsOfCall, core_in_call, inner, call_is}
-use Rattle.scan_invariant.specs.step_ways.proofs.Places.{IsMarked, place_reads, IsUnmarked, node_mark}
-use Rattle.scan_invariant.specs.step_ways.proofs.Refusals.{GoodTook, not_spent}
-use Rattle.scan_invariant.specs.step_ways.proofs.Writes.{same_marks, decides_writing}
-use Rattle.scan_invariant.specs.core_invariant.specs.Knows.{MayTake, KnowsLive}
-use Rattle.scan_invariant.specs.core_invariant.specs.Words.{IsCompWord}
-use Rattle.scan_invariant.specs.count_invariant.proofs.Findings.{found_named, own_is, way_gone}
-use Rattle.scan_invariant.specs.count_invariant.proofs.CountChanges.{dues_commit, dues_sum}
-use Rattle.scan_invariant.specs.place_invariant.proofs.Fills.{node_word}
-use Rattle.scan_invariant.specs.place_invariant.proofs.Outside.{vacant_slot, vacant_here}
-use Rattle.scan_invariant.specs.place_invariant.proofs.Vacancy.{IsVacant, none_waits}
 use Rattle.state_laws.specs.spk_nums.specs.declared.kinds.Obj.TheVariants as obj
 use Rattle.scan_invariant.specs.entry_words.specs.declared.entry.Entry.TheVariants as entry
-use Rattle.scan_invariant.specs.act_states.specs.Comps.{number_scanned, comp_published}
-use Rattle.scan_invariant.specs.act_states.specs.Comps.{component, comp_move, comp_at}
-use Rattle.scan_invariant.specs.act_states.specs.declared.comps.CompAt.TheVariants.{Load, Mark, LoadLive, Scan, Close, Store, Fill}
 use Rattle.scan_invariant.specs.act_states.specs.declared.refusals.Refusal.TheVariants as refusal
 use Rattle.scan_invariant.specs.step_ways.proofs.Counting as counting
-use Rattle.scan_invariant.specs.count_invariant.proofs.CompCounts.{IsCompCall, comp_changes, comp_argument, number_footprint, comp_numbers}
 use Rattle.comp_invariant.proofs.CompCalls as calls
 use Rattle.state_laws.specs.kernel_rules.specs.Rules as rules
-use Rattle.scan_invariant.specs.frame_words.specs.declared.live_word.LiveWord.TheVariants as live_word
-use Rattle.scan_invariant.specs.act_states.specs.declared.comps.LastEpoch.{LastEpoch}
-use Rattle.scan_invariant.specs.frame_words.specs.Comp.{CompFits}
-use Rattle.comp_invariant.proofs.CompNumbers.{free_number, dead_number, load_live_good, scan_step_good}
 use Rattle.scan_invariant.specs.frame_words.proofs.CompLemmas as comps
-use Rattle.comp_invariant.proofs.UnusedNumbers.{unused_waits}
-use Rattle.comp_invariant.proofs.CompStores.{held_fill, at_fill, frame_marked, frame_stands, number_marked}
-use Rattle.comp_invariant.proofs.CompStores.{number_stands, put_of_call, put_lost, close_good, store_good}
-use Rattle.comp_invariant.proofs.CompMarks.{load_good, mark_good}
 use Rattle.scan_invariant.specs.frame_words.proofs.LiveLemmas as lives_words
-use Rattle.state_laws.specs.kernel_rules.specs.Start.{plain_cap}
-use Rattle.state_laws.specs.kernel_rules.specs.Edits.{Component as component_edit, Fill as fill_edit}
-use Rattle.state_laws.specs.kernel_rules.specs.Rules.{does}
-use Rattle.scan_invariant.specs.act_states.specs.call_plans.specs.PlanOf.{plan_for}
 
 abbrev due_by : ℕ → ℕ → Due
 due_by f n = record { frame = f; change = pos n }
@@ -146,7 +128,7 @@ module _ (setup : Setting) (setting : IsSetting setup) (cores : ℕ → Core) (t
   lives = Live epoch f
 
   abbrev live_now : ℕ
-  live_now = word_of_live (live_word.Live epoch f)
+  live_now = word_of_live (LiveWord.Live epoch f)
 
   abbrev names : List ℕ
   names = f ∷ f ∷ m.table ∷ m.pages ∷ []
@@ -222,7 +204,7 @@ module _ (setup : Setting) (setting : IsSetting setup) (cores : ℕ → Core) (t
   life_fits : CompFits (record { number = l; epoch = epoch })
   life_fits = (fits_in.number, omega arith, epoch_small)
 
-  live_fits : LiveFits (live_word.Live epoch f)
+  live_fits : LiveFits (LiveWord.Live epoch f)
   live_fits = (omega arith, epoch_small, (let few = few_frames in let low = below in omega (arith, few, low)))
 
   -- every word of the frame says what the component is
@@ -242,16 +224,16 @@ module _ (setup : Setting) (setting : IsSetting setup) (cores : ℕ → Core) (t
 
   module _ (equal : (was == m.fill.word) ≡ true) where
     abbrev e : Step
-    e = inner setup setting cores t stands c here a active put_it (Some (reply.Ok Nothing)) None
+    e = inner setup setting cores t stands c here a active put_it (Some (Reply.Ok Nothing)) None
 
     abbrev s' : State
     s' = state_after setup (e ∷ t)
 
     abbrev stage : Stage
-    stage = Decided (reply.Ok Nothing) None (StoreLive l live_now f made_word)
+    stage = Decided (Reply.Ok Nothing) None (StoreLive l live_now f made_word)
 
     abbrev count : ℕ
-    count = (cores c).own.made + calls_counted (reply.Ok Nothing)
+    count = (cores c).own.made + calls_counted (Reply.Ok Nothing)
 
     abbrev after : Core
     after = core_in_call (cores c) count (next_at a a.found stage)
@@ -289,8 +271,8 @@ module _ (setup : Setting) (setting : IsSetting setup) (cores : ℕ → Core) (t
     may_take : (o : Option LiveWord) → MayTake setup t c l last.epoch setup.cores o → NumberIs (s.number l) (stamp setup t thing) o
         → IsTaken s c l last.epoch
     may_take None may says = absurd may
-    may_take (Some live_word.Free) may says =
-        let unused = free_number (s.number l) (stamp setup t thing) (Some live_word.Free) says refl in record {
+    may_take (Some LiveWord.Free) may says =
+        let unused = free_number (s.number l) (stamp setup t thing) (Some LiveWord.Free) says refl in record {
           dead = ap is_live unused;
           last_is = ap epoch_of unused ∙ may;
           names = ap number_names unused;
@@ -299,10 +281,10 @@ module _ (setup : Setting) (setting : IsSetting setup) (cores : ℕ → Core) (t
             | inr none ↦ none
           ]);
         }
-    may_take (Some (live_word.Live d g)) may says = absurd may
-    may_take (Some (live_word.Closing d g)) may says = absurd may
-    may_take (Some (live_word.Dead d x)) may says =
-        let died = dead_number (s.number l) (stamp setup t thing) d x (Some (live_word.Dead d x)) says refl in record {
+    may_take (Some (LiveWord.Live d g)) may says = absurd may
+    may_take (Some (LiveWord.Closing d g)) may says = absurd may
+    may_take (Some (LiveWord.Dead d x)) may says =
+        let died = dead_number (s.number l) (stamp setup t thing) d x (Some (LiveWord.Dead d x)) says refl in record {
           dead = ap is_live died.dead;
           last_is = ap epoch_of died.dead ∙ may.0;
           names = ap number_names died.dead;
@@ -321,22 +303,22 @@ module _ (setup : Setting) (setting : IsSetting setup) (cores : ℕ → Core) (t
 
     taken_none : calls.taken setup setting cores t stands c here a active m stage_is has ≡ None
     taken_none =
-        ap (λ b. first_of (if b then Some reply.Occupied else None) (first_of (waits_of s c thing)
-        (first_of (if epoch_of (s.number l) == s.limits.epochs then Some reply.EpochsSpent else None) None))) takes.dead
-        ∙ ap (λ o. first_of o (first_of (if epoch_of (s.number l) == s.limits.epochs then Some reply.EpochsSpent else None) None))
+        ap (λ b. first_of (if b then Some Reply.Occupied else None) (first_of (waits_of s c thing)
+        (first_of (if epoch_of (s.number l) == s.limits.epochs then Some Reply.EpochsSpent else None) None))) takes.dead
+        ∙ ap (λ o. first_of o (first_of (if epoch_of (s.number l) == s.limits.epochs then Some Reply.EpochsSpent else None) None))
         takes.waits
-        ∙ ap (λ b. first_of (if b then Some reply.EpochsSpent else None) None) not_spent_yet
+        ∙ ap (λ b. first_of (if b then Some Reply.EpochsSpent else None) None) not_spent_yet
 
-    change_is : change_of s c a.call ≡ Found (does c s Nothing (component_edit f fields ∷ fill_edit slot (plain_cap kind.Comp f) ∷ []))
+    change_is : change_of s c a.call ≡ Found (does c s Nothing (component_edit f fields ∷ fill_edit slot (plain_cap Kind.Comp f) ∷ []))
     change_is = calls.by_taken setup setting cores t stands c here a active m stage_is has
         (vacant_slot s c (calls.target setup setting cores t stands c here a active m stage_is has) slot
         (calls.reached_is setup setting cores t stands c here a active m stage_is has) empty.vacant) blank None taken_none
         ∙ ap (λ (n : ℕ). Found (does c s Nothing (component_edit f
-        (record { table = m.table; pages = m.pages; number = l; epoch = n + 1 }) ∷ fill_edit slot (plain_cap kind.Comp f) ∷ [])))
+        (record { table = m.table; pages = m.pages; number = l; epoch = n + 1 }) ∷ fill_edit slot (plain_cap Kind.Comp f) ∷ [])))
         takes.last_is
 
     now : s' ≡ counted filled c
-    now = ap (λ p. state_decided_in p (reply.Ok Nothing) s c) is_open ∙ ap (λ x. counted (changed s x) c) change_is
+    now = ap (λ p. state_decided_in p (Reply.Ok Nothing) s c) is_open ∙ ap (λ x. counted (changed s x) c) change_is
 
     limits : s'.limits ≡ s.limits
     limits = ap (λ x. x.limits) now
@@ -381,15 +363,15 @@ module _ (setup : Setting) (setting : IsSetting setup) (cores : ℕ → Core) (t
     -- its times
     begins_none : BeginsNone setup t e
     begins_none = record {
-      begins = λ x. ap (λ p. begins_then (Some (reply.Ok Nothing)) p s c x) is_open ∙ ap (λ y. begins_in y x) change_is;
-      flushes = ap (flushes_in (Some (reply.Ok Nothing))) is_open
+      begins = λ x. ap (λ p. begins_then (Some (Reply.Ok Nothing)) p s c x) is_open ∙ ap (λ y. begins_in y x) change_is;
+      flushes = ap (flushes_in (Some (Reply.Ok Nothing))) is_open
           ∙ ap flushes_by (calls.is setup setting cores t stands c here a active m stage_is has).call_is;
       apart = λ d. refl;
       same = refl;
     }
 
     stamp_kept : (x : Thing) → stamp setup (e ∷ t) x ≡ stamp setup t x
-    stamp_kept x = stamp-kept setup e t x (begins_none.begins x) (ap (λ p. ends_in (Some (reply.Ok Nothing)) p x) is_open
+    stamp_kept x = stamp-kept setup e t x (begins_none.begins x) (ap (λ p. ends_in (Some (Reply.Ok Nothing)) p x) is_open
         ∙ ap (λ y. ends_by y x) (calls.is setup setting cores t stands c here a active m stage_is has).call_is)
 
     -- the calls that were counted
@@ -411,8 +393,8 @@ module _ (setup : Setting) (setting : IsSetting setup) (cores : ℕ → Core) (t
 
     works : WorksIn (record (cores c).own { made = count }) s' c
     works = same_works s s' c (cores c).own (record (cores c).own { made = count })
-        (ap thread_in (object_kept (s.core c).thread kind.Thread (sound.cores c core_below).0 refl))
-        (ap comp_in (object_kept (first_of_stack (thread_of s c).stack) kind.Comp
+        (ap thread_in (object_kept (s.core c).thread Kind.Thread (sound.cores c core_below).0 refl))
+        (ap comp_in (object_kept (first_of_stack (thread_of s c).stack) Kind.Comp
         (comp_fit s (opened (events_of t)) c sound core_below) refl))
         own_stays
         (ap (λ (m : ℕ). record (cores c).own { made = m }) count_is) (stands.each c here).works
@@ -471,7 +453,7 @@ module _ (setup : Setting) (setting : IsSetting setup) (cores : ℕ → Core) (t
         ∙ own_mark)))
     stays (CountAt g d) there free = said (CountAt g d) tt
     stays (CoreAt d) there free = said (CoreAt d) (record {
-      inside = decided-inside (Some (reply.Ok Nothing)) (phase t c) s c d;
+      inside = decided-inside (Some (Reply.Ok Nothing)) (phase t c) s c d;
       exit = plain_exit t e refl d;
     })
     stays (FlushAt d) there free = said (FlushAt d) (none_flush setup t e begins_none d)
@@ -533,7 +515,7 @@ module _ (setup : Setting) (setting : IsSetting setup) (cores : ℕ → Core) (t
             (same_word-other w (LiveAt l) apart_from)
             ∙ ap (λ b. if b then made_word else (holds_counts (Some None) a.counts).stands w) (same_word-other w (FrameAt f) other)))
             (dues_commit setup setting cores t stands c here a active None none_small (comp_due_list m) dues_are
-            put_it (reply.Ok Nothing) after still before_count (λ g d. refl) alike
+            put_it (Reply.Ok Nothing) after still before_count (λ g d. refl) alike
             unmarked.mark bare_now no_count w
             (sym (ap (λ h. h.marks w) holds_is
             ∙ ap (λ b. if b then true else (keeps (FrameAt f) word (holds_counts None a.counts)).marks w)
@@ -547,7 +529,7 @@ module _ (setup : Setting) (setting : IsSetting setup) (cores : ℕ → Core) (t
         live_says = subst (λ p. NumberIs p (stamp setup (e ∷ t) (NumberOf l))
             (live_of_word ((holds_at stage a.counts).stands (LiveAt l)))) (sym number_here)
             (ap (λ b. live_of_word (if b then live_now else (keeps (FrameAt f) made_word (holds_counts (Some None) a.counts)).stands
-            (LiveAt l))) (same_same (LiveAt l)) ∙ lives_words.spelling.reads (live_word.Live epoch f) live_fits)
+            (LiveAt l))) (same_same (LiveAt l)) ∙ lives_words.spelling.reads (LiveWord.Live epoch f) live_fits)
 
     -- the references
     grows : (g : ℕ) → refs s' g ≡ refs s g + times g names
@@ -625,7 +607,7 @@ module _ (setup : Setting) (setting : IsSetting setup) (cores : ℕ → Core) (t
 
     sums_are : (g : ℕ) → SumIs setup (held_by (put cores c after)) (e ∷ t) g
     sums_are = dues_sum setup setting cores t stands c here a active None none_small (comp_due_list m) dues_are
-        put_it (reply.Ok Nothing) after still before_count (λ g d. refl) alike unmarked.mark
+        put_it (Reply.Ok Nothing) after still before_count (λ g d. refl) alike unmarked.mark
         bare_now no_count (ap (λ l. l.cores) limits)
         (λ g none. (
           (let more = grows g in
@@ -640,7 +622,7 @@ module _ (setup : Setting) (setting : IsSetting setup) (cores : ℕ → Core) (t
         all_grow
 
     -- the reply
-    permitted : MayReply s c a.call (reply.Ok Nothing)
+    permitted : MayReply s c a.call (Reply.Ok Nothing)
     permitted = (
       not_spent setup (cores c) t c (stands.each c here) (calls.room setup setting cores t stands c here a active m stage_is has),
       (has.acts, subst (λ x. IsFoundAnd x (λ y. y.value ≡ Nothing)) (sym change_is) refl),
@@ -675,8 +657,8 @@ module _ (setup : Setting) (setting : IsSetting setup) (cores : ℕ → Core) (t
         let of : IsCompCall a.call a.found m = calls.is setup setting cores t stands c here a active m stage_is has in record {
           numbers = comp_numbers a.call a.found m of;
           footprint = inl (number_footprint a.call a.found m of s' c);
-          bare = ap live_mark (lives_words.spelling.reads (live_word.Live epoch f) live_fits);
-          small = lives_words.spelling.small (live_word.Live epoch f) live_fits;
+          bare = ap live_mark (lives_words.spelling.reads (LiveWord.Live epoch f) live_fits);
+          small = lives_words.spelling.small (LiveWord.Live epoch f) live_fits;
           unmark = record {
             changes = comp_changes a.call a.found m of;
             argument = comp_argument a.call a.found m of;
@@ -686,7 +668,7 @@ module _ (setup : Setting) (setting : IsSetting setup) (cores : ℕ → Core) (t
         }
 
     pub put_won : GoodTook setup cores t c put_it (landed a (comp_published m word last true))
-    put_won lands = decides_writing setup setting cores t stands c here a active put_it count (reply.Ok Nothing) a.found stage
+    put_won lands = decides_writing setup setting cores t stands c here a active put_it count (Reply.Ok Nothing) a.found stage
         unmarked.mark bare_now (subst (λ (n : ℕ). n < 2 ^ 64) (sym leaves_it) (entries.spelling.small (Held k) fits)) of_call lands opens
         refl
         same_held

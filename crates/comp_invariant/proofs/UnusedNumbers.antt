@@ -1,27 +1,18 @@
 -- No core waits for a liveness number that was never used: where its grace period begins, it dies, and it is never unused again.
-use Rattle.scan_invariant.proofs.Common.{◌≡◌, ◌<◌, ◌≤◌, inl, inr, arith, ℕ, true, false, ◌==◌, ◌||◌, if◌then◌else◌, List, [], ◌∷◌}
-use Rattle.scan_invariant.proofs.Common.{Option, Some, None, refl, sym, ◌∙◌, ap, subst, false≢true, cases_eq, ne_eqb, list_any, Setting}
-use Rattle.scan_invariant.proofs.Common.{IsSetting, Call, Value, Reply, Liveness}
-use Rattle.scan_invariant.proofs.Common.{Unused, Live, Dead, State, NumberOf, put, thread_of, Holds}
-use Rattle.scan_invariant.proofs.Common.{same_thing, InRanges, frame_names, place_names, Change, Judged, Refused, Found}
-use Rattle.scan_invariant.proofs.Common.{IsFoundAnd, frames_of, change_of, changed, state_by, begins, begins_in}
-use Rattle.scan_invariant.proofs.Common.{MayReply, put_same, state_is, run_of, cases_bool, open_inj, events_of, IsLegal, MayFollow}
-use Rattle.scan_invariant.proofs.Common.{MayDecide, begins_at, Trace, Step, Phase, Out, Open, phase, after_enter, state_after}
-use Rattle.scan_invariant.proofs.Common.{state_before, state_returned, state_decided}
-use Rattle.std.specs.Prelude.{take}
-use Rattle.state_laws.specs.spk_nums.specs.declared.replies.Reply.TheVariants as reply
-use Rattle.state_laws.specs.kernel_rules.specs.Ranges.{NumberInRange}
-use Rattle.state_laws.specs.kernel_rules.specs.References.{number_names}
-use Rattle.state_laws.specs.kernel_rules.specs.Edits.{Edit, Remove, Untype, Deaden, Pop, Switch, edited, begins_in as begins_edit}
-use Rattle.state_laws.specs.kernel_rules.specs.Rules.{does}
-use Rattle.state_laws.specs.kernel_rules.proofs.Changes.{IfFound}
-use Rattle.state_laws.specs.kernel_invariant.proofs.Edited.{Edits, later_number, found_by}
-use Rattle.state_laws.specs.kernel_laws.proofs.RangesLaw.{ranges_hold}
-use Rattle.scan_invariant.specs.trace_laws.proofs.Waiting.{waits_falls}
-use Rattle.scan_invariant.specs.kernel_history.specs.Stamps.{begins_in as begins_then}
-use Rattle.scan_invariant.specs.kernel_history.specs.Trace.{Decided}
-use Rattle.state_laws.proofs.Lives.{IsPast}
-use Rattle.comp_invariant.proofs.LaterEvents.{past_on}
+use Rattle.scan_invariant.specs.step_ways.proofs.{◌≡◌, ◌<◌, ◌≤◌, inl, inr, arith, ℕ, true, false, ◌==◌, ◌||◌, if◌then◌else◌, List, [], ◌∷◌}
+use Rattle.scan_invariant.specs.step_ways.proofs.{Option, Some, None, refl, sym, ◌∙◌, ap, subst, false≢true, ne_eqb, Setting, IsSetting}
+use Rattle.scan_invariant.specs.step_ways.proofs.{Call, Value, Reply, Liveness, Unused, Live, Dead, State, NumberOf, put, thread_of, Holds}
+use Rattle.scan_invariant.specs.step_ways.proofs.{same_thing, frame_names, place_names, Change, Judged, Refused, Found, IsFoundAnd}
+use Rattle.scan_invariant.specs.step_ways.proofs.{frames_of, change_of, changed, state_by, begins, MayReply, put_same, state_is, run_of}
+use Rattle.scan_invariant.specs.step_ways.proofs.{open_inj, events_of, IsLegal, MayFollow, MayDecide, begins_at, Trace, Step, Phase, Out}
+use Rattle.scan_invariant.specs.step_ways.proofs.{Open, phase, after_enter, state_after, state_before, state_returned, state_decided, take}
+use Rattle.scan_invariant.specs.step_ways.proofs.{Edit, does, begins_in as begins_then}
+use Rattle.state_laws.specs.kernel_laws.proofs.{InRanges, begins_in, number_names, Untype, Deaden, Pop, edited, IfFound, Edits, found_by}
+use Rattle.scan_invariant.specs.trace_laws.proofs.{GraceSteps.cases_bool, Waiting.waits_falls}
+use Rattle.state_laws.specs.kernel_rules.specs.{Ranges.NumberInRange, Edits.Remove, Edits.Switch, Edits.begins_in as begins_edit}
+use Rattle.{std.proofs.lemmas.Bool.cases_eq, std.specs.List.list_any, state_laws.specs.kernel_invariant.proofs.Edited.later_number}
+use Rattle.{state_laws.specs.kernel_laws.proofs.RangesLaw.ranges_hold, scan_invariant.specs.kernel_history.specs.Trace.Decided}
+use Rattle.{state_laws.proofs.Lives.IsPast, comp_invariant.proofs.LaterEvents.past_on}
 
 -- A frame is no number.
 frames_none : (l : ℕ) (fs : List ℕ) → list_any (same_thing (NumberOf l)) (frames_of fs) ≡ false
@@ -68,7 +59,7 @@ found_begun s v (Found change) by ok l is = by l is
 
 decided_begun : (s : State) (c : ℕ) (call : Call) (r : Reply) → MayReply s c call r → (l : ℕ) → begins s c call r (NumberOf l) ≡ true
     → IsPast 0 ((state_by s c call r).number l)
-decided_begun s c call (reply.Ok v) may l is =
+decided_begun s c call (Reply.Ok v) may l is =
     found_begun s v (change_of s c call) (found_by s c call (Begun s) (edits_begun s c call)) may.1.1 l is
 decided_begun s c call _ may l is = absurd (false≢true is)
 

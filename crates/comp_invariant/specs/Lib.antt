@@ -1,4 +1,5 @@
 -- What the crates above name through this one.
+pub use Rattle.scan_invariant.specs.boot_words
 pub use Rattle.state_laws.specs.spk_nums
 pub use Rattle.scan_invariant.specs.entry_words
 pub use Rattle.scan_invariant.specs.frame_words

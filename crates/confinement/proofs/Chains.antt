@@ -1,14 +1,11 @@
 -- Chains of links that are shared.
-use Rattle.std.proofs.Common.{◌≡◌, inl, inr, ℕ, zero, suc, ◌+◌, ◌<◌, ◌≤◌, refl, sym, ◌∙◌, ap, subst, arith}
-use Rattle.std.proofs.Common.{List, [], ◌∷◌, ◌++◌, length, slice_get, append_assoc, Option, Some, None}
-use Rattle.std.proofs.lemmas.Bool.{cases_eq}
-use Rattle.std.proofs.lemmas.Option.{slice_get_within}
-use Rattle.kernel_invariant.proofs.Facts.{some_inj}
-use Rattle.seq_state.proofs.Lists.{push_here, push_apart, push_longer}
-use Rattle.origin_rules.specs.declared.chains.ChainLink.{ChainLink}
-use Rattle.confinement.specs.declared.table.Kept.{Kept}
-use Rattle.confinement.specs.declared.table.Head.{Head}
-use Rattle.confinement.specs.Links.{list_of, chain_from, IsBelow, places_left, GoOn, origin_in}
+use Rattle.call_judge.specs.same_changes.specs.kernel_laws.proofs as low
+use low.{◌≡◌, inl, inr, ℕ, zero, suc, ◌+◌, ◌<◌, ◌≤◌, refl, sym, ◌∙◌, ap, subst, arith, List, [], ◌∷◌, ◌++◌, length, slice_get, append_assoc}
+use low.{Option, Some, None, some_inj}
+use Rattle.confinement.specs.{declared.table.Kept.Kept, declared.table.Head.Head, Links.list_of, Links.GoOn, Links.origin_in}
+use Rattle.{confinement.specs.chain_from, confinement.specs.IsBelow, confinement.specs.places_left, std.proofs.lemmas.Bool.cases_eq}
+use Rattle.{std.proofs.lemmas.Option.slice_get_within, seq_state.proofs.Lists.push_here, seq_state.proofs.Lists.push_apart}
+use Rattle.{seq_state.proofs.Lists.push_longer, origin_rules.specs.declared.chains.ChainLink.ChainLink}
 
 -- Two lists are one that are made alike of what is there.
 list_alike : (f g : Kept → List ChainLink) (o : Option Kept) → ((x : Kept) → o ≡ Some x → f x ≡ g x) → list_of f o ≡ list_of g o

@@ -1,22 +1,13 @@
 -- What a call puts is the same in two states that are one for all that the machine has, one of them reached.
-use Rattle.std.proofs.Common.{◌≡◌, ℕ, Bool, true, refl, ◌∙◌, ap, Option, Some, None, IsTrue}
-use Rattle.std.proofs.lemmas.Bool.{false≢true}
-use Rattle.spk_nums.specs.Capability.{Capability}
-use Rattle.spk_nums.specs.declared.kinds.Kind.TheVariants as kind
-use Rattle.spk_nums.specs.declared.calls.Call.{Call}
-use Rattle.spk_nums.specs.declared.calls.Call.TheVariants.{Copy, Make as make_call, Gate, Part}
-use Rattle.spk_nums.specs.declared.replies.Reply.{Reply}
-use Rattle.spk_nums.specs.declared.replies.Reply.TheVariants as reply
-use Rattle.kernel_rules.specs.State.{State}
-use Rattle.kernel_rules.specs.Access.{Slot, Under, only, to_use, own, reached}
-use Rattle.kernel_rules.specs.Rules.{Judged, Refused, Found, named, name_of}
-use Rattle.kernel_rules.specs.Relies.{is_node}
-use Rattle.kernel_invariant.proofs.Facts.{none_some, some_inj}
-use Rattle.call_judge.specs.same_changes.proofs.Reaching.{Twins, IsSlot, RootGood, own_good, own_same, reached_same, named_same, slot_good}
-use Rattle.call_judge.specs.same_changes.proofs.TimeRules.{named_table}
-use Rattle.origin_rules.specs.declared.chains.Step.{Step}
+use Rattle.call_judge.specs.same_changes.specs.kernel_laws.proofs as low
+use low.{◌≡◌, ℕ, Bool, true, refl, ◌∙◌, ap, Option, Some, None, IsTrue, false≢true, Capability, Call, Copy, Make as make_call, Gate, Part}
+use low.{Reply, State, Slot, Under, only, to_use, own, reached, Judged, Refused, Found, named, name_of, is_node, none_some, some_inj, Kind}
+use Rattle.call_judge.specs.same_changes.proofs.{Twins, RootGood, reached_same, named_same}
+use Rattle.origin_rules.specs.{Put, puts, puts_by}
+use Rattle.call_judge.specs.same_changes.proofs.Reaching.{IsSlot, own_good, own_same, slot_good}
 use Rattle.origin_rules.specs.declared.chains.Step.TheVariants.{Copied, Made, Gated, Parted}
-use Rattle.origin_rules.specs.Chains.{Put, slot_named, slot_under, put_from, puts, puts_by}
+use Rattle.origin_rules.specs.Chains.{slot_named, slot_under, put_from}
+use Rattle.{call_judge.specs.same_changes.proofs.TimeRules.named_table, origin_rules.specs.declared.chains.Step.Step}
 
 -- ---- the parts of a put
 
@@ -35,17 +26,17 @@ module _ {t s : State} {o : ℕ → Bool} {c : ℕ} (w : Twins t s o c) where
   named_slot_same : (n : ℕ) → slot_named t c n ≡ slot_named s c n
   named_slot_same n = ap (reached t c) (own_same w n) ∙ reached_same w (own s c n) (own_good w n)
 
-  table_good : (n b : ℕ) → RootGood s (Under (name_of (named s c n (to_use (only kind.Table)))) b)
-  table_good n b = by_named (named s c n (to_use (only kind.Table))) refl
+  table_good : (n b : ℕ) → RootGood s (Under (name_of (named s c n (to_use (only Kind.Table)))) b)
+  table_good n b = by_named (named s c n (to_use (only Kind.Table))) refl
     where
-      by_named : (j : Judged Capability) → named s c n (to_use (only kind.Table)) ≡ j → (name_of j).found ≡ true
+      by_named : (j : Judged Capability) → named s c n (to_use (only Kind.Table)) ≡ j → (name_of j).found ≡ true
           → IsTrue (is_node (s.frame (name_of j).frame))
       by_named (Refused r) is found = absurd (false≢true found)
       by_named (Found k) is found = named_table w n k is
 
   under_same : (n b : ℕ) → slot_under t c n b ≡ slot_under s c n b
-  under_same n b = ap (λ j. reached t c (Under (name_of j) b)) (named_same w n (to_use (only kind.Table)))
-      ∙ reached_same w (Under (name_of (named s c n (to_use (only kind.Table)))) b) (table_good n b)
+  under_same n b = ap (λ j. reached t c (Under (name_of j) b)) (named_same w n (to_use (only Kind.Table)))
+      ∙ reached_same w (Under (name_of (named s c n (to_use (only Kind.Table)))) b) (table_good n b)
 
   puts_same : (call : Call) → puts t c call ≡ puts s c call
   puts_same (Copy a x b rights) = λ i. put_from Copied (named_slot_same a i) (under_same x b i)
@@ -55,7 +46,7 @@ module _ {t s : State} {o : ℕ → Bool} {c : ℕ} (w : Twins t s o c) where
   puts_same call = refl
 
   pub puts_by_same : (call : Call) (r : Reply) → puts_by t c call r ≡ puts_by s c call r
-  puts_by_same call (reply.Ok v) = puts_same call
+  puts_by_same call (Reply.Ok v) = puts_same call
   puts_by_same call r = refl
 
   -- ---- both slots are the machine's
@@ -69,7 +60,7 @@ module _ {t s : State} {o : ℕ → Bool} {c : ℕ} (w : Twins t s o c) where
       let parts = put_parts what (slot_named s c n) (slot_under s c x b) p e in
       record {
         parent = slot_good w (own s c n) p.parent (own_good w n) parts.parent;
-        at = slot_good w (Under (name_of (named s c x (to_use (only kind.Table)))) b) p.at (table_good x b) parts.at;
+        at = slot_good w (Under (name_of (named s c x (to_use (only Kind.Table)))) b) p.at (table_good x b) parts.at;
       }
 
   put_slots : (call : Call) (p : Put) → puts s c call ≡ Some p → AreSlots p
@@ -80,5 +71,5 @@ module _ {t s : State} {o : ℕ → Bool} {c : ℕ} (w : Twins t s o c) where
   put_slots call p e = absurd (none_some p e)
 
   pub puts_slots : (call : Call) (r : Reply) (p : Put) → puts_by s c call r ≡ Some p → AreSlots p
-  puts_slots call (reply.Ok v) p e = put_slots call p e
+  puts_slots call (Reply.Ok v) p e = put_slots call p e
   puts_slots call r p e = absurd (none_some p e)

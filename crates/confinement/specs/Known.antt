@@ -1,12 +1,8 @@
 -- What is known of where capabilities come from, and when it stands for the events of a run.
-use Rattle.std.specs.Prelude.{◌≡◌, ◌<◌, ◌^◌, ℕ, List, ◌∷◌, Option, Some}
-use Rattle.std.specs.Option.{option_map, option_and_then}
-use Rattle.spk_nums.specs.Setting.{Setting, IsSetting}
-use Rattle.kernel_rules.specs.Runs.{Event, after, IsRun}
-use Rattle.seq_state.specs.Maps.{Maps, state_of}
-use Rattle.seq_state.specs.Representation.{Represents}
-use Rattle.origin_rules.specs.Chains.{ChainValue, decided, origin_of, held_at, with_origin, chain_of}
-use Rattle.confinement.specs.Links.{Table, origin_at}
+use Rattle.seq_state.specs.{◌≡◌, ◌<◌, ◌^◌, ℕ, List, ◌∷◌, Option, Some, option_map, option_and_then, Setting, IsSetting, Event, after, IsRun}
+use Rattle.origin_rules.specs.{ChainValue, decided, origin_of, chain_of}
+use Rattle.{seq_state.specs.state_of, seq_state.specs.Represents, seq_state.specs.Maps.Maps, origin_rules.specs.Chains.held_at}
+use Rattle.{origin_rules.specs.Chains.with_origin, confinement.specs.Links.Table, confinement.specs.Links.origin_at}
 
 -- The sequential kernel's state, the origin of each place, and how many calls were decided.
 pub record Known : Type 0 where

@@ -1,14 +1,8 @@
 -- Links that chains share: each link has the place of the one at which its chain goes on.
-use Rattle.std.specs.Prelude.{◌≡◌, ◌<◌, ◌+◌, ◌%◌, ◌==◌, ◌&&◌, if◌then◌else◌, ℕ, zero, suc, List, [], ◌∷◌, length, slice_get}
-use Rattle.std.specs.Prelude.{Option, Some, None, IsSome}
-use Rattle.std.specs.Option.{option_map}
-use Rattle.seq_state.specs.Maps.{at_place}
-use Rattle.origin_rules.specs.declared.chains.Step.{Step}
-use Rattle.origin_rules.specs.declared.chains.ChainLink.{ChainLink}
-use Rattle.origin_rules.specs.Chains.{Origin, Put}
-use Rattle.confinement.specs.declared.puts.Put.{Put as Found}
-use Rattle.confinement.specs.declared.table.Kept.{Kept}
-use Rattle.confinement.specs.declared.table.Head.{Head}
+use Rattle.seq_state.specs.{◌≡◌, ◌<◌, ◌+◌, ◌%◌, ◌==◌, ◌&&◌, if◌then◌else◌, ℕ, zero, suc, List, [], ◌∷◌, length, slice_get, Option, Some}
+use Rattle.seq_state.specs.{None, IsSome, option_map, at_place}
+use Rattle.origin_rules.specs.{Origin, Put, declared.chains.Step.Step, declared.chains.ChainLink.ChainLink}
+use Rattle.confinement.specs.{declared.puts.Put.Put as Found, declared.table.Kept.Kept, declared.table.Head.Head}
 
 -- The links, and where the chain of each place begins.
 pub record Table : Type 0 where

@@ -3,7 +3,7 @@
 ghost use Rattle.std.specs.Prelude.{◌≡◌, ◌≤◌, nat_lt, IfOk, OnOk, OnErr};
 ghost use Rattle.spk_nums.specs.CallLimits.{InLimits};
 ghost use Rattle.spk_nums.specs.declared.calls.Call.{Call};
-ghost use Rattle.kernel_rules.specs.Runs.{Enters, Decides, Returns};
+ghost use Rattle.seq_state.specs.kernel_rules.specs.Runs.{Enters, Decides, Returns};
 ghost use Rattle.seq_state.specs.Maps.{state_of};
 ghost use Rattle.origin_rules.specs.Chains.{own_cap, held_at};
 ghost use Rattle.confinement.specs.Known.{StandsFor, Takes, chain_known, IsChainOf};
@@ -174,6 +174,6 @@ impl Origins {
 }
 
 ghost use Rattle.std.specs.Prelude.{[]};
-ghost use Rattle.kernel_rules.specs.State.{Holds};
+ghost use Rattle.seq_state.specs.kernel_rules.specs.State.{Holds};
 ghost use Rattle.seq_state.specs.Parts.{place_held};
 ghost use Rattle.origin_rules.specs.Chains.{is_own};

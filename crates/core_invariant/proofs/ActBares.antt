@@ -1,44 +1,18 @@
 -- No act keeps a word without a mark, and so no call that is not decided.
-use Rattle.std.proofs.Common.{◌≡◌, ℕ, Option, Some, None, refl, ◌∙◌, sym, ap, false}
-use Rattle.kernel_invariant.specs.spk_nums.specs.declared.calls.Call.{Call}
-use Rattle.kernel_history.specs.Trace.{Phase, Out, Open}
-use Rattle.kernel_history.specs.Trace as history
-use Rattle.act_fits.specs.stage_quiet.specs.declared.close.Close.TheVariants.{AtCompare as close_compare, AtDraw, AtStore}
-use Rattle.act_fits.specs.stage_sweep.specs.Freeze.{swept_of}
-use Rattle.act_fits.specs.stage_tcap.specs.declared.pair.PairAt.{PairAt}
-use Rattle.act_fits.specs.stage_tcap.specs.declared.pair.PairAt.TheVariants.{LoadA, MarkA, ListA, LoadB, ListB, CompareB}
-use Rattle.act_fits.specs.stage_tcap.specs.declared.pair.PairAt.TheVariants.{AgainB, StoreList, StoreB, StoreA}
-use Rattle.act_fits.specs.act_states.specs.Untypings.{release_of}
-use Rattle.act_fits.specs.act_states.specs.declared.comps.CompAt.{CompAt}
-use Rattle.act_fits.specs.act_states.specs.declared.comps.CompAt.TheVariants as comp_at
-use Rattle.act_fits.specs.act_states.specs.declared.kills.KillingAt.{KillingAt}
-use Rattle.act_fits.specs.act_states.specs.declared.kills.KillingAt.TheVariants.{LoadComp, LoadLive, Close as kill_close}
-use Rattle.act_fits.specs.act_states.specs.declared.kills.KillingAt.TheVariants.{Draw as kill_draw}
-use Rattle.act_fits.specs.act_states.specs.declared.makings.MakingAt.{MakingAt}
-use Rattle.act_fits.specs.act_states.specs.declared.makings.MakingAt.TheVariants.{Load as making_load, Mark, Store, Fill as making_fill}
-use Rattle.act_fits.specs.act_states.specs.declared.untypings.UntypingAt.{UntypingAt}
-use Rattle.act_fits.specs.act_states.specs.declared.untypings.UntypingAt.TheVariants as untype
-use Rattle.act_fits.specs.act_states.specs.declared.work.Act.{Act as ActOf}
-use Rattle.act_fits.specs.act_states.specs.declared.work.Act.TheVariants.{Fill as fill_act, Remove as remove_act, Retype as type_act}
-use Rattle.act_fits.specs.act_states.specs.declared.work.Act.TheVariants.{Make as make_act, Outside, Tick as tick_act}
-use Rattle.act_fits.specs.act_states.specs.declared.work.Act.TheVariants.{Flush as flush_act}
-use Rattle.act_fits.specs.act_states.specs.declared.work.Act.TheVariants.{Kill as kill_act, Untype as untype_act, Map as map_act}
-use Rattle.act_fits.specs.act_states.specs.declared.work.Act.TheVariants.{MakeComp as comp_act, Touch as touch_act, Share as share_act}
-use Rattle.act_fits.specs.act_states.specs.declared.work.Act.TheVariants.{Refill as refill_act}
-use Rattle.act_fits.specs.act_states.specs.declared.work.Act.TheVariants.{Invoke as invoke_act, Return as return_act}
-use Rattle.act_fits.specs.act_states.specs.declared.work.Act.TheVariants.{Switch as switch_act}
-use Rattle.act_fits.specs.act_states.specs.declared.work.Work.{Work}
-use Rattle.act_fits.specs.act_states.specs.declared.work.Work.TheVariants.{Lookup, Read, Scan, Acquire, Act as act_work}
-use Rattle.act_fits.specs.call_stages.specs.declared.stages.ActiveCall.{ActiveCall}
-use Rattle.act_fits.specs.call_stages.specs.declared.stages.Stage.{Stage}
-use Rattle.act_fits.specs.call_stages.specs.declared.stages.Stage.TheVariants.{Enter, Living, Undecided, Decided, Leave}
+use Rattle.core_invariant.specs.{◌≡◌, ℕ, Option, Some, None, refl, false, Call, Phase, Out, Open, AtCompare as close_compare, AtDraw}
+use Rattle.core_invariant.specs.{AtStore, swept_of, PairAt, LoadA, MarkA, ListA, LoadB, ListB, CompareB, AgainB, StoreList, StoreB, StoreA}
+use Rattle.core_invariant.specs.{release_of, CompAt, KillingAt, LoadComp, LoadLive, Close as kill_close, Draw as kill_draw, MakingAt}
+use Rattle.core_invariant.specs.{Load as making_load, Mark, Store, UntypingAt, Fill as fill_act, Remove as remove_act, Retype as type_act}
+use Rattle.core_invariant.specs.{Make as make_act, Outside, Tick as tick_act, Flush as flush_act, Kill as kill_act, Untype as untype_act}
+use Rattle.core_invariant.specs.{Map as map_act, MakeComp as comp_act, Touch as touch_act, Share as share_act, Refill as refill_act}
+use Rattle.core_invariant.specs.{Invoke as invoke_act, Return as return_act, Switch as switch_act, Work, Lookup, Read, Scan, Acquire}
+use Rattle.core_invariant.specs.{Act as act_work, ActiveCall, Stage, Enter, Living, Undecided, Decided, Leave, holds_untyping, phase_at}
+use Rattle.core_invariant.specs.{holds_making, holds_killing, holds_act, holds_comp, holds_share, holds_work, holds_at}
+use Rattle.std.proofs.Common.{◌∙◌, sym, ap}
+use Rattle.act_fits.specs.act_states.specs.{declared.makings.MakingAt.TheVariants.Fill as making_fill, declared.work.Act.Act as ActOf}
 use Rattle.core_invariant.specs.Holding.{Holding}
-use Rattle.core_invariant.specs.Frozen.{holds_untyping}
-use Rattle.core_invariant.specs.Knows.{phase_at}
-use Rattle.core_invariant.specs.Invariant.{holds_making, holds_killing, holds_act, holds_comp, holds_share, holds_work, holds_at}
-use Rattle.core_invariant.proofs.Bare.{counts_bare}
-use Rattle.core_invariant.proofs.Freezing.{release_bare}
-use Rattle.core_invariant.proofs.ThreadHolds.{switching_bare}
+use Rattle.core_invariant.proofs.{Bare.counts_bare, Freezing.release_bare, ThreadHolds.switching_bare}
+use Rattle.kernel_history.specs.Trace as history
 
 pub act_bare : (act : ActOf) (h : Holding) (f i : ℕ) → (holds_act act h).bare f i ≡ h.bare f i
 act_bare (fill_act fill) h f i = refl
@@ -68,20 +42,20 @@ act_bare (flush_act core) h f i = refl
 act_bare (untype_act m) h f i = by m.at
   where
     by : (at : UntypingAt) → (holds_untyping m.frame at h).bare f i ≡ h.bare f i
-    by untype.Load = refl
-    by (untype.Mark word v) = refl
-    by (untype.Sweep word w) = release_bare (release_of m.frame word (swept_of w) false) h f i
-    by (untype.Draw word w) = release_bare (release_of m.frame word w false) h f i
+    by UntypingAt.Load = refl
+    by (UntypingAt.Mark word v) = refl
+    by (UntypingAt.Sweep word w) = release_bare (release_of m.frame word (swept_of w) false) h f i
+    by (UntypingAt.Draw word w) = release_bare (release_of m.frame word w false) h f i
 act_bare (comp_act m) h f i = by m.at
   where
     by : (at : CompAt) → (holds_comp m at h).bare f i ≡ h.bare f i
-    by comp_at.Load = refl
-    by (comp_at.Mark word) = refl
-    by (comp_at.LoadLive word) = refl
-    by (comp_at.Scan word last q) = refl
-    by (comp_at.Close word last) = refl
-    by (comp_at.Store word last entry) = refl
-    by (comp_at.Fill word last) = refl
+    by CompAt.Load = refl
+    by (CompAt.Mark word) = refl
+    by (CompAt.LoadLive word) = refl
+    by (CompAt.Scan word last q) = refl
+    by (CompAt.Close word last) = refl
+    by (CompAt.Store word last entry) = refl
+    by (CompAt.Fill word last) = refl
 act_bare (share_act p) h f i = by p.at
   where
     by : (at : PairAt) → (holds_share p at h).bare f i ≡ h.bare f i

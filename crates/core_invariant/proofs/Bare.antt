@@ -1,13 +1,9 @@
 -- What is kept without a mark: what the words settle to where a step leaves what is kept, or where no core keeps a word.
-use Rattle.std.proofs.Common.{◌≡◌, ◌≢◌, ◌<◌, ℕ, zero, suc, List, [], ◌∷◌, true, Option, Some, None, arith, refl, sym, ◌∙◌, ap, inl, inr}
-use Rattle.std.proofs.lemmas.Bool.{cases_eq}
-use Rattle.kernel_history.specs.word_map.specs.Word.{Word, EntryAt, FrameAt, CountAt, CoreAt, FlushAt, LiveAt, ClockAt}
-use Rattle.kernel_invariant.specs.kernel_rules.specs.State.{put}
-use Rattle.kernel_invariant.specs.kernel_rules.proofs.Within.{put_same, put_other}
-use Rattle.act_fits.specs.stage_pins.specs.declared.held.Acquired.{Acquired}
-use Rattle.act_fits.specs.call_stages.specs.View.{Core}
-use Rattle.core_invariant.specs.Holding.{Holding, holds_counts, kept_or, kept_below, bare_value}
-use Rattle.core_invariant.specs.Invariant.{holds, held_by}
+use Rattle.act_fits.specs.act_states.proofs.{◌≡◌, ◌≢◌, ◌<◌, ℕ, zero, suc, List, [], ◌∷◌, true, Option, Some, None, arith, refl, sym, ◌∙◌}
+use Rattle.act_fits.specs.act_states.proofs.{ap, inl, inr, Word, EntryAt, FrameAt, CountAt, CoreAt, FlushAt, LiveAt, ClockAt, put, put_same}
+use Rattle.core_invariant.specs.{Core, holds_counts, bare_value, holds, held_by}
+use Rattle.core_invariant.specs.Holding.{Holding, kept_or, kept_below}
+use Rattle.{act_fits.specs.act_states.proofs.put_other, act_fits.specs.act_states.proofs.Acquired, std.proofs.lemmas.Bool.cases_eq}
 
 -- A word that no core keeps settles to itself.
 pub none_kept : (n : ℕ) (held : ℕ → Holding) (f i x : ℕ) → ((d : ℕ) → (held d).bare f i ≡ None) → kept_below n held f i x ≡ x

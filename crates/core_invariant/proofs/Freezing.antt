@@ -1,17 +1,11 @@
 -- What a core holds of the counters that it has frozen.
-use Rattle.std.proofs.Common.{◌≡◌, ◌≢◌, ℕ, ◌<◌, ◌≤◌, ◌&&◌, ◌==◌, nat_lt, nat_le, Bool, true, false}
-use Rattle.std.proofs.Common.{if◌then◌else◌, length, slice_get, Option, Some, None, arith, refl, sym, ◌∙◌, ap}
-use Rattle.std.proofs.lemmas.Bool.{false≢true, eq-eqb, ne_eqb, eqb-true, ltb-true, leb-true, lt-ltb, le-leb}
-use Rattle.kernel_history.specs.frame_words.specs.Count.{word_of_count}
-use Rattle.kernel_history.specs.word_map.specs.Word.{Word, EntryAt, FrameAt, CountAt, CoreAt, FlushAt, LiveAt, ClockAt, same_word}
-use Rattle.kernel_history.specs.word_map.proofs.WordLemmas.{same_same}
-use Rattle.act_fits.specs.stage_sweep.specs.Release.{released, thaw_of}
-use Rattle.act_fits.specs.stage_sweep.specs.declared.sweep.Swept.{Swept}
-use Rattle.act_fits.specs.stage_sweep.specs.declared.thaw.Thaw.{Thaw}
+use Rattle.act_fits.specs.act_states.proofs as low
+use low.{◌≡◌, ◌≢◌, ℕ, ◌<◌, ◌≤◌, ◌&&◌, ◌==◌, ltb as nat_lt, leb as nat_le, Bool, true, false, if◌then◌else◌, length, slice_get, Option, Some}
+use low.{None, arith, refl, sym, ◌∙◌, ap, false≢true, eq-eqb, ne_eqb, eqb-true, ltb-true, leb-true, lt-ltb, le-leb, word_of_count, Word}
+use low.{EntryAt, FrameAt, CountAt, CoreAt, FlushAt, LiveAt, ClockAt, same_word, same_same, released, thaw_of, Swept, Thaw}
+use Rattle.core_invariant.specs.{is_frozen, holds_thaw, holds_release, ThawsFrame}
 use Rattle.act_fits.specs.act_states.specs.declared.untypings.Release.{Release}
-use Rattle.core_invariant.specs.Frozen.{is_frozen, thawed, holds_thaw, holds_release}
-use Rattle.core_invariant.specs.Holding.{Holding}
-use Rattle.core_invariant.specs.Sweeps.{ThawsFrame}
+use Rattle.core_invariant.specs.{Frozen.thawed, Holding.Holding}
 
 -- Whether a word is a count.
 abbrev pub is_count : Word → Bool

@@ -1,20 +1,9 @@
 -- A call is in its phase, and a core whose mark a word carries is in a call.
-use Rattle.std.proofs.Common.{◌≡◌, ◌≢◌, inl, inr, ℕ, true, Option, Some, None, refl, sym, ◌∙◌}
-use Rattle.std.specs.Prelude.{IsSome}
-use Rattle.std.proofs.lemmas.Bool.{cases_lt, false≢true}
-use Rattle.kernel_invariant.specs.spk_nums.specs.Setting.{Setting}
-use Rattle.kernel_history.specs.word_map.specs.Word.{Word}
-use Rattle.kernel_history.specs.Bounds.{call_in}
-use Rattle.kernel_history.specs.Marking.{marked_by}
-use Rattle.kernel_history.specs.Trace.{Trace, Phase, Out, phase, state_after}
-use Rattle.kernel_history.specs.Stamps.{is_in}
-use Rattle.kernel_history.proofs.Inside.{inside_is}
-use Rattle.act_fits.specs.call_stages.specs.declared.stages.Stage.{Stage}
-use Rattle.act_fits.specs.call_stages.specs.declared.stages.Stage.TheVariants.{Enter, Living, Undecided, Decided, Leave}
-use Rattle.act_fits.specs.call_stages.specs.declared.stages.ActiveCall.{ActiveCall}
-use Rattle.act_fits.specs.call_stages.specs.View.{Core}
-use Rattle.core_invariant.specs.Knows.{phase_at, KnowsAt, Knows, CallIs}
-use Rattle.core_invariant.specs.Invariant.{holds_in, Invariant}
+use Rattle.core_invariant.specs.{◌≡◌, ◌≢◌, ℕ, true, Option, Some, None, refl, IsSome, Setting, Word, marked_by, Trace, Phase, Out, phase}
+use Rattle.core_invariant.specs.{state_after, is_in, Stage, Enter, Living, Undecided, Decided, Leave, ActiveCall, Core, phase_at, KnowsAt}
+use Rattle.kernel_history.proofs.{inl, inr, sym, ◌∙◌, false≢true, call_in, inside_is}
+use Rattle.{core_invariant.specs.CallIs, core_invariant.specs.holds_in, std.proofs.lemmas.Bool.cases_lt, core_invariant.specs.Knows.Knows}
+use Rattle.{core_invariant.specs.Invariant.Invariant}
 
 -- A call that has entered is in its phase.
 phase_at_in : (setup : Setting) (t : Trace) (c table : ℕ) (a : ActiveCall) (stage : Stage) → KnowsAt setup t c table a stage

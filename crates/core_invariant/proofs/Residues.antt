@@ -1,8 +1,6 @@
 -- Sums of integers modulo 2 ^ 16.
-use Rattle.std.proofs.Common.{◌≡◌, ℤ, ◌+ℤ◌, arith, ◌∙◌, ap}
-use Rattle.std.proofs.lemmas.Int.{ints}
-use Rattle.kernel_history.specs.frame_words.specs.Residue.{residue}
-use Rattle.kernel_history.specs.frame_words.proofs.ResidueLemmas.{residue_sum}
+use Rattle.act_fits.specs.act_states.proofs.{◌≡◌, ℤ, ◌+ℤ◌, arith, ◌∙◌, ap, residue}
+use Rattle.{std.proofs.lemmas.Int.ints, kernel_history.specs.frame_words.proofs.ResidueLemmas.residue_sum}
 
 turned : (a b : ℤ) → a +ℤ b ≡ b +ℤ a
 turned a b = omega (arith, ints)

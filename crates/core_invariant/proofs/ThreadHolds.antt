@@ -1,18 +1,11 @@
 -- What a switch holds beside its counts is words of threads, which no other part of a call looks at.
-use Rattle.std.proofs.Common.{◌≡◌, ℕ, true, not, if◌then◌else◌, refl, ap}
-use Rattle.std.proofs.lemmas.Bool.{false≢true}
-use Rattle.kernel_history.specs.tcap_words.specs.Thread.{word_of_thread}
-use Rattle.kernel_history.specs.tcap_words.specs.declared.thread_word.ThreadWord.TheVariants.{Idle, Running}
-use Rattle.act_fits.specs.stage_thread.specs.declared.claim.Claim.TheVariants.{AtLoad, AtCompare, AtStack}
-use Rattle.kernel_history.specs.word_map.specs.Word.{Word, EntryAt, CountAt, FlushAt, same_word}
-use Rattle.kernel_history.specs.word_map.proofs.WordLemmas.{same_same}
-use Rattle.act_fits.specs.act_states.specs.Switches.{is_switching, switching_undo}
-use Rattle.act_fits.specs.act_states.specs.declared.switches.Switching.{Switching}
-use Rattle.act_fits.specs.act_states.specs.declared.switches.SwitchAt.{SwitchAt}
+use Rattle.core_invariant.specs.{◌≡◌, ℕ, true, not, if◌then◌else◌, refl, word_of_thread, Idle, Running, Word, EntryAt, CountAt, FlushAt}
+use Rattle.core_invariant.specs.{same_word, Switching, SwitchAt, keeps, holds_tail, holds_idle, holds_switching, claimed_by, is_claimed}
+use Rattle.act_fits.specs.act_states.proofs.{ap, false≢true, AtStack, same_same}
+use Rattle.act_fits.specs.act_states.specs.{is_switching, switching_undo}
+use Rattle.act_fits.specs.stage_thread.specs.declared.claim.Claim.TheVariants.{AtLoad, AtCompare}
 use Rattle.act_fits.specs.act_states.specs.declared.switches.SwitchAt.TheVariants.{Claim, LoadTable, LoadPages, Leave, Draw}
-use Rattle.core_invariant.specs.Holding.{Holding, keeps}
-use Rattle.core_invariant.specs.Invariant.{holds_tail}
-use Rattle.core_invariant.specs.Threads.{holds_idle, holds_switching, claimed_by, is_claimed}
+use Rattle.core_invariant.specs.Holding.{Holding}
 
 -- Of flush words, and of counts.
 pub switching_flush : (m : Switching) (at : SwitchAt) (h : Holding) (c : ℕ)

@@ -1,124 +1,54 @@
 -- What a call knows of its act, act by act, said of the state.
-use Rattle.act_fits.specs.stage_tcap.specs.declared.charge.Charge.{Charge}
+use Rattle.act_fits.specs.act_states.specs as low
+use low.{Charge, head, HeadFits, word_of_head, ticks_due, ticks_of, is_charging, object_word, last_word, LiveWord, comp_cap, dues, put_by}
+use low.{reads_of, removes_by, stamp_of_act, fills_page, comp_is_marked, comp_meets_number, comp_word_at, is_marked, ◌≡◌, ◌≢◌, ◌<◌, ◌≤◌}
+use low.{◌+◌, ◌++◌, ◌/◌, ℕ, ℤ, Bool, true, false, map, All, List, [], ◌∷◌, length, Option, Some, None, IsSome, IsTrue, not, ◌^◌, ◌⊎◌}
+use low.{is_some, Capability, Setting, Kind, Call, Retype, Make as make_call, Flush, Tick, Kill, Map, Part, Touch, FrameKind, frame_of_word}
+use low.{FrameWord, EntryFits, entry_of_word, Entry, CompFits, CountFits, word_of_count, live_of_word, CompWord, EntryAt, CountAt, FrameAt}
+use low.{LiveAt, User, Thing, PlaceOf, State, first_of_stack, thread_of, comp_of, comp_in, NumberOf, Dead, translation_of, is_at_page, Slot}
+use low.{Named, root_at, Target, Under, InRoot, usable, linked, root_slot, reached, found, fits, IsGuarded, Relies, Push as PushOf}
+use low.{Pop as PopOf, Look, AtRoot, AtLeaf, AtEntry, unheld, Pin, AtLoad, Acquired, Plan, Leads, Next, NextName, NextFree, NextHeld}
+use low.{NextOwn, NextNothing, next_of, is_killing, is_entering, is_leaving, is_switching, is_typing, has_frame, has_frames, Close}
+use low.{AtCompare as close_compare, AtDraw, AtStore, Quiet, AtCore, AtFlush, is_drawing}
+use Rattle.kernel_history.specs.{marked_by, frame_mark, live_mark, IsLeave, shape_of, Phase, Out, phase, state_after, own_left, own_read}
+use Rattle.kernel_history.specs.{steps_in_call, WasAt, last_left, root_passed, counts_references, changes_places, changes_frames}
+use Rattle.kernel_history.specs.{changes_numbers, stores_flush, changes_threads, IsInFootprint, is_one_of, frame_argument, HasReached}
+use Rattle.kernel_history.specs.{IsRemoved, clock, stamp, exit_of, flush_of, flush_stored}
+use Rattle.act_fits.specs.stage_tcap.specs.{Blank, Comp as comp_kind, Untyped, Kernel as FrameKernel, Make}
+use Rattle.act_fits.specs.call_stages.specs.{Core, IsCore}
 use Rattle.act_fits.specs.stage_tcap.specs.declared.charge.Charge.TheVariants.{AtLoad as charge_load, AtCompare as charge_compare}
-use Rattle.act_fits.specs.stage_tcap.specs.Heads.{head}
-use Rattle.kernel_history.specs.tcap_words.specs.Head.{HeadFits, word_of_head}
-use Rattle.act_fits.specs.act_states.specs.Ticks.{ticks_due, ticks_of, is_charging}
-use Rattle.kernel_history.specs.Marking.{marked_by}
-use Rattle.kernel_history.specs.Marks.{frame_mark, live_mark}
-use Rattle.kernel_invariant.specs.spk_nums.specs.declared.kinds.Obj.TheVariants.{Blank}
-use Rattle.act_fits.specs.act_states.specs.Objects.{object_cap, object_made, object_word, last_word}
-use Rattle.kernel_invariant.specs.spk_nums.specs.declared.calls.Make.TheVariants as make
-use Rattle.kernel_history.specs.frame_words.specs.declared.live_word.LiveWord.{LiveWord}
-use Rattle.act_fits.specs.act_states.specs.Acts.{comp_cap, dues, put_by, reads_of, removes_by, stamp_of_act, fills_page}
-use Rattle.act_fits.specs.act_states.specs.Comps.{comp_is_marked, comp_meets_number, comp_word_at}
-use Rattle.act_fits.specs.act_states.specs.declared.comps.CompAt.{CompAt}
-use Rattle.act_fits.specs.act_states.specs.declared.comps.CompAt.TheVariants as comp_at
-use Rattle.act_fits.specs.act_states.specs.declared.comps.CompMaking.{CompMaking}
-use Rattle.act_fits.specs.act_states.specs.declared.comps.LastEpoch.{LastEpoch}
-use Rattle.act_fits.specs.act_states.specs.Makings.{is_marked}
-use Rattle.act_fits.specs.act_states.specs.declared.makings.MakingAt.TheVariants.{Load as making_load, Mark, Store, Fill as making_fill}
-use Rattle.act_fits.specs.act_states.specs.declared.makings.MakingAt.{MakingAt}
-use Rattle.act_fits.specs.act_states.specs.declared.makings.Making.{Making}
-use Rattle.act_fits.specs.act_states.specs.declared.objects.NewObject.{NewObject}
-use Rattle.std.specs.Prelude.{◌≡◌, ◌≢◌, ◌<◌, ◌≤◌, ◌+◌, ◌++◌, ◌/◌, ℕ, ℤ, Bool, true, false, map, All, List}
-use Rattle.std.specs.Prelude.{[], ◌∷◌, length, Option, Some, None, IsSome, IsTrue, not, ◌^◌, ◌⊎◌, is_some}
-use Rattle.kernel_invariant.specs.spk_nums.specs.Capability.{Capability}
-use Rattle.kernel_invariant.specs.spk_nums.specs.Setting.{Setting}
-use Rattle.kernel_invariant.specs.spk_nums.specs.declared.kinds.Kind.{Kind}
-use Rattle.kernel_invariant.specs.spk_nums.specs.declared.kinds.Kind.TheVariants.{Comp as comp_kind}
-use Rattle.kernel_invariant.specs.spk_nums.specs.declared.calls.Call.{Call}
-use Rattle.kernel_invariant.specs.spk_nums.specs.declared.calls.Call.TheVariants.{Retype, Make as make_call, Flush, Tick, Kill, Map, Part, Touch}
-use Rattle.kernel_invariant.specs.spk_nums.specs.declared.kinds.FrameKind.{FrameKind}
-use Rattle.kernel_invariant.specs.spk_nums.specs.declared.kinds.FrameKind.TheVariants.{Untyped, Kernel as FrameKernel}
-use Rattle.kernel_history.specs.frame_words.specs.Frame.{frame_of_word}
-use Rattle.kernel_history.specs.frame_words.specs.declared.frame_word.FrameWord.{FrameWord}
-use Rattle.kernel_history.specs.entry_words.specs.EntryWord.{EntryFits, entry_of_word}
-use Rattle.kernel_history.specs.entry_words.specs.declared.entry.Entry.{Entry}
-use Rattle.kernel_history.specs.entry_words.specs.declared.entry.Entry.TheVariants as entry
-use Rattle.kernel_history.specs.frame_words.specs.Comp.{CompFits}
-use Rattle.kernel_history.specs.frame_words.specs.Count.{CountFits, word_of_count}
-use Rattle.kernel_history.specs.frame_words.specs.Live.{live_of_word}
-use Rattle.kernel_history.specs.frame_words.specs.declared.comp_word.CompWord.{CompWord}
-use Rattle.kernel_history.specs.frame_words.specs.declared.live_word.LiveWord.TheVariants as live_word
-use Rattle.kernel_history.specs.word_map.specs.Word.{EntryAt, CountAt, FrameAt, LiveAt}
-use Rattle.kernel_invariant.specs.kernel_rules.specs.State.{User, Thing, PlaceOf, State, first_of_stack, thread_of, comp_of, comp_in}
-use Rattle.kernel_invariant.specs.kernel_rules.specs.State.{NumberOf, Dead}
-use Rattle.kernel_invariant.specs.kernel_rules.specs.MemoryCalls.{translation_of}
-use Rattle.act_fits.specs.act_states.specs.declared.touches.Touching.{Touching}
-use Rattle.act_fits.specs.act_states.specs.Touches.{is_at_page}
-use Rattle.kernel_invariant.specs.kernel_rules.specs.Access.{Slot, Named, root_at, Target, Under, InRoot, usable, linked, root_slot}
-use Rattle.kernel_invariant.specs.kernel_rules.specs.Access.{reached, found}
-use Rattle.kernel_invariant.specs.kernel_rules.specs.Fitting.{fits}
-use Rattle.kernel_invariant.specs.kernel_rules.specs.Relies.{IsGuarded, Relies}
-use Rattle.kernel_history.specs.Graces.{IsLeave}
-use Rattle.kernel_history.specs.BootWords.{shape_of}
-use Rattle.kernel_history.specs.Trace.{Trace, Phase, Out, Open, phase, state_after, own_left, own_read, steps_in_call, WasAt, last_left}
-use Rattle.kernel_history.specs.Trace as history
-use Rattle.kernel_history.specs.Ways.{root_passed}
-use Rattle.kernel_history.specs.Discipline.{counts_references, changes_places, changes_frames}
-use Rattle.kernel_history.specs.Discipline.{changes_numbers, stores_flush, changes_threads}
-use Rattle.act_fits.specs.stage_thread.specs.declared.stack.Push.{Push as PushOf}
-use Rattle.act_fits.specs.stage_thread.specs.declared.stack.Push.TheVariants as push
-use Rattle.act_fits.specs.stage_thread.specs.declared.stack.Pop.{Pop as PopOf}
-use Rattle.act_fits.specs.stage_thread.specs.declared.stack.Pop.TheVariants as pop
-use Rattle.kernel_history.specs.Footprint.{IsInFootprint, is_one_of, frame_argument}
-use Rattle.kernel_history.specs.Justified.{HasReached, IsRemoved}
-use Rattle.kernel_history.specs.Stamps.{clock, stamp, exit_of, flush_of, flush_stored}
-use Rattle.act_fits.specs.stage_look.specs.declared.look.Look.{Look}
-use Rattle.act_fits.specs.stage_look.specs.declared.look.Look.TheVariants.{AtRoot, AtLeaf, AtEntry}
-use Rattle.act_fits.specs.stage_pins.specs.Counts.{unheld}
-use Rattle.act_fits.specs.stage_pins.specs.declared.pin.Pin.{Pin}
-use Rattle.act_fits.specs.stage_pins.specs.declared.pin.Pin.TheVariants.{AtLoad, AtCompare}
-use Rattle.act_fits.specs.stage_pins.specs.declared.held.Acquired.{Acquired}
-use Rattle.act_fits.specs.call_plans.specs.declared.plans.Plan.{Plan}
-use Rattle.act_fits.specs.call_plans.specs.After.{Leads, Next, NextName, NextFree, NextHeld, NextOwn, NextNothing, next_of}
-use Rattle.act_fits.specs.act_states.specs.declared.kills.Killing.{Killing}
-use Rattle.act_fits.specs.act_states.specs.declared.kills.KillingAt.{KillingAt}
-use Rattle.act_fits.specs.act_states.specs.declared.kills.KillingAt.TheVariants.{LoadComp, LoadLive, Close as kill_close}
-use Rattle.act_fits.specs.act_states.specs.declared.kills.KillingAt.TheVariants.{Draw as kill_draw}
-use Rattle.act_fits.specs.act_states.specs.Kills.{is_killing}
-use Rattle.act_fits.specs.act_states.specs.Invocations.{is_entering, is_leaving}
-use Rattle.act_fits.specs.act_states.specs.Switches.{is_switching}
-use Rattle.act_fits.specs.act_states.specs.declared.own.Own.{Own}
-use Rattle.act_fits.specs.act_states.specs.declared.fills.Fill.{Fill}
-use Rattle.act_fits.specs.act_states.specs.declared.typings.Typing.{Typing}
-use Rattle.act_fits.specs.act_states.specs.declared.typings.TypingAt.{TypingAt}
-use Rattle.act_fits.specs.act_states.specs.declared.typings.TypingAt.TheVariants.{Load, Compare as type_compare}
-use Rattle.act_fits.specs.act_states.specs.Typings.{is_typing}
-use Rattle.kernel_invariant.specs.kernel_rules.specs.CapabilityCalls.{has_frame, has_frames}
-use Rattle.act_fits.specs.act_states.specs.declared.work.Act.{Act as ActOf}
-use Rattle.act_fits.specs.act_states.specs.declared.work.Act.TheVariants.{Fill as fill_act, Remove as remove_act, Retype as type_act}
-use Rattle.act_fits.specs.act_states.specs.declared.work.Act.TheVariants.{Make as make_act, Outside, Tick as tick_act}
-use Rattle.act_fits.specs.act_states.specs.declared.work.Act.TheVariants.{Flush as flush_act}
-use Rattle.act_fits.specs.act_states.specs.declared.work.Act.TheVariants.{Kill as kill_act, Untype as untype_act, Map as map_act}
-use Rattle.act_fits.specs.act_states.specs.declared.work.Act.TheVariants.{MakeComp as comp_act, Invoke as invoke_act}
-use Rattle.act_fits.specs.act_states.specs.declared.work.Act.TheVariants.{Return as return_act}
-use Rattle.act_fits.specs.act_states.specs.declared.work.Act.TheVariants.{Touch as touch_act, Share as share_act, Switch as switch_act}
-use Rattle.act_fits.specs.act_states.specs.declared.work.Work.{Work}
-use Rattle.act_fits.specs.act_states.specs.declared.work.Due.{Due}
-use Rattle.act_fits.specs.act_states.specs.declared.work.Work.TheVariants.{Lookup, Read, Scan, Acquire, Act}
-use Rattle.act_fits.specs.act_states.specs.declared.work.Tail.{Tail}
-use Rattle.act_fits.specs.act_states.specs.declared.work.Tail.TheVariants.{Nothing, Quiesce, Unmark, StoreDead, StoreFlush, Release}
-use Rattle.act_fits.specs.act_states.specs.declared.work.Tail.TheVariants.{StoreLive, Push, Pop, Share, StoreRunning, StoreIdle}
-use Rattle.act_fits.specs.call_stages.specs.declared.stages.Stage.{Stage}
+use low.Objects.{object_cap, object_made}
+use low.declared.makings.MakingAt.TheVariants.{Load as making_load, Mark, Store, Fill as making_fill}
+use low.declared.kills.KillingAt.TheVariants.{LoadComp, LoadLive, Close as kill_close, Draw as kill_draw}
+use low.declared.typings.TypingAt.TheVariants.{Load, Compare as type_compare}
+use low.declared.work.Act.TheVariants.{Fill as fill_act, Remove as remove_act, Retype as type_act, Make as make_act, Outside}
+use low.declared.work.Act.TheVariants.{Tick as tick_act, Flush as flush_act, Kill as kill_act, Untype as untype_act, Map as map_act}
+use low.declared.work.Act.TheVariants.{MakeComp as comp_act, Invoke as invoke_act, Return as return_act, Touch as touch_act}
+use low.declared.work.Act.TheVariants.{Share as share_act, Switch as switch_act}
+use low.declared.work.Work.TheVariants.{Lookup, Read, Scan, Acquire, Act}
+use low.declared.work.Tail.TheVariants.{Nothing, Quiesce, Unmark, StoreDead, StoreFlush, Release, StoreLive, Push, Pop, Share, StoreRunning}
+use Rattle.kernel_history.specs.Trace.{Trace, Open}
 use Rattle.act_fits.specs.call_stages.specs.declared.stages.Stage.TheVariants.{Enter, Undecided, Decided, Leave}
-use Rattle.act_fits.specs.call_stages.specs.declared.stages.ActiveCall.{ActiveCall}
-use Rattle.act_fits.specs.stage_quiet.specs.declared.close.Close.{Close}
-use Rattle.act_fits.specs.stage_quiet.specs.declared.close.Close.TheVariants.{AtCompare as close_compare, AtDraw, AtStore}
-use Rattle.act_fits.specs.stage_quiet.specs.declared.quiet.Quiet.{Quiet}
-use Rattle.act_fits.specs.stage_quiet.specs.declared.quiet.Quiet.TheVariants.{AtCore, AtFlush}
-use Rattle.act_fits.specs.call_stages.specs.View.{Core}
-use Rattle.act_fits.specs.call_stages.specs.Fits.{IsCore}
-use Rattle.act_fits.specs.act_states.specs.Untypings.{is_drawing}
 use Rattle.core_invariant.specs.Shares.{KnowsShare, KnowsShared}
 use Rattle.core_invariant.specs.Holding.{count_of, holds_counts, AreApart}
 use Rattle.core_invariant.specs.Components.{HasComp, HasLife, IsRead, ReadIs, KnowsInvoking, KnowsReturning}
 use Rattle.core_invariant.specs.Threads.{KnowsSwitch, KnowsRunning, KnowsIdle}
 use Rattle.core_invariant.specs.Sweeps.{KnowsUntyping, KnowsRelease}
-use Rattle.core_invariant.specs.Reaching.{root_frame, ReliesOn, IsReached, HasFound, IsAtRoot, IsAtLeaf, IsAtEntry, LookIs, LooksUp}
-use Rattle.core_invariant.specs.Reaching.{own_in, NamesAre, LooksFor, HasPassed, HasFlushed, IsScanned, MayFill, IsSpot, IsUser, HasUser}
-use Rattle.core_invariant.specs.Reaching.{IsFill, untypes, is_mapping, mapped_frame, IsMapping, IsRemoval, IsClosing, KnowsClose}
+use Rattle.core_invariant.specs.Reaching.{root_frame, ReliesOn, IsReached, HasFound, IsAtRoot, IsAtLeaf, IsAtEntry, LookIs, LooksUp, own_in}
+use Rattle.core_invariant.specs.Reaching.{NamesAre, LooksFor, HasPassed, HasFlushed, IsScanned, MayFill, IsSpot, IsUser, HasUser, IsFill}
+use Rattle.core_invariant.specs.Reaching.{untypes, is_mapping, mapped_frame, IsMapping, IsRemoval, IsClosing, KnowsClose}
+use low.{declared.comps.CompAt.CompAt, declared.comps.CompMaking.CompMaking, declared.comps.LastEpoch.LastEpoch}
+use low.{declared.makings.MakingAt.MakingAt, declared.makings.Making.Making, declared.objects.NewObject.NewObject}
+use low.{declared.touches.Touching.Touching, declared.kills.Killing.Killing, declared.kills.KillingAt.KillingAt, declared.own.Own.Own}
+use low.{declared.fills.Fill.Fill, declared.typings.Typing.Typing, declared.typings.TypingAt.TypingAt, declared.work.Act.Act as ActOf}
+use low.{declared.work.Work.Work, declared.work.Due.Due, declared.work.Tail.Tail, declared.work.Tail.TheVariants.StoreIdle}
+use Rattle.{act_fits.specs.stage_pins.specs.declared.pin.Pin.TheVariants.AtCompare}
+use Rattle.{act_fits.specs.call_stages.specs.declared.stages.Stage.Stage}
+use Rattle.{act_fits.specs.call_stages.specs.declared.stages.ActiveCall.ActiveCall}
+use Rattle.kernel_history.specs.entry_words.specs.declared.entry.Entry.TheVariants as entry
+use Rattle.kernel_history.specs.Trace as history
+use Rattle.act_fits.specs.stage_thread.specs.declared.stack.Push.TheVariants as push
+use Rattle.act_fits.specs.stage_thread.specs.declared.stack.Pop.TheVariants as pop
 
 -- The call types this frame, to another kind than untyped, which the range has to which its name has led.
 pub record IsTyped (f : ℕ) (k : FrameKind) (y : Typing) (has : Bool) : Type 0 where
@@ -169,7 +99,7 @@ OutsideObject (make_call what r f u b) (range ∷ ks) = IsOutside (object_made w
 OutsideObject call ks = ⊥
 
 abbrev pub OutsideComp : Call → List Capability → Type 0
-OutsideComp (make_call (make.Comp x p live) r f u b) (range ∷ target ∷ table ∷ pages ∷ []) = has_frame (found range) f ≡ false
+OutsideComp (make_call (Make.Comp x p live) r f u b) (range ∷ target ∷ table ∷ pages ∷ []) = has_frame (found range) f ≡ false
 OutsideComp call ks = ⊥
 
 abbrev pub OutsideBy : Call → List Capability → Type 0
@@ -249,7 +179,7 @@ KillsBy call ks f = ⊥
 -- The number's word as it was found says that it is live in that epoch.
 pub record SaysLive (life : CompWord) (word : ℕ) : Type 0 where
   pub frame : ℕ
-  pub says : live_of_word word ≡ Some (live_word.Live life.epoch frame)
+  pub says : live_of_word word ≡ Some (LiveWord.Live life.epoch frame)
 
 -- Before the compare the call's last step on the number's word has read this word there.
 pub record HasMetLive (setup : Setting) (t : Trace) (c f : ℕ) (life : CompWord) (word : ℕ) : Type 0 where
@@ -283,17 +213,17 @@ pub record IsCompMade (f live : ℕ) (own_table own_pages : Capability) (m : Com
   pub within : has ≡ true
 
 abbrev pub MakesCompBy : Call → List Capability → CompMaking → Type 0
-MakesCompBy (make_call (make.Comp x p live) r f u b) (range ∷ target ∷ table ∷ pages ∷ []) m =
+MakesCompBy (make_call (Make.Comp x p live) r f u b) (range ∷ target ∷ table ∷ pages ∷ []) m =
     IsCompMade f live table pages m (has_frame (found range) f)
 MakesCompBy call ks m = ⊥
 
 -- The number's word as it was found says that it is free, or dead and scanned so far, and which epoch was its last.
 abbrev pub MayTake : Setting → Trace → ℕ → ℕ → ℕ → ℕ → Option LiveWord → Type 0
 MayTake setup t c l last upto None = ⊥
-MayTake setup t c l last upto (Some live_word.Free) = 0 ≡ last
-MayTake setup t c l last upto (Some (live_word.Live e f)) = ⊥
-MayTake setup t c l last upto (Some (live_word.Closing e by)) = ⊥
-MayTake setup t c l last upto (Some (live_word.Dead e x)) = (e ≡ last) × IsScanned setup t c (NumberOf l) x upto
+MayTake setup t c l last upto (Some LiveWord.Free) = 0 ≡ last
+MayTake setup t c l last upto (Some (LiveWord.Live e f)) = ⊥
+MayTake setup t c l last upto (Some (LiveWord.Closing e by)) = ⊥
+MayTake setup t c l last upto (Some (LiveWord.Dead e x)) = (e ≡ last) × IsScanned setup t c (NumberOf l) x upto
 
 -- The frame's word as it was found is that of a blank kernel frame which no core has marked.
 abbrev pub SaysBlank : ℕ → Type 0
@@ -303,7 +233,7 @@ SaysBlank word = frame_of_word word ≡ Some blank_word
 -- were scanned.
 pub record ScansNumber (setup : Setting) (t : Trace) (c l : ℕ) (last : LastEpoch) (x by upto : ℕ) : Type 0 where
   pub own : own_read t c (LiveAt l) ≡ Some last.word
-  pub says : live_of_word last.word ≡ Some (live_word.Dead last.epoch x)
+  pub says : live_of_word last.word ≡ Some (LiveWord.Dead last.epoch x)
   pub core : by ≡ c
   pub was_dead : WasAt (λ s. s.number l ≡ Dead last.epoch) setup t c
   pub scanned : IsScanned setup t c (NumberOf l) x upto
@@ -327,14 +257,14 @@ pub record HasWords (setup : Setting) (t : Trace) (f : ℕ) (words : ℕ → ℕ
   pub stored : (i : ℕ) → i < upto → last_left setup t (EntryAt f i) ≡ words i
 
 abbrev pub KnowsCompAt : Setting → Trace → ℕ → CompMaking → CompAt → Type 0
-KnowsCompAt setup t c m comp_at.Load = Unit {0}
-KnowsCompAt setup t c m (comp_at.Mark word) = HasBlank t c m.frame word
-KnowsCompAt setup t c m (comp_at.LoadLive word) = SaysBlank word
-KnowsCompAt setup t c m (comp_at.Scan word last q) = SaysBlank word × KnowsNumber setup t c m.number last q
-KnowsCompAt setup t c m (comp_at.Close word last) = SaysBlank word × HasMetNumber setup t c m.number m.epochs last
-KnowsCompAt setup t c m (comp_at.Store word last n) =
+KnowsCompAt setup t c m CompAt.Load = Unit {0}
+KnowsCompAt setup t c m (CompAt.Mark word) = HasBlank t c m.frame word
+KnowsCompAt setup t c m (CompAt.LoadLive word) = SaysBlank word
+KnowsCompAt setup t c m (CompAt.Scan word last q) = SaysBlank word × KnowsNumber setup t c m.number last q
+KnowsCompAt setup t c m (CompAt.Close word last) = SaysBlank word × HasMetNumber setup t c m.number m.epochs last
+KnowsCompAt setup t c m (CompAt.Store word last n) =
     SaysBlank word × TakesNumber setup t c m.number m.epochs last × HasWords setup t m.frame (comp_word_at m (last.epoch + 1)) n
-KnowsCompAt setup t c m (comp_at.Fill word last) =
+KnowsCompAt setup t c m (CompAt.Fill word last) =
     SaysBlank word × TakesNumber setup t c m.number m.epochs last × HasWords setup t m.frame (comp_word_at m (last.epoch + 1)) 3
 
 pub record KnowsComp (setup : Setting) (t : Trace) (c : ℕ) (call : Call) (plan : Plan) (ks : List Capability) (upto : ℕ) (m : CompMaking) :

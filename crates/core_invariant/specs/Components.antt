@@ -1,20 +1,10 @@
 -- What a call knows of components, of the words of one that it has read, and of the stack of its core's thread.
-use Rattle.std.specs.Prelude.{◌≡◌, ℕ, List, [], ◌∷◌, drop, length, Option, Some, None, IsTrue}
-use Rattle.kernel_invariant.specs.spk_nums.specs.Capability.{Capability}
-use Rattle.kernel_invariant.specs.spk_nums.specs.declared.kinds.Kind.TheVariants.{Comp as comp_kind, Gate as gate_kind}
-use Rattle.kernel_invariant.specs.spk_nums.specs.declared.calls.Call.{Call}
-use Rattle.kernel_invariant.specs.spk_nums.specs.declared.calls.Call.TheVariants.{Call as call_gate, Ret}
-use Rattle.kernel_history.specs.frame_words.specs.Comp.{CompFits}
-use Rattle.kernel_history.specs.frame_words.specs.declared.comp_word.CompWord.{CompWord}
-use Rattle.kernel_invariant.specs.kernel_rules.specs.State.{CompFields, State, first_of_stack, thread_of, comp_in}
-use Rattle.kernel_invariant.specs.kernel_rules.specs.Fitting.{fits}
-use Rattle.kernel_invariant.specs.kernel_rules.specs.Relies.{IsGuarded}
-use Rattle.act_fits.specs.act_states.specs.declared.invocations.Invoking.{Invoking}
-use Rattle.act_fits.specs.act_states.specs.declared.invocations.InvokingAt.{InvokingAt}
-use Rattle.act_fits.specs.act_states.specs.declared.invocations.InvokingAt.TheVariants as invoking
-use Rattle.act_fits.specs.act_states.specs.declared.invocations.Returning.{Returning}
-use Rattle.act_fits.specs.act_states.specs.declared.invocations.ReturningAt.{ReturningAt}
-use Rattle.act_fits.specs.act_states.specs.declared.invocations.ReturningAt.TheVariants as returning
+use Rattle.act_fits.specs.act_states.specs.{◌≡◌, ℕ, List, [], ◌∷◌, drop, length, Option, Some, None, IsTrue, Capability, Call, Ret}
+use Rattle.act_fits.specs.act_states.specs.{CompFits, CompWord, CompFields, State, first_of_stack, thread_of, comp_in, fits, IsGuarded}
+use Rattle.kernel_history.specs.spk_nums.specs.declared.kinds.Kind.TheVariants.{Comp as comp_kind, Gate as gate_kind}
+use Rattle.kernel_history.specs.spk_nums.specs.declared.calls.Call.TheVariants.{Call as call_gate}
+use Rattle.act_fits.specs.act_states.specs.{declared.invocations.Invoking.Invoking, declared.invocations.InvokingAt.InvokingAt}
+use Rattle.act_fits.specs.act_states.specs.{declared.invocations.Returning.Returning, declared.invocations.ReturningAt.ReturningAt}
 
 -- A component that no other core may retype.
 pub record HasComp (s : State) (c f : ℕ) : Type 0 where
@@ -56,10 +46,10 @@ InvokesBy call ks m = ⊥
 
 -- The words of the component that have been loaded.
 abbrev pub HasLoadedComp : CompFields → InvokingAt → Type 0
-HasLoadedComp k invoking.LoadTable = Unit {0}
-HasLoadedComp k (invoking.LoadPages table) = table ≡ k.table
-HasLoadedComp k (invoking.LoadComp table pages) = (table ≡ k.table) × (pages ≡ k.pages)
-HasLoadedComp k (invoking.LoadLive table pages life) =
+HasLoadedComp k InvokingAt.LoadTable = Unit {0}
+HasLoadedComp k (InvokingAt.LoadPages table) = table ≡ k.table
+HasLoadedComp k (InvokingAt.LoadComp table pages) = (table ≡ k.table) × (pages ≡ k.pages)
+HasLoadedComp k (InvokingAt.LoadLive table pages life) =
     (table ≡ k.table) × (pages ≡ k.pages) × (k.number ≡ life.number) × (k.epoch ≡ life.epoch)
 
 pub record KnowsInvoking (s : State) (c : ℕ) (call : Call) (ks : List Capability) (m : Invoking) : Type 0 where
@@ -80,10 +70,10 @@ pub record IsBelow (s : State) (c f : ℕ) : Type 0 where
 
 -- It has been loaded, and these words of it.
 abbrev pub HasLoadedBelow : State → ℕ → ReturningAt → Type 0
-HasLoadedBelow s c returning.LoadBelow = Unit {0}
-HasLoadedBelow s c (returning.LoadTable comp) = IsBelow s c comp
-HasLoadedBelow s c (returning.LoadPages comp table) = IsBelow s c comp × (table ≡ (comp_in (s.frame comp)).table)
-HasLoadedBelow s c (returning.Draw comp table pages) =
+HasLoadedBelow s c ReturningAt.LoadBelow = Unit {0}
+HasLoadedBelow s c (ReturningAt.LoadTable comp) = IsBelow s c comp
+HasLoadedBelow s c (ReturningAt.LoadPages comp table) = IsBelow s c comp × (table ≡ (comp_in (s.frame comp)).table)
+HasLoadedBelow s c (ReturningAt.Draw comp table pages) =
     IsBelow s c comp × (table ≡ (comp_in (s.frame comp)).table) × (pages ≡ (comp_in (s.frame comp)).pages)
 
 pub record KnowsReturning (s : State) (c : ℕ) (call : Call) (m : Returning) : Type 0 where

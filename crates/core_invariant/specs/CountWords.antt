@@ -1,6 +1,5 @@
 -- What the count words of a frame show together beside their counts.
-use Rattle.std.specs.Prelude.{ℕ, max, List, [], ◌∷◌, Option, Some, None}
-use Rattle.kernel_history.specs.frame_words.specs.declared.count_word.CountWord.{CountWord}
+use Rattle.act_fits.specs.act_states.specs.{ℕ, max, List, [], ◌∷◌, Option, Some, None, CountWord}
 
 -- The stamp of a count word, 0 for none.
 abbrev pub stamp_in : Option CountWord → ℕ

@@ -1,6 +1,5 @@
 -- What a core tells of its step, as the events of the step.
-use Rattle.std.specs.Prelude.{Option, Some, None}
-use Rattle.kernel_invariant.specs.spk_nums.specs.declared.replies.Reply.{Reply}
+use Rattle.act_fits.specs.act_states.specs.{Option, Some, None, Reply}
 use Rattle.act_fits.specs.call_stages.specs.declared.stages.Absorbed.{Absorbed}
 use Rattle.act_fits.specs.call_stages.specs.declared.stages.Absorbed.TheVariants.{Going, Decided, Returned}
 

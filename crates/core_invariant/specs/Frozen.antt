@@ -1,15 +1,10 @@
 -- What a core holds of a frame that it makes untyped: the frame's word, and the counters that it has frozen.
-use Rattle.std.specs.Prelude.{ℕ, ◌&&◌, ◌==◌, nat_lt, nat_le, Bool, true, false, length, slice_get, Option, Some, None, if◌then◌else◌}
-use Rattle.kernel_history.specs.frame_words.specs.Count.{word_of_count}
-use Rattle.kernel_history.specs.word_map.specs.Word.{Word, CountAt, FrameAt}
-use Rattle.act_fits.specs.stage_sweep.specs.Freeze.{swept_of}
-use Rattle.act_fits.specs.stage_sweep.specs.Release.{released}
-use Rattle.act_fits.specs.stage_sweep.specs.declared.thaw.Thaw.{Thaw}
-use Rattle.act_fits.specs.act_states.specs.Untypings.{release_of}
-use Rattle.act_fits.specs.act_states.specs.declared.untypings.Release.{Release}
-use Rattle.act_fits.specs.act_states.specs.declared.untypings.UntypingAt.{UntypingAt}
+use Rattle.act_fits.specs.act_states.specs.{ℕ, ◌&&◌, ◌==◌, ltb as nat_lt, leb as nat_le, Bool, true, false, length, slice_get, Option, Some}
+use Rattle.act_fits.specs.act_states.specs.{None, if◌then◌else◌, word_of_count, Word, CountAt, FrameAt, swept_of, released, Thaw}
 use Rattle.act_fits.specs.act_states.specs.declared.untypings.UntypingAt.TheVariants.{Load, Mark, Sweep as sweep_at, Draw}
 use Rattle.core_invariant.specs.Holding.{Holding, keeps}
+use Rattle.{act_fits.specs.act_states.specs.release_of, act_fits.specs.act_states.specs.declared.untypings.Release.Release}
+use Rattle.{act_fits.specs.act_states.specs.declared.untypings.UntypingAt.UntypingAt}
 
 -- Whether a word is a counter that is frozen and still to be released.
 abbrev pub is_frozen : Thaw → Word → Bool

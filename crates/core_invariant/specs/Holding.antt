@@ -2,20 +2,12 @@
 -- its settled value, and all that is said of words is said of settled ones. So a step that only marks a word, or gives it
 -- back, changes nothing that is said. A core may also keep a word that carries no mark, where it alone may store it: this settles to what
 -- the core has still to store there.
-use Rattle.std.specs.Prelude.{◌≡◌, ℕ, zero, suc, Bool, true, false, List, [], ◌∷◌, Option, Some, None, if◌then◌else◌, ◌==◌, ◌&&◌, nat_le}
-use Rattle.kernel_invariant.specs.spk_nums.specs.Setting.{Setting}
-use Rattle.kernel_history.specs.frame_words.specs.Count.{word_of_count}
-use Rattle.kernel_history.specs.word_map.specs.Word.{Word, EntryAt, FrameAt, CountAt, CoreAt, FlushAt, LiveAt, ClockAt, same_word}
-use Rattle.kernel_invariant.specs.spk_nums.specs.Capability.{Capability}
-use Rattle.kernel_history.specs.entry_words.specs.EntryWord.{word_of_entry}
-use Rattle.kernel_history.specs.entry_words.specs.declared.entry.Entry.TheVariants.{Held, Quiescing}
-use Rattle.act_fits.specs.stage_quiet.specs.declared.close.Close.{Close}
-use Rattle.act_fits.specs.stage_quiet.specs.declared.close.Close.TheVariants.{AtCompare, AtDraw, AtStore}
-use Rattle.act_fits.specs.stage_pins.specs.declared.held.Acquired.{Acquired}
-use Rattle.act_fits.specs.stage_pins.specs.Commit.{settled_word}
-use Rattle.act_fits.specs.stage_pins.specs.Held.{commit_of}
-use Rattle.kernel_history.specs.Marking.{marked_by}
-use Rattle.kernel_history.specs.Trace.{Trace, last_left}
+use Rattle.act_fits.specs.act_states.specs.{◌≡◌, ℕ, zero, suc, Bool, true, false, List, [], ◌∷◌, Option, Some, None, if◌then◌else◌, ◌==◌}
+use Rattle.act_fits.specs.act_states.specs.{◌&&◌, leb as nat_le, Setting, word_of_count, Word, EntryAt, FrameAt, CountAt, CoreAt, FlushAt}
+use Rattle.act_fits.specs.act_states.specs.{LiveAt, ClockAt, same_word, Capability, word_of_entry, Held, Close, AtCompare, AtDraw, AtStore}
+use Rattle.{act_fits.specs.act_states.specs.Acquired, act_fits.specs.act_states.specs.commit_of, kernel_history.specs.marked_by}
+use Rattle.{kernel_history.specs.last_left, kernel_history.specs.entry_words.specs.declared.entry.Entry.TheVariants.Quiescing}
+use Rattle.{act_fits.specs.stage_pins.specs.Commit.settled_word, kernel_history.specs.Trace.Trace}
 
 -- What a core holds: the words that carry its mark, and the unmarked word that each of these stands for; a word that carries no mark,
 -- and is still to be stored, stands for what will be; and the words of frames that it keeps without a mark, each with the value that it

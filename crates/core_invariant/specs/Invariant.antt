@@ -1,69 +1,30 @@
 -- When the cores of a machine stand for a trace: what holds between two steps, whatever the calls.
-use Rattle.act_fits.specs.act_states.specs.declared.makings.MakingAt.TheVariants.{Load, Mark, Store, Fill as making_fill}
-use Rattle.act_fits.specs.act_states.specs.declared.makings.MakingAt.{MakingAt}
-use Rattle.act_fits.specs.act_states.specs.declared.comps.CompAt.{CompAt}
-use Rattle.act_fits.specs.act_states.specs.declared.comps.CompAt.TheVariants as comp_at
-use Rattle.act_fits.specs.act_states.specs.declared.comps.CompMaking.{CompMaking}
-use Rattle.act_fits.specs.act_states.specs.declared.kills.KillingAt.{KillingAt}
-use Rattle.act_fits.specs.act_states.specs.declared.kills.KillingAt.TheVariants.{LoadComp, LoadLive, Close as kill_close}
-use Rattle.act_fits.specs.act_states.specs.declared.kills.KillingAt.TheVariants.{Draw as kill_draw}
-use Rattle.kernel_history.specs.frame_words.specs.Live.{word_of_live}
-use Rattle.kernel_history.specs.tcap_words.specs.Stack.{word_of_stack}
-use Rattle.kernel_history.specs.tcap_words.specs.Thread.{word_of_thread, thread_of_word}
-use Rattle.kernel_history.specs.tcap_words.specs.declared.thread_word.ThreadWord.TheVariants.{Running}
-use Rattle.act_fits.specs.stage_thread.specs.declared.stack.Push.{Push as PushOf}
-use Rattle.act_fits.specs.stage_thread.specs.declared.stack.Push.TheVariants as push
-use Rattle.act_fits.specs.stage_thread.specs.declared.stack.Pop.{Pop as PopOf}
-use Rattle.act_fits.specs.stage_thread.specs.declared.stack.Pop.TheVariants as pop
-use Rattle.kernel_history.specs.frame_words.specs.declared.live_word.LiveWord.TheVariants.{Dead}
-use Rattle.std.specs.Prelude.{◌≡◌, ◌⊎◌, ◌+◌, ◌-◌, ◌<◌, ◌≤◌, ℕ, Bool, true, false, List, [], length, Option, Some, None}
-use Rattle.kernel_invariant.specs.spk_nums.specs.Setting.{Setting}
-use Rattle.kernel_history.specs.frame_words.specs.Count.{count_of_word}
-use Rattle.kernel_history.specs.frame_words.specs.declared.count_word.CountWord.{CountWord}
-use Rattle.kernel_history.specs.word_map.specs.Word.{Word, CountAt, FrameAt, FlushAt, LiveAt, EntryAt}
-use Rattle.kernel_invariant.specs.kernel_rules.specs.State.{Thing, FrameOf, State, thread_of}
-use Rattle.kernel_invariant.specs.kernel_rules.specs.References.{sum_below}
-use Rattle.kernel_history.specs.Trace.{Trace, Out, phase, calls_of, state_after, last_left}
-use Rattle.kernel_history.specs.Legal.{IsLegal}
-use Rattle.kernel_history.specs.Bounds.{KeepsBounds}
-use Rattle.kernel_history.specs.Marking.{marked_by, HasMarked}
-use Rattle.kernel_history.specs.Discipline.{KeepsDiscipline}
-use Rattle.kernel_history.specs.Footprint.{KeepsFootprints}
-use Rattle.kernel_history.specs.Alone.{KeepsFirst}
-use Rattle.kernel_history.specs.Stamps.{stamp, clock, exit_of, flush_stored}
-use Rattle.kernel_history.specs.Graces.{GraceIs, TimesAre}
-use Rattle.act_fits.specs.call_stages.specs.declared.stages.Stage.{Stage}
+use Rattle.act_fits.specs.act_states.specs as low
+use low.{word_of_live, word_of_stack, word_of_thread, thread_of_word, Running, Push as PushOf, Pop as PopOf, ◌≡◌, ◌⊎◌, ◌+◌, ◌-◌, ◌<◌, ◌≤◌}
+use low.{ℕ, Bool, true, false, List, [], length, Option, Some, None, Setting, count_of_word, CountWord, Word, CountAt, FrameAt, FlushAt}
+use low.{LiveAt, EntryAt, Thing, FrameOf, State, thread_of, sum_below, Reply, Ok, Acquired, word_of_head, credited, in_order, amount_of}
+use low.{Pair, PairAt, LoadA, MarkA, ListA, LoadB, ListB, CompareB, AgainB, StoreList, StoreB, StoreA}
+use Rattle.kernel_history.specs.{Out, phase, calls_of, state_after, last_left, IsLegal, KeepsBounds, marked_by, HasMarked, KeepsDiscipline}
+use Rattle.kernel_history.specs.{KeepsFootprints, KeepsFirst, stamp, clock, exit_of, flush_stored, GraceIs}
+use Rattle.act_fits.specs.stage_tcap.specs.{relisted, left_a, word_of_list}
+use low.declared.makings.MakingAt.TheVariants.{Load, Mark, Store, Fill as making_fill}
+use low.declared.kills.KillingAt.TheVariants.{LoadComp, LoadLive, Close as kill_close, Draw as kill_draw}
+use low.declared.work.Act.TheVariants.{Fill, Remove, Retype, Make, Outside, Tick, Flush, Kill, Untype, Map as map_act, MakeComp, Invoke}
+use low.declared.work.Act.TheVariants.{Return, Touch, Share, Refill, Switch}
+use low.declared.work.Work.TheVariants.{Lookup, Read, Scan, Acquire, Act as act_work}
+use low.declared.work.Tail.TheVariants.{Nothing, Quiesce, Unmark, StoreDead, StoreFlush, Release, StoreLive, Push, Pop, Share as share_tail}
 use Rattle.act_fits.specs.call_stages.specs.declared.stages.Stage.TheVariants.{Enter, Living, Undecided, Decided, Leave}
-use Rattle.act_fits.specs.call_stages.specs.declared.stages.ActiveCall.{ActiveCall}
-use Rattle.kernel_invariant.specs.spk_nums.specs.declared.replies.Reply.{Reply}
-use Rattle.kernel_invariant.specs.spk_nums.specs.declared.replies.Reply.TheVariants.{Ok}
-use Rattle.act_fits.specs.stage_pins.specs.declared.held.Acquired.{Acquired}
-use Rattle.act_fits.specs.act_states.specs.declared.work.Act.{Act}
-use Rattle.act_fits.specs.act_states.specs.declared.work.Act.TheVariants.{Fill, Remove, Retype, Make, Outside, Tick, Flush, Kill, Untype}
-use Rattle.act_fits.specs.act_states.specs.declared.work.Act.TheVariants.{Map as map_act, MakeComp, Invoke, Return, Touch, Share, Refill}
-use Rattle.act_fits.specs.act_states.specs.declared.work.Act.TheVariants.{Switch}
-use Rattle.act_fits.specs.act_states.specs.declared.work.Work.{Work}
-use Rattle.act_fits.specs.act_states.specs.declared.work.Work.TheVariants.{Lookup, Read, Scan, Acquire, Act as act_work}
-use Rattle.act_fits.specs.act_states.specs.declared.work.Tail.{Tail}
-use Rattle.act_fits.specs.act_states.specs.declared.work.Tail.TheVariants.{Nothing, Quiesce, Unmark, StoreDead, StoreFlush, Release}
-use Rattle.act_fits.specs.act_states.specs.declared.work.Tail.TheVariants.{StoreLive, Push, Pop, Share as share_tail, StoreRunning}
-use Rattle.act_fits.specs.act_states.specs.declared.work.Tail.TheVariants.{StoreIdle}
-use Rattle.kernel_history.specs.tcap_words.specs.Head.{word_of_head}
-use Rattle.act_fits.specs.stage_tcap.specs.Heads.{relisted, credited}
-use Rattle.act_fits.specs.stage_tcap.specs.Lists.{in_order}
-use Rattle.act_fits.specs.stage_tcap.specs.Pairs.{amount_of, left_a, word_of_list}
-use Rattle.act_fits.specs.stage_tcap.specs.declared.pair.Pair.{Pair}
-use Rattle.act_fits.specs.stage_tcap.specs.declared.pair.PairAt.{PairAt}
-use Rattle.act_fits.specs.stage_tcap.specs.declared.pair.PairAt.TheVariants.{LoadA, MarkA, ListA, LoadB, ListB, CompareB}
-use Rattle.act_fits.specs.stage_tcap.specs.declared.pair.PairAt.TheVariants.{AgainB, StoreList, StoreB, StoreA}
-use Rattle.act_fits.specs.call_stages.specs.View.{Core}
-use Rattle.core_invariant.specs.Holding.{Holding, nothing, holds_counts, holds_closed, holds_drawn}
-use Rattle.core_invariant.specs.Holding.{settled, MarkIs, keeps, will_store, keeps_bare, keeps_list}
-use Rattle.core_invariant.specs.Frozen.{holds_untyping, holds_release}
-use Rattle.core_invariant.specs.Threads.{holds_switching, holds_running, holds_idle}
-use Rattle.core_invariant.specs.Shares.{HasTcap}
-use Rattle.core_invariant.specs.Words.{Times, WordIs, CountsAre}
-use Rattle.core_invariant.specs.Knows.{CoreIs, HasPassed, HasFlushed}
+use Rattle.core_invariant.specs.{Holding.Holding, Holding.nothing, Holding.holds_counts, Holding.holds_closed, Holding.holds_drawn}
+use Rattle.core_invariant.specs.{Holding.settled, Holding.MarkIs, Holding.keeps, Holding.will_store, Holding.keeps_bare, Holding.keeps_list}
+use Rattle.core_invariant.specs.{Frozen.holds_untyping, Frozen.holds_release, Threads.holds_switching, Threads.holds_running}
+use Rattle.core_invariant.specs.{Threads.holds_idle, Shares.HasTcap, Words.Times, Words.WordIs, Words.CountsAre, Knows.CoreIs}
+use low.{declared.makings.MakingAt.MakingAt, declared.comps.CompAt.CompAt, declared.comps.CompMaking.CompMaking}
+use low.{declared.kills.KillingAt.KillingAt, declared.work.Act.Act, declared.work.Work.Work, declared.work.Tail.Tail}
+use low.{declared.work.Tail.TheVariants.StoreRunning, declared.work.Tail.TheVariants.StoreIdle}
+use Rattle.{kernel_history.specs.frame_words.specs.declared.live_word.LiveWord.TheVariants.Dead, kernel_history.specs.Trace.Trace}
+use Rattle.{kernel_history.specs.Graces.TimesAre, act_fits.specs.call_stages.specs.declared.stages.Stage.Stage}
+use Rattle.{act_fits.specs.call_stages.specs.declared.stages.ActiveCall.ActiveCall, act_fits.specs.call_stages.specs.View.Core}
+use Rattle.{core_invariant.specs.Reaching.HasPassed, core_invariant.specs.Reaching.HasFlushed}
 
 -- Whether a decided call has been carried out, and has then drawn a stamp.
 abbrev pub done_by : Reply → Option ℕ → Option (Option ℕ)
@@ -93,24 +54,24 @@ holds_killing (kill_draw life word) h = keeps (LiveAt life.number) word h
 
 -- The words of its thread's stack that a core has still to store are kept without a mark.
 abbrev pub holds_push : PushOf → Holding → Holding
-holds_push (push.AtStack f core depth comp) h =
+holds_push (PushOf.AtStack f core depth comp) h =
     keeps_bare f (depth + 1) (word_of_stack (record { 0 = Some comp })) (keeps_bare f 0 (word_of_thread (Running core (depth + 1))) h)
-holds_push (push.AtThread f core depth) h = keeps_bare f 0 (word_of_thread (Running core (depth + 1))) h
+holds_push (PushOf.AtThread f core depth) h = keeps_bare f 0 (word_of_thread (Running core (depth + 1))) h
 
 abbrev pub holds_pop : PopOf → Holding → Holding
-holds_pop (pop.AtThread f core depth) h =
+holds_pop (PopOf.AtThread f core depth) h =
     keeps_bare f 0 (word_of_thread (Running core (depth - 1))) (keeps_bare f depth (word_of_stack (record { 0 = None })) h)
-holds_pop (pop.AtStack f depth) h = keeps_bare f depth (word_of_stack (record { 0 = None })) h
+holds_pop (PopOf.AtStack f depth) h = keeps_bare f depth (word_of_stack (record { 0 = None })) h
 
 -- The frame in which a call makes a component, and then the number that it takes: each stands for its word as it was found.
 abbrev pub holds_comp : CompMaking → CompAt → Holding → Holding
-holds_comp m comp_at.Load h = h
-holds_comp m (comp_at.Mark word) h = h
-holds_comp m (comp_at.LoadLive word) h = keeps (FrameAt m.frame) word h
-holds_comp m (comp_at.Scan word last q) h = keeps (FrameAt m.frame) word h
-holds_comp m (comp_at.Close word last) h = keeps (FrameAt m.frame) word h
-holds_comp m (comp_at.Store word last entry) h = keeps (LiveAt m.number) last.word (keeps (FrameAt m.frame) word h)
-holds_comp m (comp_at.Fill word last) h = keeps (LiveAt m.number) last.word (keeps (FrameAt m.frame) word h)
+holds_comp m CompAt.Load h = h
+holds_comp m (CompAt.Mark word) h = h
+holds_comp m (CompAt.LoadLive word) h = keeps (FrameAt m.frame) word h
+holds_comp m (CompAt.Scan word last q) h = keeps (FrameAt m.frame) word h
+holds_comp m (CompAt.Close word last) h = keeps (FrameAt m.frame) word h
+holds_comp m (CompAt.Store word last entry) h = keeps (LiveAt m.number) last.word (keeps (FrameAt m.frame) word h)
+holds_comp m (CompAt.Fill word last) h = keeps (LiveAt m.number) last.word (keeps (FrameAt m.frame) word h)
 
 -- The head of the first of two temporal capabilities, from when it is marked: it stands for what was found there, and once the call is
 -- decided for what is still to be stored.

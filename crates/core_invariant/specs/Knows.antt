@@ -1,128 +1,50 @@
 -- What a call knows where it stands, said of the state; and what a core is after a trace.
-use Rattle.act_fits.specs.stage_tcap.specs.declared.charge.Charge.{Charge}
+use Rattle.act_fits.specs.act_states.specs as low
+use low.{Charge, head, HeadFits, word_of_head, IsSmallChange, ticks_due, ticks_of, is_charging, object_word, last_word, LiveWord, comp_cap}
+use low.{dues, put_by, reads_of, removes_by, stamp_of_act, fills_page, comp_is_marked, comp_meets_number, comp_word_at, is_marked, ◌≡◌, ◌≢◌}
+use low.{◌<◌, ◌≤◌, ◌+◌, ◌++◌, ◌/◌, ℕ, ℤ, Bool, true, false, map, All, List, [], ◌∷◌, length, Option, Some, None, IsSome, IsTrue, not, ◌^◌}
+use low.{◌⊎◌, is_some, Capability, Setting, Kind, Call, Retype, Make as make_call, Flush, Tick, Kill, Map, Touch, FrameKind, frame_of_word}
+use low.{FrameWord, EntryFits, entry_of_word, Entry, CompFits, CountFits, word_of_count, live_of_word, CompWord, EntryAt, CountAt, FrameAt}
+use low.{LiveAt, User, Thing, PlaceOf, State, first_of_stack, thread_of, comp_of, comp_in, NumberOf, Dead, translation_of, is_at_page, Slot}
+use low.{Named, root_at, Target, Under, InRoot, usable, linked, root_slot, reached, found, fits, IsGuarded, Relies, Push as PushOf}
+use low.{Pop as PopOf, Look, AtRoot, AtLeaf, AtEntry, unheld, Pin, AtLoad, Acquired, Plan, Leads, Next, NextName, NextFree, NextHeld}
+use low.{NextOwn, NextNothing, next_of, is_killing, is_entering, is_leaving, is_switching, is_typing, has_frame, Alive, AtComp, AtLive}
+use low.{asks_life, acts, Close, AtCompare as close_compare, AtDraw, AtStore, Quiet, AtCore, AtFlush, is_drawing, plan_for}
+use Rattle.kernel_history.specs.{marked_by, frame_mark, live_mark, IsLeave, shape_of, Phase, Out, phase, state_after, own_left, own_read}
+use Rattle.kernel_history.specs.{steps_in_call, WasAt, last_left, root_passed, counts_references, changes_places, changes_frames}
+use Rattle.kernel_history.specs.{changes_numbers, stores_flush, changes_threads, IsInFootprint, is_one_of, frame_argument, HasReached}
+use Rattle.kernel_history.specs.{IsRemoved, clock, stamp, exit_of, flush_of, flush_stored}
+use Rattle.act_fits.specs.stage_tcap.specs.{Blank, Comp as comp_kind, Untyped, Kernel as FrameKernel}
+use Rattle.act_fits.specs.call_stages.specs.{Core, IsCore}
 use Rattle.act_fits.specs.stage_tcap.specs.declared.charge.Charge.TheVariants.{AtLoad as charge_load, AtCompare as charge_compare}
-use Rattle.act_fits.specs.stage_tcap.specs.Heads.{head}
-use Rattle.kernel_history.specs.tcap_words.specs.Head.{HeadFits, word_of_head}
-use Rattle.act_fits.specs.act_states.specs.Dues.{IsSmallChange}
-use Rattle.act_fits.specs.act_states.specs.Ticks.{ticks_due, ticks_of, is_charging}
-use Rattle.kernel_history.specs.Marking.{marked_by}
-use Rattle.kernel_history.specs.Marks.{frame_mark, live_mark}
-use Rattle.kernel_invariant.specs.spk_nums.specs.declared.kinds.Obj.TheVariants.{Blank}
-use Rattle.act_fits.specs.act_states.specs.Objects.{object_cap, object_made, object_word, last_word}
-use Rattle.kernel_invariant.specs.spk_nums.specs.declared.calls.Make.TheVariants as make
-use Rattle.kernel_history.specs.frame_words.specs.declared.live_word.LiveWord.{LiveWord}
-use Rattle.act_fits.specs.act_states.specs.Acts.{comp_cap, dues, put_by, reads_of, removes_by, stamp_of_act, fills_page}
-use Rattle.act_fits.specs.act_states.specs.Comps.{comp_is_marked, comp_meets_number, comp_word_at}
-use Rattle.act_fits.specs.act_states.specs.declared.comps.CompAt.{CompAt}
-use Rattle.act_fits.specs.act_states.specs.declared.comps.CompAt.TheVariants as comp_at
-use Rattle.act_fits.specs.act_states.specs.declared.comps.CompMaking.{CompMaking}
-use Rattle.act_fits.specs.act_states.specs.declared.comps.LastEpoch.{LastEpoch}
-use Rattle.act_fits.specs.act_states.specs.Makings.{is_marked}
-use Rattle.act_fits.specs.act_states.specs.declared.makings.MakingAt.TheVariants.{Load as making_load, Mark, Store, Fill as making_fill}
-use Rattle.act_fits.specs.act_states.specs.declared.makings.MakingAt.{MakingAt}
-use Rattle.act_fits.specs.act_states.specs.declared.makings.Making.{Making}
-use Rattle.act_fits.specs.act_states.specs.declared.objects.NewObject.{NewObject}
-use Rattle.std.specs.Prelude.{◌≡◌, ◌≢◌, ◌<◌, ◌≤◌, ◌+◌, ◌++◌, ◌/◌, ℕ, ℤ, Bool, true, false, map, All, List}
-use Rattle.std.specs.Prelude.{[], ◌∷◌, length, Option, Some, None, IsSome, IsTrue, not, ◌^◌, ◌⊎◌, is_some}
-use Rattle.kernel_invariant.specs.spk_nums.specs.Capability.{Capability}
-use Rattle.kernel_invariant.specs.spk_nums.specs.Setting.{Setting}
-use Rattle.kernel_invariant.specs.spk_nums.specs.declared.kinds.Kind.{Kind}
-use Rattle.kernel_invariant.specs.spk_nums.specs.declared.kinds.Kind.TheVariants.{Comp as comp_kind}
-use Rattle.kernel_invariant.specs.spk_nums.specs.declared.calls.Call.{Call}
-use Rattle.kernel_invariant.specs.spk_nums.specs.declared.calls.Call.TheVariants.{Retype, Make as make_call, Flush, Tick, Kill, Map, Touch}
-use Rattle.kernel_invariant.specs.spk_nums.specs.declared.kinds.FrameKind.{FrameKind}
-use Rattle.kernel_invariant.specs.spk_nums.specs.declared.kinds.FrameKind.TheVariants.{Untyped, Kernel as FrameKernel}
-use Rattle.kernel_history.specs.frame_words.specs.Frame.{frame_of_word}
-use Rattle.kernel_history.specs.frame_words.specs.declared.frame_word.FrameWord.{FrameWord}
-use Rattle.kernel_history.specs.entry_words.specs.EntryWord.{EntryFits, entry_of_word}
-use Rattle.kernel_history.specs.entry_words.specs.declared.entry.Entry.{Entry}
-use Rattle.kernel_history.specs.entry_words.specs.declared.entry.Entry.TheVariants as entry
-use Rattle.kernel_history.specs.frame_words.specs.Comp.{CompFits}
-use Rattle.kernel_history.specs.frame_words.specs.Count.{CountFits, word_of_count}
-use Rattle.kernel_history.specs.frame_words.specs.Live.{live_of_word}
-use Rattle.kernel_history.specs.frame_words.specs.declared.comp_word.CompWord.{CompWord}
-use Rattle.kernel_history.specs.frame_words.specs.declared.live_word.LiveWord.TheVariants as live_word
-use Rattle.kernel_history.specs.word_map.specs.Word.{EntryAt, CountAt, FrameAt, LiveAt}
-use Rattle.kernel_invariant.specs.kernel_rules.specs.State.{User, Thing, PlaceOf, State, first_of_stack, thread_of, comp_of, comp_in}
-use Rattle.kernel_invariant.specs.kernel_rules.specs.State.{NumberOf, Dead}
-use Rattle.kernel_invariant.specs.kernel_rules.specs.MemoryCalls.{translation_of}
-use Rattle.act_fits.specs.act_states.specs.declared.touches.Touching.{Touching}
-use Rattle.act_fits.specs.act_states.specs.Touches.{is_at_page}
-use Rattle.kernel_invariant.specs.kernel_rules.specs.Access.{Slot, Named, root_at, Target, Under, InRoot, usable, linked, root_slot}
-use Rattle.kernel_invariant.specs.kernel_rules.specs.Access.{reached, found}
-use Rattle.kernel_invariant.specs.kernel_rules.specs.Fitting.{fits}
-use Rattle.kernel_invariant.specs.kernel_rules.specs.Relies.{IsGuarded, Relies}
-use Rattle.kernel_history.specs.Graces.{IsLeave}
-use Rattle.kernel_history.specs.BootWords.{shape_of}
-use Rattle.kernel_history.specs.Trace.{Trace, Phase, Out, Open, phase, state_after, own_left, own_read, steps_in_call, WasAt, last_left}
-use Rattle.kernel_history.specs.Trace as history
-use Rattle.kernel_history.specs.Ways.{root_passed}
-use Rattle.kernel_history.specs.Discipline.{counts_references, changes_places, changes_frames}
-use Rattle.kernel_history.specs.Discipline.{changes_numbers, stores_flush, changes_threads}
-use Rattle.act_fits.specs.stage_thread.specs.declared.stack.Push.{Push as PushOf}
-use Rattle.act_fits.specs.stage_thread.specs.declared.stack.Push.TheVariants as push
-use Rattle.act_fits.specs.stage_thread.specs.declared.stack.Pop.{Pop as PopOf}
-use Rattle.act_fits.specs.stage_thread.specs.declared.stack.Pop.TheVariants as pop
-use Rattle.kernel_history.specs.Footprint.{IsInFootprint, is_one_of, frame_argument}
-use Rattle.kernel_history.specs.Justified.{HasReached, IsRemoved}
-use Rattle.kernel_history.specs.Stamps.{clock, stamp, exit_of, flush_of, flush_stored}
-use Rattle.act_fits.specs.stage_look.specs.declared.look.Look.{Look}
-use Rattle.act_fits.specs.stage_look.specs.declared.look.Look.TheVariants.{AtRoot, AtLeaf, AtEntry}
-use Rattle.act_fits.specs.stage_pins.specs.Counts.{unheld}
-use Rattle.act_fits.specs.stage_pins.specs.declared.pin.Pin.{Pin}
-use Rattle.act_fits.specs.stage_pins.specs.declared.pin.Pin.TheVariants.{AtLoad, AtCompare}
-use Rattle.act_fits.specs.stage_pins.specs.declared.held.Acquired.{Acquired}
-use Rattle.act_fits.specs.call_plans.specs.declared.plans.Plan.{Plan}
-use Rattle.act_fits.specs.call_plans.specs.After.{Leads, Next, NextName, NextFree, NextHeld, NextOwn, NextNothing, next_of}
-use Rattle.act_fits.specs.act_states.specs.declared.kills.Killing.{Killing}
-use Rattle.act_fits.specs.act_states.specs.declared.kills.KillingAt.{KillingAt}
-use Rattle.act_fits.specs.act_states.specs.declared.kills.KillingAt.TheVariants.{LoadComp, LoadLive, Close as kill_close}
-use Rattle.act_fits.specs.act_states.specs.declared.kills.KillingAt.TheVariants.{Draw as kill_draw}
-use Rattle.act_fits.specs.act_states.specs.Kills.{is_killing}
-use Rattle.act_fits.specs.act_states.specs.Invocations.{is_entering, is_leaving}
-use Rattle.act_fits.specs.act_states.specs.Switches.{is_switching}
-use Rattle.act_fits.specs.act_states.specs.declared.own.Own.{Own}
-use Rattle.act_fits.specs.act_states.specs.declared.fills.Fill.{Fill}
-use Rattle.act_fits.specs.act_states.specs.declared.typings.Typing.{Typing}
-use Rattle.act_fits.specs.act_states.specs.declared.typings.TypingAt.{TypingAt}
-use Rattle.act_fits.specs.act_states.specs.declared.typings.TypingAt.TheVariants.{Load, Compare as type_compare}
-use Rattle.act_fits.specs.act_states.specs.Typings.{is_typing}
-use Rattle.kernel_invariant.specs.kernel_rules.specs.CapabilityCalls.{has_frame}
-use Rattle.act_fits.specs.act_states.specs.declared.work.Act.{Act as ActOf}
-use Rattle.act_fits.specs.act_states.specs.declared.work.Act.TheVariants.{Fill as fill_act, Remove as remove_act, Retype as type_act}
-use Rattle.act_fits.specs.act_states.specs.declared.work.Act.TheVariants.{Make as make_act, Outside, Tick as tick_act}
-use Rattle.act_fits.specs.act_states.specs.declared.work.Act.TheVariants.{Flush as flush_act}
-use Rattle.act_fits.specs.act_states.specs.declared.work.Act.TheVariants.{Kill as kill_act, Untype as untype_act, Map as map_act}
-use Rattle.act_fits.specs.act_states.specs.declared.work.Act.TheVariants.{MakeComp as comp_act, Invoke as invoke_act}
-use Rattle.act_fits.specs.act_states.specs.declared.work.Act.TheVariants.{Return as return_act}
-use Rattle.act_fits.specs.act_states.specs.declared.work.Act.TheVariants.{Touch as touch_act, Share as share_act, Refill as refill_act}
-use Rattle.act_fits.specs.act_states.specs.declared.work.Act.TheVariants.{Switch as switch_act}
-use Rattle.act_fits.specs.act_states.specs.declared.work.Work.{Work}
-use Rattle.act_fits.specs.act_states.specs.declared.work.Due.{Due}
-use Rattle.act_fits.specs.act_states.specs.declared.work.Work.TheVariants.{Lookup, Read, Scan, Acquire, Act}
-use Rattle.act_fits.specs.act_states.specs.declared.work.Tail.{Tail}
-use Rattle.act_fits.specs.act_states.specs.declared.work.Tail.TheVariants.{Nothing, Quiesce, Unmark, StoreDead, StoreFlush, Release}
-use Rattle.act_fits.specs.act_states.specs.declared.work.Tail.TheVariants.{StoreLive, Push, Pop, Share, StoreRunning, StoreIdle}
-use Rattle.act_fits.specs.call_stages.specs.declared.stages.Stage.{Stage}
+use low.Objects.{object_cap, object_made}
+use low.declared.makings.MakingAt.TheVariants.{Load as making_load, Mark, Store, Fill as making_fill}
+use low.declared.kills.KillingAt.TheVariants.{LoadComp, LoadLive, Close as kill_close, Draw as kill_draw}
+use low.declared.typings.TypingAt.TheVariants.{Load, Compare as type_compare}
+use low.declared.work.Act.TheVariants.{Fill as fill_act, Remove as remove_act, Retype as type_act, Make as make_act, Outside}
+use low.declared.work.Act.TheVariants.{Tick as tick_act, Flush as flush_act, Kill as kill_act, Untype as untype_act, Map as map_act}
+use low.declared.work.Act.TheVariants.{MakeComp as comp_act, Invoke as invoke_act, Return as return_act, Touch as touch_act}
+use low.declared.work.Act.TheVariants.{Share as share_act, Refill as refill_act, Switch as switch_act}
+use low.declared.work.Work.TheVariants.{Lookup, Read, Scan, Acquire, Act}
+use low.declared.work.Tail.TheVariants.{Nothing, Quiesce, Unmark, StoreDead, StoreFlush, Release, StoreLive, Push, Pop, Share, StoreRunning}
+use Rattle.kernel_history.specs.Trace.{Trace, Open}
 use Rattle.act_fits.specs.call_stages.specs.declared.stages.Stage.TheVariants.{Enter, Living, Undecided, Decided, Leave}
-use Rattle.act_fits.specs.stage_thread.specs.declared.alive.Alive.{Alive}
-use Rattle.act_fits.specs.stage_thread.specs.declared.alive.Alive.TheVariants.{AtComp, AtLive}
-use Rattle.kernel_invariant.specs.kernel_rules.specs.Life.{asks_life, acts}
-use Rattle.act_fits.specs.call_stages.specs.declared.stages.ActiveCall.{ActiveCall}
-use Rattle.act_fits.specs.stage_quiet.specs.declared.close.Close.{Close}
-use Rattle.act_fits.specs.stage_quiet.specs.declared.close.Close.TheVariants.{AtCompare as close_compare, AtDraw, AtStore}
-use Rattle.act_fits.specs.stage_quiet.specs.declared.quiet.Quiet.{Quiet}
-use Rattle.act_fits.specs.stage_quiet.specs.declared.quiet.Quiet.TheVariants.{AtCore, AtFlush}
-use Rattle.act_fits.specs.call_stages.specs.View.{Core}
-use Rattle.act_fits.specs.call_stages.specs.Fits.{IsCore}
-use Rattle.act_fits.specs.act_states.specs.Untypings.{is_drawing}
-use Rattle.core_invariant.specs.Shares.{KnowsShare, KnowsShared}
-use Rattle.core_invariant.specs.Refills.{KnowsRefill}
-use Rattle.core_invariant.specs.Holding.{count_of, holds_counts, AreApart}
+use Rattle.core_invariant.specs.{Shares.KnowsShare, Shares.KnowsShared, Refills.KnowsRefill, Holding.count_of, Holding.holds_counts}
+use Rattle.core_invariant.specs.{Holding.AreApart, Threads.KnowsSwitch, Threads.KnowsRunning, Threads.KnowsIdle, Sweeps.KnowsUntyping}
+use low.{declared.comps.CompAt.CompAt, declared.comps.CompMaking.CompMaking, declared.comps.LastEpoch.LastEpoch}
+use low.{declared.makings.MakingAt.MakingAt, declared.makings.Making.Making, declared.objects.NewObject.NewObject}
+use low.{declared.touches.Touching.Touching, declared.kills.Killing.Killing, declared.kills.KillingAt.KillingAt, declared.own.Own.Own}
+use low.{declared.fills.Fill.Fill, declared.typings.Typing.Typing, declared.typings.TypingAt.TypingAt, declared.work.Act.Act as ActOf}
+use low.{declared.work.Work.Work, declared.work.Due.Due, declared.work.Tail.Tail, declared.work.Tail.TheVariants.StoreIdle}
+use Rattle.{act_fits.specs.stage_pins.specs.declared.pin.Pin.TheVariants.AtCompare}
+use Rattle.{act_fits.specs.call_stages.specs.declared.stages.Stage.Stage}
+use Rattle.{act_fits.specs.call_stages.specs.declared.stages.ActiveCall.ActiveCall, core_invariant.specs.Sweeps.KnowsRelease}
+use Rattle.act_fits.specs.kernel_invariant.specs.spk_nums.specs.declared.calls.Make.TheVariants as make
+use Rattle.act_fits.specs.act_states.specs.declared.comps.CompAt.TheVariants as comp_at
+use Rattle.kernel_history.specs.entry_words.specs.declared.entry.Entry.TheVariants as entry
+use Rattle.kernel_history.specs.frame_words.specs.declared.live_word.LiveWord.TheVariants as live_word
+use Rattle.kernel_history.specs.Trace as history
 pub use Rattle.core_invariant.specs.Components.{HasComp, HasLife, IsRead, ReadIs, KnowsInvoking, KnowsReturning}
-use Rattle.core_invariant.specs.Threads.{KnowsSwitch, KnowsRunning, KnowsIdle}
-use Rattle.core_invariant.specs.Sweeps.{KnowsUntyping, KnowsRelease}
-use Rattle.act_fits.specs.call_plans.specs.PlanOf.{plan_for}
 pub use Rattle.core_invariant.specs.Reaching.{root_frame, ReliesOn, IsReached, HasFound, IsAtRoot, IsAtLeaf, IsAtEntry}
 pub use Rattle.core_invariant.specs.Reaching.{LookIs, LooksUp, own_in, NamesAre, LooksFor, HasPassed, HasFlushed}
 pub use Rattle.core_invariant.specs.Reaching.{IsScanned, MayFill, IsSpot, IsUser, HasUser, IsFill, untypes, is_mapping}
@@ -363,13 +285,13 @@ pub record KnowsPlace (c : ℕ) (call : Call) (by comp : ℕ) : Type 0 where
   pub small : comp < 512
 
 abbrev pub KnowsPush : ℕ → Call → PushOf → Type 0
-KnowsPush c call (push.AtStack f core depth comp) = KnowsPlace c call core comp
-KnowsPush c call (push.AtThread f core depth) = KnowsStack c call core
+KnowsPush c call (PushOf.AtStack f core depth comp) = KnowsPlace c call core comp
+KnowsPush c call (PushOf.AtThread f core depth) = KnowsStack c call core
 
 -- A pop goes from the depth to the place, by the call of the core alone.
 abbrev pub KnowsPop : ℕ → Call → PopOf → Type 0
-KnowsPop c call (pop.AtThread f core depth) = KnowsStack c call core
-KnowsPop c call (pop.AtStack f depth) = changes_threads call ≡ true
+KnowsPop c call (PopOf.AtThread f core depth) = KnowsStack c call core
+KnowsPop c call (PopOf.AtStack f depth) = changes_threads call ≡ true
 
 -- What a call knows that has still this to store, and these counts to commit.
 abbrev pub KnowsTail : Setting → Trace → ℕ → Call → List Acquired → Tail → Type 0

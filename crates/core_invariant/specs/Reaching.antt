@@ -1,122 +1,52 @@
 -- What a call knows of where its look-ups have led, and of the place that it fills or removes, said of the state.
-use Rattle.act_fits.specs.stage_tcap.specs.declared.charge.Charge.{Charge}
+use Rattle.act_fits.specs.act_states.specs as low
+use low.{Charge, head, HeadFits, word_of_head, ticks_due, ticks_of, is_charging, object_word, last_word, LiveWord, comp_cap, dues, put_by}
+use low.{reads_of, removes_by, stamp_of_act, fills_page, comp_is_marked, comp_meets_number, comp_word_at, is_marked, ◌≡◌, ◌≢◌, ◌<◌, ◌≤◌}
+use low.{◌+◌, ◌++◌, ◌/◌, ℕ, ℤ, Bool, true, false, map, All, List, [], ◌∷◌, length, Option, Some, None, IsSome, IsTrue, not, ◌^◌, ◌⊎◌}
+use low.{is_some, Capability, has_rights, Setting, Kind, Call, Retype, Make as make_call, Flush, Tick, Kill, Map, Touch, FrameKind}
+use low.{frame_of_word, FrameWord, EntryFits, entry_of_word, Entry, CompFits, CountFits, word_of_count, live_of_word, CompWord, EntryAt}
+use low.{CountAt, FrameAt, LiveAt, User, Thing, PlaceOf, State, first_of_stack, thread_of, comp_of, comp_in, NumberOf, Dead, translation_of}
+use low.{is_at_page, Want, Slot, Named, root_at, Target, Under, InRoot, usable, linked, root_slot, reached, found, fits, IsGuarded, Relies}
+use low.{Push as PushOf, Pop as PopOf, Look, AtRoot, AtLeaf, AtEntry, unheld, Pin, AtLoad, Acquired, Plan, Leads, Next, NextName, NextFree}
+use low.{NextHeld, NextOwn, NextNothing, next_of, is_killing, is_entering, is_leaving, is_switching, is_typing, has_frame, Close}
+use low.{AtCompare as close_compare, AtDraw, AtStore, Quiet, AtCore, AtFlush, is_drawing}
+use Rattle.kernel_history.specs.{marked_by, frame_mark, live_mark, IsLeave, shape_of, Phase, Out, phase, state_after, own_left, own_read}
+use Rattle.kernel_history.specs.{steps_in_call, WasAt, last_left, root_passed, counts_references, changes_places, changes_frames}
+use Rattle.kernel_history.specs.{changes_numbers, stores_flush, changes_threads, IsInFootprint, is_one_of, frame_argument, HasReached}
+use Rattle.kernel_history.specs.{IsRemoved, clock, stamp, exit_of, flush_of, flush_stored}
+use Rattle.act_fits.specs.stage_tcap.specs.{Blank, Comp as comp_kind, Untyped, Kernel as FrameKernel}
+use Rattle.act_fits.specs.call_stages.specs.{Core, IsCore}
 use Rattle.act_fits.specs.stage_tcap.specs.declared.charge.Charge.TheVariants.{AtLoad as charge_load, AtCompare as charge_compare}
-use Rattle.act_fits.specs.stage_tcap.specs.Heads.{head}
-use Rattle.kernel_history.specs.tcap_words.specs.Head.{HeadFits, word_of_head}
-use Rattle.act_fits.specs.act_states.specs.Ticks.{ticks_due, ticks_of, is_charging}
-use Rattle.kernel_history.specs.Marking.{marked_by}
-use Rattle.kernel_history.specs.Marks.{frame_mark, live_mark}
-use Rattle.kernel_invariant.specs.spk_nums.specs.declared.kinds.Obj.TheVariants.{Blank}
-use Rattle.act_fits.specs.act_states.specs.Objects.{object_cap, object_made, object_word, last_word}
-use Rattle.kernel_invariant.specs.spk_nums.specs.declared.calls.Make.TheVariants as make
-use Rattle.kernel_history.specs.frame_words.specs.declared.live_word.LiveWord.{LiveWord}
-use Rattle.act_fits.specs.act_states.specs.Acts.{comp_cap, dues, put_by, reads_of, removes_by, stamp_of_act, fills_page}
-use Rattle.act_fits.specs.act_states.specs.Comps.{comp_is_marked, comp_meets_number, comp_word_at}
-use Rattle.act_fits.specs.act_states.specs.declared.comps.CompAt.{CompAt}
-use Rattle.act_fits.specs.act_states.specs.declared.comps.CompAt.TheVariants as comp_at
-use Rattle.act_fits.specs.act_states.specs.declared.comps.CompMaking.{CompMaking}
-use Rattle.act_fits.specs.act_states.specs.declared.comps.LastEpoch.{LastEpoch}
-use Rattle.act_fits.specs.act_states.specs.Makings.{is_marked}
-use Rattle.act_fits.specs.act_states.specs.declared.makings.MakingAt.TheVariants.{Load as making_load, Mark, Store, Fill as making_fill}
-use Rattle.act_fits.specs.act_states.specs.declared.makings.MakingAt.{MakingAt}
-use Rattle.act_fits.specs.act_states.specs.declared.makings.Making.{Making}
-use Rattle.act_fits.specs.act_states.specs.declared.objects.NewObject.{NewObject}
-use Rattle.std.specs.Prelude.{◌≡◌, ◌≢◌, ◌<◌, ◌≤◌, ◌+◌, ◌++◌, ◌/◌, ℕ, ℤ, Bool, true, false, map, All, List}
-use Rattle.std.specs.Prelude.{[], ◌∷◌, length, Option, Some, None, IsSome, IsTrue, not, ◌^◌, ◌⊎◌, is_some}
-use Rattle.kernel_invariant.specs.spk_nums.specs.Capability.{Capability}
-use Rattle.kernel_invariant.specs.spk_nums.specs.Rights.{has_rights}
-use Rattle.kernel_invariant.specs.spk_nums.specs.Setting.{Setting}
-use Rattle.kernel_invariant.specs.spk_nums.specs.declared.kinds.Kind.{Kind}
-use Rattle.kernel_invariant.specs.spk_nums.specs.declared.kinds.Kind.TheVariants.{Comp as comp_kind}
-use Rattle.kernel_invariant.specs.spk_nums.specs.declared.calls.Call.{Call}
-use Rattle.kernel_invariant.specs.spk_nums.specs.declared.calls.Call.TheVariants.{Retype, Make as make_call, Flush, Tick, Kill, Map, Touch}
-use Rattle.kernel_invariant.specs.spk_nums.specs.declared.kinds.FrameKind.{FrameKind}
-use Rattle.kernel_invariant.specs.spk_nums.specs.declared.kinds.FrameKind.TheVariants.{Untyped, Kernel as FrameKernel}
-use Rattle.kernel_history.specs.frame_words.specs.Frame.{frame_of_word}
-use Rattle.kernel_history.specs.frame_words.specs.declared.frame_word.FrameWord.{FrameWord}
-use Rattle.kernel_history.specs.entry_words.specs.EntryWord.{EntryFits, entry_of_word}
-use Rattle.kernel_history.specs.entry_words.specs.declared.entry.Entry.{Entry}
-use Rattle.kernel_history.specs.entry_words.specs.declared.entry.Entry.TheVariants as entry
-use Rattle.kernel_history.specs.frame_words.specs.Comp.{CompFits}
-use Rattle.kernel_history.specs.frame_words.specs.Count.{CountFits, word_of_count}
-use Rattle.kernel_history.specs.frame_words.specs.Live.{live_of_word}
-use Rattle.kernel_history.specs.frame_words.specs.declared.comp_word.CompWord.{CompWord}
-use Rattle.kernel_history.specs.frame_words.specs.declared.live_word.LiveWord.TheVariants as live_word
-use Rattle.kernel_history.specs.word_map.specs.Word.{EntryAt, CountAt, FrameAt, LiveAt}
-use Rattle.kernel_invariant.specs.kernel_rules.specs.State.{User, Thing, PlaceOf, State, first_of_stack, thread_of, comp_of, comp_in}
-use Rattle.kernel_invariant.specs.kernel_rules.specs.State.{NumberOf, Dead}
-use Rattle.kernel_invariant.specs.kernel_rules.specs.MemoryCalls.{translation_of}
-use Rattle.act_fits.specs.act_states.specs.declared.touches.Touching.{Touching}
-use Rattle.act_fits.specs.act_states.specs.Touches.{is_at_page}
-use Rattle.kernel_invariant.specs.kernel_rules.specs.Access.{Want, Slot, Named, root_at, Target, Under, InRoot, usable, linked, root_slot}
-use Rattle.kernel_invariant.specs.kernel_rules.specs.Access.{reached, found}
-use Rattle.kernel_invariant.specs.kernel_rules.specs.Fitting.{fits}
-use Rattle.kernel_invariant.specs.kernel_rules.specs.Relies.{IsGuarded, Relies}
-use Rattle.kernel_history.specs.Graces.{IsLeave}
-use Rattle.kernel_history.specs.BootWords.{shape_of}
-use Rattle.kernel_history.specs.Trace.{Trace, Phase, Out, Open, phase, state_after, own_left, own_read, steps_in_call, WasAt, last_left}
-use Rattle.kernel_history.specs.Trace as history
-use Rattle.kernel_history.specs.Ways.{root_passed}
-use Rattle.kernel_history.specs.Discipline.{counts_references, changes_places, changes_frames}
-use Rattle.kernel_history.specs.Discipline.{changes_numbers, stores_flush, changes_threads}
-use Rattle.act_fits.specs.stage_thread.specs.declared.stack.Push.{Push as PushOf}
-use Rattle.act_fits.specs.stage_thread.specs.declared.stack.Push.TheVariants as push
-use Rattle.act_fits.specs.stage_thread.specs.declared.stack.Pop.{Pop as PopOf}
-use Rattle.act_fits.specs.stage_thread.specs.declared.stack.Pop.TheVariants as pop
-use Rattle.kernel_history.specs.Footprint.{IsInFootprint, is_one_of, frame_argument}
-use Rattle.kernel_history.specs.Justified.{HasReached, IsRemoved}
-use Rattle.kernel_history.specs.Stamps.{clock, stamp, exit_of, flush_of, flush_stored}
-use Rattle.act_fits.specs.stage_look.specs.declared.look.Look.{Look}
-use Rattle.act_fits.specs.stage_look.specs.declared.look.Look.TheVariants.{AtRoot, AtLeaf, AtEntry}
-use Rattle.act_fits.specs.stage_pins.specs.Counts.{unheld}
-use Rattle.act_fits.specs.stage_pins.specs.declared.pin.Pin.{Pin}
-use Rattle.act_fits.specs.stage_pins.specs.declared.pin.Pin.TheVariants.{AtLoad, AtCompare}
-use Rattle.act_fits.specs.stage_pins.specs.declared.held.Acquired.{Acquired}
-use Rattle.act_fits.specs.call_plans.specs.declared.plans.Plan.{Plan}
-use Rattle.act_fits.specs.call_plans.specs.After.{Leads, Next, NextName, NextFree, NextHeld, NextOwn, NextNothing, next_of}
-use Rattle.act_fits.specs.act_states.specs.declared.kills.Killing.{Killing}
-use Rattle.act_fits.specs.act_states.specs.declared.kills.KillingAt.{KillingAt}
-use Rattle.act_fits.specs.act_states.specs.declared.kills.KillingAt.TheVariants.{LoadComp, LoadLive, Close as kill_close}
-use Rattle.act_fits.specs.act_states.specs.declared.kills.KillingAt.TheVariants.{Draw as kill_draw}
-use Rattle.act_fits.specs.act_states.specs.Kills.{is_killing}
-use Rattle.act_fits.specs.act_states.specs.Invocations.{is_entering, is_leaving}
-use Rattle.act_fits.specs.act_states.specs.Switches.{is_switching}
-use Rattle.act_fits.specs.act_states.specs.declared.own.Own.{Own}
-use Rattle.act_fits.specs.act_states.specs.declared.fills.Fill.{Fill}
-use Rattle.act_fits.specs.act_states.specs.declared.typings.Typing.{Typing}
-use Rattle.act_fits.specs.act_states.specs.declared.typings.TypingAt.{TypingAt}
-use Rattle.act_fits.specs.act_states.specs.declared.typings.TypingAt.TheVariants.{Load, Compare as type_compare}
-use Rattle.act_fits.specs.act_states.specs.Typings.{is_typing}
-use Rattle.kernel_invariant.specs.kernel_rules.specs.CapabilityCalls.{has_frame}
-use Rattle.act_fits.specs.act_states.specs.declared.work.Act.{Act as ActOf}
-use Rattle.act_fits.specs.act_states.specs.declared.work.Act.TheVariants.{Fill as fill_act, Remove as remove_act, Retype as type_act}
-use Rattle.act_fits.specs.act_states.specs.declared.work.Act.TheVariants.{Make as make_act, Outside, Tick as tick_act}
-use Rattle.act_fits.specs.act_states.specs.declared.work.Act.TheVariants.{Flush as flush_act}
-use Rattle.act_fits.specs.act_states.specs.declared.work.Act.TheVariants.{Kill as kill_act, Untype as untype_act, Map as map_act}
-use Rattle.act_fits.specs.act_states.specs.declared.work.Act.TheVariants.{MakeComp as comp_act, Invoke as invoke_act}
-use Rattle.act_fits.specs.act_states.specs.declared.work.Act.TheVariants.{Return as return_act}
-use Rattle.act_fits.specs.act_states.specs.declared.work.Act.TheVariants.{Touch as touch_act, Share as share_act, Switch as switch_act}
-use Rattle.act_fits.specs.act_states.specs.declared.work.Work.{Work}
-use Rattle.act_fits.specs.act_states.specs.declared.work.Due.{Due}
-use Rattle.act_fits.specs.act_states.specs.declared.work.Work.TheVariants.{Lookup, Read, Scan, Acquire, Act}
-use Rattle.act_fits.specs.act_states.specs.declared.work.Tail.{Tail}
-use Rattle.act_fits.specs.act_states.specs.declared.work.Tail.TheVariants.{Nothing, Quiesce, Unmark, StoreDead, StoreFlush, Release}
-use Rattle.act_fits.specs.act_states.specs.declared.work.Tail.TheVariants.{StoreLive, Push, Pop, Share, StoreRunning, StoreIdle}
-use Rattle.act_fits.specs.call_stages.specs.declared.stages.Stage.{Stage}
+use low.Objects.{object_cap, object_made}
+use low.declared.makings.MakingAt.TheVariants.{Load as making_load, Mark, Store, Fill as making_fill}
+use low.declared.kills.KillingAt.TheVariants.{LoadComp, LoadLive, Close as kill_close, Draw as kill_draw}
+use low.declared.typings.TypingAt.TheVariants.{Load, Compare as type_compare}
+use low.declared.work.Act.TheVariants.{Fill as fill_act, Remove as remove_act, Retype as type_act, Make as make_act, Outside}
+use low.declared.work.Act.TheVariants.{Tick as tick_act, Flush as flush_act, Kill as kill_act, Untype as untype_act, Map as map_act}
+use low.declared.work.Act.TheVariants.{MakeComp as comp_act, Invoke as invoke_act, Return as return_act, Touch as touch_act}
+use low.declared.work.Act.TheVariants.{Share as share_act, Switch as switch_act}
+use low.declared.work.Work.TheVariants.{Lookup, Read, Scan, Acquire, Act}
+use low.declared.work.Tail.TheVariants.{Nothing, Quiesce, Unmark, StoreDead, StoreFlush, Release, StoreLive, Push, Pop, Share, StoreRunning}
+use Rattle.kernel_history.specs.Trace.{Trace, Open}
 use Rattle.act_fits.specs.call_stages.specs.declared.stages.Stage.TheVariants.{Enter, Undecided, Decided, Leave}
-use Rattle.act_fits.specs.call_stages.specs.declared.stages.ActiveCall.{ActiveCall}
-use Rattle.act_fits.specs.stage_quiet.specs.declared.close.Close.{Close}
-use Rattle.act_fits.specs.stage_quiet.specs.declared.close.Close.TheVariants.{AtCompare as close_compare, AtDraw, AtStore}
-use Rattle.act_fits.specs.stage_quiet.specs.declared.quiet.Quiet.{Quiet}
-use Rattle.act_fits.specs.stage_quiet.specs.declared.quiet.Quiet.TheVariants.{AtCore, AtFlush}
-use Rattle.act_fits.specs.call_stages.specs.View.{Core}
-use Rattle.act_fits.specs.call_stages.specs.Fits.{IsCore}
-use Rattle.act_fits.specs.act_states.specs.Untypings.{is_drawing}
-use Rattle.core_invariant.specs.Shares.{KnowsShare, KnowsShared}
-use Rattle.core_invariant.specs.Holding.{count_of, holds_counts, AreApart}
-use Rattle.core_invariant.specs.Components.{HasComp, HasLife, IsRead, ReadIs, KnowsInvoking, KnowsReturning}
-use Rattle.core_invariant.specs.Threads.{KnowsSwitch, KnowsRunning, KnowsIdle}
-use Rattle.core_invariant.specs.Sweeps.{KnowsUntyping, KnowsRelease}
+use Rattle.core_invariant.specs.{Shares.KnowsShare, Shares.KnowsShared, Holding.count_of, Holding.holds_counts, Holding.AreApart}
+use Rattle.core_invariant.specs.{Components.HasComp, Components.HasLife, Components.IsRead, Components.ReadIs, Components.KnowsInvoking}
+use Rattle.core_invariant.specs.{Components.KnowsReturning, Threads.KnowsSwitch, Threads.KnowsRunning, Threads.KnowsIdle}
+use Rattle.core_invariant.specs.{Sweeps.KnowsUntyping, Sweeps.KnowsRelease}
+use low.{declared.comps.CompAt.CompAt, declared.comps.CompMaking.CompMaking, declared.comps.LastEpoch.LastEpoch}
+use low.{declared.makings.MakingAt.MakingAt, declared.makings.Making.Making, declared.objects.NewObject.NewObject}
+use low.{declared.touches.Touching.Touching, declared.kills.Killing.Killing, declared.kills.KillingAt.KillingAt, declared.own.Own.Own}
+use low.{declared.fills.Fill.Fill, declared.typings.Typing.Typing, declared.typings.TypingAt.TypingAt, declared.work.Act.Act as ActOf}
+use low.{declared.work.Work.Work, declared.work.Due.Due, declared.work.Tail.Tail, declared.work.Tail.TheVariants.StoreIdle}
+use Rattle.{act_fits.specs.stage_pins.specs.declared.pin.Pin.TheVariants.AtCompare}
+use Rattle.{act_fits.specs.call_stages.specs.declared.stages.Stage.Stage}
+use Rattle.{act_fits.specs.call_stages.specs.declared.stages.ActiveCall.ActiveCall}
+use Rattle.act_fits.specs.kernel_invariant.specs.spk_nums.specs.declared.calls.Make.TheVariants as make
+use Rattle.act_fits.specs.act_states.specs.declared.comps.CompAt.TheVariants as comp_at
+use Rattle.kernel_history.specs.frame_words.specs.declared.live_word.LiveWord.TheVariants as live_word
+use Rattle.kernel_history.specs.Trace as history
+use Rattle.act_fits.specs.stage_thread.specs.declared.stack.Push.TheVariants as push
+use Rattle.act_fits.specs.stage_thread.specs.declared.stack.Pop.TheVariants as pop
 
 -- The frame of the root of a target.
 abbrev pub root_frame : Target → ℕ
@@ -140,7 +70,7 @@ pub record HasFound (setup : Setting) (t : Trace) (c : ℕ) (target : Target) (w
   pub usable : usable (state_after setup t) c at ≡ Some k
   pub kind : wanted.kinds k.kind ≡ true
   pub right : has_rights k.rights wanted.needs ≡ true
-  pub fits : EntryFits (entry.Held k)
+  pub fits : EntryFits (Entry.Held k)
 
 -- A look-up of a number is before the root entry that it chooses.
 pub record IsAtRoot (table : Named) (n root number : ℕ) : Type 0 where
@@ -215,10 +145,10 @@ pub record IsScanned (setup : Setting) (t : Trace) (c : ℕ) (x : Thing) (at upt
 -- A word that a call may fill says that its place is free, or quiescing and scanned so far.
 abbrev pub MayFill : Setting → Trace → ℕ → Thing → ℕ → Option Entry → Type 0
 MayFill setup t c x upto None = ⊥
-MayFill setup t c x upto (Some entry.Free) = Unit {0}
-MayFill setup t c x upto (Some (entry.Held k)) = ⊥
-MayFill setup t c x upto (Some (entry.Closing by)) = ⊥
-MayFill setup t c x upto (Some (entry.Quiescing at)) = IsScanned setup t c x at upto
+MayFill setup t c x upto (Some Entry.Free) = Unit {0}
+MayFill setup t c x upto (Some (Entry.Held k)) = ⊥
+MayFill setup t c x upto (Some (Entry.Closing by)) = ⊥
+MayFill setup t c x upto (Some (Entry.Quiescing at)) = IsScanned setup t c x at upto
 
 -- The slot of a target that is to be free is reached, and the call's last step on its entry has read this word there, which it may fill.
 pub record IsSpot (setup : Setting) (t : Trace) (c : ℕ) (plan : Plan) (ks : List Capability) (upto node index word : ℕ) : Type 0 where
@@ -247,7 +177,7 @@ pub record IsFill (setup : Setting) (t : Trace) (c : ℕ) (call : Call) (plan : 
   pub way : IsReached setup t c target (record { node = fill.node; index = fill.entry })
   pub own : own_read t c (EntryAt fill.node fill.entry) ≡ Some fill.word
   pub vacant : MayFill setup t c (PlaceOf fill.node fill.entry) upto (entry_of_word fill.word)
-  pub fits : EntryFits (entry.Held fill.cap)
+  pub fits : EntryFits (Entry.Held fill.cap)
   pub read : Option ℕ
   pub has_read : ReadIs (state_after setup t) c (reads_of call found) read
   pub puts : put_by call found read ≡ Some fill.cap
@@ -270,7 +200,7 @@ mapped_frame call = 0
 pub record IsMapping (setup : Setting) (t : Trace) (c : ℕ) (call : Call) (plan : Plan) (found : List Capability) (upto : ℕ) (fill : Fill) :
     Type 0 where
   pub spot : IsSpot setup t c plan found upto fill.node fill.entry fill.word
-  pub fits : EntryFits (entry.Held fill.cap)
+  pub fits : EntryFits (Entry.Held fill.cap)
   pub puts : put_by call found None ≡ Some fill.cap
   pub frame : fill.cap.frame ≡ mapped_frame call
   pub maps : is_mapping call ≡ true
@@ -282,7 +212,7 @@ pub record IsRemoval (setup : Setting) (t : Trace) (c : ℕ) (call : Call) (plan
   pub next : next_of plan found ≡ NextHeld target
   pub way : IsReached setup t c target (record { node = node; index = index })
   pub usable : usable (state_after setup t) c (record { node = node; index = index }) ≡ Some cap
-  pub fits : EntryFits (entry.Held cap)
+  pub fits : EntryFits (Entry.Held cap)
   pub removes : removes_by call ≡ true
 
 -- Before the compare, the call's last step on the entry has read there this word, which says what it holds.
@@ -290,7 +220,7 @@ pub record IsClosing (setup : Setting) (t : Trace) (c : ℕ) (call : Call) (plan
     (cap : Capability) : Type 0 where
   pub removal : IsRemoval setup t c call plan found node index cap
   pub own : own_read t c (EntryAt node index) ≡ Some word
-  pub held : entry_of_word word ≡ Some (entry.Held cap)
+  pub held : entry_of_word word ≡ Some (Entry.Held cap)
   pub core : by ≡ c
 
 abbrev pub KnowsClose : Setting → Trace → ℕ → Call → Plan → List Capability → Close → Capability → Type 0

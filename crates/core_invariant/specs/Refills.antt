@@ -1,18 +1,9 @@
 -- What a call knows that gives ticks back to a temporal capability, where it stands.
-use Rattle.std.specs.Prelude.{◌≡◌, ◌≤◌, ℕ, zero, suc, Bool, true, false, List, [], ◌∷◌}
-use Rattle.kernel_invariant.specs.spk_nums.specs.Setting.{Setting}
-use Rattle.kernel_invariant.specs.spk_nums.specs.Capability.{Capability}
-use Rattle.kernel_invariant.specs.spk_nums.specs.Merging.{covers}
-use Rattle.kernel_invariant.specs.spk_nums.specs.declared.kinds.Kind.TheVariants.{Tcap as tcap_kind}
-use Rattle.kernel_invariant.specs.spk_nums.specs.declared.calls.Call.{Call}
-use Rattle.kernel_invariant.specs.spk_nums.specs.declared.calls.Call.TheVariants as call_as
-use Rattle.kernel_invariant.specs.kernel_rules.specs.State.{State}
+use Rattle.act_fits.specs.act_states.specs.{◌≡◌, ◌≤◌, ℕ, zero, suc, Bool, true, false, List, [], ◌∷◌, Setting, Capability, covers, Call}
+use Rattle.act_fits.specs.act_states.specs.{State, left_among, in_order, Refill, RefillAt, Again}
+use Rattle.kernel_history.specs.spk_nums.specs.declared.kinds.Kind.TheVariants.{Tcap as tcap_kind}
 use Rattle.kernel_history.specs.Trace.{Trace, state_after}
-use Rattle.act_fits.specs.act_states.specs.Refills.{left_among}
-use Rattle.act_fits.specs.stage_tcap.specs.Lists.{in_order}
-use Rattle.act_fits.specs.stage_tcap.specs.declared.refill.Refill.{Refill}
-use Rattle.act_fits.specs.stage_tcap.specs.declared.refill.RefillAt.{RefillAt}
-use Rattle.act_fits.specs.stage_tcap.specs.declared.refill.RefillAt.TheVariants.{Load, List as at_list, Compare, Again}
+use Rattle.act_fits.specs.stage_tcap.specs.declared.refill.RefillAt.TheVariants.{Load, List as at_list, Compare}
 use Rattle.core_invariant.specs.Shares.{HasTcap, ReadsHead, HasSeenB, IsUnread}
 
 -- The head was read, which no core had marked, and so many words of the list.
@@ -43,7 +34,7 @@ pub record IsRefill (s : State) (c m : ℕ) (k : Capability) (r : Refill) : Type
   pub grant : r.grant ≡ (s.core c).grant
 
 abbrev pub RefillsBy : State → ℕ → Call → List Capability → Refill → Type 0
-RefillsBy s c (call_as.Replenish a m) (k ∷ []) r = IsRefill s c m k r
+RefillsBy s c (Call.Replenish a m) (k ∷ []) r = IsRefill s c m k r
 RefillsBy s c call ks r = ⊥
 
 pub record KnowsRefill (setup : Setting) (t : Trace) (c : ℕ) (call : Call) (ks : List Capability) (r : Refill) : Type 0 where

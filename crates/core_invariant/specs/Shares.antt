@@ -1,32 +1,14 @@
 -- What a call on two temporal capabilities knows where it stands, and which steps on the words of a temporal capability it relies on.
-use Rattle.std.specs.Prelude.{◌≡◌, ◌≢◌, ◌⊎◌, ◌<◌, ◌≤◌, ◌==◌, ◌&&◌, not, ℕ, zero, suc, Bool, true, false, IsTrue}
-use Rattle.std.specs.Prelude.{IsSome, List, [], ◌∷◌, ◌^◌, ◌+◌, Option, Some, None, if◌then◌else◌, slice_get}
-use Rattle.kernel_invariant.specs.spk_nums.specs.Setting.{Setting}
-use Rattle.kernel_invariant.specs.spk_nums.specs.Capability.{Capability}
-use Rattle.kernel_invariant.specs.spk_nums.specs.declared.kinds.Kind.TheVariants.{Tcap as tcap_kind}
-use Rattle.kernel_invariant.specs.spk_nums.specs.declared.calls.Call.{Call}
-use Rattle.kernel_invariant.specs.spk_nums.specs.declared.calls.Call.TheVariants as call_as
-use Rattle.kernel_history.specs.tcap_words.specs.Head.{HeadFits, word_of_head, head_of_word}
-use Rattle.kernel_history.specs.tcap_words.specs.Quality.{QualityFits, quality_of_word}
-use Rattle.kernel_history.specs.tcap_words.specs.declared.head_word.HeadWord.{HeadWord}
-use Rattle.kernel_history.specs.word_map.specs.Word.{Word, EntryAt, FrameAt, CountAt, CoreAt, FlushAt, LiveAt, ClockAt}
-use Rattle.kernel_history.specs.word_map.specs.Moves.{word_of, left_of}
-use Rattle.kernel_invariant.specs.kernel_rules.specs.State.{State}
-use Rattle.kernel_invariant.specs.kernel_rules.specs.Fitting.{fits}
-use Rattle.kernel_invariant.specs.kernel_rules.specs.Relies.{IsGuarded}
-use Rattle.kernel_history.specs.Trace.{Step, Trace, state_after, last_left, own_read, WasAt}
-use Rattle.kernel_history.specs.Marking.{marked_by}
-use Rattle.kernel_history.specs.Discipline.{changes_budgets}
-use Rattle.kernel_history.specs.Footprint.{IsInFootprint}
-use Rattle.act_fits.specs.stage_tcap.specs.Heads.{marked}
-use Rattle.act_fits.specs.stage_tcap.specs.Lists.{read_word, in_order}
-use Rattle.act_fits.specs.stage_tcap.specs.Pairs.{amount_of, word_of_list, whole_b, grows_to, judged}
-use Rattle.act_fits.specs.stage_tcap.specs.declared.pair.Pair.{Pair}
-use Rattle.act_fits.specs.stage_tcap.specs.declared.pair.PairAt.{PairAt}
-use Rattle.act_fits.specs.stage_tcap.specs.declared.pair.PairAt.TheVariants.{LoadA, MarkA, ListA, LoadB, ListB, CompareB}
-use Rattle.act_fits.specs.stage_tcap.specs.declared.pair.PairAt.TheVariants.{AgainB, StoreList, StoreB, StoreA}
-use Rattle.act_fits.specs.stage_tcap.specs.declared.pair.PairWork.{PairWork}
-use Rattle.act_fits.specs.stage_tcap.specs.declared.pair.PairWork.TheVariants as share
+use Rattle.act_fits.specs.act_states.specs as low
+use low.{◌≡◌, ◌≢◌, ◌⊎◌, ◌<◌, ◌≤◌, ◌==◌, ◌&&◌, not, ℕ, zero, suc, Bool, true, false, IsTrue, IsSome, List, [], ◌∷◌, ◌^◌, ◌+◌, Option, Some}
+use low.{None, if◌then◌else◌, slice_get, Setting, Capability, Call, HeadFits, word_of_head, head_of_word, quality_of_word, HeadWord, Word}
+use low.{EntryAt, FrameAt, CountAt, CoreAt, FlushAt, LiveAt, ClockAt, word_of, left_of, State, fits, IsGuarded, marked, read_word, in_order}
+use low.{amount_of, judged, Pair, PairAt, LoadA, MarkA, ListA, LoadB, ListB, CompareB, AgainB, StoreList, StoreB, StoreA, PairWork}
+use Rattle.kernel_history.specs.{Step, state_after, last_left, own_read, WasAt, marked_by, changes_budgets, IsInFootprint}
+use Rattle.act_fits.specs.stage_tcap.specs.{word_of_list, whole_b}
+use Rattle.{kernel_history.specs.spk_nums.specs.declared.kinds.Kind.TheVariants.Tcap as tcap_kind}
+use Rattle.{kernel_history.specs.tcap_words.specs.Quality.QualityFits, kernel_history.specs.Trace.Trace}
+use Rattle.{act_fits.specs.stage_tcap.specs.Pairs.grows_to}
 
 -- Whether the list of the temporal capability in a frame was changed by a step since its head was changed last.
 abbrev pub turns_list : Word → Bool → ℕ → Bool → Bool
@@ -144,9 +126,9 @@ pub record IsShared (a b : Capability) (what : PairWork) (p : Pair) : Type 0 whe
   pub work : p.what ≡ what
 
 abbrev pub SharesBy : Call → List Capability → Pair → Type 0
-SharesBy (call_as.Transfer x y m) (a ∷ b ∷ []) p = IsShared a b (share.Transfer m) p
-SharesBy (call_as.Delegate x y m) (a ∷ b ∷ []) p = IsShared a b (share.Delegate m) p
-SharesBy (call_as.Test x y) (a ∷ b ∷ []) p = IsShared a b share.Test p
+SharesBy (Call.Transfer x y m) (a ∷ b ∷ []) p = IsShared a b (PairWork.Transfer m) p
+SharesBy (Call.Delegate x y m) (a ∷ b ∷ []) p = IsShared a b (PairWork.Delegate m) p
+SharesBy (Call.Test x y) (a ∷ b ∷ []) p = IsShared a b PairWork.Test p
 SharesBy call ks p = ⊥
 
 pub record KnowsShare (setup : Setting) (t : Trace) (c : ℕ) (call : Call) (ks : List Capability) (p : Pair) : Type 0 where

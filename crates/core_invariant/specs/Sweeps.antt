@@ -1,42 +1,15 @@
 -- What a call knows that makes a frame untyped: of the frame's word, of the counters that it has frozen, of those who may still use the
 -- frame, and of the object in it.
-use Rattle.std.specs.Prelude.{◌≡◌, ◌≢◌, ◌<◌, ◌≤◌, ◌&&◌, ◌==◌, nat_lt, nat_le, ℕ, Bool, true, false}
-use Rattle.std.specs.Prelude.{All, List, [], ◌∷◌, ◌++◌, length, Option, Some, None, IsTrue, if◌then◌else◌}
-use Rattle.kernel_invariant.specs.spk_nums.specs.Capability.{Capability}
-use Rattle.kernel_invariant.specs.spk_nums.specs.Setting.{Setting}
-use Rattle.kernel_invariant.specs.spk_nums.specs.declared.calls.Call.{Call}
-use Rattle.kernel_invariant.specs.spk_nums.specs.declared.calls.Call.TheVariants.{Retype}
-use Rattle.kernel_invariant.specs.spk_nums.specs.declared.kinds.FrameKind.TheVariants.{Untyped}
-use Rattle.kernel_history.specs.frame_words.specs.Count.{CountFits, word_of_count}
-use Rattle.kernel_history.specs.frame_words.specs.Frame.{frame_of_word}
-use Rattle.kernel_history.specs.frame_words.specs.Residue.{residue}
-use Rattle.kernel_history.specs.frame_words.specs.declared.count_word.CountWord.{CountWord}
-use Rattle.kernel_history.specs.frame_words.specs.declared.frame_word.FrameWord.{FrameWord}
-use Rattle.kernel_history.specs.word_map.specs.Word.{CountAt, FrameAt}
-use Rattle.kernel_invariant.specs.kernel_rules.specs.State.{Frame, Kernel, Table, Leaf, Pages, Pleaf, Comp, Thread, Tcap, FrameOf, State}
-use Rattle.kernel_invariant.specs.kernel_rules.specs.Access.{found, held_in}
-use Rattle.kernel_invariant.specs.kernel_rules.specs.CapabilityCalls.{has_frame}
-use Rattle.kernel_invariant.specs.kernel_rules.specs.References.{frame_names}
-use Rattle.kernel_history.specs.Counts.{counters}
-use Rattle.kernel_history.specs.Discipline.{counts_references}
-use Rattle.kernel_history.specs.Stamps.{clock, stamp}
-use Rattle.kernel_history.specs.Trace.{Trace, state_after, own_read}
-use Rattle.act_fits.specs.stage_pins.specs.Counts.{unheld}
-use Rattle.act_fits.specs.stage_pins.specs.declared.held.Acquired.{Acquired}
-use Rattle.act_fits.specs.stage_quiet.specs.declared.quiet.Quiet.{Quiet}
-use Rattle.act_fits.specs.stage_quiet.specs.declared.quiet.Quiet.TheVariants.{AtCore, AtFlush}
-use Rattle.act_fits.specs.stage_sweep.specs.Counters.{sum_of_counts, latest_stamp}
-use Rattle.act_fits.specs.stage_sweep.specs.Emptiness.{loads_of, may_be_cached}
-use Rattle.act_fits.specs.stage_sweep.specs.declared.empty.Owned.{Owned}
-use Rattle.act_fits.specs.stage_sweep.specs.declared.sweep.Sweep.{Sweep}
-use Rattle.act_fits.specs.stage_sweep.specs.declared.sweep.SweepAt.{SweepAt}
-use Rattle.act_fits.specs.stage_sweep.specs.declared.sweep.SweepAt.TheVariants.{Load as sweep_load, Compare, Scan, Empty}
-use Rattle.act_fits.specs.stage_sweep.specs.declared.sweep.Swept.{Swept}
-use Rattle.act_fits.specs.stage_sweep.specs.declared.thaw.Thaw.{Thaw}
-use Rattle.act_fits.specs.act_states.specs.declared.untypings.Release.{Release}
-use Rattle.act_fits.specs.act_states.specs.declared.untypings.UntypingAt.{UntypingAt}
-use Rattle.act_fits.specs.act_states.specs.declared.untypings.UntypingAt.TheVariants.{Load, Mark, Sweep as sweep_at, Draw}
-use Rattle.act_fits.specs.act_states.specs.declared.untypings.Untyping.{Untyping}
+use Rattle.act_fits.specs.act_states.specs as low
+use low.{◌≡◌, ◌≢◌, ◌<◌, ◌≤◌, ◌&&◌, ◌==◌, ltb as nat_lt, leb as nat_le, ℕ, Bool, true, false, All, List, [], ◌∷◌, ◌++◌, length, Option, Some}
+use low.{None, IsTrue, if◌then◌else◌, Capability, Setting, Call, Retype, CountFits, word_of_count, frame_of_word, residue, CountWord}
+use low.{FrameWord, CountAt, FrameAt, Frame, Kernel, Table, Leaf, Pages, Pleaf, Comp, Thread, Tcap, FrameOf, State, found, held_in}
+use low.{has_frame, frame_names, unheld, Acquired, Quiet, AtCore, AtFlush, sum_of_counts, latest_stamp, loads_of, may_be_cached, Owned}
+use low.{Sweep, SweepAt, Load as sweep_load, Compare, Scan, Empty, Swept, Thaw}
+use Rattle.kernel_history.specs.{counters, counts_references, clock, stamp, state_after, own_read}
+use low.declared.untypings.UntypingAt.TheVariants.{Load, Mark, Sweep as sweep_at, Draw}
+use Rattle.{kernel_history.specs.spk_nums.specs.declared.kinds.FrameKind.TheVariants.Untyped, kernel_history.specs.Trace.Trace}
+use low.{declared.untypings.Release.Release, declared.untypings.UntypingAt.UntypingAt, declared.untypings.Untyping.Untyping}
 
 -- The call makes this frame untyped, which the range has to which its name has led.
 pub record IsUntyped (f : ℕ) (m : Untyping) (has : Bool) : Type 0 where

@@ -1,28 +1,14 @@
 -- What a switch holds of the words of threads, and what it knows: the thread to which it goes on, the component at the top of its stack,
 -- and the thread that it leaves.
-use Rattle.std.specs.Prelude.{◌≡◌, ◌≢◌, ℕ, Bool, true, false, length, List, [], ◌∷◌, Some, IsTrue}
-use Rattle.kernel_invariant.specs.spk_nums.specs.Capability.{Capability}
-use Rattle.kernel_invariant.specs.spk_nums.specs.Setting.{Setting}
-use Rattle.kernel_invariant.specs.spk_nums.specs.declared.calls.Call.{Call}
-use Rattle.kernel_invariant.specs.spk_nums.specs.declared.calls.Call.TheVariants.{Switch}
-use Rattle.kernel_invariant.specs.spk_nums.specs.declared.kinds.Kind.TheVariants as kind
-use Rattle.kernel_history.specs.tcap_words.specs.Thread.{word_of_thread}
-use Rattle.kernel_history.specs.tcap_words.specs.declared.thread_word.ThreadWord.TheVariants.{Idle, Running}
-use Rattle.act_fits.specs.stage_thread.specs.declared.claim.Claim.{Claim as ClaimOf}
-use Rattle.act_fits.specs.stage_thread.specs.declared.claim.Claim.TheVariants.{AtLoad, AtCompare, AtStack}
-use Rattle.act_fits.specs.stage_thread.specs.declared.claim.Claimed.{Claimed}
-use Rattle.kernel_history.specs.word_map.specs.Word.{EntryAt}
-use Rattle.kernel_invariant.specs.kernel_rules.specs.State.{State, comp_in, first_of_stack, thread_in, thread_of}
-use Rattle.kernel_invariant.specs.kernel_rules.specs.Fitting.{fits}
-use Rattle.kernel_invariant.specs.kernel_rules.specs.Relies.{IsGuarded}
-use Rattle.kernel_history.specs.Discipline.{changes_threads}
-use Rattle.kernel_history.specs.Footprint.{IsInFootprint}
-use Rattle.kernel_history.specs.Trace.{Trace, WasAt, own_read, state_after}
-use Rattle.act_fits.specs.act_states.specs.declared.switches.Switching.{Switching}
-use Rattle.act_fits.specs.act_states.specs.declared.switches.SwitchAt.{SwitchAt}
+use Rattle.kernel_history.specs.{◌≡◌, ◌≢◌, ℕ, Bool, true, false, length, List, [], ◌∷◌, Some, IsTrue, Capability, Setting, Call, Switch}
+use Rattle.kernel_history.specs.{word_of_thread, Idle, Running, EntryAt, State, comp_in, first_of_stack, thread_in, thread_of, fits}
+use Rattle.kernel_history.specs.{IsGuarded, changes_threads, IsInFootprint, WasAt, own_read, state_after, Kind}
+use Rattle.act_fits.specs.act_states.specs.{Claim as ClaimOf, AtStack, Claimed}
+use Rattle.act_fits.specs.stage_thread.specs.declared.claim.Claim.TheVariants.{AtLoad, AtCompare}
 use Rattle.act_fits.specs.act_states.specs.declared.switches.SwitchAt.TheVariants.{Claim, LoadTable, LoadPages, Leave, Draw}
-use Rattle.core_invariant.specs.Holding.{Holding, keeps}
-use Rattle.core_invariant.specs.Components.{HasComp}
+use Rattle.core_invariant.specs.{Holding.Holding, Holding.keeps, Components.HasComp}
+use Rattle.{kernel_history.specs.Trace.Trace, act_fits.specs.act_states.specs.declared.switches.Switching.Switching}
+use Rattle.{act_fits.specs.act_states.specs.declared.switches.SwitchAt.SwitchAt}
 
 -- A thread that is claimed stands for the idle one that was found.
 abbrev pub holds_idle : ℕ → ℕ → Holding → Holding
@@ -68,7 +54,7 @@ is_claimed (Draw to table pages) = true
 
 -- A thread that no other core may retype.
 pub record HasThread (s : State) (c f : ℕ) : Type 0 where
-  pub thread : IsTrue (fits kind.Thread (s.frame f))
+  pub thread : IsTrue (fits Kind.Thread (s.frame f))
   pub guarded : IsGuarded s c f
 
 -- The call goes on as the thread to which its first name has led, with the temporal capability to which its second has led.

@@ -1,34 +1,12 @@
 -- What the settled words say of the state, kind by kind.
-use Rattle.std.specs.Prelude.{◌≡◌, ◌<◌, ◌≤◌, ℕ, zero, suc, ℤ, pos, length, slice_get, Option, Some, None}
-use Rattle.kernel_history.specs.entry_words.specs.declared.entry.Entry.{Entry}
-use Rattle.kernel_history.specs.entry_words.specs.declared.entry.Entry.TheVariants as entry
-use Rattle.kernel_history.specs.entry_words.specs.EntryWord.{entry_of_word}
-use Rattle.kernel_history.specs.frame_words.specs.Comp.{comp_of_word}
-use Rattle.kernel_history.specs.frame_words.specs.Frame.{frame_of_word}
-use Rattle.kernel_history.specs.frame_words.specs.Count.{count_of_word}
-use Rattle.kernel_history.specs.frame_words.specs.Residue.{residue}
-use Rattle.kernel_history.specs.frame_words.specs.Core.{core_of_word}
-use Rattle.kernel_history.specs.frame_words.specs.Flush.{flush_of_word}
-use Rattle.kernel_history.specs.frame_words.specs.Live.{live_of_word}
-use Rattle.kernel_history.specs.frame_words.specs.declared.count_word.CountWord.{CountWord}
-use Rattle.kernel_history.specs.frame_words.specs.declared.count_word.Hold.TheVariants.{Unheld}
-use Rattle.kernel_history.specs.frame_words.specs.declared.live_word.LiveWord.{LiveWord}
-use Rattle.kernel_history.specs.frame_words.specs.declared.live_word.LiveWord.TheVariants as live_word
-use Rattle.kernel_history.specs.tcap_words.specs.Head.{head_of_word}
-use Rattle.kernel_history.specs.tcap_words.specs.Quality.{quality_of_word}
-use Rattle.kernel_history.specs.tcap_words.specs.Stack.{stack_of_word}
-use Rattle.kernel_history.specs.tcap_words.specs.Thread.{thread_of_word}
-use Rattle.kernel_history.specs.tcap_words.specs.declared.head_word.HeadWord.{HeadWord}
-use Rattle.kernel_history.specs.word_map.specs.Word.{Word, EntryAt, FrameAt, CountAt, CoreAt, FlushAt, LiveAt, ClockAt}
-use Rattle.kernel_invariant.specs.kernel_rules.specs.State.{Place, Free, Holds, Quiescing, CompFields, ThreadFields, TcapFields, Object}
-use Rattle.kernel_invariant.specs.kernel_rules.specs.State.{Blank, Table, Leaf, Pages, Pleaf, Comp, Thread, Tcap, Frame, Untyped, User}
-use Rattle.kernel_invariant.specs.kernel_rules.specs.State.{Kernel, Liveness, Unused, Live, Dead, Thing, PlaceOf, NumberOf, State}
-use Rattle.kernel_invariant.specs.kernel_rules.specs.References.{refs}
-use Rattle.kernel_history.specs.Counts.{counters, count_sum}
-use Rattle.core_invariant.specs.CountWords.{newest_of}
-use Rattle.kernel_history.specs.ObjectWords.{frame_value, thread_value, at_height}
-use Rattle.act_fits.specs.stage_look.specs.Shown.{CapNames}
-use Rattle.act_fits.specs.stage_tcap.specs.quality_lists.specs.Rank.{rank}
+use Rattle.kernel_history.specs.{◌≡◌, ◌<◌, ◌≤◌, ℕ, zero, suc, ℤ, pos, length, slice_get, Option, Some, None, Entry, entry_of_word}
+use Rattle.kernel_history.specs.{comp_of_word, frame_of_word, count_of_word, residue, core_of_word, flush_of_word, live_of_word, CountWord}
+use Rattle.kernel_history.specs.{Unheld, LiveWord, head_of_word, quality_of_word, stack_of_word, thread_of_word, HeadWord, Word, EntryAt}
+use Rattle.kernel_history.specs.{FrameAt, CountAt, CoreAt, FlushAt, LiveAt, ClockAt, Place, Free, Holds, Quiescing, CompFields}
+use Rattle.kernel_history.specs.{ThreadFields, TcapFields, Object, Blank, Table, Leaf, Pages, Pleaf, Comp, Thread, Tcap, Frame, Untyped}
+use Rattle.kernel_history.specs.{User, Kernel, Liveness, Unused, Live, Dead, Thing, PlaceOf, NumberOf, State, refs, counters, count_sum}
+use Rattle.kernel_history.specs.{frame_value, thread_value, at_height}
+use Rattle.{act_fits.specs.act_states.specs.CapNames, act_fits.specs.act_states.specs.rank, core_invariant.specs.CountWords.newest_of}
 
 -- The stamps that words carry: that of the grace period of a thing, and those of a core's last exit and last flush.
 pub record Times : Type 0 where
@@ -39,12 +17,12 @@ pub record Times : Type 0 where
 -- The word of a place that is quiescing carries the stamp of its grace period.
 pub record QuiescingSince (stamp : ℕ) (shown : Option Entry) : Type 0 where
   pub drawn : 1 ≤ stamp
-  pub says : shown ≡ Some (entry.Quiescing stamp)
+  pub says : shown ≡ Some (Entry.Quiescing stamp)
 
 -- The word of a place says that it is free, what it holds, or since when it is quiescing. What it holds names frames of the machine.
 abbrev pub PlaceIs : ℕ → Place → ℕ → Option Entry → Type 0
-PlaceIs frames Free stamp shown = shown ≡ Some entry.Free
-PlaceIs frames (Holds k) stamp shown = (shown ≡ Some (entry.Held k)) × CapNames frames k
+PlaceIs frames Free stamp shown = shown ≡ Some Entry.Free
+PlaceIs frames (Holds k) stamp shown = (shown ≡ Some (Entry.Held k)) × CapNames frames k
 PlaceIs frames (Quiescing k) stamp shown = QuiescingSince stamp shown
 
 -- The word i of a component: the frame of its table, that of its pages, and its liveness number with its epoch.
@@ -104,12 +82,12 @@ pub record CountsAre (s : State) (f since : ℕ) (shown : ℕ → Option CountWo
 -- The word of a number that is dead carries the stamp of its grace period.
 pub record DeadSince (epoch stamp : ℕ) (shown : Option LiveWord) : Type 0 where
   pub drawn : 1 ≤ stamp
-  pub says : shown ≡ Some (live_word.Dead epoch stamp)
+  pub says : shown ≡ Some (LiveWord.Dead epoch stamp)
 
 -- The word of a liveness number.
 abbrev pub NumberIs : Liveness → ℕ → Option LiveWord → Type 0
-NumberIs Unused stamp shown = shown ≡ Some live_word.Free
-NumberIs (Live epoch f) stamp shown = shown ≡ Some (live_word.Live epoch f)
+NumberIs Unused stamp shown = shown ≡ Some LiveWord.Free
+NumberIs (Live epoch f) stamp shown = shown ≡ Some (LiveWord.Live epoch f)
 NumberIs (Dead epoch) stamp shown = DeadSince epoch stamp shown
 
 -- The settled word of this name says what the state is.

@@ -1,40 +1,19 @@
 -- Along a sound trace of the table, the kernel's trace is the step machine's own.
-use Rattle.std.proofs.Common.{◌≡◌, inl, inr, ℕ, ◌<◌, List, [], ◌∷◌, slice_get}
-use Rattle.std.proofs.Common.{Option, Some, None, IsSome, IsNone, refl, sym, ◌∙◌, ap, subst, arith}
-use Rattle.std.proofs.lemmas.Bool.{cases_eq}
-use Rattle.spk_nums.specs.declared.calls.Call.{Call}
-use Rattle.spk_nums.specs.declared.steps.WordOp.{WordOp}
-use Rattle.spk_nums.specs.Setting.{Setting, IsSetting}
+use Rattle.flight_laws.specs.flight.proofs.{◌≡◌, inl, inr, ℕ, ◌<◌, List, [], ◌∷◌, slice_get, Option, Some, None, IsSome, refl, sym, ◌∙◌, ap}
+use Rattle.flight_laws.specs.flight.proofs.{subst, arith, Call, Setting, IsSetting, Word, place_of, word_of, left_of, told_of, put_same}
+use Rattle.flight_laws.specs.flight.proofs.{put_other, shape_of, Out, phase, last_left, cases_word, last_left-here, last_left-there, Core}
+use Rattle.flight_laws.specs.flight.proofs.{IsCore, turned, MayStep, cores_after, IsMade, IsIn, Invariant, started, move_of, absorbed}
+use Rattle.flight_laws.specs.flight.proofs.{place_is, left_is, made_phases, moves_are_words}
+use Rattle.turn_rule.specs.{called, MayCall, word_after, program_after, MayFollow, IsSound}
+use Rattle.turn_rule.proofs.{kept_along, word_here, word_elsewhere, program_here, program_elsewhere, core_inside}
+use Rattle.core_kernel.specs.{run_of, running, step_by, trace_of}
+use Rattle.flight_laws.specs.core_invariant.specs.{WordOp, op_of, ActiveCall}
+use Rattle.flight_laws.specs.flight.proofs.{ByPlace.told_is, ByPlace.apart_places, CoreFits.begun_fits, Made.made_stands}
+use Rattle.core_kernel.specs.{declared.core_run.CoreRun.CoreRun, Running.next_in, Seen.core_by, Seen.IsStart}
+use Rattle.{flight_laws.specs.flight.specs.core_after, flight_laws.specs.flight.specs.IsMadeStep, std.proofs.Common.IsNone}
+use Rattle.{std.proofs.lemmas.Bool.cases_eq, word_map.specs.Places.IsShape, turn_rule.specs.declared.view.Entry.Entry}
+use Rattle.{turn_rule.specs.declared.view.Start.Start, flight_laws.specs.Histories.IsHistory, flight_laws.proofs.Histories.made_histories}
 use Rattle.spk_nums.specs.WordSteps as table
-use Rattle.word_map.specs.Word.{Word}
-use Rattle.word_map.specs.Places.{IsShape, place_of}
-use Rattle.word_map.specs.Moves.{word_of, op_of, left_of, told_of}
-use Rattle.boot_words.specs.kernel_rules.proofs.Within.{put_same, put_other}
-use Rattle.boot_words.specs.kernel_history.specs.BootWords.{shape_of}
-use Rattle.boot_words.specs.kernel_history.specs.Trace.{Out, phase, last_left}
-use Rattle.boot_words.specs.kernel_history.proofs.Names.{cases_word}
-use Rattle.boot_words.specs.kernel_history.proofs.Steps.{last_left-here, last_left-there}
-use Rattle.turn_rule.specs.declared.view.Entry.{Entry}
-use Rattle.turn_rule.specs.declared.view.Start.{Start}
-use Rattle.turn_rule.specs.Trace.{called, MayCall, word_after, program_after, MayFollow, IsSound}
-use Rattle.turn_rule.proofs.Traces.{kept_along, word_here, word_elsewhere, program_here, program_elsewhere, core_inside}
-use Rattle.call_steps.specs.call_stages.specs.declared.stages.ActiveCall.{ActiveCall}
-use Rattle.call_steps.specs.call_stages.specs.View.{Core}
-use Rattle.call_steps.specs.call_stages.specs.Fits.{IsCore}
-use Rattle.flight_laws.specs.Histories.{IsHistory}
-use Rattle.flight_laws.specs.flight.specs.Made.{turned, MayStep, core_after, cores_after, IsMade, IsMadeStep}
-use Rattle.word_map.specs.Places.{IsIn}
-use Rattle.flight_laws.specs.core_invariant.specs.Invariant.{Invariant}
-use Rattle.call_steps.specs.call_stages.specs.Cores.{started, move_of, absorbed}
-use Rattle.flight_laws.specs.flight.proofs.ByPlace.{place_is, left_is, told_is, apart_places}
-use Rattle.flight_laws.specs.flight.proofs.CoreFits.{begun_fits}
-use Rattle.flight_laws.specs.flight.proofs.Made.{made_stands}
-use Rattle.flight_laws.proofs.Histories.{made_histories}
-use Rattle.flight_laws.specs.flight.proofs.Phases.{made_phases}
-use Rattle.flight_laws.specs.flight.proofs.Spelling.{moves_are_words}
-use Rattle.core_kernel.specs.declared.core_run.CoreRun.{CoreRun}
-use Rattle.core_kernel.specs.Running.{run_of, next_in, running}
-use Rattle.core_kernel.specs.Seen.{core_by, step_by, trace_of, IsStart}
 
 -- a program with a next step has a active call, and makes the step machine's step
 next_some : (core : Core) (o : Option ActiveCall) (op : WordOp) → next_in core o ≡ Some op → (op ≡ op_of core.own.layout (move_of core))

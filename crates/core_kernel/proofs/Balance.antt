@@ -1,17 +1,11 @@
 -- In a legal trace each call of a core is answered once, with the reply that it returns.
-use Rattle.std.proofs.Common.{◌≡◌, inl, inr, ℕ, ◌+◌, List, [], ◌∷◌, ◌++◌, length, Option}
-use Rattle.std.proofs.Common.{Some, None, option_to_list, refl, sym, ◌∙◌, ap, subst, arith, append-nil}
-use Rattle.std.proofs.lemmas.Bool.{cases_eq}
-use Rattle.std.proofs.lemmas.List.{length-append}
-use Rattle.spk_nums.specs.declared.calls.Call.{Call}
-use Rattle.spk_nums.specs.declared.replies.Reply.{Reply}
-use Rattle.spk_nums.specs.Setting.{Setting}
-use Rattle.boot_words.specs.kernel_history.specs.Trace.{Step, Trace, Phase, Out, Open, Decided, phase, after_enter, after_decide}
-use Rattle.boot_words.specs.kernel_history.specs.Trace.{after_return, calls_of}
-use Rattle.boot_words.specs.kernel_history.specs.Legal.{MayEnter, MayDecide, MayReturn, IsLegal}
-use Rattle.boot_words.specs.kernel_history.proofs.Steps.{phase-own, phase-other, calls_of-own, calls_of-other}
-use Rattle.core_kernel.specs.Replies.{replies_of, EndsWith}
+use Rattle.flight_laws.specs.flight.specs.kept_facts.proofs as low
+use low.{◌≡◌, inl, inr, ℕ, ◌+◌, List, [], ◌∷◌, ◌++◌, length, Option, Some, None, option_to_list, refl, sym, ◌∙◌, ap, subst, arith}
+use low.{append-nil, length-append, Call, Reply, Setting, Step, Trace, Phase, Out, Open, phase, after_enter, after_decide, after_return}
+use low.{calls_of, MayEnter, MayDecide, IsLegal, phase-own, phase-other, calls_of-own, calls_of-other}
 use Rattle.core_kernel.proofs.Lists.{replies_of-own, replies_of-other, calls_of-append, replies_of-append, same_last, one_of}
+use Rattle.{core_kernel.specs.replies_of, core_kernel.specs.EndsWith, boot_words.specs.kernel_history.specs.Decided}
+use Rattle.{boot_words.specs.kernel_history.specs.MayReturn, std.proofs.lemmas.Bool.cases_eq}
 
 -- the replies of a core in a decided call end with that call's
 pub record IsAnswered (r : Reply) (calls : List Call) (replies : List Reply) : Type 0 where

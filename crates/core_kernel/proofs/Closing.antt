@@ -1,42 +1,20 @@
 -- How a kernel begins with its seats, and how it ends with them.
-use Rattle.std.proofs.Common.{◌≡◌, inl, inr, ℕ, ◌+◌, ◌<◌, List, [], ◌∷◌, ◌++◌, length}
-use Rattle.std.proofs.Common.{slice_get, get_or, map, Option, Some, None, refl, sym, ◌∙◌, ap, subst, arith, All}
-use Rattle.std.specs.Prelude.{unwrap_or}
-use Rattle.std.specs.Option.{option_map}
-use Rattle.std.proofs.lemmas.Bool.{cases_eq, cases_lt}
-use Rattle.std.proofs.lemmas.List.{length-map, length-append, get_or_push, get_or_append_left}
-use Rattle.std.proofs.lemmas.List.Elements.{All-get_or}
+use Rattle.boot_words.specs.kernel_history.proofs.{◌≡◌, inl, inr, ℕ, ◌+◌, ◌<◌, List, [], ◌∷◌, ◌++◌, length, slice_get, get_or, map, Option}
+use Rattle.boot_words.specs.kernel_history.proofs.{Some, None, refl, sym, ◌∙◌, ap, subst, arith, All, option_map, length-map, length-append}
+use Rattle.boot_words.specs.kernel_history.proofs.{Call, CoreEnd, Setting, IsSetting, Word, ClockAt, IsShape, IsIn, place_of, size_of}
+use Rattle.boot_words.specs.kernel_history.proofs.{has_places, shape_of, boot_word, word_in, end_in, state_after, last_left}
+use Rattle.core_kernel.specs.{run_of, running, trace_of, CoreSeatValue, seat_value, IsBooted, IsSeat, AreAllSeats, AreFresh, AreWrapped}
+use Rattle.turn_rule.specs.{program_after, IsSound, AreOfOthers, TableValue, SeatValue}
+use Rattle.flight_laws.specs.flight.proofs.{started, end_of, limits_of, cores_after, made_of_its_cores}
 use Rattle.std.proofs.lemmas.Option.{slice_get-map, slice_get-get_or, slice_get_cases, slice_get_read, get_or_from_slice_get}
-use Rattle.spk_nums.specs.declared.calls.Call.{Call}
-use Rattle.spk_nums.specs.declared.translations.CoreEnd.{CoreEnd}
-use Rattle.spk_nums.specs.Setting.{Setting, IsSetting}
-use Rattle.word_map.specs.Word.{Word, ClockAt}
-use Rattle.word_map.specs.Places.{IsShape, IsIn, place_of, size_of}
-use Rattle.word_map.proofs.PlaceLemmas.{has_places}
-use Rattle.boot_words.specs.kernel_history.specs.BootWords.{shape_of, boot_word}
-use Rattle.boot_words.specs.kernel_history.specs.FinalWords.{word_in, end_in, no_end}
-use Rattle.boot_words.specs.kernel_history.specs.Trace.{state_after, last_left}
-use Rattle.turn_rule.specs.declared.view.Entry.{Entry}
-use Rattle.turn_rule.specs.declared.view.Start.{Start}
-use Rattle.turn_rule.specs.Trace.{program_after, IsSound, AreOfOthers}
+use Rattle.flight_laws.specs.flight.proofs.{Alike.like, Alike.like_counts, Final.represents, Final.represents_counts, Made.made_stands}
+use Rattle.core_kernel.specs.{declared.core_run.CoreRun.CoreRun, Seen.IsStart, Kernel.kernel_value, Turns.ArePrograms}
+use Rattle.core_kernel.proofs.{Along.along, Along.is_history, Along.is_out, Seats.extends_by_others}
+use Rattle.{core_kernel.specs.ExtendsByOthers, core_kernel.specs.EndsAt, std.proofs.lemmas.Bool.cases_eq, std.proofs.lemmas.Bool.cases_lt}
+use Rattle.{std.proofs.lemmas.List.get_or_push, std.proofs.lemmas.List.get_or_append_left, std.specs.Prelude.unwrap_or}
+use Rattle.{std.proofs.lemmas.List.Elements.All-get_or, boot_words.specs.kernel_history.specs.FinalWords.no_end}
+use Rattle.{turn_rule.specs.declared.view.Entry.Entry, turn_rule.specs.declared.view.Start.Start, turn_rule.proofs.Traces.program_stays}
 use Rattle.turn_rule.specs.Seats as turns
-use Rattle.turn_rule.specs.Seats.{TableValue, SeatValue}
-use Rattle.turn_rule.proofs.Traces.{program_stays}
-use Rattle.call_steps.specs.call_stages.specs.Cores.{started, end_of}
-use Rattle.flight_laws.specs.flight.proofs.Alike.{like, like_counts}
-use Rattle.flight_laws.specs.flight.proofs.Final.{represents, represents_counts}
-use Rattle.flight_laws.specs.core_invariant.proofs.Sounds.{limits_of}
-use Rattle.core_kernel.specs.declared.core_run.CoreRun.{CoreRun}
-use Rattle.core_kernel.specs.Running.{run_of, running}
-use Rattle.core_kernel.specs.Seen.{IsStart, trace_of}
-use Rattle.flight_laws.specs.flight.specs.Made.{cores_after}
-use Rattle.flight_laws.specs.flight.proofs.Made.{made_stands}
-use Rattle.flight_laws.specs.flight.proofs.Phases.{made_of_its_cores}
-use Rattle.core_kernel.specs.Kernel.{CoreSeatValue, kernel_value, seat_value, IsBooted, IsSeat, AreAllSeats, AreFresh}
-use Rattle.core_kernel.specs.Turns.{ArePrograms, AreWrapped}
-use Rattle.core_kernel.specs.Calls.{ExtendsByOthers, EndsAt}
-use Rattle.core_kernel.proofs.Along.{along, is_history, is_out}
-use Rattle.core_kernel.proofs.Seats.{extends_by_others}
 
 -- one more core at the start
 pub programs_more : (setup : Setting) (n : ℕ) (xs ys : List CoreRun) (p : CoreRun) → ArePrograms setup n xs → ys ≡ xs ++ p ∷ []

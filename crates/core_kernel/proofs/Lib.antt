@@ -4,3 +4,5 @@ pub mod Along
 pub mod Turns
 pub mod Seats
 pub mod Closing
+-- The names that are used most outside of this library.
+pub use Rattle.core_kernel.proofs.{Closing.at_of, Lists.calls_of-append, Lists.replies_of-append}

@@ -1,17 +1,10 @@
 -- Traces that go on: what more steps add to a core's calls and replies.
-use Rattle.std.proofs.Common.{◌≡◌, ◌≢◌, inl, inr, ℕ, ◌≤◌, suc, List, [], ◌∷◌, ◌++◌, length}
-use Rattle.std.proofs.Common.{option_to_list, refl, sym, ◌∙◌, ap, arith, append_assoc, append-nil, eq-eqb, ne_eqb}
-use Rattle.std.proofs.lemmas.Bool.{cases_eq}
-use Rattle.std.proofs.lemmas.List.Elements.{All-cons}
-use Rattle.spk_nums.specs.declared.calls.Call.{Call}
-use Rattle.spk_nums.specs.Setting.{Setting}
-use Rattle.boot_words.specs.kernel_history.specs.Legal.{IsLegal}
-use Rattle.boot_words.specs.kernel_history.specs.Trace.{Step, Trace, calls_of}
-use Rattle.boot_words.specs.kernel_history.proofs.Steps.{calls_of-own, calls_of-other}
-use Rattle.turn_rule.specs.declared.view.Entry.{Entry}
+use Rattle.flight_laws.specs.flight.specs.step_ways.proofs.{◌≡◌, ◌≢◌, inl, inr, ℕ, ◌≤◌, suc, List, [], ◌∷◌, ◌++◌, length, option_to_list}
+use Rattle.flight_laws.specs.flight.specs.step_ways.proofs.{refl, sym, ◌∙◌, ap, arith, append_assoc, append-nil, eq-eqb, ne_eqb, Call}
+use Rattle.flight_laws.specs.flight.specs.step_ways.proofs.{Setting, IsLegal, Step, Trace, calls_of, calls_of-own, calls_of-other}
+use Rattle.core_kernel.specs.{step_by, trace_of, replies_of, AreOfOthers}
+use Rattle.{std.proofs.lemmas.Bool.cases_eq, std.proofs.lemmas.List.Elements.All-cons, turn_rule.specs.declared.view.Entry.Entry}
 use Rattle.turn_rule.specs.Trace as table
-use Rattle.core_kernel.specs.Seen.{step_by, trace_of}
-use Rattle.core_kernel.specs.Replies.{replies_of, AreOfOthers}
 
 module _ (c : ℕ) (e : Step) (t : Trace) where
   pub replies_of-own : c ≡ e.core → replies_of (e ∷ t) c ≡ replies_of t c ++ option_to_list e.decides

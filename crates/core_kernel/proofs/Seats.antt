@@ -1,25 +1,14 @@
 -- What seats have seen: each alone, after a call, after a meet, and all of them at the end.
-use Rattle.std.proofs.Common.{◌≡◌, ℕ, ◌<◌, List, [], ◌∷◌}
-use Rattle.std.proofs.Common.{Option, Some, None, IsSomeAnd, sym, ◌∙◌, ap, subst}
-use Rattle.spk_nums.specs.declared.calls.Call.{Call}
-use Rattle.spk_nums.specs.declared.replies.Reply.{Reply}
-use Rattle.spk_nums.specs.Setting.{Setting}
-use Rattle.boot_words.specs.kernel_history.specs.Trace.{state_after}
-use Rattle.turn_rule.specs.declared.view.Entry.{Entry}
+use Rattle.flight_laws.specs.flight.specs.step_ways.proofs.{◌≡◌, ℕ, ◌<◌, List, [], ◌∷◌, Option, Some, None, IsSomeAnd, sym, ◌∙◌, ap, subst}
+use Rattle.flight_laws.specs.flight.specs.step_ways.proofs.{Call, Reply, Setting, state_after}
+use Rattle.core_kernel.specs.{running, trace_of, EndsWith, IsBooted, IsSeat, seat_value, GoesOn, HasSeen, Extends, ExtendsByOthers}
+use Rattle.turn_rule.specs.{SeatValue, FollowsTrace, declared.view.Entry.Entry, Seats.NoteValue}
+use Rattle.core_kernel.proofs.{Along.along, Along.is_history, Along.is_out, Along.here, Balance.one_reply, Lists.steps_since}
+use Rattle.{core_kernel.specs.MakesCall, core_kernel.specs.Meets, flight_laws.specs.flight.proofs.Made.made_stands}
+use Rattle.{core_kernel.specs.declared.core_run.CoreRun.CoreRun, core_kernel.specs.Kernel.note_value}
+use Rattle.{core_kernel.proofs.Lists.trace_of-append, core_kernel.proofs.Lists.others_since}
 use Rattle.turn_rule.specs.Trace as table
 use Rattle.turn_rule.specs.Seats as turns
-use Rattle.turn_rule.specs.Seats.{SeatValue, NoteValue, FollowsTrace}
-use Rattle.core_kernel.specs.declared.core_run.CoreRun.{CoreRun}
-use Rattle.core_kernel.specs.Running.{running}
-use Rattle.core_kernel.specs.Seen.{trace_of}
-use Rattle.flight_laws.specs.flight.proofs.Made.{made_stands}
-use Rattle.core_kernel.specs.Replies.{EndsWith}
-use Rattle.core_kernel.specs.Kernel.{IsBooted, IsSeat, seat_value, note_value}
-use Rattle.core_kernel.specs.Turns.{GoesOn}
-use Rattle.core_kernel.specs.Calls.{HasSeen, Extends, ExtendsByOthers, MakesCall, Meets}
-use Rattle.core_kernel.proofs.Along.{along, is_history, is_out, here}
-use Rattle.core_kernel.proofs.Balance.{one_reply}
-use Rattle.core_kernel.proofs.Lists.{steps_since, trace_of-append, others_since}
 
 -- what holds of each seat
 pub has_seen : (setup : Setting) (s : SeatValue CoreRun Call) → IsSeat setup s → HasSeen (seat_value setup s)

@@ -1,32 +1,15 @@
 -- A turn of a seat as steps of the kernel.
-use Rattle.std.proofs.Common.{◌≡◌, ℕ, ◌<◌, List, ◌∷◌, ◌++◌, Option, Some, None, IsSome}
-use Rattle.std.proofs.Common.{IsSomeAnd, MatchOption, option_to_list, refl, sym, ◌∙◌, ap, subst, append_assoc}
-use Rattle.spk_nums.specs.declared.calls.Call.{Call}
-use Rattle.spk_nums.specs.declared.replies.Reply.{Reply}
-use Rattle.spk_nums.specs.declared.steps.WordOp.{WordOp}
-use Rattle.spk_nums.specs.Setting.{Setting}
-use Rattle.boot_words.specs.kernel_history.specs.Trace.{Step, Trace, calls_of}
-use Rattle.boot_words.specs.kernel_history.proofs.Steps.{calls_of-own}
-use Rattle.turn_rule.specs.declared.view.Entry.{Entry}
-use Rattle.turn_rule.specs.declared.view.Start.{Start}
-use Rattle.turn_rule.specs.Trace.{entry, called, program_after, IsSound}
-use Rattle.turn_rule.proofs.Traces.{program_stays}
-use Rattle.turn_rule.specs.Seats.{SeatValue, MakesStep, FollowsTrace}
-use Rattle.call_steps.specs.call_stages.specs.View.{Core}
-use Rattle.call_steps.specs.call_stages.specs.Fits.{steps_left}
-use Rattle.flight_laws.specs.core_invariant.specs.Events.{returned_in}
-use Rattle.call_steps.specs.call_stages.specs.Cores.{move_of, absorbed, told_of_step}
-use Rattle.word_map.specs.Moves.{told_of}
-use Rattle.flight_laws.specs.flight.proofs.AfterStep.{absorbed_returns}
-use Rattle.flight_laws.specs.flight.proofs.CoreFits.{absorbed_fewer}
-use Rattle.core_kernel.specs.declared.core_run.CoreRun.{CoreRun}
-use Rattle.core_kernel.specs.Running.{answered, running}
-use Rattle.core_kernel.specs.Seen.{core_by, step_by, trace_of}
-use Rattle.core_kernel.specs.Replies.{EndsWith}
-use Rattle.core_kernel.specs.Kernel.{IsBooted}
-use Rattle.core_kernel.specs.Turns.{HasReturned, GoesOn}
+use Rattle.flight_laws.specs.flight.specs.step_ways.proofs as low
+use low.{◌≡◌, ℕ, ◌<◌, List, ◌∷◌, ◌++◌, Option, Some, None, IsSome, IsSomeAnd, option_to_list, refl, sym, ◌∙◌, ap, subst, append_assoc, Call}
+use low.{Reply, Setting, Step, Trace, calls_of, calls_of-own, Core, steps_left, returned_in, move_of, absorbed, told_of_step, told_of}
+use Rattle.turn_rule.specs.{entry, called, program_after, IsSound, SeatValue, MakesStep, FollowsTrace}
+use Rattle.core_kernel.specs.{running, step_by, trace_of, EndsWith, IsBooted, GoesOn}
+use Rattle.core_kernel.specs.{declared.core_run.CoreRun.CoreRun, Running.answered, Seen.core_by, Turns.HasReturned}
 use Rattle.core_kernel.proofs.Along.{along, EntryIs, entry_is}
 use Rattle.core_kernel.proofs.Lists.{calls_of-append, calls_of-others, steps_since, trace_of-append, others_since}
+use Rattle.{flight_laws.specs.core_invariant.specs.MatchOption, flight_laws.specs.core_invariant.specs.WordOp}
+use Rattle.{turn_rule.specs.declared.view.Entry.Entry, turn_rule.specs.declared.view.Start.Start, turn_rule.proofs.Traces.program_stays}
+use Rattle.{flight_laws.specs.flight.proofs.AfterStep.absorbed_returns, flight_laws.specs.flight.proofs.CoreFits.absorbed_fewer}
 
 some_and : {A : Type 0} (o : Option A) (x : A) (F : A → Type 0) → o ≡ Some x → F x → IsSomeAnd o F
 some_and o x F is h = subst (λ p. IsSomeAnd p F) (sym is) h

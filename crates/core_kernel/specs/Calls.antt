@@ -1,16 +1,9 @@
 -- What a seat's trace is after a call and after a meet, and what all seats leave behind.
-use Rattle.std.specs.Prelude.{◌≡◌, ℕ, List, [], ◌∷◌, ◌++◌, length, slice_get, Some}
-use Rattle.spk_nums.specs.declared.calls.Call.{Call}
-use Rattle.spk_nums.specs.declared.replies.Reply.{Reply}
-use Rattle.spk_nums.specs.declared.translations.CoreEnd.{CoreEnd}
-use Rattle.word_map.specs.Places.{size_of}
-use Rattle.boot_words.specs.kernel_history.specs.BootWords.{shape_of}
-use Rattle.boot_words.specs.kernel_history.specs.Counts.{RepresentCounts}
-use Rattle.boot_words.specs.kernel_history.specs.FinalWords.{Represent, word_in, end_in}
-use Rattle.boot_words.specs.kernel_history.specs.Trace.{Trace, Out, phase, calls_of, state_after}
-use Rattle.flight_laws.specs.Histories.{IsHistory}
+use Rattle.flight_laws.specs.core_invariant.specs.{◌≡◌, ℕ, List, [], ◌∷◌, ◌++◌, length, slice_get, Some, Call, Reply, CoreEnd, size_of}
+use Rattle.flight_laws.specs.core_invariant.specs.{shape_of, RepresentCounts, Represent, word_in, end_in, Trace, Out, phase, calls_of}
 use Rattle.core_kernel.specs.Replies.{replies_of, AreOfOthers, EndsWith}
 use Rattle.core_kernel.specs.Kernel.{KernelValue, CoreSeatValue, CoreNoteValue}
+use Rattle.{flight_laws.specs.core_invariant.specs.state_after, flight_laws.specs.Histories.IsHistory}
 
 -- What each seat has seen is a history of the machine, after which its core is between calls.
 pub record HasSeen (seat : CoreSeatValue) : Type 0 where

@@ -1,12 +1,7 @@
 -- A kernel, its seats and its notes as contracts see them.
-use Rattle.std.specs.Prelude.{◌≡◌, ℕ, List, [], length, slice_get, Some, None}
-use Rattle.spk_nums.specs.declared.calls.Call.{Call}
-use Rattle.spk_nums.specs.Setting.{Setting, IsSetting}
-use Rattle.boot_words.specs.kernel_history.specs.Trace.{Trace}
-use Rattle.turn_rule.specs.Seats.{TableValue, SeatValue, NoteValue, FollowsTrace}
-use Rattle.core_kernel.specs.declared.core_run.CoreRun.{CoreRun}
-use Rattle.core_kernel.specs.Running.{running}
-use Rattle.core_kernel.specs.Seen.{IsStart, trace_of}
+use Rattle.flight_laws.specs.core_invariant.specs.{◌≡◌, ℕ, List, [], length, slice_get, Some, None, Call, Setting, IsSetting, Trace}
+use Rattle.core_kernel.specs.{declared.core_run.CoreRun.CoreRun, Running.running, Seen.IsStart, Seen.trace_of}
+use Rattle.{turn_rule.specs.TableValue, turn_rule.specs.SeatValue, turn_rule.specs.FollowsTrace, turn_rule.specs.Seats.NoteValue}
 
 -- Which kernel it is, and with what it was booted.
 pub record KernelValue : Type 0 where

@@ -1,7 +1,6 @@
 -- The replies of a core's calls in a trace.
-use Rattle.std.specs.Prelude.{◌≡◌, ◌≢◌, ℕ, ◌==◌, List, [], ◌∷◌, ◌++◌, All, if◌then◌else◌, option_to_list, Some}
-use Rattle.spk_nums.specs.declared.replies.Reply.{Reply}
-use Rattle.boot_words.specs.kernel_history.specs.Trace.{Step, Trace}
+use Rattle.flight_laws.specs.core_invariant.specs.{◌≡◌, ◌≢◌, ℕ, ◌==◌, List, [], ◌∷◌, ◌++◌, All, if◌then◌else◌, option_to_list, Some, Reply}
+use Rattle.flight_laws.specs.core_invariant.specs.{Step, Trace}
 
 -- The replies that the core's calls have decided, in order.
 abbrev pub replies_of : Trace → ℕ → List Reply

@@ -1,18 +1,7 @@
 -- The program that a core runs at the shared table: the core's state, by which it makes each step, and the reply of its last call.
-use Rattle.std.specs.Prelude.{Option, Some, None}
-use Rattle.spk_nums.specs.CallLimits.{InLimits}
-use Rattle.spk_nums.specs.declared.calls.Call.{Call}
-use Rattle.spk_nums.specs.declared.replies.Reply.{Reply}
-use Rattle.spk_nums.specs.declared.steps.WordOp.{WordOp}
-use Rattle.word_map.specs.Places.{size_of}
-use Rattle.word_map.specs.Moves.{op_of}
-use Rattle.turn_rule.specs.Steps.{Steps}
-use Rattle.call_steps.specs.call_stages.specs.declared.stages.ActiveCall.{ActiveCall}
-use Rattle.call_steps.specs.call_stages.specs.View.{Core}
-use Rattle.call_steps.specs.call_stages.specs.Cores.{begun, move_of, absorbed, told_of_step}
-use Rattle.call_steps.specs.call_stages.specs.Fits.{steps_left}
-use Rattle.flight_laws.specs.core_invariant.specs.Events.{returned_in}
-use Rattle.core_kernel.specs.declared.core_run.CoreRun.{CoreRun}
+use Rattle.flight_laws.specs.core_invariant.specs.{Option, Some, None, InLimits, Call, Reply, WordOp, size_of, op_of, ActiveCall, Core}
+use Rattle.flight_laws.specs.core_invariant.specs.{begun, move_of, absorbed, told_of_step, steps_left, returned_in}
+use Rattle.{turn_rule.specs.Steps.Steps, core_kernel.specs.declared.core_run.CoreRun.CoreRun}
 
 abbrev pub run_of : Core → Option Reply → CoreRun
 run_of core last = record { state = core; last = last }

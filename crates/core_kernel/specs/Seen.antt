@@ -1,20 +1,10 @@
 -- What the entries of the shared table are as a trace of the kernel: each is a step of the step machine, made by its core's state
 -- with the word found.
-use Rattle.std.specs.Prelude.{◌≡◌, ℕ, ◌<◌, List, [], ◌∷◌, length, slice_get, Some, None}
-use Rattle.spk_nums.specs.declared.calls.Call.{Call}
-use Rattle.spk_nums.specs.Setting.{Setting}
-use Rattle.word_map.specs.Word.{Word}
-use Rattle.word_map.specs.Places.{IsIn, size_of}
-use Rattle.boot_words.specs.kernel_history.specs.BootWords.{shape_of, boot_word}
-use Rattle.boot_words.specs.kernel_history.specs.FinalWords.{word_in}
-use Rattle.boot_words.specs.kernel_history.specs.Trace.{Step, Trace}
-use Rattle.turn_rule.specs.declared.view.Entry.{Entry}
-use Rattle.turn_rule.specs.declared.view.Start.{Start}
-use Rattle.call_steps.specs.call_stages.specs.View.{Core}
-use Rattle.call_steps.specs.call_stages.specs.Cores.{started}
-use Rattle.flight_laws.specs.flight.specs.Made.{turned, step_of, cores_after}
-use Rattle.core_kernel.specs.declared.core_run.CoreRun.{CoreRun}
-use Rattle.core_kernel.specs.Running.{run_of}
+use Rattle.flight_laws.specs.core_invariant.specs.{◌≡◌, ℕ, ◌<◌, List, [], ◌∷◌, length, slice_get, Some, None, Call, Setting, Word, IsIn}
+use Rattle.flight_laws.specs.core_invariant.specs.{size_of, shape_of, boot_word, word_in, Step, Trace, Core, started}
+use Rattle.flight_laws.specs.flight.specs.{turned, step_of, cores_after}
+use Rattle.turn_rule.specs.{declared.view.Entry.Entry, declared.view.Start.Start}
+use Rattle.core_kernel.specs.{declared.core_run.CoreRun.CoreRun, Running.run_of}
 
 -- The core that makes the step of an entry after a trace, its call begun.
 abbrev pub core_by : Setting → Trace → Entry Call → Core

@@ -1,15 +1,9 @@
 -- What the turns of a seat of the table are as steps of the kernel.
-use Rattle.std.specs.Prelude.{◌≡◌, ℕ, ◌<◌, List, ◌++◌, length, map, slice_get, All, Some, None, IsSomeAnd}
-use Rattle.spk_nums.specs.declared.calls.Call.{Call}
-use Rattle.spk_nums.specs.Setting.{Setting}
-use Rattle.boot_words.specs.kernel_history.specs.Trace.{Trace, calls_of}
-use Rattle.turn_rule.specs.Seats.{SeatValue, FollowsTrace}
-use Rattle.call_steps.specs.call_stages.specs.Cores.{started}
-use Rattle.core_kernel.specs.declared.core_run.CoreRun.{CoreRun}
-use Rattle.core_kernel.specs.Running.{running, run_of}
-use Rattle.core_kernel.specs.Seen.{trace_of}
-use Rattle.core_kernel.specs.Replies.{EndsWith}
-use Rattle.core_kernel.specs.Kernel.{CoreSeatValue, IsSeat, seat_value}
+use Rattle.flight_laws.specs.core_invariant.specs.{◌≡◌, ℕ, ◌<◌, List, ◌++◌, length, map, slice_get, All, Some, None, IsSomeAnd, Call}
+use Rattle.flight_laws.specs.core_invariant.specs.{Setting, Trace, calls_of, started}
+use Rattle.turn_rule.specs.{SeatValue, FollowsTrace}
+use Rattle.core_kernel.specs.{declared.core_run.CoreRun.CoreRun, Running.running, Running.run_of, Seen.trace_of, Replies.EndsWith}
+use Rattle.core_kernel.specs.{Kernel.CoreSeatValue, Kernel.IsSeat, Kernel.seat_value}
 
 -- Where the core is between calls, its newest step has just returned the reply that is kept.
 abbrev pub HasReturned : Setting → SeatValue CoreRun Call → Type 0

@@ -1,10 +1,9 @@
 -- Seats that are taken from the end of all seats of a kernel, and stand as ports in the opposite order; ports that come back.
-use Rattle.std.proofs.Common.{◌≡◌, ◌<◌, ◌≤◌, ◌⊎◌, ℕ, zero, suc, ◌+◌, List, [], ◌∷◌, ◌++◌, length, slice_get, Option, Some, None}
-use Rattle.std.proofs.Common.{◌-◌, refl, sym, ap, ◌∙◌, subst, ⊎_elim, inl, inr, arith, append-nil, option_to_list, IfSome}
-use Rattle.std.proofs.lemmas.List.{length-append}
-use Rattle.core_kernel.specs.Kernel.{KernelValue, CoreSeatValue}
-use Rattle.spk_nums.specs.Setting.{Setting}
-use Rattle.core_machine.specs.Seats.{SeatsValue, IsDealt, IsDealtAfter, IsLeft, IsBack, HasSeats}
+use Rattle.std.proofs.Common.{◌≡◌, ◌<◌, ◌≤◌, ◌⊎◌, ℕ, zero, suc, ◌+◌, List, [], ◌∷◌, ◌++◌, length, slice_get, Option, Some, None, ◌-◌, refl}
+use Rattle.std.proofs.Common.{sym, ap, ◌∙◌, subst, ⊎_elim, inl, inr, arith, append-nil, option_to_list, IfSome, length-append}
+use Rattle.core_machine.specs.Seats.{IsDealtAfter, IsLeft, IsBack, HasSeats}
+use Rattle.{core_machine.specs.SeatsValue, core_machine.specs.IsDealt, core_kernel.specs.KernelValue, core_kernel.specs.CoreSeatValue}
+use Rattle.{spk_nums.specs.Setting.Setting}
 
 -- The first seats of the kernel are still there, and the others stand in the opposite order.
 pub record AreTurned (of : KernelValue) (seats ports : List CoreSeatValue) : Type 0 where

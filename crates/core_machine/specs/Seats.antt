@@ -1,6 +1,6 @@
 -- The seats of a machine: which are dealt, and which are back.
 use Rattle.std.specs.Prelude.{◌≡◌, ℕ, ◌+◌, ◌≤◌, List, [], length, slice_get, Some}
-use Rattle.core_kernel.specs.Kernel.{KernelValue, CoreSeatValue}
+use Rattle.core_kernel.specs.{KernelValue, CoreSeatValue}
 
 -- The kernel, how many ports have been dealt, and the seats that are back.
 pub record SeatsValue : Type 0 where

@@ -1,15 +1,10 @@
 -- A runner's calls, one after another.
-use Rattle.std.proofs.Common.{◌≡◌, ℕ, ◌+◌, ◌<◌, ◌≤◌, Bool, true, false, List, [], ◌∷◌, ◌++◌}
-use Rattle.std.proofs.Common.{length, take, get_or, refl, sym, ◌∙◌, ap, subst, arith, append_assoc}
-use Rattle.std.specs.Prelude.{IsTrue}
-use Rattle.std.proofs.lemmas.List.{length-append, take_more}
-use Rattle.spk_nums.specs.declared.calls.Call.{Call}
-use Rattle.spk_nums.specs.declared.replies.Reply.{Reply}
-use Rattle.core_kernel.specs.kernel_history.specs.Trace.{Trace, calls_of}
-use Rattle.core_kernel.specs.Replies.{replies_of}
-use Rattle.core_kernel.specs.Calls.{HasSeen, MakesCall}
-use Rattle.core_runs.specs.Runs.{RunnerValue, HasMade, MakesCalls}
-use Rattle.core_kernel.proofs.Lists.{calls_of-append, replies_of-append}
+use Rattle.core_kernel.specs.flight_laws.specs.flight.proofs.{◌≡◌, ℕ, ◌+◌, ◌<◌, ◌≤◌, Bool, true, false, List, [], ◌∷◌, ◌++◌, length, take}
+use Rattle.core_kernel.specs.flight_laws.specs.flight.proofs.{get_or, refl, sym, ◌∙◌, ap, subst, arith, append_assoc, IsTrue, length-append}
+use Rattle.core_kernel.specs.flight_laws.specs.flight.proofs.{take_more, Call, Reply, Trace, calls_of}
+use Rattle.core_kernel.specs.{replies_of, HasSeen, MakesCall}
+use Rattle.{core_runs.specs.RunnerValue, core_runs.specs.MakesCalls, core_kernel.proofs.calls_of-append}
+use Rattle.{core_kernel.proofs.replies_of-append, core_runs.specs.Runs.HasMade}
 
 pub made_none : (u : RunnerValue) → u.replies ≡ [] → u.held ≡ false → HasSeen u.seat → HasMade u 0 u
 made_none u none free seen = record {

@@ -1,19 +1,11 @@
 -- In a legal trace the decisions of a core are its calls with their replies, numbered from 1.
-use Rattle.std.proofs.Common.{◌≡◌, ◌≢◌, ◌⊎◌, inl, inr, ℕ, ◌+◌, ◌==◌, suc, Bool, true, false, List, [], ◌∷◌, ◌++◌, length}
-use Rattle.std.proofs.Common.{Option, Some, None, option_to_list, refl, sym, ◌∙◌, ap, arith, append-nil, eq-eqb, ne_eqb}
-use Rattle.std.specs.List.{filter}
-use Rattle.std.proofs.lemmas.Bool.{cases_eq}
-use Rattle.std.proofs.lemmas.List.Elements.{filter-append}
-use Rattle.spk_nums.specs.declared.replies.Decision.{Decision}
-use Rattle.spk_nums.specs.declared.replies.Reply.{Reply}
-use Rattle.spk_nums.specs.Setting.{Setting}
-use Rattle.core_kernel.specs.kernel_history.specs.Legal.{IsLegal}
-use Rattle.core_kernel.specs.kernel_history.specs.Text.{decisions_by}
-use Rattle.core_kernel.specs.kernel_history.specs.Trace.{Trace, calls_of, decision_at, decisions_of}
-use Rattle.core_kernel.specs.Replies.{replies_of}
-use Rattle.core_runs.specs.Whole.{numbered}
-use Rattle.core_kernel.proofs.Balance.{one_more}
-use Rattle.core_kernel.proofs.Lists.{replies_of-own, replies_of-other}
+use Rattle.core_kernel.specs.flight_laws.specs.flight.proofs as low
+use low.{◌≡◌, ◌≢◌, ◌⊎◌, inl, inr, ℕ, ◌+◌, ◌==◌, suc, Bool, true, false, List, [], ◌∷◌, ◌++◌, length, Option, Some, None, option_to_list}
+use low.{refl, sym, ◌∙◌, ap, arith, append-nil, eq-eqb, ne_eqb, Decision, Reply, Setting, IsLegal, Trace, calls_of, decision_at}
+use Rattle.core_kernel.specs.flight_laws.specs.core_invariant.specs.{decisions_by, decisions_of}
+use Rattle.std.proofs.{lemmas.Bool.cases_eq, lemmas.List.Elements.filter-append}
+use Rattle.core_kernel.proofs.{Balance.one_more, Lists.replies_of-own, Lists.replies_of-other}
+use Rattle.{std.specs.List.filter, core_kernel.specs.Replies.replies_of, core_runs.specs.Whole.numbered}
 
 pub numbered-push : (c i : ℕ) (rs : List Reply) (r : Reply)
     → numbered c i (rs ++ r ∷ []) ≡ numbered c i rs ++ record { core = c; index = i + length rs; reply = r } ∷ []

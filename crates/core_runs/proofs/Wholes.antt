@@ -1,35 +1,23 @@
 -- Whole lists, made by runners of all cores, are the calls of one trace.
-use Rattle.std.proofs.Common.{◌≡◌, inl, inr, ℕ, zero, suc, ◌+◌, ◌<◌, ◌≤◌, Bool, true, false}
-use Rattle.std.proofs.Common.{List, [], ◌∷◌, ◌++◌, length, take, slice_get, get_or, map, Some}
-use Rattle.std.proofs.Common.{refl, sym, ◌∙◌, ap, subst, arith, append-nil, append_assoc, ◌^◌, All}
-use Rattle.std.specs.List.{AllZip, flat_map}
-use Rattle.std.specs.Option.{option_map}
-use Rattle.std.proofs.lemmas.Bool.{cases_lt}
-use Rattle.std.proofs.lemmas.Grind.{flat_map-append}
-use Rattle.std.proofs.lemmas.List.{length-map, length-take-le, take_all, take_more, get_or_past}
-use Rattle.std.proofs.lemmas.List.Concat.{flat_map-cons}
-use Rattle.std.proofs.lemmas.List.Elements.{length_all_zip, AllZip-get_or, All-get_or}
-use Rattle.std.proofs.lemmas.Option.{slice_get-map, slice_get_within, get_or_from_slice_get}
-use Rattle.spk_nums.specs.declared.calls.Call.{Call}
-use Rattle.spk_nums.specs.declared.replies.Reply.{Reply}
-use Rattle.spk_nums.specs.declared.replies.Decision.{Decision}
-use Rattle.spk_nums.specs.declared.translations.CoreEnd.{CoreEnd}
-use Rattle.core_kernel.specs.kernel_history.specs.BootWords.{shape_of}
-use Rattle.core_kernel.specs.kernel_history.specs.Order.{HasCalls, list_of}
-use Rattle.core_kernel.specs.kernel_history.specs.Text.{decisions_by}
-use Rattle.core_kernel.specs.kernel_history.specs.Counts.{RepresentCounts}
-use Rattle.core_kernel.specs.kernel_history.specs.FinalWords.{Represent, word_in, end_in}
-use Rattle.core_kernel.specs.kernel_history.specs.Trace.{Trace, Out, phase, calls_of, state_after}
-use Rattle.core_runs.specs.declared.whole.Ran.{Ran}
-use Rattle.core_kernel.specs.Replies.{replies_of}
-use Rattle.core_kernel.specs.Kernel.{KernelValue, CoreSeatValue, AreAllSeats, AreFresh}
-use Rattle.core_kernel.specs.flight_laws.specs.Histories.{IsHistory}
-use Rattle.core_kernel.specs.Calls.{ExtendsByOthers, EndsAt}
-use Rattle.core_runs.specs.Runs.{RunnerValue, IsWaiting, MakesCalls}
-use Rattle.core_runs.specs.Whole.{numbered, decided, decisions_below, IsList, AreRunners, AreMade}
-use Rattle.core_kernel.proofs.Closing.{At, at_of, mapped}
-use Rattle.core_kernel.proofs.Lists.{calls_of-append, calls_of-others, calls_of-past, replies_of-append, replies_of-others}
+use Rattle.core_kernel.specs.flight_laws.specs.flight.specs.step_ways.proofs.{◌≡◌, inl, inr, ℕ, zero, suc, ◌+◌, ◌<◌, ◌≤◌, Bool, true, false}
+use Rattle.core_kernel.specs.flight_laws.specs.flight.specs.step_ways.proofs.{List, [], ◌∷◌, ◌++◌, length, take, slice_get, get_or, map}
+use Rattle.core_kernel.specs.flight_laws.specs.flight.specs.step_ways.proofs.{Some, refl, sym, ◌∙◌, ap, subst, arith, append-nil}
+use Rattle.core_kernel.specs.flight_laws.specs.flight.specs.step_ways.proofs.{append_assoc, ◌^◌, All, flat_map, option_map, length-map}
+use Rattle.core_kernel.specs.flight_laws.specs.flight.specs.step_ways.proofs.{length-take-le, take_all, take_more, get_or_past, Call, Reply}
+use Rattle.core_kernel.specs.flight_laws.specs.flight.specs.step_ways.proofs.{Decision, CoreEnd, shape_of, HasCalls, list_of}
+use Rattle.core_kernel.specs.flight_laws.specs.flight.specs.step_ways.proofs.{RepresentCounts, Represent, word_in, end_in, Trace, Out}
+use Rattle.core_kernel.specs.flight_laws.specs.flight.specs.step_ways.proofs.{phase, calls_of, state_after}
+use Rattle.core_runs.specs.{RunnerValue, MakesCalls, numbered, decided, decisions_below, IsList, AreMade}
+use Rattle.core_kernel.specs.{replies_of, KernelValue, CoreSeatValue, AreAllSeats, AreFresh, ExtendsByOthers, EndsAt}
+use Rattle.core_kernel.proofs.{at_of, calls_of-append, replies_of-append}
+use Rattle.std.proofs.{lemmas.Bool.cases_lt, lemmas.Grind.flat_map-append, lemmas.List.Concat.flat_map-cons}
+use Rattle.std.proofs.{lemmas.List.Elements.length_all_zip, lemmas.List.Elements.AllZip-get_or, lemmas.List.Elements.All-get_or}
+use Rattle.std.proofs.{lemmas.Option.slice_get-map, lemmas.Option.slice_get_within, lemmas.Option.get_or_from_slice_get}
+use Rattle.core_kernel.proofs.{Closing.At, Closing.mapped, Lists.calls_of-others, Lists.calls_of-past, Lists.replies_of-others}
+use Rattle.core_runs.specs.{declared.whole.Ran.Ran, Runs.IsWaiting, Whole.AreRunners}
 use Rattle.core_runs.proofs.Numbered.{numbered-push, decisions_numbered}
+use Rattle.{std.specs.List.AllZip, core_kernel.specs.kernel_history.specs.Text.decisions_by}
+use Rattle.{core_kernel.specs.flight_laws.specs.Histories.IsHistory}
 
 module _ (of : KernelValue) (seats : List CoreSeatValue) (all : AreAllSeats of seats) (fresh : AreFresh seats) (lists : List (List Call))
     (runners : List RunnerValue) (are : AreRunners seats lists runners) where

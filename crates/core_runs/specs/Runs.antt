@@ -1,12 +1,7 @@
 -- What runners do.
-use Rattle.std.specs.Prelude.{◌≡◌, ℕ, ◌≤◌, ◌<◌, ◌^◌, Bool, true, false, List, [], ◌++◌, take, length, All}
-use Rattle.spk_nums.specs.CallLimits.{InLimits}
-use Rattle.spk_nums.specs.declared.calls.Call.{Call}
-use Rattle.spk_nums.specs.declared.replies.Reply.{Reply}
-use Rattle.core_kernel.specs.kernel_history.specs.Trace.{Trace, calls_of}
-use Rattle.core_kernel.specs.Replies.{replies_of}
-use Rattle.core_kernel.specs.Kernel.{KernelValue, CoreSeatValue}
-use Rattle.core_kernel.specs.Calls.{HasSeen}
+use Rattle.core_kernel.specs.flight_laws.specs.core_invariant.specs.{◌≡◌, ℕ, ◌≤◌, ◌<◌, ◌^◌, Bool, true, false, List, [], ◌++◌, take, length}
+use Rattle.core_kernel.specs.flight_laws.specs.core_invariant.specs.{All, InLimits, Call, Reply, Trace, calls_of}
+use Rattle.core_kernel.specs.{replies_of, KernelValue, CoreSeatValue, HasSeen}
 
 -- A runner as contracts see it: its seat, its calls, the replies so far, and whether the gate has stopped it.
 pub record RunnerValue : Type 0 where

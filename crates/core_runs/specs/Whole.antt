@@ -1,22 +1,10 @@
 -- Whole lists of calls, made by threads.
-use Rattle.std.specs.Prelude.{◌≡◌, ℕ, zero, suc, ◌+◌, ◌<◌, ◌^◌, Bool, false, List, []}
-use Rattle.std.specs.Prelude.{◌∷◌, ◌++◌, length, slice_get, slice_index_or, Some, All}
-use Rattle.spk_nums.specs.CallLimits.{InLimits}
-use Rattle.spk_nums.specs.declared.calls.Call.{Call}
-use Rattle.spk_nums.specs.declared.replies.Reply.{Reply}
-use Rattle.spk_nums.specs.declared.replies.Decision.{Decision}
-use Rattle.spk_nums.specs.Setting.{Setting}
-use Rattle.word_map.specs.Places.{size_of}
-use Rattle.core_kernel.specs.kernel_history.specs.BootWords.{shape_of}
-use Rattle.core_kernel.specs.kernel_history.specs.Counts.{RepresentCounts}
-use Rattle.core_kernel.specs.kernel_history.specs.FinalWords.{Represent, word_in, end_in}
-use Rattle.core_kernel.specs.kernel_history.specs.Order.{HasCalls}
-use Rattle.core_kernel.specs.kernel_history.specs.Text.{decisions_by}
-use Rattle.core_kernel.specs.kernel_history.specs.Trace.{Trace, state_after}
-use Rattle.core_runs.specs.declared.whole.Ran.{Ran}
-use Rattle.core_kernel.specs.flight_laws.specs.Histories.{IsHistory}
-use Rattle.core_kernel.specs.Kernel.{CoreSeatValue}
-use Rattle.core_runs.specs.Runs.{RunnerValue}
+use Rattle.core_kernel.specs.flight_laws.specs.core_invariant.specs.{◌≡◌, ℕ, zero, suc, ◌+◌, ◌<◌, ◌^◌, Bool, false, List, [], ◌∷◌, ◌++◌}
+use Rattle.core_kernel.specs.flight_laws.specs.core_invariant.specs.{length, slice_get, get_or as slice_index_or, Some, All, InLimits, Call}
+use Rattle.core_kernel.specs.flight_laws.specs.core_invariant.specs.{Reply, Decision, Setting, size_of, shape_of, RepresentCounts}
+use Rattle.core_kernel.specs.flight_laws.specs.core_invariant.specs.{Represent, word_in, end_in, HasCalls, decisions_by, Trace, state_after}
+use Rattle.core_runs.specs.{declared.whole.Ran.Ran, Runs.RunnerValue}
+use Rattle.{core_kernel.specs.flight_laws.specs.Histories.IsHistory, core_kernel.specs.Kernel.CoreSeatValue}
 
 -- The decisions of core c with these replies, numbered from the index on.
 abbrev pub numbered : ℕ → ℕ → List Reply → List Decision

@@ -1,86 +1,54 @@
 -- A step by which a call acquires a count that its act changes is good: the count is held by another core, is lost to another core, or
 -- is acquired; and so is the step by which a decided call commits it.
-use Rattle.step_ways.proofs.Common.{exclusive_elsewhere, claimed_by}
-use Rattle.step_ways.proofs.Common.{◌≡◌, ◌≢◌, ℕ, ℤ, pos, negsuc, ◌+◌, ◌++◌, ◌==◌, ◌^◌, ◌<◌, ◌≤◌, map, slice_get, length}
-use Rattle.step_ways.proofs.Common.{Bool, true, false, if◌then◌else◌, cond, List, [], ◌∷◌, Option, Some, None, IsTrue, inl, inr}
-use Rattle.step_ways.proofs.Common.{arith, refl, sym, ◌∙◌, ap, subst, not, All, is_some, false≢true, eq-eqb, eqb-true, eqb-false, All-nil}
-use Rattle.step_ways.proofs.Common.{All-cons, All-head, All-tail, All-append, Setting, IsSetting, Capability, Call, Remove, Shrink, Unmap}
-use Rattle.step_ways.proofs.Common.{Reply, CountFits, word_of_count, count_of_word, CountWord}
-use Rattle.step_ways.proofs.Common.{left_if, Word, EntryAt, CountAt, ClockAt, FrameAt, LiveAt, Move, LoadOf}
-use Rattle.step_ways.proofs.Common.{CompareOf, StoreOf, word_of, left_of, Place, Holds, PlaceOf, State, put, named_by, put_same}
-use Rattle.step_ways.proofs.Common.{count_mark, marked_by, counts_references, changes_places, raises_clock, IsInFootprint, frame_at_slot}
-use Rattle.step_ways.proofs.Common.{frame_argument, frames_named, is_one_of, footprint_frames, capability_in, target_of, rule_of, usable_in}
-use Rattle.step_ways.proofs.Common.{Close, AtDraw, AtStore, Step, Trace, Open, phase, state_after, last_left, own_read, was_now}
-use Rattle.step_ways.proofs.Common.{cases_word, own_read-here, own_read-there, last_left-here, last_left-there, unheld}
-use Rattle.step_ways.proofs.Common.{Pin, AtLoad, Acquired, plan_for, Leads, LeadsIn, Plan, leads_by, GoesBy, own_pages, calls_go, Due}
-use Rattle.step_ways.proofs.Common.{Outside, Nothing, Acquire, Undecided, Decided, ActiveCall, Goes, dues, next_work, removes_by, undo}
-use Rattle.step_ways.proofs.Common.{CountsAt, HasRoom, StageFits, GoesOn, landed, went_with, Core, UntypingAt, Holding, count_of}
-use Rattle.step_ways.proofs.Common.{committed, holds_counts, AreApart, settled_by, settled, SaysCount, AreDuesApart}
-use Rattle.step_ways.proofs.Common.{own_in, HasFound, NamesAre, due_of, KnowsAct, KnowsWork, KnowsUndecided, IsCount, phase_at, KnowsTail}
-use Rattle.step_ways.proofs.Common.{goes_on, untypes, done_by, holds_act, holds_work, holds_at, holds_in, holds, held_by, Invariant}
-use Rattle.step_ways.proofs.Common.{holds_tail, names_on, counts_on}
+use Rattle.step_ways.proofs as low
+use low.{exclusive_elsewhere, claimed_by, ◌≡◌, ◌≢◌, ℕ, ℤ, pos, negsuc, ◌+◌, ◌++◌, ◌==◌, ◌^◌, ◌<◌, ◌≤◌, map, slice_get, length, Bool, true}
+use low.{false, if◌then◌else◌, cond, List, [], ◌∷◌, Option, Some, None, IsTrue, inl, inr, arith, refl, sym, ◌∙◌, ap, subst, not, All}
+use low.{is_some, false≢true, eq-eqb, eqb-true, eqb-false, Setting, IsSetting, Capability, Call, Shrink, Unmap, Reply, CountFits}
+use low.{word_of_count, count_of_word, CountWord, left_if, Word, EntryAt, CountAt, ClockAt, FrameAt, LiveAt, Move, LoadOf, CompareOf}
+use low.{StoreOf, word_of, left_of, Place, Holds, PlaceOf, State, put, named_by, put_same, count_mark, marked_by, counts_references}
+use low.{changes_places, raises_clock, IsInFootprint, frame_at_slot, frame_argument, frames_named, is_one_of, footprint_frames, target_of}
+use low.{rule_of, usable_in, AtDraw, AtStore, Step, Trace, Open, phase, state_after, last_left, own_read, was_now, cases_word}
+use low.{own_read-here, own_read-there, last_left-here, last_left-there, unheld, Pin, Acquired, plan_for, Leads, LeadsIn, Plan, leads_by}
+use low.{GoesBy, own_pages, calls_go, Due, Outside, Nothing, Acquire, Undecided, Decided, ActiveCall, Goes, dues, next_work, CountsAt}
+use low.{HasRoom, StageFits, GoesOn, landed, went_with, Core, UntypingAt, Holding, count_of, committed, holds_counts, settled_by, settled}
+use low.{SaysCount, AreDuesApart, own_in, HasFound, NamesAre, due_of, KnowsAct, KnowsWork, KnowsUndecided, IsCount, phase_at, KnowsTail}
+use low.{goes_on, untypes, done_by, holds_act, holds_work, holds_at, holds_in, holds, held_by, Invariant, holds_tail, names_on, counts_on}
+use low.{length-append, lt-ltb, Hold, Free as Vacant, Quiescing as Removed, AtCompare as close_compare, acquired, Fill as fill_act}
+use low.{Remove as remove_act, Tick as tick_act, Flush as flush_act, Kill as kill_act, Untype as untype_act, Map as map_act}
+use low.{MakeComp as comp_act, Invoke as invoke_act, Return as return_act, Touch as touch_act, Share as share_act, Refill as refill_act}
+use low.{Switch as switch_act, Acquires, took_count, is_ok, same_marks, IsGood, spares_other, users_kept, IsOfCall, Lands, step_to}
+use low.{core_in_call, inner, call_is, is_active, loads_on, GoodTook, ticks_at, Refusal}
+use Rattle.step_ways.specs.act_states.specs.{Remove, Close, AtLoad, removes_by, undo, comp_meets_number, pinned_at, compare_end, pin_move}
+use Rattle.step_ways.specs.act_states.specs.{pin_end, pin_after, commit_of, acquires, is_drawing}
+use Rattle.step_ways.specs.core_invariant.specs.{AreApart, Retype as type_act, Make as make_act, pin_frame, KnowsClose, is_counting}
+use Rattle.plan_ways.proofs.{target_is, one_left, one_right, footprint_about}
+use Rattle.step_ways.specs.stage_pins.specs.{load_end, after_load, settled_word}
+use Rattle.plan_ways.specs.kernel_history.specs.{capability_in, may_count}
+use Rattle.step_ways.specs.kept_facts.proofs.{act_on, KeepsUsers}
+use Rattle.std.proofs.lemmas.List.Elements.{All-nil, All-cons, All-head, All-tail, All-append}
+use Rattle.step_ways.specs.act_fits.proofs.{DuesFit.few_dues, DuesSmall.due_small}
+use Rattle.step_ways.specs.core_invariant.specs.{Knows.pin_core, Knows.HasRead, Reaching.IsRemoval}
+use Rattle.step_ways.specs.kept_facts.proofs.KeptReads.{KeepsThreads, claimed_in, ReadsSame, freezes_at, reads_counts, due_pairs}
+use low.Refusals.{IsRefusing, ticks_in, raced_knowing, busy_knowing}
 use Rattle.count_invariant.proofs.SwitchCounts.{switch_of, switch_counts, switch_due_footprint, switch_left}
 use Rattle.count_invariant.proofs.StackCounts.{invoke_counts, invoke_footprint, invoking_due, returning_due, top_footprint}
 use Rattle.count_invariant.proofs.ActBares.{acquired_bares, committed_bares}
-use Rattle.step_ways.specs.act_states.specs.Comps.{comp_meets_number}
 use Rattle.count_invariant.proofs.ActHolds.{SparesSwept, undo_holds, act_count, act_over}
 use Rattle.count_invariant.proofs.CompCounts.{comp_call, comp_counts, comp_due_footprint, comp_left}
-use Rattle.step_ways.specs.act_states.specs.declared.comps.CompAt.TheVariants as comp_at
-use Rattle.std.proofs.Common.{length-append}
-use Rattle.std.proofs.Common.{lt-ltb}
-use Rattle.plan_ways.specs.spk_nums.specs.declared.replies.Reply.TheVariants as reply
-use Rattle.plan_ways.specs.frame_words.specs.declared.count_word.Hold.{Hold}
-use Rattle.plan_ways.specs.frame_words.specs.declared.count_word.Hold.TheVariants as hold
-use Rattle.plan_ways.specs.frame_words.proofs.CountLemmas as counts
-use Rattle.plan_ways.specs.kernel_rules.specs.State.{Free as Vacant, Quiescing as Removed}
-use Rattle.plan_ways.specs.kernel_history.specs.Footprint.{frame_of_cap}
-use Rattle.step_ways.specs.stage_quiet.specs.declared.close.Close.TheVariants.{AtCompare as close_compare}
-use Rattle.step_ways.specs.stage_pins.specs.Counts.{acquired}
-use Rattle.step_ways.specs.stage_pins.specs.Acquire.{load_end, pinned_at, compare_end, pin_move, pin_end, pin_after, after_load}
-use Rattle.step_ways.specs.stage_pins.specs.Commit.{settled_word}
-use Rattle.step_ways.specs.stage_pins.specs.Held.{commit_of}
-use Rattle.step_ways.specs.stage_pins.specs.declared.pin.Pin.TheVariants.{AtCompare}
-use Rattle.step_ways.specs.stage_pins.proofs.PinLemmas.{changed_none}
-use Rattle.plan_ways.specs.Laws.{IsTargetOf}
-use Rattle.plan_ways.proofs.Ways.{target_is}
-use Rattle.plan_ways.proofs.InFootprint.{one_left, one_right, footprint_about}
 use Rattle.count_invariant.proofs.MakingCounts.{no_due, made_counts, made_changes, made_argument, due_footprint, made_left, due_named}
 use Rattle.count_invariant.proofs.SweepCounts.{sweep_counts, sweep_footprint, sweep_left, sweep_spares}
 use Rattle.count_invariant.proofs.KillingCounts.{kill_counts, kill_footprint, killing_due}
-use Rattle.count_invariant.proofs.Findings.{found_named}
-use Rattle.step_ways.specs.act_states.specs.declared.refusals.Refusal.TheVariants as refusal
-use Rattle.step_ways.specs.act_states.specs.declared.work.Act.{Act as ActOf}
-use Rattle.step_ways.specs.act_states.specs.declared.work.Act.TheVariants.{Fill as fill_act, Remove as remove_act, Retype as type_act}
-use Rattle.step_ways.specs.act_states.specs.declared.work.Act.TheVariants.{Make as make_act, Tick as tick_act, Flush as flush_act}
-use Rattle.step_ways.specs.act_states.specs.declared.work.Act.TheVariants.{Kill as kill_act, Untype as untype_act, Map as map_act}
-use Rattle.step_ways.specs.act_states.specs.declared.work.Act.TheVariants.{MakeComp as comp_act, Invoke as invoke_act, Return as return_act}
-use Rattle.step_ways.specs.act_states.specs.declared.work.Act.TheVariants.{Touch as touch_act, Share as share_act, Refill as refill_act}
-use Rattle.step_ways.specs.act_states.specs.declared.work.Act.TheVariants.{Switch as switch_act}
-use Rattle.step_ways.specs.act_states.specs.declared.work.WorkStep.TheVariants.{Acquires}
-use Rattle.step_ways.specs.act_states.specs.Acts.{acquires}
-use Rattle.step_ways.specs.call_stages.specs.Steps.{took_count, gives_up}
-use Rattle.step_ways.specs.call_stages.specs.Tails.{is_ok}
-use Rattle.step_ways.specs.act_fits.proofs.DuesFit.{few_dues}
-use Rattle.step_ways.specs.act_fits.proofs.DuesSmall.{due_small}
-use Rattle.step_ways.specs.act_states.specs.declared.untypings.UntypingAt.TheVariants as untype
-use Rattle.step_ways.specs.act_states.specs.Untypings.{is_drawing}
-use Rattle.step_ways.specs.core_invariant.specs.Knows.{pin_frame}
-use Rattle.step_ways.specs.core_invariant.specs.Knows.{pin_core, IsRemoval, KnowsClose}
-use Rattle.plan_ways.specs.kernel_history.specs.Discipline.{may_count}
-use Rattle.plan_ways.specs.kernel_history.proofs.OwnCounts.{own_counts}
-use Rattle.step_ways.specs.core_invariant.specs.Knows.{HasRead, is_counting}
-use Rattle.step_ways.specs.kept_facts.proofs.Carries.{act_on, KeepsUsers, KeepsThreads}
-use Rattle.step_ways.specs.kept_facts.proofs.Carries.{claimed_in, ReadsSame, freezes_at, reads_counts, due_pairs}
-use Rattle.step_ways.specs.kept_facts.proofs.Swept.{LeavesFrame}
-use Rattle.step_ways.proofs.Writes.{same_marks}
-use Rattle.step_ways.proofs.Good.{IsGood, spares_other}
-use Rattle.step_ways.proofs.Counting as counters
-use Rattle.step_ways.proofs.Users.{users_kept}
-use Rattle.step_ways.proofs.Loads.{IsOfCall, Lands, step_to, core_in_call, inner, call_is, is_active, loads_on}
-use Rattle.step_ways.proofs.Refusals.{GoodTook, IsRefusing, ticks_in, ticks_at, raced_knowing, busy_knowing}
 use Rattle.count_invariant.proofs.PutCounts.{put_counts, put_footprint}
 use Rattle.count_invariant.proofs.DueLists.{get_after, get_none, after_none, after_one, map_more, map_length, not_acquired}
-use Rattle.step_ways.specs.act_states.specs.call_plans.specs.PlanOf.{plan_for}
+use Rattle.{plan_ways.specs.kernel_history.specs.Footprint.frame_of_cap}
+use Rattle.{step_ways.specs.stage_pins.specs.declared.pin.Pin.TheVariants.AtCompare}
+use Rattle.{step_ways.specs.stage_pins.proofs.PinLemmas.changed_none, plan_ways.specs.Laws.IsTargetOf}
+use Rattle.{step_ways.specs.act_states.specs.declared.work.Act.Act as ActOf, step_ways.specs.call_stages.specs.Steps.gives_up}
+use Rattle.{plan_ways.specs.kernel_history.proofs.OwnCounts.own_counts, step_ways.specs.kept_facts.proofs.Swept.LeavesFrame}
+use Rattle.{count_invariant.proofs.Findings.found_named}
+use Rattle.step_ways.specs.act_states.specs.declared.comps.CompAt.TheVariants as comp_at
+use Rattle.plan_ways.specs.frame_words.proofs.CountLemmas as counts
+use Rattle.step_ways.proofs.Counting as counters
 
 -- The count of one frame is due once.
 pub one_apart : (ds : List Due) → length ds ≤ 1 → AreDuesApart ds
@@ -125,10 +93,10 @@ counting_unread : (act : ActOf) → is_counting act ≡ true → reads_counts ac
 counting_unread (untype_act m) is = by m.at is
   where
     by : (at : UntypingAt) → is_drawing at ≡ true → freezes_at at ≡ false
-    by untype.Load is = refl
-    by (untype.Mark word v) is = refl
-    by (untype.Sweep word w) is = absurd (false≢true is)
-    by (untype.Draw word w) is = refl
+    by UntypingAt.Load is = refl
+    by (UntypingAt.Mark word v) is = refl
+    by (UntypingAt.Sweep word w) is = absurd (false≢true is)
+    by (UntypingAt.Draw word w) is = refl
 counting_unread act is = refl
 
 -- An act that changes a count charges no ticks.
@@ -169,7 +137,7 @@ not_clock f d h = cc
 -- What a count stands for when its call is decided is what its commit stores.
 stored_by : (r : Reply) (drawn : Option ℕ) (x : Acquired)
     → committed (done_by r drawn) x ≡ word_of_count (settled_word (commit_of (is_ok r) drawn x))
-stored_by (reply.Ok v) drawn x = refl
+stored_by (Reply.Ok v) drawn x = refl
 stored_by r drawn x = refl
 
 -- A call acquires a count.
@@ -277,7 +245,7 @@ module _ (setup : Setting) (setting : IsSetting setup) (cores : ℕ → Core) (t
       has.knows.rest has.knows.due
 
   -- it is held by another core
-  held_good : (b : ℕ) → marked_by setup t at ≡ Some b → GoodTook setup cores t c (LoadOf at) (landed a (gives_up (refusal.Busy b) act))
+  held_good : (b : ℕ) → marked_by setup t at ≡ Some b → GoodTook setup cores t c (LoadOf at) (landed a (gives_up (Refusal.Busy b) act))
   held_good b mark = busy_knowing setup setting cores t stands c here a active opens (undo act) undone left room (LoadOf at)
       (record { of_call = record { moves = moved; footprint = inl (footprint d) }; kept = refl; apart = λ e. refl })
       plain b bare_here mark tt
@@ -333,9 +301,9 @@ module _ (setup : Setting) (setting : IsSetting setup) (cores : ℕ → Core) (t
 
       by_hold : (h : Hold) (count : ℤ) (stamp : ℕ) → count_of_word was ≡ Some (record { hold = h; count = count; stamp = stamp })
           → Goal (Some (record { hold = h; count = count; stamp = stamp }))
-      by_hold hold.Unheld count stamp reads = free_good count stamp reads is
-      by_hold (hold.Pinned b) count stamp reads = held_good b (ap count_mark reads)
-      by_hold (hold.Closed b) count stamp reads = held_good b (ap count_mark reads)
+      by_hold Hold.Unheld count stamp reads = free_good count stamp reads is
+      by_hold (Hold.Pinned b) count stamp reads = held_good b (ap count_mark reads)
+      by_hold (Hold.Closed b) count stamp reads = held_good b (ap count_mark reads)
 
       by : (o : Option CountWord) → count_of_word was ≡ o → Goal o
       by None reads = absurd (none_says (count_of_word was) (says (ap count_mark reads)) reads)
@@ -359,7 +327,7 @@ module _ (setup : Setting) (setting : IsSetting setup) (cores : ℕ → Core) (t
     of_call : IsOfCall setup t c a.call compare
     of_call = record { moves = moved; footprint = inl (footprint d) }
 
-    count_lost : (was == expected) ≡ false → GoodTook setup cores t c compare (landed a (gives_up refusal.Raced act))
+    count_lost : (was == expected) ≡ false → GoodTook setup cores t c compare (landed a (gives_up Refusal.Raced act))
     count_lost other =
         raced_knowing setup setting cores t stands c here a active opens (undo act) undone left room compare
         (record { of_call = of_call; kept = kept; apart = λ e. refl }) plain

@@ -1,32 +1,20 @@
 -- What an act holds beside its counts: no count, and of another word what does not depend on the counts; and while these are acquired, what
 -- a refusal has then to store.
-use Rattle.step_ways.proofs.Common.{Held, word_of_entry, CompAt, KillingAt, LoadComp, LoadLive, Mark, Store, MakingAt, ◌≡◌, ◌≢◌, ℕ, ◌+◌}
-use Rattle.step_ways.proofs.Common.{◌++◌, ◌==◌, ◌^◌, ◌<◌, ◌≤◌, true, false, if◌then◌else◌, ◌∷◌, refl, ◌∙◌, ap, not, false≢true, Word}
-use Rattle.step_ways.proofs.Common.{EntryAt, CountAt, FrameAt, LiveAt, same_word, AtDraw, AtStore, Outside, undo, UntypingAt}
-use Rattle.step_ways.proofs.Common.{release_of, swept_of, thaw_of, holds_untyping, thaws_own, Holding, keeps, holds_act}
-use Rattle.step_ways.proofs.Common.{holds_tail, holds_making, holds_killing, holds_comp, holds_head, holds_share, PairAt, LoadA, MarkA}
-use Rattle.step_ways.proofs.Common.{ListA, LoadB, ListB, CompareB, AgainB, StoreList, StoreB, StoreA, amount_of, word_of_head}
-use Rattle.step_ways.specs.act_states.specs.Comps.{comp_undo}
-use Rattle.step_ways.specs.act_states.specs.Makings.{undo_at}
-use Rattle.step_ways.specs.act_states.specs.declared.comps.CompAt.TheVariants as comp_at
-use Rattle.step_ways.specs.act_states.specs.Kills.{is_killing}
-use Rattle.step_ways.specs.act_states.specs.declared.kills.KillingAt.TheVariants.{Close as kill_close, Draw as kill_draw}
-use Rattle.step_ways.specs.act_states.specs.declared.makings.MakingAt.TheVariants.{Load as making_load, Fill as making_fill}
+use Rattle.step_ways.specs.core_invariant.proofs as low
+use low.{Held, word_of_entry, CompAt, KillingAt, LoadComp, LoadLive, Mark, Store, MakingAt, ◌≡◌, ◌≢◌, ℕ, ◌+◌, ◌++◌, ◌==◌, ◌^◌, ◌<◌, ◌≤◌}
+use low.{true, false, if◌then◌else◌, ◌∷◌, refl, ◌∙◌, ap, not, false≢true, Word, EntryAt, CountAt, FrameAt, LiveAt, same_word, AtDraw}
+use low.{AtStore, Outside, UntypingAt, release_of, swept_of, thaw_of, holds_untyping, thaws_own, keeps, holds_act, holds_tail, holds_making}
+use low.{holds_killing, holds_comp, holds_head, holds_share, PairAt, LoadA, MarkA, ListA, LoadB, ListB, CompareB, AgainB, StoreList, StoreB}
+use low.{StoreA, amount_of, word_of_head, Close as kill_close, Draw as kill_draw, Load as making_load, AtCompare as close_compare}
+use low.{Fill as fill_act, Remove as remove_act, Retype as type_act, Make as make_act, Tick as tick_act, Kill as kill_act}
+use low.{MakeComp as comp_act, Map as map_act, Flush as flush_act, Untype as untype_act, Touch as touch_act, Share as share_act}
+use Rattle.step_ways.specs.act_states.specs.{undo, comp_undo, undo_at, is_killing, untyping_undo}
+use low.{Refill as refill_act, Invoke as invoke_act, Return as return_act, Switch as switch_act, Freezing.release_over, Freezing.thaw_away}
+use low.{ThreadHolds.switching_count, ThreadHolds.switching_over, ThreadHolds.switching_undo_holds}
+use Rattle.{step_ways.specs.core_invariant.specs.Holding.Holding, step_ways.specs.core_invariant.specs.Knows.is_counting}
+use Rattle.{step_ways.specs.act_states.specs.declared.makings.MakingAt.TheVariants.Fill as making_fill}
+use Rattle.{step_ways.specs.act_states.specs.declared.work.Act.Act as ActOf, step_ways.specs.stage_tcap.specs.Pairs.left_a}
 use Rattle.plan_ways.specs.frame_words.proofs.CountLemmas as counts
-use Rattle.step_ways.specs.stage_quiet.specs.declared.close.Close.TheVariants.{AtCompare as close_compare}
-use Rattle.step_ways.specs.act_states.specs.declared.work.Act.{Act as ActOf}
-use Rattle.step_ways.specs.act_states.specs.declared.work.Act.TheVariants.{Fill as fill_act, Remove as remove_act, Retype as type_act}
-use Rattle.step_ways.specs.act_states.specs.declared.work.Act.TheVariants.{Make as make_act, Tick as tick_act, Kill as kill_act}
-use Rattle.step_ways.specs.act_states.specs.declared.work.Act.TheVariants.{MakeComp as comp_act, Map as map_act, Flush as flush_act}
-use Rattle.step_ways.specs.act_states.specs.declared.work.Act.TheVariants.{Untype as untype_act, Touch as touch_act, Share as share_act}
-use Rattle.step_ways.specs.act_states.specs.declared.work.Act.TheVariants.{Refill as refill_act}
-use Rattle.step_ways.specs.act_states.specs.declared.work.Act.TheVariants.{Invoke as invoke_act, Return as return_act, Switch as switch_act}
-use Rattle.step_ways.specs.act_states.specs.declared.untypings.UntypingAt.TheVariants as untype
-use Rattle.step_ways.specs.act_states.specs.Untypings.{untyping_undo}
-use Rattle.step_ways.specs.core_invariant.proofs.Freezing.{release_over, thaw_away}
-use Rattle.step_ways.specs.core_invariant.specs.Knows.{is_counting}
-use Rattle.step_ways.specs.core_invariant.proofs.ThreadHolds.{switching_count, switching_over, switching_undo_holds}
-use Rattle.step_ways.specs.stage_tcap.specs.Pairs.{left_a}
 
 -- While its counts are acquired an act holds what it will hold at its next step, which is what a refusal has then to store.
 pub undo_holds : (act : ActOf) (h : Holding) → is_counting act ≡ true → holds_tail (undo act) h ≡ holds_act act h
@@ -49,10 +37,10 @@ undo_holds (flush_act core) h is = refl
 undo_holds (untype_act m) h is = by m.at
   where
     by : (at : UntypingAt) → holds_tail (untyping_undo m.frame at) h ≡ holds_untyping m.frame at h
-    by untype.Load = refl
-    by (untype.Mark word v) = refl
-    by (untype.Sweep word w) = refl
-    by (untype.Draw word w) = refl
+    by UntypingAt.Load = refl
+    by (UntypingAt.Mark word v) = refl
+    by (UntypingAt.Sweep word w) = refl
+    by (UntypingAt.Draw word w) = refl
 undo_holds (tick_act charge) h is = refl
 undo_holds (kill_act m) h is = by m.at is
   where
@@ -69,20 +57,20 @@ undo_holds (switch_act m) h is = switching_undo_holds m m.at h is
 undo_holds (comp_act m) h is = by m.at
   where
     by : (at : CompAt) → holds_tail (comp_undo m at) h ≡ holds_comp m at h
-    by comp_at.Load = refl
-    by (comp_at.Mark word) = refl
-    by (comp_at.LoadLive word) = refl
-    by (comp_at.Scan word last q) = refl
-    by (comp_at.Close word last) = refl
-    by (comp_at.Store word last entry) = refl
-    by (comp_at.Fill word last) = refl
+    by CompAt.Load = refl
+    by (CompAt.Mark word) = refl
+    by (CompAt.LoadLive word) = refl
+    by (CompAt.Scan word last q) = refl
+    by (CompAt.Close word last) = refl
+    by (CompAt.Store word last entry) = refl
+    by (CompAt.Fill word last) = refl
 
 -- The frame is not one of which an act has frozen the counters.
 abbrev pub SparesAt : UntypingAt → ℕ → Type 0
-SparesAt untype.Load f = Unit {0}
-SparesAt (untype.Mark word v) f = Unit {0}
-SparesAt (untype.Sweep word w) f = f ≢ w.frame
-SparesAt (untype.Draw word w) f = f ≢ w.frame
+SparesAt UntypingAt.Load f = Unit {0}
+SparesAt (UntypingAt.Mark word v) f = Unit {0}
+SparesAt (UntypingAt.Sweep word w) f = f ≢ w.frame
+SparesAt (UntypingAt.Draw word w) f = f ≢ w.frame
 
 abbrev pub SparesSwept : ActOf → ℕ → Type 0
 SparesSwept (untype_act m) f = SparesAt m.at f
@@ -112,11 +100,11 @@ act_count (untype_act m) h f d spares = by m.at spares
   where
     by : (at : UntypingAt) → SparesAt at f → ((holds_untyping m.frame at h).marks (CountAt f d) ≡ h.marks (CountAt f d))
         × ((holds_untyping m.frame at h).stands (CountAt f d) ≡ h.stands (CountAt f d))
-    by untype.Load other = (refl, refl)
-    by (untype.Mark word v) other = (refl, refl)
-    by (untype.Sweep word v) other =
+    by UntypingAt.Load other = (refl, refl)
+    by (UntypingAt.Mark word v) other = (refl, refl)
+    by (UntypingAt.Sweep word v) other =
         thaw_away (thaw_of (swept_of v) false) h f v.frame d (thaws_own (swept_of v) false) other
-    by (untype.Draw word v) other = thaw_away (thaw_of v false) h f v.frame d (thaws_own v false) other
+    by (UntypingAt.Draw word v) other = thaw_away (thaw_of v false) h f v.frame d (thaws_own v false) other
 act_count (tick_act charge) h f d spares = (refl, refl)
 act_count (kill_act m) h f d spares = by m.at
   where
@@ -148,13 +136,13 @@ act_count (comp_act m) h f d spares = by m.at
   where
     by : (at : CompAt) → ((holds_comp m at h).marks (CountAt f d) ≡ h.marks (CountAt f d))
         × ((holds_comp m at h).stands (CountAt f d) ≡ h.stands (CountAt f d))
-    by comp_at.Load = (refl, refl)
-    by (comp_at.Mark word) = (refl, refl)
-    by (comp_at.LoadLive word) = (refl, refl)
-    by (comp_at.Scan word last q) = (refl, refl)
-    by (comp_at.Close word last) = (refl, refl)
-    by (comp_at.Store word last entry) = (refl, refl)
-    by (comp_at.Fill word last) = (refl, refl)
+    by CompAt.Load = (refl, refl)
+    by (CompAt.Mark word) = (refl, refl)
+    by (CompAt.LoadLive word) = (refl, refl)
+    by (CompAt.Scan word last q) = (refl, refl)
+    by (CompAt.Close word last) = (refl, refl)
+    by (CompAt.Store word last entry) = (refl, refl)
+    by (CompAt.Fill word last) = (refl, refl)
 
 keeps_over : (v w : Word) (x : ℕ) (h g : Holding) → (h.marks w ≡ g.marks w) × (h.stands w ≡ g.stands w)
     → ((keeps v x h).marks w ≡ (keeps v x g).marks w) × ((keeps v x h).stands w ≡ (keeps v x g).stands w)
@@ -186,10 +174,10 @@ act_over (untype_act m) h g w same = by m.at
   where
     by : (at : UntypingAt) → ((holds_untyping m.frame at h).marks w ≡ (holds_untyping m.frame at g).marks w)
         × ((holds_untyping m.frame at h).stands w ≡ (holds_untyping m.frame at g).stands w)
-    by untype.Load = same
-    by (untype.Mark word v) = same
-    by (untype.Sweep word v) = release_over (release_of m.frame word (swept_of v) false) h g w same
-    by (untype.Draw word v) = release_over (release_of m.frame word v false) h g w same
+    by UntypingAt.Load = same
+    by (UntypingAt.Mark word v) = same
+    by (UntypingAt.Sweep word v) = release_over (release_of m.frame word (swept_of v) false) h g w same
+    by (UntypingAt.Draw word v) = release_over (release_of m.frame word v false) h g w same
 act_over (tick_act charge) h g w same = same
 act_over (kill_act m) h g w same = by m.at
   where
@@ -237,10 +225,10 @@ act_over (comp_act m) h g w same = by m.at
 
     by : (at : CompAt) → ((holds_comp m at h).marks w ≡ (holds_comp m at g).marks w)
         × ((holds_comp m at h).stands w ≡ (holds_comp m at g).stands w)
-    by comp_at.Load = same
-    by (comp_at.Mark word) = same
-    by (comp_at.LoadLive word) = marked word
-    by (comp_at.Scan word last q) = marked word
-    by (comp_at.Close word last) = marked word
-    by (comp_at.Store word last entry) = both word last.word
-    by (comp_at.Fill word last) = both word last.word
+    by CompAt.Load = same
+    by (CompAt.Mark word) = same
+    by (CompAt.LoadLive word) = marked word
+    by (CompAt.Scan word last q) = marked word
+    by (CompAt.Close word last) = marked word
+    by (CompAt.Store word last entry) = both word last.word
+    by (CompAt.Fill word last) = both word last.word

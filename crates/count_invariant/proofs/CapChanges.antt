@@ -1,13 +1,12 @@
 -- What a decision makes of the counts of a call that acquires those of what one capability names, each for the same change.
-use Rattle.step_ways.proofs.Common.{◌≡◌, ◌≢◌, ℕ, ℤ, pos, ◌+ℤ◌, ◌+◌, ◌^◌, ◌<◌, ◌≤◌, max, map, length, true, if◌then◌else◌, List, [], ◌∷◌}
-use Rattle.step_ways.proofs.Common.{Option, Some, None, arith, refl, sym, ◌∙◌, ap, eq-eqb, ne_eqb, All, All-nil, All-cons, All-head}
-use Rattle.step_ways.proofs.Common.{Setting, IsSetting, Reply, Word, CountAt, Move, word_of, left_of, FrameOf, State, put, times, refs}
-use Rattle.step_ways.proofs.Common.{mark_of, marked_by, stamp, Step, Trace, state_after, last_left, later, stamp_of_change, Due}
-use Rattle.step_ways.proofs.Common.{ActiveCall, Core, holds_counts, WordIs, due_of, holds, held_by, times_of, SumIs}
-use Rattle.step_ways.proofs.Common.{Invariant, ReadsAlike}
-use Rattle.plan_ways.specs.kernel_invariant.proofs.Sums as sums
-use Rattle.step_ways.proofs.Loads.{inner}
+use Rattle.step_ways.proofs.{◌≡◌, ◌≢◌, ℕ, ℤ, pos, ◌+ℤ◌, ◌+◌, ◌^◌, ◌<◌, ◌≤◌, max, map, length, true, if◌then◌else◌, List, [], ◌∷◌, Option}
+use Rattle.step_ways.proofs.{Some, None, arith, refl, sym, ◌∙◌, ap, eq-eqb, ne_eqb, All, Setting, IsSetting, Reply, Word, CountAt, Move}
+use Rattle.step_ways.proofs.{word_of, left_of, FrameOf, State, put, times, refs, mark_of, marked_by, stamp, Step, Trace, state_after}
+use Rattle.step_ways.proofs.{last_left, later, stamp_of_change, Due, ActiveCall, Core, holds_counts, WordIs, due_of, holds, held_by}
+use Rattle.step_ways.proofs.{times_of, SumIs, Invariant, ReadsAlike, inner}
+use Rattle.std.proofs.lemmas.List.Elements.{All-nil, All-cons, All-head}
 use Rattle.count_invariant.proofs.CountChanges.{dues_sum, dues_commit}
+use Rattle.plan_ways.specs.kernel_invariant.proofs.Sums as sums
 
 -- What a capability has due, by what it names.
 abbrev pub dues_of : ℤ → List ℕ → List Due

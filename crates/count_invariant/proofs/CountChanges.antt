@@ -1,25 +1,21 @@
 -- What a decision makes of the counts that its call has acquired: each stands for what its commit will store, and so the counts of each
 -- frame sum to the references that the decision leaves.
-use Rattle.step_ways.proofs.Common.{◌≡◌, ◌≢◌, ◌⊎◌, ℕ, suc, zero, ℤ, pos, negsuc, ◌+ℤ◌, ◌+◌, ◌^◌, ◌<◌, ◌≤◌, max, map, slice_get, true}
-use Rattle.step_ways.proofs.Common.{false, if◌then◌else◌, List, [], ◌∷◌, Option, Some, None, inl, inr, arith, refl, sym, ◌∙◌, ap, subst}
-use Rattle.step_ways.proofs.Common.{false≢true, cases_eq, All, All-nil, All-cons, All-head, All-tail, Setting, IsSetting, Reply}
-use Rattle.step_ways.proofs.Common.{CountFits, word_of_count, count_of_word, CountWord, Word, CountAt, same_word, Move}
-use Rattle.step_ways.proofs.Common.{word_of, left_of, FrameOf, State, put, refs, counters, count_in, count_sum, mark_of, marked_by, stamp}
-use Rattle.step_ways.proofs.Common.{Step, Trace, state_after, last_left, cases_word, same_word-other, unheld, later, stamp_of_change}
-use Rattle.step_ways.proofs.Common.{Acquired, Due, ActiveCall, Core, stamp_in, count_of, committed, holds_counts, AreApart}
-use Rattle.step_ways.proofs.Common.{settled_by, settled, SaysCount, WordIs, due_of, IsCount, holds, held_by, times_of}
-use Rattle.step_ways.proofs.Common.{count_shown, SumIs, Invariant, limits_of, ReadsAlike, others_settled, own_settled}
-use Rattle.std.proofs.lemmas.List.Elements.{All-map, All-weaker}
-use Rattle.plan_ways.specs.frame_words.specs.Residue.{residue}
-use Rattle.plan_ways.specs.frame_words.proofs.CountLemmas as counts
+use Rattle.step_ways.proofs.{◌≡◌, ◌≢◌, ◌⊎◌, ℕ, suc, zero, ℤ, pos, negsuc, ◌+ℤ◌, ◌+◌, ◌^◌, ◌<◌, ◌≤◌, max, map, slice_get, true, false}
+use Rattle.step_ways.proofs.{if◌then◌else◌, List, [], ◌∷◌, Option, Some, None, inl, inr, arith, refl, sym, ◌∙◌, ap, subst, false≢true, All}
+use Rattle.step_ways.proofs.{Setting, IsSetting, Reply, CountFits, word_of_count, count_of_word, CountWord, Word, CountAt, same_word, Move}
+use Rattle.step_ways.proofs.{word_of, left_of, FrameOf, State, put, refs, counters, count_in, count_sum, mark_of, marked_by, stamp, Step}
+use Rattle.step_ways.proofs.{Trace, state_after, last_left, cases_word, same_word-other, unheld, later, stamp_of_change, Acquired, Due}
+use Rattle.step_ways.proofs.{ActiveCall, Core, count_of, committed, holds_counts, settled_by, settled, SaysCount, WordIs, due_of, IsCount}
+use Rattle.step_ways.proofs.{holds, held_by, times_of, count_shown, SumIs, Invariant, limits_of, ReadsAlike, others_settled, residue}
+use Rattle.step_ways.proofs.{first_marked, first_stands, call_is, inner}
+use Rattle.step_ways.specs.core_invariant.specs.{stamp_in, AreApart, newest_of}
+use Rattle.step_ways.specs.kept_facts.proofs.{own_settled, counter_once}
+use Rattle.std.proofs.lemmas.List.Elements.{All-nil, All-cons, All-head, All-tail, All-map, All-weaker}
 use Rattle.plan_ways.specs.frame_words.proofs.ResidueLemmas.{wrapped_fits, residue_wrapped}
-use Rattle.step_ways.specs.stage_pins.specs.Counts.{changed}
-use Rattle.step_ways.specs.stage_pins.proofs.PinLemmas.{changed_none}
-use Rattle.step_ways.specs.core_invariant.specs.CountWords.{newest_of}
-use Rattle.step_ways.specs.kept_facts.proofs.CountSums.{counter_once, sum_same, sum_by, newest_same, newest_one}
-use Rattle.step_ways.proofs.Counting.{first_marked, first_stands}
-use Rattle.step_ways.proofs.Loads.{call_is, inner}
-use Rattle.step_ways.specs.core_invariant.proofs.Residues.{plus_residue}
+use Rattle.step_ways.specs.kept_facts.proofs.CountSums.{sum_same, sum_by, newest_same, newest_one}
+use Rattle.{std.proofs.lemmas.Bool.cases_eq, step_ways.specs.stage_pins.specs.Counts.changed}
+use Rattle.{step_ways.specs.stage_pins.proofs.PinLemmas.changed_none, step_ways.specs.core_invariant.proofs.Residues.plus_residue}
+use Rattle.plan_ways.specs.frame_words.proofs.CountLemmas as counts
 
 same_count : (f d g b : ℕ) → CountAt f d ≡ CountAt g b → (f ≡ g) × (d ≡ b)
 same_count f d g b h = (cc, cc)

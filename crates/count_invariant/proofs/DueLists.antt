@@ -1,7 +1,7 @@
 -- Lists of counts that are due, and of those that are acquired of them.
-use Rattle.step_ways.proofs.Common.{◌≡◌, ◌≢◌, ℕ, suc, ◌+◌, ◌++◌, map, slice_get, length, true, false, if◌then◌else◌, List, [], ◌∷◌, Some}
-use Rattle.step_ways.proofs.Common.{None, refl, sym, ◌∙◌, ap, All, All-head, All-tail, CountAt, same_word-other, Acquired, Due}
-use Rattle.step_ways.proofs.Common.{count_of, holds_counts, AreDuesApart, due_of}
+use Rattle.step_ways.proofs.{◌≡◌, ◌≢◌, ℕ, suc, ◌+◌, ◌++◌, map, slice_get, length, true, false, if◌then◌else◌, List, [], ◌∷◌, Some, None}
+use Rattle.step_ways.proofs.{refl, sym, ◌∙◌, ap, All, CountAt, same_word-other, Acquired, Due, count_of, holds_counts, AreDuesApart, due_of}
+use Rattle.std.proofs.lemmas.List.Elements.{All-head, All-tail}
 
 -- What stands in a list after those before it.
 pub get_after : {A : Type 0} (xs : List A) (x : A) (ys : List A) → slice_get (xs ++ x ∷ ys) (length xs) ≡ Some x

@@ -1,22 +1,16 @@
 -- What a look-up that has arrived has found: the name of a call, or the place of its target.
-use Rattle.step_ways.proofs.Common.{Want, ◌≡◌, ℕ, ◌%◌, ◌&&◌, ◌||◌, ◌++◌, ◌∷◌, [], Bool, true, false, not, nat_le, if◌then◌else◌, Option}
-use Rattle.step_ways.proofs.Common.{Some}
-use Rattle.step_ways.proofs.Common.{None, refl, sym, ◌∙◌, ap, subst, IsTrue, IsSome, IsSomeAnd, is_some, option_to_list, leb-false}
-use Rattle.step_ways.proofs.Common.{lt-ltb, All-nil, All-cons, All-append, Capability, Setting, EntryFits, Held, EntryAt, LoadOf}
-use Rattle.step_ways.proofs.Common.{word_of, Holds, PlaceOf, State, comp_of, Slot, Named, found, Target, Under, place_at, held_in}
-use Rattle.step_ways.proofs.Common.{usable_in, usable, reached, has_no_slot, own, Refused, Found, and_then, or_refuse, named, Step, Trace}
-use Rattle.step_ways.proofs.Common.{state_after, own_left, root_passed, way_to, HasReached, HasFound, own_in, own_kept, holds_link}
-use Rattle.step_ways.proofs.Common.{linked, root_slot, slot_in, Word, has_rights, Lacks, ReachesLacking, with_rights}
-use Rattle.std.proofs.Common.{IsFalse}
-use Rattle.plan_ways.specs.spk_nums.specs.declared.replies.Reply.TheVariants as reply
-use Rattle.plan_ways.specs.kernel_rules.specs.State.{Free as Vacant, Quiescing as Removed}
-use Rattle.plan_ways.specs.kernel_rules.specs.Rules.{of_kind, ReachesNone, ReachesHeld}
-use Rattle.plan_ways.specs.kernel_rules.specs.Rules.{ReachesOther}
-use Rattle.plan_ways.specs.kernel_history.proofs.Steps.{own_left-here}
-use Rattle.step_ways.specs.core_invariant.specs.Knows.{IsReached}
-use Rattle.step_ways.proofs.Loads.{step_to}
-use Rattle.step_ways.proofs.Refusals.{NobodyWaits}
+use Rattle.step_ways.proofs.{Want, ◌≡◌, ℕ, ◌&&◌, ◌||◌, ◌++◌, ◌∷◌, [], Bool, true, false, not, leb as nat_le, if◌then◌else◌, Option, Some}
+use Rattle.step_ways.proofs.{None, refl, sym, ◌∙◌, ap, subst, IsTrue, IsSome, IsSomeAnd, is_some, option_to_list, leb-false, lt-ltb}
+use Rattle.step_ways.proofs.{Capability, Setting, EntryFits, Held, EntryAt, LoadOf, word_of, Holds, PlaceOf, State, comp_of, Slot, Named}
+use Rattle.step_ways.proofs.{found, Target, Under, place_at, held_in, usable_in, usable, reached, own, Refused, Found, and_then, or_refuse}
+use Rattle.step_ways.proofs.{named, Step, Trace, state_after, own_left, way_to, HasReached, HasFound, own_in, own_kept, root_slot, Word}
+use Rattle.step_ways.proofs.{Free as Vacant, Quiescing as Removed, step_to, NobodyWaits, Reply}
+use Rattle.plan_ways.specs.kernel_rules.specs.{◌%◌, has_no_slot, holds_link, linked, slot_in, has_rights, Lacks, ReachesLacking}
+use Rattle.plan_ways.specs.kernel_rules.specs.{with_rights, IsFalse, of_kind, ReachesNone, ReachesHeld, ReachesOther}
+use Rattle.std.proofs.lemmas.List.Elements.{All-nil, All-cons, All-append}
 use Rattle.count_invariant.proofs.Lookups.{Arrives, use_removed}
+use Rattle.{plan_ways.specs.kernel_history.specs.Ways.root_passed, plan_ways.specs.kernel_history.proofs.Steps.own_left-here}
+use Rattle.{step_ways.specs.core_invariant.specs.Reaching.IsReached}
 
 -- the target of an own name
 pub own_is : (s : State) (c table n : ℕ) → table ≡ (comp_of s c).table → own_in table n ≡ own s c n
@@ -64,39 +58,39 @@ pub named_of : (s : State) (c n : ℕ) (wanted : Want) (at : Slot) (k : Capabili
     → usable s c at ≡ Some k
     → wanted.kinds k.kind ≡ true → has_rights k.rights wanted.needs ≡ true → named s c n wanted ≡ Found k
 named_of s c n wanted at k r u w h =
-    ap (λ x. and_then (or_refuse x reply.NoSlot) λ at. and_then (or_refuse (usable s c at) reply.Empty) λ k. of_kind wanted k) r
-    ∙ ap (λ x. and_then (or_refuse x reply.Empty) λ k. of_kind wanted k) u
-    ∙ ap (λ b. if b then with_rights wanted.needs k else Refused reply.WrongCap) w
-    ∙ ap (λ b. if b then Found k else Refused reply.NoRight) h
+    ap (λ x. and_then (or_refuse x Reply.NoSlot) λ at. and_then (or_refuse (usable s c at) Reply.Empty) λ k. of_kind wanted k) r
+    ∙ ap (λ x. and_then (or_refuse x Reply.Empty) λ k. of_kind wanted k) u
+    ∙ ap (λ b. if b then with_rights wanted.needs k else Refused Reply.WrongCap) w
+    ∙ ap (λ b. if b then Found k else Refused Reply.NoRight) h
 
 -- And refused where it reaches no slot, may use nothing there, or a capability of another kind, or one that lacks a right.
 pub named_no_slot : (s : State) (c n : ℕ) (wanted : Want) → reached s c (own s c n) ≡ None
-    → named s c n wanted ≡ Refused reply.NoSlot
+    → named s c n wanted ≡ Refused Reply.NoSlot
 named_no_slot s c n wanted r =
-    ap (λ x. and_then (or_refuse x reply.NoSlot) λ at. and_then (or_refuse (usable s c at) reply.Empty) λ k. of_kind wanted k) r
+    ap (λ x. and_then (or_refuse x Reply.NoSlot) λ at. and_then (or_refuse (usable s c at) Reply.Empty) λ k. of_kind wanted k) r
 
 pub named_empty : (s : State) (c n : ℕ) (wanted : Want) (at : Slot) → reached s c (own s c n) ≡ Some at → usable s c at ≡ None
-    → named s c n wanted ≡ Refused reply.Empty
+    → named s c n wanted ≡ Refused Reply.Empty
 named_empty s c n wanted at r u =
-    ap (λ x. and_then (or_refuse x reply.NoSlot) λ at. and_then (or_refuse (usable s c at) reply.Empty) λ k. of_kind wanted k) r
-    ∙ ap (λ x. and_then (or_refuse x reply.Empty) λ k. of_kind wanted k) u
+    ap (λ x. and_then (or_refuse x Reply.NoSlot) λ at. and_then (or_refuse (usable s c at) Reply.Empty) λ k. of_kind wanted k) r
+    ∙ ap (λ x. and_then (or_refuse x Reply.Empty) λ k. of_kind wanted k) u
 
 pub named_wrong : (s : State) (c n : ℕ) (wanted : Want) (at : Slot) (k : Capability) → reached s c (own s c n) ≡ Some at
     → usable s c at ≡ Some k
-    → wanted.kinds k.kind ≡ false → named s c n wanted ≡ Refused reply.WrongCap
+    → wanted.kinds k.kind ≡ false → named s c n wanted ≡ Refused Reply.WrongCap
 named_wrong s c n wanted at k r u w =
-    ap (λ x. and_then (or_refuse x reply.NoSlot) λ at. and_then (or_refuse (usable s c at) reply.Empty) λ k. of_kind wanted k) r
-    ∙ ap (λ x. and_then (or_refuse x reply.Empty) λ k. of_kind wanted k) u
-    ∙ ap (λ b. if b then with_rights wanted.needs k else Refused reply.WrongCap) w
+    ap (λ x. and_then (or_refuse x Reply.NoSlot) λ at. and_then (or_refuse (usable s c at) Reply.Empty) λ k. of_kind wanted k) r
+    ∙ ap (λ x. and_then (or_refuse x Reply.Empty) λ k. of_kind wanted k) u
+    ∙ ap (λ b. if b then with_rights wanted.needs k else Refused Reply.WrongCap) w
 
 pub named_lacking : (s : State) (c n : ℕ) (wanted : Want) (at : Slot) (k : Capability) → reached s c (own s c n) ≡ Some at
     → usable s c at ≡ Some k
-    → wanted.kinds k.kind ≡ true → has_rights k.rights wanted.needs ≡ false → named s c n wanted ≡ Refused reply.NoRight
+    → wanted.kinds k.kind ≡ true → has_rights k.rights wanted.needs ≡ false → named s c n wanted ≡ Refused Reply.NoRight
 named_lacking s c n wanted at k r u w h =
-    ap (λ x. and_then (or_refuse x reply.NoSlot) λ at. and_then (or_refuse (usable s c at) reply.Empty) λ k. of_kind wanted k) r
-    ∙ ap (λ x. and_then (or_refuse x reply.Empty) λ k. of_kind wanted k) u
-    ∙ ap (λ b. if b then with_rights wanted.needs k else Refused reply.WrongCap) w
-    ∙ ap (λ b. if b then Found k else Refused reply.NoRight) h
+    ap (λ x. and_then (or_refuse x Reply.NoSlot) λ at. and_then (or_refuse (usable s c at) Reply.Empty) λ k. of_kind wanted k) r
+    ∙ ap (λ x. and_then (or_refuse x Reply.Empty) λ k. of_kind wanted k) u
+    ∙ ap (λ b. if b then with_rights wanted.needs k else Refused Reply.WrongCap) w
+    ∙ ap (λ b. if b then Found k else Refused Reply.NoRight) h
 
 -- A number past its range reaches no slot.
 pub past_unreached : (s : State) (c : ℕ) (table : Named) (n : ℕ) → nat_le n 4095 ≡ false → reached s c (Under table n) ≡ None

@@ -1,15 +1,10 @@
 -- The count and the component of a call that kills.
-use Rattle.step_ways.proofs.Common.{◌≡◌, refl, ℕ, true, false, sym, ◌∙◌, [], ◌∷◌, ◌++◌, ap, subst, IsTrue, ◌||◌, eq-eqb, Capability, Kind}
-use Rattle.step_ways.proofs.Common.{Call, Kill, named_by, State}
-use Rattle.step_ways.proofs.Common.{counts_references, changes_numbers, raises_clock, footprint_frames, is_one_of}
-use Rattle.step_ways.proofs.Common.{First, at_place, plan_for, Leads, LeadsIn, KillingAt, LoadComp, LoadLive, Due, untypes}
-use Rattle.std.specs.Prelude.{List, negsuc}
-use Rattle.plan_ways.specs.spk_nums.specs.declared.kinds.Kind.TheVariants as kind
-use Rattle.plan_ways.proofs.InFootprint.{footprint_found}
-use Rattle.step_ways.specs.act_states.specs.declared.kills.KillingAt.TheVariants.{Close, Draw}
-use Rattle.step_ways.specs.act_states.specs.Acts.{killing_dues}
-use Rattle.step_ways.specs.core_invariant.specs.Knows.{KillsBy}
-use Rattle.count_invariant.proofs.MakingCounts.{no_due}
+use Rattle.step_ways.proofs.{◌≡◌, refl, ℕ, true, false, sym, ◌∙◌, [], ◌∷◌, ◌++◌, ap, subst, IsTrue, ◌||◌, eq-eqb, Capability, Kind, Call}
+use Rattle.step_ways.proofs.{named_by, State, counts_references, raises_clock, footprint_frames, is_one_of, First, at_place, plan_for}
+use Rattle.step_ways.proofs.{Leads, LeadsIn, KillingAt, LoadComp, LoadLive, Due, untypes, List, negsuc, Close, Draw}
+use Rattle.step_ways.specs.act_states.specs.{Kill, killing_dues}
+use Rattle.{plan_ways.specs.kernel_history.specs.Discipline.changes_numbers, plan_ways.proofs.InFootprint.footprint_found}
+use Rattle.{step_ways.specs.core_invariant.specs.Acting.KillsBy, count_invariant.proofs.MakingCounts.no_due}
 
 -- The call that kills a component.
 pub record IsKill (call : Call) (ks : List Capability) (f : ℕ) : Type 0 where
@@ -17,7 +12,7 @@ pub record IsKill (call : Call) (ks : List Capability) (f : ℕ) : Type 0 where
   pub comp : Capability
   pub call_is : call ≡ Kill name
   pub found_is : ks ≡ comp ∷ []
-  pub kind : comp.kind ≡ kind.Comp
+  pub kind : comp.kind ≡ Kind.Comp
   pub frame : f ≡ comp.frame
 
 pub kill_of : (call : Call) (ks : List Capability) (f : ℕ) → KillsBy call ks f → IsKill call ks f

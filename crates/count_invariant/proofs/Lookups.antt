@@ -1,37 +1,24 @@
 -- A step of a look-up is good, whatever the call looks for: it goes on to the leaf, is refused, or arrives at the place.
-use Rattle.step_ways.proofs.Common.{acts}
-use Rattle.step_ways.proofs.Common.{◌≡◌, ◌⊎◌, inl, inr, ℕ, ◌<◌, ◌≤◌, ◌/◌, ◌%◌, ◌&&◌, ◌||◌, ◌==◌, ◌++◌, ◌∷◌, List, [], map, Bool, true}
-use Rattle.step_ways.proofs.Common.{false, not, nat_le, nat_lt, if◌then◌else◌, Option, Some, None, arith, refl, sym, ◌∙◌, ap, subst}
-use Rattle.step_ways.proofs.Common.{IsTrue, IsSome, option_to_list, le-leb, eq-eqb, All-nil, All-cons, Capability, Setting}
-use Rattle.step_ways.proofs.Common.{IsSetting, Call, Kind, Entry, Held, Closing, EntryFits, entry_of_word, EntryAt, LoadOf, word_of}
-use Rattle.step_ways.proofs.Common.{Place, Holds, PlaceOf, State, Slot, Named, Target, Under, InRoot, place_at, only, usable_in, usable}
-use Rattle.step_ways.proofs.Common.{linked, slot_in, root_slot, reached, holds_link, has_no_slot, RuleMay, Refused, rule_of, change_of}
-use Rattle.step_ways.proofs.Common.{Relies, Step, Trace, Open, phase, state_after, last_left, own_left, capability_in, root_passed}
-use Rattle.step_ways.proofs.Common.{wide_way_to, wide_ways, frames_own, footprint_frames}
-use Rattle.step_ways.proofs.Common.{is_one_of, is_slot_in, HasReached, stamp, CapNames}
-use Rattle.step_ways.proofs.Common.{end_of_frames, shown_in, look_move, Look, AtRoot, AtLeaf, AtEntry, Carries, next_of, Lookup}
-use Rattle.step_ways.proofs.Common.{Undecided, ActiveCall, Goes, refuse, landed, Core, holds_counts, CountsAt, PlaceIs, LooksUp, Knows}
-use Rattle.step_ways.proofs.Common.{phase_at, holds_at, holds_in, Invariant}
-use Rattle.std.proofs.lemmas.List.Folds.{list_any-append}
-use Rattle.plan_ways.specs.spk_nums.specs.declared.kinds.Kind.TheVariants as kind
-use Rattle.plan_ways.specs.spk_nums.specs.declared.replies.Reply.TheVariants as reply
+use Rattle.step_ways.proofs.{acts, ◌≡◌, ◌⊎◌, inl, inr, ℕ, ◌<◌, ◌≤◌, ◌/◌, ◌&&◌, ◌||◌, ◌==◌, ◌++◌, ◌∷◌, List, [], map, Bool, true, false, not}
+use Rattle.step_ways.proofs.{leb as nat_le, ltb as nat_lt, if◌then◌else◌, Option, Some, None, arith, refl, sym, ◌∙◌, ap, subst, IsTrue}
+use Rattle.step_ways.proofs.{IsSome, option_to_list, le-leb, eq-eqb, Capability, Setting, IsSetting, Call, Kind, Entry, Held, EntryFits}
+use Rattle.step_ways.proofs.{entry_of_word, EntryAt, LoadOf, word_of, Place, Holds, PlaceOf, State, Slot, Named, Target, Under, InRoot}
+use Rattle.step_ways.proofs.{place_at, only, usable_in, usable, root_slot, reached, RuleMay, Refused, rule_of, change_of, Relies, Step}
+use Rattle.step_ways.proofs.{Trace, Open, phase, state_after, last_left, own_left, wide_ways, frames_own, footprint_frames, is_one_of}
+use Rattle.step_ways.proofs.{is_slot_in, HasReached, stamp, CapNames, shown_in, look_move, Look, AtRoot, AtLeaf, AtEntry, Carries, next_of}
+use Rattle.step_ways.proofs.{Lookup, Undecided, ActiveCall, Goes, refuse, landed, Core, holds_counts, CountsAt, PlaceIs, LooksUp, phase_at}
+use Rattle.step_ways.proofs.{holds_at, holds_in, Invariant, Free as Vacant, Quiescing as Removed, OnlyLooks, step_to, next_at, is_active}
+use Rattle.step_ways.proofs.{loads_on, IsMarked, IsUnmarked, place_reads, GoodTook, ticks_at, NobodyWaits, refuses_busy, plan_for, Reply}
+use Rattle.plan_ways.specs.kernel_history.specs.{◌%◌, Closing, linked, capability_in, root_passed, wide_way_to, led_to}
+use Rattle.step_ways.specs.stage_look.specs.{end_of_frames, held_if, entry_within, is_link, after_link, end_by_link}
+use Rattle.step_ways.specs.call_stages.specs.{took_end, took_look, took_found}
+use Rattle.plan_ways.specs.kernel_rules.specs.{slot_in, holds_link, has_no_slot}
+use Rattle.std.proofs.{lemmas.List.Elements.All-nil, lemmas.List.Elements.All-cons, lemmas.List.Folds.list_any-append}
+use Rattle.step_ways.specs.core_invariant.specs.{Knows.Knows, Reaching.ReliesOn}
 use Rattle.plan_ways.specs.entry_words.specs.declared.entry.Entry.TheVariants.{Free, Quiescing}
-use Rattle.plan_ways.specs.entry_words.proofs.Spelling.{spelling}
-use Rattle.plan_ways.specs.kernel_rules.specs.State.{Free as Vacant, Quiescing as Removed}
-use Rattle.plan_ways.specs.kernel_history.specs.Ways.{led_to}
-use Rattle.step_ways.specs.trace_laws.proofs.Stays.{relies_reached}
-use Rattle.plan_ways.specs.kernel_history.proofs.Steps.{own_left-here}
-use Rattle.step_ways.specs.stage_look.specs.Shown.{held_if, entry_within, is_link}
-use Rattle.step_ways.specs.stage_look.specs.Lookup.{found_at}
-use Rattle.step_ways.specs.act_states.specs.declared.refusals.Refusal.TheVariants as refusal
-use Rattle.step_ways.specs.call_stages.specs.Steps.{took_end, took_look, took_found}
-use Rattle.step_ways.specs.core_invariant.specs.Knows.{ReliesOn}
-use Rattle.step_ways.proofs.Loads.{OnlyLooks, step_to, next_at, is_active, loads_on}
-use Rattle.step_ways.proofs.Places.{IsMarked, IsUnmarked, place_reads}
-use Rattle.step_ways.proofs.Refusals.{GoodTook, ticks_at, NobodyWaits, refuses_no_slot, refuses_busy}
-use Rattle.step_ways.specs.stage_look.specs.Lookup.{after_link}
-use Rattle.step_ways.specs.stage_look.specs.Lookup.{end_by_link}
-use Rattle.step_ways.specs.act_states.specs.call_plans.specs.PlanOf.{plan_for}
+use Rattle.{step_ways.proofs.Refusal, plan_ways.specs.entry_words.proofs.Spelling.spelling}
+use Rattle.{step_ways.specs.trace_laws.proofs.Stays.relies_reached, plan_ways.specs.kernel_history.proofs.Steps.own_left-here}
+use Rattle.{step_ways.specs.stage_look.specs.Lookup.found_at, step_ways.proofs.Refusals.refuses_no_slot}
 
 -- What an entry shows of a place.
 pub record ShowsHeld (frames : ℕ) (p : Place) (k : Capability) : Type 0 where
@@ -74,18 +61,18 @@ shown_of frames (Removed k) stamp word is = record {
   shows = record { held = k; removed = refl };
 }
 
-pub link_kind : (k : Kind) → is_link k ≡ only kind.Link k
-link_kind kind.Range = refl
-link_kind kind.Table = refl
-link_kind kind.Leaf = refl
-link_kind kind.Pages = refl
-link_kind kind.Pleaf = refl
-link_kind kind.Comp = refl
-link_kind kind.Gate = refl
-link_kind kind.Thread = refl
-link_kind kind.Tcap = refl
-link_kind kind.Link = refl
-link_kind kind.Page = refl
+pub link_kind : (k : Kind) → is_link k ≡ only Kind.Link k
+link_kind Kind.Range = refl
+link_kind Kind.Table = refl
+link_kind Kind.Leaf = refl
+link_kind Kind.Pages = refl
+link_kind Kind.Pleaf = refl
+link_kind Kind.Comp = refl
+link_kind Kind.Gate = refl
+link_kind Kind.Thread = refl
+link_kind Kind.Tcap = refl
+link_kind Kind.Link = refl
+link_kind Kind.Page = refl
 
 -- The call has arrived at the place of a target.
 pub record Arrives (setup : Setting) (t : Trace) (c : ℕ) (target : Target) (at : Slot) : Type 0 where
@@ -164,7 +151,7 @@ footprint_way s c call g i h =
     (slot_footprint (wide_ways s c (rule_of s c call)) g i h))
 
 -- Where no core waits, what is no link leads to no leaf.
-pub link_none : (k : Capability) → only kind.Link k.kind ≡ false → linked (Some k) ≡ None
+pub link_none : (k : Capability) → only Kind.Link k.kind ≡ false → linked (Some k) ≡ None
 link_none k is = ap (λ b. if b then Some k.frame else None) is
 
 pub use_removed : (p : Place) (k : Capability) (waits : Bool) → p ≡ Removed k → waits ≡ false → usable_in p waits ≡ None
@@ -175,8 +162,8 @@ module _ (setup : Setting) (setting : IsSetting setup) (cores : ℕ → Core) (t
     (a : ActiveCall) (active : (cores c).active ≡ Some a) (target : Target) (is_open : phase t c ≡ Open a.call)
     (may_act : IsTrue (acts (state_after setup t) c a.call))
     (no_slot : IsTrue (has_no_slot (state_after setup t) target) → RuleMay (state_after setup t) c
-    (rule_of (state_after setup t) c a.call) reply.NoSlot)
-    (no_way : reached (state_after setup t) c target ≡ None → change_of (state_after setup t) c a.call ≡ Refused reply.NoSlot)
+    (rule_of (state_after setup t) c a.call) Reply.NoSlot)
+    (no_way : reached (state_after setup t) c target ≡ None → change_of (state_after setup t) c a.call ≡ Refused Reply.NoSlot)
     (on_way : (g i : ℕ) → is_slot_in (wide_way_to (state_after setup t) target) g i ≡ true → is_slot_in
     (wide_ways (state_after setup t) c (rule_of (state_after setup t) c a.call)) g i ≡ true)
     (goes : (e : Step) (look : Look) → Carries setup t e c → LooksUp setup (e ∷ t) c target look → Knows setup (e ∷ t) c
@@ -217,7 +204,7 @@ module _ (setup : Setting) (setting : IsSetting setup) (cores : ℕ → Core) (t
       no_counts = subst (CountsAt a.counts) at (is_active setup setting cores t stands c here a active).counts
 
       busy : (g i d : ℕ) → is_slot_in (wide_way_to (state_after setup t) target) g i ≡ true → (m : IsMarked setup t g i) → m.by ≡ d
-          → GoodTook setup cores t c (LoadOf (EntryAt g i)) (landed a (refuse (refusal.Busy d)))
+          → GoodTook setup cores t c (LoadOf (EntryAt g i)) (landed a (refuse (Refusal.Busy d)))
       busy g i d way m same =
           refuses_busy setup setting cores t stands c here a active opens held_is room (LoadOf (EntryAt g i)) (looks_at g i way)
           (ap ticks_at at) d
@@ -226,7 +213,7 @@ module _ (setup : Setting) (setting : IsSetting setup) (cores : ℕ → Core) (t
       nowhere : (g i : ℕ) → is_slot_in (wide_way_to (state_after setup t) target) g i ≡ true
           → IsTrue (has_no_slot (state_after setup t) target)
           → (NobodyWaits (state_after setup t) → reached (state_after setup t) c target ≡ None)
-          → GoodTook setup cores t c (LoadOf (EntryAt g i)) (landed a (refuse refusal.NoSlot))
+          → GoodTook setup cores t c (LoadOf (EntryAt g i)) (landed a (refuse Refusal.NoSlot))
       nowhere g i way none unreached =
           refuses_no_slot setup setting cores t stands c here a active opens held_is room (LoadOf (EntryAt g i)) (looks_at g i way)
           may_act (no_slot none)
@@ -249,8 +236,8 @@ module _ (setup : Setting) (setting : IsSetting setup) (cores : ℕ → Core) (t
     (a : ActiveCall) (active : (cores c).active ≡ Some a) (table : Named) (n : ℕ) (is_open : phase t c ≡ Open a.call)
     (may_act : IsTrue (acts (state_after setup t) c a.call))
     (no_slot : IsTrue (has_no_slot (state_after setup t) (Under table n)) → RuleMay (state_after setup t) c
-    (rule_of (state_after setup t) c a.call) reply.NoSlot)
-    (no_way : reached (state_after setup t) c (Under table n) ≡ None → change_of (state_after setup t) c a.call ≡ Refused reply.NoSlot)
+    (rule_of (state_after setup t) c a.call) Reply.NoSlot)
+    (no_way : reached (state_after setup t) c (Under table n) ≡ None → change_of (state_after setup t) c a.call ≡ Refused Reply.NoSlot)
     (on_way : (g i : ℕ) → is_slot_in (wide_way_to (state_after setup t) (Under table n)) g i ≡ true
     → is_slot_in (wide_ways (state_after setup t) c (rule_of (state_after setup t) c a.call)) g i ≡ true)
     (goes : (e : Step) (look : Look) → Carries setup t e c → LooksUp setup (e ∷ t) c (Under table n) look → Knows setup (e ∷ t) c
@@ -426,8 +413,8 @@ module _ (setup : Setting) (setting : IsSetting setup) (cores : ℕ → Core) (t
     (a : ActiveCall) (active : (cores c).active ≡ Some a) (table : Named) (i : ℕ) (is_open : phase t c ≡ Open a.call)
     (may_act : IsTrue (acts (state_after setup t) c a.call))
     (no_slot : IsTrue (has_no_slot (state_after setup t) (InRoot table i)) → RuleMay (state_after setup t) c
-    (rule_of (state_after setup t) c a.call) reply.NoSlot)
-    (no_way : reached (state_after setup t) c (InRoot table i) ≡ None → change_of (state_after setup t) c a.call ≡ Refused reply.NoSlot)
+    (rule_of (state_after setup t) c a.call) Reply.NoSlot)
+    (no_way : reached (state_after setup t) c (InRoot table i) ≡ None → change_of (state_after setup t) c a.call ≡ Refused Reply.NoSlot)
     (on_way : (g j : ℕ) → is_slot_in (wide_way_to (state_after setup t) (InRoot table i)) g j ≡ true
     → is_slot_in (wide_ways (state_after setup t) c (rule_of (state_after setup t) c a.call)) g j ≡ true)
     (goes : (e : Step) (look : Look) → Carries setup t e c → LooksUp setup (e ∷ t) c (InRoot table i) look → Knows setup (e ∷ t) c

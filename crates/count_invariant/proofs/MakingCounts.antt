@@ -1,27 +1,20 @@
 -- The counts and the frame of a call that makes an object, and what it has still to store where it is refused.
-use Rattle.step_ways.proofs.Common.{Want, to_use, ◌≡◌, Bool, true, false, Option, Some, None, ◌∙◌, refl, ℕ, ◌<◌, ◌^◌, ◌==◌, sym, [], ◌∷◌}
-use Rattle.step_ways.proofs.Common.{◌++◌, ap}
-use Rattle.step_ways.proofs.Common.{subst, IsTrue, ◌||◌, map, eqb-true, eq-eqb, false≢true, Capability, Setting, Call, Make, Kind, only}
-use Rattle.step_ways.proofs.Common.{own, reached, usable, Found, named, and_then, or_refuse, only_is, frame_of_word, rule_of}
-use Rattle.step_ways.proofs.Common.{named_by, State, counts_references, changes_frames, footprint_frames, is_one_of, frames_named}
-use Rattle.step_ways.proofs.Common.{frame_at_slot, frame_argument, frame_mark, Trace, target_of, at_place, plan_for, Leads, LeadsIn}
-use Rattle.step_ways.proofs.Common.{Acquired, made_dues, object_dues, object_made, Making, MakingAt, Mark, Store, NewObject, Due}
-use Rattle.step_ways.proofs.Common.{KnowsTail, MakesBy, KnowsMakingAt, KnowsUnmark, blank_word, untypes}
-use Rattle.std.specs.Prelude.{List, ℤ, pos, if◌then◌else◌}
-use Rattle.plan_ways.specs.spk_nums.specs.declared.calls.Make.TheVariants as make
-use Rattle.plan_ways.specs.spk_nums.specs.declared.kinds.Kind.TheVariants as kind
-use Rattle.plan_ways.specs.kernel_rules.specs.Rules.{of_kind}
-use Rattle.plan_ways.specs.kernel_invariant.proofs.Facts.{Suits, then_parts, suits}
-use Rattle.plan_ways.specs.spk_nums.specs.declared.replies.Reply.TheVariants as reply
-use Rattle.plan_ways.specs.spk_nums.specs.declared.calls.Call.TheVariants.{Make as make_call}
-use Rattle.plan_ways.specs.frame_words.proofs.FrameLemmas as frames
-use Rattle.plan_ways.proofs.InFootprint.{one_right, footprint_about, footprint_found}
-use Rattle.plan_ways.specs.call_plans.specs.declared.plans.Nth.TheVariants.{Third}
-use Rattle.plan_ways.specs.call_plans.specs.PlanOf.{of_kind as of_kind_name}
-use Rattle.step_ways.specs.act_states.specs.Objects.{object_names, thread_on}
-use Rattle.step_ways.specs.act_states.specs.Makings.{undo_at}
-use Rattle.step_ways.specs.act_states.specs.declared.makings.MakingAt.TheVariants.{Load as making_load, Fill as making_fill}
+use Rattle.step_ways.specs.kept_facts.proofs as low
+use low.{Want, to_use, ◌≡◌, Bool, true, false, Option, Some, None, ◌∙◌, refl, ℕ, ◌<◌, ◌^◌, ◌==◌, sym, [], ◌∷◌, ◌++◌, ap, subst, IsTrue}
+use low.{◌||◌, map, eqb-true, eq-eqb, false≢true, Capability, Setting, Call, Kind, only, own, reached, usable, Found, named, and_then}
+use low.{or_refuse, only_is, frame_of_word, rule_of, named_by, State, counts_references, changes_frames, footprint_frames, is_one_of}
+use low.{frames_named, frame_at_slot, frame_argument, frame_mark, Trace, target_of, at_place, plan_for, Leads, LeadsIn, Acquired}
+use low.{object_dues, object_made, Making, MakingAt, Mark, Store, NewObject, Due, KnowsTail, KnowsUnmark, blank_word, untypes, List, ℤ, pos}
+use low.{if◌then◌else◌, suits, Make as make_call, of_kind as of_kind_name, Load as making_load, Reply}
+use Rattle.step_ways.specs.act_states.specs.{made_dues, Third, object_names, undo_at}
+use Rattle.plan_ways.proofs.{one_right, footprint_about, footprint_found}
+use Rattle.step_ways.specs.core_invariant.specs.{MakesBy, KnowsMakingAt}
+use Rattle.plan_ways.specs.kernel_rules.specs.{Make, of_kind}
+use Rattle.plan_ways.specs.kernel_invariant.proofs.{Suits, then_parts}
+use Rattle.step_ways.specs.act_states.specs.Objects.{thread_on}
+use Rattle.step_ways.specs.act_states.specs.declared.makings.MakingAt.TheVariants.{Fill as making_fill}
 use Rattle.step_ways.specs.act_states.specs.declared.objects.NewObject.TheVariants.{Table, Leaf, Pages, Pleaf, Thread, Tcap}
+use Rattle.plan_ways.specs.frame_words.proofs.FrameLemmas as frames
 
 -- The frame of a count that is due is one that the capability names.
 pub due_named : (fs : List ℕ) (z : ℤ) (xs : List Due) (d : Due) (rest : List Due)
@@ -93,9 +86,9 @@ made_due object f (making_fill word) xs d rest is = due_here object f xs d rest 
 -- A name leads to a capability of a wanted kind.
 pub named_kind : (s : State) (c n : ℕ) (wanted : Want) (k : Capability) → named s c n wanted ≡ Found k → wanted.kinds k.kind ≡ true
 named_kind s c n wanted k e =
-    let a = then_parts (or_refuse (reached s c (own s c n)) reply.NoSlot)
-    (λ at. and_then (or_refuse (usable s c at) reply.Empty) λ k. of_kind wanted k) k e in
-    let b = then_parts (or_refuse (usable s c a.0) reply.Empty) (λ k. of_kind wanted k) k a.2 in
+    let a = then_parts (or_refuse (reached s c (own s c n)) Reply.NoSlot)
+    (λ at. and_then (or_refuse (usable s c at) Reply.Empty) λ k. of_kind wanted k) k e in
+    let b = then_parts (or_refuse (usable s c a.0) Reply.Empty) (λ k. of_kind wanted k) k a.2 in
     let w : Suits wanted b.0 k = suits wanted b.0 k b.2 in
     ap (λ (x : Capability). wanted.kinds x.kind) (sym w.is) ∙ w.kind
 
@@ -110,46 +103,46 @@ none_named : (object : NewObject) (g : ℕ) (R : Type 0) → object_names object
 none_named object g R none names_it = absurd (false≢true (sym (ap (is_one_of g) none) ∙ names_it))
 
 comp_named : (s : State) (c r u n : ℕ) (qs : List Capability) (k : Capability) → at_place qs Third ≡ Some k
-    → Leads (LeadsIn s c) (of_kind_name kind.Range r ∷ of_kind_name kind.Table u ∷ of_kind_name kind.Comp n ∷ []) [] qs
+    → Leads (LeadsIn s c) (of_kind_name Kind.Range r ∷ of_kind_name Kind.Table u ∷ of_kind_name Kind.Comp n ∷ []) [] qs
     → named_by k.kind k.frame ≡ k.frame ∷ []
 comp_named s c r u n [] k at lead = absurd (cc)
 comp_named s c r u n (x ∷ []) k at lead = absurd (cc)
 comp_named s c r u n (x ∷ y ∷ []) k at lead = absurd (cc)
 comp_named s c r u n (x ∷ y ∷ z ∷ zs) k at lead =
-    ap (λ (j : Kind). named_by j k.frame) (only_is kind.Comp k.kind
-    (ap (λ (q : Capability). only kind.Comp q.kind) (sym (same_cap z k at)) ∙ named_kind s c n (to_use (only kind.Comp)) z lead.1.1.0))
+    ap (λ (j : Kind). named_by j k.frame) (only_is Kind.Comp k.kind
+    (ap (λ (q : Capability). only Kind.Comp q.kind) (sym (same_cap z k at)) ∙ named_kind s c n (to_use (only Kind.Comp)) z lead.1.1.0))
 
 third_footprint : (s : State) (c r f u b n g : ℕ) (qs : List Capability) (o : Option Capability) → at_place qs Third ≡ o →
     (object : NewObject)
-    → thread_on o ≡ Some object → Leads (LeadsIn s c) (plan_for (make_call (make.Thread n) r f u b)).names [] qs
-    → is_one_of g (object_names object) ≡ true → is_one_of g (footprint_frames s c (make_call (make.Thread n) r f u b)) ≡ true
+    → thread_on o ≡ Some object → Leads (LeadsIn s c) (plan_for (make_call (Make.Thread n) r f u b)).names [] qs
+    → is_one_of g (object_names object) ≡ true → is_one_of g (footprint_frames s c (make_call (Make.Thread n) r f u b)) ≡ true
 third_footprint s c r f u b n g qs None at object made lead names_it = absurd (cc)
 third_footprint s c r f u b n g qs (Some k) at object made lead names_it =
-    footprint_found s c (make_call (make.Thread n) r f u b) qs lead Third k at g
+    footprint_found s c (make_call (Make.Thread n) r f u b) qs lead Third k at g
     (ap (is_one_of g) (comp_named s c r u n qs k at lead) ∙ ap (λ (x : NewObject). is_one_of g (object_names x))
     (same_object (Thread k.frame) object made) ∙ names_it)
 
 by_make : (s : State) (c r f u b g : ℕ) (what : Make) (qs : List Capability) (object : NewObject) → object_made what qs ≡ Some object
     → Leads (LeadsIn s c) (plan_for (make_call what r f u b)).names [] qs
     → is_one_of g (object_names object) ≡ true → is_one_of g (footprint_frames s c (make_call what r f u b)) ≡ true
-by_make s c r f u b g make.Table qs object made lead names_it =
-    none_named object g (is_one_of g (footprint_frames s c (make_call make.Table r f u b)) ≡ true)
+by_make s c r f u b g Make.Table qs object made lead names_it =
+    none_named object g (is_one_of g (footprint_frames s c (make_call Make.Table r f u b)) ≡ true)
     (ap object_names (sym (same_object Table object made))) names_it
-by_make s c r f u b g make.Leaf qs object made lead names_it =
-    none_named object g (is_one_of g (footprint_frames s c (make_call make.Leaf r f u b)) ≡ true)
+by_make s c r f u b g Make.Leaf qs object made lead names_it =
+    none_named object g (is_one_of g (footprint_frames s c (make_call Make.Leaf r f u b)) ≡ true)
     (ap object_names (sym (same_object Leaf object made))) names_it
-by_make s c r f u b g make.Pages qs object made lead names_it =
-    none_named object g (is_one_of g (footprint_frames s c (make_call make.Pages r f u b)) ≡ true)
+by_make s c r f u b g Make.Pages qs object made lead names_it =
+    none_named object g (is_one_of g (footprint_frames s c (make_call Make.Pages r f u b)) ≡ true)
     (ap object_names (sym (same_object Pages object made))) names_it
-by_make s c r f u b g make.Pleaf qs object made lead names_it =
-    none_named object g (is_one_of g (footprint_frames s c (make_call make.Pleaf r f u b)) ≡ true)
+by_make s c r f u b g Make.Pleaf qs object made lead names_it =
+    none_named object g (is_one_of g (footprint_frames s c (make_call Make.Pleaf r f u b)) ≡ true)
     (ap object_names (sym (same_object Pleaf object made))) names_it
-by_make s c r f u b g (make.Thread n) qs object made lead names_it =
+by_make s c r f u b g (Make.Thread n) qs object made lead names_it =
     third_footprint s c r f u b n g qs (at_place qs Third) refl object made lead names_it
-by_make s c r f u b g (make.Tcap sched quality) qs object made lead names_it =
-    none_named object g (is_one_of g (footprint_frames s c (make_call (make.Tcap sched quality) r f u b)) ≡ true)
+by_make s c r f u b g (Make.Tcap sched quality) qs object made lead names_it =
+    none_named object g (is_one_of g (footprint_frames s c (make_call (Make.Tcap sched quality) r f u b)) ≡ true)
     (ap object_names (sym (same_object (Tcap sched quality) object made))) names_it
-by_make s c r f u b g (make.Comp table pages live) qs object made lead names_it = absurd (cc)
+by_make s c r f u b g (Make.Comp table pages live) qs object made lead names_it = absurd (cc)
 
 named_footprint : (s : State) (c : ℕ) (call : Call) (ks : List Capability) (m : Making) → MakesBy call ks m
     → Leads (LeadsIn s c) (plan_for call).names [] ks → (g : ℕ) → is_one_of g (object_names m.object) ≡ true

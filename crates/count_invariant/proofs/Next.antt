@@ -1,17 +1,12 @@
 -- What comes next of a call that goes by its plan, where its names have led to some capabilities.
-use Rattle.step_ways.proofs.Common.{◌≡◌, ℕ, true, IsTrue, List, [], ◌∷◌, Option, Some, None, refl, sym, ◌∙◌, ap, subst, Capability}
-use Rattle.step_ways.proofs.Common.{Setting, IsSetting, Kind, Call, State, Slot, Named, usable, Relies, Trace, Open, phase, state_after}
-use Rattle.step_ways.proofs.Common.{IsLegal, Name, Spot, Plan, at_place, wants, with_found, names_after, Leads, NextName, next_of}
-use Rattle.std.proofs.Common.{IsSomeAnd}
-use Rattle.plan_ways.specs.spk_nums.specs.declared.kinds.Kind.TheVariants as kind
-use Rattle.plan_ways.specs.kernel_rules.specs.Access.{Want, root}
-use Rattle.step_ways.specs.found_stays.proofs.Stays.{names_node}
-use Rattle.step_ways.specs.trace_laws.proofs.Stays.{relies_usable}
-use Rattle.plan_ways.specs.call_plans.specs.declared.plans.Target.{Target}
-use Rattle.plan_ways.specs.call_plans.specs.GoesBy.{want_of, earlier}
-use Rattle.plan_ways.specs.call_plans.specs.After.{next_in, next_target}
-use Rattle.plan_ways.specs.call_plans.specs.Rooted.{root_of, WantsRoot, RootIs}
+use Rattle.step_ways.proofs.{◌≡◌, ℕ, true, IsTrue, List, [], ◌∷◌, Option, Some, None, refl, sym, ◌∙◌, ap, subst, Capability, Setting}
+use Rattle.step_ways.proofs.{IsSetting, Kind, Call, State, Slot, Named, usable, Relies, Trace, Open, phase, state_after, IsLegal, Name}
+use Rattle.step_ways.proofs.{Spot, Plan, at_place, names_after, Leads, NextName, next_of, IsSomeAnd, Want}
+use Rattle.plan_ways.specs.call_plans.specs.{wants, with_found, want_of, earlier, next_in, next_target, WantsRoot}
+use Rattle.plan_ways.specs.call_plans.specs.{declared.plans.Target.Target, Rooted.root_of, Rooted.RootIs}
 use Rattle.plan_ways.specs.call_plans.proofs.Roots.{earlier_is, Led, nth_led}
+use Rattle.{plan_ways.specs.kernel_rules.specs.Access.root, step_ways.specs.found_stays.proofs.Stays.names_node}
+use Rattle.{step_ways.specs.trace_laws.proofs.Stays.relies_usable}
 
 -- The core may use this capability, of a wanted kind, at some slot.
 pub record MayUse (s : State) (c n : ℕ) (wanted : Want) (k : Capability) : Type 0 where
@@ -21,8 +16,8 @@ pub record MayUse (s : State) (c n : ℕ) (wanted : Want) (k : Capability) : Typ
 
 -- A root that is wanted is a node.
 root_names : (k : Kind) → IsTrue (root k) → IsTrue (names_node k)
-root_names kind.Table is = refl
-root_names kind.Pages is = refl
+root_names Kind.Table is = refl
+root_names Kind.Pages is = refl
 root_names k is = absurd (cc)
 
 -- The root of a spot, where all names are found, is relied on.

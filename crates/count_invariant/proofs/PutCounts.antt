@@ -1,24 +1,18 @@
 -- What a call puts at its target is counted: the call changes references, and the frame that it names there is in its footprint.
-use Rattle.step_ways.proofs.Common.{◌≡◌, ◌≢◌, ℕ, ℤ, ◌+◌, ◌++◌, ◌==◌, ◌^◌, ◌<◌, ◌≤◌, Bool, true}
-use Rattle.step_ways.proofs.Common.{false, if◌then◌else◌, nat_le, List, [], ◌∷◌, Option, Some, None, IsTrue, refl}
-use Rattle.step_ways.proofs.Common.{sym, ◌∙◌, ap, subst}
-use Rattle.step_ways.proofs.Common.{Capability, cap_of, Call, Copy, Remove, Shrink, Unmap, Retype, Tick, Gate}
-use Rattle.step_ways.proofs.Common.{Kill, Grow, Touch, Flush, Map, Ret, Transfer, Delegate, Test, Switch, State, named_by}
-use Rattle.step_ways.proofs.Common.{counts_references, is_one_of, footprint_frames, only, Found, only_is, name_parts, at_place}
-use Rattle.step_ways.proofs.Common.{First, Second, plan_for, Leads}
-use Rattle.step_ways.proofs.Common.{LeadsIn, put_by, to_use, Suits, suits}
-use Rattle.plan_ways.specs.spk_nums.specs.declared.calls.Call.TheVariants.{Look, Make as make_call, Part, Replenish}
-use Rattle.plan_ways.specs.spk_nums.specs.declared.calls.Call.TheVariants.{Call as call_gate}
-use Rattle.plan_ways.specs.spk_nums.specs.Rights.{kept, part_of}
-use Rattle.plan_ways.specs.spk_nums.specs.declared.rights.Rights.{Rights}
+use Rattle.step_ways.specs.act_states.proofs as low
+use low.{◌≡◌, ◌≢◌, ℕ, ℤ, ◌+◌, ◌++◌, ◌==◌, ◌^◌, ◌<◌, ◌≤◌, Bool, true, false, if◌then◌else◌, leb as nat_le, List, [], ◌∷◌, Option, Some, None}
+use low.{IsTrue, refl, sym, ◌∙◌, ap, subst, Capability, cap_of, Call, Copy, Remove, Shrink, Unmap, Retype, Tick, Gate, Kill, Grow, Touch}
+use low.{Flush, Map, Ret, Transfer, Delegate, Test, Switch, State, named_by, only, Found, only_is, at_place, First, Second, plan_for, Leads}
+use low.{LeadsIn, put_by, to_use, suits, Part, Replenish, part_of, has_frames, found, false≢true}
+use Rattle.plan_ways.specs.kernel_history.specs.{counts_references, is_one_of, footprint_frames, Look, Make as make_call, of_kind}
+use Rattle.step_ways.specs.act_states.specs.{gate_if, gate_to}
+use Rattle.step_ways.specs.kernel_laws.proofs.{name_parts, kept}
 use Rattle.plan_ways.specs.spk_nums.specs.declared.kinds.Kind.TheVariants.{Comp as comp_kind, Gate as gate_kind}
-use Rattle.plan_ways.specs.kernel_rules.specs.Rules.{of_kind}
-use Rattle.plan_ways.specs.kernel_rules.specs.CapabilityCalls.{has_frames}
-use Rattle.plan_ways.specs.kernel_rules.specs.Access.{found}
-use Rattle.plan_ways.proofs.InFootprint.{footprint_found}
+use Rattle.step_ways.specs.act_states.specs.Acts.{kept_of, part_in}
 use Rattle.count_invariant.proofs.LinkCounts.{link_footprint, page_footprint}
-use Rattle.step_ways.specs.act_states.specs.Acts.{gate_if, gate_to, kept_of, part_in}
-use Rattle.std.proofs.lemmas.Bool.{false≢true}
+use Rattle.{plan_ways.specs.kernel_invariant.proofs.Facts.Suits}
+use Rattle.{plan_ways.specs.spk_nums.specs.declared.calls.Call.TheVariants.Call as call_gate}
+use Rattle.{plan_ways.specs.spk_nums.specs.declared.rights.Rights.Rights, plan_ways.proofs.InFootprint.footprint_found}
 
 cap_same : (j k : Capability) → Some j ≡ Some k → j ≡ k
 cap_same j k h = cc

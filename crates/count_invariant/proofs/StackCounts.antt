@@ -1,17 +1,12 @@
 -- The count, and the frames, of a call that enters a component or leaves one.
-use Rattle.step_ways.proofs.Common.{◌≡◌, refl, ℕ, ◌≤◌, Bool, true, false, sym, ◌∙◌, [], ◌∷◌, ◌++◌, length, ap, arith, subst, IsTrue, ◌||◌}
-use Rattle.step_ways.proofs.Common.{◌==◌, eq-eqb, Capability, Kind, Call, named_by, State, first_of_stack, thread_of, comp_of}
-use Rattle.step_ways.proofs.Common.{counts_references, changes_threads, frames_own, footprint_frames, is_one_of, First, at_place, plan_for}
-use Rattle.step_ways.proofs.Common.{Leads, LeadsIn, Invoking, InvokingAt, ReturningAt, Due, invoking_dues, returning_dues, InvokesBy}
-use Rattle.step_ways.proofs.Common.{below_of}
-use Rattle.std.specs.Prelude.{List, ℤ, pos, negsuc}
-use Rattle.std.proofs.Math.Bool.{or-true}
-use Rattle.plan_ways.specs.spk_nums.specs.declared.kinds.Kind.TheVariants as kind
-use Rattle.plan_ways.specs.spk_nums.specs.declared.calls.Call.TheVariants.{Call as call_gate}
-use Rattle.plan_ways.proofs.InFootprint.{footprint_found, one_left}
-use Rattle.step_ways.specs.act_states.specs.declared.invocations.InvokingAt.TheVariants as invoking
-use Rattle.step_ways.specs.act_states.specs.declared.invocations.ReturningAt.TheVariants as returning
-use Rattle.count_invariant.proofs.MakingCounts.{no_due}
+use Rattle.step_ways.proofs.{◌≡◌, refl, ℕ, ◌≤◌, Bool, true, false, sym, ◌∙◌, [], ◌∷◌, ◌++◌, length, ap, arith, subst, IsTrue, ◌||◌, ◌==◌}
+use Rattle.step_ways.proofs.{eq-eqb, Capability, Kind, Call, named_by, State, first_of_stack, thread_of, comp_of, counts_references}
+use Rattle.step_ways.proofs.{changes_threads, frames_own, footprint_frames, is_one_of, First, at_place, plan_for, Leads, LeadsIn, Invoking}
+use Rattle.step_ways.proofs.{InvokingAt, ReturningAt, Due, List, ℤ, pos, negsuc}
+use Rattle.{step_ways.specs.core_invariant.specs.InvokesBy, step_ways.specs.core_invariant.specs.below_of}
+use Rattle.{step_ways.specs.act_states.specs.invoking_dues, step_ways.specs.act_states.specs.returning_dues}
+use Rattle.{plan_ways.proofs.footprint_found, plan_ways.proofs.one_left, std.proofs.Math.Bool.or-true}
+use Rattle.{plan_ways.specs.spk_nums.specs.declared.calls.Call.TheVariants.Call as call_gate, count_invariant.proofs.MakingCounts.no_due}
 
 -- The call that enters a component.
 pub record IsInvoke (call : Call) (ks : List Capability) (m : Invoking) : Type 0 where
@@ -19,7 +14,7 @@ pub record IsInvoke (call : Call) (ks : List Capability) (m : Invoking) : Type 0
   pub gate : Capability
   pub call_is : call ≡ call_gate name
   pub found_is : ks ≡ gate ∷ []
-  pub kind : gate.kind ≡ kind.Gate
+  pub kind : gate.kind ≡ Kind.Gate
   pub frame : m.comp ≡ gate.frame
   pub epoch : m.epoch ≡ gate.arg
 
@@ -92,17 +87,17 @@ only_due f z (x ∷ xs) d rest is = absurd (no_due xs d rest (tail_same _ _ _ _ 
 -- The count that an entering changes is that of the component's frame, and that of a leaving that of the top's.
 pub invoking_due : (f : ℕ) (at : InvokingAt) (xs : List Due) (d : Due) (rest : List Due) → invoking_dues f at ≡ xs ++ d ∷ rest
     → d.frame ≡ f
-invoking_due f invoking.LoadTable xs d rest is = absurd (no_due xs d rest is)
-invoking_due f (invoking.LoadPages table) xs d rest is = absurd (no_due xs d rest is)
-invoking_due f (invoking.LoadComp table pages) xs d rest is = absurd (no_due xs d rest is)
-invoking_due f (invoking.LoadLive table pages life) xs d rest is = only_due f (pos 1) xs d rest is
+invoking_due f InvokingAt.LoadTable xs d rest is = absurd (no_due xs d rest is)
+invoking_due f (InvokingAt.LoadPages table) xs d rest is = absurd (no_due xs d rest is)
+invoking_due f (InvokingAt.LoadComp table pages) xs d rest is = absurd (no_due xs d rest is)
+invoking_due f (InvokingAt.LoadLive table pages life) xs d rest is = only_due f (pos 1) xs d rest is
 
 pub returning_due : (f : ℕ) (at : ReturningAt) (xs : List Due) (d : Due) (rest : List Due) → returning_dues f at ≡ xs ++ d ∷ rest
     → d.frame ≡ f
-returning_due f returning.LoadBelow xs d rest is = absurd (no_due xs d rest is)
-returning_due f (returning.LoadTable comp) xs d rest is = absurd (no_due xs d rest is)
-returning_due f (returning.LoadPages comp table) xs d rest is = absurd (no_due xs d rest is)
-returning_due f (returning.Draw comp table pages) xs d rest is = only_due f (negsuc 0) xs d rest is
+returning_due f ReturningAt.LoadBelow xs d rest is = absurd (no_due xs d rest is)
+returning_due f (ReturningAt.LoadTable comp) xs d rest is = absurd (no_due xs d rest is)
+returning_due f (ReturningAt.LoadPages comp table) xs d rest is = absurd (no_due xs d rest is)
+returning_due f (ReturningAt.Draw comp table pages) xs d rest is = only_due f (negsuc 0) xs d rest is
 
 -- The component at the top of a core's stack is in the footprint of each of its calls.
 pub top_footprint : (s : State) (c : ℕ) (call : Call) (top : ℕ) → top ≡ first_of_stack (thread_of s c).stack → 1 ≤ length

@@ -1,40 +1,33 @@
 -- The counts that a call acquires which makes a frame untyped: of the frames that its object names itself. None of them is the frame, since
 -- nothing refers to that; and they are in the call's footprint.
-use Rattle.step_ways.proofs.Common.{◌^◌, ◌≡◌, ◌≢◌, ◌⊎◌, ℕ, ℤ, negsuc, ◌<◌, ◌≤◌, ◌+◌, ◌++◌, ◌||◌, ◌==◌, map, cond, Bool, true}
-use Rattle.step_ways.proofs.Common.{false, IsTrue, List, [], ◌∷◌, Option, Some, None, arith, refl, sym, ◌∙◌, ap, subst, All, flat_map}
-use Rattle.step_ways.proofs.Common.{eq-eqb, eqb-true, false≢true, All-nil, All-cons, Capability, Setting, IsSetting, Call, Retype, Word}
-use Rattle.step_ways.proofs.Common.{CountAt, State, frame_names, times, refs, rule_of, times_cons, counts_references, changes_frames}
-use Rattle.step_ways.proofs.Common.{frame_mark, IsInFootprint, is_one_of, frames_named, frame_at_slot, frame_argument, frames_own}
-use Rattle.step_ways.proofs.Common.{Trace, state_after, last_left, wide_ways, target_of, Acquired, Pin, thaw_of, Swept}
-use Rattle.step_ways.proofs.Common.{dues, undo, released_dues, release_of, untyping_dues, UntypingAt, Untyping, Due, Acquire, StageFits}
-use Rattle.step_ways.proofs.Common.{ActiveCall, Undecided, Core, holds_release, holds_untyping, Holding, holds_counts, settled}
-use Rattle.step_ways.proofs.Common.{settled_by, KnowsTail, KnowsUnmark, KnowsUndecided, due_of, Invariant, held_by, holds_at}
-use Rattle.step_ways.proofs.Common.{holds_in, KnowsSwept, KnowsUntyping, KnowsUntypingAt, UntypesBy, ThawsFrame, names_of, thaws_own}
-use Rattle.step_ways.proofs.Common.{limits_of, release_swept}
-use Rattle.plan_ways.specs.spk_nums.specs.declared.kinds.FrameKind.TheVariants as frame_kind
-use Rattle.plan_ways.specs.kernel_invariant.proofs.SoundRemovals.{unnamed}
+use Rattle.step_ways.proofs.{◌^◌, ◌≡◌, ◌≢◌, ◌⊎◌, ℕ, ℤ, negsuc, ◌<◌, ◌≤◌, ◌+◌, ◌++◌, ◌||◌, ◌==◌, map, cond, Bool, true, false, IsTrue, List}
+use Rattle.step_ways.proofs.{[], ◌∷◌, Option, Some, None, arith, refl, sym, ◌∙◌, ap, subst, All, flat_map, eq-eqb, eqb-true, false≢true}
+use Rattle.step_ways.proofs.{Capability, Setting, IsSetting, Call, Retype, Word, CountAt, State, frame_names, times, refs, rule_of}
+use Rattle.step_ways.proofs.{times_cons, counts_references, changes_frames, frame_mark, IsInFootprint, is_one_of, frames_named}
+use Rattle.step_ways.proofs.{frame_at_slot, frame_argument, frames_own, Trace, state_after, last_left, wide_ways, target_of, Acquired, Pin}
+use Rattle.step_ways.proofs.{thaw_of, Swept, dues, release_of, UntypingAt, Untyping, Due, Acquire, StageFits, ActiveCall, Undecided, Core}
+use Rattle.step_ways.proofs.{holds_release, holds_untyping, Holding, holds_counts, settled, settled_by, KnowsTail, KnowsUnmark}
+use Rattle.step_ways.proofs.{KnowsUndecided, due_of, Invariant, held_by, holds_at, holds_in, KnowsUntypingAt, UntypesBy, names_of}
+use Rattle.step_ways.proofs.{limits_of, Untype as untype_act, is_active, FrameKind}
+use Rattle.step_ways.specs.act_states.specs.{undo, released_dues, untyping_dues, is_drawing, untyping_undo}
+use Rattle.step_ways.specs.core_invariant.specs.{KnowsSwept, KnowsUntyping, ThawsFrame, pin_frame}
+use Rattle.count_invariant.proofs.{ActHolds.SparesAt, ActHolds.SparesSwept, MakingCounts.due_named}
+use Rattle.{step_ways.specs.kept_facts.proofs.release_swept, step_ways.specs.kept_facts.proofs.no_refs, plan_ways.proofs.one_left}
+use Rattle.{plan_ways.proofs.one_right, std.proofs.lemmas.List.Elements.All-nil, std.proofs.lemmas.List.Elements.All-cons}
+use Rattle.{step_ways.specs.core_invariant.proofs.Freezing.thaws_own, plan_ways.specs.kernel_invariant.proofs.SoundRemovals.unnamed}
+use Rattle.{plan_ways.specs.kernel_history.specs.Footprint.frames_about}
 use Rattle.plan_ways.specs.frame_words.proofs.FrameLemmas as frames
-use Rattle.plan_ways.specs.kernel_history.specs.Footprint.{frames_about}
-use Rattle.plan_ways.proofs.InFootprint.{one_left, one_right}
-use Rattle.step_ways.specs.act_states.specs.Untypings.{is_drawing, untyping_undo}
-use Rattle.step_ways.specs.act_states.specs.declared.untypings.UntypingAt.TheVariants as untype
-use Rattle.step_ways.specs.act_states.specs.declared.work.Act.TheVariants.{Untype as untype_act}
-use Rattle.step_ways.specs.core_invariant.specs.Knows.{pin_frame}
-use Rattle.step_ways.proofs.Loads.{is_active}
-use Rattle.step_ways.specs.kept_facts.proofs.Swept.{no_refs}
-use Rattle.count_invariant.proofs.ActHolds.{SparesAt, SparesSwept}
-use Rattle.count_invariant.proofs.MakingCounts.{due_named}
 
 -- The call, by its name and its frame.
 record IsUntyping (call : Call) (f : ℕ) : Type 0 where
   name : ℕ
-  call_is : call ≡ Retype name f frame_kind.Untyped
+  call_is : call ≡ Retype name f FrameKind.Untyped
 
 untyping_of : (call : Call) (ks : List Capability) (m : Untyping) → UntypesBy call ks m → IsUntyping call m.frame
-untyping_of (Retype r f frame_kind.Untyped) (range ∷ []) m is =
-    record { name = r; call_is = ap (λ (n : ℕ). Retype r n frame_kind.Untyped) (sym is.frame) }
-untyping_of (Retype r f frame_kind.Untyped) [] m is = absurd is
-untyping_of (Retype r f frame_kind.Untyped) (range ∷ k ∷ ks) m is = absurd is
+untyping_of (Retype r f FrameKind.Untyped) (range ∷ []) m is =
+    record { name = r; call_is = ap (λ (n : ℕ). Retype r n FrameKind.Untyped) (sym is.frame) }
+untyping_of (Retype r f FrameKind.Untyped) [] m is = absurd is
+untyping_of (Retype r f FrameKind.Untyped) (range ∷ k ∷ ks) m is = absurd is
 untyping_of call ks m is = absurd is
 
 -- What is one of a list occurs in it.
@@ -114,17 +107,17 @@ module _ (setup : Setting) (setting : IsSetting setup) (cores : ℕ → Core) (t
   record Drawing : Type 0 where
     word : ℕ
     swept : Swept
-    at_is : m.at ≡ untype.Draw word swept
+    at_is : m.at ≡ UntypingAt.Draw word swept
     knows_it : KnowsSwept setup t c f word swept
 
   drawing : Drawing
   drawing = by m.at refl has.knows.starts
     where
       by : (at : UntypingAt) → m.at ≡ at → is_drawing at ≡ true → Drawing
-      by untype.Load at_is starts = absurd (false≢true starts)
-      by (untype.Mark word v) at_is starts = absurd (false≢true starts)
-      by (untype.Sweep word w) at_is starts = absurd (false≢true starts)
-      by (untype.Draw word w) at_is starts =
+      by UntypingAt.Load at_is starts = absurd (false≢true starts)
+      by (UntypingAt.Mark word v) at_is starts = absurd (false≢true starts)
+      by (UntypingAt.Sweep word w) at_is starts = absurd (false≢true starts)
+      by (UntypingAt.Draw word w) at_is starts =
           record { word = word; swept = w; at_is = at_is; knows_it = subst (KnowsUntypingAt setup t c f) at_is knows.at }
 
   abbrev w : Swept

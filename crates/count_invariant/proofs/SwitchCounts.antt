@@ -1,22 +1,18 @@
 -- The counts of a call that switches, and the frames that it names.
-use Rattle.step_ways.proofs.Common.{All, flat_map, ◌≡◌, ◌+◌, ◌<◌, inl, inr, refl, ℕ, Bool, true, false, sym, ◌∙◌, [], ◌∷◌, ◌++◌, map, ap}
-use Rattle.step_ways.proofs.Common.{subst, IsTrue, ◌||◌, ◌==◌, arith, eq-eqb, All-nil, All-cons, All-head, All-tail, Setting, Capability}
-use Rattle.step_ways.proofs.Common.{Kind, Call, Switch, to_use, only, EntryAt, rule_of, counted, named_by, frame_names, IsGuarded, State}
-use Rattle.step_ways.proofs.Common.{thread_of, comp_of, only_is, core_same_refs, counts_references, changes_threads, IsInFootprint}
-use Rattle.step_ways.proofs.Common.{footprint_frames, frames_own, is_one_of, Step, Trace, Open, Out, WasAt, phase, state_after, wide_ways}
-use Rattle.step_ways.proofs.Common.{was_now, was_stays, Acquired, AtStack, First, Second, plan_for, Leads, LeadsIn, tcap_dues}
-use Rattle.step_ways.proofs.Common.{Switching, SwitchAt, LoadTable, Due, KnowsTail, HasThread, SwitchesBy, claimed_by}
-use Rattle.std.specs.Prelude.{List, pos, negsuc}
-use Rattle.plan_ways.specs.spk_nums.specs.declared.kinds.Kind.TheVariants as kind
-use Rattle.plan_ways.specs.kernel_history.specs.Footprint.{frames_about}
+use Rattle.step_ways.proofs.{All, flat_map, ◌≡◌, ◌+◌, ◌<◌, inl, inr, refl, ℕ, Bool, true, false, sym, ◌∙◌, [], ◌∷◌, ◌++◌, map, ap, subst}
+use Rattle.step_ways.proofs.{IsTrue, ◌||◌, ◌==◌, arith, eq-eqb, Setting, Capability, Kind, Call, to_use, only, EntryAt, rule_of, counted}
+use Rattle.step_ways.proofs.{named_by, frame_names, IsGuarded, State, thread_of, comp_of, only_is, core_same_refs, counts_references}
+use Rattle.step_ways.proofs.{changes_threads, IsInFootprint, footprint_frames, frames_own, is_one_of, Step, Trace, Open, Out, WasAt, phase}
+use Rattle.step_ways.proofs.{state_after, wide_ways, was_now, was_stays, Acquired, First, Second, plan_for, Leads, LeadsIn, Switching}
+use Rattle.step_ways.proofs.{SwitchAt, Due, KnowsTail, claimed_by, List, pos, negsuc, Claimed}
+use Rattle.step_ways.specs.act_states.specs.{Switch, AtStack, tcap_dues, switching_dues, switch_due_list, switching_undo}
+use Rattle.step_ways.specs.core_invariant.specs.{HasThread, SwitchesBy, KnowsIdle}
+use Rattle.plan_ways.proofs.{footprint_found, one_left}
+use Rattle.std.proofs.lemmas.List.Elements.{All-nil, All-cons, All-head, All-tail}
+use Rattle.step_ways.specs.act_states.specs.declared.switches.SwitchAt.TheVariants.{LoadTable, Claim, LoadPages, Leave, Draw}
 use Rattle.step_ways.specs.stage_thread.specs.declared.claim.Claim.TheVariants.{AtLoad, AtCompare}
-use Rattle.step_ways.specs.stage_thread.specs.declared.claim.Claimed.{Claimed}
-use Rattle.plan_ways.proofs.InFootprint.{footprint_found, one_left}
-use Rattle.step_ways.specs.act_states.specs.Switches.{switching_dues, switch_due_list, switching_undo}
-use Rattle.step_ways.specs.act_states.specs.declared.switches.SwitchAt.TheVariants.{Claim, LoadPages, Leave, Draw}
-use Rattle.step_ways.specs.core_invariant.specs.Threads.{KnowsIdle, LeavesOwn}
-use Rattle.step_ways.proofs.Refusals.{IsRefusing}
-use Rattle.count_invariant.proofs.MakingCounts.{named_kind}
+use Rattle.{plan_ways.specs.kernel_history.specs.Footprint.frames_about, step_ways.specs.core_invariant.specs.Threads.LeavesOwn}
+use Rattle.{step_ways.proofs.Refusals.IsRefusing, count_invariant.proofs.MakingCounts.named_kind}
 
 -- The call that goes on as this thread, with this temporal capability.
 pub record IsSwitch (call : Call) (ks : List Capability) (f q : ℕ) : Type 0 where
@@ -61,11 +57,11 @@ module _ (s : State) (c : ℕ) (call : Call) (ks : List Capability) (f q : ℕ) 
   leads = subst (λ x. Leads (LeadsIn s c) (plan_for x).names [] all) is.call_is
       (subst (λ x. Leads (LeadsIn s c) (plan_for call).names [] x) is.found_is lead)
 
-  pub thread_kind : is.thread.kind ≡ kind.Thread
-  thread_kind = only_is kind.Thread is.thread.kind (named_kind s c is.name (to_use (only kind.Thread)) is.thread leads.0)
+  pub thread_kind : is.thread.kind ≡ Kind.Thread
+  thread_kind = only_is Kind.Thread is.thread.kind (named_kind s c is.name (to_use (only Kind.Thread)) is.thread leads.0)
 
-  pub tcap_kind : is.tcap.kind ≡ kind.Tcap
-  tcap_kind = only_is kind.Tcap is.tcap.kind (named_kind s c is.other (to_use (only kind.Tcap)) is.tcap leads.1.0)
+  pub tcap_kind : is.tcap.kind ≡ Kind.Tcap
+  tcap_kind = only_is Kind.Tcap is.tcap.kind (named_kind s c is.other (to_use (only Kind.Tcap)) is.tcap leads.1.0)
 
   names_it : (k : Capability) (want : Kind) → named_by want k.frame ≡ k.frame ∷ [] → k.kind ≡ want → (g : ℕ) → k.frame ≡ g
       → is_one_of g (named_by k.kind k.frame) ≡ true
@@ -74,11 +70,11 @@ module _ (s : State) (c : ℕ) (call : Call) (ks : List Capability) (f q : ℕ) 
 
   pub thread_footprint : is_one_of f (footprint_frames s c call) ≡ true
   thread_footprint = ap (λ x. is_one_of f (footprint_frames s c x)) is.call_is
-      ∙ footprint_found s c whole all leads First is.thread refl f (names_it is.thread kind.Thread refl thread_kind f (sym is.thread_is))
+      ∙ footprint_found s c whole all leads First is.thread refl f (names_it is.thread Kind.Thread refl thread_kind f (sym is.thread_is))
 
   pub tcap_footprint : is_one_of q (footprint_frames s c call) ≡ true
   tcap_footprint = ap (λ x. is_one_of q (footprint_frames s c x)) is.call_is
-      ∙ footprint_found s c whole all leads Second is.tcap refl q (names_it is.tcap kind.Tcap refl tcap_kind q (sym is.tcap_is))
+      ∙ footprint_found s c whole all leads Second is.tcap refl q (names_it is.tcap Kind.Tcap refl tcap_kind q (sym is.tcap_is))
 
 -- The frame of its own thread is in its footprint, and that of its own temporal capability.
 own_footprint : (s : State) (c : ℕ) (call : Call) (f : ℕ) → is_one_of f (frames_own s c) ≡ true → is_one_of f

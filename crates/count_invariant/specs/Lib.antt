@@ -1,4 +1,7 @@
 -- What the crates above name through this one.
+pub use Rattle.step_ways.specs.quality_lists
+pub use Rattle.step_ways.specs.boot_words
+pub use Rattle.step_ways.specs.kernel_laws
 pub use Rattle.plan_ways.specs.entry_words
 pub use Rattle.plan_ways.specs.frame_words
 pub use Rattle.plan_ways.specs.tcap_words

@@ -1,19 +1,10 @@
 -- What is drawn at the end of a run is the trace that was watched.
-use Rattle.std.proofs.Common.{◌≡◌, ℕ, List, [], ◌∷◌, refl, sym, ◌∙◌, ap}
-use Rattle.spk_nums.specs.Setting.{Setting}
-use Rattle.spk_nums.specs.declared.calls.Call.{Call}
-use Rattle.spk_nums.specs.declared.steps.Item.{Item}
-use Rattle.told_run.specs.lone_kernel.specs.kernel_history.specs.Trace.{Step, Trace}
-use Rattle.told_run.specs.lone_kernel.specs.kernel_history.specs.BootWords.{shape_of}
-use Rattle.page_drawing.specs.step_views.specs.declared.views.StepMade.{StepMade}
-use Rattle.told_run.specs.Watching.{IsNext}
-use Rattle.told_run.specs.GivenWatched.{GivenWatched}
-use Rattle.page_drawing.specs.page_layers.specs.Seen.{seen, seen_made}
-use Rattle.page_drawing.specs.Pages.{Page, blank, step_taken, page_after}
-use Rattle.page_drawing.specs.Pictures.{text_of}
-use Rattle.page_drawing.proofs.Views.{seen_as_made}
-use Rattle.draw_run.specs.GivenDrawing.{GivenDrawing}
-use Rattle.draw_run.specs.Drawn.{has_drawn}
+use Rattle.told_run.specs.lone_kernel.specs.flight.proofs.{◌≡◌, ℕ, List, [], ◌∷◌, refl, sym, ◌∙◌, ap, Setting, Call, Item, Step, Trace}
+use Rattle.{told_run.specs.lone_kernel.specs.flight.proofs.shape_of, page_drawing.specs.Page, page_drawing.specs.blank}
+use Rattle.{page_drawing.specs.page_after, page_drawing.specs.page_layers.specs.seen, page_drawing.specs.page_layers.specs.seen_made}
+use Rattle.{page_drawing.specs.step_views.specs.declared.views.StepMade.StepMade, told_run.specs.Watching.IsNext}
+use Rattle.{told_run.specs.GivenWatched.GivenWatched, page_drawing.specs.Pages.step_taken, page_drawing.specs.Pictures.text_of}
+use Rattle.{page_drawing.proofs.Views.seen_as_made, draw_run.specs.GivenDrawing.GivenDrawing, draw_run.specs.Drawn.has_drawn}
 
 -- one step more is drawn
 pub draws_next : (p p' : Page) (made : StepMade) → p' ≡ step_taken p (seen_made made)

@@ -1,8 +1,6 @@
 -- What is drawn of a trace by one who watches it.
-use Rattle.std.specs.Prelude.{◌≡◌, ℕ}
-use Rattle.spk_nums.specs.Setting.{Setting}
-use Rattle.told_run.specs.lone_kernel.specs.kernel_history.specs.Trace.{Trace}
-use Rattle.page_drawing.specs.Pages.{Page, blank, page_after}
+use Rattle.told_run.specs.lone_kernel.specs.core_invariant.specs.{◌≡◌, ℕ, Setting, Trace}
+use Rattle.page_drawing.specs.{Page, blank, page_after}
 
 -- After a blank page, the page that is asked for of the trace.
 abbrev pub has_drawn : Setting → Page → Trace → Page → Type 0

@@ -1,13 +1,7 @@
 -- The theorem on the picture of given steps.
-use Rattle.std.specs.Prelude.{◌≡◌, ℕ, List}
-use Rattle.spk_nums.specs.Setting.{Setting}
-use Rattle.spk_nums.specs.declared.calls.Call.{Call}
-use Rattle.spk_nums.specs.declared.steps.Item.{Item}
-use Rattle.told_run.specs.lone_kernel.specs.kernel_history.specs.Trace.{Trace}
-use Rattle.told_run.specs.lone_kernel.specs.kernel_history.specs.Order.{HasCalls, Follows}
-use Rattle.told_run.specs.lone_kernel.specs.flight.specs.Made.{ready_after}
-use Rattle.told_run.specs.lone_kernel.specs.flight_laws.specs.Histories.{IsHistory}
-use Rattle.page_drawing.specs.Pictures.{picture}
+use Rattle.told_run.specs.lone_kernel.specs.core_invariant.specs.{◌≡◌, ℕ, List, Setting, Call, Item, Trace, HasCalls, Follows}
+use Rattle.{told_run.specs.lone_kernel.specs.flight.specs.Made.ready_after}
+use Rattle.{told_run.specs.lone_kernel.specs.flight_laws.specs.Histories.IsHistory, page_drawing.specs.Pictures.picture}
 
 -- There is one trace that is a history of the machine, has the calls of the lists once and in order, follows the order, and of which
 -- this text is the picture of this page.

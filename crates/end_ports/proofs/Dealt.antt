@@ -1,7 +1,7 @@
 -- Seats at the endpoints that are dealt from the first on.
 use Rattle.std.proofs.Common.{◌≡◌, ℕ, suc, ◌+◌, ◌<◌, List, [], ◌∷◌, length, slice_get, get_or, Some, sym, ap, ◌∙◌, subst, arith, remove}
-use Rattle.async_ends.specs.Tables.{EndTableValue, EndSeatValue, AreAllSeats, AreFresh}
-use Rattle.end_ports.specs.Ports.{HasEnds, IsFreshEnd}
+use Rattle.async_ends.specs.{EndTableValue, EndSeatValue, AreAllSeats}
+use Rattle.{async_ends.specs.Tables.AreFresh, end_ports.specs.Ports.HasEnds, end_ports.specs.Ports.IsFreshEnd}
 
 -- all seats of a new table
 pub all_ends : (of table : EndTableValue) (cores dealt : ℕ) (seats here : List EndSeatValue) → of ≡ table → dealt ≡ 0 → table.frames ≡ 512

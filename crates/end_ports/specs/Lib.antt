@@ -4,3 +4,5 @@ pub use Rattle.async_ends
 pub use Rattle.ends_runners
 -- Its own.
 pub mod Ports
+-- The names that are used most outside of this library.
+pub use Rattle.end_ports.specs.Ports.{EndPortValue, EndSeatsValue}

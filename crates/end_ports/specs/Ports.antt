@@ -1,14 +1,10 @@
 -- A port with its seat at the endpoints, and the machine that deals it.
-use Rattle.std.specs.Prelude.{◌≡◌, ℕ, ◌+◌, List, [], length, slice_get, Some}
-use Rattle.spk_nums.specs.declared.replies.Reply.{Reply}
-use Rattle.core_machine.specs.core_kernel.specs.Kernel.{CoreSeatValue}
-use Rattle.core_machine.specs.Seats.{SeatsValue, IsDealt}
-use Rattle.async_ends.specs.declared.endpoint.EndOp.{EndOp}
-use Rattle.async_ends.specs.declared.endpoint.EndReply.{EndReply}
-use Rattle.async_ends.specs.Calls.{Comes}
-use Rattle.async_ends.specs.Looks.{look}
-use Rattle.async_ends.specs.Tables.{EndTableValue, EndSeatValue}
-use Rattle.ends_runners.specs.Looks.{HasLooked}
+use Rattle.core_machine.specs.core_kernel.specs.flight_laws.specs.core_invariant.specs.{◌≡◌, ℕ, ◌+◌, List, [], length, slice_get, Some}
+use Rattle.async_ends.specs.{Comes, look, EndTableValue, EndSeatValue}
+use Rattle.core_machine.specs.{SeatsValue, IsDealt}
+use Rattle.async_ends.specs.{declared.endpoint.EndOp.EndOp, declared.endpoint.EndReply.EndReply}
+use Rattle.{core_machine.specs.core_kernel.specs.flight_laws.specs.core_invariant.specs.Reply}
+use Rattle.{core_machine.specs.core_kernel.specs.Kernel.CoreSeatValue, ends_runners.specs.Looks.HasLooked}
 
 -- The port at the kernel, and the seat at the endpoints.
 pub record EndPortValue : Type 0 where

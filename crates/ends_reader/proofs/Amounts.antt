@@ -1,36 +1,26 @@
 -- No list of what is read has more calls than the bytes have words.
-use Rattle.std.proofs.Common.{◌≡◌, ℕ, ◌+◌, ◌≤◌, List, [], ◌∷◌, ◌++◌, length, take, All}
-use Rattle.std.proofs.Common.{IfOk, Result, Ok, Err, subst, arith, inl, inr}
-use Rattle.std.specs.Prelude.{slice_get}
-use Rattle.std.specs.Option.{ok_or, option_and_then}
-use Rattle.std.proofs.lemmas.Bool.{cases_Bool, cases_lt}
-use Rattle.std.proofs.lemmas.List.{get_or_past, length_push}
+use Rattle.std.proofs.Common.{◌≡◌, ℕ, ◌+◌, ◌≤◌, List, [], ◌∷◌, ◌++◌, length, take, All, IfOk, Result, Ok, Err, subst, arith, inl, inr}
+use Rattle.line_reader.proofs.{judged_is, read_is, bind_ok, then_ok, at_line_ok, few_rows, lines_keep}
+use Rattle.script_reader.specs.{Draft_of, draft_behind, meaning_of, AtMost, lists_of}
+use Rattle.line_reader.specs.{◌>>=◌, Row, rows_of, Gives, First_fault}
 use Rattle.std.proofs.lemmas.List.Elements.{All-set, All-get_or, All-weaker, All-take, All-replicate}
-use Rattle.async_ends.specs.declared.endpoint.EndOp.{EndOp}
-use Rattle.async_ends.specs.declared.asks.EndAsk.{EndAsk}
-use Rattle.script_tokens.specs.declared.scanning.Ending.{Ending}
-use Rattle.script_tokens.specs.declared.scanning.Ending.TheVariants.{Whole, Fault}
-use Rattle.script_tokens.specs.declared.scanning.ByteFault.TheVariants.{NotAscii, TooManyLines}
-use Rattle.script_tokens.specs.Words.{words_of, ending_of}
-use Rattle.line_reader.specs.declared.cause.Cause.{Cause}
-use Rattle.line_reader.specs.declared.cause.Cause.TheVariants.{S2, S7}
-use Rattle.line_reader.specs.declared.cause.ReadFault.{ReadFault}
-use Rattle.line_reader.specs.Causes.{◌>>=◌}
-use Rattle.line_reader.specs.Arguments.{end_at}
-use Rattle.line_reader.proofs.Judged.{judged_is, read_is, bind_ok, then_ok, at_line_ok}
-use Rattle.line_reader.proofs.Rows.{few_rows}
-use Rattle.line_reader.proofs.LineSteps.{lines_keep}
-use Rattle.script_reader.specs.Readings.{Row, rows_of, Draft_of, draft_behind, meaning_of, AtMost, Gives, lists_of}
-use Rattle.script_reader.specs.Readings.{First_fault}
-use Rattle.script_reader.proofs.Amounts.{few_weaker, few_behind}
-use Rattle.ends_reader.specs.declared.part.PartWord.{PartWord}
-use Rattle.ends_reader.specs.declared.part.PartWord.TheVariants.{Core, Ask}
-use Rattle.ends_reader.specs.declared.reading.EndsSection.TheVariants.{Ends, Calls}
-use Rattle.ends_reader.specs.declared.reading.EndsInput.{EndsInput}
-use Rattle.ends_reader.specs.Parts.{begins_ends, part_word, core_in, ask_in}
-use Rattle.ends_reader.specs.Inputs.{Input_draft, no_input, asks_of, with_ask, is_script, is_calls, may_end, ends_line, script_line}
-use Rattle.ends_reader.specs.Inputs.{core_line, ask_line, part_by, part_line}
-use Rattle.ends_reader.specs.Inputs.{input_behind, input_step, input_from, Input, input_in, input_at, input_of, input_view, ask_lists, FewAsks}
+use Rattle.line_reader.specs.{declared.cause.Cause.Cause, declared.cause.Cause.TheVariants.S2, declared.cause.Cause.TheVariants.S7}
+use Rattle.ends_reader.specs.{declared.part.PartWord.PartWord, declared.part.PartWord.TheVariants.Core}
+use Rattle.ends_reader.specs.{declared.part.PartWord.TheVariants.Ask, declared.reading.EndsSection.TheVariants.Ends}
+use Rattle.ends_reader.specs.{declared.reading.EndsSection.TheVariants.Calls, declared.reading.EndsInput.EndsInput, Parts.begins_ends}
+use Rattle.ends_reader.specs.{Parts.part_word, Parts.core_in, Parts.ask_in, Inputs.Input_draft, Inputs.no_input, Inputs.asks_of}
+use Rattle.ends_reader.specs.{Inputs.with_ask, Inputs.is_script, Inputs.is_calls, Inputs.may_end, Inputs.ends_line, Inputs.script_line}
+use Rattle.ends_reader.specs.{Inputs.core_line, Inputs.ask_line, Inputs.part_by, Inputs.part_line, Inputs.input_behind, Inputs.input_step}
+use Rattle.ends_reader.specs.{Inputs.input_from, Inputs.Input, Inputs.input_in, Inputs.input_at, Inputs.FewAsks}
+use Rattle.{std.proofs.Common.slice_get, std.proofs.Common.ok_or, std.proofs.Common.option_and_then, ends_reader.specs.input_of}
+use Rattle.{ends_reader.specs.input_view, ends_reader.specs.ask_lists, std.proofs.lemmas.Bool.cases_Bool, std.proofs.lemmas.Bool.cases_lt}
+use Rattle.{std.proofs.lemmas.List.get_or_past, std.proofs.lemmas.List.length_push, script_tokens.specs.words_of}
+use Rattle.{script_tokens.specs.ending_of, async_ends.specs.declared.endpoint.EndOp.EndOp, async_ends.specs.declared.asks.EndAsk.EndAsk}
+use Rattle.{script_tokens.specs.declared.scanning.Ending.Ending, script_tokens.specs.declared.scanning.Ending.TheVariants.Whole}
+use Rattle.{script_tokens.specs.declared.scanning.Ending.TheVariants.Fault}
+use Rattle.{script_tokens.specs.declared.scanning.ByteFault.TheVariants.NotAscii}
+use Rattle.{script_tokens.specs.declared.scanning.ByteFault.TheVariants.TooManyLines, line_reader.specs.declared.cause.ReadFault.ReadFault}
+use Rattle.{line_reader.specs.Arguments.end_at, script_reader.proofs.Amounts.few_weaker, script_reader.proofs.Amounts.few_behind}
 
 -- at most n calls in each list of calls and of endpoint calls
 pub record AreFew (n : ℕ) (d : Input_draft) : Type 0 where

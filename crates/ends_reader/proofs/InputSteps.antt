@@ -1,17 +1,11 @@
 -- One more call, and the end.
-use Rattle.std.proofs.Common.{◌≡◌, ℕ, zero, suc, ◌<◌, true, false, List, [], ◌∷◌, ◌++◌, length, take, get_or, Ok}
-use Rattle.std.proofs.Common.{sym, ap, ◌∙◌, refl, arith}
-use Rattle.std.specs.Prelude.{slice_set, slice_index_or}
-use Rattle.std.specs.Global.{Vec}
-use Rattle.std.proofs.lemmas.List.{map-set}
-use Rattle.async_ends.specs.declared.asks.EndAsk.{EndAsk}
-use Rattle.script_tokens.specs.declared.scanning.Ending.{Ending}
-use Rattle.script_tokens.specs.declared.scanning.Ending.TheVariants.{Whole}
-use Rattle.line_reader.specs.Lines.{and_then, whole_lines}
-use Rattle.line_reader.proofs.Judged.{read_is}
-use Rattle.script_reader.specs.Heads.{is_whole}
-use Rattle.script_reader.specs.Readings.{Meaning, meaning_of, meaning_at}
+use Rattle.std.proofs.Common.{◌≡◌, ℕ, zero, suc, ◌<◌, true, false, List, [], ◌∷◌, ◌++◌, length, take, get_or, Ok, sym, ap, ◌∙◌, refl, arith}
+use Rattle.script_reader.specs.{is_whole, Meaning, meaning_of, meaning_at}
 use Rattle.ends_reader.specs.Inputs.{Input_draft, ask_lists, asks_of, with_ask, is_script, input_in, input_at}
+use Rattle.{std.proofs.Common.slice_set, std.proofs.Common.slice_index_or, std.specs.Global.Vec, std.proofs.lemmas.List.map-set}
+use Rattle.{async_ends.specs.declared.asks.EndAsk.EndAsk, script_tokens.specs.declared.scanning.Ending.Ending}
+use Rattle.{script_tokens.specs.declared.scanning.Ending.TheVariants.Whole, line_reader.specs.Lines.and_then}
+use Rattle.{line_reader.specs.Lines.whole_lines, line_reader.proofs.Judged.read_is}
 
 get_or_lists : (asks : List (Vec EndAsk)) (i : ℕ) (d : Vec EndAsk) → i < length asks
     → slice_index_or (ask_lists asks) i [] ≡ (get_or asks i d).items

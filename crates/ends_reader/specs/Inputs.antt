@@ -1,27 +1,17 @@
 -- A script and the endpoint calls after it, as a whole: the lines of the bytes, one after another, and the end.
 use Rattle.std.specs.Prelude.{◌≡◌, ◌≤◌, ℕ, List, [], ◌∷◌, ◌++◌, Bool, true, false, Result, Ok, Err, map, take, length, slice_set, slice_get}
-use Rattle.std.specs.Prelude.{slice_index_or, ◌+◌, replicate, if◌then◌else◌}
-use Rattle.std.specs.Global.{Vec}
-use Rattle.std.specs.Option.{ok_or, option_and_then}
-use Rattle.async_ends.specs.declared.endpoint.EndOp.{EndOp}
-use Rattle.async_ends.specs.declared.asks.EndAsk.{EndAsk}
-use Rattle.script_tokens.specs.declared.scanning.Ending.{Ending}
-use Rattle.script_tokens.specs.Words.{words_of, ending_of}
-use Rattle.line_reader.specs.declared.cause.Cause.{Cause}
-use Rattle.line_reader.specs.declared.cause.Cause.TheVariants.{S2, S7}
-use Rattle.line_reader.specs.Causes.{◌>>=◌}
-use Rattle.line_reader.specs.Arguments.{end_at}
-use Rattle.line_reader.specs.Lines.{Row, rows_of, First_fault, at_line, and_then, Step, lines_from, whole_lines}
-use Rattle.script_reader.specs.Heads.{is_whole}
-use Rattle.script_reader.specs.Readings.{Draft_of, no_draft, draft_behind, Meaning, meaning_of}
-use Rattle.script_reader.specs.Readings.{IsDraft, IsScript, draft_view, script_view}
-use Rattle.ends_reader.specs.declared.part.PartWord.{PartWord}
-use Rattle.ends_reader.specs.declared.part.PartWord.TheVariants.{Core, Ask}
-use Rattle.ends_reader.specs.declared.reading.EndsSection.{EndsSection}
-use Rattle.ends_reader.specs.declared.reading.EndsSection.TheVariants.{Script, Ends, Calls}
-use Rattle.ends_reader.specs.declared.reading.InputDraft.{InputDraft}
-use Rattle.ends_reader.specs.declared.reading.EndsInput.{EndsInput}
-use Rattle.ends_reader.specs.Parts.{begins_ends, part_word, core_in, ask_in}
+use Rattle.std.specs.Prelude.{slice_index_or, ◌+◌, replicate, if◌then◌else◌, ok_or, option_and_then}
+use Rattle.script_reader.specs.{is_whole, Draft_of, no_draft, draft_behind, Meaning, meaning_of, IsDraft, IsScript, draft_view, script_view}
+use Rattle.line_reader.specs.{◌>>=◌, Row, rows_of, First_fault, at_line, and_then, Step, lines_from}
+use Rattle.line_reader.specs.{declared.cause.Cause.Cause, declared.cause.Cause.TheVariants.S2, declared.cause.Cause.TheVariants.S7}
+use Rattle.ends_reader.specs.{declared.part.PartWord.PartWord, declared.part.PartWord.TheVariants.Core}
+use Rattle.ends_reader.specs.{declared.part.PartWord.TheVariants.Ask, declared.reading.EndsSection.EndsSection}
+use Rattle.ends_reader.specs.{declared.reading.EndsSection.TheVariants.Script, declared.reading.EndsSection.TheVariants.Ends}
+use Rattle.ends_reader.specs.{declared.reading.EndsSection.TheVariants.Calls, declared.reading.InputDraft.InputDraft}
+use Rattle.ends_reader.specs.{declared.reading.EndsInput.EndsInput, Parts.begins_ends, Parts.part_word, Parts.core_in, Parts.ask_in}
+use Rattle.{script_tokens.specs.words_of, script_tokens.specs.ending_of, std.specs.Global.Vec}
+use Rattle.{async_ends.specs.declared.endpoint.EndOp.EndOp, async_ends.specs.declared.asks.EndAsk.EndAsk}
+use Rattle.{script_tokens.specs.declared.scanning.Ending.Ending, line_reader.specs.Arguments.end_at, line_reader.specs.Lines.whole_lines}
 
 -- ---- lines
 

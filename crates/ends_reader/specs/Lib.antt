@@ -1,2 +1,5 @@
 pub mod Parts
 pub mod Inputs
+-- The names that are used most outside of this library.
+pub use Rattle.ends_reader.specs.Inputs.{ask_lists, input_view}
+unfoldable pub use Rattle.ends_reader.specs.Inputs.{input_of}

@@ -1,11 +1,9 @@
 -- The line `ends`, and the lines after it.
 use Rattle.std.specs.Prelude.{ℕ, List, Bool, false, Option, Some, None, Result, Ok, slice_get, codes, if◌then◌else◌}
-use Rattle.async_ends.specs.declared.endpoint.EndOp.{EndOp}
-use Rattle.async_ends.specs.declared.endpoint.EndOp.TheVariants.{Send, Recv}
-use Rattle.async_ends.specs.declared.asks.EndAsk.{EndAsk}
-use Rattle.line_reader.specs.declared.cause.Cause.{Cause}
-use Rattle.line_reader.specs.Causes.{◌>>=◌}
-use Rattle.line_reader.specs.Arguments.{is_word, name_at, core_at, end_at}
+use Rattle.line_reader.specs.{◌>>=◌, name_at, core_at}
+use Rattle.async_ends.specs.{declared.endpoint.EndOp.EndOp, declared.endpoint.EndOp.TheVariants.Send}
+use Rattle.async_ends.specs.{declared.endpoint.EndOp.TheVariants.Recv, declared.asks.EndAsk.EndAsk}
+use Rattle.line_reader.specs.{declared.cause.Cause.Cause, Arguments.is_word, Arguments.end_at}
 use Rattle.ends_reader.specs.declared.part.PartWord.{PartWord}
 use Rattle.ends_reader.specs.declared.part.PartWord.TheVariants.{Core, Ask}
 

@@ -1,51 +1,28 @@
 -- The lists are made in a trace that all seats have seen, and the looks of the endpoint calls come after it.
-use Rattle.std.proofs.Common.{◌≡◌, ◌⊎◌, inl, inr, ℕ, suc, ◌+◌, ◌<◌, ◌≤◌, ◌^◌, Bool, false, List, [], ◌∷◌, ◌++◌, All}
-use Rattle.std.proofs.Common.{length, take, get_or, map, Option, Some, refl, sym, ◌∙◌, ap, subst, arith, append-nil, append_assoc}
-use Rattle.std.specs.Prelude.{slice_get, slice_index, slice_index_or}
-use Rattle.std.specs.List.{AllZip, flat_map}
-use Rattle.std.specs.Option.{option_map}
-use Rattle.std.proofs.lemmas.Bool.{cases_lt}
-use Rattle.std.proofs.lemmas.List.{length-map, take_all, get_or_past, get_or_default, append_cancel_right}
+use Rattle.core_runs.specs.core_kernel.specs.flight_laws.specs.flight.specs.step_ways.proofs as low
+use low.{◌≡◌, ◌⊎◌, inl, inr, ℕ, suc, ◌+◌, ◌<◌, ◌≤◌, ◌^◌, Bool, false, List, [], ◌∷◌, ◌++◌, All, length, take, get_or, map, Option, Some}
+use low.{refl, sym, ◌∙◌, ap, subst, arith, append-nil, append_assoc, slice_get, slice_index, get_or as slice_index_or, flat_map, option_map}
+use low.{length-map, take_all, get_or_past, Call, Reply, Setting, IsLegal, Trace, Out, phase, calls_of, phase-other, CoreEnd}
+use Rattle.ends_runners.specs.{AreOf, HaveMet, look_call, asks_of, EndRunnerValue, AwaitsEnds, MakesAsks, sends_by, IsReady}
+use Rattle.core_runs.specs.core_kernel.specs.{replies_of, AreOfOthers, KernelValue, CoreSeatValue, AreAllSeats, AreFresh, HasSeen}
+use Rattle.core_runs.specs.core_kernel.specs.{ExtendsByOthers, EndsAt}
+use Rattle.async_ends.specs.{Event, events_by, sent_to, taken_at, history_of, EndTableValue, EndSeatValue, AreStepsOfAll}
+use Rattle.core_runs.specs.{RunnerValue, MakesCalls, decided}
+use Rattle.core_runs.specs.core_kernel.proofs.{at_of, calls_of-append, replies_of-append}
+use Rattle.std.proofs.lemmas.List.{get_or_default, append_cancel_right}
 use Rattle.std.proofs.lemmas.List.Elements.{length_all_zip, AllZip-get_or, All-get_or}
 use Rattle.std.proofs.lemmas.Option.{slice_get-map, slice_get_within, get_or_from_slice_get}
-use Rattle.spk_nums.specs.declared.calls.Call.{Call}
-use Rattle.spk_nums.specs.declared.replies.Reply.{Reply}
-use Rattle.spk_nums.specs.Setting.{Setting}
-use Rattle.core_runs.specs.core_kernel.specs.kernel_history.specs.Legal.{IsLegal}
-use Rattle.core_runs.specs.core_kernel.specs.kernel_history.specs.Trace.{Trace, Out, phase, calls_of}
-use Rattle.core_runs.specs.core_kernel.specs.kernel_history.proofs.Steps.{phase-other}
-use Rattle.core_runs.specs.core_kernel.specs.flight_laws.specs.Histories.{IsHistory}
-use Rattle.core_runs.specs.core_kernel.specs.Replies.{replies_of, AreOfOthers}
-use Rattle.core_runs.specs.core_kernel.specs.Kernel.{KernelValue, CoreSeatValue, AreAllSeats, AreFresh}
-use Rattle.spk_nums.specs.declared.translations.CoreEnd.{CoreEnd}
-use Rattle.core_runs.specs.core_kernel.specs.Calls.{HasSeen, ExtendsByOthers, EndsAt}
-use Rattle.core_runs.specs.Runs.{RunnerValue, MakesCalls}
-use Rattle.core_runs.specs.Whole.{decided, AreRunners}
-use Rattle.core_runs.specs.core_kernel.proofs.Closing.{at_of, mapped}
-use Rattle.core_runs.specs.core_kernel.proofs.Lists.{calls_of-append, calls_of-others, calls_of-past}
-use Rattle.core_runs.specs.core_kernel.proofs.Lists.{replies_of-append, replies_of-others, replies_of-other}
+use Rattle.core_runs.specs.core_kernel.proofs.Lists.{calls_of-others, calls_of-past, replies_of-others, replies_of-other}
 use Rattle.core_runs.proofs.Wholes.{all_back, lane, has_calls, all_decisions}
-use Rattle.ends_runners.specs.Meets.{AreOf, HaveMet}
-use Rattle.async_ends.specs.declared.asks.EndAsk.{EndAsk}
-use Rattle.async_ends.specs.declared.asks.EndDone.{EndDone}
-use Rattle.async_ends.specs.Events.{Event, events_by, sent_to, taken_at}
-use Rattle.async_ends.specs.Events as tables_by
-use Rattle.async_ends.specs.Seen.{history_of}
-use Rattle.async_ends.specs.Tables as tables
-use Rattle.async_ends.specs.Tables.{EndTableValue, EndSeatValue}
-use Rattle.async_ends.specs.Asked.{AreStepsOfAll}
+use Rattle.async_ends.specs.{declared.asks.EndAsk.EndAsk, declared.asks.EndDone.EndDone}
 use Rattle.async_ends.proofs.Asked.{events_kept, events_none, no_steps, sent_by_cores}
-use Rattle.ends_run.specs.declared.whole.Listed.{Listed}
-use Rattle.ends_run.specs.declared.whole.EndsRan.{EndsRan}
-use Rattle.ends_runners.specs.Runs.{look_call}
-use Rattle.ends_runners.specs.Runners.{asks_of}
-use Rattle.ends_run.specs.Ends.{EndsHistory, MakesAsked}
-use Rattle.ends_runners.specs.Runs.{EndRunnerValue, AwaitsEnds, MakesAsks}
-use Rattle.ends_runners.specs.Tallies.{sends_by}
-use Rattle.ends_runners.specs.Runners.{IsReady, AreEndRunners}
-use Rattle.ends_run.specs.Whole.{AreListed, AreEnded}
-use Rattle.ends_runners.proofs.Runs.{FewOf}
-use Rattle.ends_runners.proofs.Sends.{among_events, by_cores}
+use Rattle.ends_runners.proofs.{Runs.FewOf, Sends.among_events, Sends.by_cores}
+use Rattle.ends_run.specs.{declared.whole.Listed.Listed, declared.whole.EndsRan.EndsRan, Ends.EndsHistory, Ends.MakesAsked, Whole.AreListed}
+use Rattle.{std.specs.List.AllZip, std.proofs.lemmas.Bool.cases_lt, core_runs.specs.core_kernel.specs.flight_laws.specs.Histories.IsHistory}
+use Rattle.{core_runs.specs.Whole.AreRunners, core_runs.specs.core_kernel.proofs.Closing.mapped, ends_runners.specs.Runners.AreEndRunners}
+use Rattle.{ends_run.specs.Whole.AreEnded}
+use Rattle.async_ends.specs.Events as tables_by
+use Rattle.async_ends.specs.Tables as tables
 
 the_same : {A : Type 0} (x y : A) (o : Option A) → o ≡ Some x → o ≡ Some y → x ≡ y
 the_same x y o i j = cc

@@ -1,17 +1,10 @@
 -- Lists of calls, and the endpoint calls that are made after them.
-use Rattle.std.specs.Prelude.{◌≡◌, ℕ, ◌+◌, List, ◌++◌, map}
-use Rattle.spk_nums.specs.declared.calls.Call.{Call}
-use Rattle.spk_nums.specs.Setting.{Setting}
-use Rattle.core_runs.specs.core_kernel.specs.kernel_history.specs.Order.{HasCalls}
-use Rattle.core_runs.specs.core_kernel.specs.kernel_history.specs.Trace.{Trace, Out, phase, calls_of}
-use Rattle.core_runs.specs.core_kernel.specs.flight_laws.specs.Histories.{IsHistory}
-use Rattle.core_runs.specs.core_kernel.specs.Replies.{replies_of}
-use Rattle.async_ends.specs.declared.asks.EndAsk.{EndAsk}
-use Rattle.async_ends.specs.declared.asks.EndDone.{EndDone}
-use Rattle.async_ends.specs.Events.{Event, IsLegal, AreCrossed, events_by, sent_to, taken_at, untaken}
-use Rattle.async_ends.specs.Asked.{AreStepsOfAll}
-use Rattle.ends_runners.specs.Runs.{look_call}
-use Rattle.ends_runners.specs.Runners.{asks_of}
+use Rattle.core_runs.specs.core_kernel.specs.flight_laws.specs.core_invariant.specs.{◌≡◌, ℕ, ◌+◌, List, ◌++◌, map, Call, Setting, HasCalls}
+use Rattle.core_runs.specs.core_kernel.specs.flight_laws.specs.core_invariant.specs.{Trace, Out, phase, calls_of}
+use Rattle.async_ends.specs.{Event, IsLegal, events_by, sent_to, taken_at, untaken, AreStepsOfAll}
+use Rattle.ends_runners.specs.{look_call, asks_of}
+use Rattle.async_ends.specs.{declared.asks.EndAsk.EndAsk, declared.asks.EndDone.EndDone, Events.AreCrossed}
+use Rattle.{core_runs.specs.core_kernel.specs.flight_laws.specs.Histories.IsHistory, core_runs.specs.core_kernel.specs.Replies.replies_of}
 
 -- Core c's endpoint calls: one look for each, in order, in the trace that follows the lists; and in the endpoint history their events,
 -- in order, none of a call that was refused. They are at the frame to which the call's own look led, and the first of them has that look:

@@ -1,19 +1,11 @@
 -- Lists of calls and endpoint calls, made by threads.
-use Rattle.std.specs.Prelude.{◌≡◌, ℕ, ◌<◌, ◌^◌, List, [], length, map, slice_get, slice_index, slice_index_or, Some}
-use Rattle.spk_nums.specs.declared.calls.Call.{Call}
-use Rattle.spk_nums.specs.Setting.{Setting}
-use Rattle.core_runs.specs.core_kernel.specs.kernel_history.specs.Order.{HasCalls}
-use Rattle.core_runs.specs.core_kernel.specs.kernel_history.specs.Trace.{Trace}
-use Rattle.core_runs.specs.core_kernel.specs.flight_laws.specs.Histories.{IsHistory}
-use Rattle.core_runs.specs.core_kernel.specs.Kernel.{CoreSeatValue, AreAllSeats}
-use Rattle.core_runs.specs.core_kernel.specs.Calls.{HasSeen, ExtendsByOthers}
-use Rattle.core_runs.specs.Whole.{decisions_below}
-use Rattle.async_ends.specs.declared.asks.EndAsk.{EndAsk}
-use Rattle.async_ends.specs.Events.{sent_to, untaken}
-use Rattle.ends_run.specs.declared.whole.EndsRan.{EndsRan}
-use Rattle.ends_run.specs.declared.whole.Listed.{Listed}
+use Rattle.core_runs.specs.core_kernel.specs.flight_laws.specs.core_invariant.specs as low
+use low.{◌≡◌, ℕ, ◌<◌, ◌^◌, List, [], length, map, slice_get, slice_index, get_or as slice_index_or, Some, Call, Setting, HasCalls, Trace}
+use Rattle.core_runs.specs.core_kernel.specs.{CoreSeatValue, AreAllSeats, HasSeen, ExtendsByOthers}
+use Rattle.ends_run.specs.{declared.whole.EndsRan.EndsRan, declared.whole.Listed.Listed, Ends.EndsHistory}
+use Rattle.{async_ends.specs.sent_to, async_ends.specs.untaken, core_runs.specs.core_kernel.specs.flight_laws.specs.Histories.IsHistory}
+use Rattle.{core_runs.specs.Whole.decisions_below, async_ends.specs.declared.asks.EndAsk.EndAsk}
 pub use Rattle.ends_runners.specs.Runners.{FewCalls, FewAsks}
-use Rattle.ends_run.specs.Ends.{EndsHistory}
 
 -- The lists are made: there is one trace that has their calls, once and in order, and all have returned. Each seat of the kernel has
 -- seen it, with steps of other cores alone after it. The decisions are its own.

@@ -1,16 +1,10 @@
 -- A look more of a core is one more of its looks.
-use Rattle.std.proofs.Common.{◌≡◌, ℕ, List, [], ◌∷◌, ◌++◌, length, refl, sym, ◌∙◌, ap, subst, arith, append_assoc}
-use Rattle.spk_nums.specs.declared.calls.Call.{Call}
-use Rattle.spk_nums.specs.declared.calls.Call.TheVariants.{Look as look_of}
-use Rattle.spk_nums.specs.declared.replies.Reply.{Reply}
-use Rattle.core_kernel.specs.kernel_history.specs.Trace.{calls_of}
-use Rattle.core_kernel.specs.Replies.{replies_of}
-use Rattle.core_kernel.specs.Kernel.{CoreSeatValue}
-use Rattle.core_kernel.specs.Calls.{HasSeen, MakesCall}
-use Rattle.core_kernel.proofs.Balance.{balanced, AreBalanced}
-use Rattle.core_kernel.proofs.Lists.{calls_of-append, replies_of-append}
-use Rattle.async_ends.specs.Looks.{look}
+use Rattle.core_kernel.specs.kernel_history.proofs.{◌≡◌, ℕ, List, [], ◌∷◌, ◌++◌, length, refl, sym, ◌∙◌, ap, subst, arith, append_assoc}
+use Rattle.core_kernel.specs.kernel_history.proofs.{Call, Look as look_of, Reply, calls_of}
+use Rattle.core_kernel.specs.{replies_of, CoreSeatValue, HasSeen, MakesCall}
 use Rattle.ends_runners.specs.Looks.{look_if, looks_among, looks_in}
+use Rattle.{core_kernel.proofs.calls_of-append, core_kernel.proofs.replies_of-append, core_kernel.proofs.Balance.balanced}
+use Rattle.{core_kernel.proofs.Balance.AreBalanced, async_ends.specs.Looks.look}
 
 among_more : (cs : List Call) (rs : List Reply) (n : ℕ) (r : Reply) → length cs ≡ length rs
     → looks_among (cs ++ look_of n ∷ []) (rs ++ r ∷ []) ≡ looks_among cs rs ++ look n r ∷ []

@@ -1,30 +1,16 @@
 -- A runner's endpoint calls, one after another.
-use Rattle.std.proofs.Common.{◌≡◌, ℕ, suc, ◌+◌, ◌<◌, ◌≤◌, ◌^◌, Bool, true, false, List, [], ◌∷◌, ◌++◌, All, map}
-use Rattle.std.proofs.Common.{length, take, get_or, refl, sym, ◌∙◌, ap, subst, arith, append_assoc, append-nil}
-use Rattle.std.specs.Prelude.{IsTrue}
-use Rattle.std.specs.List.{AllZip}
-use Rattle.std.proofs.lemmas.List.{length-append, take_more, map-append}
+use Rattle.core_kernel.specs.flight_laws.specs.flight.proofs.{◌≡◌, ℕ, suc, ◌+◌, ◌<◌, ◌≤◌, ◌^◌, Bool, true, false, List, [], ◌∷◌, ◌++◌, All}
+use Rattle.core_kernel.specs.flight_laws.specs.flight.proofs.{map, length, take, get_or, refl, sym, ◌∙◌, ap, subst, arith, append_assoc}
+use Rattle.core_kernel.specs.flight_laws.specs.flight.proofs.{append-nil, IsTrue, length-append, take_more, Trace, calls_of}
+use Rattle.async_ends.specs.{Event, events_by, history_of, look, EndTableValue, EndSeatValue, AreStepsOf, AreStepsOfAll}
+use Rattle.ends_runners.specs.{look_call, asks_of, EndRunnerValue, AwaitsEnds, MakesAsks}
+use Rattle.core_kernel.specs.{replies_of, CoreSeatValue, MakesCall}
+use Rattle.core_kernel.proofs.{calls_of-append, replies_of-append, at_of}
 use Rattle.std.proofs.lemmas.List.Elements.{All-get_or, AllZip-get_or, length_all_zip}
-use Rattle.core_kernel.specs.kernel_history.specs.Trace.{Trace, calls_of}
-use Rattle.core_kernel.specs.Replies.{replies_of}
-use Rattle.core_kernel.specs.Kernel.{CoreSeatValue}
-use Rattle.core_kernel.specs.Calls.{MakesCall}
-use Rattle.core_kernel.proofs.Lists.{calls_of-append, replies_of-append}
-use Rattle.core_kernel.proofs.Closing.{at_of}
-use Rattle.async_ends.specs.declared.asks.EndAsk.{EndAsk}
-use Rattle.async_ends.specs.declared.asks.EndDone.{EndDone}
-use Rattle.async_ends.specs.Events.{Event, events_by}
-use Rattle.async_ends.specs.Seen.{history_of}
-use Rattle.async_ends.specs.declared.asks.Look.{Look}
-use Rattle.async_ends.specs.Looks.{look}
-use Rattle.async_ends.specs.Tables.{EndTableValue, EndSeatValue}
-use Rattle.async_ends.specs.Asked.{AreStepsOf, AreStepsOfAll, MakesDone}
+use Rattle.async_ends.specs.{declared.asks.EndAsk.EndAsk, declared.asks.EndDone.EndDone, declared.asks.Look.Look, Asked.MakesDone}
 use Rattle.async_ends.proofs.Asked.{no_steps, one_more, done_steps}
-use Rattle.ends_runners.specs.Looks.{HasLooked}
-use Rattle.ends_runners.specs.Runs.{look_call}
-use Rattle.ends_runners.specs.Runners.{asks_of}
-use Rattle.ends_runners.specs.Runs.{EndRunnerValue, AwaitsEnds, HasDone, MakesAsks}
-use Rattle.ends_runners.specs.Runners.{AreEndRunners}
+use Rattle.ends_runners.specs.{Looks.HasLooked, Runs.HasDone, Runners.AreEndRunners}
+use Rattle.{std.specs.List.AllZip, std.proofs.lemmas.List.map-append}
 
 -- lists of one length that are so related at each place
 pub all_zip_from : {A : Type 0} (R : A → A → Type 0) (xs ys : List A) → length ys ≡ length xs

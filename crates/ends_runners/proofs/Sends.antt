@@ -1,25 +1,17 @@
 -- The sends of calls, of runners, and of a history.
-use Rattle.std.proofs.Common.{◌≡◌, inl, inr, Bool, true, false, ◌==◌, ℕ, zero, suc, ◌+◌, ◌*◌, ◌<◌, ◌≤◌, ◌^◌, List, [], ◌∷◌, ◌++◌, length}
-use Rattle.std.proofs.Common.{take, replicate, get_or, Result, Ok, Err, All, if◌then◌else◌, eq-eqb, ne_eqb}
-use Rattle.std.proofs.Common.{refl, sym, ◌∙◌, ap, subst, arith}
-use Rattle.std.specs.Prelude.{slice_get, slice_index, Some}
-use Rattle.std.specs.List.{AllZip, flat_map}
-use Rattle.std.proofs.lemmas.Bool.{cases_eq}
-use Rattle.std.proofs.lemmas.List.{take_more, length-take-le, get_or-take}
-use Rattle.std.proofs.lemmas.List.Concat.{flat_map-cons}
-use Rattle.std.proofs.lemmas.Option.{get_or_from_slice_get}
-use Rattle.spk_nums.specs.declared.replies.Reply.{Reply}
-use Rattle.async_ends.specs.declared.endpoint.EndOp.{EndOp}
-use Rattle.async_ends.specs.declared.endpoint.EndReply.{EndReply}
-use Rattle.async_ends.specs.declared.endpoint.EndReply.TheVariants.{Sent, Taken, Raced, Refused}
-use Rattle.async_ends.specs.declared.asks.Look.{Look}
-use Rattle.async_ends.specs.declared.asks.EndDone.{EndDone}
-use Rattle.async_ends.specs.Events.{Loaded, Took, Event, event, sent_to}
-use Rattle.async_ends.specs.Looks.{reached}
-use Rattle.async_ends.specs.Asked.{AreStepsBy, AreStepsOf, AreStepsOfAll, look_in}
-use Rattle.async_ends.proofs.Asked.{sent_append, sum_below}
-use Rattle.ends_runners.specs.Runs.{EndRunnerValue}
-use Rattle.ends_runners.specs.Tallies.{sends_at, sends_of, sends_among, sends_by}
+use Rattle.core_kernel.specs.kernel_rules.proofs.{◌≡◌, inl, inr, Bool, true, false, ◌==◌, ℕ, zero, suc, ◌+◌, ◌*◌, ◌<◌, ◌≤◌, ◌^◌, List, []}
+use Rattle.core_kernel.specs.kernel_rules.proofs.{◌∷◌, ◌++◌, length, take, replicate, get_or, Result, Ok, Err, All, if◌then◌else◌, eq-eqb}
+use Rattle.core_kernel.specs.kernel_rules.proofs.{ne_eqb, refl, sym, ◌∙◌, ap, subst, arith, slice_get, slice_index, Some, flat_map}
+use Rattle.core_kernel.specs.kernel_rules.proofs.{take_more, length-take-le, Reply}
+use Rattle.async_ends.specs.{Loaded, Took, Event, event, sent_to, reached, AreStepsOf, AreStepsOfAll}
+use Rattle.ends_runners.specs.{EndRunnerValue, sends_among, sends_by}
+use Rattle.std.proofs.{lemmas.Bool.cases_eq, lemmas.List.get_or-take, lemmas.List.Concat.flat_map-cons, lemmas.Option.get_or_from_slice_get}
+use Rattle.async_ends.specs.{declared.endpoint.EndOp.EndOp, declared.endpoint.EndReply.EndReply}
+use Rattle.async_ends.specs.{declared.endpoint.EndReply.TheVariants.Sent, declared.endpoint.EndReply.TheVariants.Taken}
+use Rattle.async_ends.specs.{declared.endpoint.EndReply.TheVariants.Raced, declared.endpoint.EndReply.TheVariants.Refused}
+use Rattle.async_ends.specs.{declared.asks.Look.Look, declared.asks.EndDone.EndDone, Asked.AreStepsBy, Asked.look_in}
+use Rattle.{std.specs.List.AllZip, async_ends.proofs.Asked.sent_append, async_ends.proofs.Asked.sum_below}
+use Rattle.{ends_runners.specs.Tallies.sends_at, ends_runners.specs.Tallies.sends_of}
 
 zero_either : (b : Bool) → ◌≡◌ {A = ℕ} (if b then 0 else 0) 0
 zero_either true = refl

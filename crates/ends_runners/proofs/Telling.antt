@@ -1,17 +1,12 @@
 -- Seats that have told each other have all seen one trace, in which none of them has made a step since it met.
-use Rattle.std.proofs.Common.{◌≡◌, ◌≢◌, inl, inr, ℕ, zero, suc, ◌+◌, ◌<◌, List, [], ◌∷◌, ◌++◌, length, get_or, All}
-use Rattle.std.proofs.Common.{Option, Some, refl, sym, ◌∙◌, ap, subst, arith, append_assoc}
-use Rattle.std.specs.Prelude.{slice_get, slice_set}
-use Rattle.std.proofs.lemmas.Bool.{cases_eq}
-use Rattle.std.proofs.lemmas.List.{append_cancel_right, length-set, get_or-set_same, set-get_or}
-use Rattle.std.proofs.lemmas.List.Elements.{All-nil, All-cons, All-append}
-use Rattle.std.proofs.lemmas.Option.{slice_get_read}
-use Rattle.core_kernel.specs.kernel_history.specs.Trace.{Trace}
-use Rattle.core_kernel.specs.Replies.{AreOfOthers}
-use Rattle.core_kernel.specs.Kernel.{KernelValue, CoreSeatValue, CoreNoteValue}
-use Rattle.core_kernel.specs.Calls.{HasSeen, Extends, ExtendsByOthers, Meets}
-use Rattle.core_kernel.proofs.Closing.{at_of}
-use Rattle.ends_runners.specs.Meets.{AreOf, GoesOn, Tells, HasGathered, IsTold, HasSpread, HasMet, HaveMet}
+use Rattle.std.proofs.Common.{◌≡◌, ◌≢◌, inl, inr, ℕ, zero, suc, ◌+◌, ◌<◌, List, [], ◌∷◌, ◌++◌, length, get_or, All, Option, Some, refl, sym}
+use Rattle.std.proofs.Common.{◌∙◌, ap, subst, arith, append_assoc, slice_get, slice_set, length-set, get_or-set_same}
+use Rattle.core_kernel.specs.{AreOfOthers, KernelValue, CoreSeatValue, HasSeen, Extends, ExtendsByOthers, Meets}
+use Rattle.ends_runners.specs.{AreOf, HasGathered, HasSpread, HaveMet}
+use Rattle.std.proofs.{lemmas.Bool.cases_eq, lemmas.List.Elements.All-nil, lemmas.List.Elements.All-cons, lemmas.List.Elements.All-append}
+use Rattle.ends_runners.specs.Meets.{GoesOn, Tells, IsTold, HasMet}
+use Rattle.{std.proofs.lemmas.List.append_cancel_right, std.proofs.lemmas.List.set-get_or, std.proofs.lemmas.Option.slice_get_read}
+use Rattle.{core_kernel.specs.kernel_history.specs.Trace.Trace, core_kernel.specs.Kernel.CoreNoteValue, core_kernel.proofs.Closing.at_of}
 
 abbrev pub Seats : Type 0
 Seats = List CoreSeatValue

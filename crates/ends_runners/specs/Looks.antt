@@ -1,18 +1,11 @@
 -- The looks of a core in the kernel's trace.
-use Rattle.std.specs.Prelude.{List, [], ◌∷◌, ◌++◌}
-use Rattle.spk_nums.specs.declared.calls.Call.{Call}
-use Rattle.spk_nums.specs.declared.calls.Call.TheVariants as call
-use Rattle.spk_nums.specs.declared.replies.Reply.{Reply}
-use Rattle.core_kernel.specs.kernel_history.specs.Trace.{calls_of}
-use Rattle.core_kernel.specs.Replies.{replies_of}
-use Rattle.core_kernel.specs.Kernel.{CoreSeatValue}
-use Rattle.core_kernel.specs.Calls.{HasSeen, MakesCall}
-use Rattle.async_ends.specs.declared.asks.Look.{Look}
-use Rattle.async_ends.specs.Looks.{look}
+use Rattle.core_kernel.specs.flight_laws.specs.core_invariant.specs.{List, [], ◌∷◌, ◌++◌, Call, Reply, calls_of}
+use Rattle.core_kernel.specs.{replies_of, CoreSeatValue, HasSeen, MakesCall}
+use Rattle.async_ends.specs.{declared.asks.Look.Look, Looks.look}
 
 -- A call with its reply, where it is a look.
 abbrev pub look_if : Call → Reply → List Look
-look_if (call.Look a) r = look a r ∷ []
+look_if (Call.Look a) r = look a r ∷ []
 look_if _ r = []
 
 -- The looks among these calls, with their replies.
@@ -27,5 +20,5 @@ looks_in seat = looks_among (calls_of seat.seen seat.core) (replies_of seat.seen
 
 -- The seat's core has made this look.
 pub record HasLooked (seat : CoreSeatValue) (l : Look) (made : CoreSeatValue) : Type 0 where
-  pub makes : MakesCall seat (call.Look l.number) l.reply made
+  pub makes : MakesCall seat (Call.Look l.number) l.reply made
   pub seen : HasSeen made

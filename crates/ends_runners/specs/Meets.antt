@@ -1,8 +1,7 @@
 -- What seats have seen when they have told each other.
-use Rattle.std.specs.Prelude.{◌≡◌, ℕ, ◌<◌, ◌≤◌, List, length, slice_get, slice_set, Some}
-use Rattle.core_kernel.specs.kernel_history.specs.Trace.{Trace}
-use Rattle.core_kernel.specs.Kernel.{KernelValue, CoreSeatValue}
-use Rattle.core_kernel.specs.Calls.{HasSeen, Extends, ExtendsByOthers}
+use Rattle.core_kernel.specs.flight_laws.specs.core_invariant.specs.{◌≡◌, ℕ, ◌<◌, ◌≤◌, List, length, slice_get, set as slice_set, Some}
+use Rattle.core_kernel.specs.flight_laws.specs.core_invariant.specs.{Trace}
+use Rattle.core_kernel.specs.{KernelValue, CoreSeatValue, HasSeen, Extends, ExtendsByOthers}
 
 -- Each seat is of this kernel, and has seen a history.
 abbrev pub AreOf : KernelValue → List CoreSeatValue → Type 0

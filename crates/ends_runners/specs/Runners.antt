@@ -1,12 +1,8 @@
 -- Runners of seats and lists, and what becomes of them.
-use Rattle.std.specs.Prelude.{◌≡◌, ℕ, ◌≤◌, false, List, [], length, map, slice_get, slice_index_or, Some}
-use Rattle.std.specs.Global.{Vec}
-use Rattle.spk_nums.specs.declared.calls.Call.{Call}
-use Rattle.core_kernel.specs.Kernel.{CoreSeatValue}
-use Rattle.async_ends.specs.declared.asks.EndAsk.{EndAsk}
-use Rattle.async_ends.specs.declared.asks.EndDone.{EndDone}
-use Rattle.async_ends.specs.Tables.{EndSeatValue}
-use Rattle.ends_runners.specs.Runs.{EndRunnerValue}
+use Rattle.core_kernel.specs.flight_laws.specs.core_invariant.specs.{◌≡◌, ℕ, ◌≤◌, false, List, [], length, map, slice_get}
+use Rattle.core_kernel.specs.flight_laws.specs.core_invariant.specs.{get_or as slice_index_or, Some, Call}
+use Rattle.async_ends.specs.{declared.asks.EndAsk.EndAsk, declared.asks.EndDone.EndDone, Tables.EndSeatValue}
+use Rattle.{std.specs.Global.Vec, core_kernel.specs.Kernel.CoreSeatValue, ends_runners.specs.Runs.EndRunnerValue}
 
 -- The endpoint calls that a core is to make.
 abbrev pub asks_of : List (List EndAsk) → ℕ → List EndAsk

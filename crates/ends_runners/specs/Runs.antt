@@ -1,21 +1,13 @@
 -- What runners of endpoint calls do.
-use Rattle.std.specs.Prelude.{◌≡◌, ℕ, ◌+◌, ◌<◌, ◌≤◌, ◌^◌, Bool, true, false, List, [], ◌++◌, take, length, map}
-use Rattle.spk_nums.specs.declared.calls.Call.{Call}
-use Rattle.spk_nums.specs.declared.calls.Call.TheVariants as call
-use Rattle.core_kernel.specs.kernel_history.specs.Trace.{Trace, calls_of}
-use Rattle.core_kernel.specs.Replies.{replies_of}
-use Rattle.core_kernel.specs.Kernel.{CoreSeatValue}
-use Rattle.core_kernel.specs.Calls.{HasSeen}
-use Rattle.async_ends.specs.declared.asks.EndAsk.{EndAsk}
-use Rattle.async_ends.specs.declared.asks.EndDone.{EndDone}
-use Rattle.async_ends.specs.Events.{Event, events_by}
-use Rattle.async_ends.specs.Seen.{history_of}
-use Rattle.async_ends.specs.Tables.{EndTableValue, EndSeatValue}
-use Rattle.async_ends.specs.Asked.{AreStepsOfAll}
+use Rattle.core_kernel.specs.flight_laws.specs.core_invariant.specs.{◌≡◌, ℕ, ◌+◌, ◌<◌, ◌≤◌, ◌^◌, Bool, true, false, List, [], ◌++◌, take}
+use Rattle.core_kernel.specs.flight_laws.specs.core_invariant.specs.{length, map, Call, Trace, calls_of}
+use Rattle.async_ends.specs.{Event, events_by, history_of, EndTableValue, EndSeatValue, AreStepsOfAll}
+use Rattle.core_kernel.specs.{replies_of, CoreSeatValue, HasSeen}
+use Rattle.async_ends.specs.{declared.asks.EndAsk.EndAsk, declared.asks.EndDone.EndDone}
 
 -- The look of an endpoint call.
 abbrev pub look_call : EndDone → Call
-look_call d = call.Look d.ask.number
+look_call d = Call.Look d.ask.number
 
 -- A runner as contracts see it: its seats, its calls, those made so far, how many calls its list has, and whether the gate has stopped it.
 pub record EndRunnerValue : Type 0 where

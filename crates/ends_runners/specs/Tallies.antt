@@ -1,11 +1,7 @@
 -- How often was sent to a frame.
-use Rattle.std.specs.Prelude.{ℕ, ◌+◌, ◌==◌, List, [], ◌∷◌, if◌then◌else◌, Result, Ok, Err}
-use Rattle.spk_nums.specs.declared.replies.Reply.{Reply}
-use Rattle.async_ends.specs.declared.endpoint.EndReply.{EndReply}
-use Rattle.async_ends.specs.declared.endpoint.EndReply.TheVariants.{Sent}
-use Rattle.async_ends.specs.declared.asks.EndDone.{EndDone}
-use Rattle.async_ends.specs.Looks.{reached}
-use Rattle.ends_runners.specs.Runs.{EndRunnerValue}
+use Rattle.core_kernel.specs.flight_laws.specs.core_invariant.specs.{ℕ, ◌+◌, ◌==◌, List, [], ◌∷◌, if◌then◌else◌, Result, Ok, Err, Reply}
+use Rattle.async_ends.specs.{declared.endpoint.EndReply.EndReply, declared.endpoint.EndReply.TheVariants.Sent}
+use Rattle.{async_ends.specs.declared.asks.EndDone.EndDone, async_ends.specs.Looks.reached, ends_runners.specs.Runs.EndRunnerValue}
 
 -- 1 where a call with this answer, whose look led there, sent to frame f, else 0.
 abbrev pub sends_at : Result ℕ Reply → EndReply → ℕ → ℕ

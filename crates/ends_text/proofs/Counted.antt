@@ -1,10 +1,9 @@
 -- The lines by numbers are those by a history.
-use Rattle.std.proofs.Common.{◌≡◌, ℕ, zero, suc, ◌+◌, ◌-◌, ◌<◌, List, [], ◌∷◌, ◌++◌, length, take, get_or, append_assoc, append-nil, refl, sym, ◌∙◌, ap, arith}
-use Rattle.std.specs.Prelude.{slice_index}
-use Rattle.std.proofs.lemmas.List.{take_more, length-take-le}
-use Rattle.async_ends.specs.declared.asks.EndDone.{EndDone}
-use Rattle.async_ends.specs.Events.{Event, sent_to, taken_at, untaken}
-use Rattle.ends_text.specs.Lines.{done_line, done_lines, end_line, count_lines, end_lines}
+use Rattle.std.proofs.Common.{◌≡◌, ℕ, zero, suc, ◌+◌, ◌-◌, ◌<◌, List, [], ◌∷◌, ◌++◌, length, take, get_or, append_assoc, append-nil, refl}
+use Rattle.std.proofs.Common.{sym, ◌∙◌, ap, arith, slice_index, length-take-le}
+use Rattle.async_ends.specs.{Event, sent_to, taken_at, untaken}
+use Rattle.{ends_text.specs.done_lines, ends_text.specs.count_lines, ends_text.specs.end_lines, std.proofs.lemmas.List.take_more}
+use Rattle.{async_ends.specs.declared.asks.EndDone.EndDone, ends_text.specs.Lines.done_line, ends_text.specs.Lines.end_line}
 
 -- one line more
 done_lines-push : (core index : ℕ) (ds : List EndDone) (d : EndDone)

@@ -1,12 +1,10 @@
 -- The lines of endpoint calls and of frames.
 use Rattle.std.specs.Prelude.{ℕ, zero, suc, ◌+◌, ◌-◌, ◌==◌, List, [], ◌∷◌, ◌++◌, codes, decimal, slice_index, if◌then◌else◌}
-use Rattle.spk_nums.specs.Texts.{with_one, reply_text}
-use Rattle.async_ends.specs.declared.endpoint.EndOp.{EndOp}
-use Rattle.async_ends.specs.declared.endpoint.EndOp.TheVariants.{Send, Recv}
-use Rattle.async_ends.specs.declared.endpoint.EndReply.{EndReply}
+use Rattle.async_ends.specs.{Event, sent_to, taken_at, untaken}
 use Rattle.async_ends.specs.declared.endpoint.EndReply.TheVariants.{Sent, Taken, Raced, Refused}
-use Rattle.async_ends.specs.declared.asks.EndDone.{EndDone}
-use Rattle.async_ends.specs.Events.{Event, sent_to, taken_at, untaken}
+use Rattle.{spk_nums.specs.Texts.with_one, spk_nums.specs.Texts.reply_text, async_ends.specs.declared.endpoint.EndOp.EndOp}
+use Rattle.{async_ends.specs.declared.endpoint.EndOp.TheVariants.Send, async_ends.specs.declared.endpoint.EndOp.TheVariants.Recv}
+use Rattle.{async_ends.specs.declared.endpoint.EndReply.EndReply, async_ends.specs.declared.asks.EndDone.EndDone}
 
 abbrev pub op_word : EndOp → List ℕ
 op_word Send = codes "send"

@@ -1,21 +1,16 @@
 -- One spelling for each entry.
-use Rattle.std.proofs.Common.{◌≡◌, ◌≢◌, ℕ, ◌+◌, ◌-◌, ◌*◌, ◌/◌, ◌%◌, ◌^◌, ◌<◌, ◌≤◌, ◌==◌, ◌&&◌}
-use Rattle.std.proofs.Common.{nat_lt, nat_le, Option, Some, None, IfSome, refl, subst, arith}
-use Rattle.std.proofs.lemmas.Bool.{ne_eqb, lt-ltb, le-leb, and_parts, ltb-true, leb-true, eqb-true}
-use Rattle.std.proofs.lemmas.Bool.Decides.{nat_tests}
-use Rattle.spk_nums.proofs.Choices.{kept, chosen}
-use Rattle.spk_nums.proofs.KeptRights.{kept_above, kept_below}
-use Rattle.spk_nums.proofs.OneSpelling.{spelling_reads, spelling_spells}
-use Rattle.spk_nums.specs.Capability.{Capability}
-use Rattle.spk_nums.specs.Limits.{least_arg, end_of_arg}
-use Rattle.spk_nums.specs.Rights.{least_rights, kept as kept_cap}
-use Rattle.spk_nums.specs.Spelling.{IsOneSpelling}
-use Rattle.spk_nums.specs.declared.kinds.Kind.{Kind}
+use Rattle.std.proofs.Common.{◌≡◌, ◌≢◌, ℕ, ◌+◌, ◌-◌, ◌*◌, ◌/◌, ◌%◌, ◌^◌, ◌<◌, ◌≤◌, ◌==◌, ◌&&◌, nat_lt, nat_le, Option, Some, None, IfSome}
+use Rattle.std.proofs.Common.{refl, subst, arith, ne_eqb, lt-ltb, le-leb, ltb-true, leb-true, eqb-true}
+use Rattle.entry_words.specs.{EntryFits, word_of_entry, entry_of_word}
+use Rattle.spk_nums.proofs.{Choices.kept, Choices.chosen, KeptRights.kept_above, KeptRights.kept_below, OneSpelling.spelling_reads}
 use Rattle.spk_nums.specs.declared.kinds.Kind.TheVariants.{Range, Table, Leaf, Pages, Pleaf, Comp, Gate, Thread, Tcap, Link, Page}
 use Rattle.entry_words.specs.Kinds.{number_of_kind, kind_of_number, most_withheld}
-use Rattle.entry_words.specs.EntryWord.{EntryFits, word_of_entry, entry_of_word, held_of, closing_of, quiescing_of}
-use Rattle.entry_words.specs.declared.entry.Entry.{Entry}
+use Rattle.entry_words.specs.EntryWord.{held_of, closing_of, quiescing_of}
 use Rattle.entry_words.specs.declared.entry.Entry.TheVariants.{Free, Held, Closing, Quiescing}
+use Rattle.{std.proofs.lemmas.Bool.and_parts, std.proofs.lemmas.Bool.Decides.nat_tests, spk_nums.proofs.OneSpelling.spelling_spells}
+use Rattle.{spk_nums.specs.Capability.Capability, spk_nums.specs.Limits.least_arg, spk_nums.specs.Limits.end_of_arg}
+use Rattle.{spk_nums.specs.Rights.least_rights, spk_nums.specs.Rights.kept as kept_cap, spk_nums.specs.Spelling.IsOneSpelling}
+use Rattle.{spk_nums.specs.declared.kinds.Kind.Kind, entry_words.specs.declared.entry.Entry.Entry}
 
 -- a kind has a number below 16 and is found again from it; its capabilities' numbers are below 2 ^ 24; the rights that it may withhold
 -- are those that it need not have

@@ -1,8 +1,5 @@
 use Rattle.std.specs.Prelude.{◌≡◌, ℕ, ◌+◌, ◌-◌, ◌*◌, ◌/◌, ◌%◌, ◌^◌, ◌<◌, ◌≤◌, ◌==◌, ◌&&◌, nat_lt, nat_le, Option, Some, None, if◌then◌else◌}
-use Rattle.spk_nums.specs.Capability.{cap_of}
-use Rattle.spk_nums.specs.Limits.{least_arg, end_of_arg}
-use Rattle.spk_nums.specs.Rights.{least_rights}
-use Rattle.spk_nums.specs.declared.kinds.Kind.{Kind}
+use Rattle.spk_nums.specs.{Capability.cap_of, Limits.least_arg, Limits.end_of_arg, Rights.least_rights, declared.kinds.Kind.Kind}
 use Rattle.entry_words.specs.Kinds.{number_of_kind, kind_of_number, most_withheld}
 use Rattle.entry_words.specs.declared.entry.Entry.{Entry}
 use Rattle.entry_words.specs.declared.entry.Entry.TheVariants.{Free, Held, Closing, Quiescing}

@@ -1,12 +1,8 @@
 -- What is told of bytes that are read, and of bytes that are refused.
-use Rattle.std.proofs.Common.{◌≡◌, ℕ, List, IfOk, Result, Ok, Err, inl, inr}
-use Rattle.std.specs.Prelude.{String, string_bytes}
-use Rattle.std.specs.Global.{Global}
-use Rattle.line_reader.specs.declared.cause.Cause.{Cause}
-use Rattle.line_reader.specs.Lines.{First_fault}
-use Rattle.line_forms.specs.declared.context.Reading.{Reading}
-use Rattle.fault_texts.specs.Told.{fault_text}
+use Rattle.std.proofs.Common.{◌≡◌, ℕ, List, IfOk, Result, Ok, Err, inl, inr, String, string_bytes, Global}
+use Rattle.line_reader.specs.{declared.cause.Cause.Cause, Lines.First_fault}
 use Rattle.explain_run.specs.Explained.{accepted_text, IsAccepted, IsTold}
+use Rattle.{line_forms.specs.declared.context.Reading.Reading, fault_texts.specs.Told.fault_text}
 
 pub read_told : {I E : Type 0} (read : Result I First_fault) (input : I) (r : Reading) (source : List ℕ) (res : Result (String Global) E)
     → read ≡ Ok input → IfOk res (λ t. string_bytes t ≡ accepted_text r)

@@ -1,22 +1,16 @@
 -- What the command `explain` writes.
 use Rattle.std.specs.Prelude.{◌≡◌, ◌⊎◌, ℕ, List, Result, Ok, Err, codes}
-use Rattle.line_reader.specs.declared.cause.Cause.{Cause}
-use Rattle.line_reader.specs.Lines.{First_fault}
-use Rattle.script_reader.specs.Readings.{script_of}
-use Rattle.ends_reader.specs.Inputs.{input_of}
-use Rattle.sched_reader.specs.Inputs.{input_of as sched_input_of}
-use Rattle.history_reader.specs.Inputs.{History, history_of}
-use Rattle.history_options.specs.Told.{IsHistoryTold}
-use Rattle.line_forms.specs.declared.context.Reading.{Reading}
-use Rattle.line_forms.specs.declared.context.Reading.TheVariants as reading
-use Rattle.fault_texts.specs.Told.{fault_text}
+use Rattle.history_reader.specs.{History, history_of}
+use Rattle.line_reader.specs.{declared.cause.Cause.Cause, Lines.First_fault}
+use Rattle.{script_reader.specs.Readings.script_of, ends_reader.specs.Inputs.input_of, sched_reader.specs.Inputs.input_of as sched_input_of}
+use Rattle.{history_options.specs.Told.IsHistoryTold, line_forms.specs.declared.context.Reading.Reading, fault_texts.specs.Told.fault_text}
 
 -- the line that tells that bytes are read
 abbrev pub accepted_text : Reading → List ℕ
-accepted_text reading.Script = codes "accepted: a script\n"
-accepted_text reading.Ends = codes "accepted: a script with endpoint calls\n"
-accepted_text reading.Sched = codes "accepted: a script of one core with tasks\n"
-accepted_text reading.History = codes "accepted: a given history\n"
+accepted_text Reading.Script = codes "accepted: a script\n"
+accepted_text Reading.Ends = codes "accepted: a script with endpoint calls\n"
+accepted_text Reading.Sched = codes "accepted: a script of one core with tasks\n"
+accepted_text Reading.History = codes "accepted: a given history\n"
 
 -- the bytes are read, and the text is this of what they say
 pub record IsRead {I : Type 0} (read : Result I First_fault) (Tells : I → List ℕ → Type 0) (text : List ℕ) : Type 0 where
@@ -45,7 +39,7 @@ IsToldOf history text = IsHistoryTold history.setup history.lines text
 
 -- what is told of bytes, by what they are to be
 abbrev pub IsExplained : Reading → List ℕ → List ℕ → Type 0
-IsExplained reading.Script source text = IsTold (script_of source) (IsAccepted reading.Script) reading.Script source text
-IsExplained reading.Ends source text = IsTold (input_of source) (IsAccepted reading.Ends) reading.Ends source text
-IsExplained reading.Sched source text = IsTold (sched_input_of source) (IsAccepted reading.Sched) reading.Sched source text
-IsExplained reading.History source text = IsTold (history_of source) IsToldOf reading.History source text
+IsExplained Reading.Script source text = IsTold (script_of source) (IsAccepted Reading.Script) Reading.Script source text
+IsExplained Reading.Ends source text = IsTold (input_of source) (IsAccepted Reading.Ends) Reading.Ends source text
+IsExplained Reading.Sched source text = IsTold (sched_input_of source) (IsAccepted Reading.Sched) Reading.Sched source text
+IsExplained Reading.History source text = IsTold (history_of source) IsToldOf Reading.History source text

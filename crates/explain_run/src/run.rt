@@ -3,7 +3,7 @@
 ghost use Rattle.std.specs.Prelude.{◌≡◌, ◌<◌, ◌^◌, length, IfOk, string_bytes};
 ghost use Rattle.line_forms.specs.declared.context.Reading.TheVariants as reading;
 ghost use Rattle.history_reader.specs.Inputs.{history_view};
-ghost use Rattle.marked_history.specs.Verdicts.{LinesFit};
+ghost use Rattle.history_options.specs.marked_history.specs.Verdicts.{LinesFit};
 ghost use Rattle.explain_run.specs.Explained.{accepted_text, IsToldOf, IsExplained};
 
 use ends_reader::read_ends;

@@ -1,18 +1,12 @@
 -- Texts of words appended one after another.
-use Rattle.std.proofs.Common.{◌≡◌, ℕ, suc, ◌+◌, ◌<◌, ◌≤◌, List, ◌++◌, length, drop, get_or, append_assoc, append-nil, sym, ◌∙◌, ap, subst, arith}
-use Rattle.std.proofs.Common.{OnOk, Result, Ok, Err}
-use Rattle.std.specs.Prelude.{codes}
-use Rattle.std.proofs.lemmas.List.{drop_more, drop_all}
-use Rattle.script_tokens.specs.declared.token.Token.{Token}
-use Rattle.line_reader.specs.Arguments.{texts}
-use Rattle.line_reader.specs.declared.cause.Cause.{Cause}
-use Rattle.line_forms.specs.declared.context.Context.{Context}
-use Rattle.line_forms.specs.declared.slots.Slot.{Slot}
-use Rattle.fault_texts.specs.declared.notes.Note.{Note}
-use Rattle.fault_texts.specs.Places.{place_of, slot_of}
-use Rattle.fault_texts.specs.Notes.{note_of}
-use Rattle.fault_texts.specs.Pieces.{spaced_text, words_text, blank_text, blanks_text, blanks}
-use Rattle.fault_texts.specs.Pieces.{at_text, due_line, forms_text, fault_at_text, fault_line_text}
+use Rattle.std.proofs.Common.{◌≡◌, ℕ, suc, ◌+◌, ◌<◌, ◌≤◌, List, ◌++◌, length, drop, get_or, append_assoc, append-nil, sym, ◌∙◌, ap, subst}
+use Rattle.std.proofs.Common.{arith, OnOk, Result, Ok, Err, codes}
+use Rattle.fault_texts.specs.{declared.notes.Note.Note, Places.place_of, Places.slot_of, Notes.note_of, Pieces.spaced_text}
+use Rattle.fault_texts.specs.{Pieces.blank_text, Pieces.at_text, Pieces.due_line, Pieces.forms_text, Pieces.fault_at_text}
+use Rattle.{fault_texts.specs.words_text, fault_texts.specs.blanks_text, fault_texts.specs.blanks, std.proofs.lemmas.List.drop_more}
+use Rattle.{std.proofs.lemmas.List.drop_all, script_tokens.specs.declared.token.Token.Token, line_reader.specs.Arguments.texts}
+use Rattle.{line_reader.specs.declared.cause.Cause.Cause, line_forms.specs.declared.context.Context.Context}
+use Rattle.{line_forms.specs.declared.slots.Slot.Slot, fault_texts.specs.Pieces.fault_line_text}
 
 pub words_more : (ts : List Token) (n : ℕ) (d : Token) (all old new : List ℕ) → n < length ts
     → all ++ words_text (texts (drop n ts)) ≡ old → new ≡ all ++ spaced_text (get_or ts n d).text.now

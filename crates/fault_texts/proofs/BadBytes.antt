@@ -1,10 +1,8 @@
 -- The first byte that may not stand in a text is found byte by byte.
-use Rattle.std.proofs.Common.{◌≡◌, ℕ, zero, suc, ◌+◌, ◌<◌, ◌≤◌, Bool, true, false, List, [], ◌∷◌, Some, None, length, drop, get_or}
-use Rattle.std.proofs.Common.{refl, sym, ◌∙◌, ap, arith, if◌then◌else◌}
-use Rattle.std.specs.Prelude.{slice_get}
-use Rattle.std.proofs.lemmas.List.{drop_more, drop_all}
-use Rattle.script_tokens.specs.Bytes.{is_feed, is_allowed}
+use Rattle.std.proofs.Common.{◌≡◌, ℕ, zero, suc, ◌+◌, ◌<◌, ◌≤◌, Bool, true, false, List, [], ◌∷◌, Some, None, length, drop, get_or, refl}
+use Rattle.std.proofs.Common.{sym, ◌∙◌, ap, arith, if◌then◌else◌, slice_get}
 use Rattle.fault_texts.specs.Bytes.{column_after, bad_from, bad_byte}
+use Rattle.{std.proofs.lemmas.List.drop_more, std.proofs.lemmas.List.drop_all, script_tokens.specs.is_feed, script_tokens.specs.is_allowed}
 
 next_get : (xs : List ℕ) (i : ℕ) → slice_get (drop i xs) 0 ≡ slice_get xs i
 next_get xs zero = refl

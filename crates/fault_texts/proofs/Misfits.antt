@@ -1,11 +1,8 @@
 -- The first word that does not fit is found word by word.
 use Rattle.std.proofs.Common.{◌≡◌, ℕ, zero, suc, ◌+◌, ◌<◌, ◌≤◌, true, false, List, [], ◌∷◌, length, drop, refl, sym, ◌∙◌, ap, arith}
-use Rattle.std.proofs.lemmas.List.{drop_all}
-use Rattle.script_tokens.specs.declared.token.Token.{Token}
-use Rattle.line_reader.specs.Arguments.{texts}
-use Rattle.line_forms.specs.declared.context.Context.{Context}
-use Rattle.line_forms.specs.Fitting.{fits}
-use Rattle.fault_texts.specs.Places.{misfit_from, first_misfit}
+use Rattle.fault_texts.specs.{misfit_from, first_misfit}
+use Rattle.line_forms.specs.{declared.context.Context.Context, Fitting.fits}
+use Rattle.{std.proofs.lemmas.List.drop_all, script_tokens.specs.declared.token.Token.Token, line_reader.specs.Arguments.texts}
 
 -- the word at a place, and those after it
 cut : (ts : List Token) (at : ℕ) → at < length ts → (t : Token) × (drop at ts ≡ t ∷ drop (at + 1) ts)

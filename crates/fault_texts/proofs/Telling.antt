@@ -1,13 +1,9 @@
 -- The text of a fault is that of what its lines tell.
-use Rattle.std.proofs.Common.{◌≡◌, ℕ, List, ◌++◌, IfOk, Result, Ok, Err, refl, sym, ◌∙◌, ap}
-use Rattle.std.specs.Prelude.{String, string_bytes}
-use Rattle.std.specs.Global.{Global}
-use Rattle.script_tokens.specs.Words.{words_of}
-use Rattle.line_reader.specs.declared.cause.Cause.{Cause}
-use Rattle.line_reader.specs.Lines.{First_fault, rows_of, lines_from}
-use Rattle.line_forms.specs.declared.context.Reading.{Reading}
-use Rattle.fault_texts.specs.Found.{Found, no_found, find_step}
+use Rattle.std.proofs.Common.{◌≡◌, ℕ, List, ◌++◌, IfOk, Result, Ok, Err, refl, sym, ◌∙◌, ap, String, string_bytes, Global}
 use Rattle.fault_texts.specs.Told.{head_text, found_body, body_text, rest_text, fault_text}
+use Rattle.{line_reader.specs.First_fault, line_reader.specs.rows_of, line_reader.specs.lines_from, script_tokens.specs.Words.words_of}
+use Rattle.{line_reader.specs.declared.cause.Cause.Cause, line_forms.specs.declared.context.Reading.Reading, fault_texts.specs.Found.Found}
+use Rattle.{fault_texts.specs.Found.no_found, fault_texts.specs.Found.find_step}
 
 pub told_is : {E : Type 0} (reading : Reading) (source : List ℕ) (line : ℕ) (cause : Cause) (start d : Found)
     (res : Result (String Global) E) → start ≡ no_found reading line cause

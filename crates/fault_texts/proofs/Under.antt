@@ -1,12 +1,9 @@
 -- The mark stands under its word.
-use Rattle.std.proofs.Common.{◌≡◌, ℕ, zero, suc, ◌+◌, List, [], ◌∷◌, ◌++◌, length, All, refl, sym, ◌∙◌, ap, arith}
-use Rattle.std.proofs.Common.{append_assoc, append-nil, length-append}
-use Rattle.std.specs.Prelude.{codes}
-use Rattle.std.specs.Str.{IsAscii}
-use Rattle.std.proofs.lemmas.Str.{utf8_lossy-IsUtf8, IsUtf8-from_ascii}
-use Rattle.std.proofs.lemmas.List.Elements.{All-head, All-tail}
-use Rattle.fault_texts.specs.Pieces.{word_text, words_text, blanks, blanks_text}
-use Rattle.fault_texts.specs.Marks.{IsUnder}
+use Rattle.std.proofs.Common.{◌≡◌, ℕ, zero, suc, ◌+◌, List, [], ◌∷◌, ◌++◌, length, All, refl, sym, ◌∙◌, ap, arith, append_assoc, append-nil}
+use Rattle.std.proofs.Common.{length-append, codes, IsAscii}
+use Rattle.fault_texts.specs.{words_text, blanks, blanks_text}
+use Rattle.{std.proofs.lemmas.Str.utf8_lossy-IsUtf8, std.proofs.lemmas.Str.IsUtf8-from_ascii, std.proofs.lemmas.List.Elements.All-head}
+use Rattle.{std.proofs.lemmas.List.Elements.All-tail, fault_texts.specs.Pieces.word_text, fault_texts.specs.Marks.IsUnder}
 
 -- a word is told as it stands
 own_text : (word : List ℕ) → IsAscii word → word_text word ≡ word

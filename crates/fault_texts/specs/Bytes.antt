@@ -1,7 +1,6 @@
 -- The first byte that may not stand in a text.
 use Rattle.std.specs.Prelude.{ℕ, ◌+◌, List, [], ◌∷◌, Option, Some, None, slice_get, if◌then◌else◌}
-use Rattle.script_tokens.specs.Bytes.{is_feed, is_allowed}
-use Rattle.fault_texts.specs.declared.bytes.BadByte.{BadByte}
+use Rattle.{script_tokens.specs.is_feed, script_tokens.specs.is_allowed, fault_texts.specs.declared.bytes.BadByte.BadByte}
 
 -- the column of the byte after this one
 abbrev pub column_after : ℕ → ℕ → ℕ

@@ -1,14 +1,9 @@
 -- What is told of a fault that has no words: a byte, a line too many, or the end of the text.
 use Rattle.std.specs.Prelude.{ℕ, List, [], ◌++◌, Option, Some, None, codes, decimal}
-use Rattle.line_reader.specs.declared.cause.Cause.{Cause}
-use Rattle.line_reader.specs.declared.cause.Cause.TheVariants.{S8, S9}
-use Rattle.line_forms.specs.declared.context.Context.{Context}
-use Rattle.line_forms.specs.declared.slots.Slot.TheVariants.{First}
-use Rattle.fault_texts.specs.declared.bytes.BadByte.{BadByte}
-use Rattle.fault_texts.specs.declared.notes.Note.TheVariants.{MostLines}
-use Rattle.fault_texts.specs.Bytes.{bad_byte}
-use Rattle.fault_texts.specs.Notes.{note_line, end_note}
-use Rattle.fault_texts.specs.Pieces.{due_line}
+use Rattle.line_reader.specs.{declared.cause.Cause.Cause, declared.cause.Cause.TheVariants.S8, declared.cause.Cause.TheVariants.S9}
+use Rattle.line_forms.specs.{declared.context.Context.Context, declared.slots.Slot.TheVariants.First}
+use Rattle.fault_texts.specs.{declared.bytes.BadByte.BadByte, declared.notes.Note.TheVariants.MostLines, Bytes.bad_byte, Notes.note_line}
+use Rattle.fault_texts.specs.{Notes.end_note, Pieces.due_line}
 
 -- a byte that may not stand in a text
 abbrev pub byte_text : Option BadByte → List ℕ

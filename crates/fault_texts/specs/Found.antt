@@ -1,12 +1,8 @@
 -- What is found of a fault, line by line.
 use Rattle.std.specs.Prelude.{ℕ, ◌==◌, nat_lt, List, [], ◌++◌, Bool, true, false, Ok, string_bytes, if◌then◌else◌}
-use Rattle.line_reader.specs.declared.cause.Cause.{Cause}
-use Rattle.line_reader.specs.Lines.{Step}
-use Rattle.line_forms.specs.declared.context.Reading.{Reading}
-use Rattle.line_forms.specs.declared.context.Context.{Context}
-use Rattle.line_forms.specs.Contexts.{no_context, context_after}
-use Rattle.fault_texts.specs.declared.finder.Finder.{Finder}
-use Rattle.fault_texts.specs.Pieces.{fault_line_text}
+use Rattle.line_forms.specs.{declared.context.Reading.Reading, declared.context.Context.Context, Contexts.no_context}
+use Rattle.{line_reader.specs.declared.cause.Cause.Cause, line_reader.specs.Lines.Step, line_forms.specs.Contexts.context_after}
+use Rattle.{fault_texts.specs.declared.finder.Finder.Finder, fault_texts.specs.Pieces.fault_line_text}
 
 -- a fault's line and cause; what the lines before its line have come to; whether its line was found, and what is told of it
 pub record Found : Type 0 where

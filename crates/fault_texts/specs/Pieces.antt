@@ -1,17 +1,9 @@
 -- The pieces of what is told of a fault.
 use Rattle.std.specs.Prelude.{ℕ, zero, suc, ◌-◌, ◌==◌, List, [], ◌∷◌, ◌++◌, length, take, drop, slice_get, Option, Some, None, codes}
-use Rattle.std.specs.Prelude.{if◌then◌else◌}
-use Rattle.std.specs.Str.Lossy.{utf8_lossy}
-use Rattle.line_reader.specs.declared.cause.Cause.{Cause}
-use Rattle.line_forms.specs.declared.context.Reading.{Reading}
-use Rattle.line_forms.specs.declared.context.Stage.{Stage}
-use Rattle.line_forms.specs.declared.context.Context.{Context}
-use Rattle.line_forms.specs.declared.slots.Slot.{Slot}
-use Rattle.line_forms.specs.Texts.{due_text}
-use Rattle.line_forms.specs.Forms.{form_of, call_form_of}
-use Rattle.fault_texts.specs.declared.notes.Note.{Note}
-use Rattle.fault_texts.specs.Places.{place_of, slot_of}
-use Rattle.fault_texts.specs.Notes.{note_line, note_of}
+use Rattle.line_forms.specs.{declared.context.Reading.Reading, declared.context.Stage.Stage, declared.context.Context.Context}
+use Rattle.line_forms.specs.{declared.slots.Slot.Slot, Texts.due_text, Forms.form_of, Forms.call_form_of}
+use Rattle.fault_texts.specs.{declared.notes.Note.Note, Places.place_of, Places.slot_of, Notes.note_line, Notes.note_of}
+use Rattle.{std.specs.Prelude.if◌then◌else◌, std.specs.Str.Lossy.utf8_lossy, line_reader.specs.declared.cause.Cause.Cause}
 
 -- a word as it is told: as it stands, since it is ASCII
 abbrev pub word_text : List ℕ → List ℕ

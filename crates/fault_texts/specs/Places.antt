@@ -1,14 +1,8 @@
 -- Where in its line a fault stands.
 use Rattle.std.specs.Prelude.{ℕ, ◌+◌, ◌==◌, length, List, [], ◌∷◌, if◌then◌else◌}
-use Rattle.line_reader.specs.declared.cause.Cause.{Cause}
-use Rattle.line_reader.specs.declared.cause.Cause.TheVariants.{S7, S9}
-use Rattle.line_forms.specs.declared.context.Stage.{Stage}
-use Rattle.line_forms.specs.declared.context.Stage.TheVariants as stage
-use Rattle.line_forms.specs.declared.context.Context.{Context}
-use Rattle.line_forms.specs.declared.slots.Slot.{Slot}
-use Rattle.line_forms.specs.declared.slots.Slot.TheVariants.{End}
-use Rattle.line_forms.specs.Lines.{slot_at}
-use Rattle.line_forms.specs.Fitting.{fits}
+use Rattle.line_reader.specs.{declared.cause.Cause.Cause, declared.cause.Cause.TheVariants.S7, declared.cause.Cause.TheVariants.S9}
+use Rattle.line_forms.specs.{declared.context.Stage.Stage, declared.context.Context.Context, declared.slots.Slot.Slot}
+use Rattle.line_forms.specs.{declared.slots.Slot.TheVariants.End, Lines.slot_at, Fitting.fits}
 
 -- the first place, from `at` on, whose word does not fit; the words that are left are those from there on
 abbrev pub misfit_from : Context → List (List ℕ) → ℕ → List (List ℕ) → ℕ
@@ -20,7 +14,7 @@ abbrev pub first_misfit : Context → List (List ℕ) → ℕ
 first_misfit context words = misfit_from context words 0 words
 
 abbrev pub too_many_in : Stage → ℕ → ℕ
-too_many_in stage.Order items = items
+too_many_in Stage.Order items = items
 too_many_in _ items = 0
 
 -- the place of the first item that is one too many, and else that of the line's first word

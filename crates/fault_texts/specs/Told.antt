@@ -1,12 +1,9 @@
 -- What is told of the first fault of a text.
 use Rattle.std.specs.Prelude.{ℕ, List, [], ◌++◌, Result, Ok, Err, codes, decimal, if◌then◌else◌}
-use Rattle.script_tokens.specs.Words.{words_of}
-use Rattle.line_reader.specs.declared.cause.Cause.{Cause}
-use Rattle.line_reader.specs.Causes.{cause_text}
-use Rattle.line_reader.specs.Lines.{First_fault, rows_of, lines_from}
-use Rattle.line_forms.specs.declared.context.Reading.{Reading}
-use Rattle.fault_texts.specs.Found.{Found, no_found, find_step}
-use Rattle.fault_texts.specs.Ends.{wordless_text}
+use Rattle.line_reader.specs.{First_fault, rows_of, lines_from}
+use Rattle.line_reader.specs.{declared.cause.Cause.Cause, Causes.cause_text}
+use Rattle.fault_texts.specs.{Found.Found, Found.no_found, Found.find_step, Ends.wordless_text}
+use Rattle.{script_tokens.specs.Words.words_of, line_forms.specs.declared.context.Reading.Reading}
 
 -- the line of a fault, as it is told where the text is refused
 abbrev pub head_text : ℕ → Cause → List ℕ

@@ -1,37 +1,21 @@
 -- What a finished machine holds, part by part.
-use Rattle.std.specs.Prelude.{ℕ, ℤ, ◌+◌, ◌/◌, ◌%◌, ◌==◌, Bool, nat_lt, ◌&&◌, ◌||◌, if◌then◌else◌}
-use Rattle.std.specs.Prelude.{List, length, Option, Some, None, Result, Ok, Err, slice_index, slice_get}
-use Rattle.spk_nums.specs.Capability.{Capability}
-use Rattle.spk_nums.specs.declared.translations.CoreEnd.{CoreEnd}
-use Rattle.spk_nums.specs.declared.translations.Translation.{Translation}
-use Rattle.entry_words.specs.EntryWord.{entry_of_word}
-use Rattle.frame_words.specs.Count.{count_of_word}
-use Rattle.frame_words.specs.Frame.{frame_of_word}
-use Rattle.frame_words.specs.Live.{live_of_word}
-use Rattle.frame_words.specs.declared.count_word.CountWord.{CountWord}
-use Rattle.frame_words.specs.declared.frame_word.FrameWord.{FrameWord}
-use Rattle.frame_words.specs.declared.live_word.LiveWord.{LiveWord}
-use Rattle.frame_words.specs.declared.live_word.LiveWord.TheVariants as live_word
-use Rattle.tcap_words.specs.Head.{head_of_word}
-use Rattle.tcap_words.specs.Quality.{quality_of_word}
-use Rattle.tcap_words.specs.Stack.{stack_of_word}
-use Rattle.tcap_words.specs.declared.head_word.HeadWord.{HeadWord}
-use Rattle.tcap_words.specs.declared.quality_word.QualityWord.{QualityWord}
-use Rattle.tcap_words.specs.declared.stack_word.StackWord.{StackWord}
-use Rattle.word_map.specs.Word.{FrameAt, CountAt, LiveAt}
-use Rattle.machine_image.specs.Views.{ImageOf, word_at, node_words, held_by, leaf_of, component_at}
-use Rattle.machine_image.specs.declared.image.Component.{Component}
-use Rattle.final_parts.specs.Kinds.{kind_code, use_code, object_code}
-use Rattle.final_parts.specs.declared.parts.NoPart.{NoPart}
-use Rattle.final_parts.specs.declared.parts.NoPart.TheVariants.{Outside, Kind, Empty}
-use Rattle.final_parts.specs.declared.parts.SizePart.{SizePart}
-use Rattle.final_parts.specs.declared.parts.FramePart.{FramePart}
-use Rattle.final_parts.specs.declared.parts.CapPart.{CapPart}
-use Rattle.final_parts.specs.declared.parts.CompPart.{CompPart}
-use Rattle.final_parts.specs.declared.parts.QualityPart.{QualityPart}
-use Rattle.final_parts.specs.declared.parts.LivePart.{LivePart}
-use Rattle.final_parts.specs.declared.parts.CorePart.{CorePart}
-use Rattle.final_parts.specs.declared.parts.CachedPart.{CachedPart}
+use Rattle.std.specs.Prelude.{ℕ, ℤ, ◌+◌, ◌/◌, ◌%◌, ◌==◌, Bool, nat_lt, ◌&&◌, ◌||◌, if◌then◌else◌, List, length, Option, Some, None, Result}
+use Rattle.std.specs.Prelude.{Ok, Err, slice_index, slice_get}
+use Rattle.machine_image.specs.{ImageOf, word_at, node_words, held_by, component_at}
+use Rattle.word_map.specs.{FrameAt, CountAt, LiveAt}
+use Rattle.tcap_words.specs.{head_of_word, quality_of_word, stack_of_word}
+use Rattle.frame_words.specs.{count_of_word, frame_of_word, live_of_word}
+use Rattle.spk_nums.specs.{Capability.Capability, declared.translations.CoreEnd.CoreEnd, declared.translations.Translation.Translation}
+use Rattle.frame_words.specs.{declared.count_word.CountWord.CountWord, declared.frame_word.FrameWord.FrameWord}
+use Rattle.tcap_words.specs.{declared.head_word.HeadWord.HeadWord, declared.quality_word.QualityWord.QualityWord}
+use Rattle.machine_image.specs.{Views.leaf_of, declared.image.Component.Component}
+use Rattle.final_parts.specs.{Kinds.kind_code, Kinds.use_code, Kinds.object_code, declared.parts.NoPart.NoPart}
+use Rattle.final_parts.specs.{declared.parts.NoPart.TheVariants.Outside, declared.parts.NoPart.TheVariants.Kind}
+use Rattle.final_parts.specs.{declared.parts.NoPart.TheVariants.Empty, declared.parts.SizePart.SizePart, declared.parts.FramePart.FramePart}
+use Rattle.final_parts.specs.{declared.parts.CapPart.CapPart, declared.parts.CompPart.CompPart, declared.parts.QualityPart.QualityPart}
+use Rattle.final_parts.specs.{declared.parts.LivePart.LivePart, declared.parts.CorePart.CorePart, declared.parts.CachedPart.CachedPart}
+use Rattle.{machine_image.specs.entry_words.specs.EntryWord.entry_of_word, frame_words.specs.declared.live_word.LiveWord.LiveWord}
+use Rattle.{tcap_words.specs.declared.stack_word.StackWord.StackWord}
 
 -- The word i of frame f.
 abbrev pub frame_word : ImageOf → ℕ → ℕ → ℕ
@@ -150,10 +134,10 @@ quality_in m f j = if nat_lt f m.shape.frames && nat_lt j 8
 -- What a liveness number stands for; nothing where no component was ever named so.
 abbrev pub life : Option LiveWord → Result LivePart NoPart
 life None = Err Empty
-life (Some live_word.Free) = Err Empty
-life (Some (live_word.Live epoch frame)) = Ok (record { epoch = epoch; frame = frame; lives = 1 })
-life (Some (live_word.Closing epoch by)) = Err Empty
-life (Some (live_word.Dead epoch stamp)) = Ok (record { epoch = epoch; frame = 0; lives = 0 })
+life (Some LiveWord.Free) = Err Empty
+life (Some (LiveWord.Live epoch frame)) = Ok (record { epoch = epoch; frame = frame; lives = 1 })
+life (Some (LiveWord.Closing epoch by)) = Err Empty
+life (Some (LiveWord.Dead epoch stamp)) = Ok (record { epoch = epoch; frame = 0; lives = 0 })
 
 abbrev pub live_in : ImageOf → ℕ → Result LivePart NoPart
 live_in m n = if nat_lt n 64 then life (live_of_word (word_at m.shape m.words (LiveAt n))) else Err Outside

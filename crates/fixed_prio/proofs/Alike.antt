@@ -1,32 +1,16 @@
 -- What the plain kernel reads is what the definitions read, in every state that it has reached.
-use Rattle.std.proofs.Common.{◌≡◌, ◌≢◌, ℕ, ◌+◌, ◌<◌, ◌≤◌, ◌==◌, Bool, true, false, refl, sym, ◌∙◌, ap, subst, arith}
-use Rattle.std.proofs.Common.{if◌then◌else◌, IsTrue, List, [], ◌∷◌, Option, Some, None}
-use Rattle.std.specs.Option.{option_and_then}
-use Rattle.std.proofs.lemmas.Bool.{false≢true}
-use Rattle.spk_nums.specs.Capability.{Capability}
-use Rattle.spk_nums.specs.Setting.{Setting, IsSetting}
-use Rattle.spk_nums.specs.declared.kinds.Kind.{Kind}
-use Rattle.spk_nums.specs.declared.kinds.Kind.TheVariants as kind
-use Rattle.spk_nums.specs.declared.calls.Call.TheVariants.{Flush}
-use Rattle.kernel_rules.specs.State.{CompFields, Frame, Kernel, Comp, Limits, State, comp_in, tcap_in, comp_of}
-use Rattle.kernel_rules.specs.Access.{Slot, Under, root_at, only, usable, reached, own}
-use Rattle.kernel_rules.specs.GracePeriods.{entered}
-use Rattle.kernel_rules.specs.Edits.{tcap_at}
-use Rattle.kernel_rules.specs.Runs.{Event, Enters, after, IsRun}
-use Rattle.kernel_rules.specs.Fitting.{fits, IsGood}
-use Rattle.kernel_invariant.proofs.Sound.{IsObjectGood}
-use Rattle.kernel_invariant.proofs.Facts.{usable_good}
-use Rattle.kernel_invariant.proofs.SoundRuns.{opened, limits_stay, runs_sound}
-use Rattle.plain_kernel.specs.kernel_laws.proofs.RangesLaw.{ranges_hold}
-use Rattle.seq_state.specs.Maps.{Maps, state_of}
-use Rattle.seq_state.specs.Representation.{Represents}
-use Rattle.plain_kernel.specs.same_changes.proofs.Reaching.{Twins, RootGood, comp_same, frame_same, here, here_fit}
-use Rattle.plain_kernel.specs.same_changes.proofs.Reaching.{table_node, reached_same, slot_good, usable_same}
-use Rattle.plain_kernel.specs.Step.{IsReached}
-use Rattle.plain_kernel.proofs.Stepping.{entered_same}
-use Rattle.sched_rules.specs.declared.tasks.Rule.{Rule}
-use Rattle.sched_rules.specs.declared.tasks.Job.{Job}
-use Rattle.sched_rules.specs.Schedule.{reach, time_in, time_of, is_due, ready, lesser, chosen}
+use Rattle.plain_kernel.specs.kernel_laws.proofs.{◌≡◌, ◌≢◌, ℕ, ◌+◌, ◌<◌, ◌≤◌, ◌==◌, Bool, true, false, refl, sym, ◌∙◌, ap, subst, arith}
+use Rattle.plain_kernel.specs.kernel_laws.proofs.{if◌then◌else◌, IsTrue, List, [], ◌∷◌, Option, Some, None, false≢true, Capability, Setting}
+use Rattle.plain_kernel.specs.kernel_laws.proofs.{IsSetting, Kind, Flush, CompFields, Frame, Kernel, Comp, Limits, State, comp_in, tcap_in}
+use Rattle.plain_kernel.specs.kernel_laws.proofs.{comp_of, Slot, Under, root_at, only, usable, reached, own, entered, tcap_at, Event}
+use Rattle.plain_kernel.specs.kernel_laws.proofs.{Enters, after, IsRun, fits, IsGood, IsObjectGood, opened, limits_stay, runs_sound}
+use Rattle.sched_rules.specs.{reach, time_in, time_of, is_due, ready, chosen}
+use Rattle.plain_kernel.specs.same_changes.proofs.{Twins, RootGood, comp_same, reached_same}
+use Rattle.plain_kernel.specs.seq_state.specs.{option_and_then, state_of, Represents}
+use Rattle.plain_kernel.specs.same_changes.proofs.Reaching.{frame_same, here, here_fit, table_node, slot_good, usable_same}
+use Rattle.sched_rules.specs.{declared.tasks.Rule.Rule, declared.tasks.Job.Job, Schedule.lesser}
+use Rattle.{plain_kernel.specs.kernel_invariant.proofs.Facts.usable_good, plain_kernel.specs.kernel_laws.proofs.RangesLaw.ranges_hold}
+use Rattle.{plain_kernel.specs.seq_state.specs.Maps.Maps, plain_kernel.specs.Step.IsReached, plain_kernel.proofs.Stepping.entered_same}
 
 -- The kernel has as many cores as the setting.
 pub cores_of : (setting : Setting) (k : Maps) (s : State) → IsReached setting k s → (state_of k).limits.cores ≡ setting.cores
@@ -34,13 +18,13 @@ cores_of setting k s r =
     ap (λ (l : Limits). l.cores) r.represents.limits ∙ ap (λ (x : State). x.limits.cores) (sym r.state)
     ∙ ap (λ (l : Limits). l.cores) (limits_stay setting r.events)
 
-comp_table : (s : State) (x : Frame) → IsTrue (fits kind.Comp x) → IsObjectGood s x → IsTrue (fits kind.Table (s.frame (comp_in x).table))
+comp_table : (s : State) (x : Frame) → IsTrue (fits Kind.Comp x) → IsObjectGood s x → IsTrue (fits Kind.Table (s.frame (comp_in x).table))
 comp_table s (Kernel (Comp k)) fit good = good.0
 comp_table s _ fit good = absurd (false≢true fit)
 
-is_tcap : (k : Kind) → only kind.Tcap k ≡ true → k ≡ kind.Tcap
-is_tcap kind.Tcap e = refl
-is_tcap kind.Range e = absurd (false≢true e)
+is_tcap : (k : Kind) → only Kind.Tcap k ≡ true → k ≡ Kind.Tcap
+is_tcap Kind.Tcap e = refl
+is_tcap Kind.Range e = absurd (false≢true e)
 is_tcap _ e = absurd (false≢true e)
 
 -- In two states that are one for all that the machine has, one of them reached, with core 0 in an open call.
@@ -72,18 +56,18 @@ module _ (t s : State) (o : ℕ → Bool) (w : Twins t s o 0) where
   time_alike : (sched n : ℕ) → time_of t sched (reach t 0 n) ≡ time_of s sched (reach s 0 n)
   time_alike sched n = ap (time_of t sched) (reach_alike n) ∙ by_cap (reach s 0 n) refl
     where
-      by_kind : (k : Capability) → reach s 0 n ≡ Some k → (b : Bool) → only kind.Tcap k.kind ≡ b
+      by_kind : (k : Capability) → reach s 0 n ≡ Some k → (b : Bool) → only Kind.Tcap k.kind ≡ b
           → (if b then time_in k.frame (tcap_at t k.frame) sched else None)
           ≡ (if b then time_in k.frame (tcap_at s k.frame) sched else None)
       by_kind k is false off = refl
       by_kind k is true on =
-          let fit : IsTrue (fits kind.Tcap (s.frame k.frame)) =
+          let fit : IsTrue (fits Kind.Tcap (s.frame k.frame)) =
           subst (λ j. IsTrue (fits j (s.frame k.frame))) (is_tcap k.kind on) (reach_good n k is).fit in
-          ap (λ x. time_in k.frame (tcap_in x) sched) (frame_same w kind.Tcap k.frame refl fit)
+          ap (λ x. time_in k.frame (tcap_in x) sched) (frame_same w Kind.Tcap k.frame refl fit)
 
       by_cap : (c : Option Capability) → reach s 0 n ≡ c → time_of t sched c ≡ time_of s sched c
       by_cap None is = refl
-      by_cap (Some k) is = by_kind k is (only kind.Tcap k.kind) refl
+      by_cap (Some k) is = by_kind k is (only Kind.Tcap k.kind) refl
 
   pub ready_alike : (rule : Rule) (now : ℕ) (job : Job) → ready t rule now job ≡ ready s rule now job
   ready_alike rule now job = ap (λ r. if is_due now job then r else None) (time_alike rule.sched job.task.tcap)

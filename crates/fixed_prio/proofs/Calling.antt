@@ -1,16 +1,10 @@
 -- A call made at the machine and at the plain kernel.
-use Rattle.std.proofs.Common.{◌≡◌, ℕ, ◌+◌, ◌<◌, ◌≤◌, refl, sym, ◌∙◌, ap, subst, arith, List, [], ◌∷◌, ◌++◌}
-use Rattle.spk_nums.specs.Setting.{Setting, IsSetting}
-use Rattle.spk_nums.specs.declared.calls.Call.{Call}
-use Rattle.spk_nums.specs.declared.replies.Reply.{Reply}
-use Rattle.kernel_rules.specs.State.{State}
-use Rattle.kernel_rules.specs.Start.{start}
-use Rattle.kernel_rules.specs.Alone.{plain_step, plain_steps}
-use Rattle.seq_state.specs.Maps.{Maps, state_of}
-use Rattle.plain_kernel.specs.Step.{IsReached, StepsExactly}
-use Rattle.sched_rules.specs.Schedule.{reply_to, state_past}
-use Rattle.fixed_prio.specs.Machines.{after_calls, Beside, MakesBoth}
-use Rattle.fixed_prio.proofs.Alike.{cores_of}
+use Rattle.plain_kernel.specs.kernel_rules.proofs.{◌≡◌, ℕ, ◌+◌, ◌<◌, ◌≤◌, refl, sym, ◌∙◌, ap, subst, arith, List, [], ◌∷◌, ◌++◌, Setting}
+use Rattle.plain_kernel.specs.kernel_rules.proofs.{IsSetting, Call, Reply, start, plain_step, plain_steps}
+use Rattle.fixed_prio.specs.{after_calls, Beside, MakesBoth}
+use Rattle.{plain_kernel.specs.IsReached, plain_kernel.specs.StepsExactly, plain_kernel.specs.seq_state.specs.State}
+use Rattle.{plain_kernel.specs.seq_state.specs.state_of, sched_rules.specs.reply_to, sched_rules.specs.state_past}
+use Rattle.{plain_kernel.specs.seq_state.specs.Maps.Maps, fixed_prio.proofs.Alike.cores_of}
 
 steps_more : (s : State) (calls : List Call) (call : Call)
     → plain_steps s 0 (calls ++ call ∷ []) ≡ plain_step (plain_steps s 0 calls) 0 call

@@ -1,8 +1,7 @@
 -- Going through the tasks for one of which a job has come.
-use Rattle.std.proofs.Common.{◌≡◌, ℕ, ◌+◌, ◌<◌, ◌≤◌, sym, ◌∙◌, ap, if◌then◌else◌, List, length, drop, get_or, Some, None}
-use Rattle.std.proofs.lemmas.List.{drop_all, drop_more}
-use Rattle.sched_rules.specs.declared.tasks.Job.{Job}
-use Rattle.sched_rules.specs.Schedule.{is_renewed, renewal}
+use Rattle.plain_kernel.specs.kernel_rules.proofs.{◌≡◌, ℕ, ◌+◌, ◌<◌, ◌≤◌, sym, ◌∙◌, ap, if◌then◌else◌, List, length, drop, get_or, Some}
+use Rattle.{plain_kernel.specs.kernel_rules.proofs.None, plain_kernel.specs.kernel_rules.proofs.drop_more, sched_rules.specs.is_renewed}
+use Rattle.{sched_rules.specs.renewal, std.proofs.lemmas.List.drop_all, sched_rules.specs.declared.tasks.Job.Job}
 
 -- One task more.
 pub coming_more : (now i : ℕ) (jobs : List Job) (job : Job) → i < length jobs → job ≡ get_or jobs i job

@@ -1,24 +1,15 @@
 -- Turn after turn, to the end of a schedule.
-use Rattle.std.proofs.Common.{◌≡◌, ℕ, zero, suc, ◌+◌, ◌*◌, ◌<◌, ◌≤◌, refl, sym, ◌∙◌, ap, subst, arith, append_assoc, append-nil}
-use Rattle.std.proofs.Common.{List, [], ◌∷◌, ◌++◌, map, length, Option, Some, None, All, Bool, true, false, nat_le, if◌then◌else◌}
-use Rattle.std.proofs.Common.{IfSome}
-use Rattle.std.proofs.lemmas.Bool.{leb-true}
-use Rattle.std.specs.Prelude.{slice_get}
-use Rattle.std.proofs.lemmas.List.{length-map, get_or-map}
+use Rattle.plain_kernel.specs.kernel_laws.proofs.{◌≡◌, ℕ, zero, suc, ◌+◌, ◌*◌, ◌<◌, ◌≤◌, refl, sym, ◌∙◌, ap, subst, arith, append_assoc}
+use Rattle.plain_kernel.specs.kernel_laws.proofs.{append-nil, List, [], ◌∷◌, ◌++◌, map, length, Option, Some, None, All, Bool, true, false}
+use Rattle.plain_kernel.specs.kernel_laws.proofs.{leb as nat_le, if◌then◌else◌, IfSome, leb-true, slice_get, length-map, get_or-map}
+use Rattle.plain_kernel.specs.kernel_laws.proofs.{Setting, Call}
+use Rattle.sched_rules.specs.{Progress, Step, turn_of, job_after, new_job, at_first, turns_of, calls_of, IsSchedule, TaskFits, RuleFits}
+use Rattle.fixed_prio.specs.{after_calls, Beside, progress}
 use Rattle.std.proofs.lemmas.Option.{slice_get_within, get_or_from_slice_get}
-use Rattle.spk_nums.specs.Setting.{Setting}
-use Rattle.spk_nums.specs.declared.calls.Call.{Call}
-use Rattle.seq_state.specs.Maps.{Maps}
-use Rattle.sched_rules.specs.declared.tasks.Task.{Task}
-use Rattle.sched_rules.specs.declared.tasks.Rule.{Rule}
-use Rattle.sched_rules.specs.declared.turns.Turn.{Turn}
-use Rattle.sched_rules.specs.Schedule.{Progress, Step, turn_of, job_after, new_job, at_first, turns_of, calls_of, IsSchedule}
-use Rattle.sched_rules.specs.Schedule.{TaskFits, RuleFits}
-use Rattle.fixed_prio.specs.declared.course.Course.{Course}
-use Rattle.fixed_prio.specs.Machines.{after_calls, Beside}
-use Rattle.fixed_prio.specs.Courses.{progress, yet_from, yet, all_yet, ComesNext, Arrives, Fits, CourseFits}
-use Rattle.fixed_prio.specs.Courses.{TakesTurn, HasScheduled}
+use Rattle.sched_rules.specs.{declared.tasks.Task.Task, declared.tasks.Rule.Rule, declared.turns.Turn.Turn}
+use Rattle.fixed_prio.specs.Courses.{yet_from, yet, all_yet, ComesNext, Arrives, Fits, CourseFits, TakesTurn, HasScheduled}
 use Rattle.fixed_prio.proofs.ToGo.{to_go, goes_on}
+use Rattle.{plain_kernel.specs.seq_state.specs.Maps.Maps, fixed_prio.specs.declared.course.Course.Course}
 
 -- The schedule has come from x to y by these turns.
 abbrev pub Comes : Rule → Progress → List Step → Progress → Type 0

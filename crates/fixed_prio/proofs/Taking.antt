@@ -1,31 +1,19 @@
 -- What the calls of a turn come to.
-use Rattle.std.proofs.Common.{◌≡◌, ℕ, ◌+◌, ◌-◌, ◌<◌, ◌≤◌, Bool, true, false, ◌&&◌, ◌==◌, refl, sym, ◌∙◌, ap}
-use Rattle.std.proofs.Common.{subst, arith, append_assoc, append-nil}
-use Rattle.std.proofs.Common.{min, if◌then◌else◌, List, [], ◌∷◌, ◌++◌, Option, Some, None, slice_set}
-use Rattle.spk_nums.specs.Setting.{Setting}
-use Rattle.spk_nums.specs.declared.calls.Call.{Call}
-use Rattle.spk_nums.specs.declared.calls.Call.TheVariants.{Tick}
-use Rattle.spk_nums.specs.declared.replies.Reply.{Reply}
-use Rattle.kernel_rules.specs.State.{Core, State}
-use Rattle.seq_state.specs.Maps.{Maps, state_of}
-use Rattle.sched_rules.specs.declared.tasks.Rule.{Rule}
-use Rattle.sched_rules.specs.declared.tasks.Job.{Job}
-use Rattle.sched_rules.specs.declared.tasks.Choice.{Choice}
-use Rattle.sched_rules.specs.declared.tasks.Renewal.{Renewal}
-use Rattle.sched_rules.specs.declared.turns.Turn.{Turn}
-use Rattle.sched_rules.specs.declared.turns.Turn.TheVariants.{Ran, Back, Refused}
-use Rattle.sched_rules.specs.Schedule.{Step, chosen, next_arrival, cut_at, length_of, reply_to, state_past, is_done, is_place}
-use Rattle.sched_rules.specs.Schedule.{refused, ran, ticks, switches, switch_for, goes_on, runs, idles, turn_by, turn_for, turn_of}
-use Rattle.sched_rules.specs.Schedule.{put_out, begun, renewal, gives_back, renews, replenish_for, RuleFits}
-use Rattle.sched_laws.proofs.Picks.{place_of}
-use Rattle.sched_laws.proofs.Arriving.{cut_most}
-use Rattle.fixed_prio.specs.declared.course.Course.{Course}
-use Rattle.fixed_prio.specs.Machines.{after_calls, Beside, MakesBoth}
-use Rattle.fixed_prio.specs.Courses.{progress, Takes, TakesTurn, IdlesTo, IsChosen, IsRenewal, CourseFits}
-use Rattle.fixed_prio.proofs.Alike.{chosen_reached, core_reached}
-use Rattle.fixed_prio.proofs.Calling.{after_more}
-use Rattle.fixed_prio.proofs.ToGo.{arrives_at, come_is, left_most, next_most, on_time_now}
-use Rattle.sched_laws.proofs.Turns.{come_at}
+use Rattle.plain_kernel.specs.kernel_laws.proofs.{◌≡◌, ℕ, ◌+◌, ◌-◌, ◌<◌, ◌≤◌, Bool, true, false, ◌&&◌, ◌==◌, refl, sym, ◌∙◌, ap, subst}
+use Rattle.plain_kernel.specs.kernel_laws.proofs.{arith, append_assoc, append-nil, min, if◌then◌else◌, List, [], ◌∷◌, ◌++◌, Option, Some}
+use Rattle.plain_kernel.specs.kernel_laws.proofs.{None, set as slice_set, Setting, Call, Tick, Reply, Core, State}
+use Rattle.sched_rules.specs.{Step, chosen, next_arrival, cut_at, length_of, reply_to, state_past, is_done, refused, ran, ticks, switches}
+use Rattle.sched_rules.specs.{switch_for, goes_on, runs, idles, turn_by, turn_for, turn_of, put_out, begun, renewal, gives_back, renews}
+use Rattle.fixed_prio.specs.{after_calls, Beside, MakesBoth, progress}
+use Rattle.sched_rules.specs.{declared.tasks.Rule.Rule, declared.tasks.Job.Job, declared.tasks.Choice.Choice}
+use Rattle.sched_rules.specs.{declared.tasks.Renewal.Renewal, declared.turns.Turn.Turn, declared.turns.Turn.TheVariants.Ran}
+use Rattle.sched_rules.specs.{declared.turns.Turn.TheVariants.Back, declared.turns.Turn.TheVariants.Refused, Schedule.is_place}
+use Rattle.fixed_prio.specs.Courses.{Takes, TakesTurn, IdlesTo, IsChosen, IsRenewal, CourseFits}
+use Rattle.fixed_prio.proofs.{Alike.chosen_reached, Alike.core_reached, Calling.after_more, ToGo.arrives_at, ToGo.come_is, ToGo.left_most}
+use Rattle.{sched_rules.specs.replenish_for, sched_rules.specs.RuleFits, sched_laws.proofs.place_of, sched_laws.proofs.come_at}
+use Rattle.{plain_kernel.specs.seq_state.specs.Maps.Maps, plain_kernel.specs.seq_state.specs.Maps.state_of}
+use Rattle.{sched_laws.proofs.Arriving.cut_most, fixed_prio.specs.declared.course.Course.Course, fixed_prio.proofs.ToGo.next_most}
+use Rattle.{fixed_prio.proofs.ToGo.on_time_now}
 
 -- The task has run on.
 pub record RunsOn (course : Course) (c : Choice) (n : ℕ) (taken : Turn) (course' : Course) : Type 0 where

@@ -1,27 +1,17 @@
 -- What a schedule has still to do: it falls with each turn, so the schedule ends.
-use Rattle.std.proofs.Common.{◌≡◌, ◌≢◌, inl, inr, ℕ, zero, suc, ◌+◌, ◌*◌, ◌-◌, ◌<◌, ◌≤◌, min, Bool, true, false, not, ◌&&◌, refl, sym}
-use Rattle.std.proofs.Common.{◌∙◌, ap, subst, arith, nat_le, nat_lt, if◌then◌else◌, List, [], ◌∷◌, Option, Some, None, IfSome}
-use Rattle.std.proofs.Common.{slice_set, length-set, get_or, All}
-use Rattle.std.specs.Prelude.{slice_get}
-use Rattle.std.proofs.lemmas.Bool.{cases_lt, lt-ltb, le-ltb, ltb-true, leb-true, leb-false, and_parts, false≢true}
+use Rattle.plain_kernel.specs.kernel_laws.proofs.{◌≡◌, ◌≢◌, inl, inr, ℕ, zero, suc, ◌+◌, ◌*◌, ◌-◌, ◌<◌, ◌≤◌, min, Bool, true, false, not}
+use Rattle.plain_kernel.specs.kernel_laws.proofs.{◌&&◌, refl, sym, ◌∙◌, ap, subst, arith, leb as nat_le, ltb as nat_lt, if◌then◌else◌, List}
+use Rattle.plain_kernel.specs.kernel_laws.proofs.{[], ◌∷◌, Option, Some, None, IfSome, set as slice_set, length-set, get_or, All, slice_get}
+use Rattle.plain_kernel.specs.kernel_laws.proofs.{lt-ltb, le-ltb, ltb-true, leb-true, leb-false, false≢true, Call, Reply, State}
+use Rattle.sched_rules.specs.{Progress, Step, job_after, has_come, is_renewed, renewal, next_of, begun, later, sooner, next_arrival, cut_at}
+use Rattle.sched_rules.specs.{length_of, put_out, turn_of, PeriodFits, RuleFits}
 use Rattle.std.proofs.lemmas.Option.{slice_get_within, get_or_from_slice_get, slice_get-get_or}
-use Rattle.std.proofs.lemmas.List.Elements.{All-set}
-use Rattle.spk_nums.specs.declared.calls.Call.{Call}
-use Rattle.spk_nums.specs.declared.replies.Reply.{Reply}
-use Rattle.kernel_rules.specs.State.{State}
-use Rattle.sched_rules.specs.declared.tasks.Task.{Task}
-use Rattle.sched_rules.specs.declared.tasks.Rule.{Rule}
-use Rattle.sched_rules.specs.declared.tasks.Job.{Job}
-use Rattle.sched_rules.specs.declared.tasks.Choice.{Choice}
-use Rattle.sched_rules.specs.declared.tasks.Renewal.{Renewal}
-use Rattle.sched_rules.specs.Schedule.{Progress, Step, job_after, has_come, is_renewed, renewal, next_of, begun, later, sooner}
-use Rattle.sched_rules.specs.Schedule.{next_arrival, cut_at, length_of, put_out, turn_of, PeriodFits, RuleFits}
-use Rattle.sched_laws.proofs.Picks.{best, place_of}
-use Rattle.sched_laws.proofs.Arriving.{due_tells}
-use Rattle.sched_laws.proofs.Readiness.{ready_tells}
-use Rattle.sched_laws.proofs.Bound.{length_most}
-use Rattle.sched_laws.proofs.Turns.{Way, Runs, Refuses, Idles, Begins, Lacks, RunsOne, IdlesOn, BeginsOne, way, come_at}
+use Rattle.sched_rules.specs.{declared.tasks.Task.Task, declared.tasks.Rule.Rule, declared.tasks.Job.Job, declared.tasks.Choice.Choice}
+use Rattle.sched_laws.proofs.{Picks.best, Arriving.due_tells, Readiness.ready_tells, Bound.length_most, Turns.Way, Turns.Runs}
+use Rattle.sched_laws.proofs.{Turns.Refuses, Turns.Idles, Turns.Begins, Turns.Lacks, Turns.RunsOne, Turns.IdlesOn, Turns.BeginsOne}
 use Rattle.fixed_prio.specs.Courses.{yet_from, yet, all_yet, ComesNext, Arrives, Fits}
+use Rattle.{std.proofs.lemmas.Bool.cases_lt, std.proofs.lemmas.Bool.and_parts, sched_laws.proofs.place_of, sched_laws.proofs.come_at}
+use Rattle.{std.proofs.lemmas.List.Elements.All-set, sched_rules.specs.declared.tasks.Renewal.Renewal, sched_laws.proofs.Turns.way}
 
 -- Of a task: its work left, 1 while it is not out, 1 while it is still to come, 1 while its next job is; and for each tick up to the last
 -- at which a job may arrive, more than the most work of a job and that 1.

@@ -1,19 +1,11 @@
 -- What a turn, and a whole schedule, make of a machine and of where the schedule has come to.
-use Rattle.std.specs.Prelude.{◌≡◌, ◌<◌, ◌≤◌, ◌^◌, ◌*◌, ℕ, ◌+◌, ◌-◌, List, [], ◌∷◌, ◌++◌, length, slice_get, All, false}
-use Rattle.std.specs.Prelude.{Option, Some, None, IfSome}
-use Rattle.spk_nums.specs.Setting.{Setting}
-use Rattle.spk_nums.specs.declared.calls.Call.{Call}
-use Rattle.seq_state.specs.Maps.{Maps}
-use Rattle.sched_rules.specs.declared.tasks.Task.{Task}
-use Rattle.sched_rules.specs.declared.tasks.Rule.{Rule}
-use Rattle.sched_rules.specs.declared.tasks.Job.{Job}
-use Rattle.sched_rules.specs.declared.tasks.Choice.{Choice}
-use Rattle.sched_rules.specs.declared.tasks.Renewal.{Renewal}
-use Rattle.sched_rules.specs.declared.turns.Turn.{Turn}
-use Rattle.sched_rules.specs.declared.turns.Turn.TheVariants.{Idle}
-use Rattle.sched_rules.specs.Schedule.{Progress, Step, TaskFits, at_first, turns_of, calls_of, IsSchedule}
-use Rattle.fixed_prio.specs.declared.course.Course.{Course}
-use Rattle.fixed_prio.specs.Machines.{after_calls, Beside}
+use Rattle.plain_kernel.specs.seq_state.specs.{◌≡◌, ◌<◌, ◌≤◌, ◌^◌, ◌*◌, ℕ, ◌+◌, ◌-◌, List, [], ◌∷◌, ◌++◌, length, slice_get, All, false}
+use Rattle.plain_kernel.specs.seq_state.specs.{Option, Some, None, IfSome, Setting, Call}
+use Rattle.sched_rules.specs.{Progress, Step, TaskFits, at_first, turns_of, calls_of, IsSchedule}
+use Rattle.plain_kernel.specs.seq_state.specs.Maps.{Maps}
+use Rattle.sched_rules.specs.{declared.tasks.Task.Task, declared.tasks.Rule.Rule, declared.tasks.Job.Job, declared.tasks.Choice.Choice}
+use Rattle.sched_rules.specs.{declared.tasks.Renewal.Renewal, declared.turns.Turn.Turn, declared.turns.Turn.TheVariants.Idle}
+use Rattle.fixed_prio.specs.{declared.course.Course.Course, Machines.after_calls, Machines.Beside}
 
 -- Where the schedule has come to, after these calls of the machine.
 abbrev pub progress : Setting → List Call → Course → Progress

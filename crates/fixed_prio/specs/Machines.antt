@@ -1,14 +1,7 @@
 -- A machine of one core, and the plain kernel beside it.
-use Rattle.std.specs.Prelude.{◌≡◌, List, [], ◌∷◌, ◌++◌}
-use Rattle.spk_nums.specs.Setting.{Setting, IsSetting}
-use Rattle.spk_nums.specs.declared.calls.Call.{Call}
-use Rattle.spk_nums.specs.declared.replies.Reply.{Reply}
-use Rattle.kernel_rules.specs.State.{State}
-use Rattle.kernel_rules.specs.Start.{start}
-use Rattle.kernel_rules.specs.Alone.{plain_steps}
-use Rattle.seq_state.specs.Maps.{Maps}
-use Rattle.plain_kernel.specs.Step.{IsReached}
-use Rattle.sched_rules.specs.Schedule.{reply_to}
+use Rattle.plain_kernel.specs.kernel_rules.specs.{◌≡◌, List, [], ◌∷◌, ◌++◌, Setting, IsSetting, Call, Reply, start, plain_steps}
+use Rattle.{plain_kernel.specs.kernel_rules.specs.State.State, plain_kernel.specs.seq_state.specs.Maps.Maps}
+use Rattle.{plain_kernel.specs.Step.IsReached, sched_rules.specs.Schedule.reply_to}
 
 -- The state after calls that core 0 makes alone, one after another, from the start.
 unfoldable pub after_calls : Setting → List Call → State

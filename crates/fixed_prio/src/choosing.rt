@@ -1,8 +1,8 @@
 //! Which tasks are ready, and which of them is chosen.
 
 ghost use Rattle.std.specs.Prelude.{◌≡◌, ◌<◌, ◌≤◌};
-ghost use Rattle.kernel_rules.specs.Edits.{tcap_at};
-ghost use Rattle.seq_state.specs.Maps.{state_of};
+ghost use Rattle.sched_rules.specs.kernel_rules.specs.Edits.{tcap_at};
+ghost use Rattle.plain_kernel.specs.seq_state.specs.Maps.{state_of};
 ghost use Rattle.sched_rules.specs.Schedule.{with_number, time_in, time_of, is_due, ready, lesser, chosen};
 
 use plain_kernel::SeqKernel;

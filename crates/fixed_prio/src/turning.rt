@@ -1,8 +1,8 @@
 //! One turn: whose it is, its calls, and what it changes.
 
 ghost use Rattle.std.specs.Prelude.{◌≡◌, ◌≤◌, ◌&&◌, ◌==◌, []};
-ghost use Rattle.kernel_rules.specs.State.{State};
-ghost use Rattle.seq_state.specs.Maps.{state_of};
+ghost use Rattle.sched_rules.specs.kernel_rules.specs.State.{State};
+ghost use Rattle.plain_kernel.specs.seq_state.specs.Maps.{state_of};
 ghost use Rattle.sched_rules.specs.Schedule.{is_place, is_done, ticks, switches, switch_for, runs, turn_of, idles, next_arrival, RuleFits};
 ghost use Rattle.sched_rules.specs.Schedule.{renews, replenish_for};
 ghost use Rattle.fixed_prio.specs.Machines.{after_calls, Beside};

@@ -1,20 +1,13 @@
 -- A step of any core leaves cores that stand for the trace with it.
-use Rattle.work_invariant.proofs.Common.{◌≡◌, ℕ, ◌<◌, Option, Some, None, true, refl, sym, subst, IsSome, false≢true, Setting, IsSetting}
-use Rattle.work_invariant.proofs.Common.{Call, CoreAt, StoreOf, word_of, Trace, last_left, ActiveCall, Core, core_word, stage_move, Took}
-use Rattle.work_invariant.proofs.Common.{fresh, told_by, Knows, CallIs, Invariant}
-use Rattle.boot_words.specs.word_map.specs.Places.{IsIn as IsInShape}
-use Rattle.call_stages.specs.Fits.{IsActive}
-use Rattle.call_stages.specs.Steps.{took_enter, is_spent}
-use Rattle.call_stages.specs.Cores.{begun}
-use Rattle.call_stages.specs.Cores as cores_of
-use Rattle.work_invariant.specs.step_ways.proofs.Good.{IsGood, stands_on}
-use Rattle.work_invariant.specs.step_ways.proofs.Loads.{is_active}
-use Rattle.flight.specs.Made.{turned, MayBegin, MayStep, step_at, step_of, core_after}
-use Rattle.flight.specs.Theorems.{found_by, StepsOn}
-use Rattle.flight.proofs.CoreFits.{begun_fits, after_fits}
-use Rattle.flight.proofs.Spelling.{stage_in}
-use Rattle.flight.proofs.Entries.{enter_good}
-use Rattle.work_invariant.proofs.Stages.{stage_good}
+use Rattle.work_invariant.specs.step_ways.proofs.{◌≡◌, ℕ, ◌<◌, Option, Some, None, true, refl, sym, subst, IsSome, false≢true, Setting}
+use Rattle.work_invariant.specs.step_ways.proofs.{IsSetting, Call, CoreAt, StoreOf, word_of, Trace, last_left, ActiveCall, Core, stage_move}
+use Rattle.work_invariant.specs.step_ways.proofs.{Took, fresh, told_by, CallIs, Invariant, IsIn as IsInShape, IsGood, is_active}
+use Rattle.flight.specs.{turned, MayStep, step_of, core_after, found_by}
+use Rattle.call_fits.specs.call_stages.specs.{core_word, IsActive, took_enter, is_spent, begun}
+use Rattle.flight.proofs.{CoreFits.begun_fits, CoreFits.after_fits, Spelling.stage_in, Entries.enter_good}
+use Rattle.{work_invariant.specs.core_invariant.specs.Knows.Knows, work_invariant.specs.step_ways.proofs.Good.stands_on}
+use Rattle.{work_invariant.proofs.Stages.stage_good, flight.specs.Made.MayBegin, flight.specs.Made.step_at, flight.specs.Theorems.StepsOn}
+use Rattle.call_fits.specs.call_stages.specs.Cores as cores_of
 
 -- The step of core c, which stands here with the call that may begin, is good for what it finds.
 abbrev pub StepGood : Setting → (ℕ → Core) → Trace → ℕ → Option Call → Core → Type 0

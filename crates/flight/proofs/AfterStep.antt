@@ -1,9 +1,9 @@
 -- What a core is after its step, whatever the call: it is on the same machine, and is between calls exactly where the step returned.
-use Rattle.work_invariant.proofs.Common.{◌≡◌, ℕ, Option, Some, None, refl, Reply, ActiveCall, Took, GoesOn, Decides, Returns, Changes}
-use Rattle.work_invariant.proofs.Common.{took, Core, Own, Works, core_after, absorbed_in, absorbed, told_by, told_in, returned_in}
-use Rattle.std.proofs.Common.{IsSome}
-use Rattle.call_stages.specs.act_states.specs.declared.own.OwnChange.TheVariants.{Ticks, GivesBack, Empties, Caches, Switches}
-use Rattle.call_stages.specs.Cores.{told_of_step}
+use Rattle.work_invariant.specs.core_invariant.specs.{◌≡◌, ℕ, Option, Some, None, refl, Reply, ActiveCall, Took, GoesOn, Decides, Returns}
+use Rattle.work_invariant.specs.core_invariant.specs.{Changes, took, Core, Own, Works, core_after, absorbed_in, absorbed, told_by, told_in}
+use Rattle.work_invariant.specs.core_invariant.specs.{returned_in, IsSome, told_of_step}
+use Rattle.call_fits.specs.call_stages.specs.act_states.specs.declared.own.OwnChange.TheVariants.{Ticks, GivesBack, Empties, Caches}
+use Rattle.call_fits.specs.call_stages.specs.act_states.specs.declared.own.OwnChange.TheVariants.{Switches}
 
 after_shape : (own : Own) (k : Took) → (core_after own k).own.layout ≡ own.layout
 after_shape own (GoesOn a) = refl

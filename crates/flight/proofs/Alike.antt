@@ -1,16 +1,16 @@
 -- What is closed represents what was left, where its words and ends are the same; and so do its counts.
-use Rattle.work_invariant.proofs.Common.{◌≡◌, ℕ, ◌+ℤ◌, ◌+◌, ◌<◌, List, [], ◌∷◌, length, arith, refl, sym, ◌∙◌, ap, subst, zero, suc}
-use Rattle.work_invariant.proofs.Common.{Setting, IsSetting, Word, EntryAt, FrameAt, CountAt, CoreAt, LiveAt, IsIn}
-use Rattle.work_invariant.proofs.Common.{entry_of_word, comp_of_word, count_of_word, frame_of_word, live_of_word, core_of_word}
-use Rattle.work_invariant.proofs.Common.{thread_of_word, stack_of_word, head_of_word, quality_of_word, Place, Object, Blank, Table, Leaf}
-use Rattle.work_invariant.proofs.Common.{Pages, Pleaf, Comp, Thread, Tcap, Frame, Untyped, User, Kernel, State, shape_of, counters}
-use Rattle.work_invariant.proofs.Common.{count_in, count_sum}
-use Rattle.std.proofs.Common.{get_or}
+use Rattle.work_invariant.specs.boot_words.specs.kernel_history.proofs.{◌≡◌, ℕ, ◌+ℤ◌, ◌+◌, ◌<◌, List, [], ◌∷◌, length, arith, refl, sym}
+use Rattle.work_invariant.specs.boot_words.specs.kernel_history.proofs.{◌∙◌, ap, subst, zero, suc, Setting, IsSetting, Word, EntryAt}
+use Rattle.work_invariant.specs.boot_words.specs.kernel_history.proofs.{FrameAt, CountAt, CoreAt, LiveAt, IsIn, entry_of_word, comp_of_word}
+use Rattle.work_invariant.specs.boot_words.specs.kernel_history.proofs.{count_of_word, frame_of_word, live_of_word, core_of_word}
+use Rattle.work_invariant.specs.boot_words.specs.kernel_history.proofs.{thread_of_word, stack_of_word, head_of_word, quality_of_word, Place}
+use Rattle.work_invariant.specs.boot_words.specs.kernel_history.proofs.{Object, Blank, Table, Leaf, Pages, Pleaf, Comp, Thread, Tcap, Frame}
+use Rattle.work_invariant.specs.boot_words.specs.kernel_history.proofs.{Untyped, User, Kernel, State, shape_of, counters, count_in}
+use Rattle.work_invariant.specs.boot_words.specs.kernel_history.proofs.{count_sum, get_or, CoreEnd, residue, count_at, RepresentCounts}
+use Rattle.work_invariant.specs.boot_words.specs.kernel_history.proofs.{Represent, AreFrame, SaysPlace}
+use Rattle.work_invariant.specs.boot_words.specs.kernel_history.specs.{IsUnheld, AreEntries, SaysNumber}
 use Rattle.std.proofs.lemmas.List.FromFn.{length-range_with_len, get_or-range_with_len}
-use Rattle.boot_words.specs.spk_nums.specs.declared.translations.CoreEnd.{CoreEnd}
-use Rattle.boot_words.specs.frame_words.specs.Residue.{residue}
-use Rattle.boot_words.specs.kernel_history.specs.Counts.{count_at, IsUnheld, RepresentCounts}
-use Rattle.boot_words.specs.kernel_history.specs.FinalWords.{Represent, AreEntries, AreObject, AreFrame, SaysPlace, SaysNumber, SaysOut}
+use Rattle.work_invariant.specs.boot_words.specs.kernel_history.specs.FinalWords.{AreObject, SaysOut}
 
 -- words that are alike say alike
 module _ (word word' : ℕ → ℕ) (alike : (i : ℕ) → i < 64 → word i ≡ word' i) where

@@ -1,48 +1,34 @@
 -- The start stands for no step.
-use Rattle.work_invariant.proofs.Common.{◌≡◌, inl, inr, ℕ, zero, suc, ◌+◌, ◌<◌, ◌≤◌, ◌==◌, ◌*◌, ◌-◌, ◌∷◌, nat_lt, length, slice_get, Bool}
-use Rattle.work_invariant.proofs.Common.{true, false, [], Option, Some, None, arith, refl, sym, ◌∙◌, ap, subst, IsTrue, if◌then◌else◌}
-use Rattle.work_invariant.proofs.Common.{pos, List, ne_eqb, cases_lt, false≢true, lt-ltb, eqb-true, Capability, Setting, IsSetting, Kind}
-use Rattle.work_invariant.proofs.Common.{Entry, word_of_entry, entry_of_word, frame_of_word, count_of_word, live_of_word, Word, EntryAt}
-use Rattle.work_invariant.proofs.Common.{FrameAt, CountAt, CoreAt, FlushAt, LiveAt, ClockAt, Place, Free, Holds, Quiescing, Object, Blank}
-use Rattle.work_invariant.proofs.Common.{Table, Leaf, Pages, Pleaf, Comp, Thread, Tcap, TcapFields, Frame, Untyped, User, Kernel, State}
-use Rattle.work_invariant.proofs.Common.{comp_in, thread_in, thread_of, first_of_stack, refs, fits, frame_value, entry_mark, frame_mark}
-use Rattle.work_invariant.proofs.Common.{count_mark, live_mark, thread_mark, head_mark, mark_in_frame, CapNames, marked_by, settled_by}
-use Rattle.work_invariant.proofs.Common.{PlaceIs, IsFrameWord, NumberIs, WordIs, word_of_head, head_of_word, HeadWord}
-use Rattle.work_invariant.proofs.Common.{held_by, times_of, count_shown, SumIs, stamp_in, count_in, word_of_count, word_of_frame}
-use Rattle.work_invariant.proofs.Common.{word_of_live, at_height, thread_value, quality_of_word, stack_of_word, thread_of_word}
-use Rattle.work_invariant.proofs.Common.{end_of_frames}
-use Rattle.work_invariant.specs.core_invariant.proofs.Bare.{none_value}
-use Rattle.boot_words.specs.spk_nums.specs.declared.kinds.Kind.TheVariants as kind
-use Rattle.boot_words.specs.entry_words.specs.declared.entry.Entry.TheVariants as entry
-use Rattle.boot_words.specs.entry_words.proofs.Spelling as entries
-use Rattle.boot_words.specs.frame_words.specs.declared.count_word.CountWord.{CountWord}
-use Rattle.boot_words.specs.frame_words.specs.declared.count_word.Hold.TheVariants.{Unheld}
-use Rattle.boot_words.specs.frame_words.specs.declared.live_word.LiveWord.TheVariants as live_word
-use Rattle.boot_words.specs.frame_words.specs.Residue.{residue}
-use Rattle.boot_words.specs.frame_words.proofs.CoreLemmas as core_words
-use Rattle.boot_words.specs.frame_words.proofs.CountLemmas as counts
-use Rattle.boot_words.specs.frame_words.proofs.FlushLemmas as flushes
-use Rattle.boot_words.specs.frame_words.proofs.FrameLemmas as frames
-use Rattle.boot_words.specs.frame_words.proofs.LiveLemmas as lives
-use Rattle.boot_words.specs.kernel_rules.specs.Start.{start, start_place, start_cap, place_with, start_frame, start_number, granted}
-use Rattle.boot_words.specs.kernel_rules.specs.Fitting.{IsGood, EndsWithin}
-use Rattle.call_stages.specs.kernel_invariant.proofs.SoundStart.{past_three, start_sound}
-use Rattle.boot_words.specs.kernel_history.specs.BootWords.{boot_word, boot_entry, boot_object, boot_frame, boot_live}
-use Rattle.boot_words.specs.kernel_history.specs.FinalWords.{SaysPlace, AreObject, AreFrame, Represent}
-use Rattle.boot_words.specs.kernel_history.specs.Counts.{counters}
-use Rattle.boot_words.specs.kernel_history.specs.Marks.{object_mark}
-use Rattle.boot_words.specs.kernel_history.proofs.Counters.{sum_of_first}
-use Rattle.boot_words.proofs.BootRepresents.{boot_represents}
-use Rattle.boot_words.proofs.StartRefs.{refs_most}
-use Rattle.work_invariant.specs.trace_laws.proofs.GraceSteps.{grace_start, times_start}
-use Rattle.work_invariant.specs.core_invariant.specs.CountWords.{newest_of}
-use Rattle.work_invariant.specs.core_invariant.specs.Words.{IsObjectWord}
-use Rattle.boot_words.specs.tcap_words.proofs.HeadLemmas as heads
-use Rattle.flight.specs.Made.{boot_cores}
-use Rattle.flight.specs.Theorems.{Boots}
-use Rattle.flight.proofs.CoreFits.{started_fits}
-use Rattle.boot_words.specs.kernel_history.specs.FinalWords.{end_of}
-use Rattle.boot_words.specs.tcap_words.specs.Head.{head_of_word as head_of_word_of_head}
+use Rattle.work_invariant.specs as low
+use low.core_invariant.proofs.{◌≡◌, inl, inr, ℕ, zero, suc, ◌+◌, ◌<◌, ◌≤◌, ◌==◌, ◌*◌, ◌-◌, ◌∷◌, ltb as nat_lt, length, slice_get, Bool}
+use low.core_invariant.proofs.{true, false, [], Option, Some, None, arith, refl, sym, ◌∙◌, ap, subst, IsTrue, if◌then◌else◌, pos, List}
+use low.core_invariant.proofs.{ne_eqb, false≢true, lt-ltb, eqb-true, Capability, Setting, IsSetting, Kind, Entry, word_of_entry}
+use low.core_invariant.proofs.{entry_of_word, frame_of_word, count_of_word, live_of_word, Word, EntryAt, FrameAt, CountAt, CoreAt, FlushAt}
+use low.core_invariant.proofs.{LiveAt, ClockAt, Place, Free, Holds, Quiescing, Object, Blank, Table, Leaf, Pages, Pleaf, Comp, Thread, Tcap}
+use low.core_invariant.proofs.{TcapFields, Frame, Untyped, User, Kernel, State, comp_in, thread_in, thread_of, first_of_stack, refs, fits}
+use low.core_invariant.proofs.{frame_value, entry_mark, frame_mark, count_mark, live_mark, thread_mark, head_mark, mark_in_frame, CapNames}
+use low.core_invariant.proofs.{marked_by, settled_by, PlaceIs, IsFrameWord, NumberIs, WordIs, word_of_head, head_of_word, HeadWord, held_by}
+use low.core_invariant.proofs.{times_of, count_shown, SumIs, stamp_in, count_in, word_of_count, word_of_frame, word_of_live, at_height}
+use low.core_invariant.proofs.{thread_value, quality_of_word, stack_of_word, thread_of_word, CountWord, residue, Represent, counters}
+use low.core_invariant.proofs.{newest_of, head_of_word as head_of_word_of_head, LiveWord}
+use low.boot_words.specs.kernel_history.specs.{Unheld, start, IsGood, boot_word, boot_entry, boot_frame, SaysPlace, AreFrame, end_of}
+use Rattle.call_fits.specs.call_stages.specs.kernel_rules.specs.{start_place, start_cap, place_with, start_frame, start_number, granted}
+use Rattle.call_fits.specs.call_stages.specs.kernel_invariant.proofs.SoundStart.{past_three, start_sound}
+use low.boot_words.specs.kernel_history.specs.{BootWords.boot_object, BootWords.boot_live, FinalWords.AreObject, Marks.object_mark}
+use low.boot_words.proofs.{BootRepresents.boot_represents, StartRefs.refs_most}
+use low.trace_laws.proofs.GraceSteps.{grace_start, times_start}
+use Rattle.flight.specs.{Made.boot_cores, Theorems.Boots}
+use Rattle.{call_fits.specs.call_stages.specs.kernel_rules.specs.EndsWithin, std.proofs.lemmas.Bool.cases_lt}
+use Rattle.{call_fits.specs.call_stages.specs.stage_look.specs.Shown.end_of_frames, flight.proofs.CoreFits.started_fits}
+use low.{core_invariant.proofs.Bare.none_value, boot_words.specs.kernel_history.proofs.Counters.sum_of_first}
+use low.{core_invariant.specs.Words.IsObjectWord}
+use Rattle.work_invariant.specs.boot_words.specs.entry_words.proofs.Spelling as entries
+use Rattle.work_invariant.specs.boot_words.specs.frame_words.proofs.CoreLemmas as core_words
+use Rattle.work_invariant.specs.boot_words.specs.frame_words.proofs.CountLemmas as counts
+use Rattle.work_invariant.specs.boot_words.specs.frame_words.proofs.FlushLemmas as flushes
+use Rattle.work_invariant.specs.boot_words.specs.frame_words.proofs.FrameLemmas as frames
+use Rattle.work_invariant.specs.boot_words.specs.frame_words.proofs.LiveLemmas as lives
+use Rattle.work_invariant.specs.boot_words.specs.tcap_words.proofs.HeadLemmas as heads
 
 -- A good capability names frames of the machine.
 good_names : (s : State) (k : Capability) → ((f : ℕ) → s.limits.frames ≤ f → s.frame f ≡ Untyped) → IsGood s k
@@ -57,17 +43,17 @@ good_names s k beyond good = by_kind k.kind good.fit good.within
 
     by_kind : (j : Kind) → IsTrue (fits j (s.frame k.frame)) → EndsWithin j k.frame k.arg s.limits.frames
         → end_of_frames j k.frame k.arg ≤ s.limits.frames
-    by_kind kind.Range fit within = within
-    by_kind kind.Table fit within = below kind.Table fit refl
-    by_kind kind.Leaf fit within = below kind.Leaf fit refl
-    by_kind kind.Pages fit within = below kind.Pages fit refl
-    by_kind kind.Pleaf fit within = below kind.Pleaf fit refl
-    by_kind kind.Comp fit within = below kind.Comp fit refl
-    by_kind kind.Gate fit within = below kind.Gate fit refl
-    by_kind kind.Thread fit within = below kind.Thread fit refl
-    by_kind kind.Tcap fit within = below kind.Tcap fit refl
-    by_kind kind.Link fit within = below kind.Link fit refl
-    by_kind kind.Page fit within = below kind.Page fit refl
+    by_kind Kind.Range fit within = within
+    by_kind Kind.Table fit within = below Kind.Table fit refl
+    by_kind Kind.Leaf fit within = below Kind.Leaf fit refl
+    by_kind Kind.Pages fit within = below Kind.Pages fit refl
+    by_kind Kind.Pleaf fit within = below Kind.Pleaf fit refl
+    by_kind Kind.Comp fit within = below Kind.Comp fit refl
+    by_kind Kind.Gate fit within = below Kind.Gate fit refl
+    by_kind Kind.Thread fit within = below Kind.Thread fit refl
+    by_kind Kind.Tcap fit within = below Kind.Tcap fit refl
+    by_kind Kind.Link fit within = below Kind.Link fit refl
+    by_kind Kind.Page fit within = below Kind.Page fit refl
 
 -- No place of the start is quiescing.
 choose : {A : Type 0} (P : A → Type 0) (b : Bool) (x y : A) → P x → P y → P (if b then x else y)
@@ -144,7 +130,7 @@ module _ (setup : Setting) (setting : IsSetting setup) where
     node_marks i = elim (cases_lt i 64) [
       | inl below ↦ place_unmarked (start_place setup f i) _ (start_stands setup f i) (says i below)
       | inr past ↦ ap (λ p. entry_mark (entry_of_word (word_of_entry (boot_entry p)))) (past_free setup setting f i past) ∙ ap entry_mark
-          (entries.spelling.reads entry.Free tt)
+          (entries.spelling.reads Entry.Free tt)
     ]
 
     node_says : (i : ℕ) → i < 64
@@ -248,7 +234,7 @@ module _ (setup : Setting) (setting : IsSetting setup) where
 
   number_reads : (l : ℕ) → live_of_word (boot_word setup (LiveAt l)) ≡ Some (boot_live (start_number l))
   number_reads l = choose (λ x. live_of_word (word_of_live (boot_live x)) ≡ Some (boot_live x)) (l == 0) _ _
-      (lives.spelling.reads (live_word.Live 1 3) (omega arith, omega arith, omega arith)) (lives.spelling.reads live_word.Free tt)
+      (lives.spelling.reads (LiveWord.Live 1 3) (omega arith, omega arith, omega arith)) (lives.spelling.reads LiveWord.Free tt)
 
   number_mark : (l : ℕ) → live_mark (Some (boot_live (start_number l))) ≡ None
   number_mark l = choose (λ x. live_mark (Some (boot_live x)) ≡ None) (l == 0) _ _ refl refl

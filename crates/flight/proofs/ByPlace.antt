@@ -1,10 +1,8 @@
 -- A step by the place of its word is the step by the word's name, and words of different names have different places.
-use Rattle.work_invariant.proofs.Common.{◌≡◌, ◌≢◌, ℕ, refl, Word, Shape, Move, LoadOf, CompareOf, StoreOf, AddOf, word_of}
-use Rattle.work_invariant.proofs.Common.{left_of, told_of}
-use Rattle.boot_words.specs.spk_nums.specs.WordSteps.{place_in, left_by, told_by}
-use Rattle.boot_words.specs.word_map.specs.Places.{IsShape, IsIn, place_of}
-use Rattle.boot_words.specs.word_map.specs.Moves.{op_of}
-use Rattle.boot_words.specs.word_map.proofs.PlaceLemmas.{has_places}
+use Rattle.work_invariant.specs.boot_words.specs.kernel_history.proofs.{◌≡◌, ◌≢◌, ℕ, refl, Word, Shape, Move, LoadOf, CompareOf, StoreOf}
+use Rattle.work_invariant.specs.boot_words.specs.kernel_history.proofs.{AddOf, word_of, left_of, told_of, place_in, IsShape, IsIn, place_of}
+use Rattle.work_invariant.specs.boot_words.specs.kernel_history.proofs.{op_of, has_places}
+use Rattle.call_fits.specs.call_stages.specs.spk_nums.specs.WordSteps.{left_by, told_by}
 
 pub place_is : (shape : Shape) (m : Move) → place_in (op_of shape m) ≡ place_of shape (word_of m)
 place_is shape (LoadOf w) = refl

@@ -1,15 +1,14 @@
 -- A core keeps in its ranges: at the start, where it begins a call, and after each step.
-use Rattle.work_invariant.proofs.Common.{◌≡◌, ℕ, ◌<◌, ◌≤◌, ◌*◌, ◌+◌, Option, Some, None, arith, refl, sym, ap, subst, IsSome, Setting}
-use Rattle.work_invariant.proofs.Common.{IsSetting, InLimits, Call, calls_counted, Own, Works, Reply, ActiveCall, Core, Took, GoesOn}
-use Rattle.work_invariant.proofs.Common.{Decides, Returns, Changes, took, fresh, core_after, absorbed_in, absorbed}
-use Rattle.call_stages.specs.act_states.specs.declared.own.OwnChange.{OwnChange}
-use Rattle.call_stages.specs.act_states.specs.declared.own.OwnChange.TheVariants.{Ticks, GivesBack, Empties, Caches, Switches}
-use Rattle.call_stages.specs.Steps.{told, call_after}
-use Rattle.call_stages.specs.Cores.{started, begun}
-use Rattle.call_stages.specs.Fits.{IsOwn, IsCore, left_of, left_for, steps_left}
+use Rattle.work_invariant.specs.step_ways.proofs.{◌≡◌, ℕ, ◌<◌, ◌≤◌, ◌*◌, ◌+◌, Option, Some, None, arith, refl, sym, ap, subst, IsSome}
+use Rattle.work_invariant.specs.step_ways.proofs.{Setting, IsSetting, InLimits, Call, calls_counted, Own, Works, Reply, ActiveCall, Core}
+use Rattle.work_invariant.specs.step_ways.proofs.{Took, GoesOn, Decides, Returns, Changes, took, fresh, core_after, absorbed_in, absorbed}
+use Rattle.work_invariant.specs.step_ways.proofs.{started, IsCore, steps_left}
+use Rattle.call_fits.specs.call_stages.specs.{told, call_after, begun, IsOwn, left_of, left_for}
+use Rattle.call_fits.specs.call_stages.specs.act_states.specs.declared.own.OwnChange.{OwnChange}
+use Rattle.call_fits.specs.call_stages.specs.act_states.specs.declared.own.OwnChange.TheVariants.{Ticks, GivesBack, Empties, Caches}
+use Rattle.call_fits.specs.call_stages.specs.act_states.specs.declared.own.OwnChange.TheVariants.{Switches}
 use Rattle.call_fits.specs.act_fits.proofs.LandsFit.{TookFits}
-use Rattle.call_fits.proofs.Fitting.{took_fits}
-use Rattle.call_fits.proofs.CoreFitting.{goes_on, decides_on, changes_on}
+use Rattle.call_fits.proofs.{Fitting.took_fits, CoreFitting.goes_on, CoreFitting.decides_on, CoreFitting.changes_on}
 use Rattle.call_fits.proofs.Begun as begun
 
 pub started_fits : (c : ℕ) (setting : Setting) → IsSetting setting → c < setting.cores → IsCore (started c setting)

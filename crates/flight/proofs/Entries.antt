@@ -1,40 +1,24 @@
 -- The entry of a call is good: its calls are spent, it asks first whether the component in which the core works lives, or, where it does
 -- not ask, it begins its act.
-use Rattle.work_invariant.proofs.Common.{IsTrue, acts, asks_life, GoesOn, went, Living, AtComp}
-use Rattle.std.proofs.lemmas.Bool.{true≢false}
-use Rattle.work_invariant.proofs.Common.{◌≡◌, ℕ, ◌+◌, ◌<◌, Bool, true, false, nat_le, length, Some, None, arith, refl}
-use Rattle.work_invariant.proofs.Common.{sym}
-use Rattle.work_invariant.proofs.Common.{◌∙◌, ap, subst, inl, if◌then◌else◌, Setting, IsSetting, Call}
-use Rattle.work_invariant.proofs.Common.{Tick, Flush, Ret}
-use Rattle.work_invariant.proofs.Common.{CoreAt, StoreOf, State, first_of_stack, thread_in, thread_of}
-use Rattle.work_invariant.proofs.Common.{RuleMay, Refused, unless, first_of, rule_of, change_of}
-use Rattle.work_invariant.proofs.Common.{are_calls_spent, counted, put_same, Step, Trace, Out, phase, state_after}
-use Rattle.work_invariant.proofs.Common.{last_left, refused_first, plan_for}
-use Rattle.work_invariant.proofs.Common.{Act, Nothing, Undecided, Decided, Core}
-use Rattle.work_invariant.proofs.Common.{refuse, core_word, Took, landed, fresh, core_after, told_by, decided_in, returned_in}
-use Rattle.work_invariant.proofs.Common.{CallIs, ChargesBy, Invariant, limits_of, calm_counted}
-use Rattle.boot_words.specs.spk_nums.specs.declared.replies.Reply.TheVariants as reply
-use Rattle.boot_words.specs.kernel_rules.specs.GracePeriods.{entered}
-use Rattle.work_invariant.specs.trace_laws.proofs.AloneCalls.{spent_first}
-use Rattle.call_stages.specs.act_states.specs.declared.refusals.Refusal.TheVariants as refusal
-use Rattle.call_stages.specs.act_states.specs.declared.work.Act.{Act as ActOf}
-use Rattle.call_stages.specs.act_states.specs.declared.work.Act.TheVariants.{Tick as tick_act, Flush as flush_act}
-use Rattle.call_stages.specs.act_states.specs.declared.work.Act.TheVariants.{Return as return_act}
-use Rattle.call_stages.specs.act_states.specs.declared.invocations.ReturningAt.TheVariants.{LoadBelow}
-use Rattle.call_stages.specs.stage_tcap.specs.declared.charge.Charge.TheVariants.{AtLoad}
-use Rattle.call_stages.specs.act_states.specs.Acts.{returns_at, returns_if}
-use Rattle.call_stages.specs.act_states.specs.Flushes.{flushes}
-use Rattle.call_stages.specs.act_states.specs.Ticks.{ticks_due, charges}
-use Rattle.call_stages.specs.Steps.{next_by, took_first, took_enter, is_spent}
-use Rattle.call_stages.specs.call_plans.proofs.Lives.{lives as lives_asked}
-use Rattle.work_invariant.specs.step_ways.proofs.Good.{IsGood}
+use Rattle.work_invariant.specs.step_ways.proofs.{IsTrue, acts, GoesOn, went, Living, AtComp, true≢false, ◌≡◌, ℕ, ◌+◌, ◌<◌, Bool, true}
+use Rattle.work_invariant.specs.step_ways.proofs.{false, leb as nat_le, length, Some, None, arith, refl, sym, ◌∙◌, ap, subst, inl}
+use Rattle.work_invariant.specs.step_ways.proofs.{if◌then◌else◌, Setting, IsSetting, Call, Ret, CoreAt, StoreOf, State, first_of_stack}
+use Rattle.work_invariant.specs.step_ways.proofs.{thread_in, thread_of, RuleMay, Refused, unless, first_of, rule_of, change_of}
+use Rattle.work_invariant.specs.step_ways.proofs.{are_calls_spent, counted, put_same, Step, Trace, Out, phase, state_after, last_left}
+use Rattle.work_invariant.specs.step_ways.proofs.{refused_first, plan_for, Act, Nothing, Undecided, Decided, Core, refuse, Took, landed}
+use Rattle.work_invariant.specs.step_ways.proofs.{fresh, core_after, told_by, decided_in, returned_in, CallIs, ChargesBy, Invariant}
+use Rattle.work_invariant.specs.step_ways.proofs.{limits_of, calm_counted, Tick as tick_act, Flush as flush_act, Return as return_act}
+use Rattle.work_invariant.specs.step_ways.proofs.{AtLoad, next_by, IsGood, Lands, step_to, does, Reply, Refusal}
+use Rattle.call_fits.specs.call_stages.specs.act_states.specs.{asks_life, Tick, Flush, returns_if, ticks_due, Nothing as no_value}
+use Rattle.call_fits.specs.call_stages.specs.{core_word, took_first, took_enter, is_spent}
+use Rattle.call_fits.specs.call_stages.specs.kernel_rules.specs.{entered, Pop as pop_edit}
+use Rattle.call_fits.specs.call_stages.specs.act_states.specs.{declared.work.Act.Act as ActOf}
+use Rattle.call_fits.specs.call_stages.specs.act_states.specs.{declared.invocations.ReturningAt.TheVariants.LoadBelow, Acts.returns_at}
+use Rattle.call_fits.specs.call_stages.specs.act_states.specs.{Flushes.flushes, Ticks.charges}
 use Rattle.work_invariant.specs.kept_facts.proofs.Calm.{calm_entered, calm_then}
-use Rattle.work_invariant.specs.step_ways.proofs.Loads.{Lands, step_to}
-use Rattle.work_invariant.specs.step_ways.proofs.Writes.{enters_on}
-use Rattle.flight.specs.Made.{MayBegin}
-use Rattle.boot_words.specs.kernel_rules.specs.Edits.{Pop as pop_edit}
-use Rattle.boot_words.specs.kernel_rules.specs.Rules.{does}
-use Rattle.boot_words.specs.spk_nums.specs.declared.replies.Value.TheVariants.{Nothing as no_value}
+use Rattle.{work_invariant.specs.trace_laws.proofs.AloneCalls.spent_first}
+use Rattle.{call_fits.specs.call_stages.specs.call_plans.proofs.Lives.lives as lives_asked}
+use Rattle.{work_invariant.specs.step_ways.proofs.Writes.enters_on, flight.specs.Made.MayBegin}
 
 module _ (setup : Setting) (setting : IsSetting setup) (cores : ℕ → Core) (t : Trace) (stands : Invariant setup cores t) (c : ℕ)
     (here : c < setup.cores)
@@ -64,10 +48,10 @@ module _ (setup : Setting) (setting : IsSetting setup) (cores : ℕ → Core) (t
   out : phase t c ≡ Out
   out = subst (CallIs setup t c (cores c).own.table) may.between (stands.each c here).active
 
-  enters_spent : is_spent (cores c).own ≡ true → GoodEntry (landed (fresh call) (refuse refusal.CallsSpent))
+  enters_spent : is_spent (cores c).own ≡ true → GoodEntry (landed (fresh call) (refuse Refusal.CallsSpent))
   enters_spent spent lands =
-      enters_on setup setting cores t stands c here ((cores c).own.made + 0) call (Some reply.CallsSpent)
-      (Decided reply.CallsSpent None Nothing) may.between may.limits lands refl refl
+      enters_on setup setting cores t stands c here ((cores c).own.made + 0) call (Some Reply.CallsSpent)
+      (Decided Reply.CallsSpent None Nothing) may.between may.limits lands refl refl
       (calm_entered s c)
       (record { begins = λ x. refl; ends = λ x. refl; flushes = refl; apart = λ d. refl; same = refl })
       (let made = (stands.each c here).works.made in let same = same_count in omega arith)
@@ -160,9 +144,9 @@ module _ (setup : Setting) (setting : IsSetting setup) (cores : ℕ → Core) (t
     at_bottom low = sym (ap (λ (n : ℕ). nat_le n 1) depth_is) ∙ low
 
     returns_not : is_spent (cores c).own ≡ false → nat_le (cores c).own.depth 1 ≡ true
-        → GoodEntry (landed (fresh call) (refuse refusal.Bottom))
+        → GoodEntry (landed (fresh call) (refuse Refusal.Bottom))
     returns_not unspent low lands =
-        enters_on setup setting cores t stands c here ((cores c).own.made + 1) call (Some reply.Bottom) (Decided reply.Bottom None Nothing)
+        enters_on setup setting cores t stands c here ((cores c).own.made + 1) call (Some Reply.Bottom) (Decided Reply.Bottom None Nothing)
         may.between may.limits lands refl refl
         (calm_then s (entered s c) (counted (entered s c) c) c (calm_entered s c) (calm_counted (entered s c) c))
         (record { begins = λ x. refl; ends = λ x. refl; flushes = refl; apart = λ d. refl; same = refl })
@@ -178,13 +162,13 @@ module _ (setup : Setting) (setting : IsSetting setup) (cores : ℕ → Core) (t
           is_open = refl;
           permitted = (
             spent_is ∙ unspent,
-            subst (λ x. RuleMay (entered s c) c (rule_of (entered s c) c x) reply.Bottom) (sym is) (inl (at_bottom low, refl)),
+            subst (λ x. RuleMay (entered s c) c (rule_of (entered s c) c x) Reply.Bottom) (sym is) (inl (at_bottom low, refl)),
           );
           justified = tt;
         })
-        (refused_first (entered s c) c call reply.Bottom (subst (λ x. IsTrue (acts (entered s c) c x)) (sym is) refl) (spent_is ∙ unspent)
-        (subst (λ x. change_of (entered s c) c x ≡ Refused reply.Bottom) (sym is)
-        (ap (λ b. unless (first_of (if b then Some reply.Bottom else None) None) (does c (entered s c) no_value (pop_edit ∷ [])))
+        (refused_first (entered s c) c call Reply.Bottom (subst (λ x. IsTrue (acts (entered s c) c x)) (sym is) refl) (spent_is ∙ unspent)
+        (subst (λ x. change_of (entered s c) c x ≡ Refused Reply.Bottom) (sym is)
+        (ap (λ b. unless (first_of (if b then Some Reply.Bottom else None) None) (does c (entered s c) no_value (pop_edit ∷ [])))
         (at_bottom low))))
         tt
 

@@ -1,30 +1,19 @@
 -- At each moment the words say what the state is; and where all cores are between calls, they represent it with the cores' ends.
-use Rattle.work_invariant.proofs.Common.{◌≡◌, ◌≢◌, ◌⊎◌, inl, inr, ℕ, suc, ◌+◌, ◌<◌, true, false, List, [], ◌∷◌, slice_get, Option, Some}
-use Rattle.work_invariant.proofs.Common.{None, arith, refl, sym, ◌∙◌, ap, subst, IsTrue, cases_lt, false≢true, All-nil, All-cons, All}
-use Rattle.work_invariant.proofs.Common.{Setting, IsSetting, Capability, Translation, Entry, entry_of_word, quality_of_word}
-use Rattle.work_invariant.proofs.Common.{stack_of_word, LiveWord, count_of_word, CountWord, Word, EntryAt, FrameAt, CountAt, CoreAt}
-use Rattle.work_invariant.proofs.Common.{LiveAt, Place, Free, Holds, Quiescing, Blank, Table, Leaf, Pages, Pleaf, Comp, Thread, Tcap}
-use Rattle.work_invariant.proofs.Common.{Frame, Untyped, User, Kernel, Liveness, Unused, Live, Dead, PlaceOf, NumberOf, State, held_in}
-use Rattle.work_invariant.proofs.Common.{counters, holds_node, at_height, Trace, Phase, Out, Open, phase, state_after, last_left, is_in}
-use Rattle.work_invariant.proofs.Common.{stamp, exit_of, sound_of, Core, marked_by, settled_by, settled, PlaceIs, IsFrameWord, SaysCount}
-use Rattle.work_invariant.proofs.Common.{NumberIs, WordIs, CallIs, WorksIn, holds_in, held_by, times_of, count_shown}
-use Rattle.work_invariant.proofs.Common.{Invariant, limits_of, marker_inside}
-use Rattle.work_invariant.specs.core_invariant.proofs.Bare.{none_value}
-use Rattle.std.proofs.lemmas.Bool.{true≢false}
-use Rattle.boot_words.specs.spk_nums.specs.declared.translations.CoreEnd.{CoreEnd}
-use Rattle.boot_words.specs.frame_words.specs.Residue.{residue}
-use Rattle.boot_words.specs.kernel_rules.specs.Relies.{is_node as is_sound_node}
-use Rattle.boot_words.specs.kernel_rules.specs.Start.{start}
-use Rattle.boot_words.specs.kernel_history.specs.Counts.{count_at, IsUnheld, RepresentCounts}
-use Rattle.boot_words.specs.kernel_history.specs.FinalWords.{SaysPlace, AreFrame, SaysNumber, Represent, end_of as end_in}
-use Rattle.boot_words.specs.kernel_history.specs.Moments.{EntrySays, CoreSays}
-use Rattle.boot_words.specs.kernel_history.specs.Trace.{Decided}
-use Rattle.boot_words.specs.kernel_history.proofs.Inside.{inside_is}
-use Rattle.call_stages.specs.Cores.{end_of}
+use Rattle.work_invariant.specs.step_ways.proofs as low
+use low.{◌≡◌, ◌≢◌, ◌⊎◌, inl, inr, ℕ, suc, ◌+◌, ◌<◌, true, false, List, [], ◌∷◌, slice_get, Option, Some, None, arith, refl, sym, ◌∙◌, ap}
+use low.{subst, IsTrue, false≢true, All, Setting, IsSetting, Capability, Translation, Entry, entry_of_word, quality_of_word, stack_of_word}
+use low.{LiveWord, count_of_word, CountWord, Word, EntryAt, FrameAt, CountAt, CoreAt, LiveAt, Place, Free, Holds, Quiescing, Blank, Table}
+use low.{Leaf, Pages, Pleaf, Comp, Thread, Tcap, Frame, Untyped, User, Kernel, Liveness, Unused, Live, Dead, PlaceOf, NumberOf, State}
+use low.{held_in, counters, holds_node, at_height, Trace, Phase, Out, Open, phase, state_after, last_left, is_in, stamp, exit_of, sound_of}
+use low.{Core, marked_by, settled_by, settled, PlaceIs, IsFrameWord, SaysCount, NumberIs, WordIs, CallIs, WorksIn, holds_in, held_by}
+use low.{times_of, count_shown, Invariant, limits_of, marker_inside, true≢false, CoreEnd, residue, is_node as is_sound_node, count_at}
+use low.{RepresentCounts, Represent, inside_is, end_of, IsMarked, IsUnmarked, place_reads}
+use Rattle.work_invariant.specs.boot_words.specs.kernel_history.specs.{start, IsUnheld, SaysPlace, AreFrame, SaysNumber, end_of as end_in}
+use Rattle.std.proofs.{lemmas.Bool.cases_lt, lemmas.List.Elements.All-nil, lemmas.List.Elements.All-cons}
+use Rattle.work_invariant.specs.boot_words.specs.kernel_history.specs.Moments.{EntrySays, CoreSays}
+use Rattle.work_invariant.specs.kept_facts.proofs.{CountSums.sum_same, Few.refs_residue}
 use Rattle.flight.specs.Theorems.{SaysWords, AreBetween, Represents, RepresentsCounts}
-use Rattle.work_invariant.specs.kept_facts.proofs.CountSums.{sum_same}
-use Rattle.work_invariant.specs.kept_facts.proofs.Few.{refs_residue}
-use Rattle.work_invariant.specs.step_ways.proofs.Places.{IsMarked, IsUnmarked, place_reads}
+use Rattle.{work_invariant.specs.boot_words.specs.kernel_history.specs.Decided, work_invariant.specs.core_invariant.proofs.Bare.none_value}
 
 sound_node : (x : Frame) → IsTrue (holds_node x) → IsTrue (is_sound_node x)
 sound_node Untyped h = absurd (false≢true h)

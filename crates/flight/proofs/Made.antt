@@ -1,12 +1,9 @@
 -- Where the cores are after a trace that is the machine's, they stand for it, and each of its steps is good.
-use Rattle.work_invariant.proofs.Common.{◌≡◌, ℕ, [], ◌∷◌, sym, ◌∙◌, ap, subst, Setting, IsSetting, word_of, Step, Trace, last_left}
-use Rattle.work_invariant.proofs.Common.{KeepsTime, Invariant}
-use Rattle.flight.specs.Made.{step_of, core_after, cores_after, stepping_core, IsMadeStep, IsMade}
-use Rattle.work_invariant.specs.step_ways.proofs.Good.{IsGood, stands_on}
-use Rattle.work_invariant.specs.step_ways.proofs.Users.{SparesCounted}
-use Rattle.flight.specs.Theorems.{found_by, MadeStands}
-use Rattle.flight.proofs.Boot.{boots}
-use Rattle.flight.proofs.Advance.{good_on}
+use Rattle.work_invariant.specs as low
+use low.step_ways.proofs.{◌≡◌, ℕ, [], ◌∷◌, sym, ◌∙◌, ap, subst, Setting, IsSetting, word_of, Step, Trace, last_left, Invariant, IsGood}
+use Rattle.flight.specs.{step_of, core_after, cores_after, stepping_core, IsMadeStep, IsMade, found_by}
+use low.{boot_words.specs.kernel_history.specs.Graces.KeepsTime, step_ways.proofs.Good.stands_on, step_ways.proofs.Users.SparesCounted}
+use Rattle.{flight.specs.Theorems.MadeStands, flight.proofs.Boot.boots, flight.proofs.Advance.good_on}
 
 -- What a made step found is what its core finds.
 pub finds : (setup : Setting) (t : Trace) (e : Step) → IsMadeStep setup t e → e.found ≡ found_by setup t (stepping_core setup t e)

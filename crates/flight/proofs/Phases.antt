@@ -1,23 +1,16 @@
 -- After a trace that is the machine's, each core stands in its phase: a step of a call moves both alike.
-use Rattle.work_invariant.proofs.Common.{◌≡◌, ◌≢◌, ℕ, ◌<◌, arith, true, List, [], ◌∷◌, Option, Some, None, inl, inr, refl, sym, ◌∙◌, ap}
-use Rattle.work_invariant.proofs.Common.{subst, IsSome, is_some, cases_eq, false≢true, Call, Reply, Setting, told_of, put_same, put_other}
-use Rattle.work_invariant.proofs.Common.{Step, Trace, Phase, Out, Open, phase, after_enter, after_decide, after_return, phase-own}
-use Rattle.work_invariant.proofs.Common.{phase-other, Core, Own, absorbed_in, told_by, told_in, fresh, Capability, Plan, decided_in}
-use Rattle.work_invariant.proofs.Common.{returned_in, ActiveCall, Stage, Enter, Living, Undecided, Decided, Leave, Took, GoesOn, Decides}
-use Rattle.work_invariant.proofs.Common.{Returns}
-use Rattle.work_invariant.proofs.Common.{Changes, took}
-use Rattle.boot_words.specs.kernel_history.specs.Trace.{Decided as decided_phase}
-use Rattle.boot_words.specs.kernel_history.specs.Order.{IsDecided}
-use Rattle.boot_words.specs.kernel_history.proofs.Steps.{calls_of-other}
-use Rattle.call_stages.specs.Cores.{core_after as after_took, move_of, ready_in}
-use Rattle.call_stages.specs.Laws.{reply_at}
-use Rattle.call_stages.specs.Laws as laws
-use Rattle.call_stages.proofs.Decisions.{decides_once}
-use Rattle.flight.specs.Decided.{is_decided_at, is_decided_in, Turns}
-use Rattle.flight.specs.Made.{turned, MayStep, core_after, cores_after, stepping_core, IsMadeStep}
+use Rattle.work_invariant.specs.step_ways.proofs as low
+use low.{◌≡◌, ◌≢◌, ℕ, ◌<◌, arith, true, List, [], ◌∷◌, Option, Some, None, inl, inr, refl, sym, ◌∙◌, ap, subst, IsSome, is_some, false≢true}
+use low.{Call, Reply, Setting, told_of, put_same, put_other, Step, Trace, Phase, Out, Open, phase, after_enter, after_decide, after_return}
+use low.{phase-own, phase-other, Core, Own, absorbed_in, told_by, told_in, fresh, Capability, Plan, decided_in, returned_in, ActiveCall}
+use low.{Stage, Enter, Living, Undecided, Decided, Leave, Took, GoesOn, Decides, Returns, Changes, took, calls_of-other}
+use low.{core_after as after_took, move_of, plan_for}
+use Rattle.flight.specs.{is_decided_at, is_decided_in, turned, MayStep, core_after, cores_after, stepping_core, IsMadeStep}
+use Rattle.work_invariant.specs.boot_words.specs.kernel_history.specs.{Trace.Decided as decided_phase, Order.IsDecided}
+use Rattle.call_fits.specs.call_stages.specs.{Cores.ready_in, Laws.reply_at, Steps.ready_at}
 use Rattle.flight.specs.Phases.{IsInPhase, MadePhases, MadeOfItsCores, AreEvents, MadeEvents, DecidedIsReady}
-use Rattle.call_stages.specs.Steps.{ready_at}
-use Rattle.call_stages.specs.call_plans.specs.PlanOf.{plan_for}
+use Rattle.{std.proofs.lemmas.Bool.cases_eq, call_fits.specs.call_stages.proofs.Decisions.decides_once, flight.specs.Decided.Turns}
+use Rattle.call_fits.specs.call_stages.specs.Laws as laws
 
 -- A core in a call that is or is not decided, as its phase.
 pub record IsInCall (f : ActiveCall) (p : Phase) : Type 0 where

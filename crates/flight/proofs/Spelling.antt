@@ -1,56 +1,31 @@
 -- The next step of a call is on a word of its machine.
-use Rattle.work_invariant.proofs.Common.{AtComp, AtLive}
-use Rattle.work_invariant.proofs.Common.{ℕ, ◌<◌, Option, Some, None, length, arith, ◌≤◌, IsSome, Shape, IsIn, word_of}
-use Rattle.work_invariant.proofs.Common.{StageFits, CompMakingFits, CompAt, CompMaking}
-use Rattle.work_invariant.proofs.Common.{KillingAt, LoadComp, LoadLive, CountWord, counters_of, SweepAt, Thaw, UntypingAt, CountAt, Own}
-use Rattle.work_invariant.proofs.Common.{Fill, Outside, Untype, MakeComp, Invoke, Return, FrameKind, Load, MakingAt, NewObject, Lookup}
-use Rattle.work_invariant.proofs.Common.{Read, Scan, Acquire, Tail, Nothing, Quiesce, Unmark, StoreDead, StoreFlush, Release, StoreLive}
-use Rattle.work_invariant.proofs.Common.{Push, Pop, StoreRunning, StoreIdle, All-head, Reply, Acquired, InvokingAt}
-use Rattle.work_invariant.proofs.Common.{ReturningAt, Switching, SwitchAt}
-use Rattle.work_invariant.proofs.Common.{stage_move, ActiveCall, Stage, Enter, Living, Undecided, Decided, Leave}
-use Rattle.std.proofs.Common.{IfSome}
-use Rattle.std.specs.Prelude.{List, [], ◌∷◌}
-use Rattle.call_stages.specs.stage_look.proofs.LookLemmas.{look_is_in}
-use Rattle.call_stages.specs.Fits.{TailFits, CallFits}
-use Rattle.call_stages.specs.Cores.{move_in}
-use Rattle.call_stages.specs.act_states.specs.Comps.{comp_at}
-use Rattle.call_stages.specs.act_states.specs.declared.comps.CompAt.TheVariants as comp_stands
-use Rattle.call_stages.specs.act_states.specs.declared.kills.KillingAt.TheVariants.{Close as kill_close}
-use Rattle.call_stages.specs.act_states.specs.declared.kills.KillingAt.TheVariants.{Draw as kill_draw}
-use Rattle.call_stages.specs.act_states.specs.Kills.{KillingAtFits, killing_at}
-use Rattle.call_stages.specs.stage_sweep.specs.Freeze.{AtFits, move_at}
-use Rattle.call_stages.specs.stage_sweep.specs.Release.{ThawFits}
-use Rattle.call_stages.specs.stage_sweep.specs.declared.sweep.SweepAt.TheVariants as sweep
-use Rattle.call_stages.specs.act_states.specs.declared.untypings.UntypingAt.TheVariants as untype
-use Rattle.call_stages.specs.act_states.specs.Untypings.{UntypingAtFits, untyping_at, release_at}
-use Rattle.call_stages.specs.act_states.specs.declared.work.Act.{Act}
-use Rattle.call_stages.specs.act_states.specs.declared.work.Act.TheVariants.{Remove, Retype, Make, Tick, Flush, Kill}
-use Rattle.call_stages.specs.act_states.specs.declared.work.Act.TheVariants.{Map as map_act, Touch, Share, Refill, Switch}
-use Rattle.call_stages.specs.act_states.specs.declared.typings.TypingAt.{TypingAt}
-use Rattle.call_stages.specs.act_states.specs.declared.typings.TypingAt.TheVariants.{Compare as type_compare}
-use Rattle.call_stages.specs.act_states.specs.Typings.{typing_at}
-use Rattle.call_stages.specs.act_states.specs.declared.fills.Fill.{Fill as FillOf}
-use Rattle.call_stages.specs.act_states.specs.declared.makings.MakingAt.TheVariants as making
-use Rattle.call_stages.specs.act_states.specs.Fills.{FillFits}
-use Rattle.call_stages.specs.act_states.specs.Makings.{MakingAtFits, making_at}
-use Rattle.call_fits.specs.act_fits.proofs.DuesFit.{last_small}
-use Rattle.call_stages.specs.act_states.specs.declared.work.Work.TheVariants.{Act as act_work}
-use Rattle.call_stages.specs.act_states.specs.declared.work.Tail.TheVariants.{Share as share_tail}
-use Rattle.call_stages.specs.act_states.specs.Acts.{ActFits, act_move}
-use Rattle.call_stages.specs.Tails.{tail_move, is_ok}
-use Rattle.call_stages.specs.stage_pins.specs.Held.{commit_of, AcquiredFits, AllFit}
-use Rattle.call_stages.specs.stage_pins.proofs.PinLemmas.{pin_is_in, settle_is_in}
-use Rattle.call_stages.specs.stage_pins.proofs.HeldLemmas.{commit_fits}
-use Rattle.call_stages.specs.stage_tcap.proofs.PairLemmas.{charge_is_in, pair_is_in}
-use Rattle.call_stages.specs.stage_tcap.proofs.RefillLemmas.{refill_is_in}
-use Rattle.call_stages.specs.stage_thread.proofs.ThreadLemmas.{push_is_in, pop_is_in, claim_is_in}
-use Rattle.call_stages.specs.act_states.specs.declared.invocations.InvokingAt.TheVariants as invoking
-use Rattle.call_stages.specs.act_states.specs.declared.invocations.ReturningAt.TheVariants as returning
-use Rattle.call_stages.specs.act_states.specs.Switches.{SwitchingFits, switching_at}
-use Rattle.call_stages.specs.act_states.specs.declared.switches.SwitchAt.TheVariants as switch_at
-use Rattle.call_stages.specs.act_states.specs.Invocations.{InvokingAtFits, invoking_at, ReturningAtFits, returning_at}
-use Rattle.call_stages.specs.stage_quiet.proofs.QuietLemmas.{quiet_is_in, close_is_in}
-use Rattle.flight.specs.Phases.{MovesAreWords}
+use Rattle.work_invariant.specs.core_invariant.proofs.{AtComp, AtLive, ℕ, ◌<◌, Option, Some, None, length, arith, ◌≤◌, IsSome, Shape, IsIn}
+use Rattle.work_invariant.specs.core_invariant.proofs.{word_of, StageFits, CompAt, CompMaking, KillingAt, LoadComp, LoadLive, CountWord}
+use Rattle.work_invariant.specs.core_invariant.proofs.{SweepAt, Thaw, UntypingAt, CountAt, Own, Fill, Outside, Untype, MakeComp, Invoke}
+use Rattle.work_invariant.specs.core_invariant.proofs.{Return, FrameKind, MakingAt, NewObject, Lookup, Read, Scan, Acquire, Tail, Nothing}
+use Rattle.work_invariant.specs.core_invariant.proofs.{Quiesce, Unmark, StoreDead, StoreFlush, Release, StoreLive, Push, Pop, StoreRunning}
+use Rattle.work_invariant.specs.core_invariant.proofs.{StoreIdle, Reply, Acquired, InvokingAt, ReturningAt, Switching, SwitchAt, stage_move}
+use Rattle.work_invariant.specs.core_invariant.proofs.{ActiveCall, Stage, Enter, Living, Undecided, Decided, Leave, IfSome, List, [], ◌∷◌}
+use Rattle.work_invariant.specs.core_invariant.proofs.{CallFits, move_in, Close as kill_close, Draw as kill_draw, Remove, Retype, Make}
+use Rattle.work_invariant.specs.core_invariant.proofs.{Tick, Flush, Kill, Map as map_act, Touch, Share, Refill, Switch, TypingAt}
+use Rattle.work_invariant.specs.core_invariant.proofs.{Act as act_work, tail_move, is_ok}
+use Rattle.call_fits.specs.call_stages.specs.act_states.specs.{CompMakingFits, counters_of, comp_at, killing_at, move_at, ThawFits}
+use Rattle.call_fits.specs.call_stages.specs.act_states.specs.{untyping_at, typing_at, making_at, ActFits, act_move, commit_of, AllFit}
+use Rattle.call_fits.specs.call_stages.specs.act_states.specs.{SwitchingFits, switching_at, invoking_at, returning_at}
+use Rattle.call_fits.specs.call_stages.specs.act_states.specs.{declared.typings.TypingAt.TheVariants.Load}
+use Rattle.call_fits.specs.call_stages.specs.act_states.specs.{declared.typings.TypingAt.TheVariants.Compare as type_compare}
+use Rattle.call_fits.specs.call_stages.specs.act_states.specs.{Kills.KillingAtFits, Untypings.UntypingAtFits, Untypings.release_at}
+use Rattle.call_fits.specs.call_stages.specs.act_states.specs.{declared.work.Act.Act, declared.fills.Fill.Fill as FillOf, Fills.FillFits}
+use Rattle.call_fits.specs.call_stages.specs.act_states.specs.{Makings.MakingAtFits, declared.work.Tail.TheVariants.Share as share_tail}
+use Rattle.call_fits.specs.call_stages.specs.act_states.specs.{Invocations.InvokingAtFits, Invocations.ReturningAtFits}
+use Rattle.call_fits.specs.call_stages.specs.stage_pins.proofs.{PinLemmas.pin_is_in, PinLemmas.settle_is_in, HeldLemmas.commit_fits}
+use Rattle.call_fits.specs.call_stages.specs.stage_tcap.proofs.{PairLemmas.charge_is_in, PairLemmas.pair_is_in, RefillLemmas.refill_is_in}
+use Rattle.call_fits.specs.call_stages.specs.stage_thread.proofs.ThreadLemmas.{push_is_in, pop_is_in, claim_is_in}
+use Rattle.call_fits.specs.call_stages.specs.stage_quiet.proofs.QuietLemmas.{quiet_is_in, close_is_in}
+use Rattle.{std.proofs.lemmas.List.Elements.All-head, call_fits.specs.call_stages.specs.stage_look.proofs.LookLemmas.look_is_in}
+use Rattle.{call_fits.specs.call_stages.specs.Fits.TailFits, call_fits.specs.call_stages.specs.stage_sweep.specs.Freeze.AtFits}
+use Rattle.{call_fits.specs.act_fits.proofs.DuesFit.last_small, call_fits.specs.call_stages.specs.stage_pins.specs.Held.AcquiredFits}
+use Rattle.{flight.specs.Phases.MovesAreWords}
 
 typing_in : (shape : Shape) (f : ℕ) (k : FrameKind) (at : TypingAt) → f < shape.frames → IsIn shape (word_of (typing_at f k at))
 typing_in shape f k Load fits = fits
@@ -58,11 +33,11 @@ typing_in shape f k (type_compare word) fits = fits
 
 making_in : (shape : Shape) (f : ℕ) (object : NewObject) (core : ℕ) (fill : FillOf) (at : MakingAt) → f < shape.frames
     → FillFits shape fill → MakingAtFits object at → IsIn shape (word_of (making_at f object core fill at))
-making_in shape f object core fill making.Load frame fits at = frame
-making_in shape f object core fill (making.Mark word) frame fits at = frame
-making_in shape f object core fill (making.Store word entry) frame fits at =
+making_in shape f object core fill MakingAt.Load frame fits at = frame
+making_in shape f object core fill (MakingAt.Mark word) frame fits at = frame
+making_in shape f object core fill (MakingAt.Store word entry) frame fits at =
     (frame, (let small = last_small object in omega (arith, at, small)))
-making_in shape f object core fill (making.Fill word) frame fits at = (fits.node, fits.entry)
+making_in shape f object core fill (MakingAt.Fill word) frame fits at = (fits.node, fits.entry)
 
 killing_in : (shape : Shape) (f core : ℕ) (at : KillingAt) → f < shape.frames → KillingAtFits at
     → IsIn shape (word_of (killing_at f core at))
@@ -78,18 +53,18 @@ counter_in shape f n below low = (below, low)
 
 sweep_in : (shape : Shape) (f core : ℕ) (kept : List CountWord) (at : SweepAt) → f < shape.frames → AtFits shape kept at
     → IsIn shape (word_of (move_at f core (length kept) at))
-sweep_in shape f core kept sweep.Load below fits = counter_in shape f (length kept) below fits
-sweep_in shape f core kept (sweep.Compare count stamp) below fits = counter_in shape f (length kept) below fits.0
-sweep_in shape f core kept (sweep.Scan q) below fits = quiet_is_in shape q fits
-sweep_in shape f core kept (sweep.Empty entry) below fits = (below, fits)
+sweep_in shape f core kept SweepAt.Load below fits = counter_in shape f (length kept) below fits
+sweep_in shape f core kept (SweepAt.Compare count stamp) below fits = counter_in shape f (length kept) below fits.0
+sweep_in shape f core kept (SweepAt.Scan q) below fits = quiet_is_in shape q fits
+sweep_in shape f core kept (SweepAt.Empty entry) below fits = (below, fits)
 
 untyping_in : (shape : Shape) (f core : ℕ) (at : UntypingAt) → f < shape.frames → UntypingAtFits shape at
     → IsIn shape (word_of (untyping_at f core at))
-untyping_in shape f core untype.Load below fits = below
-untyping_in shape f core (untype.Mark word v) below fits = below
-untyping_in shape f core (untype.Sweep word w) below fits =
+untyping_in shape f core UntypingAt.Load below fits = below
+untyping_in shape f core (UntypingAt.Mark word v) below fits = below
+untyping_in shape f core (UntypingAt.Sweep word w) below fits =
     sweep_in shape w.frame w.core w.kept w.at fits.fits.frame fits.fits.at
-untyping_in shape f core (untype.Draw word w) below fits = tt
+untyping_in shape f core (UntypingAt.Draw word w) below fits = tt
 
 release_in : (shape : Shape) (f word : ℕ) (o : Option Thaw) → f < shape.frames → IfSome o (ThawFits shape)
     → IsIn shape (word_of (release_at f word o))
@@ -99,35 +74,35 @@ release_in shape f word (Some x) below fits =
 
 comp_in : (shape : Shape) (m : CompMaking) (at : CompAt) → CompMakingFits shape (record m { at = at })
     → IsIn shape (word_of (comp_at m at))
-comp_in shape m comp_stands.Load fits = fits.frame
-comp_in shape m (comp_stands.Mark word) fits = fits.frame
-comp_in shape m (comp_stands.LoadLive word) fits = fits.number
-comp_in shape m (comp_stands.Scan word last q) fits = quiet_is_in shape q fits.at.0
-comp_in shape m (comp_stands.Close word last) fits = fits.number
-comp_in shape m (comp_stands.Store word last entry) fits = (fits.frame, (let most = fits.at.1 in omega (arith, most)))
-comp_in shape m (comp_stands.Fill word last) fits = (fits.fill.node, fits.fill.entry)
+comp_in shape m CompAt.Load fits = fits.frame
+comp_in shape m (CompAt.Mark word) fits = fits.frame
+comp_in shape m (CompAt.LoadLive word) fits = fits.number
+comp_in shape m (CompAt.Scan word last q) fits = quiet_is_in shape q fits.at.0
+comp_in shape m (CompAt.Close word last) fits = fits.number
+comp_in shape m (CompAt.Store word last entry) fits = (fits.frame, (let most = fits.at.1 in omega (arith, most)))
+comp_in shape m (CompAt.Fill word last) fits = (fits.fill.node, fits.fill.entry)
 
 invoking_in : (shape : Shape) (f : ℕ) (at : InvokingAt) → f < shape.frames → InvokingAtFits shape at
     → IsIn shape (word_of (invoking_at f at))
-invoking_in shape f invoking.LoadTable below fits = (below, omega arith)
-invoking_in shape f (invoking.LoadPages table) below fits = (below, omega arith)
-invoking_in shape f (invoking.LoadComp table pages) below fits = (below, omega arith)
-invoking_in shape f (invoking.LoadLive table pages life) below fits = fits.2.0
+invoking_in shape f InvokingAt.LoadTable below fits = (below, omega arith)
+invoking_in shape f (InvokingAt.LoadPages table) below fits = (below, omega arith)
+invoking_in shape f (InvokingAt.LoadComp table pages) below fits = (below, omega arith)
+invoking_in shape f (InvokingAt.LoadLive table pages life) below fits = fits.2.0
 
 returning_in : (shape : Shape) (thread depth : ℕ) (at : ReturningAt) → thread < shape.frames → depth ≤ 16 → ReturningAtFits shape at
     → IsIn shape (word_of (returning_at thread depth at))
-returning_in shape thread depth returning.LoadBelow below most fits = (below, omega (arith, most))
-returning_in shape thread depth (returning.LoadTable comp) below most fits = (fits, omega arith)
-returning_in shape thread depth (returning.LoadPages comp table) below most fits = (fits.0, omega arith)
-returning_in shape thread depth (returning.Draw comp table pages) below most fits = tt
+returning_in shape thread depth ReturningAt.LoadBelow below most fits = (below, omega (arith, most))
+returning_in shape thread depth (ReturningAt.LoadTable comp) below most fits = (fits, omega arith)
+returning_in shape thread depth (ReturningAt.LoadPages comp table) below most fits = (fits.0, omega arith)
+returning_in shape thread depth (ReturningAt.Draw comp table pages) below most fits = tt
 
 switching_in : (shape : Shape) (m : Switching) (at : SwitchAt) → SwitchingFits shape (record m { at = at })
     → IsIn shape (word_of (switching_at m at))
-switching_in shape m (switch_at.Claim claim) fits = claim_is_in shape claim fits.at
-switching_in shape m (switch_at.LoadTable to) fits = (fits.at.comp, omega arith)
-switching_in shape m (switch_at.LoadPages to table) fits = (fits.at.0.comp, omega arith)
-switching_in shape m (switch_at.Leave to table pages) fits = (fits.old, omega arith)
-switching_in shape m (switch_at.Draw to table pages) fits = tt
+switching_in shape m (SwitchAt.Claim claim) fits = claim_is_in shape claim fits.at
+switching_in shape m (SwitchAt.LoadTable to) fits = (fits.at.comp, omega arith)
+switching_in shape m (SwitchAt.LoadPages to table) fits = (fits.at.0.comp, omega arith)
+switching_in shape m (SwitchAt.Leave to table pages) fits = (fits.old, omega arith)
+switching_in shape m (SwitchAt.Draw to table pages) fits = tt
 
 act_in : (shape : Shape) (act : Act) → ActFits shape act → IsIn shape (word_of (act_move act))
 act_in shape (Fill fill) fits = (fits.node, fits.entry)

@@ -1,9 +1,6 @@
 -- When the call of a core is decided, and what a step of it leads to.
-use Rattle.std.specs.Prelude.{◌≡◌, Bool, true, false, Option, Some, None}
-use Rattle.call_stages.specs.declared.stages.Stage.{Stage}
-use Rattle.call_stages.specs.declared.stages.Stage.TheVariants.{Enter, Living, Undecided, Decided, Leave}
-use Rattle.call_stages.specs.declared.stages.ActiveCall.{ActiveCall}
-use Rattle.call_stages.specs.Steps.{Took, GoesOn, Decides, Returns, Changes}
+use Rattle.work_invariant.specs.core_invariant.specs.{◌≡◌, Bool, true, false, Option, Some, None, Stage, Enter, Living, Undecided, Decided}
+use Rattle.work_invariant.specs.core_invariant.specs.{Leave, ActiveCall, Took, GoesOn, Decides, Returns, Changes}
 
 -- Whether a call is decided that stands at this stage.
 abbrev pub is_decided_at : Stage → Bool

@@ -1,16 +1,8 @@
 -- The steps that the machine makes: a step of a core is a function of the core and of the word found, and where each core stands
 -- after a trace is a function of the trace. So a trace is the machine's own, or it is not.
-use Rattle.std.specs.Prelude.{◌≡◌, ◌<◌, Bool, ℕ, [], ◌∷◌, Option, Some, None, IsSome}
-use Rattle.boot_words.specs.spk_nums.specs.CallLimits.{InLimits}
-use Rattle.boot_words.specs.spk_nums.specs.Setting.{Setting}
-use Rattle.boot_words.specs.spk_nums.specs.declared.calls.Call.{Call}
-use Rattle.boot_words.specs.word_map.specs.Moves.{Move, word_of, told_of}
-use Rattle.boot_words.specs.kernel_rules.specs.State.{put}
-use Rattle.boot_words.specs.kernel_history.specs.Trace.{Step, Trace, last_left}
-use Rattle.call_stages.specs.declared.stages.Absorbed.{Absorbed}
-use Rattle.call_stages.specs.View.{Core}
-use Rattle.work_invariant.specs.core_invariant.specs.Events.{decided_in, returned_in}
-use Rattle.call_stages.specs.Cores.{started, begun, move_of, ready_of, absorbed, told_of_step}
+use Rattle.work_invariant.specs.core_invariant.specs.{◌≡◌, ◌<◌, Bool, ℕ, [], ◌∷◌, Option, Some, None, IsSome, InLimits, Setting, Call, Move}
+use Rattle.work_invariant.specs.core_invariant.specs.{word_of, told_of, put, Step, Trace, last_left, Absorbed, Core, decided_in}
+use Rattle.work_invariant.specs.core_invariant.specs.{returned_in, started, begun, move_of, ready_of, absorbed, told_of_step}
 
 -- The cores of a machine that has just booted.
 abbrev pub boot_cores : Setting → ℕ → Core

@@ -1,16 +1,9 @@
 -- Where the cores of the machine stand, and the phases of the trace that has brought them there.
-use Rattle.std.specs.Prelude.{◌≡◌, ◌≢◌, ◌<◌, ◌≤◌, [], ℕ, true, false, Option, None, IsSome}
-use Rattle.boot_words.specs.spk_nums.specs.Setting.{Setting, IsSetting}
-use Rattle.boot_words.specs.spk_nums.specs.declared.replies.Reply.{Reply}
-use Rattle.boot_words.specs.word_map.specs.Places.{IsIn}
-use Rattle.boot_words.specs.word_map.specs.Moves.{word_of}
-use Rattle.boot_words.specs.kernel_history.specs.Trace.{Step, Trace, Phase, Out, phase, calls_of}
-use Rattle.boot_words.specs.kernel_history.specs.Order.{IsDecided}
-use Rattle.call_stages.specs.View.{Core}
-use Rattle.call_stages.specs.Cores.{move_of, ready_of}
-use Rattle.call_stages.specs.Fits.{IsCore}
-use Rattle.flight.specs.Decided.{is_decided_in}
-use Rattle.flight.specs.Made.{core_after, cores_after, stepping_core, IsMade, IsMadeStep}
+use Rattle.work_invariant.specs.core_invariant.specs.{◌≡◌, ◌≢◌, ◌<◌, ◌≤◌, [], ℕ, true, false, Option, None, IsSome, Setting, IsSetting}
+use Rattle.work_invariant.specs.core_invariant.specs.{Reply, IsIn, word_of, Step, Trace, Phase, Out, phase, calls_of, Core, move_of}
+use Rattle.work_invariant.specs.core_invariant.specs.{ready_of, IsCore}
+use Rattle.work_invariant.specs.boot_words.specs.kernel_history.specs.Order.{IsDecided}
+use Rattle.flight.specs.{Decided.is_decided_in, Made.core_after, Made.cores_after, Made.stepping_core, Made.IsMade, Made.IsMadeStep}
 
 -- The next step of a core in a call is on a word of its machine.
 abbrev pub MovesAreWords : Type 0

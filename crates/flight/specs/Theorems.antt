@@ -1,17 +1,9 @@
 -- What is proved of the cores that stand for a trace.
-use Rattle.std.specs.Prelude.{◌≡◌, ◌<◌, ℕ, [], ◌∷◌, Option, None}
-use Rattle.boot_words.specs.spk_nums.specs.Setting.{Setting, IsSetting}
-use Rattle.boot_words.specs.spk_nums.specs.declared.calls.Call.{Call}
-use Rattle.boot_words.specs.word_map.specs.Moves.{word_of}
-use Rattle.boot_words.specs.kernel_rules.specs.State.{put}
-use Rattle.boot_words.specs.kernel_history.specs.Trace.{Trace, state_after, last_left}
-use Rattle.boot_words.specs.kernel_history.specs.Counts.{RepresentCounts}
-use Rattle.boot_words.specs.kernel_history.specs.FinalWords.{Represent}
-use Rattle.boot_words.specs.kernel_history.specs.Moments.{WordsSay}
-use Rattle.call_stages.specs.View.{Core}
-use Rattle.call_stages.specs.Cores.{move_of, end_of}
-use Rattle.flight.specs.Made.{boot_cores, turned, MayStep, step_of, core_after, cores_after, IsMade}
+use Rattle.work_invariant.specs.core_invariant.specs.{◌≡◌, ◌<◌, ℕ, [], ◌∷◌, Option, None, Setting, IsSetting, Call, word_of, put, Trace}
+use Rattle.work_invariant.specs.core_invariant.specs.{state_after, last_left, RepresentCounts, Represent, Core, move_of, end_of}
+use Rattle.work_invariant.specs.boot_words.specs.kernel_history.specs.Moments.{WordsSay}
 use Rattle.work_invariant.specs.core_invariant.specs.Invariant.{Invariant}
+use Rattle.flight.specs.Made.{boot_cores, turned, MayStep, step_of, core_after, cores_after, IsMade}
 
 -- The start stands for no step.
 abbrev pub Boots : Type 0

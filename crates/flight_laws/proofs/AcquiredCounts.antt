@@ -1,56 +1,24 @@
 -- Along a machine's traces, a count word that a core shows as acquired is one of the counts of its call, with the count and the stamp that
 -- were found there; so what it settles to is what its commit stores.
-use Rattle.std.proofs.Common.{◌≡◌, ◌≢◌, inl, inr, ℕ, ℤ, ◌==◌, ◌++◌, Bool, true, false, if◌then◌else◌, List, [], ◌∷◌}
-use Rattle.std.proofs.Common.{length, Option, Some, None, refl, sym, ◌∙◌, ap, subst, lt-ltb}
-use Rattle.std.proofs.lemmas.Bool.{cases_eq, cases_lt, false≢true, eq-eqb}
-use Rattle.time_laws.specs.spk_nums.specs.Setting.{Setting, IsSetting}
-use Rattle.time_laws.specs.spk_nums.specs.declared.replies.Reply.{Reply}
-use Rattle.time_laws.specs.frame_words.specs.Count.{count_of_word, word_of_count}
-use Rattle.time_laws.specs.frame_words.specs.declared.count_word.CountWord.{CountWord}
-use Rattle.time_laws.specs.frame_words.specs.declared.count_word.Hold.TheVariants.{Pinned, Closed}
-use Rattle.time_laws.specs.frame_words.proofs.CountLemmas as counts
-use Rattle.time_laws.specs.word_map.specs.Word.{CountAt}
-use Rattle.time_laws.specs.word_map.specs.Moves.{CompareOf, Move, StoreOf, left_of, told_of, word_of}
-use Rattle.time_laws.specs.kernel_rules.proofs.Within.{put_other, put_same}
-use Rattle.time_laws.specs.kernel_history.specs.Counts.{count_at}
-use Rattle.time_laws.specs.kernel_history.specs.Marking.{marked_by}
-use Rattle.time_laws.specs.kernel_history.specs.Marks.{count_mark, hold_mark}
-use Rattle.time_laws.specs.kernel_history.specs.Trace.{Step, Trace, last_left, phase}
-use Rattle.time_laws.specs.kernel_history.proofs.Steps.{last_left-here}
-use Rattle.time_laws.specs.stage_pins.specs.Acquire.{compare_end, pinned_at}
-use Rattle.time_laws.specs.stage_pins.specs.Counts.{acquired, unheld}
-use Rattle.time_laws.specs.stage_pins.specs.Held.{pushed}
-use Rattle.time_laws.specs.stage_pins.specs.declared.held.Acquired.{Acquired}
-use Rattle.time_laws.specs.stage_pins.specs.declared.pin.Pin.TheVariants.{AtCompare}
-use Rattle.time_laws.specs.stage_sweep.specs.Freeze.{frozen}
-use Rattle.time_laws.specs.act_states.specs.declared.own.Own.{Own}
-use Rattle.time_laws.specs.act_states.specs.declared.untypings.Release.{Release as ReleaseOf}
-use Rattle.time_laws.specs.act_states.specs.declared.work.Tail.{Tail}
-use Rattle.time_laws.specs.act_states.specs.declared.work.Tail.TheVariants.{Nothing, Release}
-use Rattle.time_laws.specs.act_states.specs.declared.work.Work.TheVariants.{Acquire}
-use Rattle.time_laws.specs.call_stages.specs.Cores.{absorbed, absorbed_in, core_after, move_in, move_of, told_by, told_in, told_of_step}
-use Rattle.time_laws.specs.call_stages.specs.Steps.{took_at}
-use Rattle.time_laws.specs.call_stages.specs.Tails.{tail_move}
-use Rattle.time_laws.specs.call_stages.specs.declared.stages.Absorbed.{Absorbed}
-use Rattle.time_laws.specs.call_stages.specs.declared.stages.Absorbed.TheVariants as told_as
-use Rattle.time_laws.specs.call_stages.specs.declared.stages.ActiveCall.{ActiveCall}
-use Rattle.time_laws.specs.call_stages.specs.declared.stages.Stage.{Stage}
-use Rattle.time_laws.specs.call_stages.specs.declared.stages.Stage.TheVariants.{Undecided, Decided}
-use Rattle.time_laws.specs.call_stages.specs.View.{Core}
-use Rattle.time_laws.specs.core_invariant.specs.Events.{decided_in, returned_in}
-use Rattle.time_laws.specs.core_invariant.specs.Holding.{committed, count_of, settled}
-use Rattle.time_laws.specs.core_invariant.specs.Invariant.{Invariant, held_by, is_done}
-use Rattle.time_laws.specs.core_invariant.specs.Knows.{KnowsAt, KnowsTail}
-use Rattle.time_laws.specs.step_ways.proofs.Loads.{call_is, is_active}
-use Rattle.time_laws.specs.flight.specs.Made.{cores_after, stepping_core, turned, IsMade}
-use Rattle.time_laws.specs.flight.specs.Made as made_of
-use Rattle.time_laws.specs.flight.proofs.Made.{made_stands}
-use Rattle.time_laws.specs.history_laws.specs.Counts.{Untypes}
-use Rattle.flight_laws.proofs.CountSteps as steps
-use Rattle.flight_laws.proofs.CountSteps.{Acquiring}
+use Rattle.time_laws.specs.step_ways.proofs as low
+use low.{◌≡◌, ◌≢◌, inl, inr, ℕ, ℤ, ◌==◌, ◌++◌, Bool, true, false, if◌then◌else◌, List, [], ◌∷◌, length, Option, Some, None, refl, sym, ◌∙◌}
+use low.{ap, subst, lt-ltb, false≢true, eq-eqb, Setting, IsSetting, Reply, count_of_word, word_of_count, CountWord, Pinned, Closed, CountAt}
+use low.{CompareOf, Move, StoreOf, left_of, told_of, word_of, put_other, put_same, count_at, marked_by, count_mark, hold_mark, Step, Trace}
+use low.{last_left, phase, last_left-here, acquired, unheld, Acquired, frozen, Own, Tail, Nothing, Release, Acquire, absorbed, absorbed_in}
+use low.{core_after, move_in, move_of, told_by, told_in, told_of_step, took_at, tail_move, Absorbed, ActiveCall, Stage, Undecided, Decided}
+use low.{Core, decided_in, returned_in, committed, count_of, settled, Invariant, held_by, is_done, KnowsAt, KnowsTail, call_is, is_active}
+use Rattle.time_laws.specs.flight.specs.{cores_after, stepping_core, turned, IsMade}
+use Rattle.time_laws.specs.stage_pins.specs.{compare_end, pinned_at, pushed}
+use Rattle.std.proofs.lemmas.Bool.{cases_eq, cases_lt}
 use Rattle.flight_laws.proofs.CountHolds.{kept, no_entry, no_return, pinned_say, raw_other}
 use Rattle.flight_laws.proofs.HeldCounts.{HoldsStill, IsAmong, NotBack, NotCommitted, NotFirst, NotOk, among_last, count_settles}
-use Rattle.flight_laws.proofs.HeldCounts.{stage_holds}
+use Rattle.{time_laws.specs.stage_pins.specs.declared.pin.Pin.TheVariants.AtCompare}
+use Rattle.{time_laws.specs.act_states.specs.declared.untypings.Release.Release as ReleaseOf}
+use Rattle.{time_laws.specs.flight.proofs.Made.made_stands, time_laws.specs.history_laws.specs.Counts.Untypes}
+use Rattle.{flight_laws.proofs.CountSteps.Acquiring, flight_laws.proofs.HeldCounts.stage_holds}
+use Rattle.time_laws.specs.frame_words.proofs.CountLemmas as counts
+use Rattle.time_laws.specs.flight.specs.Made as made_of
+use Rattle.flight_laws.proofs.CountSteps as steps
 
 none_some : (d : ℕ) → None ≡ Some d → ⊥
 none_some d h = cc
@@ -80,9 +48,9 @@ still_has None x fate told has = absurd has
 still_has (Some a) x fate told has = record { a = a; active = refl; among = has.0; done = has.1 }
 
 not_back : (told : Absorbed) → returned_in told ≡ None → NotBack told
-not_back told_as.Going none = tt
-not_back (told_as.Decided r) none = tt
-not_back (told_as.Returned r) none = absurd (cc)
+not_back Absorbed.Going none = tt
+not_back (Absorbed.Decided r) none = tt
+not_back (Absorbed.Returned r) none = absurd (cc)
 
 -- A step of a core's call that goes on.
 module _ (setup : Setting) (setting : IsSetting setup) (t : Trace) (e : Step) (made : IsMade setup (e ∷ t)) (entry : e.enters ≡ None) where

@@ -1,36 +1,15 @@
 -- What count words do while cores hold them: another core leaves such a word, and its own leaves its count.
-use Rattle.std.proofs.Common.{◌≡◌, ◌≢◌, ◌⊎◌, inl, inr, ℕ, ℤ, true, [], ◌∷◌, Option, Some, None, refl, sym, ◌∙◌, ap, subst}
-use Rattle.std.proofs.lemmas.Bool.{cases_eq, false≢true}
-use Rattle.time_laws.specs.spk_nums.specs.Setting.{Setting, IsSetting}
-use Rattle.time_laws.specs.spk_nums.specs.declared.calls.Call.{Call}
-use Rattle.time_laws.specs.spk_nums.specs.declared.calls.Call.TheVariants.{Retype}
-use Rattle.time_laws.specs.spk_nums.specs.declared.kinds.FrameKind.TheVariants.{Untyped}
-use Rattle.time_laws.specs.spk_nums.specs.declared.replies.Reply.{Reply}
-use Rattle.time_laws.specs.frame_words.specs.Count.{count_of_word}
-use Rattle.time_laws.specs.frame_words.specs.declared.count_word.CountWord.{CountWord}
-use Rattle.time_laws.specs.frame_words.specs.declared.count_word.Hold.TheVariants.{Pinned, Closed}
-use Rattle.time_laws.specs.word_map.specs.Word.{Word, CountAt}
-use Rattle.time_laws.specs.word_map.specs.Moves.{word_of, left_of}
-use Rattle.time_laws.specs.kernel_history.specs.Bounds.{call_in}
-use Rattle.time_laws.specs.kernel_history.specs.Counts.{count_at, count_in}
-use Rattle.time_laws.specs.kernel_history.specs.Legal.{MayEnter, MayFollow}
-use Rattle.time_laws.specs.kernel_history.specs.Marking.{marked_by}
-use Rattle.time_laws.specs.kernel_history.specs.Marks.{count_mark, hold_mark}
-use Rattle.time_laws.specs.kernel_history.specs.Stamps.{is_in}
-use Rattle.time_laws.specs.kernel_history.specs.Trace.{Step, Trace, Phase, Out, Open, Decided, phase, after_enter, after_decide}
-use Rattle.time_laws.specs.kernel_history.specs.Trace.{after_return}
-use Rattle.time_laws.specs.kernel_history.specs.Trace.{state_after, state_before, state_entered, last_left}
-use Rattle.time_laws.specs.kernel_history.proofs.Inside.{inside_is}
-use Rattle.time_laws.specs.kernel_history.proofs.Names.{cases_word}
-use Rattle.time_laws.specs.kernel_history.proofs.Steps.{phase-own, phase-other, last_left-here, last_left-there}
-use Rattle.time_laws.specs.stage_pins.specs.Counts.{acquired}
-use Rattle.time_laws.specs.stage_sweep.specs.Freeze.{frozen}
-use Rattle.time_laws.specs.core_invariant.specs.Invariant.{Invariant}
-use Rattle.time_laws.specs.core_invariant.proofs.Markers.{marker_inside}
-use Rattle.time_laws.specs.flight.specs.Made.{cores_after, IsMade}
-use Rattle.time_laws.specs.flight.proofs.Made.{made_stands}
-use Rattle.time_laws.specs.history_laws.specs.Counts.{Untypes, FrozenSay}
+use Rattle.time_laws.specs.kept_facts.proofs.{◌≡◌, ◌≢◌, ◌⊎◌, inl, inr, ℕ, ℤ, true, [], ◌∷◌, Option, Some, None, refl, sym, ◌∙◌, ap, subst}
+use Rattle.time_laws.specs.kept_facts.proofs.{false≢true, Setting, IsSetting, Call, Retype, Reply, count_of_word, CountWord, Pinned, Closed}
+use Rattle.time_laws.specs.kept_facts.proofs.{Word, CountAt, word_of, left_of, count_at, count_in, MayEnter, MayFollow, marked_by}
+use Rattle.time_laws.specs.kept_facts.proofs.{count_mark, hold_mark, is_in, Step, Trace, Phase, Out, Open, phase, after_enter, after_decide}
+use Rattle.time_laws.specs.kept_facts.proofs.{after_return, state_after, state_before, state_entered, last_left, inside_is, cases_word}
+use Rattle.time_laws.specs.kept_facts.proofs.{phase-own, phase-other, last_left-here, last_left-there, acquired, frozen, Invariant}
 use Rattle.flight_laws.proofs.CountSteps.{Takes, IsOwnCount, IsSweptCount, LeavesCount, count_step}
+use Rattle.{time_laws.specs.kept_facts.proofs.marker_inside, time_laws.specs.flight.specs.cores_after, time_laws.specs.flight.specs.IsMade}
+use Rattle.{time_laws.specs.history_laws.specs.Untypes, time_laws.specs.history_laws.specs.FrozenSay}
+use Rattle.{time_laws.specs.kernel_history.specs.call_in, time_laws.specs.kernel_history.specs.Decided, std.proofs.lemmas.Bool.cases_eq}
+use Rattle.{time_laws.specs.spk_nums.specs.declared.kinds.FrameKind.TheVariants.Untyped, time_laws.specs.flight.proofs.Made.made_stands}
 
 none_some : (d : ℕ) → None ≡ Some d → ⊥
 none_some d h = cc

@@ -1,140 +1,43 @@
 -- What a step of a call leaves in a count word: what it has found there; a word that no core holds; or the count that it has found, which
 -- its core then holds, for the count of its call or to make the frame untyped.
-use Rattle.time_laws.specs.stage_thread.specs.declared.alive.Alive.TheVariants.{AtComp, AtLive}
-use Rattle.std.proofs.Common.{◌≡◌, ◌≢◌, ◌⊎◌, inl, inr, ℕ, ℤ, ◌<◌, ◌==◌, Bool, true, false, List, [], ◌∷◌, length, slice_get}
-use Rattle.std.proofs.Common.{◌++◌, map, Option, Some, None, IfSome, arith, refl, sym, ◌∙◌, ap, subst}
-use Rattle.std.specs.Prelude.{IsSome}
-use Rattle.std.proofs.lemmas.Bool.{false≢true, eqb-true}
-use Rattle.std.proofs.lemmas.List.Elements.{All-head}
-use Rattle.time_laws.specs.spk_nums.specs.Capability.{Capability}
-use Rattle.time_laws.specs.spk_nums.specs.Setting.{Setting, IsSetting}
-use Rattle.time_laws.specs.spk_nums.specs.WordSteps.{left_if}
-use Rattle.time_laws.specs.spk_nums.specs.declared.calls.Call.{Call}
-use Rattle.time_laws.specs.spk_nums.specs.declared.calls.Call.TheVariants.{Retype}
-use Rattle.time_laws.specs.spk_nums.specs.declared.kinds.FrameKind.{FrameKind}
-use Rattle.time_laws.specs.spk_nums.specs.declared.kinds.FrameKind.TheVariants as frame_kind
-use Rattle.time_laws.specs.spk_nums.specs.declared.replies.Reply.{Reply}
-use Rattle.time_laws.specs.spk_nums.specs.declared.replies.Reply.TheVariants as reply
-use Rattle.time_laws.specs.frame_words.specs.Count.{CountFits, word_of_count, count_of_word}
+use Rattle.time_laws.specs.core_invariant.proofs as low
+use low.{AtComp, AtLive, ◌≡◌, ◌≢◌, ◌⊎◌, inl, inr, ℕ, ℤ, ◌<◌, ◌==◌, Bool, true, false, List, [], ◌∷◌, length, slice_get, ◌++◌, map, Option}
+use low.{Some, None, IfSome, arith, refl, sym, ◌∙◌, ap, subst, IsSome, false≢true, eqb-true, Capability, Setting, IsSetting, left_if, Call}
+use low.{FrameKind, Reply, CountFits, word_of_count, count_of_word, CountAt, Move, word_of, left_of, count_mark, Step, Trace, Open, phase}
+use low.{last_left, look_move, Look, AtRoot, AtLeaf, AtEntry, unheld, acquired, Acquired, Pin, AtCompare as close_compare, AtDraw, AtStore}
+use low.{Quiet, AtCore, AtFlush, frozen, released, Sweep, SweepAt, Thaw, Charge, AtLoad as charge_load, Pair, PairAt, LoadA, MarkA, ListA}
+use low.{LoadB, ListB, CompareB, AgainB, StoreList, StoreB, StoreA, dues, put_by, CompAt, CompMaking, InvokingAt, ReturningAt, KillingAt}
+use low.{LoadComp, LoadLive, Close as kill_close, Draw as kill_draw, MakingAt, NewObject, SwitchAt, Switching, TypingAt, Untyping}
+use low.{UntypingAt, Due, Fill as fill_act, Remove as remove_act, Retype as type_act, Make as make_act, Outside, Tick as tick_act}
+use low.{Touch as touch_act, Flush as flush_act, Kill as kill_act, Untype as untype_act, Map as map_act, MakeComp as comp_act}
+use low.{Invoke as invoke_act, Return as return_act, Share as share_act, Refill as refill_act, Switch as switch_act, Tail, Nothing, Quiesce}
+use low.{Unmark, StoreDead, StoreFlush, Release, StoreLive, Push, Pop, StoreRunning, StoreIdle, Lookup, Read, Scan, Acquire, Act, move_in}
+use low.{move_of, CountsAt, StageFits, stage_move, is_ok, tail_move, Core, ActiveCall, Stage, Enter, Living, Undecided, Decided, Leave}
+use low.{holds_release, holds_thaw, count_of, committed, holds_counts, settled_by, settled, done_by, holds_at, holds_in, holds, held_by}
+use low.{CallIs, KnowsAct, KnowsAt, KnowsClose, due_of, KnowsUndecided, phase_at, untypes, KnowsSweep, KnowsUntypingAt, UntypesBy}
+use low.{claimed_by, SaysCount, release_away, thaw_here, plan_for, Claim}
+use Rattle.time_laws.specs.act_states.specs.{Retype, pin_move, commit_of, AtLoad, close_move, quiet_move, Close, move_at, ThawFits}
+use Rattle.time_laws.specs.act_states.specs.{charge_move, Refill, RefillAt, Pop as PopOf, Push as PushOf, act_move, comp_at, invoking_at}
+use Rattle.time_laws.specs.act_states.specs.{returning_at, killing_at, making_at, switching_at, typing_at, is_drawing, untyping_at}
+use Rattle.time_laws.specs.flight.proofs.{Invariant, turned, MayStep, cores_after, stepping_core, IsMade}
+use Rattle.time_laws.specs.step_ways.proofs.{Compare as type_compare, first_marked, first_stands, is_active}
+use Rattle.time_laws.specs.core_invariant.specs.{pin_frame, KnowsSweepAt}
+use Rattle.time_laws.specs.stage_tcap.specs.{move_at as pair_at_move, refill_move_at}
+use Rattle.time_laws.specs.stage_thread.specs.{push_move, pop_move}
+use Rattle.time_laws.specs.stage_pins.specs.{Commit.settled_word, declared.pin.Pin.TheVariants.AtCompare}
+use Rattle.time_laws.specs.act_states.specs.{Untypings.release_at, declared.fills.Fill.Fill as FillOf}
+use Rattle.time_laws.specs.act_states.specs.{declared.typings.TypingAt.TheVariants.Load, declared.untypings.Release.Release as ReleaseOf}
+use Rattle.time_laws.specs.act_states.specs.{declared.work.Act.Act as ActOf, declared.work.Tail.TheVariants.Share}
+use Rattle.time_laws.specs.core_invariant.specs.{Knows.HasLoaded, Knows.pin_core, Sweeps.KnowsRelease}
+use Rattle.time_laws.specs.count_invariant.proofs.{ActHolds.SparesAt, Acquiring.removal_types, CompCounts.comp_call}
+use Rattle.time_laws.specs.count_invariant.proofs.{KillingCounts.kill_types, MakingCounts.made_types, StackCounts.invoke_of}
+use Rattle.time_laws.specs.count_invariant.proofs.{SweepCounts.sweep_spares, SwitchCounts.switch_of}
+use Rattle.{std.proofs.lemmas.List.Elements.All-head}
+use Rattle.{time_laws.specs.stage_tcap.specs.declared.charge.Charge.TheVariants.AtCompare as charge_compare}
+use Rattle.{time_laws.specs.comp_invariant.specs.act_fits.proofs.DuesFit.few_dues, time_laws.specs.flight.proofs.Made.made_stands}
+use low.{Freezing.is_count}
 use Rattle.time_laws.specs.frame_words.proofs.CountLemmas as counts
-use Rattle.time_laws.specs.word_map.specs.Word.{CountAt}
-use Rattle.time_laws.specs.word_map.specs.Moves.{Move, word_of, left_of}
-use Rattle.time_laws.specs.kernel_history.specs.Marks.{count_mark}
-use Rattle.time_laws.specs.kernel_history.specs.Trace.{Step, Trace, Open, phase, last_left}
-use Rattle.time_laws.specs.stage_look.specs.Lookup.{look_move}
-use Rattle.time_laws.specs.stage_look.specs.declared.look.Look.{Look}
-use Rattle.time_laws.specs.stage_look.specs.declared.look.Look.TheVariants.{AtRoot, AtLeaf, AtEntry}
-use Rattle.time_laws.specs.stage_pins.specs.Acquire.{pin_move}
-use Rattle.time_laws.specs.stage_pins.specs.Commit.{settled_word}
-use Rattle.time_laws.specs.stage_pins.specs.Counts.{unheld, acquired}
-use Rattle.time_laws.specs.stage_pins.specs.Held.{commit_of}
-use Rattle.time_laws.specs.stage_pins.specs.declared.held.Acquired.{Acquired}
-use Rattle.time_laws.specs.stage_pins.specs.declared.pin.Pin.{Pin}
-use Rattle.time_laws.specs.stage_pins.specs.declared.pin.Pin.TheVariants.{AtLoad, AtCompare}
-use Rattle.time_laws.specs.stage_quiet.specs.Removal.{close_move}
-use Rattle.time_laws.specs.stage_quiet.specs.Scan.{quiet_move}
-use Rattle.time_laws.specs.stage_quiet.specs.declared.close.Close.{Close}
-use Rattle.time_laws.specs.stage_quiet.specs.declared.close.Close.TheVariants.{AtCompare as close_compare, AtDraw, AtStore}
-use Rattle.time_laws.specs.stage_quiet.specs.declared.quiet.Quiet.{Quiet}
-use Rattle.time_laws.specs.stage_quiet.specs.declared.quiet.Quiet.TheVariants.{AtCore, AtFlush}
-use Rattle.time_laws.specs.stage_sweep.specs.Freeze.{frozen, move_at}
-use Rattle.time_laws.specs.stage_sweep.specs.Release.{ThawFits, released}
-use Rattle.time_laws.specs.stage_sweep.specs.declared.sweep.Sweep.{Sweep}
-use Rattle.time_laws.specs.stage_sweep.specs.declared.sweep.SweepAt.{SweepAt}
-use Rattle.time_laws.specs.stage_sweep.specs.declared.sweep.SweepAt.TheVariants as sweep
-use Rattle.time_laws.specs.stage_sweep.specs.declared.thaw.Thaw.{Thaw}
-use Rattle.time_laws.specs.stage_tcap.specs.Charging.{charge_move}
-use Rattle.time_laws.specs.stage_tcap.specs.Pairs.{move_at as pair_at_move}
-use Rattle.time_laws.specs.stage_tcap.specs.declared.charge.Charge.{Charge}
-use Rattle.time_laws.specs.stage_tcap.specs.declared.charge.Charge.TheVariants.{AtLoad as charge_load, AtCompare as charge_compare}
-use Rattle.time_laws.specs.stage_tcap.specs.declared.pair.Pair.{Pair}
-use Rattle.time_laws.specs.stage_tcap.specs.declared.pair.PairAt.{PairAt}
-use Rattle.time_laws.specs.stage_tcap.specs.declared.pair.PairAt.TheVariants.{LoadA, MarkA, ListA, LoadB, ListB, CompareB}
-use Rattle.time_laws.specs.stage_tcap.specs.declared.pair.PairAt.TheVariants.{AgainB, StoreList, StoreB, StoreA}
-use Rattle.time_laws.specs.stage_tcap.specs.Refilling.{refill_move_at}
-use Rattle.time_laws.specs.stage_tcap.specs.declared.refill.Refill.{Refill}
-use Rattle.time_laws.specs.stage_tcap.specs.declared.refill.RefillAt.{RefillAt}
-use Rattle.time_laws.specs.stage_tcap.specs.declared.refill.RefillAt.TheVariants as refill
-use Rattle.time_laws.specs.stage_thread.specs.Stacking.{push_move, pop_move}
-use Rattle.time_laws.specs.stage_thread.specs.declared.claim.Claim.TheVariants as claim
-use Rattle.time_laws.specs.stage_thread.specs.declared.stack.Pop.{Pop as PopOf}
-use Rattle.time_laws.specs.stage_thread.specs.declared.stack.Pop.TheVariants as pop
-use Rattle.time_laws.specs.stage_thread.specs.declared.stack.Push.{Push as PushOf}
-use Rattle.time_laws.specs.stage_thread.specs.declared.stack.Push.TheVariants as push
-use Rattle.time_laws.specs.act_states.specs.Acts.{act_move, dues, put_by}
-use Rattle.time_laws.specs.act_states.specs.Comps.{comp_at}
-use Rattle.time_laws.specs.act_states.specs.Invocations.{invoking_at, returning_at}
-use Rattle.time_laws.specs.act_states.specs.Kills.{killing_at}
-use Rattle.time_laws.specs.act_states.specs.Makings.{making_at}
-use Rattle.time_laws.specs.act_states.specs.Switches.{switching_at}
-use Rattle.time_laws.specs.act_states.specs.Typings.{typing_at}
-use Rattle.time_laws.specs.act_states.specs.Untypings.{is_drawing, untyping_at, release_at}
-use Rattle.time_laws.specs.act_states.specs.declared.comps.CompAt.{CompAt}
-use Rattle.time_laws.specs.act_states.specs.declared.comps.CompAt.TheVariants as comp_stands
-use Rattle.time_laws.specs.act_states.specs.declared.comps.CompMaking.{CompMaking}
-use Rattle.time_laws.specs.act_states.specs.declared.fills.Fill.{Fill as FillOf}
-use Rattle.time_laws.specs.act_states.specs.declared.invocations.InvokingAt.{InvokingAt}
-use Rattle.time_laws.specs.act_states.specs.declared.invocations.InvokingAt.TheVariants as invoking
-use Rattle.time_laws.specs.act_states.specs.declared.invocations.ReturningAt.{ReturningAt}
-use Rattle.time_laws.specs.act_states.specs.declared.invocations.ReturningAt.TheVariants as returning
-use Rattle.time_laws.specs.act_states.specs.declared.kills.KillingAt.{KillingAt}
-use Rattle.time_laws.specs.act_states.specs.declared.kills.KillingAt.TheVariants.{LoadComp, LoadLive, Close as kill_close}
-use Rattle.time_laws.specs.act_states.specs.declared.kills.KillingAt.TheVariants.{Draw as kill_draw}
-use Rattle.time_laws.specs.act_states.specs.declared.makings.MakingAt.{MakingAt}
-use Rattle.time_laws.specs.act_states.specs.declared.makings.MakingAt.TheVariants as making
-use Rattle.time_laws.specs.act_states.specs.declared.objects.NewObject.{NewObject}
-use Rattle.time_laws.specs.act_states.specs.declared.switches.SwitchAt.{SwitchAt}
-use Rattle.time_laws.specs.act_states.specs.declared.switches.SwitchAt.TheVariants as switch_at
-use Rattle.time_laws.specs.act_states.specs.declared.switches.Switching.{Switching}
-use Rattle.time_laws.specs.act_states.specs.declared.typings.TypingAt.{TypingAt}
-use Rattle.time_laws.specs.act_states.specs.declared.typings.TypingAt.TheVariants.{Load, Compare as type_compare}
-use Rattle.time_laws.specs.act_states.specs.declared.untypings.Release.{Release as ReleaseOf}
-use Rattle.time_laws.specs.act_states.specs.declared.untypings.Untyping.{Untyping}
-use Rattle.time_laws.specs.act_states.specs.declared.untypings.UntypingAt.{UntypingAt}
 use Rattle.time_laws.specs.act_states.specs.declared.untypings.UntypingAt.TheVariants as untype
-use Rattle.time_laws.specs.act_states.specs.declared.work.Act.{Act as ActOf}
-use Rattle.time_laws.specs.act_states.specs.declared.work.Due.{Due}
-use Rattle.time_laws.specs.act_states.specs.declared.work.Act.TheVariants.{Fill as fill_act, Remove as remove_act, Retype as type_act}
-use Rattle.time_laws.specs.act_states.specs.declared.work.Act.TheVariants.{Make as make_act, Outside, Tick as tick_act, Touch as touch_act}
-use Rattle.time_laws.specs.act_states.specs.declared.work.Act.TheVariants.{Flush as flush_act, Kill as kill_act, Untype as untype_act}
-use Rattle.time_laws.specs.act_states.specs.declared.work.Act.TheVariants.{Map as map_act, MakeComp as comp_act, Invoke as invoke_act}
-use Rattle.time_laws.specs.act_states.specs.declared.work.Act.TheVariants.{Return as return_act, Share as share_act, Refill as refill_act}
-use Rattle.time_laws.specs.act_states.specs.declared.work.Act.TheVariants.{Switch as switch_act}
-use Rattle.time_laws.specs.act_states.specs.declared.work.Tail.{Tail}
-use Rattle.time_laws.specs.act_states.specs.declared.work.Tail.TheVariants.{Nothing, Quiesce, Unmark, StoreDead, StoreFlush, Release}
-use Rattle.time_laws.specs.act_states.specs.declared.work.Tail.TheVariants.{StoreLive, Push, Pop, Share, StoreRunning, StoreIdle}
-use Rattle.time_laws.specs.act_states.specs.declared.work.Work.TheVariants.{Lookup, Read, Scan, Acquire, Act}
-use Rattle.time_laws.specs.call_stages.specs.Cores.{move_in, move_of}
-use Rattle.time_laws.specs.call_stages.specs.Fits.{CountsAt, StageFits}
-use Rattle.time_laws.specs.call_stages.specs.Steps.{stage_move}
-use Rattle.time_laws.specs.call_stages.specs.Tails.{is_ok, tail_move}
-use Rattle.time_laws.specs.call_stages.specs.View.{Core}
-use Rattle.time_laws.specs.call_stages.specs.declared.stages.ActiveCall.{ActiveCall}
-use Rattle.time_laws.specs.call_stages.specs.declared.stages.Stage.{Stage}
-use Rattle.time_laws.specs.call_stages.specs.declared.stages.Stage.TheVariants.{Enter, Living, Undecided, Decided, Leave}
-use Rattle.time_laws.specs.core_invariant.specs.Frozen.{holds_release, holds_thaw}
-use Rattle.time_laws.specs.core_invariant.specs.Holding.{count_of, committed, holds_counts, settled_by, settled}
-use Rattle.time_laws.specs.core_invariant.specs.Invariant.{done_by, holds_at, holds_in, holds, held_by, Invariant}
-use Rattle.time_laws.specs.core_invariant.specs.Knows.{CallIs, HasLoaded, KnowsAct, KnowsAt, KnowsClose}
-use Rattle.time_laws.specs.core_invariant.specs.Knows.{due_of, KnowsUndecided, phase_at, pin_core, pin_frame, untypes}
-use Rattle.time_laws.specs.core_invariant.specs.Sweeps.{KnowsRelease, KnowsSweep, KnowsSweepAt, KnowsUntypingAt, UntypesBy}
-use Rattle.time_laws.specs.core_invariant.specs.Threads.{claimed_by}
-use Rattle.time_laws.specs.core_invariant.specs.Words.{SaysCount}
-use Rattle.time_laws.specs.core_invariant.proofs.Freezing.{is_count, release_away, thaw_here}
-use Rattle.time_laws.specs.step_ways.proofs.Counting.{first_marked, first_stands}
-use Rattle.time_laws.specs.count_invariant.specs.act_fits.proofs.DuesFit.{few_dues}
-use Rattle.time_laws.specs.count_invariant.proofs.ActHolds.{SparesAt}
-use Rattle.time_laws.specs.count_invariant.proofs.Acquiring.{removal_types}
-use Rattle.time_laws.specs.count_invariant.proofs.CompCounts.{comp_call}
-use Rattle.time_laws.specs.count_invariant.proofs.KillingCounts.{kill_types}
-use Rattle.time_laws.specs.count_invariant.proofs.MakingCounts.{made_types}
-use Rattle.time_laws.specs.count_invariant.proofs.StackCounts.{invoke_of}
-use Rattle.time_laws.specs.count_invariant.proofs.SweepCounts.{sweep_spares}
-use Rattle.time_laws.specs.count_invariant.proofs.SwitchCounts.{switch_of}
-use Rattle.time_laws.specs.step_ways.proofs.Loads.{is_active}
-use Rattle.time_laws.specs.flight.specs.Made.{turned, MayStep, cores_after, stepping_core, IsMade}
-use Rattle.time_laws.specs.flight.proofs.Made.{made_stands}
-use Rattle.time_laws.specs.act_states.specs.call_plans.specs.PlanOf.{plan_for}
 
 -- Steps on other words
 
@@ -158,20 +61,20 @@ typing_beside f k (type_compare word) = refl
 
 making_beside : (f : ℕ) (object : NewObject) (core : ℕ) (fill : FillOf) (at : MakingAt)
     → is_count (word_of (making_at f object core fill at)) ≡ false
-making_beside f object core fill making.Load = refl
-making_beside f object core fill (making.Mark word) = refl
-making_beside f object core fill (making.Store word entry) = refl
-making_beside f object core fill (making.Fill word) = refl
+making_beside f object core fill MakingAt.Load = refl
+making_beside f object core fill (MakingAt.Mark word) = refl
+making_beside f object core fill (MakingAt.Store word entry) = refl
+making_beside f object core fill (MakingAt.Fill word) = refl
 
 charge_beside : (charge : Charge) → is_count (word_of (charge_move charge)) ≡ false
 charge_beside (charge_load tcap ticks) = refl
 charge_beside (charge_compare tcap ticks budget version) = refl
 
 refill_beside : (r : Refill) (at : RefillAt) → is_count (word_of (refill_move_at r at)) ≡ false
-refill_beside r refill.Load = refl
-refill_beside r (refill.List entry) = refl
-refill_beside r refill.Compare = refl
-refill_beside r refill.Again = refl
+refill_beside r RefillAt.Load = refl
+refill_beside r (RefillAt.List entry) = refl
+refill_beside r RefillAt.Compare = refl
+refill_beside r RefillAt.Again = refl
 
 killing_beside : (f core : ℕ) (at : KillingAt) → is_count (word_of (killing_at f core at)) ≡ false
 killing_beside f core LoadComp = refl
@@ -180,25 +83,25 @@ killing_beside f core (kill_close life word) = refl
 killing_beside f core (kill_draw life word) = refl
 
 invoking_beside : (f : ℕ) (at : InvokingAt) → is_count (word_of (invoking_at f at)) ≡ false
-invoking_beside f invoking.LoadTable = refl
-invoking_beside f (invoking.LoadPages table) = refl
-invoking_beside f (invoking.LoadComp table pages) = refl
-invoking_beside f (invoking.LoadLive table pages life) = refl
+invoking_beside f InvokingAt.LoadTable = refl
+invoking_beside f (InvokingAt.LoadPages table) = refl
+invoking_beside f (InvokingAt.LoadComp table pages) = refl
+invoking_beside f (InvokingAt.LoadLive table pages life) = refl
 
 returning_beside : (thread depth : ℕ) (at : ReturningAt) → is_count (word_of (returning_at thread depth at)) ≡ false
-returning_beside thread depth returning.LoadBelow = refl
-returning_beside thread depth (returning.LoadTable comp) = refl
-returning_beside thread depth (returning.LoadPages comp table) = refl
-returning_beside thread depth (returning.Draw comp table pages) = refl
+returning_beside thread depth ReturningAt.LoadBelow = refl
+returning_beside thread depth (ReturningAt.LoadTable comp) = refl
+returning_beside thread depth (ReturningAt.LoadPages comp table) = refl
+returning_beside thread depth (ReturningAt.Draw comp table pages) = refl
 
 comp_beside : (m : CompMaking) (at : CompAt) → is_count (word_of (comp_at m at)) ≡ false
-comp_beside m comp_stands.Load = refl
-comp_beside m (comp_stands.Mark word) = refl
-comp_beside m (comp_stands.LoadLive word) = refl
-comp_beside m (comp_stands.Scan word last q) = quiet_beside q
-comp_beside m (comp_stands.Close word last) = refl
-comp_beside m (comp_stands.Store word last entry) = refl
-comp_beside m (comp_stands.Fill word last) = refl
+comp_beside m CompAt.Load = refl
+comp_beside m (CompAt.Mark word) = refl
+comp_beside m (CompAt.LoadLive word) = refl
+comp_beside m (CompAt.Scan word last q) = quiet_beside q
+comp_beside m (CompAt.Close word last) = refl
+comp_beside m (CompAt.Store word last entry) = refl
+comp_beside m (CompAt.Fill word last) = refl
 
 pair_beside : (p : Pair) (at : PairAt) → is_count (word_of (pair_at_move p at)) ≡ false
 pair_beside p LoadA = refl
@@ -213,36 +116,36 @@ pair_beside p StoreB = refl
 pair_beside p (StoreA moved v) = refl
 
 switching_beside : (m : Switching) (at : SwitchAt) → is_count (word_of (switching_at m at)) ≡ false
-switching_beside m (switch_at.Claim (claim.AtLoad f core)) = refl
-switching_beside m (switch_at.Claim (claim.AtCompare f core depth)) = refl
-switching_beside m (switch_at.Claim (claim.AtStack f depth)) = refl
-switching_beside m (switch_at.LoadTable to) = refl
-switching_beside m (switch_at.LoadPages to table) = refl
-switching_beside m (switch_at.Leave to table pages) = refl
-switching_beside m (switch_at.Draw to table pages) = refl
+switching_beside m (SwitchAt.Claim (Claim.AtLoad f core)) = refl
+switching_beside m (SwitchAt.Claim (Claim.AtCompare f core depth)) = refl
+switching_beside m (SwitchAt.Claim (Claim.AtStack f depth)) = refl
+switching_beside m (SwitchAt.LoadTable to) = refl
+switching_beside m (SwitchAt.LoadPages to table) = refl
+switching_beside m (SwitchAt.Leave to table pages) = refl
+switching_beside m (SwitchAt.Draw to table pages) = refl
 
 push_beside : (x : PushOf) → is_count (word_of (push_move x)) ≡ false
-push_beside (push.AtStack t core depth comp) = refl
-push_beside (push.AtThread t core depth) = refl
+push_beside (PushOf.AtStack t core depth comp) = refl
+push_beside (PushOf.AtThread t core depth) = refl
 
 pop_beside : (x : PopOf) → is_count (word_of (pop_move x)) ≡ false
-pop_beside (pop.AtThread t core depth) = refl
-pop_beside (pop.AtStack t depth) = refl
+pop_beside (PopOf.AtThread t core depth) = refl
+pop_beside (PopOf.AtStack t depth) = refl
 
 -- Steps on a count word
 
 -- The call is one that makes the frame untyped.
 pub record UntypesFrame (call : Call) (f : ℕ) : Type 0 where
   pub range : ℕ
-  pub is : call ≡ Retype range f frame_kind.Untyped
+  pub is : call ≡ Retype range f FrameKind.Untyped
 
 pub untypes_frame : (call : Call) (ks : List Capability) (m : Untyping) → UntypesBy call ks m → UntypesFrame call m.frame
-untypes_frame (Retype r f frame_kind.Untyped) (range ∷ []) m by =
-    record { range = r; is = ap (λ (n : ℕ). Retype r n frame_kind.Untyped) (sym by.frame) }
-untypes_frame (Retype r f frame_kind.Untyped) [] m by = absurd by
-untypes_frame (Retype r f frame_kind.Untyped) (range ∷ k ∷ ks) m by = absurd by
-untypes_frame (Retype r f frame_kind.User) ks m by = absurd by
-untypes_frame (Retype r f frame_kind.Kernel) ks m by = absurd by
+untypes_frame (Retype r f FrameKind.Untyped) (range ∷ []) m by =
+    record { range = r; is = ap (λ (n : ℕ). Retype r n FrameKind.Untyped) (sym by.frame) }
+untypes_frame (Retype r f FrameKind.Untyped) [] m by = absurd by
+untypes_frame (Retype r f FrameKind.Untyped) (range ∷ k ∷ ks) m by = absurd by
+untypes_frame (Retype r f FrameKind.User) ks m by = absurd by
+untypes_frame (Retype r f FrameKind.Kernel) ks m by = absurd by
 untypes_frame call ks m by = absurd by
 
 -- A call stands where it acquires this count, or freezes it.
@@ -264,7 +167,7 @@ pub record Freezing (o : Option ActiveCall) (f k : ℕ) (count : ℤ) (stamp : �
   pub sweeps : m.at ≡ untype.Sweep word w
   pub frame : w.frame ≡ f
   pub number : length w.kept ≡ k
-  pub at : w.at ≡ sweep.Compare count stamp
+  pub at : w.at ≡ SweepAt.Compare count stamp
 
 -- A count that is acquired is the core's own, of a frame that the call does not make untyped; one that is frozen is of the frame that it
 -- makes untyped.
@@ -294,7 +197,7 @@ LeavesCount t o c f k was now = (now ≡ was) ⊎ ((count_mark (count_of_word no
 
 stored_by : (r : Reply) (drawn : Option ℕ) (x : Acquired)
     → committed (done_by r drawn) x ≡ word_of_count (settled_word (commit_of (is_ok r) drawn x))
-stored_by (reply.Ok v) drawn x = refl
+stored_by (Reply.Ok v) drawn x = refl
 stored_by r drawn x = refl
 
 same_count : (g j f k : ℕ) → CountAt g j ≡ CountAt f k → g ≡ f
@@ -334,7 +237,7 @@ module _ (setup : Setting) (setting : IsSetting setup) (cores : ℕ → Core) (t
   same_untyping : (call : Call) (f g : ℕ) → UntypesFrame call f → UntypesFrame call g → f ≡ g
   same_untyping call f g first second = same_frame first.range f second.range g (sym first.is ∙ second.is)
     where
-      same_frame : (r f q g : ℕ) → Retype r f frame_kind.Untyped ≡ Retype q g frame_kind.Untyped → f ≡ g
+      same_frame : (r f q g : ℕ) → Retype r f FrameKind.Untyped ≡ Retype q g FrameKind.Untyped → f ≡ g
       same_frame r f q g h = cc
 
   spares_frame : (act : ActOf) → a.stage ≡ Undecided (Acquire pin change act)
@@ -428,10 +331,10 @@ module _ (setup : Setting) (setting : IsSetting setup) (cores : ℕ → Core) (t
       ))
 
   sweep_leaves : (call : Call) (g word : ℕ) (w : Sweep) → phase t c ≡ Open call → UntypesFrame call g → KnowsSweep setup t c g word w
-      → ((count : ℤ) (stamp : ℕ) → w.at ≡ sweep.Compare count stamp → Freezing (cores c).active w.frame (length w.kept) count stamp)
+      → ((count : ℤ) (stamp : ℕ) → w.at ≡ SweepAt.Compare count stamp → Freezing (cores c).active w.frame (length w.kept) count stamp)
       → (at : SweepAt) → w.at ≡ at → KnowsSweepAt setup t c g w at → Leaves (move_at w.frame w.core (length w.kept) at)
-  sweep_leaves call g word w is_open untypes knows stands_at sweep.Load at_is has at = inl refl
-  sweep_leaves call g word w is_open untypes knows stands_at (sweep.Compare count stamp) at_is has at =
+  sweep_leaves call g word w is_open untypes knows stands_at SweepAt.Load at_is has at = inl refl
+  sweep_leaves call g word w is_open untypes knows stands_at (SweepAt.Compare count stamp) at_is has at =
       compared call count stamp (word_of_count (frozen w.core count stamp)) is_open has.fits
       (inr (
         counts.spelling.reads (frozen w.core count stamp) (core_fits w.core knows.core, has.fits.1, has.fits.2)
@@ -443,12 +346,12 @@ module _ (setup : Setting) (setting : IsSetting setup) (cores : ℕ → Core) (t
               (stands_at count stamp at_is));
         },
       ))
-  sweep_leaves call g word w is_open untypes knows stands_at (sweep.Scan q) at_is has at = beside (quiet_move q) (quiet_beside q) at
-  sweep_leaves call g word w is_open untypes knows stands_at (sweep.Empty entry) at_is has at = inl refl
+  sweep_leaves call g word w is_open untypes knows stands_at (SweepAt.Scan q) at_is has at = beside (quiet_move q) (quiet_beside q) at
+  sweep_leaves call g word w is_open untypes knows stands_at (SweepAt.Empty entry) at_is has at = inl refl
 
   untyping_leaves : (call : Call) (g core : ℕ) (at : UntypingAt) → phase t c ≡ Open call → UntypesFrame call g
       → KnowsUntypingAt setup t c g at
-      → ((word : ℕ) (w : Sweep) (count : ℤ) (stamp : ℕ) → at ≡ untype.Sweep word w → w.at ≡ sweep.Compare count stamp
+      → ((word : ℕ) (w : Sweep) (count : ℤ) (stamp : ℕ) → at ≡ untype.Sweep word w → w.at ≡ SweepAt.Compare count stamp
       → Freezing (cores c).active w.frame (length w.kept) count stamp)
       → Leaves (untyping_at g core at)
   untyping_leaves call g core untype.Load is_open untypes has stands_at = beside (untyping_at g core untype.Load) refl

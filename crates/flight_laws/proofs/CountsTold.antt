@@ -1,41 +1,21 @@
 -- What count words tell while calls hold them: what a word will show, by the phase of the call that holds it, is what it settles to. So
 -- what the count words of a frame will show sums to the references to it.
-use Rattle.std.proofs.Common.{◌≡◌, ◌≢◌, inl, inr, ℕ, ℤ, pos, ◌+ℤ◌, ◌-ℤ◌, ◌<◌, ◌&&◌, Bool, true, false, if◌then◌else◌, List}
-use Rattle.std.proofs.Common.{[], ◌∷◌, Option, Some, None, refl, sym, ◌∙◌, ap, subst}
-use Rattle.std.specs.Prelude.{is_some}
-use Rattle.std.proofs.lemmas.Bool.{cases_eq, cases_lt, false≢true, eq-eqb, ne_eqb}
-use Rattle.time_laws.specs.spk_nums.specs.Setting.{Setting, IsSetting}
-use Rattle.time_laws.specs.spk_nums.specs.declared.calls.Call.{Call}
-use Rattle.time_laws.specs.spk_nums.specs.declared.replies.Reply.{Reply}
-use Rattle.time_laws.specs.frame_words.specs.Count.{count_of_word}
-use Rattle.time_laws.specs.frame_words.specs.Residue.{residue, wrapped}
-use Rattle.time_laws.specs.frame_words.specs.declared.count_word.CountWord.{CountWord}
-use Rattle.time_laws.specs.frame_words.specs.declared.count_word.Hold.{Hold}
-use Rattle.time_laws.specs.frame_words.specs.declared.count_word.Hold.TheVariants.{Unheld, Pinned, Closed}
-use Rattle.time_laws.specs.word_map.specs.Word.{Word, CountAt}
-use Rattle.time_laws.specs.kernel_rules.specs.State.{State}
-use Rattle.time_laws.specs.kernel_rules.specs.References.{refs}
-use Rattle.time_laws.specs.kernel_rules.proofs.Within.{put_other}
-use Rattle.time_laws.specs.kernel_history.specs.Counts.{counters, count_in, count_sum}
-use Rattle.time_laws.specs.kernel_history.specs.Legal.{MayDecide}
-use Rattle.time_laws.specs.kernel_history.specs.Marking.{marked_by}
-use Rattle.time_laws.specs.kernel_history.specs.Marks.{count_mark, hold_mark}
-use Rattle.time_laws.specs.kernel_history.specs.Trace.{Step, Trace, Phase, Open, phase, after_enter, after_decide, state_after}
-use Rattle.time_laws.specs.kernel_history.specs.Trace.{state_before, last_left}
-use Rattle.time_laws.specs.kernel_history.proofs.Steps.{phase-other}
-use Rattle.time_laws.specs.stage_pins.specs.Counts.{acquired, unheld}
-use Rattle.time_laws.specs.core_invariant.specs.Holding.{committed, settled_by}
-use Rattle.time_laws.specs.core_invariant.specs.Invariant.{Invariant, holds, holds_in, held_by}
-use Rattle.time_laws.specs.core_invariant.proofs.Sounds.{limits_of}
-use Rattle.time_laws.specs.kept_facts.proofs.Few.{refs_residue}
-use Rattle.time_laws.specs.flight.specs.Made.{core_after, cores_after, stepping_core, IsMade}
-use Rattle.time_laws.specs.flight.proofs.Made.{made_stands}
-use Rattle.time_laws.specs.history_laws.specs.Counts.{changed_by, is_carried_out, count_then, sum_then, will_show, CountsTell}
+use Rattle.time_laws.specs.kept_facts.proofs as low
+use low.{◌≡◌, ◌≢◌, inl, inr, ℕ, ℤ, pos, ◌+ℤ◌, ◌<◌, ◌&&◌, Bool, true, false, if◌then◌else◌, List, [], ◌∷◌, Option, Some, None, refl, sym}
+use low.{◌∙◌, ap, subst, is_some, false≢true, eq-eqb, ne_eqb, Setting, IsSetting, Call, Reply, count_of_word, residue, CountWord, Hold}
+use low.{Pinned, Closed, Word, CountAt, State, refs, put_other, counters, count_in, count_sum, MayDecide, marked_by, count_mark, hold_mark}
+use low.{Step, Trace, Phase, Open, phase, after_enter, after_decide, state_after, state_before, last_left, phase-other, acquired, unheld}
+use low.{committed, settled_by, Invariant, holds, holds_in, held_by, limits_of, refs_residue}
+use Rattle.time_laws.specs.flight.specs.{core_after, cores_after, stepping_core, IsMade}
+use Rattle.std.proofs.lemmas.Bool.{cases_eq, cases_lt}
+use Rattle.time_laws.specs.history_laws.specs.{is_carried_out, CountsTell}
+use Rattle.time_laws.specs.kernel_history.specs.{◌-ℤ◌, Unheld}
+use Rattle.time_laws.specs.history_laws.specs.Counts.{changed_by, count_then, sum_then, will_show}
 use Rattle.flight_laws.proofs.CountHolds.{before_is, entered_is, frozen_say, held_before, kept, phase_is, raw_other}
 use Rattle.flight_laws.proofs.AcquiredCounts.{count_stays, decides_told, entry, has_count, settles_to, told}
-use Rattle.flight_laws.proofs.FrozenCounts.{cleared_if}
 use Rattle.flight_laws.proofs.SettledCounts.{cleared_is, closed_shows, count_changes, free_shows, not_ok, pinned_shows, settled_shows}
-use Rattle.flight_laws.proofs.SettledCounts.{shows}
+use Rattle.{time_laws.specs.frame_words.specs.Residue.wrapped, time_laws.specs.flight.proofs.Made.made_stands}
+use Rattle.{flight_laws.proofs.FrozenCounts.cleared_if, flight_laws.proofs.SettledCounts.shows}
 
 same_some : {A : Type 0} (x y : A) → Some x ≡ Some y → x ≡ y
 same_some x y h = cc

@@ -1,42 +1,25 @@
 -- What holds of frames that are made untyped, and that a node through which a call has looked stays till the call returns.
-use Rattle.time_laws.proofs.Common.{◌≡◌, ◌≢◌, ◌⊎◌, inl, inr, ℕ, ◌<◌, Bool, true, false, IsTrue, [], ◌∷◌, ◌++◌, Option, Some, None, refl}
-use Rattle.time_laws.proofs.Common.{sym}
-use Rattle.time_laws.proofs.Common.{◌∙◌, ap, subst, cases_eq, eq-eqb, eqb-true, false≢true, Setting, IsSetting, InLimits, Call, Retype}
-use Rattle.time_laws.proofs.Common.{Reply, EntryAt, CountAt, word_of, Frame, FrameOf, State, refs, fits, is_node, Relies, MayReply, ends}
-use Rattle.time_laws.proofs.Common.{opened, MayDecide, MayFollow, IsLegal, marked_by, is_in, ends_at, ends_in, Step, Trace, Phase, Out}
-use Rattle.time_laws.proofs.Common.{Open}
-use Rattle.time_laws.proofs.Common.{phase, after_enter, after_decide, after_return, state_after, state_before, state_entered, state_decided}
-use Rattle.time_laws.proofs.Common.{state_returned, own_read, run_of, cases_word, open_inj, sound_of, opened_is, phase-own, phase-other}
-use Rattle.time_laws.proofs.Common.{own_read-here, own_read-there, Invariant, Core, CallIs, Untyping}
-use Rattle.time_laws.specs.call_stages.specs.Cores.{move_of}
-use Rattle.time_laws.specs.spk_nums.specs.declared.kinds.FrameKind.TheVariants as frame_kind
-use Rattle.time_laws.specs.spk_nums.specs.declared.kinds.Kind.TheVariants as kind
-use Rattle.time_laws.specs.spk_nums.specs.declared.calls.Call.TheVariants.{Make as make_call}
-use Rattle.time_laws.specs.spk_nums.specs.declared.calls.Make.TheVariants as make
-use Rattle.time_laws.specs.spk_nums.specs.declared.replies.Reply.TheVariants.{Ok}
-use Rattle.time_laws.specs.found_stays.proofs.Apart.{node_fixed}
-use Rattle.time_laws.specs.kernel_invariant.proofs.Ends.{ends_by_rule}
-use Rattle.time_laws.specs.kernel_invariant.proofs.SoundCalls.{IsOpen}
-use Rattle.time_laws.specs.kernel_invariant.proofs.SoundRuns.{open_limits}
-use Rattle.time_laws.specs.kernel_history.specs.Legal.{MayEnter, DecidesBy}
-use Rattle.time_laws.specs.kernel_history.specs.Trace.{Decided}
-use Rattle.time_laws.specs.kernel_history.specs.Trace.{reads, only_reads}
-use Rattle.time_laws.specs.kernel_history.specs.Events.{plain_phase}
-use Rattle.time_laws.specs.kernel_history.proofs.Events.{entered_events, entered_phase, entered_run}
-use Rattle.time_laws.specs.trace_laws.proofs.Opens.{opens}
-use Rattle.time_laws.specs.trace_laws.proofs.Stays.{Stays, stays_other, stays_in_other, stays_plain}
-use Rattle.time_laws.specs.kernel_history.proofs.Steps.{own_read-other}
-use Rattle.time_laws.specs.state_laws.proofs.Flushes.{frame_flushed}
-use Rattle.time_laws.specs.state_laws.proofs.Relied.{own_frame, own_relies}
-use Rattle.time_laws.specs.kept_facts.proofs.CountSums.{counter_all}
-use Rattle.time_laws.specs.history_laws.specs.Frames.{MakesUntyped, UntypedFramesAreUnused, CountedFramesStay, GoesOn, IsLooked, LookedNodesStay}
-use Rattle.time_laws.specs.history_laws.specs.Frames.{asks_untyped, ReadsNode, ReadNodesStay}
-use Rattle.time_laws.specs.flight.specs.Made.{turned, cores_after, IsMade}
-use Rattle.time_laws.specs.flight.proofs.Made.{made_stands, made_counted}
-use Rattle.flight_laws.proofs.Places.{IsNoEntry, IsBeside, beside_other, beside_own, beside_no_node}
-use Rattle.flight_laws.proofs.Places.{WasOpen, was_open, has_read, entered_none, comp_no_node, tcap_no_node}
-use Rattle.flight_laws.proofs.Places.{swept_other, swept_own, no_entry_kept, enters_none, read_rests, step_relies}
+use Rattle.time_laws.specs as low
+use low.kept_facts.proofs.{◌≡◌, ◌≢◌, ◌⊎◌, inl, inr, ℕ, ◌<◌, Bool, true, false, IsTrue, [], ◌∷◌, ◌++◌, Option, Some, None, refl, sym, ◌∙◌}
+use low.kept_facts.proofs.{ap, subst, eq-eqb, eqb-true, false≢true, Setting, IsSetting, InLimits, Call, Retype, Reply, EntryAt, CountAt}
+use low.kept_facts.proofs.{word_of, Frame, FrameOf, State, refs, fits, is_node, Relies, MayReply, ends, opened, MayDecide, MayFollow}
+use low.kept_facts.proofs.{IsLegal, marked_by, is_in, ends_at, ends_in, Step, Trace, Phase, Out, Open, phase, after_enter, after_decide}
+use low.kept_facts.proofs.{after_return, state_after, state_before, state_entered, state_decided, state_returned, own_read, run_of}
+use low.kept_facts.proofs.{cases_word, open_inj, sound_of, opened_is, phase-own, phase-other, own_read-here, own_read-there, Invariant}
+use low.kept_facts.proofs.{Core, CallIs, Untyping, move_of, Make as make_call, MayEnter, entered_events, FrameKind, Kind}
+use low.kernel_history.proofs.{Decided, plain_phase, entered_phase, entered_run, own_read-other, counter_all, Make}
+use low.history_laws.specs.{UntypedFramesAreUnused, CountedFramesStay, LookedNodesStay, ReadNodesStay}
+use low.history_laws.specs.Frames.{MakesUntyped, GoesOn, IsLooked, asks_untyped, ReadsNode}
+use Rattle.flight_laws.proofs.Places.{IsNoEntry, IsBeside, beside_other, beside_own, beside_no_node, WasOpen, was_open, has_read}
+use Rattle.flight_laws.proofs.Places.{entered_none, comp_no_node, tcap_no_node, swept_other, swept_own, no_entry_kept, enters_none}
 use Rattle.flight_laws.proofs.Sweeping.{IsSwept, swept_no_node, untyping_now, looks_asked}
+use low.{flight.specs.turned, flight.specs.cores_after, flight.specs.IsMade, kernel_history.specs.DecidesBy, kernel_history.specs.reads}
+use low.{kernel_history.specs.only_reads, kernel_laws.proofs.ends_by_rule, kernel_laws.proofs.IsOpen, kernel_laws.proofs.open_limits}
+use low.{trace_laws.proofs.opens, trace_laws.proofs.stays_in_other, spk_nums.specs.declared.replies.Reply.TheVariants.Ok}
+use low.{found_stays.proofs.Apart.node_fixed, trace_laws.proofs.Stays.Stays, trace_laws.proofs.Stays.stays_other}
+use low.{trace_laws.proofs.Stays.stays_plain, state_laws.proofs.Flushes.frame_flushed, state_laws.proofs.Relied.own_frame}
+use low.{state_laws.proofs.Relied.own_relies, flight.proofs.Made.made_stands, flight.proofs.Made.made_counted}
+use Rattle.{std.proofs.lemmas.Bool.cases_eq, flight_laws.proofs.Places.read_rests, flight_laws.proofs.Places.step_relies}
 
 -- It is the end of the frame's grace period.
 untyping_ends : (t : Trace) (e : Step) (f : ℕ) → MakesUntyped t e f → ends_at t e (FrameOf f) ≡ true
@@ -48,16 +31,16 @@ ends_untyping t e f ended = by e.decides refl (after_enter e.enters (phase t e.c
   where
     by_call : (call : Call) (r : Reply) → e.decides ≡ Some r → after_enter e.enters (phase t e.core) ≡ Open call
         → ends call r (FrameOf f) ≡ true → MakesUntyped t e f
-    by_call (Retype r g frame_kind.Untyped) (Ok v) decides is h = record {
+    by_call (Retype r g FrameKind.Untyped) (Ok v) decides is h = record {
       range = r;
       value = v;
       decides = decides;
-      call = is ∙ ap (λ (n : ℕ). Open (Retype r n frame_kind.Untyped)) (sym (eqb-true f g h));
+      call = is ∙ ap (λ (n : ℕ). Open (Retype r n FrameKind.Untyped)) (sym (eqb-true f g h));
     }
-    by_call (make_call make.Table r g t b) (Ok v) decides is h = absurd (false≢true h)
-    by_call (make_call make.Leaf r g t b) (Ok v) decides is h = absurd (false≢true h)
-    by_call (make_call make.Pages r g t b) (Ok v) decides is h = absurd (false≢true h)
-    by_call (make_call make.Pleaf r g t b) (Ok v) decides is h = absurd (false≢true h)
+    by_call (make_call Make.Table r g t b) (Ok v) decides is h = absurd (false≢true h)
+    by_call (make_call Make.Leaf r g t b) (Ok v) decides is h = absurd (false≢true h)
+    by_call (make_call Make.Pages r g t b) (Ok v) decides is h = absurd (false≢true h)
+    by_call (make_call Make.Pleaf r g t b) (Ok v) decides is h = absurd (false≢true h)
     by_call call (Ok v) decides is h = absurd (false≢true h)
     by_call call r decides is h = absurd (false≢true h)
 
@@ -83,7 +66,7 @@ untyped_unused setup setting t e made f is = record { none = ended.0; waits = en
     legal = (made_stands setup setting (e ∷ t) made).legal
 
     call : Call
-    call = Retype is.range f frame_kind.Untyped
+    call = Retype is.range f FrameKind.Untyped
 
     may : DecidesBy setup t e (Ok is.value) (Open call)
     may = subst (DecidesBy setup t e (Ok is.value)) is.call
@@ -174,7 +157,7 @@ module _ (setup : Setting) (setting : IsSetting setup) where
       by : Rests setup t c f → Relies (state_after setup t) c f
       by (inl relies) = relies
       by (inr (inl own)) = absurd (false≢true (sym (tcap_no_node ((state_after setup t).frame f)
-          (subst (λ (g : ℕ). IsTrue (fits kind.Tcap ((state_after setup t).frame g))) own
+          (subst (λ (g : ℕ). IsTrue (fits Kind.Tcap ((state_after setup t).frame g))) own
           ((sound_of setup setting t stands.legal).cores c below).1)) ∙ node))
       by (inr (inr (inl comp))) = absurd (comp_no_node ((state_after setup t).frame f) comp.comp node)
       by (inr (inr (inr (inl swept)))) =
@@ -221,7 +204,7 @@ module _ (setup : Setting) (setting : IsSetting setup) where
     ends_not = by (ends_at t e (FrameOf f)) refl
       where
         asked : MakesUntyped t e f → ⊥
-        asked m = false≢true (sym is.apart ∙ ap (λ k. asks_untyped k f) (open_inj is.call (Retype m.range f frame_kind.Untyped)
+        asked m = false≢true (sym is.apart ∙ ap (λ k. asks_untyped k f) (open_inj is.call (Retype m.range f FrameKind.Untyped)
             (sym m.call ∙ ap (λ o. after_enter o (phase t e.core)) enters_nothing ∙ is.is_open)) ∙ eq-eqb f f refl)
 
         by : (b : Bool) → ends_at t e (FrameOf f) ≡ b → ends_at t e (FrameOf f) ≡ false

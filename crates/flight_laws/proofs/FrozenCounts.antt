@@ -1,79 +1,32 @@
 -- Along a machine's traces, a count word that a core shows as frozen is one of those that its call has frozen, with the count and the
 -- stamp that were found there; so it settles to these, or to none where the call has made the frame untyped.
-use Rattle.std.proofs.Common.{◌≡◌, ◌≢◌, inl, inr, ℕ, ℤ, pos, ◌+◌, ◌<◌, ◌≤◌, ◌==◌, ◌++◌, nat_lt, Bool, true, false, if◌then◌else◌, List}
-use Rattle.std.proofs.Common.{[], ◌∷◌, length, slice_get, Option, Some, None, IfSome, arith, refl, sym, ◌∙◌, ap, subst}
-use Rattle.std.proofs.lemmas.Bool.{cases_eq, cases_lt, false≢true, eq-eqb, eqb-true, ltb-false}
-use Rattle.std.proofs.lemmas.Option.{slice_get_within}
-use Rattle.time_laws.specs.spk_nums.specs.Setting.{Setting, IsSetting}
-use Rattle.time_laws.specs.spk_nums.specs.declared.calls.Call.{Call}
-use Rattle.time_laws.specs.spk_nums.specs.declared.replies.Reply.{Reply}
-use Rattle.time_laws.specs.spk_nums.specs.declared.replies.Reply.TheVariants as reply
-use Rattle.time_laws.specs.spk_nums.specs.declared.steps.StageEnd.{StageEnd}
-use Rattle.time_laws.specs.spk_nums.specs.declared.steps.StageEnd.TheVariants as ends
-use Rattle.time_laws.specs.frame_words.specs.Count.{count_of_word, word_of_count}
-use Rattle.time_laws.specs.frame_words.specs.declared.count_word.CountWord.{CountWord}
-use Rattle.time_laws.specs.frame_words.specs.declared.count_word.Hold.TheVariants.{Pinned as pinned_by, Closed}
-use Rattle.time_laws.specs.frame_words.proofs.CountLemmas as counts
-use Rattle.time_laws.specs.word_map.specs.Word.{CountAt}
-use Rattle.time_laws.specs.word_map.specs.Moves.{CompareOf, Move, StoreOf, left_of, told_of, word_of}
-use Rattle.time_laws.specs.kernel_rules.proofs.Within.{put_other}
-use Rattle.time_laws.specs.kernel_history.specs.Counts.{count_at}
-use Rattle.time_laws.specs.kernel_history.specs.Marking.{marked_by}
-use Rattle.time_laws.specs.kernel_history.specs.Marks.{count_mark, hold_mark}
-use Rattle.time_laws.specs.kernel_history.specs.Trace.{Step, Trace, last_left, phase}
-use Rattle.time_laws.specs.kernel_history.proofs.Steps.{last_left-here}
-use Rattle.time_laws.specs.stage_pins.specs.Counts.{acquired, unheld}
-use Rattle.time_laws.specs.stage_pins.specs.declared.held.Acquired.{Acquired}
-use Rattle.time_laws.specs.stage_pins.specs.declared.pin.Pin.{Pin}
-use Rattle.time_laws.specs.stage_pins.specs.declared.pin.Pinned.{Pinned}
-use Rattle.time_laws.specs.stage_sweep.specs.Freeze.{at_after, end_by, frozen, frozen_at, frozen_if, kept_with, owned_at, sweep_kept}
-use Rattle.time_laws.specs.stage_sweep.specs.Freeze.{sweep_next}
-use Rattle.time_laws.specs.stage_sweep.specs.Freeze.{move_at, sweep_refuses, swept_of}
-use Rattle.time_laws.specs.stage_sweep.specs.Release.{ThawFits, more_end, released, thaw_of}
-use Rattle.time_laws.specs.stage_sweep.specs.declared.sweep.Sweep.{Sweep}
-use Rattle.time_laws.specs.stage_sweep.specs.declared.sweep.SweepAt.{SweepAt}
-use Rattle.time_laws.specs.stage_sweep.specs.declared.sweep.Swept.{Swept}
-use Rattle.time_laws.specs.stage_sweep.specs.declared.thaw.Thaw.{Thaw}
-use Rattle.time_laws.specs.act_states.specs.Acts.{acquires, dues, next_work, took_untyping_at}
-use Rattle.time_laws.specs.act_states.specs.Refusals.{refusal_of, reply_of}
-use Rattle.time_laws.specs.act_states.specs.Taking.{took_sweep}
-use Rattle.time_laws.specs.act_states.specs.Untypings.{release_of, thaw_left_by, untyping_undo}
-use Rattle.time_laws.specs.act_states.specs.declared.own.Own.{Own}
-use Rattle.time_laws.specs.act_states.specs.declared.refusals.Refusal.{Refusal}
-use Rattle.time_laws.specs.act_states.specs.declared.refusals.Refusal.TheVariants as refusal
-use Rattle.time_laws.specs.act_states.specs.declared.untypings.Release.{Release as ReleaseOf}
-use Rattle.time_laws.specs.act_states.specs.declared.untypings.Untyping.{Untyping}
-use Rattle.time_laws.specs.act_states.specs.declared.untypings.UntypingAt.{UntypingAt}
-use Rattle.time_laws.specs.act_states.specs.declared.untypings.UntypingAt.TheVariants as untype
-use Rattle.time_laws.specs.act_states.specs.declared.work.Act.{Act as ActOf}
-use Rattle.time_laws.specs.act_states.specs.declared.work.Act.TheVariants.{Untype as untype_act}
-use Rattle.time_laws.specs.act_states.specs.declared.work.Due.{Due}
-use Rattle.time_laws.specs.act_states.specs.declared.work.Tail.{Tail}
-use Rattle.time_laws.specs.act_states.specs.declared.work.Tail.TheVariants.{Release}
-use Rattle.time_laws.specs.act_states.specs.declared.work.Work.TheVariants.{Acquire, Act}
-use Rattle.time_laws.specs.call_stages.specs.Cores.{core_after}
-use Rattle.time_laws.specs.call_stages.specs.Fits.{StageFits}
-use Rattle.time_laws.specs.call_stages.specs.Steps.{landed, stage_move, took_at, took_count}
-use Rattle.time_laws.specs.call_stages.specs.Tails.{is_ok, tail_move, took_tail}
-use Rattle.time_laws.specs.call_stages.specs.declared.stages.ActiveCall.{ActiveCall}
-use Rattle.time_laws.specs.call_stages.specs.declared.stages.Stage.{Stage}
-use Rattle.time_laws.specs.call_stages.specs.declared.stages.Stage.TheVariants.{Undecided, Decided}
-use Rattle.time_laws.specs.call_stages.specs.View.{Core}
-use Rattle.time_laws.specs.core_invariant.specs.Frozen.{holds_thaw}
-use Rattle.time_laws.specs.core_invariant.specs.Holding.{Holding, holds_counts, settled, settled_by}
-use Rattle.time_laws.specs.core_invariant.specs.Invariant.{Invariant, held_by, holds_in, holds_stage, is_done}
-use Rattle.time_laws.specs.core_invariant.specs.Knows.{phase_at}
-use Rattle.time_laws.specs.core_invariant.proofs.Freezing.{thaw_here}
+use Rattle.time_laws.specs.step_ways.proofs.{◌≡◌, ◌≢◌, inl, inr, ℕ, ℤ, pos, ◌+◌, ◌<◌, ◌≤◌, ◌==◌, ◌++◌, ltb as nat_lt, Bool, true, false}
+use Rattle.time_laws.specs.step_ways.proofs.{if◌then◌else◌, List, [], ◌∷◌, length, slice_get, Option, Some, None, IfSome, arith, refl, sym}
+use Rattle.time_laws.specs.step_ways.proofs.{◌∙◌, ap, subst, false≢true, eq-eqb, eqb-true, ltb-false, Setting, IsSetting, Call, Reply}
+use Rattle.time_laws.specs.step_ways.proofs.{StageEnd, count_of_word, word_of_count, CountWord, Pinned as pinned_by, Closed, CountAt}
+use Rattle.time_laws.specs.step_ways.proofs.{CompareOf, Move, StoreOf, left_of, told_of, word_of, put_other, count_at, marked_by}
+use Rattle.time_laws.specs.step_ways.proofs.{count_mark, hold_mark, Step, Trace, last_left, phase, last_left-here, acquired, unheld}
+use Rattle.time_laws.specs.step_ways.proofs.{Acquired, Pin, at_after, end_by, frozen, swept_of, released, thaw_of, Sweep, SweepAt, Swept}
+use Rattle.time_laws.specs.step_ways.proofs.{Thaw, dues, next_work, reply_of, took_sweep, release_of, Own, Refusal, Untyping, UntypingAt}
+use Rattle.time_laws.specs.step_ways.proofs.{Untype as untype_act, Due, Tail, Release, Acquire, Act, core_after, StageFits, landed}
+use Rattle.time_laws.specs.step_ways.proofs.{stage_move, took_at, took_count, is_ok, tail_move, took_tail, ActiveCall, Stage, Undecided}
+use Rattle.time_laws.specs.step_ways.proofs.{Decided, Core, holds_thaw, Holding, holds_counts, settled, settled_by, Invariant, held_by}
+use Rattle.time_laws.specs.step_ways.proofs.{holds_in, is_done, phase_at, call_is, is_active}
+use Rattle.time_laws.specs.act_states.specs.{Pinned, move_at, ThawFits, acquires, took_untyping_at, refusal_of, thaw_left_by, untyping_undo}
+use Rattle.time_laws.specs.stage_sweep.specs.{frozen_at, frozen_if, kept_with, sweep_kept, sweep_next, sweep_refuses}
+use Rattle.time_laws.specs.flight.specs.{cores_after, stepping_core, IsMade}
+use Rattle.std.proofs.lemmas.Bool.{cases_eq, cases_lt}
+use Rattle.time_laws.specs.stage_sweep.specs.{Freeze.owned_at, Release.more_end}
+use Rattle.time_laws.specs.act_states.specs.{declared.untypings.Release.Release as ReleaseOf, declared.work.Act.Act as ActOf}
 use Rattle.time_laws.specs.kept_facts.proofs.FrozenSums.{got_before, got_last}
-use Rattle.time_laws.specs.step_ways.proofs.Loads.{call_is, is_active}
-use Rattle.time_laws.specs.flight.specs.Made.{cores_after, stepping_core, IsMade}
+use Rattle.flight_laws.proofs.{CountSteps.Freezing, CountHolds.kept, CountHolds.no_entry, CountHolds.raw_other, AcquiredCounts.active_now}
+use Rattle.flight_laws.proofs.{AcquiredCounts.found as word_told, AcquiredCounts.move_now, AcquiredCounts.move_stage}
+use Rattle.{std.proofs.lemmas.Option.slice_get_within, time_laws.specs.core_invariant.specs.Invariant.holds_stage}
+use Rattle.{time_laws.specs.core_invariant.proofs.Freezing.thaw_here, time_laws.specs.flight.proofs.Made.made_stands}
+use Rattle.{time_laws.specs.history_laws.specs.Counts.is_carried_out}
+use Rattle.time_laws.specs.frame_words.proofs.CountLemmas as counts
 use Rattle.time_laws.specs.flight.specs.Made as made_of
-use Rattle.time_laws.specs.flight.proofs.Made.{made_stands}
-use Rattle.time_laws.specs.history_laws.specs.Counts.{is_carried_out}
 use Rattle.flight_laws.proofs.CountSteps as steps
-use Rattle.flight_laws.proofs.CountSteps.{Freezing}
-use Rattle.flight_laws.proofs.CountHolds.{kept, no_entry, raw_other}
-use Rattle.flight_laws.proofs.AcquiredCounts.{active_now, found as word_told, move_now, move_stage}
 
 none_some : (d : ℕ) → None ≡ Some d → ⊥
 none_some d h = cc
@@ -82,7 +35,7 @@ same_some : {A : Type 0} (x y : A) → Some x ≡ Some y → x ≡ y
 same_some x y h = cc
 
 pub no_ok : (r : Refusal) → is_ok (reply_of r) ≡ false
-no_ok refusal.NoSlot = refl
+no_ok Refusal.NoSlot = refl
 no_ok r = refl
 
 -- A list has at k what this word shows.
@@ -105,10 +58,10 @@ TailHas ok (Release y) f k v = ThawHas ok y.thaw f k v
 TailHas ok tail f k v = ⊥
 
 abbrev AtHas : UntypingAt → ℕ → ℕ → CountWord → Type 0
-AtHas untype.Load f k v = ⊥
-AtHas (untype.Mark word x) f k v = ⊥
-AtHas (untype.Sweep word w) f k v = (w.frame ≡ f) × Got w.kept k v
-AtHas (untype.Draw word w) f k v = (w.frame ≡ f) × Got w.words k v
+AtHas UntypingAt.Load f k v = ⊥
+AtHas (UntypingAt.Mark word x) f k v = ⊥
+AtHas (UntypingAt.Sweep word w) f k v = (w.frame ≡ f) × Got w.kept k v
+AtHas (UntypingAt.Draw word w) f k v = (w.frame ≡ f) × Got w.words k v
 
 abbrev ActHas : ActOf → ℕ → ℕ → CountWord → Type 0
 ActHas (untype_act m) f k v = AtHas m.at f k v
@@ -158,11 +111,11 @@ is_ok_at stage = false
 
 at_stands : (g : ℕ) (at : UntypingAt) (h : Holding) (f k : ℕ) (v : CountWord) → AtHas at f k v
     → (Rattle.time_laws.specs.core_invariant.specs.Frozen.holds_untyping g at h).stands (CountAt f k) ≡ word_of_count (cleared_if false v)
-at_stands g untype.Load h f k v has = absurd has
-at_stands g (untype.Mark word x) h f k v has = absurd has
-at_stands g (untype.Sweep word w) h f k v has =
+at_stands g UntypingAt.Load h f k v has = absurd has
+at_stands g (UntypingAt.Mark word x) h f k v has = absurd has
+at_stands g (UntypingAt.Sweep word w) h f k v has =
     thaw_stands (thaw_of (swept_of w) false) false h f k v (thaw_has (swept_of w) false f k v has.0 has.1)
-at_stands g (untype.Draw word w) h f k v has = thaw_stands (thaw_of w false) false h f k v (thaw_has w false f k v has.0 has.1)
+at_stands g (UntypingAt.Draw word w) h f k v has = thaw_stands (thaw_of w false) false h f k v (thaw_has w false f k v has.0 has.1)
 
 act_stands : (act : ActOf) (h : Holding) (f k : ℕ) (v : CountWord) → ActHas act f k v
     → (Rattle.time_laws.specs.core_invariant.specs.Invariant.holds_act act h).stands (CountAt f k) ≡ word_of_count (cleared_if false v)
@@ -186,7 +139,7 @@ stage_carried : (call : Call) (stage : Stage) (f k : ℕ) (v : CountWord) → St
     → is_carried_out (phase_at call stage) ≡ is_ok_at stage
 stage_carried call (Undecided (Acquire pin change act)) f k v has = refl
 stage_carried call (Undecided (Act act)) f k v has = refl
-stage_carried call (Decided (reply.Ok x) drawn tail) f k v has = refl
+stage_carried call (Decided (Reply.Ok x) drawn tail) f k v has = refl
 stage_carried call (Decided r drawn tail) f k v has = refl
 stage_carried call stage f k v has = absurd has
 
@@ -209,7 +162,7 @@ module _ (own : Own) (a : ActiveCall) (f k : ℕ) (v : CountWord) where
   refused q tail has = subst (λ b. TailHas b tail f k v) (sym (no_ok q)) has
 
   from_sweep : (m : Untyping) (word : ℕ) (w : Sweep) (found : ℕ) → w.frame ≡ f → Got (sweep_kept w found) k v
-      → Has (core_after own (landed a (took_untyping_at own.layout m (untype.Sweep word w) found))).active
+      → Has (core_after own (landed a (took_untyping_at own.layout m (UntypingAt.Sweep word w) found))).active
   from_sweep m word w found same got = by (sweep_refuses own.layout w found) (sweep_next own.layout w found)
     where
       after : Option Reply → Option SweepAt → Sweep
@@ -227,7 +180,7 @@ module _ (own : Own) (a : ActiveCall) (f k : ℕ) (v : CountWord) where
       by (Some q) next = refused (refusal_of q) (Release (release_of m.frame word (swept_of (after (Some q) next)) false))
           (thaw_has (swept_of (after (Some q) next)) false f k v same got)
       by None (Some at) = (same, got)
-      by None None = goes_to m.core 0 (record m { at = untype.Draw word (swept_of (after None None)) }) (same, got)
+      by None None = goes_to m.core 0 (record m { at = UntypingAt.Draw word (swept_of (after None None)) }) (same, got)
 
   kept_still : (w : Sweep) (found : ℕ) → Got w.kept k v → Got (sweep_kept w found) k v
   kept_still w found got = by (frozen_at w.at found)
@@ -238,24 +191,24 @@ module _ (own : Own) (a : ActiveCall) (f k : ℕ) (v : CountWord) where
 
   from_act : (m : Untyping) (at : UntypingAt) (found : ℕ) → AtHas at f k v
       → Has (core_after own (landed a (took_untyping_at own.layout m at found))).active
-  from_act m untype.Load found has = absurd has
-  from_act m (untype.Mark word x) found has = absurd has
-  from_act m (untype.Sweep word w) found has = from_sweep m word w found has.0 (kept_still w found has.1)
-  from_act m (untype.Draw word w) found has = thaw_has w true f k v has.0 has.1
+  from_act m UntypingAt.Load found has = absurd has
+  from_act m (UntypingAt.Mark word x) found has = absurd has
+  from_act m (UntypingAt.Sweep word w) found has = from_sweep m word w found has.0 (kept_still w found has.1)
+  from_act m (UntypingAt.Draw word w) found has = thaw_has w true f k v has.0 has.1
 
   undone : (q : Refusal) (g : ℕ) (at : UntypingAt) → AtHas at f k v → TailHas (is_ok (reply_of q)) (untyping_undo g at) f k v
-  undone q g untype.Load has = absurd has
-  undone q g (untype.Mark word x) has = absurd has
-  undone q g (untype.Sweep word w) has = refused q (Release (release_of g word (swept_of w) false))
+  undone q g UntypingAt.Load has = absurd has
+  undone q g (UntypingAt.Mark word x) has = absurd has
+  undone q g (UntypingAt.Sweep word w) has = refused q (Release (release_of g word (swept_of w) false))
       (thaw_has (swept_of w) false f k v has.0 has.1)
-  undone q g (untype.Draw word w) has = refused q (Release (release_of g word w false)) (thaw_has w false f k v has.0 has.1)
+  undone q g (UntypingAt.Draw word w) has = refused q (Release (release_of g word w false)) (thaw_has w false f k v has.0 has.1)
 
   from_count : (core n : ℕ) (change : ℤ) (m : Untyping) (pin : Pin) (end : StageEnd Pinned) → AtHas m.at f k v
       → Has (core_after own (landed a (took_count core n change (untype_act m) pin end))).active
-  from_count core n change m pin ends.Going has = has
-  from_count core n change m pin (ends.Decided q) has = undone (refusal_of q) m.frame m.at has
-  from_count core n change m pin (ends.Refuse q) has = undone (refusal_of q) m.frame m.at has
-  from_count core n change m pin (ends.Done p) has = goes_to core (n + 1) m has
+  from_count core n change m pin StageEnd.Going has = has
+  from_count core n change m pin (StageEnd.Decided q) has = undone (refusal_of q) m.frame m.at has
+  from_count core n change m pin (StageEnd.Refuse q) has = undone (refusal_of q) m.frame m.at has
+  from_count core n change m pin (StageEnd.Done p) has = goes_to core (n + 1) m has
 
   -- the counter that is stored is another
   abbrev NotStored : Stage → List Acquired → Type 0

@@ -1,60 +1,24 @@
 -- What a core holds of the counts that its call has acquired: each stays among them until its commit, and stands for what the commit
 -- stores.
-use Rattle.std.proofs.Common.{◌≡◌, ◌≢◌, ◌⊎◌, inl, inr, ℕ, ◌<◌, ◌++◌, nat_lt, Bool, true, false, if◌then◌else◌, List, [], ◌∷◌}
-use Rattle.std.proofs.Common.{length, Option, Some, None, refl, sym, ◌∙◌, ap, subst}
-use Rattle.std.specs.Prelude.{All}
-use Rattle.std.proofs.lemmas.Bool.{false≢true}
-use Rattle.std.proofs.lemmas.List.Elements.{All-head, All-tail}
-use Rattle.time_laws.specs.spk_nums.specs.Setting.{Setting, IsSetting}
-use Rattle.time_laws.specs.spk_nums.specs.declared.calls.Call.{Call}
-use Rattle.time_laws.specs.spk_nums.specs.declared.replies.Reply.{Reply}
-use Rattle.time_laws.specs.spk_nums.specs.declared.replies.Reply.TheVariants as reply
-use Rattle.time_laws.specs.word_map.specs.Word.{CountAt}
-use Rattle.time_laws.specs.kernel_history.specs.Bounds.{call_in}
-use Rattle.time_laws.specs.kernel_history.specs.Marking.{marked_by}
-use Rattle.time_laws.specs.kernel_history.specs.Trace.{Trace, phase, last_left}
-use Rattle.time_laws.specs.stage_pins.specs.Held.{pushed}
-use Rattle.time_laws.specs.stage_pins.specs.declared.held.Acquired.{Acquired}
-use Rattle.time_laws.specs.stage_quiet.specs.declared.close.Close.TheVariants.{AtCompare as close_compare, AtDraw, AtStore}
-use Rattle.time_laws.specs.stage_tcap.specs.declared.pair.PairAt.{PairAt}
-use Rattle.time_laws.specs.stage_tcap.specs.declared.pair.PairAt.TheVariants as pair
+use Rattle.time_laws.specs as low
+use low.step_ways.proofs.{◌≡◌, ◌≢◌, ◌⊎◌, inl, inr, ℕ, ◌<◌, ◌++◌, ltb as nat_lt, Bool, true, false, if◌then◌else◌, List, [], ◌∷◌, length}
+use low.step_ways.proofs.{Option, Some, None, refl, sym, ◌∙◌, ap, subst, All, false≢true, Setting, IsSetting, Call, Reply, CountAt}
+use low.step_ways.proofs.{marked_by, Trace, phase, last_left, Acquired, AtCompare as close_compare, AtDraw, AtStore, PairAt, Own, Untyping}
+use low.step_ways.proofs.{UntypingAt, Untype as untype_act, Tail, Nothing, Quiesce, Unmark, StoreDead, StoreFlush, Release, StoreLive, Push}
+use low.step_ways.proofs.{Pop, StoreRunning, StoreIdle, Lookup, Read, Scan, Acquire, Act, WorkStep, Goes, Acquires, Refuses, Answers}
+use low.step_ways.proofs.{reply_of, core_after, told_by, CountsAt, landed, took_at, took_tail, Absorbed, ActiveCall, Stage, Enter, Living}
+use low.step_ways.proofs.{Undecided, Decided, Leave, Core, Holding, committed, count_of, holds_counts, settled, settled_by, Invariant}
+use low.step_ways.proofs.{done_by, held_by, holds_at, holds_in, holds_tail, is_done, KnowsAct, KnowsAt, KnowsTail, phase_at}
+use low.step_ways.proofs.{KnowsUntypingAt, first_marked, first_stands, call_is, same_marks, plan_for}
+use low.act_states.specs.{declared.work.Act.Act as ActOf, declared.work.Tail.TheVariants.Share, declared.work.WorkStep.TheVariants.Changes}
+use low.count_invariant.proofs.ActHolds.{SparesAt, SparesSwept, act_count}
+use low.{core_invariant.proofs.AreApart, core_invariant.proofs.release_away, kernel_history.specs.Bounds.call_in}
+use low.{stage_pins.specs.Held.pushed, call_stages.specs.Tails.commits, call_stages.specs.Tails.tail_counts}
+use low.{step_ways.proofs.Counting.rest_elsewhere, history_laws.specs.Counts.Untypes}
+use Rattle.{std.proofs.lemmas.List.Elements.All-head, std.proofs.lemmas.List.Elements.All-tail, flight_laws.proofs.CountSteps.UntypesFrame}
+use Rattle.{flight_laws.proofs.CountSteps.untypes_frame}
 use Rattle.time_laws.specs.stage_thread.specs.declared.stack.Pop.TheVariants as pop
 use Rattle.time_laws.specs.stage_thread.specs.declared.stack.Push.TheVariants as push
-use Rattle.time_laws.specs.act_states.specs.declared.own.Own.{Own}
-use Rattle.time_laws.specs.act_states.specs.declared.untypings.Untyping.{Untyping}
-use Rattle.time_laws.specs.act_states.specs.declared.untypings.UntypingAt.{UntypingAt}
-use Rattle.time_laws.specs.act_states.specs.declared.untypings.UntypingAt.TheVariants as untype
-use Rattle.time_laws.specs.act_states.specs.declared.work.Act.{Act as ActOf}
-use Rattle.time_laws.specs.act_states.specs.declared.work.Act.TheVariants.{Untype as untype_act}
-use Rattle.time_laws.specs.act_states.specs.declared.work.Tail.{Tail}
-use Rattle.time_laws.specs.act_states.specs.declared.work.Tail.TheVariants.{Nothing, Quiesce, Unmark, StoreDead, StoreFlush, Release}
-use Rattle.time_laws.specs.act_states.specs.declared.work.Tail.TheVariants.{StoreLive, Push, Pop, Share, StoreRunning, StoreIdle}
-use Rattle.time_laws.specs.act_states.specs.declared.work.Work.TheVariants.{Lookup, Read, Scan, Acquire, Act}
-use Rattle.time_laws.specs.act_states.specs.declared.work.WorkStep.{WorkStep}
-use Rattle.time_laws.specs.act_states.specs.declared.work.WorkStep.TheVariants.{Goes, Acquires, Refuses, Answers, Changes}
-use Rattle.time_laws.specs.act_states.specs.Refusals.{reply_of}
-use Rattle.time_laws.specs.call_stages.specs.Cores.{core_after, told_by}
-use Rattle.time_laws.specs.call_stages.specs.Fits.{CountsAt}
-use Rattle.time_laws.specs.call_stages.specs.Steps.{landed, took_at}
-use Rattle.time_laws.specs.call_stages.specs.Tails.{commits, tail_counts, took_tail}
-use Rattle.time_laws.specs.call_stages.specs.declared.stages.Absorbed.{Absorbed}
-use Rattle.time_laws.specs.call_stages.specs.declared.stages.Absorbed.TheVariants as told_as
-use Rattle.time_laws.specs.call_stages.specs.declared.stages.ActiveCall.{ActiveCall}
-use Rattle.time_laws.specs.call_stages.specs.declared.stages.Stage.{Stage}
-use Rattle.time_laws.specs.call_stages.specs.declared.stages.Stage.TheVariants.{Enter, Living, Undecided, Decided, Leave}
-use Rattle.time_laws.specs.call_stages.specs.View.{Core}
-use Rattle.time_laws.specs.core_invariant.specs.Holding.{AreApart, Holding, committed, count_of, holds_counts, settled, settled_by}
-use Rattle.time_laws.specs.core_invariant.specs.Invariant.{Invariant, done_by, held_by, holds_at, holds_in, holds_tail, is_done}
-use Rattle.time_laws.specs.core_invariant.specs.Knows.{KnowsAct, KnowsAt, KnowsTail, phase_at}
-use Rattle.time_laws.specs.core_invariant.specs.Sweeps.{KnowsUntypingAt}
-use Rattle.time_laws.specs.core_invariant.proofs.Freezing.{release_away}
-use Rattle.time_laws.specs.step_ways.proofs.Counting.{first_marked, first_stands, rest_elsewhere}
-use Rattle.time_laws.specs.step_ways.proofs.Loads.{call_is}
-use Rattle.time_laws.specs.step_ways.proofs.Writes.{same_marks}
-use Rattle.time_laws.specs.count_invariant.proofs.ActHolds.{SparesAt, SparesSwept, act_count}
-use Rattle.time_laws.specs.history_laws.specs.Counts.{Untypes}
-use Rattle.flight_laws.proofs.CountSteps.{UntypesFrame, untypes_frame}
-use Rattle.time_laws.specs.act_states.specs.call_plans.specs.PlanOf.{plan_for}
 
 -- A count is one of those that a call has acquired.
 abbrev pub IsAmong : Acquired → List Acquired → Type 0
@@ -118,16 +82,16 @@ tail_count setup t c call counts (Pop (pop.AtStack g depth)) h f k knows spares 
 tail_count setup t c call counts (Share p) h f k knows spares = by p.at
   where
     by : (at : PairAt) → (holds_tail (Share (record p { at = at })) h).stands (CountAt f k) ≡ h.stands (CountAt f k)
-    by pair.LoadA = refl
-    by pair.MarkA = refl
-    by (pair.ListA n) = refl
-    by pair.LoadB = refl
-    by (pair.ListB n) = refl
-    by pair.CompareB = refl
-    by (pair.AgainB r) = refl
-    by (pair.StoreList n) = refl
-    by pair.StoreB = refl
-    by (pair.StoreA moved v) = refl
+    by PairAt.LoadA = refl
+    by PairAt.MarkA = refl
+    by (PairAt.ListA n) = refl
+    by PairAt.LoadB = refl
+    by (PairAt.ListB n) = refl
+    by PairAt.CompareB = refl
+    by (PairAt.AgainB r) = refl
+    by (PairAt.StoreList n) = refl
+    by PairAt.StoreB = refl
+    by (PairAt.StoreA moved v) = refl
 tail_count setup t c call counts (StoreRunning g core depth old old_depth) h f k knows spares = refl
 tail_count setup t c call counts (StoreIdle g depth) h f k knows spares = refl
 
@@ -144,11 +108,11 @@ module _ (setup : Setting) (setting : IsSetting setup) (cores : ℕ → Core) (t
 
   spares_at : (m : Untyping) (at : UntypingAt) → UntypesFrame a.call m.frame → (UntypesFrame a.call x.pin.frame → ⊥)
       → KnowsUntypingAt setup t c m.frame at → SparesAt at x.pin.frame
-  spares_at m untype.Load untypes not knows = tt
-  spares_at m (untype.Mark word v) untypes not knows = tt
-  spares_at m (untype.Sweep word w) untypes not knows =
+  spares_at m UntypingAt.Load untypes not knows = tt
+  spares_at m (UntypingAt.Mark word v) untypes not knows = tt
+  spares_at m (UntypingAt.Sweep word w) untypes not knows =
       λ same. not (subst (UntypesFrame a.call) (sym (same ∙ knows.frame)) untypes)
-  spares_at m (untype.Draw word w) untypes not knows =
+  spares_at m (UntypingAt.Draw word w) untypes not knows =
       λ same. not (subst (UntypesFrame a.call) (sym (same ∙ knows.frame)) untypes)
 
   spares_act : (act : ActOf) → KnowsAct setup t c a.call (plan_for a.call) a.found setup.cores act → (UntypesFrame a.call x.pin.frame → ⊥)
@@ -195,18 +159,18 @@ module _ (setup : Setting) (setting : IsSetting setup) (cores : ℕ → Core) (t
 
 -- A step by which a call does not return, and is not decided `ok`.
 abbrev pub NotBack : Absorbed → Type 0
-NotBack told_as.Going = Unit {0}
-NotBack (told_as.Decided r) = Unit {0}
-NotBack (told_as.Returned r) = ⊥
+NotBack Absorbed.Going = Unit {0}
+NotBack (Absorbed.Decided r) = Unit {0}
+NotBack (Absorbed.Returned r) = ⊥
 
 abbrev pub NotOk : Absorbed → Type 0
-NotOk told_as.Going = Unit {0}
-NotOk (told_as.Decided (reply.Ok v)) = ⊥
-NotOk (told_as.Decided r) = Unit {0}
-NotOk (told_as.Returned r) = Unit {0}
+NotOk Absorbed.Going = Unit {0}
+NotOk (Absorbed.Decided (Reply.Ok v)) = ⊥
+NotOk (Absorbed.Decided r) = Unit {0}
+NotOk (Absorbed.Returned r) = Unit {0}
 
-not_done : (r : Reply) (drawn : Option ℕ) → NotOk (told_as.Decided r) → done_by r drawn ≡ None
-not_done (reply.Ok v) drawn not = absurd not
+not_done : (r : Reply) (drawn : Option ℕ) → NotOk (Absorbed.Decided r) → done_by r drawn ≡ None
+not_done (Reply.Ok v) drawn not = absurd not
 not_done r drawn not = refl
 
 -- A call holds this count still, and whether it is carried out is as it was, where the step does not decide it `ok`.

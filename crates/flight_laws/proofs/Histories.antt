@@ -1,31 +1,17 @@
 -- All that holds of a machine's history, from the invariant at each of its moments.
-use Rattle.time_laws.proofs.Common.{◌≡◌, [], ◌∷◌, ◌++◌, subst, Setting, IsSetting, Step, Trace}
-use Rattle.time_laws.specs.kernel_history.specs.Moments.{WordsSayAlong}
-use Rattle.time_laws.specs.flight.specs.Made.{cores_after, IsMade}
-use Rattle.time_laws.specs.flight.proofs.Final.{says_words}
-use Rattle.time_laws.specs.flight.proofs.Made.{made_stands}
-use Rattle.time_laws.specs.history_laws.specs.Moments.{AtEachMoment, AtEachStep, OfEachStretch}
-use Rattle.flight_laws.specs.Histories.{MadeHistories}
-use Rattle.time_laws.specs.history_laws.specs.Places.{ScannedCores}
-use Rattle.time_laws.specs.history_laws.specs.Lives.{KilledStop}
-use Rattle.time_laws.specs.history_laws.specs.Invocations.{EntersNoneKilled}
-use Rattle.flight_laws.proofs.Places.{places_found, scanned_cores}
-use Rattle.flight_laws.proofs.Frames.{counted_frames_stay, looked_nodes_stay, read_nodes_stay, untyped_unused}
-use Rattle.flight_laws.proofs.CountHolds.{frozen_say}
-use Rattle.flight_laws.proofs.Sums.{frozen_sums, time_sums}
-use Rattle.flight_laws.proofs.CountsTold.{counts_tell}
-use Rattle.flight_laws.proofs.StampsTold.{stamps_tell}
-use Rattle.flight_laws.proofs.Ready.{ready_decides, unready_refuses}
-use Rattle.flight_laws.proofs.Pages.{cached_frames_stay, cached_till_flush, touches_cache}
-use Rattle.flight_laws.proofs.Lives.{dead_for_good, killed_stop}
-use Rattle.flight_laws.proofs.Invocations.{enters_none_killed, enters_the_living}
-use Rattle.flight_laws.proofs.Threads.{threads_apart, words_say}
-use Rattle.isolation_laws.proofs.StepAuthority.{steps_have_authority}
-use Rattle.isolation_laws.proofs.StepWorlds.{steps_enter_worlds, steps_spare_worlds}
-use Rattle.isolation_laws.proofs.StretchWorlds.{stretches_keep_worlds}
-use Rattle.time_laws.proofs.Time.{time_kept, ticks_counted, back_counted, heads_say, lists_say, tests_tell}
-use Rattle.time_laws.proofs.MarkedHeads.{open_heads_say}
-use Rattle.time_laws.proofs.OwedHeads.{marked_heads_say}
+use Rattle.time_laws.specs.flight.proofs.{◌≡◌, [], ◌∷◌, ◌++◌, subst, Setting, IsSetting, Step, Trace, cores_after, IsMade}
+use Rattle.time_laws.specs.history_laws.specs.{AtEachMoment, AtEachStep, OfEachStretch, ScannedCores, KilledStop, EntersNoneKilled}
+use Rattle.time_laws.specs.flight.proofs.{Final.says_words, Made.made_stands}
+use Rattle.isolation_laws.proofs.{StepAuthority.steps_have_authority, StepWorlds.steps_enter_worlds, StepWorlds.steps_spare_worlds}
+use Rattle.time_laws.proofs.{Time.time_kept, Time.ticks_counted, Time.back_counted, Time.heads_say, Time.lists_say, Time.tests_tell}
+use Rattle.time_laws.proofs.{MarkedHeads.open_heads_say, OwedHeads.marked_heads_say}
+use Rattle.flight_laws.proofs.{Places.places_found, Places.scanned_cores, Frames.counted_frames_stay, Frames.looked_nodes_stay}
+use Rattle.flight_laws.proofs.{Frames.read_nodes_stay, Frames.untyped_unused, CountHolds.frozen_say, Sums.frozen_sums, Sums.time_sums}
+use Rattle.flight_laws.proofs.{CountsTold.counts_tell, StampsTold.stamps_tell, Ready.ready_decides, Ready.unready_refuses}
+use Rattle.flight_laws.proofs.{Pages.cached_frames_stay, Pages.cached_till_flush, Pages.touches_cache, Lives.dead_for_good}
+use Rattle.flight_laws.proofs.{Lives.killed_stop, Invocations.enters_none_killed, Invocations.enters_the_living, Threads.threads_apart}
+use Rattle.{time_laws.specs.kernel_history.specs.Moments.WordsSayAlong, isolation_laws.proofs.StretchWorlds.stretches_keep_worlds}
+use Rattle.{flight_laws.specs.Histories.MadeHistories, flight_laws.proofs.Threads.words_say}
 
 says_along : (setup : Setting) → IsSetting setup → (t : Trace) → IsMade setup t → WordsSayAlong setup t
 says_along setup lim [] made = says_words setup lim (cores_after setup []) [] (made_stands setup lim [] made)

@@ -1,21 +1,15 @@
 -- A liveness number that was killed lives later in higher epochs alone; and a component that was killed, and whose core has left its call,
 -- makes no further `ok` but `ret`, `flush` and `tick`.
-use Rattle.time_laws.proofs.Common.{◌≡◌, ◌∷◌, ◌++◌, sym, ◌∙◌, ap, subst, Setting, IsSetting, open_inj, comp_of, Some, Open}
-use Rattle.time_laws.proofs.Common.{live_of_word, LiveAt, Live, Dead, NumberOf, State, after, IsRun, events_of, live_mark, stamp, Trace}
-use Rattle.time_laws.proofs.Common.{Step, phase, after_enter, state_before, MayDecide, IsLegal, MayReply}
-use Rattle.time_laws.proofs.Common.{state_after, last_left, state_is, run_of, settled_by, NumberIs}
-use Rattle.time_laws.proofs.Common.{held_by, Invariant}
-use Rattle.time_laws.specs.spk_nums.specs.declared.replies.Reply.TheVariants.{Ok}
-use Rattle.time_laws.specs.kernel_rules.specs.Runs.{phase_of}
-use Rattle.time_laws.specs.kernel_history.specs.Events.{plain_phase}
-use Rattle.time_laws.specs.kernel_history.proofs.Events.{entered_events, entered_phase, entered_run, before_is, phase_is}
-use Rattle.time_laws.specs.state_laws.proofs.Lives.{dead_stays}
-use Rattle.time_laws.specs.state_laws.proofs.Killed.{killed_stop as killed_in_runs}
+use Rattle.time_laws.specs.kept_facts.proofs.{◌≡◌, ◌∷◌, ◌++◌, sym, ◌∙◌, ap, subst, Setting, IsSetting, open_inj, comp_of, Some, Open}
+use Rattle.time_laws.specs.kept_facts.proofs.{live_of_word, LiveAt, Live, Dead, NumberOf, State, after, IsRun, events_of, live_mark, stamp}
+use Rattle.time_laws.specs.kept_facts.proofs.{Trace, Step, phase, after_enter, state_before, MayDecide, IsLegal, MayReply, state_after}
+use Rattle.time_laws.specs.kept_facts.proofs.{last_left, state_is, run_of, settled_by, NumberIs, held_by, Invariant, entered_events}
+use Rattle.time_laws.specs.kernel_history.proofs.{phase_of, plain_phase, entered_phase, entered_run, before_is, phase_is}
 use Rattle.time_laws.specs.comp_invariant.proofs.LaterEvents.{Later, entry_later, later_events}
-use Rattle.time_laws.specs.live_invariant.proofs.Numbers.{number_is}
-use Rattle.time_laws.specs.history_laws.specs.Lives.{DeadForGood, KilledStop}
-use Rattle.time_laws.specs.flight.specs.Made.{cores_after, IsMade}
-use Rattle.time_laws.specs.flight.proofs.Made.{made_stands}
+use Rattle.{time_laws.specs.flight.specs.cores_after, time_laws.specs.flight.specs.IsMade, time_laws.specs.history_laws.specs.DeadForGood}
+use Rattle.{time_laws.specs.history_laws.specs.KilledStop, time_laws.specs.spk_nums.specs.declared.replies.Reply.TheVariants.Ok}
+use Rattle.{time_laws.specs.state_laws.proofs.Lives.dead_stays, time_laws.specs.state_laws.proofs.Killed.killed_stop as killed_in_runs}
+use Rattle.{time_laws.specs.live_invariant.proofs.Numbers.number_is, time_laws.specs.flight.proofs.Made.made_stands}
 
 pub dead_for_good : (setup : Setting) → IsSetting setup → (u t : Trace) → IsMade setup (u ++ t) → DeadForGood setup u t
 dead_for_good setup setting u t made l e d f dead shows =

@@ -1,27 +1,17 @@
 -- What cores have cached stands, as in the sequential kernel, and stays cached till they flush; and what a touch answers is cached.
-use Rattle.time_laws.proofs.Common.{◌≡◌, ◌⊎◌, inl, inr, ℕ, ◌≤◌, true, false, List, [], ◌∷◌, ◌++◌, length, Option, Some, None, refl}
-use Rattle.time_laws.proofs.Common.{sym}
-use Rattle.time_laws.proofs.Common.{◌∙◌, ap, subst, false≢true, Setting, IsSetting, Call, Touch, Reply, Translation, User, State}
-use Rattle.time_laws.proofs.Common.{comp_of, translation_of, state_by, IsRun, put_same, events_of, IsLegal, flushes_in, Step, Trace, Phase}
-use Rattle.time_laws.proofs.Common.{Out, Open, phase, after_enter, state_after, state_before, state_entered, state_decided, state_returned}
-use Rattle.time_laws.proofs.Common.{state_is, run_of}
-use Rattle.std.specs.List.{AllByRecursion}
-use Rattle.time_laws.specs.spk_nums.specs.declared.replies.Reply.TheVariants.{Ok}
-use Rattle.time_laws.specs.spk_nums.specs.declared.replies.Value.TheVariants.{Page}
-use Rattle.time_laws.specs.kernel_rules.specs.State.{Core}
-use Rattle.time_laws.specs.kernel_rules.specs.GracePeriods.{returned}
-use Rattle.time_laws.specs.kernel_rules.specs.Runs.{MayDecide}
-use Rattle.time_laws.specs.kernel_invariant.proofs.Sound.{put_all}
-use Rattle.time_laws.specs.state_laws.specs.Cached.{Stands, Begins, Answers}
-use Rattle.time_laws.specs.state_laws.proofs.CachedLaw.{translations_stand}
-use Rattle.time_laws.specs.state_laws.proofs.Lists.{begins_same, begins_then, decided_keeps}
-use Rattle.time_laws.specs.state_laws.proofs.Touched.{touches_cache as run_caches}
-use Rattle.time_laws.specs.kernel_history.specs.Events.{with_decision}
-use Rattle.time_laws.specs.kernel_history.specs.Trace.{Decided}
-use Rattle.time_laws.specs.kernel_history.proofs.Events.{entered_events, before_is, decided_run}
-use Rattle.time_laws.specs.flight.specs.Made.{IsMade}
+use Rattle.time_laws.specs.kernel_history.proofs as low
+use low.{◌≡◌, ◌⊎◌, inl, inr, ℕ, ◌≤◌, true, false, List, [], ◌∷◌, ◌++◌, length, Option, Some, None, refl, sym, ◌∙◌, ap, subst, false≢true}
+use low.{Setting, IsSetting, Call, Touch, Reply, Translation, User, State, comp_of, translation_of, state_by, IsRun, put_same, events_of}
+use low.{IsLegal, flushes_in, Step, Phase, Out, phase, after_enter, state_after, state_before, state_entered, state_decided, state_returned}
+use low.{state_is, run_of, Core, with_decision, Decided, entered_events, before_is, decided_run}
+use Rattle.time_laws.specs.state_laws.specs.{Stands, Begins, Answers}
+use Rattle.time_laws.specs.kernel_rules.specs.{Page, returned, MayDecide}
+use Rattle.time_laws.specs.flight.proofs.{Trace, Open, IsMade}
+use Rattle.time_laws.specs.state_laws.proofs.{CachedLaw.translations_stand, Lists.begins_same, Lists.begins_then, Lists.decided_keeps}
 use Rattle.time_laws.specs.history_laws.specs.Pages.{CachedFramesStay, FlushesNone, CachedTillFlush, TouchesCache}
-use Rattle.time_laws.specs.flight.proofs.Made.{made_stands}
+use Rattle.{std.specs.List.AllByRecursion, time_laws.specs.spk_nums.specs.declared.replies.Reply.TheVariants.Ok}
+use Rattle.{time_laws.specs.kernel_invariant.proofs.Sound.put_all, time_laws.specs.state_laws.proofs.Touched.touches_cache as run_caches}
+use Rattle.{time_laws.specs.flight.proofs.Made.made_stands}
 
 pub cached_frames_stay : (setup : Setting) → IsSetting setup → (t : Trace) → IsMade setup t → CachedFramesStay setup t
 cached_frames_stay setup setting t made c here =

@@ -1,87 +1,42 @@
 -- What an undecided call has found held stays usable; and whom a scan has passed is waited for no longer.
-use Rattle.time_laws.proofs.Common.{cases_lt}
-use Rattle.time_laws.proofs.Common.{AtComp, AtLive}
-use Rattle.time_laws.proofs.Common.{◌≡◌, ◌≢◌, ◌⊎◌, inl, inr, ℕ, ◌<◌, ◌/◌, ◌&&◌, Bool, true, false, IsTrue, cond, [], ◌∷◌, ◌++◌, Option}
-use Rattle.time_laws.proofs.Common.{Some}
-use Rattle.time_laws.proofs.Common.{None, refl, sym, ◌∙◌, ap, subst, is_some, cases_eq, eqb-true, false≢true, Capability, Setting}
-use Rattle.time_laws.proofs.Common.{IsSetting}
-use Rattle.time_laws.proofs.Common.{Call, Reply, Entry, Held, Closing, entry_of_word, core_of_word, CoreWord, Word, EntryAt, CoreAt, Move}
-use Rattle.time_laws.proofs.Common.{LoadOf, CompareOf, StoreOf, AddOf, word_of, left_of, told_of, IsIn, Thing, PlaceOf, Frame, Kernel, Tcap}
-use Rattle.time_laws.proofs.Common.{Comp, Thread, State, fits, Target, Under, InRoot, usable_in, is_node, Relies, Tick, Charge, some_inj}
-use Rattle.time_laws.proofs.Common.{none_some, put_same, put_other, Step, Trace, Phase, Out, Open, phase, after_enter, after_decide}
-use Rattle.time_laws.proofs.Common.{after_return, state_after, last_left, own_read, KeepsTime, IsLegal, MayFollow, stamp, clock, exit_of}
-use Rattle.time_laws.proofs.Common.{is_in, cases_word, sound_of, opened_is, phase-own, phase-other, own_read-here, own_read-there}
-use Rattle.time_laws.proofs.Common.{last_left-here, out_passed, later_passed, look_move, Look, AtRoot, AtLeaf, AtEntry, AtLoad, Close}
-use Rattle.time_laws.proofs.Common.{AtCompare, AtDraw, AtStore, AtCore, AtFlush, Next, NextName, NextFree, NextHeld, NextOwn, NextNothing}
-use Rattle.time_laws.proofs.Common.{next_of, Own, Fill, Outside, Untype, MakeComp, Invoke, Return, Load, CompAt, CompMaking, InvokingAt}
-use Rattle.time_laws.proofs.Common.{ReturningAt, Switching, SwitchAt, Pair, PairAt, KillingAt, LoadComp, LoadLive, MakingAt, NewObject}
-use Rattle.time_laws.proofs.Common.{Untyping, Work, Lookup, Read, Scan, Acquire, Act, Stage, Enter, Living, Undecided, Decided, Leave}
-use Rattle.time_laws.proofs.Common.{ActiveCall}
-use Rattle.time_laws.proofs.Common.{stage_move, absorbed, absorbed_in, told_in, Core, decided_in, returned_in, IsSpot, LooksUp, own_in}
-use Rattle.time_laws.proofs.Common.{LooksFor, ChargesBy, KnowsWork, KnowsAt, CallIs, phase_at, HasTcap, KnowsPairAt, KnowsRefillAt}
-use Rattle.time_laws.proofs.Common.{HasThread, claimed_by}
-use Rattle.time_laws.proofs.Common.{Invariant, limits_of, slot_relies}
-use Rattle.std.specs.Prelude.{IsTrue}
-use Rattle.time_laws.specs.spk_nums.specs.declared.kinds.Kind.TheVariants.{Comp as comp_kind}
-use Rattle.time_laws.specs.kernel_rules.specs.Relies.{is_fixed}
-use Rattle.time_laws.specs.spk_nums.specs.declared.kinds.Kind.TheVariants as kind
-use Rattle.time_laws.specs.stage_tcap.specs.Charging.{charge_move}
-use Rattle.time_laws.specs.stage_tcap.specs.declared.charge.Charge.TheVariants.{AtLoad as charge_load, AtCompare as charge_compare}
-use Rattle.time_laws.specs.kernel_history.specs.Trace.{Decided as decided_phase}
-use Rattle.time_laws.specs.kernel_history.specs.Trace.{reads, only_reads}
-use Rattle.time_laws.specs.trace_laws.proofs.Stays.{Stays, stays_other, stays_plain, state_plain, relies_reached}
-use Rattle.time_laws.specs.kernel_history.proofs.Steps.{own_read-other}
-use Rattle.time_laws.specs.trace_laws.proofs.Waiting.{Passed, still_past, passed_on}
-use Rattle.time_laws.specs.stage_pins.specs.declared.pin.Pin.TheVariants.{AtCompare as pin_compare}
-use Rattle.time_laws.specs.stage_quiet.specs.Removal.{close_move}
-use Rattle.time_laws.specs.act_states.specs.declared.work.Act.TheVariants.{Remove, Retype, Make, Tick as tick_act, Flush, Kill}
-use Rattle.time_laws.specs.act_states.specs.declared.work.Act.TheVariants.{Map as map_act, Touch, Share, Refill as refill_act}
-use Rattle.time_laws.specs.act_states.specs.declared.work.Act.TheVariants.{Switch}
-use Rattle.time_laws.specs.act_states.specs.declared.typings.Typing.{Typing}
-use Rattle.time_laws.specs.act_states.specs.declared.typings.TypingAt.{TypingAt}
-use Rattle.time_laws.specs.act_states.specs.declared.typings.TypingAt.TheVariants.{Compare as type_compare}
-use Rattle.time_laws.specs.act_states.specs.Typings.{typing_at}
-use Rattle.time_laws.specs.act_states.specs.Comps.{comp_at}
-use Rattle.time_laws.specs.act_states.specs.declared.comps.CompAt.TheVariants as comp_stands
-use Rattle.time_laws.specs.act_states.specs.Invocations.{invoking_at, returning_at}
-use Rattle.time_laws.specs.act_states.specs.declared.invocations.InvokingAt.TheVariants as invoking
-use Rattle.time_laws.specs.act_states.specs.declared.invocations.ReturningAt.TheVariants as returning
-use Rattle.time_laws.specs.act_states.specs.Switches.{switching_at}
-use Rattle.time_laws.specs.act_states.specs.declared.switches.SwitchAt.TheVariants as switch
-use Rattle.time_laws.specs.stage_thread.specs.declared.claim.Claim.TheVariants as claim
-use Rattle.time_laws.specs.stage_tcap.specs.Pairs.{move_at}
-use Rattle.time_laws.specs.stage_tcap.specs.declared.pair.PairAt.TheVariants as pair
-use Rattle.time_laws.specs.stage_tcap.specs.Refilling.{refill_move_at}
-use Rattle.time_laws.specs.stage_tcap.specs.declared.refill.Refill.{Refill}
-use Rattle.time_laws.specs.stage_tcap.specs.declared.refill.RefillAt.{RefillAt}
-use Rattle.time_laws.specs.stage_tcap.specs.declared.refill.RefillAt.TheVariants as refill
-use Rattle.time_laws.specs.act_states.specs.declared.kills.KillingAt.TheVariants.{Close as kill_close, Draw as kill_draw}
-use Rattle.time_laws.specs.act_states.specs.Kills.{killing_at}
-use Rattle.time_laws.specs.act_states.specs.declared.fills.Fill.{Fill as FillOf}
-use Rattle.time_laws.specs.act_states.specs.declared.makings.MakingAt.TheVariants as making
-use Rattle.time_laws.specs.act_states.specs.Makings.{making_at}
-use Rattle.time_laws.specs.call_stages.specs.declared.stages.Absorbed.{Absorbed}
-use Rattle.time_laws.specs.call_stages.specs.declared.stages.Absorbed.TheVariants as told_as
-use Rattle.time_laws.specs.call_stages.specs.Steps.{work_move}
-use Rattle.time_laws.specs.call_stages.specs.Cores.{move_in, move_of, told_of_step}
-use Rattle.time_laws.specs.thread_invariant.proofs.OwnStack.{top_comp}
-use Rattle.time_laws.specs.core_invariant.specs.Knows.{KnowsClose}
-use Rattle.time_laws.specs.core_invariant.specs.Knows.{HasComp}
-use Rattle.time_laws.specs.core_invariant.specs.Components.{HasLoadedBelow}
-use Rattle.time_laws.specs.core_invariant.specs.Threads.{KnowsSwitchAt}
-use Rattle.time_laws.specs.kept_facts.proofs.Claimed.{guarded_thread}
-use Rattle.time_laws.specs.kept_facts.proofs.Tcaps.{tcap_stays}
-use Rattle.time_laws.specs.step_ways.proofs.Places.{IsMarked, IsUnmarked, place_reads}
-use Rattle.time_laws.specs.count_invariant.proofs.Lookups.{leaf_reached}
-use Rattle.time_laws.specs.place_invariant.proofs.Removals.{holds_place}
-use Rattle.time_laws.specs.history_laws.specs.Frames.{IsLooked, is_held}
-use Rattle.time_laws.specs.flight.specs.Made.{turned, MayStep, core_after, cores_after, stepping_core, IsMadeStep, IsMade}
-use Rattle.time_laws.specs.history_laws.specs.Places.{MayUse, PlacesFound, ShowsPassed, ScannedCores}
-use Rattle.time_laws.specs.flight.proofs.Made.{made_stands, made_times}
-use Rattle.time_laws.specs.flight.proofs.Spelling.{moves_are_words}
-use Rattle.flight_laws.proofs.Sweeping.{untyping_in, untyping_of, untyping_now, IsSwept}
-use Rattle.flight_laws.proofs.Sweeping.{swept_on, swept_no_node, looks_untypes, looks_swept}
-use Rattle.time_laws.specs.act_states.specs.call_plans.specs.PlanOf.{plan_for}
+use Rattle.time_laws.specs as low
+use low.core_invariant.proofs.{AtComp, AtLive, ◌≡◌, ◌≢◌, ◌⊎◌, inl, inr, ℕ, ◌<◌, ◌/◌, ◌&&◌, Bool, true, false, IsTrue, cond, [], ◌∷◌, ◌++◌}
+use low.core_invariant.proofs.{Option, Some, None, refl, sym, ◌∙◌, ap, subst, is_some, eqb-true, false≢true, Capability, Setting, IsSetting}
+use low.core_invariant.proofs.{Call, Reply, Entry, Held, entry_of_word, core_of_word, Word, EntryAt, CoreAt, Move, LoadOf, CompareOf}
+use low.core_invariant.proofs.{StoreOf, AddOf, word_of, left_of, told_of, IsIn, Thing, PlaceOf, Frame, Kernel, Tcap, Comp, Thread, State}
+use low.core_invariant.proofs.{fits, Target, Under, InRoot, usable_in, is_node, Relies, Charge, some_inj, put_same, put_other, Step, Trace}
+use low.core_invariant.proofs.{Phase, Out, Open, phase, after_enter, after_decide, after_return, state_after, last_left, own_read}
+use low.core_invariant.proofs.{KeepsTime, IsLegal, MayFollow, stamp, clock, exit_of, is_in, cases_word, phase-own, phase-other}
+use low.core_invariant.proofs.{own_read-here, own_read-there, last_left-here, look_move, Look, AtRoot, AtLeaf, AtEntry, AtCompare, AtDraw}
+use low.core_invariant.proofs.{AtStore, AtCore, AtFlush, Next, NextName, NextFree, NextHeld, NextOwn, NextNothing, next_of, Own, Fill}
+use low.core_invariant.proofs.{Outside, Untype, MakeComp, Invoke, Return, CompAt, CompMaking, InvokingAt, ReturningAt, Switching, SwitchAt}
+use low.core_invariant.proofs.{Pair, PairAt, KillingAt, LoadComp, LoadLive, MakingAt, NewObject, Untyping, Work, Lookup, Read, Scan}
+use low.core_invariant.proofs.{Acquire, Act, Stage, Enter, Living, Undecided, Decided, Leave, ActiveCall, stage_move, absorbed, absorbed_in}
+use low.core_invariant.proofs.{told_in, Core, decided_in, returned_in, IsSpot, LooksUp, own_in, LooksFor, ChargesBy, KnowsWork, KnowsAt}
+use low.core_invariant.proofs.{CallIs, phase_at, HasTcap, KnowsPairAt, HasThread, claimed_by, limits_of, AtLoad as charge_load, Remove}
+use low.core_invariant.proofs.{Retype, Make, Tick as tick_act, Flush, Kill, Map as map_act, Touch, Share, Refill as refill_act, Switch}
+use low.core_invariant.proofs.{Typing, TypingAt, Close as kill_close, Draw as kill_draw, Absorbed, move_in, move_of, told_of_step}
+use low.core_invariant.proofs.{KnowsClose, HasComp, plan_for, Kind, Claim}
+use low.act_states.specs.{Closing, CoreWord, Tick, AtLoad, Close, charge_move, close_move, typing_at, comp_at, invoking_at, returning_at}
+use low.act_states.specs.{switching_at, Refill, RefillAt, killing_at, making_at}
+use low.step_ways.proofs.{sound_of, opened_is, Invariant, slot_relies, Compare as type_compare, IsMarked, IsUnmarked, place_reads}
+use low.flight.specs.{turned, MayStep, core_after, cores_after, stepping_core, IsMadeStep, IsMade}
+use low.core_invariant.specs.{KnowsRefillAt, HasLoadedBelow, KnowsSwitchAt}
+use low.kernel_history.specs.{Decided as decided_phase, reads, only_reads}
+use low.stage_tcap.specs.{Comp as comp_kind, move_at, refill_move_at}
+use low.trace_laws.proofs.{out_passed, later_passed, relies_reached}
+use low.trace_laws.proofs.Stays.{Stays, stays_other, stays_plain, state_plain}
+use low.trace_laws.proofs.Waiting.{Passed, still_past, passed_on}
+use low.history_laws.specs.{Frames.IsLooked, Frames.is_held, Places.MayUse, Places.ShowsPassed}
+use low.flight.proofs.{Made.made_stands, Made.made_times, Spelling.moves_are_words}
+use Rattle.flight_laws.proofs.Sweeping.{untyping_in, untyping_of, untyping_now, IsSwept, swept_on, swept_no_node, looks_untypes}
+use Rattle.{std.proofs.lemmas.Bool.cases_lt, std.proofs.lemmas.Bool.cases_eq, flight_laws.proofs.Sweeping.looks_swept}
+use low.{history_laws.specs.PlacesFound, history_laws.specs.ScannedCores, kernel_invariant.proofs.Facts.none_some}
+use low.{act_states.specs.declared.typings.TypingAt.TheVariants.Load, act_states.specs.declared.fills.Fill.Fill as FillOf}
+use low.{kernel_rules.specs.Relies.is_fixed, stage_tcap.specs.declared.charge.Charge.TheVariants.AtCompare as charge_compare}
+use low.{kernel_history.proofs.Steps.own_read-other, stage_pins.specs.declared.pin.Pin.TheVariants.AtCompare as pin_compare}
+use low.{call_stages.specs.Steps.work_move, thread_invariant.proofs.OwnStack.top_comp, kept_facts.proofs.Claimed.guarded_thread}
+use low.{kept_facts.proofs.Tcaps.tcap_stays, count_invariant.proofs.Lookups.leaf_reached, place_invariant.proofs.Removals.holds_place}
 
 -- The frame of an entry's word.
 abbrev frame_in : Word → ℕ
@@ -169,10 +124,10 @@ module _ (setup : Setting) (setting : IsSetting setup) (t : Trace) (cores : ℕ 
   by_making : (a : ActiveCall) (g : ℕ) (object : NewObject) (core : ℕ) (fill : FillOf) (at : MakingAt)
       → IsSpot setup t c (plan_for a.call) a.found setup.cores fill.node fill.entry fill.word
       → word_of (making_at g object core fill at) ≡ EntryAt f i → reads (making_at g object core fill at) ≡ true → Rests
-  by_making a g object core fill making.Load spot on read = absurd (cc)
-  by_making a g object core fill (making.Mark word) spot on read = absurd (cc)
-  by_making a g object core fill (making.Store word entry) spot on read = absurd (false≢true read)
-  by_making a g object core fill (making.Fill word) spot on read = of_frame fill.node fill.entry on
+  by_making a g object core fill MakingAt.Load spot on read = absurd (cc)
+  by_making a g object core fill (MakingAt.Mark word) spot on read = absurd (cc)
+  by_making a g object core fill (MakingAt.Store word entry) spot on read = absurd (false≢true read)
+  by_making a g object core fill (MakingAt.Fill word) spot on read = of_frame fill.node fill.entry on
       (slot_relies setup setting t stands.legal c call is_open spot.target (record { node = fill.node; index = fill.entry }) spot.way)
 
   -- the word is of the core's own thread, of a component, or of a thread or a temporal capability that the call guards
@@ -189,40 +144,40 @@ module _ (setup : Setting) (setting : IsSetting setup) (t : Trace) (cores : ℕ 
   of_tcap g j on has = inr (inr (inr (inr (inr (inr (subst (HasTcap (state_after setup t) c) (ap frame_in on) has))))))
 
   by_invoking : (g : ℕ) (at : InvokingAt) → HasComp (state_after setup t) c g → word_of (invoking_at g at) ≡ EntryAt f i → Rests
-  by_invoking g invoking.LoadTable comp on = of_comp g 0 on comp
-  by_invoking g (invoking.LoadPages table) comp on = of_comp g 1 on comp
-  by_invoking g (invoking.LoadComp table pages) comp on = of_comp g 2 on comp
-  by_invoking g (invoking.LoadLive table pages life) comp on = absurd (cc)
+  by_invoking g InvokingAt.LoadTable comp on = of_comp g 0 on comp
+  by_invoking g (InvokingAt.LoadPages table) comp on = of_comp g 1 on comp
+  by_invoking g (InvokingAt.LoadComp table pages) comp on = of_comp g 2 on comp
+  by_invoking g (InvokingAt.LoadLive table pages life) comp on = absurd (cc)
 
   by_returning : (thread depth : ℕ) (at : ReturningAt) → thread ≡ ((state_after setup t).core c).thread
       → HasLoadedBelow (state_after setup t) c at → word_of (returning_at thread depth at) ≡ EntryAt f i → Rests
-  by_returning thread depth returning.LoadBelow own at on = of_own thread _ on own
-  by_returning thread depth (returning.LoadTable comp) own at on = of_comp comp 0 on at.comp
-  by_returning thread depth (returning.LoadPages comp table) own at on = of_comp comp 1 on at.0.comp
-  by_returning thread depth (returning.Draw comp table pages) own at on = absurd (cc)
+  by_returning thread depth ReturningAt.LoadBelow own at on = of_own thread _ on own
+  by_returning thread depth (ReturningAt.LoadTable comp) own at on = of_comp comp 0 on at.comp
+  by_returning thread depth (ReturningAt.LoadPages comp table) own at on = of_comp comp 1 on at.0.comp
+  by_returning thread depth (ReturningAt.Draw comp table pages) own at on = absurd (cc)
 
   by_sharing : (p : Pair) (at : PairAt) → HasTcap (state_after setup t) c p.a → HasTcap (state_after setup t) c p.b
       → KnowsPairAt setup t c p at → word_of (move_at p at) ≡ EntryAt f i → Rests
-  by_sharing p pair.LoadA a b at on = of_tcap p.a 0 on a
-  by_sharing p pair.MarkA a b at on = of_tcap p.a 0 on a
-  by_sharing p (pair.ListA n) a b at on = of_tcap p.a n on a
-  by_sharing p pair.LoadB a b at on = of_tcap p.b 0 on b
-  by_sharing p (pair.ListB n) a b at on = of_tcap p.b n on b
-  by_sharing p pair.CompareB a b at on = of_tcap p.b 0 on b
-  by_sharing p (pair.AgainB r) a b at on = of_tcap p.b 0 on b
-  by_sharing p (pair.StoreList n) a b at on = absurd at
-  by_sharing p pair.StoreB a b at on = absurd at
-  by_sharing p (pair.StoreA moved v) a b at on = absurd at
+  by_sharing p PairAt.LoadA a b at on = of_tcap p.a 0 on a
+  by_sharing p PairAt.MarkA a b at on = of_tcap p.a 0 on a
+  by_sharing p (PairAt.ListA n) a b at on = of_tcap p.a n on a
+  by_sharing p PairAt.LoadB a b at on = of_tcap p.b 0 on b
+  by_sharing p (PairAt.ListB n) a b at on = of_tcap p.b n on b
+  by_sharing p PairAt.CompareB a b at on = of_tcap p.b 0 on b
+  by_sharing p (PairAt.AgainB r) a b at on = of_tcap p.b 0 on b
+  by_sharing p (PairAt.StoreList n) a b at on = absurd at
+  by_sharing p PairAt.StoreB a b at on = absurd at
+  by_sharing p (PairAt.StoreA moved v) a b at on = absurd at
 
   by_switching : (m : Switching) (at : SwitchAt) → HasThread (state_after setup t) c (claimed_by at) → KnowsSwitchAt setup t c at
       → word_of (switching_at m at) ≡ EntryAt f i → reads (switching_at m at) ≡ true → Rests
-  by_switching m (switch.Claim (claim.AtLoad g core)) has at on read = of_thread g 0 on has
-  by_switching m (switch.Claim (claim.AtCompare g core depth)) has at on read = of_thread g 0 on has
-  by_switching m (switch.Claim (claim.AtStack g depth)) has at on read = of_thread g depth on has
-  by_switching m (switch.LoadTable to) has at on read = of_comp to.comp 0 on at.comp
-  by_switching m (switch.LoadPages to table) has at on read = of_comp to.comp 1 on at.top.comp
-  by_switching m (switch.Leave to table pages) has at on read = absurd (false≢true read)
-  by_switching m (switch.Draw to table pages) has at on read = absurd (cc)
+  by_switching m (SwitchAt.Claim (Claim.AtLoad g core)) has at on read = of_thread g 0 on has
+  by_switching m (SwitchAt.Claim (Claim.AtCompare g core depth)) has at on read = of_thread g 0 on has
+  by_switching m (SwitchAt.Claim (Claim.AtStack g depth)) has at on read = of_thread g depth on has
+  by_switching m (SwitchAt.LoadTable to) has at on read = of_comp to.comp 0 on at.comp
+  by_switching m (SwitchAt.LoadPages to table) has at on read = of_comp to.comp 1 on at.top.comp
+  by_switching m (SwitchAt.Leave to table pages) has at on read = absurd (false≢true read)
+  by_switching m (SwitchAt.Draw to table pages) has at on read = absurd (cc)
 
   by_charge : (call : Call) (charge : Charge) → ChargesBy (state_after setup t) c call charge → word_of (charge_move charge) ≡ EntryAt f i
       → Rests
@@ -232,10 +187,10 @@ module _ (setup : Setting) (setting : IsSetting setup) (t : Trace) (cores : ℕ 
 
   by_refill : (r : Refill) (at : RefillAt) → HasTcap (state_after setup t) c r.tcap → KnowsRefillAt setup t c r at
       → word_of (refill_move_at r at) ≡ EntryAt f i → Rests
-  by_refill r refill.Load has at on = of_tcap r.tcap 0 on has
-  by_refill r (refill.List n) has at on = of_tcap r.tcap n on has
-  by_refill r refill.Compare has at on = of_tcap r.tcap 0 on has
-  by_refill r refill.Again has at on = of_tcap r.tcap 0 on has
+  by_refill r RefillAt.Load has at on = of_tcap r.tcap 0 on has
+  by_refill r (RefillAt.List n) has at on = of_tcap r.tcap n on has
+  by_refill r RefillAt.Compare has at on = of_tcap r.tcap 0 on has
+  by_refill r RefillAt.Again has at on = of_tcap r.tcap 0 on has
 
   by_killing : (g core : ℕ) (at : KillingAt) → HasComp (state_after setup t) c g → word_of (killing_at g core at) ≡ EntryAt f i → Rests
   by_killing g core LoadComp comp on = inr (inr (inl (subst (HasComp (state_after setup t) c) (ap frame_in on) comp)))
@@ -246,14 +201,14 @@ module _ (setup : Setting) (setting : IsSetting setup) (t : Trace) (cores : ℕ 
   by_comp : (a : ActiveCall) (m : CompMaking) (at : CompAt)
       → IsSpot setup t c (plan_for a.call) a.found setup.cores m.fill.node m.fill.entry m.fill.word
       → word_of (comp_at m at) ≡ EntryAt f i → reads (comp_at m at) ≡ true → Rests
-  by_comp a m comp_stands.Load spot on read = absurd (cc)
-  by_comp a m (comp_stands.Mark word) spot on read = absurd (cc)
-  by_comp a m (comp_stands.LoadLive word) spot on read = absurd (cc)
-  by_comp a m (comp_stands.Scan word last (AtCore x by at page)) spot on read = absurd (cc)
-  by_comp a m (comp_stands.Scan word last (AtFlush x at)) spot on read = absurd (cc)
-  by_comp a m (comp_stands.Close word last) spot on read = absurd (cc)
-  by_comp a m (comp_stands.Store word last entry) spot on read = absurd (false≢true read)
-  by_comp a m (comp_stands.Fill word last) spot on read = of_frame m.fill.node m.fill.entry on
+  by_comp a m CompAt.Load spot on read = absurd (cc)
+  by_comp a m (CompAt.Mark word) spot on read = absurd (cc)
+  by_comp a m (CompAt.LoadLive word) spot on read = absurd (cc)
+  by_comp a m (CompAt.Scan word last (AtCore x by at page)) spot on read = absurd (cc)
+  by_comp a m (CompAt.Scan word last (AtFlush x at)) spot on read = absurd (cc)
+  by_comp a m (CompAt.Close word last) spot on read = absurd (cc)
+  by_comp a m (CompAt.Store word last entry) spot on read = absurd (false≢true read)
+  by_comp a m (CompAt.Fill word last) spot on read = of_frame m.fill.node m.fill.entry on
       (slot_relies setup setting t stands.legal c call is_open spot.target (record { node = m.fill.node; index = m.fill.entry }) spot.way)
 
   some_act : (m : Untyping) → Some m ≡ None → ⊥
@@ -365,29 +320,29 @@ pub comp_no_node : (x : Frame) → IsTrue (fits comp_kind x) → IsTrue (is_node
 comp_no_node (Kernel (Comp k)) h node = false≢true node
 comp_no_node _ h node = absurd (false≢true h)
 
-pub tcap_no_node : (x : Frame) → IsTrue (fits kind.Tcap x) → is_node x ≡ false
+pub tcap_no_node : (x : Frame) → IsTrue (fits Kind.Tcap x) → is_node x ≡ false
 tcap_no_node (Kernel (Tcap q)) fit = refl
 tcap_no_node x fit = absurd (false≢true fit)
 
-pub thread_no_node : (x : Frame) → IsTrue (fits kind.Thread x) → is_node x ≡ false
+pub thread_no_node : (x : Frame) → IsTrue (fits Kind.Thread x) → is_node x ≡ false
 thread_no_node (Kernel (Thread k)) fit = refl
 thread_no_node x fit = absurd (false≢true fit)
 
-pub beside_no_node : (s : State) (c f : ℕ) → IsTrue (fits kind.Thread (s.frame (s.core c).thread)) → IsBeside s c f
+pub beside_no_node : (s : State) (c f : ℕ) → IsTrue (fits Kind.Thread (s.frame (s.core c).thread)) → IsBeside s c f
     → is_node (s.frame f) ≡ false
-beside_no_node s c f own (inl is) = thread_no_node (s.frame f) (subst (λ (g : ℕ). IsTrue (fits kind.Thread (s.frame g))) is own)
+beside_no_node s c f own (inl is) = thread_no_node (s.frame f) (subst (λ (g : ℕ). IsTrue (fits Kind.Thread (s.frame g))) is own)
 beside_no_node s c f own (inr (inl has)) = thread_no_node (s.frame f) has.thread
 beside_no_node s c f own (inr (inr has)) = tcap_no_node (s.frame f) has.tcap
 
 -- A step that neither decides nor returns goes on.
-going_told : (said : Absorbed) → decided_in said ≡ None → returned_in said ≡ None → said ≡ told_as.Going
-going_told told_as.Going d r = refl
-going_told (told_as.Decided q) d r = absurd (cc)
-going_told (told_as.Returned q) d r = absurd (cc)
+going_told : (said : Absorbed) → decided_in said ≡ None → returned_in said ≡ None → said ≡ Absorbed.Going
+going_told Absorbed.Going d r = refl
+going_told (Absorbed.Decided q) d r = absurd (cc)
+going_told (Absorbed.Returned q) d r = absurd (cc)
 
 module _ (setup : Setting) (setting : IsSetting setup) where
   goes_on_told : (t : Trace) (e : Step) → IsMadeStep setup t e → e.decides ≡ None → e.returns ≡ None
-      → told_of_step (stepping_core setup t e) (told_of (move_of (stepping_core setup t e)) e.found) ≡ told_as.Going
+      → told_of_step (stepping_core setup t e) (told_of (move_of (stepping_core setup t e)) e.found) ≡ Absorbed.Going
   goes_on_told t e made no_decision no_return =
       going_told (told_of_step (stepping_core setup t e) (told_of (move_of (stepping_core setup t e)) e.found))
       (sym (ap (λ (x : Step). x.decides) made.made) ∙ no_decision) (sym (ap (λ (x : Step). x.returns) made.made) ∙ no_return)
@@ -527,7 +482,7 @@ module _ (setup : Setting) (setting : IsSetting setup) where
             ∙ ap (λ o. (absorbed (turned o core) (told_of (move_of (turned o core)) e.found)).active) no_entry
             ∙ ap (λ (n : ℕ). (absorbed core n).active) (told_read (move_of core) reads_it e.found ∙ read.found)
 
-        goes : told_in core.own core.active w ≡ told_as.Going
+        goes : told_in core.own core.active w ≡ Absorbed.Going
         goes = sym (ap (λ o. told_of_step (turned o core) (told_of (move_of (turned o core)) e.found)) no_entry
             ∙ ap (λ (n : ℕ). told_of_step core n) (told_read (move_of core) reads_it e.found ∙ read.found))
             ∙ goes_on_told t e made.1 no_decision no_return
@@ -619,7 +574,7 @@ places_found setup setting t made c call is f i w k own held node = by (lasts_al
     by : IsFound setup t c f i k → MayUse (state_after setup t) c (record { node = f; index = i }) k
     by (inl may) = may
     by (inr (inl own)) = absurd (false≢true (sym (tcap_no_node ((state_after setup t).frame f)
-        (subst (λ (g : ℕ). IsTrue (fits kind.Tcap ((state_after setup t).frame g))) own
+        (subst (λ (g : ℕ). IsTrue (fits Kind.Tcap ((state_after setup t).frame g))) own
         ((sound_of setup setting t stands.legal).cores c below).1)) ∙ node))
     by (inr (inr (inl comp))) = absurd (comp_no_node ((state_after setup t).frame f) comp.comp node)
     by (inr (inr (inr (inl swept)))) =

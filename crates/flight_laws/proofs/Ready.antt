@@ -1,29 +1,14 @@
 -- A step of a machine decides where its core is ready, and refuses where it is not: the laws of calls at the cores that stand for a trace.
-use Rattle.std.proofs.Common.{◌≡◌, ℕ, true, false, ◌∷◌, Option, Some, None, refl, sym, ◌∙◌, ap, subst}
-use Rattle.std.specs.Prelude.{IsSome}
-use Rattle.std.proofs.lemmas.Bool.{false≢true}
-use Rattle.time_laws.specs.spk_nums.specs.Setting.{Setting, IsSetting}
-use Rattle.time_laws.specs.spk_nums.specs.declared.calls.Call.{Call}
-use Rattle.time_laws.specs.spk_nums.specs.declared.replies.Reply.{Reply}
-use Rattle.time_laws.specs.word_map.specs.Moves.{told_of}
-use Rattle.time_laws.specs.kernel_rules.specs.Laws.{IsRefusal}
-use Rattle.time_laws.specs.kernel_history.specs.Trace.{Step, Trace, Open, phase}
-use Rattle.time_laws.specs.act_states.specs.declared.own.Own.{Own}
-use Rattle.time_laws.specs.call_stages.specs.declared.stages.Stage.{Stage}
-use Rattle.time_laws.specs.call_stages.specs.declared.stages.Stage.TheVariants.{Enter, Living, Undecided, Decided, Leave}
-use Rattle.time_laws.specs.call_stages.specs.declared.stages.ActiveCall.{ActiveCall}
-use Rattle.time_laws.specs.call_stages.specs.Cores.{fresh, begun, move_of, ready_in, told_in, told_by, told_of_step}
-use Rattle.time_laws.specs.call_stages.specs.Fits.{CallFits}
-use Rattle.time_laws.specs.call_stages.specs.Laws.{reply_at, Refuses, IsDecision}
-use Rattle.time_laws.specs.call_stages.specs.Steps.{Took, GoesOn, Decides, Returns, Changes, took}
-use Rattle.time_laws.specs.call_stages.specs.View.{Core}
+use Rattle.time_laws.specs.flight.proofs.{◌≡◌, ℕ, true, false, ◌∷◌, Option, Some, None, refl, sym, ◌∙◌, ap, subst, IsSome, false≢true}
+use Rattle.time_laws.specs.flight.proofs.{Setting, IsSetting, Call, Reply, told_of, Step, Trace, Open, phase, Own, Stage, Enter, Living}
+use Rattle.time_laws.specs.flight.proofs.{Undecided, Leave, move_of, told_in, told_by, told_of_step, Took, GoesOn, Decides, Returns}
+use Rattle.time_laws.specs.flight.proofs.{Changes, took, Core, decided_in, CallIs, phase_at, turned, MayStep, cores_after, IsMade}
+use Rattle.time_laws.specs.core_invariant.specs.{Decided, ActiveCall, fresh, begun, CallFits, CoreIs}
+use Rattle.time_laws.specs.history_laws.specs.{ReadyDecides, UnreadyRefuses}
+use Rattle.time_laws.specs.call_stages.specs.{Cores.ready_in, Laws.reply_at, Laws.Refuses, Laws.IsDecision}
+use Rattle.time_laws.specs.flight.proofs.{CoreFits.begun_fits, Made.made_stands}
+use Rattle.{time_laws.specs.flight.proofs.ready_after, time_laws.specs.kernel_rules.specs.Laws.IsRefusal}
 use Rattle.time_laws.specs.call_stages.proofs.Decisions as decisions
-use Rattle.time_laws.specs.core_invariant.specs.Events.{decided_in}
-use Rattle.time_laws.specs.core_invariant.specs.Knows.{CallIs, CoreIs, phase_at}
-use Rattle.time_laws.specs.flight.specs.Made.{turned, MayStep, cores_after, IsMade, ready_after}
-use Rattle.time_laws.specs.flight.proofs.CoreFits.{begun_fits}
-use Rattle.time_laws.specs.flight.proofs.Made.{made_stands}
-use Rattle.time_laws.specs.history_laws.specs.Ready.{ReadyDecides, UnreadyRefuses}
 
 -- What a core tells of a step that led to this.
 decision_told : (k : Took) → IsDecision k → IsSome (decided_in (told_by k))

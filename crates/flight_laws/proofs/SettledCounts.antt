@@ -1,54 +1,23 @@
 -- What count words settle to while calls hold them, by what they show; and how that of an acquired count changes where its call is
 -- carried out.
-use Rattle.std.proofs.Common.{◌≡◌, ◌≢◌, ℕ, pos, ◌+ℤ◌, ◌-ℤ◌, ◌<◌, ◌==◌, ◌&&◌, ◌||◌, Bool, true, false}
-use Rattle.std.proofs.Common.{◌∷◌, Option, Some, None, IsTrue, arith, refl, sym, ◌∙◌, ap, subst}
-use Rattle.std.proofs.lemmas.Bool.{false≢true, true≢false, eq-eqb, ne_eqb, eqb-true}
-use Rattle.time_laws.specs.spk_nums.specs.Setting.{Setting, IsSetting}
-use Rattle.time_laws.specs.spk_nums.specs.declared.calls.Call.{Call}
-use Rattle.time_laws.specs.spk_nums.specs.declared.calls.Call.TheVariants.{Retype}
-use Rattle.time_laws.specs.spk_nums.specs.declared.kinds.FrameKind.TheVariants as frame_kind
-use Rattle.time_laws.specs.spk_nums.specs.declared.replies.Reply.{Reply}
-use Rattle.time_laws.specs.spk_nums.specs.declared.replies.Reply.TheVariants as reply
-use Rattle.time_laws.specs.frame_words.specs.Count.{NumberFits, count_of_word, word_of_count}
-use Rattle.time_laws.specs.frame_words.specs.Residue.{residue, wrapped}
-use Rattle.time_laws.specs.frame_words.specs.declared.count_word.CountWord.{CountWord}
-use Rattle.time_laws.specs.frame_words.specs.declared.count_word.Hold.{Hold}
-use Rattle.time_laws.specs.frame_words.specs.declared.count_word.Hold.TheVariants.{Unheld, Pinned, Closed}
+use Rattle.time_laws.specs as low
+use low.kept_facts.proofs.{◌≡◌, ◌≢◌, ℕ, pos, ◌+ℤ◌, ◌<◌, ◌==◌, ◌&&◌, ◌||◌, Bool, true, false, ◌∷◌, Option, Some, None, IsTrue, arith, refl}
+use low.kept_facts.proofs.{sym, ◌∙◌, ap, subst, false≢true, true≢false, eq-eqb, ne_eqb, eqb-true, Setting, IsSetting, Call, Retype, Reply}
+use low.kept_facts.proofs.{count_of_word, word_of_count, residue, CountWord, Hold, Pinned, Closed, Word, CountAt, AddOf, CompareOf, LoadOf}
+use low.kept_facts.proofs.{Move, StoreOf, word_of, refs, put_other, counters, count_at, count_in, count_sum, counts_references, marked_by}
+use low.kept_facts.proofs.{count_mark, hold_mark, Step, Trace, Phase, Out, Open, phase, after_enter, after_decide, state_after, last_left}
+use low.kept_facts.proofs.{last_left-there, unheld, Absorbed, Stage, decided_in, committed, settled_by, Invariant, count_shown, holds}
+use low.kept_facts.proofs.{held_by, is_done, phase_at, limits_of, refs_residue, counter_once, FrameKind}
+use low.kernel_history.specs.{◌-ℤ◌, Unheld, call_in, MayMove, may_count, Decided}
+use low.flight.specs.{core_after, cores_after, stepping_core, IsMade}
+use low.history_laws.specs.{is_carried_out, has_cleared, Untypes}
+use Rattle.flight_laws.proofs.{CountHolds.SparesOwn, CountHolds.entered_is, CountHolds.frozen_say, CountHolds.phase_is}
+use Rattle.flight_laws.proofs.{CountHolds.pinned_say, HeldCounts.NotOk, AcquiredCounts.HasCount, AcquiredCounts.has_count}
+use Rattle.flight_laws.proofs.{AcquiredCounts.settles_to, FrozenCounts.cleared_if, FrozenCounts.frozen_settles}
+use low.{frame_words.specs.Count.NumberFits, frame_words.specs.Residue.wrapped, frame_words.proofs.ResidueLemmas.count_wraps}
+use low.{kernel_history.specs.Discipline.untypes_frame, stage_pins.specs.Counts.changed, stage_pins.proofs.PinLemmas.changed_none}
+use low.{kept_facts.proofs.CountSums.sum_one, step_ways.proofs.Loads.call_is, flight.proofs.Made.made_stands}
 use Rattle.time_laws.specs.frame_words.proofs.CountLemmas as counts
-use Rattle.time_laws.specs.frame_words.proofs.ResidueLemmas.{count_wraps}
-use Rattle.time_laws.specs.word_map.specs.Word.{Word, CountAt}
-use Rattle.time_laws.specs.word_map.specs.Moves.{AddOf, CompareOf, LoadOf, Move, StoreOf, word_of}
-use Rattle.time_laws.specs.kernel_rules.specs.References.{refs}
-use Rattle.time_laws.specs.kernel_rules.proofs.Within.{put_other}
-use Rattle.time_laws.specs.kernel_history.specs.Bounds.{call_in}
-use Rattle.time_laws.specs.kernel_history.specs.Counts.{counters, count_at, count_in, count_sum}
-use Rattle.time_laws.specs.kernel_history.specs.Discipline.{MayMove, counts_references, may_count, untypes_frame}
-use Rattle.time_laws.specs.kernel_history.specs.Marking.{marked_by}
-use Rattle.time_laws.specs.kernel_history.specs.Marks.{count_mark, hold_mark}
-use Rattle.time_laws.specs.kernel_history.specs.Trace.{Step, Trace, Phase, Out, Open, Decided, phase, after_enter, after_decide}
-use Rattle.time_laws.specs.kernel_history.specs.Trace.{state_after, last_left}
-use Rattle.time_laws.specs.kernel_history.proofs.Steps.{last_left-there}
-use Rattle.time_laws.specs.stage_pins.specs.Counts.{changed, unheld}
-use Rattle.time_laws.specs.stage_pins.proofs.PinLemmas.{changed_none}
-use Rattle.time_laws.specs.call_stages.specs.declared.stages.Absorbed.{Absorbed}
-use Rattle.time_laws.specs.call_stages.specs.declared.stages.Absorbed.TheVariants as told_as
-use Rattle.time_laws.specs.call_stages.specs.declared.stages.Stage.{Stage}
-use Rattle.time_laws.specs.call_stages.specs.declared.stages.Stage.TheVariants as stages
-use Rattle.time_laws.specs.core_invariant.specs.Events.{decided_in}
-use Rattle.time_laws.specs.core_invariant.specs.Holding.{committed, settled_by}
-use Rattle.time_laws.specs.core_invariant.specs.Invariant.{Invariant, count_shown, holds, held_by, is_done}
-use Rattle.time_laws.specs.core_invariant.specs.Knows.{phase_at}
-use Rattle.time_laws.specs.core_invariant.proofs.Sounds.{limits_of}
-use Rattle.time_laws.specs.kept_facts.proofs.Few.{refs_residue}
-use Rattle.time_laws.specs.kept_facts.proofs.CountSums.{counter_once, sum_one}
-use Rattle.time_laws.specs.step_ways.proofs.Loads.{call_is}
-use Rattle.time_laws.specs.flight.specs.Made.{core_after, cores_after, stepping_core, IsMade}
-use Rattle.time_laws.specs.flight.proofs.Made.{made_stands}
-use Rattle.time_laws.specs.history_laws.specs.Counts.{is_carried_out, has_cleared, Untypes}
-use Rattle.flight_laws.proofs.CountHolds.{SparesOwn, entered_is, frozen_say, phase_is, pinned_say}
-use Rattle.flight_laws.proofs.HeldCounts.{NotOk}
-use Rattle.flight_laws.proofs.AcquiredCounts.{HasCount, has_count, settles_to}
-use Rattle.flight_laws.proofs.FrozenCounts.{cleared_if, frozen_settles}
 
 none_some : {A : Type 0} (x : A) → None ≡ Some x → ⊥
 none_some x h = cc
@@ -64,29 +33,29 @@ unheld_shows n v shows = let fits = (counts.spelling.spells n v shows).0 in
 
 -- A call that is not carried out is not done.
 pub undone : (call : Call) (stage : Stage) → is_carried_out (phase_at call stage) ≡ false → is_done stage ≡ None
-undone call stages.Enter not = refl
-undone call (stages.Living alive) not = refl
-undone call (stages.Undecided work) not = refl
-undone call (stages.Decided (reply.Ok x) drawn tail) not = absurd (true≢false not)
-undone call (stages.Decided r drawn tail) not = refl
-undone call (stages.Leave r at) not = refl
+undone call Stage.Enter not = refl
+undone call (Stage.Living alive) not = refl
+undone call (Stage.Undecided work) not = refl
+undone call (Stage.Decided (Reply.Ok x) drawn tail) not = absurd (true≢false not)
+undone call (Stage.Decided r drawn tail) not = refl
+undone call (Stage.Leave r at) not = refl
 
 -- A call that makes the frame untyped has cleared it where it is carried out.
 pub cleared_is : (f : ℕ) (p : Phase) → Untypes f p → has_cleared f p ≡ is_carried_out p
 cleared_is f Out is = refl
 cleared_is f (Open call) is = refl
 cleared_is f (Decided call r) is =
-    ap (λ c. has_cleared f (Decided c r)) (same_some call (Retype is.range f frame_kind.Untyped) is.is) ∙ by r
+    ap (λ c. has_cleared f (Decided c r)) (same_some call (Retype is.range f FrameKind.Untyped) is.is) ∙ by r
   where
-    by : (q : Reply) → has_cleared f (Decided (Retype is.range f frame_kind.Untyped) q) ≡ is_carried_out (Decided call q)
-    by (reply.Ok v) = eq-eqb f f refl
+    by : (q : Reply) → has_cleared f (Decided (Retype is.range f FrameKind.Untyped) q) ≡ is_carried_out (Decided call q)
+    by (Reply.Ok v) = eq-eqb f f refl
     by q = refl
 
 -- A step at which nothing is decided does not decide `ok`.
 pub not_ok : (told : Absorbed) → decided_in told ≡ None → NotOk told
-not_ok told_as.Going none = tt
-not_ok (told_as.Decided r) none = absurd (none_some r (sym none))
-not_ok (told_as.Returned r) none = tt
+not_ok Absorbed.Going none = tt
+not_ok (Absorbed.Decided r) none = absurd (none_some r (sym none))
+not_ok (Absorbed.Returned r) none = tt
 
 -- What a count word settles to.
 module _ (setup : Setting) (setting : IsSetting setup) (f : ℕ) where
@@ -158,9 +127,9 @@ module _ (setup : Setting) (setting : IsSetting setup) (f k : ℕ) (t : Trace) (
       stays (Some r) (Decided call q) = refl
 
   not_untyped : (call : Call) → call_now ≡ Some call → untypes_frame call f ≡ true → ⊥
-  not_untyped (Retype r g frame_kind.Untyped) at untypes = its_own.spares (record {
+  not_untyped (Retype r g FrameKind.Untyped) at untypes = its_own.spares (record {
     range = r;
-    is = call_after ∙ at ∙ ap (λ (n : ℕ). Some (Retype r n frame_kind.Untyped)) (sym (eqb-true f g untypes));
+    is = call_after ∙ at ∙ ap (λ (n : ℕ). Some (Retype r n FrameKind.Untyped)) (sym (eqb-true f g untypes));
   })
   not_untyped call at untypes = false≢true untypes
 

@@ -1,84 +1,41 @@
 -- What count words tell of stamps while calls hold them: the stamp that a word will show, by the phase of the call that holds it, is that
 -- of what it settles to. So the newest that the count words of a frame will show is that of its last grace period.
-use Rattle.std.proofs.Common.{◌≡◌, ◌≢◌, inl, inr, ℕ, ℤ, pos, negsuc, ◌+ℤ◌, ◌-ℤ◌, ◌+◌, ◌*◌, ◌-◌, ◌^◌, ◌≤◌, ◌<◌, ◌&&◌, Bool}
-use Rattle.std.proofs.Common.{true, false, max, if◌then◌else◌, List, [], ◌∷◌, Option, Some, None, arith, refl, sym, ◌∙◌, ap, subst}
-use Rattle.std.specs.Prelude.{is_some}
-use Rattle.std.specs.Prelude.{All}
-use Rattle.std.proofs.lemmas.Bool.{cases_eq, cases_lt, eqb-true, false≢true, true≢false, eq-eqb, ne_eqb}
-use Rattle.std.proofs.lemmas.List.Elements.{All-head, All-tail}
-use Rattle.std.proofs.lemmas.Int.{ints}
-use Rattle.time_laws.specs.spk_nums.specs.CallLimits.{InLimits}
-use Rattle.time_laws.specs.spk_nums.specs.Setting.{Setting, IsSetting}
-use Rattle.time_laws.specs.spk_nums.specs.declared.calls.Call.{Call}
-use Rattle.time_laws.specs.spk_nums.specs.declared.calls.Call.TheVariants.{Retype}
-use Rattle.time_laws.specs.spk_nums.specs.declared.kinds.FrameKind.TheVariants as frame_kind
-use Rattle.time_laws.specs.spk_nums.specs.declared.replies.Reply.{Reply}
-use Rattle.time_laws.specs.spk_nums.specs.declared.replies.Reply.TheVariants as reply
-use Rattle.time_laws.specs.spk_nums.specs.declared.replies.Value.{Value}
-use Rattle.time_laws.specs.frame_words.specs.Count.{CountFits, count_of_word, word_of_count}
-use Rattle.time_laws.specs.frame_words.specs.declared.count_word.CountWord.{CountWord}
-use Rattle.time_laws.specs.frame_words.specs.declared.count_word.Hold.{Hold}
-use Rattle.time_laws.specs.frame_words.specs.declared.count_word.Hold.TheVariants.{Unheld, Pinned, Closed}
-use Rattle.time_laws.specs.frame_words.proofs.CountLemmas as counts
-use Rattle.time_laws.specs.word_map.specs.Word.{CountAt}
-use Rattle.time_laws.specs.kernel_rules.specs.State.{FrameOf, State}
-use Rattle.time_laws.specs.kernel_rules.specs.GracePeriods.{begun}
-use Rattle.time_laws.specs.kernel_rules.specs.References.{refs}
-use Rattle.time_laws.specs.kernel_rules.specs.Rules.{Change, Found, IsFoundAnd, Judged, Refused}
-use Rattle.time_laws.specs.kernel_rules.specs.CallRelation.{MayReply, begins, begins_in as begun_in, change_of, changed as change_made}
-use Rattle.time_laws.specs.kernel_rules.specs.CallRelation.{counted, state_by}
-use Rattle.time_laws.specs.kernel_rules.proofs.Changes.{IfFound}
-use Rattle.time_laws.specs.kernel_invariant.proofs.Edited.{found_by}
-use Rattle.time_laws.specs.kernel_invariant.proofs.Refs.{RefsBy, grace_refs, refs_by}
-use Rattle.time_laws.specs.kernel_invariant.proofs.SoundCalls.{IsOpen}
-use Rattle.time_laws.specs.kernel_invariant.proofs.SoundRuns.{open_limits, opened}
-use Rattle.time_laws.specs.found_stays.proofs.SparesRuns.{among}
-use Rattle.time_laws.specs.kernel_history.specs.Counts.{count_in, counters}
-use Rattle.time_laws.specs.kernel_history.specs.Events.{plain_phase}
-use Rattle.time_laws.specs.kernel_history.specs.Legal.{DecidesBy, IsLegal, MayDecide}
-use Rattle.time_laws.specs.kernel_history.specs.Marking.{marked_by}
-use Rattle.time_laws.specs.kernel_history.specs.Marks.{count_mark, hold_mark}
-use Rattle.time_laws.specs.kernel_history.proofs.Counters.{all_counters}
-use Rattle.time_laws.specs.kernel_history.specs.Stamps.{begins_at, begins_in, stamp}
-use Rattle.time_laws.specs.kernel_history.specs.Trace.{Step, Trace, Phase, Out, Open, Decided, phase, after_enter, after_decide}
-use Rattle.time_laws.specs.kernel_history.specs.Trace.{state_after, state_before, state_decided, state_returned, last_left}
-use Rattle.time_laws.specs.kernel_history.proofs.Events.{entered_events, entered_phase, entered_run}
-use Rattle.time_laws.specs.kernel_history.proofs.Steps.{phase-other, stamp-begins}
-use Rattle.time_laws.specs.trace_laws.proofs.Opens.{opens}
-use Rattle.time_laws.proofs.Common.{run_of}
-use Rattle.time_laws.specs.stage_pins.specs.declared.pin.Pin.TheVariants.{AtCompare}
-use Rattle.time_laws.specs.stage_sweep.specs.Freeze.{frozen}
-use Rattle.time_laws.specs.call_stages.specs.Cores.{core_after, told_by}
-use Rattle.time_laws.specs.call_stages.specs.Steps.{took_at}
-use Rattle.time_laws.specs.call_stages.specs.declared.stages.Absorbed.{Absorbed}
-use Rattle.time_laws.specs.call_stages.specs.declared.stages.Absorbed.TheVariants as told_as
-use Rattle.time_laws.specs.call_stages.specs.declared.stages.ActiveCall.{ActiveCall}
-use Rattle.time_laws.specs.core_invariant.specs.Events.{decided_in}
-use Rattle.time_laws.specs.stage_pins.specs.Counts.{changed, later, unheld}
-use Rattle.time_laws.specs.stage_pins.specs.Held.{stamp_of_change}
-use Rattle.time_laws.specs.core_invariant.specs.CountWords.{newest_of, stamp_in}
-use Rattle.time_laws.specs.core_invariant.specs.Holding.{committed}
-use Rattle.time_laws.specs.core_invariant.specs.Invariant.{Invariant, is_done}
-use Rattle.time_laws.specs.act_states.specs.Dues.{IsSmallChange}
-use Rattle.time_laws.specs.core_invariant.specs.Knows.{IsCount}
-use Rattle.time_laws.specs.kept_facts.proofs.Few.{few_after}
-use Rattle.time_laws.specs.core_invariant.proofs.Sounds.{limits_of}
-use Rattle.time_laws.specs.kept_facts.proofs.CountSums.{counted_refs, counter_once, newest_most}
-use Rattle.time_laws.specs.step_ways.proofs.Loads.{call_is, is_active}
-use Rattle.time_laws.specs.frame_words.specs.Residue.{residue}
+use Rattle.time_laws.specs.step_ways.proofs.{◌≡◌, ◌≢◌, inl, inr, ℕ, ℤ, pos, negsuc, ◌+ℤ◌, ◌+◌, ◌*◌, ◌-◌, ◌^◌, ◌≤◌, ◌<◌, ◌&&◌, Bool, true}
+use Rattle.time_laws.specs.step_ways.proofs.{false, max, if◌then◌else◌, List, [], ◌∷◌, Option, Some, None, arith, refl, sym, ◌∙◌, ap, subst}
+use Rattle.time_laws.specs.step_ways.proofs.{is_some, All, eqb-true, false≢true, true≢false, eq-eqb, ne_eqb, InLimits, Setting, IsSetting}
+use Rattle.time_laws.specs.step_ways.proofs.{Call, Retype, Reply, Value, CountFits, count_of_word, word_of_count, CountWord, Hold, Pinned}
+use Rattle.time_laws.specs.step_ways.proofs.{Closed, CountAt, FrameOf, State, refs, Change, Found, IsFoundAnd, Judged, Refused, MayReply}
+use Rattle.time_laws.specs.step_ways.proofs.{begins, change_of, changed as change_made, counted, state_by, grace_refs, opened, count_in}
+use Rattle.time_laws.specs.step_ways.proofs.{counters, IsLegal, MayDecide, marked_by, count_mark, hold_mark, begins_at, begins_in, stamp}
+use Rattle.time_laws.specs.step_ways.proofs.{Step, Trace, Phase, Out, Open, phase, after_enter, after_decide, state_after, state_before}
+use Rattle.time_laws.specs.step_ways.proofs.{state_decided, state_returned, last_left, phase-other, stamp-begins, run_of, frozen}
+use Rattle.time_laws.specs.step_ways.proofs.{core_after, told_by, took_at, Absorbed, ActiveCall, decided_in, later, unheld, stamp_of_change}
+use Rattle.time_laws.specs.step_ways.proofs.{committed, Invariant, is_done, IsCount, limits_of, counted_refs, call_is, is_active, residue}
+use Rattle.time_laws.specs.kernel_history.proofs.{Unheld, IfFound, plain_phase, all_counters, Decided, entered_events, entered_phase}
+use Rattle.time_laws.specs.kernel_laws.proofs.{begun, begins_in as begun_in, found_by, IsOpen, open_limits}
+use Rattle.time_laws.specs.history_laws.specs.{Untypes, has_cleared, is_carried_out, StampsTell}
+use Rattle.std.proofs.{lemmas.List.Elements.All-head, lemmas.List.Elements.All-tail, lemmas.Int.ints}
+use Rattle.time_laws.specs.kept_facts.proofs.{Few.few_after, CountSums.counter_once, CountSums.newest_most}
 use Rattle.time_laws.specs.frame_words.proofs.ResidueLemmas.{past, residue_wrapped, wrapped_fits}
-use Rattle.time_laws.specs.flight.specs.Made.{cores_after, IsMade}
-use Rattle.time_laws.specs.flight.proofs.Made.{made_stands, made_times}
-use Rattle.time_laws.specs.history_laws.specs.Counts.{Untypes, has_cleared, is_carried_out}
-use Rattle.time_laws.specs.history_laws.specs.Stamps.{drawn_by, newest_then, stamp_then, will_date, StampsTell}
+use Rattle.time_laws.specs.history_laws.specs.Stamps.{drawn_by, newest_then, stamp_then, will_date}
 use Rattle.flight_laws.proofs.CountHolds.{before_is, entered_is, frozen_say, kept, no_return, pinned_say}
 use Rattle.flight_laws.proofs.AcquiredCounts.{HasCount, active_now, decides_told, entry, found, has_count, settles_to, told}
 use Rattle.flight_laws.proofs.CountsTold.{holder_below, mark_now, phase_now, settled_open, settled_other, settled_own, showed, showed_own}
-use Rattle.flight_laws.proofs.HeldCounts.{all_among}
 use Rattle.flight_laws.proofs.DrawnStamps.{DoneSmall, IsSmall, OkDrawn, acquire_drawn, stage_drawn}
-use Rattle.flight_laws.proofs.FrozenCounts.{cleared_if}
 use Rattle.flight_laws.proofs.SettledCounts.{cleared_is, closed_shows, count_changes, free_shows, other_same, pinned_shows, settled_shows}
-use Rattle.flight_laws.proofs.SettledCounts.{shows}
+use Rattle.{time_laws.specs.kernel_history.proofs.entered_run, std.proofs.lemmas.Bool.cases_eq, std.proofs.lemmas.Bool.cases_lt}
+use Rattle.{time_laws.specs.flight.specs.cores_after, time_laws.specs.flight.specs.IsMade, time_laws.specs.core_invariant.specs.newest_of}
+use Rattle.{time_laws.specs.core_invariant.specs.stamp_in, time_laws.specs.kernel_history.specs.◌-ℤ◌}
+use Rattle.{time_laws.specs.kernel_history.specs.DecidesBy, time_laws.specs.kernel_invariant.proofs.Refs.RefsBy}
+use Rattle.{time_laws.specs.kernel_invariant.proofs.Refs.refs_by, time_laws.specs.found_stays.proofs.SparesRuns.among}
+use Rattle.{time_laws.specs.trace_laws.proofs.Opens.opens, time_laws.specs.stage_pins.specs.declared.pin.Pin.TheVariants.AtCompare}
+use Rattle.{time_laws.specs.stage_pins.specs.Counts.changed, time_laws.specs.act_states.specs.Dues.IsSmallChange}
+use Rattle.{time_laws.specs.flight.proofs.Made.made_stands, time_laws.specs.flight.proofs.Made.made_times}
+use Rattle.{flight_laws.proofs.HeldCounts.all_among, flight_laws.proofs.FrozenCounts.cleared_if, flight_laws.proofs.SettledCounts.shows}
+use Rattle.time_laws.specs.spk_nums.specs.declared.kinds.FrameKind.TheVariants as frame_kind
+use Rattle.time_laws.specs.spk_nums.specs.declared.replies.Reply.TheVariants as reply
+use Rattle.time_laws.specs.frame_words.proofs.CountLemmas as counts
+use Rattle.time_laws.specs.call_stages.specs.declared.stages.Absorbed.TheVariants as told_as
 
 same_some : {A : Type 0} (x y : A) → Some x ≡ Some y → x ≡ y
 same_some x y h = cc

@@ -1,26 +1,17 @@
 -- Time and references as sums over words.
-use Rattle.time_laws.proofs.Common.{◌≡◌, ℕ, suc, ◌<◌, false, IsTrue, [], ◌∷◌, Option, Some, None, refl, sym, ◌∙◌, ap, subst}
-use Rattle.time_laws.proofs.Common.{false≢true, arith, Setting, IsSetting, EntryAt, Phase, Out, Open, Trace, phase, state_after}
-use Rattle.time_laws.proofs.Common.{last_left, marked_by, Kernel, Tcap, Enter, Living, Undecided, Decided, Leave, ActiveCall, Stage}
-use Rattle.time_laws.proofs.Common.{holds_in, CallIs, KnowsAt, phase_at, Invariant}
-use Rattle.std.specs.Prelude.{pos, ◌+ℤ◌, List, All, if◌then◌else◌}
-use Rattle.time_laws.specs.frame_words.specs.Residue.{residue}
-use Rattle.time_laws.specs.frame_words.specs.declared.count_word.CountWord.{CountWord}
-use Rattle.time_laws.specs.kernel_rules.specs.State.{TcapFields}
-use Rattle.time_laws.specs.kernel_history.specs.Counts.{counters, count_at, count_in, count_sum}
-use Rattle.time_laws.specs.kernel_history.specs.Marks.{count_mark, hold_mark}
-use Rattle.time_laws.specs.kernel_history.specs.Trace.{Decided as decided_phase}
-use Rattle.time_laws.specs.kept_facts.proofs.CountSums.{counter_all}
-use Rattle.time_laws.specs.thread_invariant.proofs.EntryMarks.{holder_below}
-use Rattle.time_laws.specs.flight.specs.Made.{cores_after, IsMade}
-use Rattle.time_laws.specs.flight.proofs.Made.{made_stands}
-use Rattle.time_laws.specs.history_laws.specs.Time.{state_of_decision}
-use Rattle.time_laws.proofs.Time.{time_kept, heads_say}
-use Rattle.time_laws.proofs.MarkedHeads.{open_heads_say}
-use Rattle.time_laws.proofs.OwedHeads.{marked_heads_say}
-use Rattle.time_laws.specs.history_laws.specs.Counts.{has_cleared, count_then, will_show, sum_then}
-use Rattle.time_laws.specs.history_laws.specs.Sums.{HoldsOf, HoldsBy, HeadHolds, TimeSums, IsFrozenBy, FrozenSums}
-use Rattle.flight_laws.proofs.CountsTold.{counts_tell}
+use Rattle.time_laws.specs.step_ways.proofs.{◌≡◌, ℕ, suc, ◌<◌, false, IsTrue, [], ◌∷◌, Option, Some, None, refl, sym, ◌∙◌, ap, subst}
+use Rattle.time_laws.specs.step_ways.proofs.{false≢true, arith, Setting, IsSetting, EntryAt, Phase, Out, Open, Trace, phase, state_after}
+use Rattle.time_laws.specs.step_ways.proofs.{last_left, marked_by, Kernel, Tcap, Enter, Living, Undecided, Decided, Leave, ActiveCall}
+use Rattle.time_laws.specs.step_ways.proofs.{Stage, holds_in, CallIs, KnowsAt, phase_at, Invariant, pos, ◌+ℤ◌, List, All, if◌then◌else◌}
+use Rattle.time_laws.specs.step_ways.proofs.{residue, CountWord, TcapFields, counters, count_at, count_in, count_sum, count_mark, hold_mark}
+use Rattle.time_laws.specs.history_laws.specs.{state_of_decision, has_cleared, TimeSums, FrozenSums}
+use Rattle.time_laws.specs.flight.specs.{cores_after, IsMade}
+use Rattle.time_laws.specs.kernel_history.proofs.{Decided as decided_phase, counter_all}
+use Rattle.time_laws.proofs.{Time.time_kept, Time.heads_say, MarkedHeads.open_heads_say, OwedHeads.marked_heads_say}
+use Rattle.time_laws.specs.history_laws.specs.Counts.{count_then, will_show, sum_then}
+use Rattle.time_laws.specs.history_laws.specs.Sums.{HoldsOf, HoldsBy, HeadHolds, IsFrozenBy}
+use Rattle.{time_laws.specs.thread_invariant.proofs.EntryMarks.holder_below, time_laws.specs.flight.proofs.Made.made_stands}
+use Rattle.{flight_laws.proofs.CountsTold.counts_tell}
 
 -- ---- time
 

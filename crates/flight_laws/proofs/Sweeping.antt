@@ -1,46 +1,30 @@
 -- A call that makes a frame untyped looks at the object in it. What it finds held in the entry of a node refuses it; so a word of the frame
 -- that it reads and goes on from, and that says that something is held, is of no node.
-use Rattle.time_laws.proofs.Common.{◌≡◌, ℕ, ℤ, ◌+◌, nat_le, Bool, true, false, List, [], ◌∷◌, length, slice_get, Option, Some, None, refl}
-use Rattle.time_laws.proofs.Common.{sym, ◌∙◌, ap, subst, eq-eqb, false≢true, Capability, Setting, Call, Retype, Obj, Reply, StageEnd, entry_of_word}
-use Rattle.time_laws.proofs.Common.{frame_of_word, FrameWord, Word, EntryAt, FrameAt, word_of, Frame, Untyped, User, Kernel, Blank}
-use Rattle.time_laws.proofs.Common.{Table, Leaf, Pages, Pleaf, Comp, Thread, Tcap, is_node, frame_value, Trace, Open, phase, state_after}
-use Rattle.time_laws.proofs.Common.{last_left, open_inj, end_of_frames, shown_in, Pin, AtLoad, AtCore, AtFlush, end_by, swept_of, Sweep}
-use Rattle.time_laws.proofs.Common.{SweepAt, Compare, Empty, Swept, dues, took_sweep, release_of, Own, UntypingAt, Untyping}
-use Rattle.time_laws.proofs.Common.{Untype, Due, Work, Lookup, Read, Scan, Acquire, Act, absorbed, absorbed_in, core_after, told_by}
-use Rattle.time_laws.proofs.Common.{told_in}
-use Rattle.time_laws.proofs.Common.{landed, stage_move, Core, ActiveCall, Stage, Enter, Living, Undecided, Decided, Leave, holds_untyping}
-use Rattle.time_laws.proofs.Common.{Holding}
-use Rattle.time_laws.proofs.Common.{holds_counts, settled, settled_by, Invariant, held_by, holds_act, holds_at, holds_in, CallIs, KnowsAt}
-use Rattle.time_laws.proofs.Common.{phase_at, KnowsSweep, KnowsUntypingAt, UntypesBy}
-use Rattle.time_laws.specs.spk_nums.specs.declared.kinds.FrameKind.TheVariants as frame_kind
-use Rattle.time_laws.specs.spk_nums.specs.declared.kinds.Obj.TheVariants as obj
-use Rattle.time_laws.specs.spk_nums.specs.declared.steps.StageEnd.TheVariants as ends
-use Rattle.time_laws.specs.entry_words.specs.declared.entry.Entry.TheVariants as entry
-use Rattle.time_laws.specs.stage_look.specs.Shown.{entry_within, held_if}
-use Rattle.time_laws.specs.stage_pins.specs.Acquire.{pin_after, pin_end}
-use Rattle.time_laws.specs.stage_pins.specs.declared.pin.Pin.TheVariants.{AtCompare as pin_compare}
-use Rattle.time_laws.specs.stage_pins.specs.declared.pin.Pinned.{Pinned}
-use Rattle.time_laws.specs.stage_sweep.specs.Emptiness.{empty_refuses, entry_refuses}
-use Rattle.time_laws.specs.stage_sweep.specs.Freeze.{move_at, refuses_at, sweep_after, sweep_end, sweep_kept, sweep_next}
-use Rattle.time_laws.specs.stage_sweep.specs.Freeze.{sweep_refuses}
-use Rattle.time_laws.specs.stage_sweep.specs.declared.sweep.SweepAt.TheVariants.{Load as sweep_load, Scan as sweep_scan}
-use Rattle.time_laws.specs.act_states.specs.Acts.{acquires, took_untyping_at}
-use Rattle.time_laws.specs.act_states.specs.Untypings.{untyping_at}
+use Rattle.time_laws.specs as low
+use low.step_ways.proofs.{◌≡◌, ℕ, ℤ, ◌+◌, leb as nat_le, Bool, true, false, List, [], ◌∷◌, length, slice_get, Option, Some, None, refl, sym}
+use low.step_ways.proofs.{◌∙◌, ap, subst, eq-eqb, false≢true, Capability, Setting, Call, Retype, Obj, Reply, StageEnd, entry_of_word}
+use low.step_ways.proofs.{frame_of_word, FrameWord, Word, EntryAt, FrameAt, word_of, Frame, Untyped, User, Kernel, Blank, Table, Leaf}
+use low.step_ways.proofs.{Pages, Pleaf, Comp, Thread, Tcap, is_node, frame_value, Trace, Open, phase, state_after, last_left, open_inj}
+use low.step_ways.proofs.{shown_in, Pin, AtCore, AtFlush, end_by, swept_of, Sweep, SweepAt, Empty, Swept, dues, took_sweep, release_of, Own}
+use low.step_ways.proofs.{UntypingAt, Untyping, Untype, Due, Work, Lookup, Read, Scan, Acquire, Act, absorbed, absorbed_in, core_after}
+use low.step_ways.proofs.{told_by, told_in, landed, stage_move, Core, ActiveCall, Stage, Enter, Living, Undecided, Decided, Leave}
+use low.step_ways.proofs.{holds_untyping, Holding, holds_counts, settled, settled_by, Invariant, held_by, holds_act, holds_at, holds_in}
+use low.step_ways.proofs.{CallIs, KnowsAt, phase_at, KnowsSweep, KnowsUntypingAt, UntypesBy, Acquires, move_in, told_of_step, took_at}
+use low.step_ways.proofs.{took_count, FrameKind, Entry, Absorbed}
+use low.act_states.specs.{end_of_frames, AtLoad, Compare, pin_after, pin_end, Pinned, move_at, Load as sweep_load, Scan as sweep_scan}
+use low.act_states.specs.{acquires, took_untyping_at, untyping_at}
+use low.stage_sweep.specs.{empty_refuses, entry_refuses, refuses_at, sweep_after, sweep_end, sweep_kept, sweep_next, sweep_refuses}
+use low.{stage_look.specs.entry_within, stage_look.specs.held_if, stage_pins.specs.declared.pin.Pin.TheVariants.AtCompare as pin_compare}
+use low.{act_states.specs.declared.work.Act.Act as ActOf, core_invariant.proofs.Freezing.release_frame, history_laws.specs.Frames.untypes}
+use low.{history_laws.specs.Frames.asks_untyped}
 use Rattle.time_laws.specs.act_states.specs.declared.untypings.UntypingAt.TheVariants as untype
-use Rattle.time_laws.specs.act_states.specs.declared.work.Act.{Act as ActOf}
-use Rattle.time_laws.specs.act_states.specs.declared.work.WorkStep.TheVariants.{Acquires}
-use Rattle.time_laws.specs.call_stages.specs.Cores.{move_in, told_of_step}
-use Rattle.time_laws.specs.call_stages.specs.Steps.{took_at, took_count}
-use Rattle.time_laws.specs.call_stages.specs.declared.stages.Absorbed.TheVariants as told_as
-use Rattle.time_laws.specs.core_invariant.proofs.Freezing.{release_frame}
-use Rattle.time_laws.specs.history_laws.specs.Frames.{untypes, asks_untyped}
 
 -- Whether an object is a node, and whether a frame's word says so.
 abbrev is_node_object : Obj → Bool
-is_node_object obj.Table = true
-is_node_object obj.Leaf = true
-is_node_object obj.Pages = true
-is_node_object obj.Pleaf = true
+is_node_object Obj.Table = true
+is_node_object Obj.Leaf = true
+is_node_object Obj.Pages = true
+is_node_object Obj.Pleaf = true
 is_node_object _ = false
 
 abbrev is_node_word : Option FrameWord → Bool
@@ -107,7 +91,7 @@ act_is : (act : ActOf) (m : Untyping) → untyping_act act ≡ Some m → act �
 act_is (Untype m) n is = ap (λ x. Untype x) (some_act m n is)
 act_is act n is = absurd (none_some n is)
 
-not_going : (r : Reply) → told_as.Decided r ≡ told_as.Going → ⊥
+not_going : (r : Reply) → Absorbed.Decided r ≡ Absorbed.Going → ⊥
 not_going r h = cc
 
 -- What a core knows that goes on at such an act.
@@ -115,16 +99,16 @@ module _ (own : Own) (a : ActiveCall) (f : ℕ) where
   -- from the act, where the word stays
   from_act : (act : Untyping) (word : ℕ) → act.frame ≡ f → is_node_word (frame_of_word word) ≡ false → (at : UntypingAt)
       → word_found at ≡ Some word → (found : ℕ)
-      → told_by (landed a (took_untyping_at own.layout act at found)) ≡ told_as.Going
+      → told_by (landed a (took_untyping_at own.layout act at found)) ≡ Absorbed.Going
       → IsSwept (core_after own (landed a (took_untyping_at own.layout act at found))).active f
   from_act act word same plain untype.Load is found goes = absurd (none_some word is)
   from_act act word same plain (untype.Mark x v) is found goes = absurd (none_some word is)
   from_act act word same plain (untype.Draw x w) is found goes = absurd (not_going _ goes)
   from_act act word same plain (untype.Sweep x w) is found goes = by (sweep_end own.layout w found) goes
     where
-      by : (e : StageEnd Swept) → told_by (landed a (took_sweep act x (sweep_after own.layout w found) e)) ≡ told_as.Going
+      by : (e : StageEnd Swept) → told_by (landed a (took_sweep act x (sweep_after own.layout w found) e)) ≡ Absorbed.Going
           → IsSwept (core_after own (landed a (took_sweep act x (sweep_after own.layout w found) e))).active f
-      by ends.Going goes = record {
+      by StageEnd.Going goes = record {
         act = record act { at = untype.Sweep x (sweep_after own.layout w found) };
         at = refl;
         frame = same;
@@ -132,9 +116,9 @@ module _ (own : Own) (a : ActiveCall) (f : ℕ) where
         found = is;
         plain = plain;
       }
-      by (ends.Decided r) goes = absurd (not_going _ goes)
-      by (ends.Refuse r) goes = absurd (not_going _ goes)
-      by (ends.Done swept) goes = by_due (slice_get (dues (Untype drawing)) 0)
+      by (StageEnd.Decided r) goes = absurd (not_going _ goes)
+      by (StageEnd.Refuse r) goes = absurd (not_going _ goes)
+      by (StageEnd.Done swept) goes = by_due (slice_get (dues (Untype drawing)) 0)
         where
           drawing : Untyping
           drawing = record act { at = untype.Draw x swept }
@@ -147,13 +131,13 @@ module _ (own : Own) (a : ActiveCall) (f : ℕ) where
   -- from the acquiring of a count
   from_count : (core n : ℕ) (change : ℤ) (act : Untyping) (word : ℕ) → act.frame ≡ f → is_node_word (frame_of_word word) ≡ false
       → word_found act.at ≡ Some word → (pin : Pin) (e : StageEnd Pinned)
-      → told_by (landed a (took_count core n change (Untype act) pin e)) ≡ told_as.Going
+      → told_by (landed a (took_count core n change (Untype act) pin e)) ≡ Absorbed.Going
       → IsSwept (core_after own (landed a (took_count core n change (Untype act) pin e))).active f
-  from_count core n change act word same plain is pin ends.Going goes =
+  from_count core n change act word same plain is pin StageEnd.Going goes =
       record { act = act; at = refl; frame = same; word = word; found = is; plain = plain }
-  from_count core n change act word same plain is pin (ends.Decided r) goes = absurd (not_going _ goes)
-  from_count core n change act word same plain is pin (ends.Refuse r) goes = absurd (not_going _ goes)
-  from_count core n change act word same plain is pin (ends.Done p) goes = by (slice_get (dues (Untype act)) (n + 1))
+  from_count core n change act word same plain is pin (StageEnd.Decided r) goes = absurd (not_going _ goes)
+  from_count core n change act word same plain is pin (StageEnd.Refuse r) goes = absurd (not_going _ goes)
+  from_count core n change act word same plain is pin (StageEnd.Done p) goes = by (slice_get (dues (Untype act)) (n + 1))
     where
       by : (o : Option Due) → IsSwept (core_after own (landed a
           (Acquires (record { pin = p; change = change })
@@ -163,22 +147,22 @@ module _ (own : Own) (a : ActiveCall) (f : ℕ) where
 
   by_work : (work : Work) (m : Untyping) → untyping_in work ≡ Some m → (word : ℕ) → m.frame ≡ f → word_found m.at ≡ Some word
       → is_node_word (frame_of_word word) ≡ false → (found : ℕ)
-      → told_by (took_at own a (Undecided work) found) ≡ told_as.Going
+      → told_by (took_at own a (Undecided work) found) ≡ Absorbed.Going
       → IsSwept (core_after own (took_at own a (Undecided work) found)).active f
   by_work (Lookup look) m is word same shown plain found goes = absurd (none_some m is)
   by_work (Read comp look) m is word same shown plain found goes = absurd (none_some m is)
   by_work (Scan q act) m is word same shown plain found goes = absurd (none_some m is)
   by_work (Acquire pin change act) m is word same shown plain found goes =
-      subst (λ x. told_by (took_at own a (Undecided (Acquire pin change x)) found) ≡ told_as.Going
+      subst (λ x. told_by (took_at own a (Undecided (Acquire pin change x)) found) ≡ Absorbed.Going
       → IsSwept (core_after own (took_at own a (Undecided (Acquire pin change x)) found)).active f) (sym (act_is act m is))
       (from_count own.core (length a.counts) change m word same plain shown (pin_after pin found) (pin_end pin found)) goes
   by_work (Act act) m is word same shown plain found goes =
-      subst (λ x. told_by (took_at own a (Undecided (Act x)) found) ≡ told_as.Going
+      subst (λ x. told_by (took_at own a (Undecided (Act x)) found) ≡ Absorbed.Going
       → IsSwept (core_after own (took_at own a (Undecided (Act x)) found)).active f) (sym (act_is act m is))
       (from_act m word same plain m.at shown found) goes
 
   by_stage : (stage : Stage) (m : Untyping) → untyping_of stage ≡ Some m → (word : ℕ) → m.frame ≡ f → word_found m.at ≡ Some word
-      → is_node_word (frame_of_word word) ≡ false → (found : ℕ) → told_by (took_at own a stage found) ≡ told_as.Going
+      → is_node_word (frame_of_word word) ≡ false → (found : ℕ) → told_by (took_at own a stage found) ≡ Absorbed.Going
       → IsSwept (core_after own (took_at own a stage found)).active f
   by_stage Enter m is word same shown plain found goes = absurd (none_some m is)
   by_stage (Living alive) m is word same shown plain found goes = absurd (none_some m is)
@@ -187,18 +171,18 @@ module _ (own : Own) (a : ActiveCall) (f : ℕ) where
   by_stage (Leave r x) m is word same shown plain found goes = absurd (none_some m is)
 
 -- It stays so while the call goes on.
-swept_in_on : (own : Own) (o : Option ActiveCall) (f found : ℕ) → IsSwept o f → told_in own o found ≡ told_as.Going
+swept_in_on : (own : Own) (o : Option ActiveCall) (f found : ℕ) → IsSwept o f → told_in own o found ≡ Absorbed.Going
     → IsSwept (absorbed_in own o found).active f
 swept_in_on own None f found has goes = absurd has
 swept_in_on own (Some a) f found has goes =
     by_stage own a f a.stage has.act has.at has.word has.frame has.found has.plain found goes
 
-pub swept_on : (core : Core) (f found : ℕ) → IsSwept core.active f → told_of_step core found ≡ told_as.Going
+pub swept_on : (core : Core) (f found : ℕ) → IsSwept core.active f → told_of_step core found ≡ Absorbed.Going
     → IsSwept (absorbed core found).active f
 swept_on core f found has goes = swept_in_on core.own core.active f found has goes
 
 -- A word of a node's entry which says that something is held refuses the call.
-refuses_held : (frames : ℕ) (o : Obj) (at found : ℕ) (k : Capability) → entry_of_word found ≡ Some (entry.Held k)
+refuses_held : (frames : ℕ) (o : Obj) (at found : ℕ) (k : Capability) → entry_of_word found ≡ Some (Entry.Held k)
     → is_node_object o ≡ true → empty_refuses frames o at found ≡ None → ⊥
 refuses_held frames o at found k held node none = by o node none
   where
@@ -211,19 +195,19 @@ refuses_held frames o at found k held node none = by o node none
         by_within false h = cc
 
     by : (o : Obj) → is_node_object o ≡ true → empty_refuses frames o at found ≡ None → ⊥
-    by obj.Table node none = shown none
-    by obj.Leaf node none = shown none
-    by obj.Pages node none = shown none
-    by obj.Pleaf node none = shown none
+    by Obj.Table node none = shown none
+    by Obj.Leaf node none = shown none
+    by Obj.Pages node none = shown none
+    by Obj.Pleaf node none = shown none
     by _ node none = absurd (false≢true node)
 
 -- A load of an entry by which a call looks at an object, and goes on, though it has found there that something is held: the frame is no
 -- node.
 module _ (setup : Setting) (t : Trace) (c : ℕ) (own : Own) (a : ActiveCall) (m : Untyping) (f i found : ℕ) (k : Capability)
-    (held : entry_of_word found ≡ Some (entry.Held k)) where
+    (held : entry_of_word found ≡ Some (Entry.Held k)) where
   -- what it leads to
   abbrev Leads : UntypingAt → Type 0
-  Leads at = told_by (landed a (took_untyping_at own.layout m at found)) ≡ told_as.Going
+  Leads at = told_by (landed a (took_untyping_at own.layout m at found)) ≡ Absorbed.Going
       → IsSwept (core_after own (landed a (took_untyping_at own.layout m at found))).active f
 
   same_frame : (g j : ℕ) → EntryAt g j ≡ EntryAt f i → g ≡ f
@@ -238,7 +222,7 @@ module _ (setup : Setting) (t : Trace) (c : ℕ) (own : Own) (a : ActiveCall) (m
           (ap (λ x. refuses_at own.layout w.word.object (sweep_kept w found) x found) (sym at_is) ∙ none)
       refused (Some r) some node = not_going _ (subst
           (λ o. told_by (landed a (took_sweep m word (sweep_after own.layout w found)
-          (end_by o (sweep_next own.layout w found) (swept_of (sweep_after own.layout w found))))) ≡ told_as.Going) some goes)
+          (end_by o (sweep_next own.layout w found) (swept_of (sweep_after own.layout w found))))) ≡ Absorbed.Going) some goes)
 
       by : (b : Bool) → is_node_object w.word.object ≡ b
           → IsSwept (core_after own (landed a (took_untyping_at own.layout m (untype.Sweep word w) found))).active f
@@ -318,9 +302,9 @@ untyping_now None = None
 untyping_now (Some a) = untyping_of a.stage
 
 untypes_true : (call : Call) (ks : List Capability) (m : Untyping) → UntypesBy call ks m → untypes call ≡ true
-untypes_true (Retype r f frame_kind.Untyped) (range ∷ []) m is = refl
-untypes_true (Retype r f frame_kind.Untyped) [] m is = absurd is
-untypes_true (Retype r f frame_kind.Untyped) (range ∷ k ∷ ks) m is = absurd is
+untypes_true (Retype r f FrameKind.Untyped) (range ∷ []) m is = refl
+untypes_true (Retype r f FrameKind.Untyped) [] m is = absurd is
+untypes_true (Retype r f FrameKind.Untyped) (range ∷ k ∷ ks) m is = absurd is
 untypes_true call ks m is = absurd is
 
 -- Such a core steps on an entry only where its call looks at the object: the call makes a frame untyped, and an entry that it goes on from,
@@ -354,9 +338,9 @@ module _ (setup : Setting) (t : Trace) (c table : ℕ) (own : Own) (call : Call)
   frame_there g j h = cc
 
   untypes_asked : (asked : Call) (ks : List Capability) (m : Untyping) → UntypesBy asked ks m → m.frame ≡ f → asks_untyped asked f ≡ true
-  untypes_asked (Retype r g frame_kind.Untyped) (range ∷ []) m is same = eq-eqb f g (sym same ∙ is.frame)
-  untypes_asked (Retype r g frame_kind.Untyped) [] m is same = absurd is
-  untypes_asked (Retype r g frame_kind.Untyped) (range ∷ k ∷ ks) m is same = absurd is
+  untypes_asked (Retype r g FrameKind.Untyped) (range ∷ []) m is same = eq-eqb f g (sym same ∙ is.frame)
+  untypes_asked (Retype r g FrameKind.Untyped) [] m is same = absurd is
+  untypes_asked (Retype r g FrameKind.Untyped) (range ∷ k ∷ ks) m is same = absurd is
   untypes_asked asked ks m is same = absurd is
 
   at_frame : (m : Untyping) (at : UntypingAt) → KnowsUntypingAt setup t c m.frame at → word_of (untyping_at m.frame m.core at) ≡ EntryAt f i
@@ -396,7 +380,7 @@ module _ (setup : Setting) (t : Trace) (c table : ℕ) (own : Own) (call : Call)
 
   stage_swept : (a : ActiveCall) (m : Untyping) (stage : Stage) → KnowsAt setup t c table a stage
       → word_of (stage_move own a.counts stage) ≡ EntryAt f i → untyping_of stage ≡ Some m → (found : ℕ) (k : Capability)
-      → entry_of_word found ≡ Some (entry.Held k) → told_by (took_at own a stage found) ≡ told_as.Going
+      → entry_of_word found ≡ Some (Entry.Held k) → told_by (took_at own a stage found) ≡ Absorbed.Going
       → IsSwept (core_after own (took_at own a stage found)).active f
   stage_swept a m Enter has on is found k held goes = absurd (none_some m is)
   stage_swept a m (Living alive) has on is found k held goes = absurd (none_some m is)
@@ -412,7 +396,7 @@ module _ (setup : Setting) (t : Trace) (c table : ℕ) (own : Own) (call : Call)
   stage_swept a m (Undecided (Act act)) has on is found k held goes = absurd (none_some m is)
 
   pub looks_swept : (o : Option ActiveCall) → CallIs setup t c table o → word_of (move_in own o) ≡ EntryAt f i → (m : Untyping)
-      → untyping_now o ≡ Some m → (found : ℕ) (k : Capability) → entry_of_word found ≡ Some (entry.Held k)
-      → told_in own o found ≡ told_as.Going → IsSwept (absorbed_in own o found).active f
+      → untyping_now o ≡ Some m → (found : ℕ) (k : Capability) → entry_of_word found ≡ Some (Entry.Held k)
+      → told_in own o found ≡ Absorbed.Going → IsSwept (absorbed_in own o found).active f
   looks_swept None has on m is found k held goes = absurd (none_some m is)
   looks_swept (Some a) has on m is found k held goes = stage_swept a m a.stage has.knows on is found k held goes

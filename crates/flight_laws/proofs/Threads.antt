@@ -1,16 +1,13 @@
 -- No thread is the current one of two cores, and what the words of threads show is so.
-use Rattle.time_laws.proofs.Common.{◌≡◌, ◌<◌, ℕ, length, Bool, true, false, Option, Some, None, IsTrue, refl, sym, ◌∙◌, ap, subst, Setting}
-use Rattle.time_laws.proofs.Common.{IsSetting, thread_of_word, ThreadWord, Idle, Running, Claimed, EntryAt, State, thread_in, fits}
-use Rattle.time_laws.proofs.Common.{marked_by, thread_mark, Trace, state_after, last_left, Core, holds, Invariant, runs_on_own}
-use Rattle.time_laws.proofs.Common.{marker_inside, limits_of, state_is, run_of, events_of}
-use Rattle.time_laws.specs.spk_nums.specs.declared.kinds.Kind.TheVariants as kind
-use Rattle.time_laws.specs.state_laws.proofs.Threads.{threads_run}
-use Rattle.time_laws.specs.switch_invariant.proofs.ThreadWords.{first_mark, none_some, same_some, same_value}
-use Rattle.time_laws.specs.switch_invariant.proofs.Words.{ShowsRun, shows}
-use Rattle.time_laws.specs.thread_invariant.proofs.EntryMarks.{thread_unmarked}
-use Rattle.time_laws.specs.flight.specs.Made.{cores_after, IsMade}
-use Rattle.time_laws.specs.history_laws.specs.Threads.{IsShown, ThreadsRunApart, ThreadWordsSay}
-use Rattle.time_laws.specs.flight.proofs.Made.{made_stands}
+use Rattle.time_laws.specs as low
+use low.step_ways.proofs.{◌≡◌, ◌<◌, ℕ, length, Bool, true, false, Option, Some, None, IsTrue, refl, sym, ◌∙◌, ap, subst, Setting, IsSetting}
+use low.step_ways.proofs.{thread_of_word, Idle, Running, EntryAt, State, thread_in, fits, marked_by, thread_mark, Trace, state_after}
+use low.step_ways.proofs.{last_left, Core, holds, Invariant, runs_on_own, marker_inside, limits_of, state_is, run_of, events_of, Kind}
+use low.switch_invariant.proofs.ThreadWords.{first_mark, none_some, same_some, same_value}
+use low.history_laws.specs.Threads.{IsShown, ThreadsRunApart, ThreadWordsSay}
+use low.{flight.specs.cores_after, flight.specs.IsMade, kernel_history.specs.ThreadWord, kernel_history.specs.Claimed}
+use low.{state_laws.proofs.Threads.threads_run, switch_invariant.proofs.Words.ShowsRun, switch_invariant.proofs.Words.shows}
+use low.{thread_invariant.proofs.EntryMarks.thread_unmarked, flight.proofs.Made.made_stands}
 
 pub threads_apart : (setup : Setting) → IsSetting setup → (t : Trace) → IsMade setup t → ThreadsRunApart setup t
 threads_apart setup setting t made c d c_below d_below same =
@@ -20,7 +17,7 @@ threads_apart setup setting t made c d c_below d_below same =
     ∙ runs_on_own setup setting (cores_after setup t) t stands d d_below)
 
 module _ (setup : Setting) (setting : IsSetting setup) (cores : ℕ → Core) (t : Trace) (stands : Invariant setup cores t) (f : ℕ)
-    (thread : IsTrue (fits kind.Thread ((state_after setup t).frame f))) where
+    (thread : IsTrue (fits Kind.Thread ((state_after setup t).frame f))) where
   abbrev s : State
   s = state_after setup t
 

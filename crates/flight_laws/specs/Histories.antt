@@ -1,28 +1,13 @@
 -- What each command that makes atomic steps, and each seat of a kernel, has of its trace: all that holds of a machine's history.
-use Rattle.time_laws.specs.spk_nums.specs.Setting.{Setting, IsSetting}
-use Rattle.time_laws.specs.kernel_history.specs.Trace.{Trace}
-use Rattle.time_laws.specs.kernel_history.specs.Legal.{IsLegal}
-use Rattle.time_laws.specs.kernel_history.specs.Bounds.{KeepsBounds}
-use Rattle.time_laws.specs.kernel_history.specs.Discipline.{KeepsDiscipline}
-use Rattle.time_laws.specs.kernel_history.specs.Footprint.{KeepsFootprints}
-use Rattle.time_laws.specs.kernel_history.specs.Alone.{KeepsFirst}
-use Rattle.time_laws.specs.kernel_history.specs.Moments.{WordsSayAlong}
-use Rattle.time_laws.specs.flight.specs.Made.{IsMade, ready_after}
-use Rattle.time_laws.specs.history_laws.specs.Moments.{AtEachMoment, AtEachStep, OfEachStretch}
-use Rattle.time_laws.specs.history_laws.specs.Places.{PlacesFound, ScannedCores}
-use Rattle.time_laws.specs.history_laws.specs.Frames.{LookedNodesStay, ReadNodesStay, CountedFramesStay, UntypedFramesAreUnused}
-use Rattle.time_laws.specs.history_laws.specs.Counts.{CountsTell, FrozenSay}
-use Rattle.time_laws.specs.history_laws.specs.Sums.{FrozenSums, TimeSums}
-use Rattle.time_laws.specs.history_laws.specs.Stamps.{StampsTell}
-use Rattle.time_laws.specs.history_laws.specs.Ready.{ReadyDecides, UnreadyRefuses}
-use Rattle.time_laws.specs.history_laws.specs.Pages.{CachedFramesStay, CachedTillFlush, TouchesCache}
-use Rattle.time_laws.specs.history_laws.specs.Lives.{DeadForGood, KilledStop}
-use Rattle.time_laws.specs.history_laws.specs.Invocations.{EntersTheLiving, EntersNoneKilled}
-use Rattle.time_laws.specs.history_laws.specs.Threads.{ThreadsRunApart, ThreadWordsSay}
-use Rattle.isolation_laws.specs.Authority.{HasAuthority}
-use Rattle.isolation_laws.specs.Worlds.{SparesWorlds, EntersWorlds, WorldsStay}
-use Rattle.time_laws.specs.history_laws.specs.Time.{TimeIsKept, TicksAreCounted, BackIsCounted, HeadsSay, OpenHeadsSay, MarkedHeadsSay}
-use Rattle.time_laws.specs.history_laws.specs.Time.{ListsSay, TestsTell}
+use Rattle.time_laws.specs.history_laws.specs as low
+use low.{AtEachMoment, AtEachStep, OfEachStretch, PlacesFound, ScannedCores, LookedNodesStay, ReadNodesStay, CountedFramesStay}
+use low.{UntypedFramesAreUnused, CountsTell, FrozenSay, FrozenSums, TimeSums, StampsTell, ReadyDecides, UnreadyRefuses, TouchesCache}
+use low.{DeadForGood, KilledStop, EntersTheLiving, EntersNoneKilled, ThreadWordsSay, TicksAreCounted, BackIsCounted, HeadsSay, OpenHeadsSay}
+use Rattle.time_laws.specs.kernel_history.specs.{Setting, IsSetting, IsLegal, KeepsBounds, KeepsDiscipline, KeepsFootprints, KeepsFirst}
+use low.{MarkedHeadsSay, ListsSay, TestsTell, Pages.CachedFramesStay, Pages.CachedTillFlush, Threads.ThreadsRunApart, Time.TimeIsKept}
+use Rattle.{time_laws.specs.flight.specs.IsMade, time_laws.specs.flight.specs.ready_after, time_laws.specs.kernel_history.specs.Trace.Trace}
+use Rattle.{time_laws.specs.kernel_history.specs.Moments.WordsSayAlong, isolation_laws.specs.Authority.HasAuthority}
+use Rattle.{isolation_laws.specs.Worlds.SparesWorlds, isolation_laws.specs.Worlds.EntersWorlds, isolation_laws.specs.Worlds.WorldsStay}
 
 -- The trace is the machine's, and is a legal history: its replies are those of the sequential kernel, each at a step of its call,
 -- and justified. Its calls keep within their bounds of steps, each step keeps the discipline of words and is in the footprint of its

@@ -8,3 +8,5 @@ pub use Rattle.time_laws
 pub use Rattle.isolation_laws
 -- Its own: the record that has the laws.
 pub mod Histories
+-- The names that are used most outside of this library.
+pub use Rattle.flight_laws.specs.Histories.{IsHistory, MadeHistories}

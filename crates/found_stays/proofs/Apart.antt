@@ -1,21 +1,13 @@
 -- What a change by core d leaves to the other cores in opened calls: each part of a change.
-use Rattle.std.proofs.Common.{◌≡◌, ◌≢◌, ◌⊎◌, inl, inr, ℕ, ◌<◌, Bool, true, false, ◌&&◌, ◌||◌, cond}
-use Rattle.std.proofs.Common.{refl, sym, ◌∙◌, ap, subst, ◌==◌, IsTrue, List, ◌∷◌, Some, None}
-use Rattle.std.proofs.lemmas.Bool.{cases_eq, false≢true, true≢false, eq-eqb, ne_eqb, eqb-true, or_from, or_left, and_parts}
-use Rattle.std.specs.List.{list_any}
-use Rattle.spk_nums.specs.Capability.{Capability}
-use Rattle.kernel_rules.specs.State.{Place, Free, Holds, Quiescing, Table, Leaf, Pages, Pleaf, Frame, Kernel, Liveness, Live, Dead, Core}
-use Rattle.kernel_rules.specs.State.{Grace, Thing, PlaceOf, FrameOf, NumberOf, State, put, with_place, with_frame, with_number, with_core}
-use Rattle.kernel_rules.specs.Start.{no_grace}
-use Rattle.kernel_rules.specs.References.{place_names}
-use Rattle.kernel_rules.specs.GracePeriods.{same_thing, new_grace, begun, flushed}
-use Rattle.kernel_rules.specs.Access.{usable_in}
-use Rattle.kernel_rules.specs.Life.{is_live_in, is_dead_in}
-use Rattle.kernel_rules.specs.Edits.{frames_of, cleared}
-use Rattle.kernel_rules.proofs.Within.{put_same, put_other}
-use Rattle.kernel_rules.specs.Relies.{is_node, is_fixed}
-use Rattle.kernel_invariant.proofs.SoundRemovals.{frames_no_place}
-use Rattle.kernel_invariant.proofs.Facts.{some_inj, none_some}
+use Rattle.kernel_invariant.specs.kernel_rules.proofs as low
+use low.{◌≡◌, ◌≢◌, ◌⊎◌, inl, inr, ℕ, ◌<◌, Bool, true, false, ◌&&◌, ◌||◌, cond, refl, sym, ◌∙◌, ap, subst, ◌==◌, IsTrue, List, ◌∷◌, Some}
+use low.{None, false≢true, true≢false, eq-eqb, ne_eqb, eqb-true, or_left, Capability, Place, Free, Holds, Quiescing, Table, Leaf, Pages}
+use low.{Pleaf, Frame, Kernel, Liveness, Live, Dead, Core, Grace, Thing, PlaceOf, FrameOf, NumberOf, put, with_place, with_frame}
+use low.{with_number, with_core, no_grace, place_names, same_thing, new_grace, begun, flushed, usable_in, is_live_in, is_dead_in, frames_of}
+use low.{cleared, put_same, put_other, is_node, is_fixed}
+use Rattle.std.proofs.lemmas.Bool.{cases_eq, or_from, and_parts}
+use Rattle.kernel_invariant.proofs.{frames_no_place, some_inj, none_some}
+use Rattle.{std.specs.List.list_any, kernel_invariant.specs.kernel_rules.specs.State.State}
 
 -- Whether core c may act in a component of this liveness number and epoch.
 abbrev pub acts_in : State → ℕ → ℕ → ℕ → Bool

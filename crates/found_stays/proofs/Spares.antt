@@ -1,55 +1,26 @@
 -- Each call that is carried out spares what the other cores in calls rely on.
-use Rattle.std.proofs.Common.{◌≡◌, ◌≢◌, inl, inr, ℕ, ◌<◌, Bool, true, false, not, refl, sym, ◌∙◌, ap, subst, ◌==◌, cond, ◌&&◌, ◌||◌}
-use Rattle.std.proofs.Common.{nat_lt, if◌then◌else◌, ◌+◌, ◌-◌, ◌≤◌, arith, IsTrue, List, [], ◌∷◌, take, Option, Some, None}
-use Rattle.std.proofs.lemmas.Bool.{cases_eq, false≢true, ne_eqb, eqb-true}
-use Rattle.std.specs.List.{list_any}
-use Rattle.spk_nums.specs.Capability.{Capability, cap_of}
-use Rattle.spk_nums.specs.Rights.{kept, part_of}
-use Rattle.spk_nums.specs.declared.kinds.Kind.{Kind}
-use Rattle.spk_nums.specs.declared.kinds.Kind.TheVariants as kind
-use Rattle.spk_nums.specs.declared.kinds.FrameKind.{FrameKind}
-use Rattle.spk_nums.specs.declared.kinds.FrameKind.TheVariants as frame_kind
-use Rattle.spk_nums.specs.declared.calls.Make.{Make}
-use Rattle.spk_nums.specs.declared.calls.Make.TheVariants as make
-use Rattle.spk_nums.specs.declared.calls.Call.{Call}
-use Rattle.spk_nums.specs.declared.calls.Call.TheVariants.{Look, Copy, Remove as remove_call, Grow, Shrink, Retype, Make as make_call}
-use Rattle.spk_nums.specs.declared.calls.Call.TheVariants.{Map, Unmap, Touch, Flush, Gate, Kill, Call as call_gate}
-use Rattle.spk_nums.specs.declared.calls.Call.TheVariants.{Ret, Switch, Tick, Transfer, Delegate, Test, Part, Replenish}
-use Rattle.spk_nums.specs.declared.translations.Translation.{Translation}
-use Rattle.spk_nums.specs.declared.replies.Value.TheVariants.{Nothing}
-use Rattle.spk_nums.specs.declared.replies.Reply.{Reply}
-use Rattle.spk_nums.specs.declared.replies.Reply.TheVariants as reply
-use Rattle.kernel_rules.specs.State.{Place, Free, Holds, Quiescing, CompFields, ThreadFields, TcapFields, Object, Blank, Table, Leaf}
-use Rattle.kernel_rules.specs.State.{Pages, Pleaf, Comp, Thread, Tcap, Frame, Untyped, User, Kernel, Core, Thing, PlaceOf, FrameOf}
-use Rattle.kernel_rules.specs.State.{NumberOf, Liveness, Unused}
-use Rattle.kernel_rules.specs.State.{State, put, with_frame, with_core, with_number, Live, Dead, comp_of, comp_in, thread_in, thread_of}
-use Rattle.kernel_rules.specs.Start.{plain_cap, no_grace}
-use Rattle.kernel_rules.specs.References.{refs, times, frame_names, number_names, core_names}
-use Rattle.kernel_rules.specs.Access.{Slot, found, Target, Under, InRoot, place_at, usable_in, reached}
-use Rattle.kernel_rules.specs.GracePeriods.{same_thing, new_grace, begun, flushed}
-use Rattle.kernel_rules.specs.Life.{is_live_in, is_dead_in}
-use Rattle.kernel_rules.specs.Rules.{Change, does, Cause, When, WaitedFor, Unflushed, Found, named, vacant, held, unless}
-use Rattle.kernel_rules.specs.Rules.{not_vacant, first_cause, refusal_of, waits_of, flushes_of}
-use Rattle.kernel_rules.specs.Edits.{frames_of, cleared, with_thread, with_stack, running, switched, Fill, Remove, Node, Become, Untype}
-use Rattle.kernel_rules.specs.CapabilityCalls.{is_live, not_blank, outside, epoch_of, make_node, make_rule, not_taken}
-use Rattle.kernel_rules.specs.Edits.{Component, Deaden, Push, Pop, Switch as switch_edit, edited, after_edits, begins_in, with_tcap}
-use Rattle.kernel_rules.specs.MemoryCalls.{is_untyped_now, is_empty, not_retyped, retype_rule, touch_by, translation_of}
-use Rattle.kernel_rules.specs.InvocationCalls.{not_live, switch_to}
-use Rattle.kernel_rules.specs.Edits.{with_budget, with_qualities, tcap_at, moved}
-use Rattle.kernel_rules.specs.TimeCalls.{merged_list}
-use Rattle.kernel_rules.specs.CallRelation.{rule_of}
-use Rattle.kernel_rules.specs.Fitting.{fits}
-use Rattle.kernel_rules.proofs.Within.{put_same, put_other}
-use Rattle.kernel_rules.specs.Relies.{is_node, is_fixed, IsGuarded}
-use Rattle.kernel_invariant.proofs.Sound.{put_all}
-use Rattle.kernel_invariant.proofs.SoundRemovals.{frames_no_place, unnamed, none_waits, none_waiting}
-use Rattle.kernel_invariant.proofs.SoundCalls.{IsOpen, blank_by, untyped_by, zero_refs}
-use Rattle.kernel_invariant.proofs.Sums.{times_first}
-use Rattle.kernel_invariant.proofs.Facts.{ChangesFrom, named_fit, held_facts, then_parts, found_inj}
-use Rattle.kernel_invariant.proofs.Facts.{some_inj, some_none, refused_found, none_parts, when_not, not_not}
-use Rattle.found_stays.proofs.Apart.{acts_in, acts_more, kill_apart}
-use Rattle.found_stays.proofs.Apart.{IsApart, apart_same, apart_then, fill_apart, remove_apart, begin_apart}
+use Rattle.kernel_invariant.specs.kernel_rules.proofs as low
+use low.{◌≡◌, ◌≢◌, inl, inr, ℕ, ◌<◌, Bool, true, false, not, refl, sym, ◌∙◌, ap, subst, ◌==◌, cond, ◌&&◌, ◌||◌, ltb as nat_lt}
+use low.{if◌then◌else◌, ◌+◌, ◌-◌, ◌≤◌, arith, IsTrue, List, [], ◌∷◌, take, Option, Some, None, false≢true, ne_eqb, eqb-true, Capability}
+use low.{cap_of, kept, part_of, Kind, FrameKind, Make, Call, Look, Copy, Remove as remove_call, Grow, Shrink, Retype, Map, Unmap, Touch}
+use low.{Flush, Gate, Kill, Ret, Switch, Tick, Transfer, Delegate, Test, Part, Replenish, Translation, Nothing, Reply, Place, Free, Holds}
+use low.{Quiescing, CompFields, ThreadFields, TcapFields, Object, Blank, Table, Leaf, Pages, Pleaf, Comp, Thread, Tcap, Frame, Untyped}
+use low.{User, Kernel, Core, Thing, PlaceOf, FrameOf, NumberOf, Liveness, Unused, put, with_frame, with_core, with_number, Live, Dead}
+use low.{comp_of, comp_in, thread_in, thread_of, plain_cap, no_grace, refs, times, frame_names, number_names, core_names, Slot, found}
+use low.{Target, Under, InRoot, place_at, usable_in, reached, same_thing, new_grace, begun, flushed, is_live_in, is_dead_in, Change, does}
+use low.{Cause, When, WaitedFor, Unflushed, Found, named, vacant, held, unless, not_vacant, first_cause, refusal_of, waits_of, flushes_of}
+use low.{frames_of, cleared, with_thread, with_stack, running, switched, Fill, Node, Become, Untype, is_live, not_blank, outside, epoch_of}
+use low.{make_node, make_rule, not_taken, Component, Deaden, Push, Pop, edited, after_edits, with_tcap, is_untyped_now, is_empty}
+use low.{not_retyped, retype_rule, touch_by, translation_of, not_live, switch_to, with_budget, with_qualities, tcap_at, moved, merged_list}
+use low.{rule_of, fits, put_same, put_other, is_node, is_fixed, IsGuarded}
+use Rattle.kernel_invariant.proofs.{put_all, frames_no_place, unnamed, IsOpen, blank_by, untyped_by, times_first, ChangesFrom, named_fit}
+use Rattle.kernel_invariant.proofs.{held_facts, then_parts, some_inj, some_none, none_parts, when_not, not_not}
+use Rattle.kernel_invariant.specs.spk_nums.specs.declared.calls.Call.TheVariants.{Make as make_call, Call as call_gate}
+use Rattle.kernel_invariant.specs.kernel_rules.specs.{State.State, Edits.Remove, Edits.Switch as switch_edit, Edits.begins_in}
+use Rattle.kernel_invariant.proofs.{SoundRemovals.none_waits, SoundRemovals.none_waiting, SoundCalls.zero_refs, Facts.found_inj}
+use Rattle.found_stays.proofs.Apart.{acts_in, acts_more, kill_apart, IsApart, apart_same, apart_then, fill_apart, remove_apart, begin_apart}
 use Rattle.found_stays.proofs.Apart.{frame_apart, core_apart, number_apart, clear_apart, flush_apart, frame_waits}
+use Rattle.{std.proofs.lemmas.Bool.cases_eq, std.specs.List.list_any, kernel_invariant.proofs.Facts.refused_found}
 
 -- The current thread of a core runs on it.
 abbrev pub RunsOn : State → ℕ → Type 0
@@ -114,7 +85,7 @@ module _ (s : State) (o : ℕ → Bool) (d : ℕ) (h : HasTurn s o d) where
   pub vacant_none : (target : Target) (at : Slot) → vacant s d target ≡ Found at
       → (c : ℕ) → c ≢ d → o c ≡ true → usable_in (s.place at.node at.index) ((s.grace (PlaceOf at.node at.index)).waits c) ≡ None
   vacant_none target at e c other q =
-      let a = then_parts (Rattle.kernel_rules.specs.Rules.or_refuse (reached s d target) reply.NoSlot)
+      let a = then_parts (Rattle.kernel_invariant.specs.kernel_rules.specs.Rules.or_refuse (reached s d target) Reply.NoSlot)
       (λ at. unless (not_vacant s d (PlaceOf at.node at.index) (place_at s at)) at) at e in
       let u : (not_vacant s d (PlaceOf a.0.node a.0.index) (place_at s a.0) ≡ None) × (a.0 ≡ at) =
       unless_parts (not_vacant s d (PlaceOf a.0.node a.0.index) (place_at s a.0)) a.0 a.2 in
@@ -127,7 +98,7 @@ module _ (s : State) (o : ℕ → Bool) (d : ℕ) (h : HasTurn s o d) where
 
       by_place : (x : Thing) (p : Place) → not_vacant s d x p ≡ None → usable_in p ((s.grace x).waits c) ≡ None
       by_place x Free n = refl
-      by_place x (Holds k) n = absurd (some_none reply.Occupied n)
+      by_place x (Holds k) n = absurd (some_none Reply.Occupied n)
       by_place x (Quiescing k) n = ap (usable_in (Quiescing k))
           (none_waiting s d x (none_parts (waits_of s d x) (flushes_of s x) n).0 c (h.inside c q).1 other)
 
@@ -142,13 +113,13 @@ module _ (s : State) (o : ℕ → Bool) (d : ℕ) (h : HasTurn s o d) where
       (remove_apart s o d at.node at.index k inside (held_facts s d target at k e).1) own_runs
 
   -- the thread of another core is a thread
-  thread_away : (f : ℕ) → fits kind.Thread (s.frame f) ≡ false → (c : ℕ) → c ≢ d → c < s.limits.cores → (s.core c).thread ≢ f
+  thread_away : (f : ℕ) → fits Kind.Thread (s.frame f) ≡ false → (c : ℕ) → c ≢ d → c < s.limits.cores → (s.core c).thread ≢ f
   thread_away f apart c other below same =
-      false≢true (sym apart ∙ ap (λ n. fits kind.Thread (s.frame n)) (sym same) ∙ (h.opens.sound.cores c below).0)
+      false≢true (sym apart ∙ ap (λ n. fits Kind.Thread (s.frame n)) (sym same) ∙ (h.opens.sound.cores c below).0)
 
-  own_away : (f : ℕ) → fits kind.Thread (s.frame f) ≡ false → (s.core d).thread ≢ f
+  own_away : (f : ℕ) → fits Kind.Thread (s.frame f) ≡ false → (s.core d).thread ≢ f
   own_away f apart same = false≢true
-      (sym apart ∙ ap (λ n. fits kind.Thread (s.frame n)) (sym same) ∙ (h.opens.sound.cores d (h.opens.sound.inside d h.opens.is).1).0)
+      (sym apart ∙ ap (λ n. fits Kind.Thread (s.frame n)) (sym same) ∙ (h.opens.sound.cores d (h.opens.sound.inside d h.opens.is).1).0)
 
 -- A frame changes that is not core d's thread.
 runs_put : (s : State) (f : ℕ) (y : Frame) (d : ℕ) → (s.core d).thread ≢ f → RunsOn s d → RunsOn (with_frame s f y) d
@@ -166,35 +137,35 @@ live_is (Live x f) e is = (f, ap (λ n. Live n f) (eqb-true x e is))
 live_is (Dead x) e is = absurd (false≢true is)
 
 -- Frames by what they are.
-pub thread_loose : (x : Frame) → IsTrue (fits kind.Thread x) → is_fixed x ≡ false
+pub thread_loose : (x : Frame) → IsTrue (fits Kind.Thread x) → is_fixed x ≡ false
 thread_loose (Kernel (Thread t)) h = refl
 thread_loose _ h = absurd (false≢true h)
 
-tcap_loose : (x : Frame) → IsTrue (fits kind.Tcap x) → is_fixed x ≡ false
+tcap_loose : (x : Frame) → IsTrue (fits Kind.Tcap x) → is_fixed x ≡ false
 tcap_loose (Kernel (Tcap q)) h = refl
 tcap_loose _ h = absurd (false≢true h)
 
-tcap_no_thread : (x : Frame) → IsTrue (fits kind.Tcap x) → fits kind.Thread x ≡ false
+tcap_no_thread : (x : Frame) → IsTrue (fits Kind.Tcap x) → fits Kind.Thread x ≡ false
 tcap_no_thread (Kernel (Tcap q)) h = refl
 tcap_no_thread _ h = absurd (false≢true h)
 
-with_tcap_loose : (x : Frame) (q : TcapFields) → IsTrue (fits kind.Tcap x) → is_fixed (with_tcap x q) ≡ false
+with_tcap_loose : (x : Frame) (q : TcapFields) → IsTrue (fits Kind.Tcap x) → is_fixed (with_tcap x q) ≡ false
 with_tcap_loose (Kernel (Tcap p)) q h = refl
 with_tcap_loose _ q h = absurd (false≢true h)
 
-with_tcap_fit : (x : Frame) (q : TcapFields) → IsTrue (fits kind.Tcap x) → IsTrue (fits kind.Tcap (with_tcap x q))
+with_tcap_fit : (x : Frame) (q : TcapFields) → IsTrue (fits Kind.Tcap x) → IsTrue (fits Kind.Tcap (with_tcap x q))
 with_tcap_fit (Kernel (Tcap p)) q h = refl
 with_tcap_fit _ q h = absurd (false≢true h)
 
-with_thread_loose : (x : Frame) (t : ThreadFields) → IsTrue (fits kind.Thread x) → is_fixed (with_thread x t) ≡ false
+with_thread_loose : (x : Frame) (t : ThreadFields) → IsTrue (fits Kind.Thread x) → is_fixed (with_thread x t) ≡ false
 with_thread_loose (Kernel (Thread u)) t h = refl
 with_thread_loose _ t h = absurd (false≢true h)
 
-thread_with : (x : Frame) (t : ThreadFields) → IsTrue (fits kind.Thread x) → thread_in (with_thread x t) ≡ t
+thread_with : (x : Frame) (t : ThreadFields) → IsTrue (fits Kind.Thread x) → thread_in (with_thread x t) ≡ t
 thread_with (Kernel (Thread u)) t h = refl
 thread_with _ t h = absurd (false≢true h)
 
-with_thread_fit : (x : Frame) (t : ThreadFields) → IsTrue (fits kind.Thread x) → IsTrue (fits kind.Thread (with_thread x t))
+with_thread_fit : (x : Frame) (t : ThreadFields) → IsTrue (fits Kind.Thread x) → IsTrue (fits Kind.Thread (with_thread x t))
 with_thread_fit (Kernel (Thread u)) t h = refl
 with_thread_fit _ t h = absurd (false≢true h)
 
@@ -233,17 +204,17 @@ module _ (s : State) (o : ℕ → Bool) (d : ℕ) (h : HasTurn s o d) where
       plain s o d h (after_edits d s (Node f object ∷ Fill at (plain_cap k f) ∷ []))
       (apart_then s (cleared s f) (after_edits d s (Node f object ∷ Fill at (plain_cap k f) ∷ [])) o d
       (clear_apart s o d f (ap is_node blank))
-      (made (cleared s f) o d f object k at blank (thread_away s o d h f (ap (fits kind.Thread) blank))
+      (made (cleared s f) o d f object k at blank (thread_away s o d h f (ap (fits Kind.Thread) blank))
       (λ c other q. cleared_none s f at c (vacant_none s o d h (Under (found table) b) at v c other q))))
-      (runs_put s f (Kernel object) d (own_away s o d h f (ap (fits kind.Thread) blank)) (own_runs s o d h))
+      (runs_put s f (Kernel object) d (own_away s o d h f (ap (fits Kind.Thread) blank)) (own_runs s o d h))
 
   object_spares : (f : ℕ) (object : Object) (k : Kind) (target : Target) (at : Slot)
       → s.frame f ≡ Kernel Blank → vacant s d target ≡ Found at
       → Spares s (begun s [] (after_edits d s (Become f (Kernel object) ∷ Fill at (plain_cap k f) ∷ []))) o d
   object_spares f object k target at blank v =
       plain s o d h (after_edits d s (Become f (Kernel object) ∷ Fill at (plain_cap k f) ∷ []))
-      (made s o d f object k at blank (thread_away s o d h f (ap (fits kind.Thread) blank)) (vacant_none s o d h target at v))
-      (runs_put s f (Kernel object) d (own_away s o d h f (ap (fits kind.Thread) blank)) (own_runs s o d h))
+      (made s o d f object k at blank (thread_away s o d h f (ap (fits Kind.Thread) blank)) (vacant_none s o d h target at v))
+      (runs_put s f (Kernel object) d (own_away s o d h f (ap (fits Kind.Thread) blank)) (own_runs s o d h))
 
   -- no other core may act in a liveness number that is taken: it is not live, and none waits for it
   none_acts : (f : ℕ) (range : Capability) (l : ℕ) → first_cause s d (outside (found range) f ∷ not_blank s f ∷ not_taken s l) ≡ None
@@ -251,12 +222,12 @@ module _ (s : State) (o : ℕ → Bool) (d : ℕ) (h : HasTurn s o d) where
   none_acts f range l calm c e other q may =
       let p = none_parts (refusal_of s d (outside (found range) f)) (first_cause s d (not_blank s f ∷ not_taken s l)) calm in
       let p1 = none_parts (refusal_of s d (not_blank s f)) (first_cause s d (not_taken s l)) p.1 in
-      let spent : Cause = When (epoch_of (s.number l) == s.limits.epochs) reply.EpochsSpent in
-      let p2 = none_parts (refusal_of s d (When (is_live (s.number l)) reply.Occupied))
+      let spent : Cause = When (epoch_of (s.number l) == s.limits.epochs) Reply.EpochsSpent in
+      let p2 = none_parts (refusal_of s d (When (is_live (s.number l)) Reply.Occupied))
       (first_cause s d (WaitedFor (NumberOf l) ∷ spent ∷ []))
       p1.1 in
       let p3 = none_parts (waits_of s d (NumberOf l)) (first_cause s d (spent ∷ [])) p2.1 in
-      by (s.number l) (when_not (is_live (s.number l)) reply.Occupied p2.0)
+      by (s.number l) (when_not (is_live (s.number l)) Reply.Occupied p2.0)
       (subst (λ w. IsTrue (is_live_in (s.number l) e || (is_dead_in (s.number l) e && w)))
       (none_waiting s d (NumberOf l) p3.0 c (h.inside c q).1 other) may)
     where
@@ -270,33 +241,33 @@ module _ (s : State) (o : ℕ → Bool) (d : ℕ) (h : HasTurn s o d) where
       by (Dead x) free may = neither (x == e) may
 
   make_spares : (what : Make) (r f t b : ℕ) → ChangesFrom (SparesBy s o d) s d (make_rule s what r f t b)
-  make_spares make.Table r f t b = node_spares Table kind.Table r f t b
-  make_spares make.Leaf r f t b = node_spares Leaf kind.Leaf r f t b
-  make_spares make.Pages r f t b = node_spares Pages kind.Pages r f t b
-  make_spares make.Pleaf r f t b = node_spares Pleaf kind.Pleaf r f t b
-  make_spares (make.Thread comp) r f t b = λ range e table g k j at v calm.
-      object_spares f (Thread (record { stack = k.frame ∷ []; runs_on = None })) kind.Thread
+  make_spares Make.Table r f t b = node_spares Table Kind.Table r f t b
+  make_spares Make.Leaf r f t b = node_spares Leaf Kind.Leaf r f t b
+  make_spares Make.Pages r f t b = node_spares Pages Kind.Pages r f t b
+  make_spares Make.Pleaf r f t b = node_spares Pleaf Kind.Pleaf r f t b
+  make_spares (Make.Thread comp) r f t b = λ range e table g k j at v calm.
+      object_spares f (Thread (record { stack = k.frame ∷ []; runs_on = None })) Kind.Thread
       (Under (found table) b) at (blank_by s h.opened d r f range [] h.opens e calm).1 v
-  make_spares (make.Tcap sched quality) r f t b = λ range e table g at v calm.
-      object_spares f (Tcap (record { budget = 0; qualities = (sched, quality) ∷ [] })) kind.Tcap
+  make_spares (Make.Tcap sched quality) r f t b = λ range e table g at v calm.
+      object_spares f (Tcap (record { budget = 0; qualities = (sched, quality) ∷ [] })) Kind.Tcap
       (Under (found table) b) at (blank_by s h.opened d r f range [] h.opens e calm).1 v
-  make_spares (make.Comp x y l) r f t b = λ range e table g own_table a own_pages k at v calm.
+  make_spares (Make.Comp x y l) r f t b = λ range e table g own_table a own_pages k at v calm.
       let blank : s.frame f ≡ Kernel Blank = (blank_by s h.opened d r f range (not_taken s l) h.opens e calm).1 in
       let comp : CompFields = record { table = own_table.frame; pages = own_pages.frame; number = l; epoch = epoch_of (s.number l) + 1 } in
-      let new : State = after_edits d s (Component f comp ∷ Fill at (plain_cap kind.Comp f) ∷ []) in
+      let new : State = after_edits d s (Component f comp ∷ Fill at (plain_cap Kind.Comp f) ∷ []) in
       plain s o d h new
       (apart_then s (with_number s l (Live comp.epoch f)) new o d
       (number_apart s o d l (Live comp.epoch f) (none_acts f range l calm))
-      (made (with_number s l (Live comp.epoch f)) o d f (Comp comp) kind.Comp at blank
-      (thread_away s o d h f (ap (fits kind.Thread) blank)) (vacant_none s o d h (Under (found table) b) at v)))
-      (runs_put s f (Kernel (Comp comp)) d (own_away s o d h f (ap (fits kind.Thread) blank)) (own_runs s o d h))
+      (made (with_number s l (Live comp.epoch f)) o d f (Comp comp) Kind.Comp at blank
+      (thread_away s o d h f (ap (fits Kind.Thread) blank)) (vacant_none s o d h (Under (found table) b) at v)))
+      (runs_put s f (Kernel (Comp comp)) d (own_away s o d h f (ap (fits Kind.Thread) blank)) (own_runs s o d h))
 
   -- a retype from untyped
   typed_spares : (f : ℕ) (y : Frame) → s.frame f ≡ Untyped → Spares s (begun s [] (with_frame s f y)) o d
   typed_spares f y untyped =
       plain s o d h (with_frame s f y)
-      (frame_apart s o d f y (ap is_fixed untyped) (thread_away s o d h f (ap (fits kind.Thread) untyped)))
-      (runs_put s f y d (own_away s o d h f (ap (fits kind.Thread) untyped)) (own_runs s o d h))
+      (frame_apart s o d f y (ap is_fixed untyped) (thread_away s o d h f (ap (fits Kind.Thread) untyped)))
+      (runs_put s f y d (own_away s o d h f (ap (fits Kind.Thread) untyped)) (own_runs s o d h))
 
   -- a retype to untyped, of a frame that is not named and for which no other core waits
   untype_spares : (f : ℕ) → refs s f ≡ 0 → ((c : ℕ) → c < s.limits.cores → c ≢ d → (s.grace (FrameOf f)).waits c ≡ false)
@@ -337,19 +308,19 @@ module _ (s : State) (o : ℕ → Bool) (d : ℕ) (h : HasTurn s o d) where
       guarded_away c g other q (inr w) same = waits_away c g other q w same
 
   retype_spares : (r f : ℕ) (k : FrameKind) → ChangesFrom (SparesBy s o d) s d (retype_rule s r f k)
-  retype_spares r f frame_kind.User = λ range e calm.
+  retype_spares r f FrameKind.User = λ range e calm.
       typed_spares f User (untyped_by s h.opened d r f range h.opens e calm).1
-  retype_spares r f frame_kind.Kernel = λ range e calm.
+  retype_spares r f FrameKind.Kernel = λ range e calm.
       typed_spares f (Kernel Blank) (untyped_by s h.opened d r f range h.opens e calm).1
-  retype_spares r f frame_kind.Untyped = λ range e calm.
-      let held : Cause = When (not (is_empty s f (s.frame f))) reply.NotEmpty in
-      let referenced : Cause = When (nat_lt 0 (refs s f)) (reply.Referenced (refs s f)) in
-      let p = none_parts (refusal_of s d (outside (found range) f)) (first_cause s d (not_retyped s f frame_kind.Untyped)) calm in
+  retype_spares r f FrameKind.Untyped = λ range e calm.
+      let held : Cause = When (not (is_empty s f (s.frame f))) Reply.NotEmpty in
+      let referenced : Cause = When (nat_lt 0 (refs s f)) (Reply.Referenced (refs s f)) in
+      let p = none_parts (refusal_of s d (outside (found range) f)) (first_cause s d (not_retyped s f FrameKind.Untyped)) calm in
       let p1 = none_parts (refusal_of s d (is_untyped_now s f))
       (first_cause s d (referenced ∷ WaitedFor (FrameOf f) ∷ Unflushed (FrameOf f) ∷ held ∷ [])) p.1 in
       let p2 = none_parts (refusal_of s d referenced) (first_cause s d (WaitedFor (FrameOf f) ∷ Unflushed (FrameOf f) ∷ held ∷ [])) p1.1 in
       let p3 = none_parts (waits_of s d (FrameOf f)) (first_cause s d (Unflushed (FrameOf f) ∷ held ∷ [])) p2.1 in
-      untype_spares f (zero_refs (refs s f) (when_not (nat_lt 0 (refs s f)) (reply.Referenced (refs s f)) p2.0)) (none_waits s d f p3.0)
+      untype_spares f (zero_refs (refs s f) (when_not (nat_lt 0 (refs s f)) (Reply.Referenced (refs s f)) p2.0)) (none_waits s d f p3.0)
 
   touch_spares : (pages v : ℕ) (t : Option Translation) → ChangesFrom (SparesBy s o d) s d (touch_by pages v t)
   touch_spares pages v None =
@@ -361,7 +332,7 @@ module _ (s : State) (o : ℕ → Bool) (d : ℕ) (h : HasTurn s o d) where
   others_run c other below same =
       other (some_inj c d (sym (h.runs c below) ∙ ap (λ n. (thread_in (s.frame n)).runs_on) same ∙ own_runs s o d h))
 
-  own_fits : IsTrue (fits kind.Thread (s.frame (s.core d).thread))
+  own_fits : IsTrue (fits Kind.Thread (s.frame (s.core d).thread))
   own_fits = (h.opens.sound.cores d (h.opens.sound.inside d h.opens.is).1).0
 
   -- core d's thread has another stack
@@ -374,16 +345,16 @@ module _ (s : State) (o : ℕ → Bool) (d : ℕ) (h : HasTurn s o d) where
       ∙ ap (λ (t : ThreadFields). t.runs_on) (thread_with (s.frame (s.core d).thread) (record (thread_of s d) { stack = stack }) own_fits)
       ∙ own_runs s o d h
 
-  switch_spares : (j : Capability) (q : ℕ) → IsTrue (fits kind.Thread (s.frame j.frame))
+  switch_spares : (j : Capability) (q : ℕ) → IsTrue (fits Kind.Thread (s.frame j.frame))
       → (e : Option ℕ) → (thread_in (s.frame j.frame)).runs_on ≡ e
       → ChangesFrom (SparesBy s o d) s d (switch_to (found j) q e)
-  switch_spares j q fit (Some e) is = λ calm. absurd (some_none (reply.Running e) (none_parts (Some (reply.Running e)) None calm).0)
+  switch_spares j q fit (Some e) is = λ calm. absurd (some_none (Reply.Running e) (none_parts (Some (Reply.Running e)) None calm).0)
   switch_spares j q fit None is = λ calm.
       let f : ℕ = j.frame in
       let old : ℕ = (s.core d).thread in
       let idle : State = running s old None in
       let next : State = running idle f (Some d) in
-      let idle_fit : IsTrue (fits kind.Thread (idle.frame f)) = put_all (λ g x. IsTrue (fits kind.Thread x))
+      let idle_fit : IsTrue (fits Kind.Thread (idle.frame f)) = put_all (λ g x. IsTrue (fits Kind.Thread x))
       s.frame old (with_thread (s.frame old) (record (thread_in (s.frame old)) { runs_on = None })) f
       (λ same. with_thread_fit (s.frame old) _ own_fits) (λ other. fit) in
       done s o d h (switched s d f q) (begins_in d s (switch_edit f q))
@@ -406,27 +377,27 @@ tcap_apart : (s : State) (o : ℕ → Bool) (d f : ℕ) (q : TcapFields)
 tcap_apart s o d f q loose away = frame_apart s o d f (with_tcap (s.frame f) q) loose away
 
 module _ (s : State) (o : ℕ → Bool) (d : ℕ) (h : HasTurn s o d) where
-  tcap_away : (f : ℕ) → IsTrue (fits kind.Tcap (s.frame f)) → (c : ℕ) → c ≢ d → c < s.limits.cores → (s.core c).thread ≢ f
+  tcap_away : (f : ℕ) → IsTrue (fits Kind.Tcap (s.frame f)) → (c : ℕ) → c ≢ d → c < s.limits.cores → (s.core c).thread ≢ f
   tcap_away f fit = thread_away s o d h f (tcap_no_thread (s.frame f) fit)
 
-  moved_apart : (a b m : ℕ) → IsTrue (fits kind.Tcap (s.frame a)) → IsTrue (fits kind.Tcap (s.frame b)) → IsApart s (moved s a b m) o d
+  moved_apart : (a b m : ℕ) → IsTrue (fits Kind.Tcap (s.frame a)) → IsTrue (fits Kind.Tcap (s.frame b)) → IsApart s (moved s a b m) o d
   moved_apart a b m fa fb =
       apart_then s (with_budget s a ((tcap_at s a).budget - m)) (moved s a b m) o d
       (tcap_apart s o d a _ (tcap_loose (s.frame a) fa) (tcap_away a fa))
       (tcap_apart (with_budget s a ((tcap_at s a).budget - m)) o d b _
       (loose_put s a _ b (with_tcap_loose (s.frame a) _ fa) (tcap_loose (s.frame b) fb)) (tcap_away b fb))
 
-  moved_runs : (a b m : ℕ) → IsTrue (fits kind.Tcap (s.frame a)) → IsTrue (fits kind.Tcap (s.frame b)) → RunsOn (moved s a b m) d
+  moved_runs : (a b m : ℕ) → IsTrue (fits Kind.Tcap (s.frame a)) → IsTrue (fits Kind.Tcap (s.frame b)) → RunsOn (moved s a b m) d
   moved_runs a b m fa fb =
       runs_put (with_budget s a ((tcap_at s a).budget - m)) b _ d (own_away s o d h b (tcap_no_thread (s.frame b) fb))
       (runs_put s a _ d (own_away s o d h a (tcap_no_thread (s.frame a) fa)) (own_runs s o d h))
 
-  moved_loose : (a b m : ℕ) → IsTrue (fits kind.Tcap (s.frame a))
-      → IsTrue (fits kind.Tcap (s.frame b)) → is_fixed ((moved s a b m).frame b) ≡ false
+  moved_loose : (a b m : ℕ) → IsTrue (fits Kind.Tcap (s.frame a))
+      → IsTrue (fits Kind.Tcap (s.frame b)) → is_fixed ((moved s a b m).frame b) ≡ false
   moved_loose a b m fa fb =
       let first : State = with_budget s a ((tcap_at s a).budget - m) in
-      let fit : IsTrue (fits kind.Tcap (first.frame b)) =
-      put_all (λ g x. IsTrue (fits kind.Tcap x)) s.frame a _ b (λ same. with_tcap_fit (s.frame a) _ fa) (λ other. fb) in
+      let fit : IsTrue (fits Kind.Tcap (first.frame b)) =
+      put_all (λ g x. IsTrue (fits Kind.Tcap x)) s.frame a _ b (λ same. with_tcap_fit (s.frame a) _ fa) (λ other. fb) in
       ap is_fixed (put_same first.frame b _ b refl) ∙ with_tcap_loose (first.frame b) _ fit
 
   -- Every call that is carried out.
@@ -434,24 +405,24 @@ module _ (s : State) (o : ℕ → Bool) (d : ℕ) (h : HasTurn s o d) where
   rule_spares (Look a) = λ k e calm. plain s o d h s (apart_same s o d) (own_runs s o d h)
   rule_spares (Copy a t b rights) = λ k e table f at g calm. filled s o d h (Under (found table) b) at (kept k rights.0) g
   rule_spares (remove_call t b) = λ table e at k g calm. removed s o d h (Under (found table) b) at k g
-  rule_spares (Grow t i l) = λ table e leaf f at g calm. filled s o d h (InRoot (found table) i) at (plain_cap kind.Link leaf.frame) g
+  rule_spares (Grow t i l) = λ table e leaf f at g calm. filled s o d h (InRoot (found table) i) at (plain_cap Kind.Link leaf.frame) g
   rule_spares (Shrink t i) = λ table e at k g calm. removed s o d h (InRoot (found table) i) at k g
   rule_spares (Retype r f k) = retype_spares s o d h r f k
   rule_spares (make_call what r f t b) = make_spares s o d h what r f t b
   rule_spares (Map p v r f w) =
-      λ pages e range g at u calm. filled s o d h (Under (found pages) v) at (cap_of kind.Page f w.0) u
+      λ pages e range g at u calm. filled s o d h (Under (found pages) v) at (cap_of Kind.Page f w.0) u
   rule_spares (Unmap p v) = λ pages e at k g calm. removed s o d h (Under (found pages) v) at k g
   rule_spares (Touch v) = touch_spares s o d h (comp_of s d).pages v (translation_of (s.core d).cached (comp_of s d).pages v)
   rule_spares Flush = λ calm. plain s o d h (flushed s d) (flush_apart s o d) (runs_core s d _ refl (own_runs s o d h))
   rule_spares (Gate k t b) =
-      λ comp e table f at g calm. filled s o d h (Under (found table) b) at (cap_of kind.Gate comp.frame _) g
+      λ comp e table f at g calm. filled s o d h (Under (found table) b) at (cap_of Kind.Gate comp.frame _) g
   rule_spares (Kill k) = λ comp e calm.
       let fields : CompFields = comp_in (s.frame comp.frame) in
       let dead : Cause = not_live s (found comp) fields.number fields.epoch in
       let p = none_parts (refusal_of s d dead) (first_cause s d []) calm in
       let live = live_is (s.number fields.number) fields.epoch
       (not_not (is_live_in (s.number fields.number) fields.epoch)
-      (when_not (not (is_live_in (s.number fields.number) fields.epoch)) reply.Dead p.0)) in
+      (when_not (not (is_live_in (s.number fields.number) fields.epoch)) Reply.Dead p.0)) in
       spares_by s (begun s (begins_in d s (Deaden fields.number fields.epoch)) (edited d s (Deaden fields.number fields.epoch))) o d
       (kill_apart s o d fields.number fields.epoch live.0 (number_names (s.number fields.number)) (inside s o d h) live.1)
       (own_runs s o d h)
@@ -460,22 +431,22 @@ module _ (s : State) (o : ℕ → Bool) (d : ℕ) (h : HasTurn s o d) where
       done s o d h (edited d s Pop) (begins_in d s Pop)
       (λ f i. frames_no_place f i (take 1 (thread_of s d).stack)) (stack_apart s o d h _) (stack_runs s o d h _)
   rule_spares (Switch f q) = λ thread e tcap g.
-      switch_spares s o d h thread tcap.frame (named_fit s h.opened d f kind.Thread thread h.opens.sound h.opens.is e)
+      switch_spares s o d h thread tcap.frame (named_fit s h.opened d f Kind.Thread thread h.opens.sound h.opens.is e)
       (thread_in (s.frame thread.frame)).runs_on refl
   rule_spares (Tick n) = λ calm.
       let q : ℕ = (s.core d).tcap in
-      let fit : IsTrue (fits kind.Tcap (s.frame q)) = (h.opens.sound.cores d (h.opens.sound.inside d h.opens.is).1).1 in
+      let fit : IsTrue (fits Kind.Tcap (s.frame q)) = (h.opens.sound.cores d (h.opens.sound.inside d h.opens.is).1).1 in
       plain s o d h (with_core (with_budget s q _) d _)
       (apart_then s (with_budget s q _) _ o d (tcap_apart s o d q _ (tcap_loose (s.frame q) fit) (tcap_away q fit))
       (core_apart (with_budget s q _) o d _))
       (runs_core (with_budget s q _) d _ refl (runs_put s q _ d (own_away s o d h q (tcap_no_thread (s.frame q) fit)) (own_runs s o d h)))
   rule_spares (Transfer a b m) = λ j e k f calm.
-      let fa : IsTrue (fits kind.Tcap (s.frame j.frame)) = named_fit s h.opened d a kind.Tcap j h.opens.sound h.opens.is e in
-      let fb : IsTrue (fits kind.Tcap (s.frame k.frame)) = named_fit s h.opened d b kind.Tcap k h.opens.sound h.opens.is f in
+      let fa : IsTrue (fits Kind.Tcap (s.frame j.frame)) = named_fit s h.opened d a Kind.Tcap j h.opens.sound h.opens.is e in
+      let fb : IsTrue (fits Kind.Tcap (s.frame k.frame)) = named_fit s h.opened d b Kind.Tcap k h.opens.sound h.opens.is f in
       plain s o d h (moved s j.frame k.frame m) (moved_apart j.frame k.frame m fa fb) (moved_runs j.frame k.frame m fa fb)
   rule_spares (Delegate a b m) = λ j e k f calm.
-      let fa : IsTrue (fits kind.Tcap (s.frame j.frame)) = named_fit s h.opened d a kind.Tcap j h.opens.sound h.opens.is e in
-      let fb : IsTrue (fits kind.Tcap (s.frame k.frame)) = named_fit s h.opened d b kind.Tcap k h.opens.sound h.opens.is f in
+      let fa : IsTrue (fits Kind.Tcap (s.frame j.frame)) = named_fit s h.opened d a Kind.Tcap j h.opens.sound h.opens.is e in
+      let fb : IsTrue (fits Kind.Tcap (s.frame k.frame)) = named_fit s h.opened d b Kind.Tcap k h.opens.sound h.opens.is f in
       plain s o d h (with_qualities (moved s j.frame k.frame m) k.frame (merged_list s j.frame k.frame))
       (apart_then s (moved s j.frame k.frame m) _ o d (moved_apart j.frame k.frame m fa fb)
       (tcap_apart (moved s j.frame k.frame m) o d k.frame _ (moved_loose j.frame k.frame m fa fb) (tcap_away k.frame fb)))
@@ -484,7 +455,7 @@ module _ (s : State) (o : ℕ → Bool) (d : ℕ) (h : HasTurn s o d) where
   rule_spares (Test a b) = λ j e k f calm. plain s o d h s (apart_same s o d) (own_runs s o d h)
   rule_spares (Replenish a m) = λ j e calm.
       let q : ℕ = j.frame in
-      let fit : IsTrue (fits kind.Tcap (s.frame q)) = named_fit s h.opened d a kind.Tcap j h.opens.sound h.opens.is e in
+      let fit : IsTrue (fits Kind.Tcap (s.frame q)) = named_fit s h.opened d a Kind.Tcap j h.opens.sound h.opens.is e in
       plain s o d h (with_core (with_budget s q _) d _)
       (apart_then s (with_budget s q _) _ o d (tcap_apart s o d q _ (tcap_loose (s.frame q) fit) (tcap_away q fit))
       (core_apart (with_budget s q _) o d _))

@@ -1,38 +1,17 @@
 -- In every state that a run reaches each core's thread runs on it; and each event spares what the other cores in calls rely on.
-use Rattle.std.proofs.Common.{◌≡◌, ◌≢◌, inl, inr, ℕ, zero, suc, ◌+◌, ◌-◌, ◌<◌, arith, Bool, true, false}
-use Rattle.std.proofs.Common.{refl, sym, ◌∙◌, ap, subst, ◌==◌, cond, nat_lt, IsTrue, List, [], ◌∷◌}
-use Rattle.std.proofs.lemmas.Bool.{false≢true, cases_eq, eq-eqb, ne_eqb, ltb-false, or_left, or_right}
-use Rattle.std.specs.List.{list_any}
-use Rattle.spk_nums.specs.Setting.{Setting, IsSetting}
-use Rattle.spk_nums.specs.CallLimits.{InLimits}
-use Rattle.spk_nums.specs.declared.calls.Call.{Call}
-use Rattle.spk_nums.specs.declared.calls.Call.TheVariants.{Tick}
-use Rattle.spk_nums.specs.declared.replies.Reply.{Reply}
-use Rattle.spk_nums.specs.declared.replies.Reply.TheVariants as reply
-use Rattle.spk_nums.specs.declared.replies.Value.{Value}
-use Rattle.kernel_rules.specs.State.{Core, Thing, PlaceOf, FrameOf, NumberOf, State, with_core, thread_in}
-use Rattle.std.specs.Prelude.{Some}
-use Rattle.kernel_rules.specs.Access.{usable_in}
-use Rattle.kernel_rules.specs.Start.{start}
-use Rattle.kernel_rules.specs.References.{times, core_names, node_refs, refs}
-use Rattle.kernel_rules.specs.GracePeriods.{same_thing, new_grace, begun, entered, returned}
-use Rattle.kernel_rules.specs.Life.{is_live_in, is_dead_in}
-use Rattle.kernel_rules.specs.Rules.{Change, Judged, Refused, Found, IsFoundAnd}
-use Rattle.kernel_rules.specs.CallRelation.{rule_of, change_of, changed, counted, owed_by, state_by, MayReply}
-use Rattle.kernel_rules.specs.Laws.{released}
-use Rattle.kernel_rules.specs.Runs.{Event, Enters, Decides, Returns, after, core_of, Out, is_in}
-use Rattle.kernel_rules.specs.Runs.{is_open, is_decided, phase_by, phase_of, MayFollow, IsRun}
-use Rattle.kernel_rules.proofs.Changes.{IfFound}
-use Rattle.kernel_rules.proofs.Within.{put_same, put_other}
-use Rattle.kernel_invariant.proofs.Sums.{sum_same, times_cons}
-use Rattle.kernel_invariant.proofs.Sound.{put_all}
-use Rattle.kernel_invariant.proofs.SoundStart.{past_three, choose}
-use Rattle.kernel_invariant.proofs.SoundRuns.{inside_is, opened, open_limits, open_is, limits_stay}
-use Rattle.kernel_invariant.proofs.Facts.{outcome_from}
-use Rattle.kernel_invariant.proofs.Refs.{RefsBy, rule_refs, grace_refs}
-use Rattle.kernel_rules.specs.Relies.{IsGuarded}
-use Rattle.found_stays.proofs.Apart.{apart_same, acts_more}
+use Rattle.kernel_invariant.specs.kernel_rules.proofs as low
+use low.{◌≡◌, ◌≢◌, inl, inr, ℕ, zero, suc, ◌+◌, ◌-◌, ◌<◌, arith, Bool, true, false, refl, sym, ◌∙◌, ap, subst, ◌==◌, cond, ltb as nat_lt}
+use low.{IsTrue, List, [], ◌∷◌, false≢true, eq-eqb, ne_eqb, ltb-false, or_left, or_right, Setting, IsSetting, InLimits, Call, Tick, Reply}
+use low.{Value, Core, Thing, PlaceOf, FrameOf, NumberOf, with_core, thread_in, Some, usable_in, start, times, core_names, node_refs, refs}
+use low.{same_thing, new_grace, begun, entered, returned, is_live_in, is_dead_in, Change, Judged, Refused, Found, IsFoundAnd, rule_of}
+use low.{change_of, changed, counted, owed_by, state_by, MayReply, Event, Enters, Decides, Returns, after, core_of, Out, is_in, is_open}
+use low.{is_decided, phase_by, phase_of, IsRun, IfFound, put_same, put_other, IsGuarded}
+use Rattle.kernel_invariant.proofs.{sum_same, times_cons, put_all, past_three, choose, inside_is, opened, open_limits, open_is, limits_stay}
+use Rattle.kernel_invariant.proofs.{outcome_from, RefsBy, grace_refs}
 use Rattle.found_stays.proofs.Spares.{RunsOn, HasTurn, Spares, SparesBy, spares_by, rule_spares}
+use Rattle.{kernel_invariant.specs.kernel_rules.specs.released, kernel_invariant.specs.kernel_rules.specs.MayFollow}
+use Rattle.{std.proofs.lemmas.Bool.cases_eq, std.specs.List.list_any, kernel_invariant.specs.kernel_rules.specs.State.State}
+use Rattle.{kernel_invariant.proofs.Refs.rule_refs, found_stays.proofs.Apart.apart_same, found_stays.proofs.Apart.acts_more}
 
 -- From s to t by core d, whose own fields change then, but for its thread.
 spares_core : (s t : State) (o : ℕ → Bool) (d : ℕ) (k : Core)
@@ -134,13 +113,13 @@ decided_spares s o d call r h lim may = by_reply r may
     same = record { spares = spares_by s s o d (apart_same s o d) runs; guarded = λ c f other q guarded. guarded }
 
     by_reply : (r : Reply) → MayReply s d call r → SparesAll s (state_by s d call r) o d
-    by_reply (reply.Ok v) may = counted_spares s (changed s (change_of s d call)) o d
+    by_reply (Reply.Ok v) may = counted_spares s (changed s (change_of s d call)) o d
         (changed_spares s o d v (change_of s d call) (λ c q. (h.inside c q).0)
         (outcome_from (SparesBy s o d) s d (rule_of s d call) (rule_spares s o d h call))
         (outcome_from (RefsBy s) s d (rule_of s d call) (rule_refs s h.opened d h.opens call lim)) may.1.1)
-    by_reply reply.CallsSpent may = same
-    by_reply reply.Raced may = counted_spares s (owed_by s d call) o d (owed_spares s o d call runs)
-    by_reply (reply.Busy e) may = counted_spares s (owed_by s d call) o d (owed_spares s o d call runs)
+    by_reply Reply.CallsSpent may = same
+    by_reply Reply.Raced may = counted_spares s (owed_by s d call) o d (owed_spares s o d call runs)
+    by_reply (Reply.Busy e) may = counted_spares s (owed_by s d call) o d (owed_spares s o d call runs)
     by_reply _ may = counted_spares s s o d same
 
 -- An entry and a return.

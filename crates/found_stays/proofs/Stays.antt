@@ -1,29 +1,16 @@
 -- What a core in an open call has found, and relies on, stays through the events of other cores.
-use Rattle.std.proofs.Common.{◌≡◌, ◌≢◌, inl, inr, ℕ, zero, suc, ◌<◌, ◌≤◌, ◌%◌, ◌&&◌, arith, Bool, true, false, refl}
-use Rattle.std.proofs.Common.{sym, ◌∙◌, ap, subst, nat_le, if◌then◌else◌, IsTrue, List, [], ◌∷◌, Option, Some, None}
-use Rattle.std.proofs.lemmas.Bool.{false≢true, cases_lt}
-use Rattle.spk_nums.specs.Setting.{Setting, IsSetting}
-use Rattle.spk_nums.specs.Capability.{Capability}
-use Rattle.spk_nums.specs.declared.kinds.Kind.{Kind}
-use Rattle.spk_nums.specs.declared.kinds.Kind.TheVariants as kind
-use Rattle.spk_nums.specs.declared.replies.Reply.TheVariants as reply
-use Rattle.kernel_rules.specs.State.{Place, Free, Holds, Quiescing, CompFields, Table, Leaf, Pages, Pleaf, Comp, Thread, Frame}
-use Rattle.kernel_rules.specs.State.{Kernel, Core, PlaceOf, State, comp_in, thread_in, first_of_stack, thread_of, comp_of}
-use Rattle.kernel_rules.specs.References.{named_by, place_names, frame_names, times, refs}
-use Rattle.kernel_rules.specs.Access.{Want, Slot, Named, Under, place_at, usable_in, usable, linked}
-use Rattle.kernel_rules.specs.Access.{slot_in, reached, root_slot, root_at, only, own}
-use Rattle.kernel_rules.specs.Life.{may_act}
-use Rattle.kernel_rules.specs.Rules.{Found, and_then, or_refuse, of_kind, named}
-use Rattle.kernel_rules.specs.Fitting.{fits, IsGood}
-use Rattle.kernel_rules.specs.Runs.{Event, after, core_of, Phase, Open, is_in, is_open, phase_of, IsRun}
-use Rattle.kernel_rules.specs.Relies.{is_node, is_fixed, IsGuarded, Relies}
-use Rattle.kernel_invariant.proofs.Sound.{IsStack, IsObjectGood, WaitsForAll, IsSound, only_is}
-use Rattle.kernel_invariant.proofs.SoundRemovals.{unnamed, below_by}
-use Rattle.kernel_invariant.proofs.SoundRuns.{opened, limits_stay, runs_sound}
-use Rattle.kernel_invariant.proofs.Sums.{times_first, times_cons}
-use Rattle.kernel_invariant.proofs.Facts.{some_inj, none_some, then_parts, or_found, usable_good}
-use Rattle.found_stays.proofs.Apart.{node_fixed, acts_in}
+use Rattle.kernel_invariant.specs.kernel_rules.proofs as low
+use low.{◌≡◌, ◌≢◌, inl, inr, ℕ, zero, suc, ◌<◌, ◌≤◌, ◌%◌, ◌&&◌, arith, Bool, true, false, refl, sym, ◌∙◌, ap, subst, leb as nat_le}
+use low.{if◌then◌else◌, IsTrue, List, [], ◌∷◌, Option, Some, None, false≢true, Setting, IsSetting, Capability, Kind, Place, Free, Holds}
+use low.{Quiescing, CompFields, Table, Leaf, Pages, Pleaf, Comp, Thread, Frame, Kernel, Core, PlaceOf, comp_in, thread_in, first_of_stack}
+use low.{thread_of, comp_of, named_by, place_names, frame_names, times, refs, Want, Slot, Named, Under, place_at, usable_in, usable, linked}
+use low.{slot_in, reached, root_slot, root_at, only, own, Found, and_then, or_refuse, of_kind, named, fits, IsGood, Event, after, core_of}
+use low.{Phase, Open, is_in, is_open, phase_of, IsRun, is_node, is_fixed, IsGuarded, Reply}
+use Rattle.kernel_invariant.proofs.{IsStack, IsObjectGood, WaitsForAll, IsSound, only_is, unnamed, below_by, opened, limits_stay}
+use Rattle.kernel_invariant.proofs.{runs_sound, times_first, times_cons, some_inj, none_some, then_parts, or_found, usable_good}
+use Rattle.kernel_invariant.specs.kernel_rules.specs.{State.State, Life.may_act, Relies.Relies}
 use Rattle.found_stays.proofs.SparesRuns.{SparesAll, inside_of, inside_facts, event_spares}
+use Rattle.{std.proofs.lemmas.Bool.cases_lt, found_stays.proofs.Apart.node_fixed, found_stays.proofs.Apart.acts_in}
 
 -- What core c in an open call has and relies on in s, it has and relies on in t.
 pub record Stay (s t : State) (c : ℕ) : Type 0 where
@@ -97,45 +84,45 @@ place_named s o g i f k h at one = by_refs (refs s f) refl
 
 -- Whether a capability of a kind names a node.
 abbrev pub names_node : Kind → Bool
-names_node kind.Table = true
-names_node kind.Leaf = true
-names_node kind.Pages = true
-names_node kind.Pleaf = true
-names_node kind.Link = true
+names_node Kind.Table = true
+names_node Kind.Leaf = true
+names_node Kind.Pages = true
+names_node Kind.Pleaf = true
+names_node Kind.Link = true
 names_node _ = false
 
 node_fit : (k : Kind) (x : Frame) → IsTrue (names_node k) → IsTrue (fits k x) → IsTrue (is_node x)
-node_fit kind.Table (Kernel Table) n h = refl
-node_fit kind.Table _ n h = absurd (false≢true h)
-node_fit kind.Leaf (Kernel Leaf) n h = refl
-node_fit kind.Leaf _ n h = absurd (false≢true h)
-node_fit kind.Pages (Kernel Pages) n h = refl
-node_fit kind.Pages _ n h = absurd (false≢true h)
-node_fit kind.Pleaf (Kernel Pleaf) n h = refl
-node_fit kind.Pleaf _ n h = absurd (false≢true h)
-node_fit kind.Link (Kernel Leaf) n h = refl
-node_fit kind.Link (Kernel Pleaf) n h = refl
-node_fit kind.Link _ n h = absurd (false≢true h)
+node_fit Kind.Table (Kernel Table) n h = refl
+node_fit Kind.Table _ n h = absurd (false≢true h)
+node_fit Kind.Leaf (Kernel Leaf) n h = refl
+node_fit Kind.Leaf _ n h = absurd (false≢true h)
+node_fit Kind.Pages (Kernel Pages) n h = refl
+node_fit Kind.Pages _ n h = absurd (false≢true h)
+node_fit Kind.Pleaf (Kernel Pleaf) n h = refl
+node_fit Kind.Pleaf _ n h = absurd (false≢true h)
+node_fit Kind.Link (Kernel Leaf) n h = refl
+node_fit Kind.Link (Kernel Pleaf) n h = refl
+node_fit Kind.Link _ n h = absurd (false≢true h)
 node_fit _ x n h = absurd (false≢true n)
 
 node_names : (k : Kind) (f : ℕ) → IsTrue (names_node k) → named_by k f ≡ f ∷ []
-node_names kind.Range f n = absurd (false≢true n)
+node_names Kind.Range f n = absurd (false≢true n)
 node_names _ f n = refl
 
 -- A slot that is reached under a number is in the leaf of a link.
 pub link_of : (u : Option Capability) (b : Bool) (i : ℕ) (at : Slot) → (if b then slot_in (linked u) i else None) ≡ Some at
-    → (j : Capability) × (u ≡ Some j) × IsTrue (only kind.Link j.kind) × (j.frame ≡ at.node)
+    → (j : Capability) × (u ≡ Some j) × IsTrue (only Kind.Link j.kind) × (j.frame ≡ at.node)
 link_of u false i at e = absurd (none_some at e)
 link_of None true i at e = absurd (none_some at e)
-link_of (Some j) true i at e = by_kind (only kind.Link j.kind) refl e
+link_of (Some j) true i at e = by_kind (only Kind.Link j.kind) refl e
   where
-    by_kind : (b : Bool) → only kind.Link j.kind ≡ b → slot_in (if b then Some j.frame else None) i ≡ Some at
-        → (k : Capability) × (Some j ≡ Some k) × IsTrue (only kind.Link k.kind) × (k.frame ≡ at.node)
+    by_kind : (b : Bool) → only Kind.Link j.kind ≡ b → slot_in (if b then Some j.frame else None) i ≡ Some at
+        → (k : Capability) × (Some j ≡ Some k) × IsTrue (only Kind.Link k.kind) × (k.frame ≡ at.node)
     by_kind true is e = (j, refl, is, ap (λ (x : Slot). x.node) (some_inj record { node = j.frame; index = i } at e))
     by_kind false is e = absurd (none_some at e)
 
-link_names : (k : Kind) → IsTrue (only kind.Link k) → IsTrue (names_node k)
-link_names k is = subst (λ j. IsTrue (names_node j)) (sym (only_is kind.Link k is)) refl
+link_names : (k : Kind) → IsTrue (only Kind.Link k) → IsTrue (names_node k)
+link_names k is = subst (λ j. IsTrue (names_node j)) (sym (only_is Kind.Link k is)) refl
 
 -- The frame of the component in which a core works.
 abbrev pub own_comp : State → ℕ → ℕ
@@ -143,18 +130,18 @@ own_comp s c = first_of_stack (thread_of s c).stack
 
 -- The component in which a core of the machine works is one, and is referenced.
 module _ (s : State) (o : ℕ → Bool) (c : ℕ) (h : IsSound s o) (below : c < s.limits.cores) where
-  own_thread : IsTrue (fits kind.Thread (s.frame (s.core c).thread))
+  own_thread : IsTrue (fits Kind.Thread (s.frame (s.core c).thread))
   own_thread = (h.cores c below).0
 
-  stack_of : (x : Frame) → IsTrue (fits kind.Thread x) → IsObjectGood s x → IsStack s (thread_in x).stack
+  stack_of : (x : Frame) → IsTrue (fits Kind.Thread x) → IsObjectGood s x → IsStack s (thread_in x).stack
   stack_of (Kernel (Thread t)) fit good = good
   stack_of _ fit good = absurd (false≢true fit)
 
-  names_of : (x : Frame) → IsTrue (fits kind.Thread x) → frame_names x ≡ (thread_in x).stack
+  names_of : (x : Frame) → IsTrue (fits Kind.Thread x) → frame_names x ≡ (thread_in x).stack
   names_of (Kernel (Thread t)) fit = refl
   names_of _ fit = absurd (false≢true fit)
 
-  top_fit : (fs : List ℕ) → IsStack s fs → IsTrue (fits kind.Comp (s.frame (first_of_stack fs)))
+  top_fit : (fs : List ℕ) → IsStack s fs → IsTrue (fits Kind.Comp (s.frame (first_of_stack fs)))
   top_fit [] is = absurd is
   top_fit (f ∷ fs) is = is.0
 
@@ -165,7 +152,7 @@ module _ (s : State) (o : ℕ → Bool) (c : ℕ) (h : IsSound s o) (below : c <
   own_stack : IsStack s (thread_of s c).stack
   own_stack = stack_of (s.frame (s.core c).thread) own_thread (h.objects (s.core c).thread)
 
-  pub comp_fit : IsTrue (fits kind.Comp (s.frame (own_comp s c)))
+  pub comp_fit : IsTrue (fits Kind.Comp (s.frame (own_comp s c)))
   comp_fit = top_fit (thread_of s c).stack own_stack
 
   pub comp_named : 0 < refs s (own_comp s c)
@@ -173,7 +160,7 @@ module _ (s : State) (o : ℕ → Bool) (c : ℕ) (h : IsSound s o) (below : c <
       (subst (λ l. 1 ≤ times (own_comp s c) l) (sym (names_of (s.frame (s.core c).thread) own_thread))
       (top_named (thread_of s c).stack own_stack))
 
-comp_is : (x : Frame) → IsTrue (fits kind.Comp x) → (x ≡ Kernel (Comp (comp_in x))) × IsTrue (is_fixed x)
+comp_is : (x : Frame) → IsTrue (fits Kind.Comp x) → (x ≡ Kernel (Comp (comp_in x))) × IsTrue (is_fixed x)
 comp_is (Kernel (Comp k)) fit = (refl, refl)
 comp_is _ fit = absurd (false≢true fit)
 
@@ -217,7 +204,7 @@ module _ (s : State) (o : ℕ → Bool) (c : ℕ) (h : IsSound s o) (q : o c ≡
   pub comp_fixed : IsTrue (is_fixed (s.frame (own_comp s c)))
   comp_fixed = (comp_is (s.frame (own_comp s c)) (comp_fit s o c h below)).1
 
-  pub fields : IsTrue (fits kind.Table (s.frame (comp_of s c).table)) × IsTrue (fits kind.Pages (s.frame (comp_of s c).pages))
+  pub fields : IsTrue (fits Kind.Table (s.frame (comp_of s c).table)) × IsTrue (fits Kind.Pages (s.frame (comp_of s c).pages))
   fields = subst (IsObjectGood s) (comp_is (s.frame (own_comp s c)) (comp_fit s o c h below)).0 (h.objects (own_comp s c))
 
   field_names : frame_names (s.frame (own_comp s c)) ≡ (comp_of s c).table ∷ (comp_of s c).pages ∷ []
@@ -225,14 +212,14 @@ module _ (s : State) (o : ℕ → Bool) (c : ℕ) (h : IsSound s o) (q : o c ≡
 
   pub table_relies : Relies s c (comp_of s c).table
   table_relies = record {
-    node = node_fit kind.Table (s.frame (comp_of s c).table) refl fields.0;
+    node = node_fit Kind.Table (s.frame (comp_of s c).table) refl fields.0;
     guarded = inl (object_named s o (own_comp s c) (comp_of s c).table h
         (subst (λ l. 1 ≤ times (comp_of s c).table l) (sym field_names) (times_first (comp_of s c).table ((comp_of s c).pages ∷ []))));
   }
 
   pub pages_relies : Relies s c (comp_of s c).pages
   pages_relies = record {
-    node = node_fit kind.Pages (s.frame (comp_of s c).pages) refl fields.1;
+    node = node_fit Kind.Pages (s.frame (comp_of s c).pages) refl fields.1;
     guarded = inl (object_named s o (own_comp s c) (comp_of s c).pages h
         (subst (λ l. 1 ≤ times (comp_of s c).pages l) (sym field_names)
         (let p = times_cons (comp_of s c).pages (comp_of s c).table ((comp_of s c).pages ∷ []) in
@@ -249,17 +236,17 @@ module _ (s : State) (o : ℕ → Bool) (c : ℕ) (h : IsSound s o) (q : o c ≡
 pub name_parts : (s : State) (c n : ℕ) (wanted : Want) (k : Capability) → named s c n wanted ≡ Found k
     → (at : Slot) × (reached s c (own s c n) ≡ Some at) × (j : Capability) × (usable s c at ≡ Some j) × (of_kind wanted j ≡ Found k)
 name_parts s c n wanted k e =
-    let a = then_parts (or_refuse (reached s c (own s c n)) reply.NoSlot)
-    (λ at. and_then (or_refuse (usable s c at) reply.Empty) λ k. of_kind wanted k) k e in
-    let b = then_parts (or_refuse (usable s c a.0) reply.Empty) (λ k. of_kind wanted k) k a.2 in
-    (a.0, or_found (reached s c (own s c n)) reply.NoSlot a.0 a.1, b.0, or_found (usable s c a.0) reply.Empty b.0 b.1, b.2)
+    let a = then_parts (or_refuse (reached s c (own s c n)) Reply.NoSlot)
+    (λ at. and_then (or_refuse (usable s c at) Reply.Empty) λ k. of_kind wanted k) k e in
+    let b = then_parts (or_refuse (usable s c a.0) Reply.Empty) (λ k. of_kind wanted k) k a.2 in
+    (a.0, or_found (reached s c (own s c n)) Reply.NoSlot a.0 a.1, b.0, or_found (usable s c a.0) Reply.Empty b.0 b.1, b.2)
 
 name_from : (s : State) (c n : ℕ) (wanted : Want) (at : Slot) (j k : Capability)
     → reached s c (own s c n) ≡ Some at → usable s c at ≡ Some j
     → of_kind wanted j ≡ Found k → named s c n wanted ≡ Found k
 name_from s c n wanted at j k r u f =
-    ap (λ x. and_then (or_refuse x reply.NoSlot) λ at. and_then (or_refuse (usable s c at) reply.Empty) λ k. of_kind wanted k) r
-    ∙ ap (λ x. and_then (or_refuse x reply.Empty) λ k. of_kind wanted k) u ∙ f
+    ap (λ x. and_then (or_refuse x Reply.NoSlot) λ at. and_then (or_refuse (usable s c at) Reply.Empty) λ k. of_kind wanted k) r
+    ∙ ap (λ x. and_then (or_refuse x Reply.Empty) λ k. of_kind wanted k) u ∙ f
 
 -- What is a core's own stays through another core's change, whether it is in a call or not.
 pub record OwnStay (s t : State) (c : ℕ) : Type 0 where

@@ -1,25 +1,20 @@
 -- The words of a frame past its 64: no step is on one, so they stay as at the start, where they are 0, and carry no mark.
-use Rattle.place_invariant.proofs.Common.{◌≡◌, Bool, true, false, Option, Some, None, refl, ℕ, ◌-◌, ◌*◌, ◌==◌, arith, ◌≢◌, ◌+◌, sym}
-use Rattle.place_invariant.proofs.Common.{nat_lt, [], ◌∷◌, length, ap, ◌∙◌, ◌≤◌, ltb-true, eqb-true, Capability, Setting, IsSetting}
-use Rattle.place_invariant.proofs.Common.{entry_of_word, word_of_entry, word_of_stack, word_of, IsIn, EntryAt, Word, ClockAt, FrameAt}
-use Rattle.place_invariant.proofs.Common.{CountAt, CoreAt, FlushAt, LiveAt, Free, TcapFields, Frame, Place, last_left-there, shape_of}
-use Rattle.place_invariant.proofs.Common.{IsLegal, at_height, Trace, last_left}
-use Rattle.std.specs.List.{slice_get}
-use Rattle.std.specs.Prelude.{if◌then◌else◌}
-use Rattle.std.proofs.lemmas.Option.{slice_get_past}
-use Rattle.place_invariant.specs.spk_nums.specs.declared.grants.Grant.{Grant}
+use Rattle.place_invariant.specs.step_ways.proofs as low
+use low.{◌≡◌, Bool, true, false, Option, Some, None, refl, ℕ, ◌-◌, ◌*◌, ◌==◌, arith, ◌≢◌, ◌+◌, sym, ltb as nat_lt, [], ◌∷◌, length, ap, ◌∙◌}
+use low.{◌≤◌, ltb-true, eqb-true, Capability, Setting, IsSetting, entry_of_word, word_of_entry, word_of_stack, word_of, IsIn, EntryAt, Word}
+use low.{ClockAt, FrameAt, CountAt, CoreAt, FlushAt, LiveAt, Free, TcapFields, Frame, Place, last_left-there, shape_of, IsLegal, at_height}
+use low.{Trace, last_left, slice_get, if◌then◌else◌, Entry}
+use Rattle.place_invariant.specs.kernel_rules.specs.{Grant, granted, start_cap, core_cap, place_with, start_place, start_comp}
+use Rattle.place_invariant.specs.kernel_history.specs.{boot_entry, boot_frame, boot_word}
+use Rattle.place_invariant.specs.kernel_history.specs.{BootWords.boot_thread, BootWords.boot_tcap, ObjectWords.comp_word}
+use Rattle.{std.proofs.lemmas.Option.slice_get_past, place_invariant.specs.tcap_words.specs.Quality.word_of_quality}
 use Rattle.place_invariant.specs.entry_words.proofs.Spelling as entries
-use Rattle.place_invariant.specs.entry_words.specs.declared.entry.Entry.TheVariants as entry
-use Rattle.place_invariant.specs.tcap_words.specs.Quality.{word_of_quality}
-use Rattle.place_invariant.specs.kernel_rules.specs.Start.{granted, start_cap, core_cap, place_with, start_place, start_comp}
-use Rattle.place_invariant.specs.kernel_history.specs.BootWords.{boot_entry, boot_frame, boot_thread, boot_tcap, boot_word}
-use Rattle.place_invariant.specs.kernel_history.specs.ObjectWords.{comp_word}
 
 choose : {A : Type 0} (P : A → Type 0) (b : Bool) (x y : A) → (b ≡ true → P x) → (b ≡ false → P y) → P (if b then x else y)
 choose P true x y hx hy = hx refl
 choose P false x y hx hy = hy refl
 
-zero_entry : word_of_entry entry.Free ≡ 0
+zero_entry : word_of_entry Entry.Free ≡ 0
 unfolding word_of_entry
 zero_entry = refl
 
@@ -107,5 +102,5 @@ module _ (setup : Setting) (setting : IsSetting setup) (i : ℕ) (past : 64 ≤ 
   stays_zero (e ∷ t) legal f = last_left-there setup (EntryAt f i) e t (never_in (word_of e.move) f legal.1.is_in) ∙ stays_zero t legal.0 f
 
   -- so it says that it is free
-  pub free_beyond : (t : Trace) → IsLegal setup t → (f : ℕ) → entry_of_word (last_left setup t (EntryAt f i)) ≡ Some entry.Free
-  free_beyond t legal f = ap entry_of_word (stays_zero t legal f ∙ sym zero_entry) ∙ entries.spelling.reads entry.Free tt
+  pub free_beyond : (t : Trace) → IsLegal setup t → (f : ℕ) → entry_of_word (last_left setup t (EntryAt f i)) ≡ Some Entry.Free
+  free_beyond t legal f = ap entry_of_word (stays_zero t legal f ∙ sym zero_entry) ∙ entries.spelling.reads Entry.Free tt

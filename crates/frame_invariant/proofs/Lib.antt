@@ -1,5 +1,3 @@
--- The names that most proofs use.
-pub use Rattle.place_invariant.proofs.Common
 -- Typing.
 pub mod Typings
 -- Making an object.

@@ -1,71 +1,53 @@
 -- The decision of a call that makes an object: the compare of its target, where it is won, makes the frame that object, and puts its
 -- capability there.
-use Rattle.place_invariant.proofs.Common.{Want, counts_bare, may_keep, not_exclusive_value, not_exclusive_word}
-use Rattle.place_invariant.proofs.Common.{node_keeps_none, All, ◌≡◌, List, Bool}
-use Rattle.place_invariant.proofs.Common.{true}
-use Rattle.place_invariant.proofs.Common.{false, Some, None, refl, ℕ, ◌<◌, ◌^◌, ◌==◌, arith, ◌≢◌, ◌+◌, sym, ◌&&◌, [], ◌∷◌, ap, ◌∙◌, subst}
-use Rattle.place_invariant.proofs.Common.{◌≤◌, IsTrue, ◌⊎◌, inl, inr, max, map, ◌+ℤ◌, All-nil, All-cons, All-head, All-tail, ne_eqb}
-use Rattle.place_invariant.proofs.Common.{eqb-true, cases_eq, false≢true, Capability, Setting, IsSetting, left_if, Kind, entry_of_word}
-use Rattle.place_invariant.proofs.Common.{EntryFits, word_of_entry, Held, frame_of_word, word_of_frame, same_same, left_of, word_of, Move}
-use Rattle.place_invariant.proofs.Common.{CompareOf, told_of, EntryAt, Word, same_word, ClockAt, FrameAt, CountAt, CoreAt, FlushAt}
-use Rattle.place_invariant.proofs.Common.{LiveAt, slot_is, place_here, place_there, IsSound, opened, put_same, put_other, events_of, Slot}
-use Rattle.place_invariant.proofs.Common.{own, rule_of, change_of, changed, counted, MayReply, begins_in, ends_by, flushes_by, is_blank}
-use Rattle.place_invariant.proofs.Common.{calls_counted, refs, place_names, times, is_node, Found, IsFoundAnd, Blank, Kernel}
-use Rattle.place_invariant.proofs.Common.{State, put, comp_of, thread_in, thread_of, first_of_stack, Object, FrameOf, with_frame, Thing}
-use Rattle.place_invariant.proofs.Common.{NumberOf, comp_in, Holds, PlaceOf, with_place, ok_first, decided-inside, cases_word}
-use Rattle.place_invariant.proofs.Common.{same_word-other, sound_of, last_left-there, stamp-kept, HasReached, marked_by, frame_mark}
-use Rattle.place_invariant.proofs.Common.{mark_of, entry_mark, mark_in_frame, frame_value, stamp, ends_in, flushes_in, Trace, Open, phase}
-use Rattle.place_invariant.proofs.Common.{state_after, Step, last_left, state_decided_in, way_to, ways, leads_by, LeadsIn, own_pages}
-use Rattle.place_invariant.proofs.Common.{CapNames, made_dues, object_kind, object_dues, Due, Making, MakingAt, Mark, Store, Unmark, Act}
-use Rattle.place_invariant.proofs.Common.{landed, Core, ActiveCall, Stage, Undecided, Decided, calm_counted, plain_exit, counted_rises}
-use Rattle.place_invariant.proofs.Common.{BeginsNone, counts, own_kept, counted_refs, limits_of, ReadsAlike, StaysSaid}
-use Rattle.place_invariant.proofs.Common.{word_stays, SameFor, holds_counts, settled_by, settled, keeps, AreDuesApart, HasFound}
-use Rattle.place_invariant.proofs.Common.{own_in, phase_at, due_of, KnowsUndecided, KnowsMakingAt, KnowsUnmark, WorksIn, MayFill}
-use Rattle.place_invariant.proofs.Common.{holds_at, holds_in, Invariant, holds, held_by, holds_making, times_of, SumIs, counted_in}
-use Rattle.place_invariant.proofs.Common.{PlaceIs, IsFrameWord, WordIs, later, stamp_of_change}
-use Rattle.std.specs.Prelude.{if◌then◌else◌, pos}
-use Rattle.place_invariant.specs.spk_nums.specs.declared.kinds.Kind.TheVariants as kind
-use Rattle.place_invariant.specs.spk_nums.specs.declared.replies.Reply.TheVariants as reply
-use Rattle.place_invariant.specs.spk_nums.specs.declared.replies.Value.TheVariants.{Nothing}
+use Rattle.place_invariant.specs.step_ways.proofs.{Want, counts_bare, may_keep, not_exclusive_value, not_exclusive_word, All, ◌≡◌, List}
+use Rattle.place_invariant.specs.step_ways.proofs.{Bool, true, false, Some, None, refl, ℕ, ◌<◌, ◌^◌, ◌==◌, arith, ◌≢◌, ◌+◌, sym, ◌&&◌, []}
+use Rattle.place_invariant.specs.step_ways.proofs.{◌∷◌, ap, ◌∙◌, subst, ◌≤◌, IsTrue, ◌⊎◌, inl, inr, max, map, ◌+ℤ◌, ne_eqb, eqb-true}
+use Rattle.place_invariant.specs.step_ways.proofs.{false≢true, Capability, Setting, IsSetting, left_if, Kind, entry_of_word, EntryFits}
+use Rattle.place_invariant.specs.step_ways.proofs.{word_of_entry, Held, frame_of_word, word_of_frame, same_same, left_of, word_of, Move}
+use Rattle.place_invariant.specs.step_ways.proofs.{CompareOf, told_of, EntryAt, Word, same_word, ClockAt, FrameAt, CountAt, CoreAt, FlushAt}
+use Rattle.place_invariant.specs.step_ways.proofs.{LiveAt, IsSound, opened, put_same, put_other, events_of, Slot, own, rule_of, change_of}
+use Rattle.place_invariant.specs.step_ways.proofs.{changed, counted, MayReply, ends_by, flushes_by, is_blank, calls_counted, refs}
+use Rattle.place_invariant.specs.step_ways.proofs.{place_names, times, is_node, Found, IsFoundAnd, Blank, Kernel, State, put, comp_of}
+use Rattle.place_invariant.specs.step_ways.proofs.{thread_in, thread_of, first_of_stack, Object, FrameOf, with_frame, Thing, NumberOf}
+use Rattle.place_invariant.specs.step_ways.proofs.{comp_in, Holds, PlaceOf, with_place, ok_first, decided-inside, cases_word}
+use Rattle.place_invariant.specs.step_ways.proofs.{same_word-other, sound_of, last_left-there, stamp-kept, HasReached, marked_by}
+use Rattle.place_invariant.specs.step_ways.proofs.{frame_mark, mark_of, entry_mark, mark_in_frame, frame_value, stamp, ends_in, flushes_in}
+use Rattle.place_invariant.specs.step_ways.proofs.{Trace, Open, phase, state_after, Step, last_left, state_decided_in, way_to, ways}
+use Rattle.place_invariant.specs.step_ways.proofs.{leads_by, LeadsIn, own_pages, CapNames, object_dues, Due, Making, MakingAt, Mark, Store}
+use Rattle.place_invariant.specs.step_ways.proofs.{Unmark, Act, landed, Core, ActiveCall, Stage, Undecided, Decided, calm_counted}
+use Rattle.place_invariant.specs.step_ways.proofs.{plain_exit, counted_rises, counts, own_kept, counted_refs, limits_of, ReadsAlike}
+use Rattle.place_invariant.specs.step_ways.proofs.{StaysSaid, word_stays, SameFor, holds_counts, settled_by, settled, keeps, AreDuesApart}
+use Rattle.place_invariant.specs.step_ways.proofs.{HasFound, own_in, phase_at, due_of, KnowsUndecided, KnowsUnmark, WorksIn, MayFill}
+use Rattle.place_invariant.specs.step_ways.proofs.{holds_at, holds_in, Invariant, holds, held_by, holds_making, times_of, SumIs, counted_in}
+use Rattle.place_invariant.specs.step_ways.proofs.{PlaceIs, IsFrameWord, WordIs, later, stamp_of_change, if◌then◌else◌, pos}
+use Rattle.place_invariant.specs.step_ways.proofs.{fits as fits_kind, begins_in as begins_then, Load as making_load, spares_node, next_at}
+use Rattle.place_invariant.specs.step_ways.proofs.{IsOfCall, core_in_call, inner, call_is, IsMarked, place_reads, IsUnmarked, node_mark}
+use Rattle.place_invariant.specs.step_ways.proofs.{GoodTook, not_spent, same_marks, decides_writing, plan_for, Reply}
+use Rattle.place_invariant.specs.act_states.specs.{begins_in, made_dues, object_kind, Nothing, published, took_making_at, object_names}
+use Rattle.place_invariant.specs.act_states.specs.{last_word, MakingFits, made, making_at}
+use Rattle.place_invariant.specs.count_invariant.proofs.{found_named, own_is, way_gone, dues_commit, dues_sum}
+use Rattle.place_invariant.specs.core_invariant.specs.{KnowsMakingAt, Make as make_act, KnowsMaking, HasStored}
+use Rattle.place_invariant.specs.found_stays.proofs.{slot_is, place_here, place_there, comp_fit}
+use Rattle.place_invariant.specs.kept_facts.proofs.{node_keeps_none, BeginsNone, same_works}
+use Rattle.std.proofs.lemmas.List.Elements.{All-nil, All-cons, All-head, All-tail}
+use Rattle.place_invariant.specs.act_states.specs.{Taking.took_making, Objects.object_cap, Objects.one_more as due_one, Makings.making_move}
+use Rattle.place_invariant.specs.kept_facts.proofs.{Calm.none_flush, CountSums.times_here, CountSums.times_there}
+use Rattle.place_invariant.specs.count_invariant.proofs.MakingCounts.{made_changes, made_types, made_argument}
+use Rattle.place_invariant.proofs.{Fills.node_word, ObjectMakes.new_object, ObjectMakes.ready_place, ObjectMakes.readied, ObjectMakes.makes}
+use Rattle.frame_invariant.proofs.NewObjects.{made_value, made_fits, made_cap, made_caps, cap_names, made_ends, SaysNew, says_new, bare_new}
+use Rattle.frame_invariant.proofs.NewObjects.{PlaceReady, place_ready, ready_there, word_new, new_refs}
+use Rattle.frame_invariant.proofs.Makes.{load_good, mark_good, store_good, put_lost, put_of_call}
+use Rattle.{place_invariant.proofs.vacant_slot, place_invariant.proofs.vacant_here, std.proofs.lemmas.Bool.cases_eq}
+use Rattle.{place_invariant.specs.kernel_invariant.proofs.Refs.place_refs, place_invariant.specs.kernel_rules.specs.Edits.is_place_of}
+use Rattle.{place_invariant.specs.call_plans.proofs.AfterNames.before, place_invariant.specs.plan_ways.proofs.Ways.all_ways}
+use Rattle.{place_invariant.specs.act_states.specs.declared.makings.MakingAt.TheVariants.Fill as making_fill}
+use Rattle.{place_invariant.proofs.ObjectMakes.made_is, place_invariant.proofs.Vacancy.IsVacant, frame_invariant.proofs.Beyond.free_beyond}
+use Rattle.{frame_invariant.proofs.MakeCalls.IsObjectCall}
 use Rattle.place_invariant.specs.entry_words.proofs.Spelling as entries
 use Rattle.place_invariant.specs.frame_words.proofs.FrameLemmas as frames
-use Rattle.place_invariant.specs.kernel_invariant.proofs.Refs.{place_refs}
-use Rattle.place_invariant.specs.found_stays.proofs.Stays.{comp_fit}
 use Rattle.place_invariant.specs.kernel_invariant.proofs.Sums as sums
-use Rattle.place_invariant.specs.kernel_rules.specs.Fitting.{fits as fits_kind}
-use Rattle.place_invariant.specs.kernel_rules.specs.Edits.{is_place_of}
-use Rattle.place_invariant.specs.kernel_history.specs.Stamps.{begins_in as begins_then}
-use Rattle.place_invariant.specs.call_plans.proofs.AfterNames.{before}
-use Rattle.place_invariant.specs.plan_ways.proofs.Ways.{all_ways}
-use Rattle.place_invariant.specs.act_states.specs.Acts.{published, took_making_at, took_making}
-use Rattle.place_invariant.specs.act_states.specs.Objects.{object_cap, object_names, one_more as due_one}
-use Rattle.place_invariant.specs.act_states.specs.Objects.{last_word}
-use Rattle.place_invariant.specs.act_states.specs.Makings.{MakingFits, made, making_move, making_at}
-use Rattle.place_invariant.specs.act_states.specs.declared.makings.MakingAt.TheVariants.{Load as making_load}
-use Rattle.place_invariant.specs.act_states.specs.declared.makings.MakingAt.TheVariants.{Fill as making_fill}
-use Rattle.place_invariant.specs.act_states.specs.declared.work.Act.TheVariants.{Make as make_act}
-use Rattle.place_invariant.specs.kept_facts.proofs.Calm.{same_works, none_flush}
-use Rattle.place_invariant.specs.kept_facts.proofs.CountSums.{times_here, times_there}
-use Rattle.place_invariant.specs.step_ways.proofs.Good.{spares_node}
-use Rattle.place_invariant.specs.step_ways.proofs.Loads.{next_at, IsOfCall, core_in_call, inner, call_is}
-use Rattle.place_invariant.specs.step_ways.proofs.Places.{IsMarked, place_reads, IsUnmarked, node_mark}
-use Rattle.place_invariant.specs.step_ways.proofs.Refusals.{GoodTook, not_spent}
-use Rattle.place_invariant.specs.step_ways.proofs.Writes.{same_marks, decides_writing}
-use Rattle.place_invariant.specs.core_invariant.specs.Knows.{KnowsMaking, HasStored}
-use Rattle.place_invariant.specs.count_invariant.proofs.Findings.{found_named, own_is, way_gone}
-use Rattle.place_invariant.specs.count_invariant.proofs.MakingCounts.{made_changes, made_types, made_argument}
-use Rattle.place_invariant.specs.count_invariant.proofs.CountChanges.{dues_commit, dues_sum}
-use Rattle.place_invariant.proofs.Fills.{node_word}
-use Rattle.place_invariant.proofs.ObjectMakes.{new_object, ready_place, readied, makes, made_is}
-use Rattle.place_invariant.proofs.Outside.{vacant_slot, vacant_here}
-use Rattle.place_invariant.proofs.Vacancy.{IsVacant}
-use Rattle.frame_invariant.proofs.Beyond.{free_beyond}
 use Rattle.frame_invariant.proofs.MakeCalls as calls
-use Rattle.frame_invariant.proofs.MakeCalls.{IsObjectCall}
-use Rattle.frame_invariant.proofs.NewObjects.{made_value, made_fits, made_cap, made_caps, cap_names, made_ends, SaysNew}
-use Rattle.frame_invariant.proofs.NewObjects.{says_new, bare_new, PlaceReady, place_ready, ready_there, word_new, new_refs}
-use Rattle.frame_invariant.proofs.Makes.{load_good, mark_good, store_good, put_lost, put_of_call}
-use Rattle.place_invariant.specs.act_states.specs.call_plans.specs.PlanOf.{plan_for}
 
 -- Each frame of a list without repetition occurs once, and no other does.
 named_not : (f : ℕ) (fs : List ℕ) → All (λ d. f ≢ d.frame) (map due_one fs) → times f fs ≡ 0
@@ -201,16 +183,16 @@ module _ (setup : Setting) (setting : IsSetting setup) (cores : ℕ → Core) (t
 
   module _ (equal : (was == m.fill.word) ≡ true) where
     abbrev e : Step
-    e = inner setup setting cores t stands c here a active put_it (Some (reply.Ok Nothing)) None
+    e = inner setup setting cores t stands c here a active put_it (Some (Reply.Ok Nothing)) None
 
     abbrev s' : State
     s' = state_after setup (e ∷ t)
 
     abbrev stage : Stage
-    stage = Decided (reply.Ok Nothing) None (Unmark f made_word)
+    stage = Decided (Reply.Ok Nothing) None (Unmark f made_word)
 
     abbrev count : ℕ
-    count = (cores c).own.made + calls_counted (reply.Ok Nothing)
+    count = (cores c).own.made + calls_counted (Reply.Ok Nothing)
 
     abbrev after : Core
     after = core_in_call (cores c) count (next_at a a.found stage)
@@ -248,7 +230,7 @@ module _ (setup : Setting) (setting : IsSetting setup) (cores : ℕ → Core) (t
         ∙ ap Found (made_is c s m.object f slot)
 
     now : s' ≡ counted filled c
-    now = ap (λ p. state_decided_in p (reply.Ok Nothing) s c) is_open ∙ ap (λ x. counted (changed s x) c) change_is
+    now = ap (λ p. state_decided_in p (Reply.Ok Nothing) s c) is_open ∙ ap (λ x. counted (changed s x) c) change_is
 
     limits : s'.limits ≡ s.limits
     limits = ap (λ x. x.limits) now
@@ -296,15 +278,15 @@ module _ (setup : Setting) (setting : IsSetting setup) (cores : ℕ → Core) (t
     -- its times
     begins_none : BeginsNone setup t e
     begins_none = record {
-      begins = λ x. ap (λ p. begins_then (Some (reply.Ok Nothing)) p s c x) is_open ∙ ap (λ y. begins_in y x) change_is;
-      flushes = ap (flushes_in (Some (reply.Ok Nothing))) is_open
+      begins = λ x. ap (λ p. begins_then (Some (Reply.Ok Nothing)) p s c x) is_open ∙ ap (λ y. begins_in y x) change_is;
+      flushes = ap (flushes_in (Some (Reply.Ok Nothing))) is_open
           ∙ ap flushes_by (calls.is setup setting cores t stands c here a active m stage_is has).call_is;
       apart = λ d. refl;
       same = refl;
     }
 
     stamp_kept : (x : Thing) → is_place_of f x ≡ false → stamp setup (e ∷ t) x ≡ stamp setup t x
-    stamp_kept x other = stamp-kept setup e t x (begins_none.begins x) (ap (λ p. ends_in (Some (reply.Ok Nothing)) p x) is_open
+    stamp_kept x other = stamp-kept setup e t x (begins_none.begins x) (ap (λ p. ends_in (Some (Reply.Ok Nothing)) p x) is_open
         ∙ ap (λ y. ends_by y x) call.call_is ∙ made_ends call.what call.name f call.root call.slot x other)
       where
         call : IsObjectCall a.call a.found m
@@ -329,8 +311,8 @@ module _ (setup : Setting) (setting : IsSetting setup) (cores : ℕ → Core) (t
 
     works : WorksIn (record (cores c).own { made = count }) s' c
     works = same_works s s' c (cores c).own (record (cores c).own { made = count })
-        (ap thread_in (object_kept (s.core c).thread kind.Thread (sound.cores c core_below).0 refl))
-        (ap comp_in (object_kept (first_of_stack (thread_of s c).stack) kind.Comp
+        (ap thread_in (object_kept (s.core c).thread Kind.Thread (sound.cores c core_below).0 refl))
+        (ap comp_in (object_kept (first_of_stack (thread_of s c).stack) Kind.Comp
         (comp_fit s (opened (events_of t)) c sound core_below) refl))
         own_stays
         (ap (λ (m : ℕ). record (cores c).own { made = m }) count_is) (stands.each c here).works
@@ -392,7 +374,7 @@ module _ (setup : Setting) (setting : IsSetting setup) (cores : ℕ → Core) (t
         ∙ own_mark)))
     stays (CountAt g d) there free = said (CountAt g d) tt
     stays (CoreAt d) there free = said (CoreAt d) (record {
-      inside = decided-inside (Some (reply.Ok Nothing)) (phase t c) s c d;
+      inside = decided-inside (Some (Reply.Ok Nothing)) (phase t c) s c d;
       exit = plain_exit t e refl d;
     })
     stays (FlushAt d) there free = said (FlushAt d) (none_flush setup t e begins_none d)
@@ -445,7 +427,7 @@ module _ (setup : Setting) (setting : IsSetting setup) (cores : ℕ → Core) (t
       | inr other ↦ subst (WordIs s' (times_of setup (e ∷ t)) w)
           (sym (ap (λ b. if b then made_word else (holds_counts (Some None) a.counts).stands w) (same_word-other w (FrameAt f) other)))
           (dues_commit setup setting cores t stands c here a active None none_small (object_dues m.object f) dues_are
-          put_it (reply.Ok Nothing) after still before_count (λ g d. refl) alike
+          put_it (Reply.Ok Nothing) after still before_count (λ g d. refl) alike
           unmarked.mark bare_now no_count w
           (sym (ap (λ h. h.marks w) holds_is
           ∙ ap (λ b. if b then true else (holds_counts None a.counts).marks w) (same_word-other w (FrameAt f) other))
@@ -485,7 +467,7 @@ module _ (setup : Setting) (setting : IsSetting setup) (cores : ℕ → Core) (t
 
     sums_are : (g : ℕ) → SumIs setup (held_by (put cores c after)) (e ∷ t) g
     sums_are = dues_sum setup setting cores t stands c here a active None none_small (object_dues m.object f) dues_are
-        put_it (reply.Ok Nothing) after still before_count (λ g d. refl) alike unmarked.mark
+        put_it (Reply.Ok Nothing) after still before_count (λ g d. refl) alike unmarked.mark
         bare_now no_count (ap (λ l. l.cores) limits)
         (λ g none. (
           (let more = grows g in let zero_times = named_not g (f ∷ object_names m.object) none in omega (arith, more, zero_times)),
@@ -498,7 +480,7 @@ module _ (setup : Setting) (setting : IsSetting setup) (cores : ℕ → Core) (t
         (calls.counts_apart setup setting cores t stands c here a active m stage_is has blank) grows_one))
 
     -- the reply
-    permitted : MayReply s c a.call (reply.Ok Nothing)
+    permitted : MayReply s c a.call (Reply.Ok Nothing)
     permitted = (
       not_spent setup (cores c) t c (stands.each c here) (calls.room setup setting cores t stands c here a active m stage_is has),
       (has.acts, subst (λ x. IsFoundAnd x (λ y. y.value ≡ Nothing)) (sym change_is) refl),
@@ -537,7 +519,7 @@ module _ (setup : Setting) (setting : IsSetting setup) (cores : ℕ → Core) (t
     }
 
     pub put_won : GoodTook setup cores t c put_it (landed a (published m word true))
-    put_won lands = decides_writing setup setting cores t stands c here a active put_it count (reply.Ok Nothing) a.found stage
+    put_won lands = decides_writing setup setting cores t stands c here a active put_it count (Reply.Ok Nothing) a.found stage
         unmarked.mark bare_now (subst (λ (n : ℕ). n < 2 ^ 64) (sym leaves_it) (entries.spelling.small (Held k) fits)) of_call lands opens
         refl
         same_held

@@ -1,36 +1,21 @@
 -- A call that makes an object, at its act: what it knows, and what is left of its rule.
-use Rattle.place_invariant.proofs.Common.{◌≡◌, arith, Bool, true, false, Some, None, refl, ℕ, ◌<◌, ◌≢◌, sym, ◌&&◌, [], ◌∷◌, ap, ◌∙◌}
-use Rattle.place_invariant.proofs.Common.{subst, IsTrue, not, lt-ltb, false≢true, Capability, Setting, IsSetting, Call, Make}
-use Rattle.place_invariant.proofs.Common.{frame_of_word, same_same, EntryAt, FrameAt, found, Target, Under, Slot, reached, rule_of}
-use Rattle.place_invariant.proofs.Common.{change_of, has_frame, not_blank, is_blank, is_node, Found, Change, first_cause, and_then}
-use Rattle.place_invariant.proofs.Common.{unless, vacant, outcome, first_of, Blank, Kernel, State, Leaf, opened, events_of, sound_of}
-use Rattle.place_invariant.proofs.Common.{opened_is, marked_by, mark_in_frame, frame_value, Trace, Open, phase, state_after, last_left}
-use Rattle.place_invariant.proofs.Common.{target_of, outcome_left, names_after, Leads, NextFree, next_of, rule_after, LeadsIn, own_pages}
-use Rattle.place_invariant.proofs.Common.{GoesBy, plan_for, Plan, object_kind, object_made, object_dues, Making, MakingAt, Act, StageFits}
-use Rattle.place_invariant.proofs.Common.{HasRoom, Core, ActiveCall, Undecided, limits_of, holds_counts, settled_by, settled, keeps}
-use Rattle.place_invariant.proofs.Common.{AreDuesApart, phase_at, KnowsUndecided, MakesBy, blank_word, holds_in, Invariant, holds}
-use Rattle.place_invariant.proofs.Common.{held_by}
-use Rattle.std.specs.Prelude.{if◌then◌else◌, List}
-use Rattle.place_invariant.specs.spk_nums.specs.declared.calls.Call.TheVariants.{Make as make_call}
-use Rattle.place_invariant.specs.spk_nums.specs.declared.replies.Reply.TheVariants as reply
-use Rattle.place_invariant.specs.plan_ways.proofs.Ways.{target_is as target_is_of}
-use Rattle.place_invariant.specs.plan_ways.specs.Laws.{IsTargetOf}
-use Rattle.place_invariant.specs.act_states.specs.Makings.{MakingFits}
-use Rattle.place_invariant.specs.act_states.specs.Objects.{NamesFit}
-use Rattle.place_invariant.specs.act_states.specs.declared.work.Act.TheVariants.{Make as make_act}
-use Rattle.place_invariant.specs.step_ways.proofs.Good.{blank_is}
-use Rattle.place_invariant.specs.step_ways.proofs.Loads.{is_active, call_is}
-use Rattle.place_invariant.specs.core_invariant.specs.Knows.{KnowsMaking}
-use Rattle.place_invariant.specs.count_invariant.proofs.Acquiring.{plan_leads, goes_by}
-use Rattle.place_invariant.proofs.ObjectMakes.{made_by, make_rest, IsObjectMake, object_make, HasObjects, dues_apart}
-use Rattle.place_invariant.proofs.Outside.{none_left_of}
-use Rattle.place_invariant.proofs.Vacancy.{in_leaf}
-use Rattle.frame_invariant.proofs.NewObjects.{names_small}
-use Rattle.place_invariant.specs.spk_nums.specs.declared.replies.Value.TheVariants.{Nothing as no_value}
-use Rattle.place_invariant.specs.kernel_rules.specs.Start.{plain_cap}
-use Rattle.place_invariant.specs.kernel_rules.specs.Edits.{Fill as fill_edit}
-use Rattle.place_invariant.specs.kernel_rules.specs.Rules.{does}
-use Rattle.place_invariant.specs.act_states.specs.call_plans.specs.PlanOf.{plan_for}
+use Rattle.place_invariant.specs.step_ways.proofs as low
+use low.{◌≡◌, arith, Bool, true, false, Some, None, refl, ℕ, ◌<◌, ◌≢◌, sym, ◌&&◌, [], ◌∷◌, ap, ◌∙◌, subst, IsTrue, not, lt-ltb, false≢true}
+use low.{Capability, Setting, IsSetting, Call, frame_of_word, same_same, EntryAt, FrameAt, found, Target, Under, Slot, reached, rule_of}
+use low.{change_of, has_frame, not_blank, is_blank, is_node, Found, Change, first_cause, and_then, unless, vacant, outcome, first_of, Blank}
+use low.{Kernel, State, Leaf, opened, events_of, sound_of, opened_is, marked_by, mark_in_frame, frame_value, Trace, Open, phase}
+use low.{state_after, last_left, target_of, outcome_left, names_after, Leads, NextFree, next_of, rule_after, LeadsIn, own_pages, GoesBy}
+use low.{plan_for, Plan, object_made, object_dues, Making, MakingAt, Act, StageFits, HasRoom, Core, ActiveCall, Undecided, limits_of}
+use low.{holds_counts, settled_by, settled, keeps, AreDuesApart, phase_at, KnowsUndecided, holds_in, Invariant, holds, held_by}
+use low.{if◌then◌else◌, List, Make as make_call, blank_is, is_active, call_is, plain_cap, does, Reply}
+use Rattle.place_invariant.specs.core_invariant.specs.{MakesBy, blank_word, Make as make_act, KnowsMaking}
+use Rattle.place_invariant.specs.act_states.specs.{object_kind, MakingFits, NamesFit, Nothing as no_value}
+use Rattle.place_invariant.specs.kernel_rules.specs.{Make, Fill as fill_edit}
+use Rattle.place_invariant.specs.count_invariant.proofs.{plan_leads, goes_by}
+use Rattle.place_invariant.proofs.{ObjectMakes.made_by, ObjectMakes.make_rest, ObjectMakes.IsObjectMake, ObjectMakes.object_make}
+use Rattle.place_invariant.proofs.{ObjectMakes.HasObjects, ObjectMakes.dues_apart, Outside.none_left_of, Vacancy.in_leaf}
+use Rattle.{place_invariant.specs.plan_ways.proofs.Ways.target_is as target_is_of, place_invariant.specs.plan_ways.specs.Laws.IsTargetOf}
+use Rattle.{frame_invariant.proofs.NewObjects.names_small}
 
 -- It makes this object in this frame, which the range has to which its first name has led.
 pub record IsObjectCall (call : Call) (ks : List Capability) (m : Making) : Type 0 where
@@ -164,21 +149,21 @@ module _ (setup : Setting) (setting : IsSetting setup) (cores : ℕ → Core) (t
   change = does c s no_value (made_by m.object m.frame ∷ fill_edit slot (plain_cap (object_kind m.object) m.frame) ∷ [])
 
   pub by_blank : vacant s c target ≡ Found slot → (blank : Bool) → is_blank (s.frame m.frame) ≡ blank
-      → change_of s c a.call ≡ unless (if not blank then Some reply.FrameKind else None) change
+      → change_of s c a.call ≡ unless (if not blank then Some Reply.FrameKind else None) change
   by_blank free blank at_frame =
       outcome_left s c (own_pages s c) (plan_for a.call) (rule_of s c a.call) a.found by_plan leads ∙ ap (outcome s c) left
-      ∙ ap (λ x. and_then x λ at. unless (first_of (if not (has_frame (found make.two.range) m.frame) then Some reply.OutOfRange else None)
+      ∙ ap (λ x. and_then x λ at. unless (first_of (if not (has_frame (found make.two.range) m.frame) then Some Reply.OutOfRange else None)
       (first_cause s c (not_blank s m.frame ∷ [])))
       (does c s no_value (made_by m.object m.frame ∷ fill_edit at (plain_cap (object_kind m.object) m.frame) ∷ []))) free
-      ∙ ap (λ b. unless (first_of (if not b then Some reply.OutOfRange else None) (first_cause s c (not_blank s m.frame ∷ []))) change)
+      ∙ ap (λ b. unless (first_of (if not b then Some Reply.OutOfRange else None) (first_cause s c (not_blank s m.frame ∷ []))) change)
       within
-      ∙ ap (λ b. unless (first_of (if b && not (is_blank (s.frame m.frame)) then Some reply.FrameKind else None) None) change)
+      ∙ ap (λ b. unless (first_of (if b && not (is_blank (s.frame m.frame)) then Some Reply.FrameKind else None) None) change)
       (lt-ltb m.frame s.limits.frames below)
-      ∙ ap (λ b. unless (first_of (if not b then Some reply.FrameKind else None) None) change) at_frame
+      ∙ ap (λ b. unless (first_of (if not b then Some Reply.FrameKind else None) None) change) at_frame
       ∙ last blank
     where
-      last : (b : Bool) → unless (first_of (if not b then Some reply.FrameKind else None) None) change
-          ≡ unless (if not b then Some reply.FrameKind else None) change
+      last : (b : Bool) → unless (first_of (if not b then Some Reply.FrameKind else None) None) change
+          ≡ unless (if not b then Some Reply.FrameKind else None) change
       last true = refl
       last false = refl
 

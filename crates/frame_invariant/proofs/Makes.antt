@@ -1,62 +1,38 @@
 -- The steps by which a call makes a node, up to its decision: the load of the frame's word, the compare that marks it, the stores of its
 -- places, and a compare of the target that is lost; and the store that gives the frame's word back.
-use Rattle.place_invariant.proofs.Common.{as_none, counts_bare, may_keep, not_exclusive_word, exclusive_elsewhere}
-use Rattle.place_invariant.proofs.Common.{◌≡◌, ◌≤◌, Bool, true, false, cond}
-use Rattle.place_invariant.proofs.Common.{Option, Some, None, refl, ℕ, ◌<◌, ◌^◌, ◌==◌, arith, ◌≢◌, ◌+◌, sym, nat_lt, ◌&&◌, [], ◌∷◌, ◌++◌}
-use Rattle.place_invariant.proofs.Common.{length, ap, ◌∙◌, subst, IsTrue, inl, inr, not, map, lt-ltb, eqb-true, eqb-false, ltb-false}
-use Rattle.place_invariant.proofs.Common.{cases_eq, eq-eqb, false≢true, Capability, Setting, IsSetting, left_if, Call, Map, FrameKind}
-use Rattle.place_invariant.proofs.Common.{Obj, Reply, word_of_entry, frame_of_word, FrameFits, word_of_frame, FrameWord, same_same}
-use Rattle.place_invariant.proofs.Common.{left_of, word_of, LoadOf, Move, StoreOf, CompareOf, EntryAt, FrameAt, put_same, Target, alone}
-use Rattle.place_invariant.proofs.Common.{rule_of, change_of, are_calls_spent, is_frame, is_blank, Refused, RuleMay, Untyped, Blank}
-use Rattle.place_invariant.proofs.Common.{Table, Pages, User, Kernel, State, put, Leaf, Pleaf, Comp, Thread, Tcap, Frame, PlaceOf}
-use Rattle.place_invariant.proofs.Common.{refused_first, Carries, same_word-other, last_left-here, last_left-there, own_read-here}
-use Rattle.place_invariant.proofs.Common.{own_read-there, IsAlone, changes_places, changes_frames, changes_in_frame, looks_at_frames}
-use Rattle.place_invariant.proofs.Common.{footprint_frames, is_one_of, IsSlot, marked_by}
-use Rattle.place_invariant.proofs.Common.{frame_mark, mark_in_frame, frame_value, stamp, Trace}
-use Rattle.place_invariant.proofs.Common.{Open, phase, state_after, Step, last_left, own_read, left_may, own_pages, Acquired, dues}
-use Rattle.place_invariant.proofs.Common.{next_work, made_dues, object_dues, NewObject, refuse, Making, MakingAt, Mark, Store, Nothing}
-use Rattle.place_invariant.proofs.Common.{Unmark, Act, Goes, GoesOn, landed, went_with, Core, ActiveCall, Undecided, Decided, names_on}
-use Rattle.place_invariant.proofs.Common.{counts_on, spot_on, holds_counts, Holding, settled_by, settled, keeps, phase_at, due_of}
-use Rattle.place_invariant.proofs.Common.{KnowsUndecided, MakesBy, KnowsMakingAt, KnowsUnmark, blank_word, holds_at, holds_in, Invariant}
-use Rattle.place_invariant.proofs.Common.{done_by, holds, held_by, holds_making, IsFrameWord}
-use Rattle.std.specs.Prelude.{if◌then◌else◌, List}
-use Rattle.std.proofs.Common.{is_some}
-use Rattle.place_invariant.specs.spk_nums.specs.declared.calls.Call.TheVariants.{Make as make_call}
-use Rattle.place_invariant.specs.spk_nums.specs.declared.kinds.FrameKind.TheVariants.{Untyped as FrameUntyped, User as FrameUser}
-use Rattle.place_invariant.specs.spk_nums.specs.declared.kinds.FrameKind.TheVariants.{Kernel as FrameKernel}
-use Rattle.place_invariant.specs.spk_nums.specs.declared.kinds.Obj.TheVariants as obj
-use Rattle.place_invariant.specs.spk_nums.specs.declared.replies.Reply.TheVariants as reply
-use Rattle.frame_invariant.proofs.NewObjects.{word_small}
-use Rattle.place_invariant.specs.entry_words.specs.declared.entry.Entry.TheVariants as entry
+use Rattle.place_invariant.specs as low
+use low.step_ways.proofs.{as_none, counts_bare, may_keep, not_exclusive_word, exclusive_elsewhere, ◌≡◌, ◌≤◌, Bool, true, false, cond}
+use low.step_ways.proofs.{Option, Some, None, refl, ℕ, ◌<◌, ◌^◌, ◌==◌, arith, ◌≢◌, ◌+◌, sym, ltb as nat_lt, ◌&&◌, [], ◌∷◌, ◌++◌, length, ap}
+use low.step_ways.proofs.{◌∙◌, subst, IsTrue, inl, inr, not, map, lt-ltb, eqb-true, eqb-false, ltb-false, eq-eqb, false≢true, Capability}
+use low.step_ways.proofs.{Setting, IsSetting, left_if, Call, FrameKind, Obj, Reply, word_of_entry, frame_of_word, FrameFits, word_of_frame}
+use low.step_ways.proofs.{FrameWord, same_same, left_of, word_of, LoadOf, Move, StoreOf, CompareOf, EntryAt, FrameAt, put_same, Target}
+use low.step_ways.proofs.{alone, rule_of, change_of, are_calls_spent, is_frame, is_blank, Refused, RuleMay, Untyped, Blank, Table, Pages}
+use low.step_ways.proofs.{User, Kernel, State, put, Leaf, Pleaf, Comp, Thread, Tcap, Frame, PlaceOf, refused_first, Carries}
+use low.step_ways.proofs.{same_word-other, last_left-here, last_left-there, own_read-here, own_read-there, IsAlone, changes_places}
+use low.step_ways.proofs.{changes_frames, changes_in_frame, footprint_frames, is_one_of, marked_by, frame_mark, mark_in_frame, frame_value}
+use low.step_ways.proofs.{stamp, Trace, Open, phase, state_after, Step, last_left, own_read, left_may, own_pages, Acquired, dues, next_work}
+use low.step_ways.proofs.{object_dues, NewObject, refuse, Making, MakingAt, Mark, Store, Nothing, Unmark, Act, Goes, GoesOn, landed}
+use low.step_ways.proofs.{went_with, Core, ActiveCall, Undecided, Decided, names_on, counts_on, spot_on, holds_counts, Holding, settled_by}
+use low.step_ways.proofs.{settled, keeps, phase_at, due_of, KnowsUndecided, KnowsUnmark, holds_at, holds_in, Invariant, done_by, holds}
+use low.step_ways.proofs.{held_by, holds_making, IsFrameWord, if◌then◌else◌, List, is_some, Make as make_call, Load as making_load}
+use low.step_ways.proofs.{spares_other, blank_is, decides_on, step_to, OnlyLooks, next_at, loads_on, IsOfCall, core_in_call, inner, call_is}
+use low.step_ways.proofs.{core_is, GoodTook, ticks_at, refuses_busy, refuses_raced, raced_leaving, not_spent, plan_for, Entry, Refusal}
+use low.act_states.specs.{Map, made_dues, meets_object, meets_blank, meets_making, marks_if, published, object_word, last_word, MakingFits}
+use low.core_invariant.specs.{MakesBy, KnowsMakingAt, blank_word, Make as make_act, KnowsMaking, HasStored}
+use low.count_invariant.proofs.{footprint_way, knows_next, next_holds, blank_left, argument_footprint}
+use low.stage_tcap.specs.{Untyped as FrameUntyped, User as FrameUser, Kernel as FrameKernel}
+use Rattle.place_invariant.proofs.{vacant_slot, vacant_here, stands_alone}
+use low.act_states.specs.{Taking.meets_kernel, Makings.stored, Makings.MakingAtFits, Makings.marked}
+use low.count_invariant.proofs.MakingCounts.{made_changes, made_argument, made_footprint}
+use low.{kernel_history.specs.looks_at_frames, kernel_history.specs.IsSlot, plan_ways.proofs.Ways.next_on_way}
+use low.{plan_ways.specs.Laws.NextPlace, act_states.specs.declared.makings.MakingAt.TheVariants.Fill as making_fill}
+use low.{act_states.specs.declared.work.Act.Act as ActOf, step_ways.proofs.Good.spares_blank, step_ways.proofs.Writes.stores_on}
+use low.{core_invariant.specs.Acting.HasBlank}
+use Rattle.{std.proofs.lemmas.Bool.cases_eq, place_invariant.proofs.Fills.target_way, place_invariant.proofs.Fills.changes_node}
+use Rattle.{frame_invariant.proofs.NewObjects.word_small, frame_invariant.proofs.MakeCalls.makes_on}
 use Rattle.place_invariant.specs.frame_words.proofs.FrameLemmas as frames
-use Rattle.place_invariant.specs.plan_ways.proofs.Ways.{next_on_way}
-use Rattle.place_invariant.specs.plan_ways.specs.Laws.{NextPlace}
-use Rattle.place_invariant.specs.act_states.specs.Acts.{meets_object, meets_blank, meets_making, marks_if}
-use Rattle.place_invariant.specs.act_states.specs.Acts.{published, meets_kernel}
-use Rattle.place_invariant.specs.act_states.specs.Objects.{object_word, last_word}
-use Rattle.place_invariant.specs.act_states.specs.Makings.{stored, MakingAtFits, MakingFits, marked}
-use Rattle.place_invariant.specs.act_states.specs.declared.makings.MakingAt.TheVariants.{Load as making_load}
-use Rattle.place_invariant.specs.act_states.specs.declared.makings.MakingAt.TheVariants.{Fill as making_fill}
-use Rattle.place_invariant.specs.act_states.specs.declared.refusals.Refusal.TheVariants as refusal
-use Rattle.place_invariant.specs.act_states.specs.declared.work.Act.{Act as ActOf}
-use Rattle.place_invariant.specs.act_states.specs.declared.work.Act.TheVariants.{Make as make_act}
 use Rattle.place_invariant.specs.step_ways.proofs.Counting as counting
-use Rattle.place_invariant.specs.step_ways.proofs.Good.{spares_blank, spares_other, blank_is}
-use Rattle.place_invariant.specs.step_ways.proofs.Loads.{decides_on, step_to, OnlyLooks, next_at, loads_on, IsOfCall, core_in_call}
-use Rattle.place_invariant.specs.step_ways.proofs.Loads.{inner, call_is, core_is}
-use Rattle.place_invariant.specs.step_ways.proofs.Refusals.{GoodTook, ticks_at, refuses_busy, refuses_raced, raced_leaving, not_spent}
-use Rattle.place_invariant.specs.step_ways.proofs.Writes.{stores_on}
-use Rattle.place_invariant.specs.core_invariant.specs.Knows.{KnowsMaking}
-use Rattle.place_invariant.specs.core_invariant.specs.Knows.{HasStored, HasBlank}
-use Rattle.place_invariant.specs.count_invariant.proofs.Lookups.{footprint_way}
-use Rattle.place_invariant.specs.count_invariant.proofs.Acquiring.{knows_next, next_holds}
-use Rattle.place_invariant.specs.count_invariant.proofs.MakingCounts.{blank_left, made_changes}
-use Rattle.place_invariant.specs.count_invariant.proofs.MakingCounts.{made_argument, made_footprint, argument_footprint}
-use Rattle.place_invariant.proofs.Fills.{target_way, changes_node}
-use Rattle.place_invariant.proofs.Outside.{vacant_slot, vacant_here, stands_alone}
 use Rattle.frame_invariant.proofs.MakeCalls as calls
-use Rattle.frame_invariant.proofs.MakeCalls.{makes_on}
-use Rattle.place_invariant.specs.act_states.specs.call_plans.specs.PlanOf.{plan_for}
 
 -- The words of the object that is made are stored one after another, and then the target is compared.
 stored_holds : (object : NewObject) (f word n : ℕ) (h : Holding) → holds_making f (stored object word n) h ≡ keeps (FrameAt f) word h
@@ -102,7 +78,7 @@ makes_places (make_call what r f u b) [] m is = absurd is
 makes_places call ks m is = absurd is
 
 -- A frame that is no kernel frame, or has an object, is not blank.
-pub not_blank_by : (x : Frame) (o : Obj) → (frame_value x).object ≡ o → (o ≡ obj.Blank → ⊥) → is_blank x ≡ false
+pub not_blank_by : (x : Frame) (o : Obj) → (frame_value x).object ≡ o → (o ≡ Obj.Blank → ⊥) → is_blank x ≡ false
 not_blank_by (Kernel Blank) o is other = absurd (other (sym is))
 not_blank_by (Kernel Table) o is other = refl
 not_blank_by (Kernel Leaf) o is other = refl
@@ -207,7 +183,7 @@ module _ (setup : Setting) (setting : IsSetting setup) (cores : ℕ → Core) (t
         none_of (x ∷ xs) h = absurd (cc)
 
     marked_good : (d : ℕ) → marked_by setup t (FrameAt f) ≡ Some d
-        → GoodTook setup cores t c (LoadOf (FrameAt f)) (landed a (refuse (refusal.Busy d)))
+        → GoodTook setup cores t c (LoadOf (FrameAt f)) (landed a (refuse (Refusal.Busy d)))
     marked_good d mark = refuses_busy setup setting cores t stands c here a active opens held_is room (LoadOf (FrameAt f)) loading
         (ap ticks_at stage_is) d
         (ap (λ (xs : List Acquired). (holds_counts None xs).marks (FrameAt f)) no_counts) mark tt
@@ -216,29 +192,29 @@ module _ (setup : Setting) (setting : IsSetting setup) (cores : ℕ → Core) (t
     target = calls.target setup setting cores t stands c here a active m stage_is has
 
     -- the frame is not blank
-    kind_good : is_blank (s.frame f) ≡ false → GoodTook setup cores t c (LoadOf (FrameAt f)) (landed a (refuse refusal.FrameKind))
+    kind_good : is_blank (s.frame f) ≡ false → GoodTook setup cores t c (LoadOf (FrameAt f)) (landed a (refuse Refusal.FrameKind))
     kind_good other lands =
         let unspent : are_calls_spent s c ≡ false = not_spent setup (cores c) t c
         (core_is setup setting cores t stands c here a active) room in
-        decides_on setup setting cores t stands c here a active (LoadOf (FrameAt f)) reply.FrameKind a.found loading lands (sym held_is)
+        decides_on setup setting cores t stands c here a active (LoadOf (FrameAt f)) Reply.FrameKind a.found loading lands (sym held_is)
         opens
         refl refl
         (λ x. refl) (λ x. refl) refl (unspent, may) tt
-        (λ is_alone. refused_first s c a.call reply.FrameKind has.acts unspent (first is_alone))
+        (λ is_alone. refused_first s c a.call Reply.FrameKind has.acts unspent (first is_alone))
       where
         stands_so : (is_frame s f && not (is_blank (s.frame f))) ≡ true
         stands_so = ap (λ b. b && not (is_blank (s.frame f)))
             (lt-ltb f s.limits.frames (calls.below setup setting cores t stands c here a active m stage_is has)) ∙ ap (λ b. not b) other
 
-        may : RuleMay s c (rule_of s c a.call) reply.FrameKind
+        may : RuleMay s c (rule_of s c a.call) Reply.FrameKind
         may = left_may s c (own_pages s c) (plan_for a.call) (rule_of s c a.call) a.found
             (calls.by_plan setup setting cores t stands c here a active m stage_is has)
-            (calls.leads setup setting cores t stands c here a active m stage_is has) reply.FrameKind
-            (subst (λ x. RuleMay s c x reply.FrameKind) (sym (calls.left setup setting cores t stands c here a active m stage_is has))
+            (calls.leads setup setting cores t stands c here a active m stage_is has) Reply.FrameKind
+            (subst (λ x. RuleMay s c x Reply.FrameKind) (sym (calls.left setup setting cores t stands c here a active m stage_is has))
             (inr (inr (inl (stands_so, refl)))))
 
-        first : IsAlone t (step_to c None (LoadOf (FrameAt f)) was (Some reply.FrameKind) None)
-            → change_of s c a.call ≡ Refused reply.FrameKind
+        first : IsAlone t (step_to c None (LoadOf (FrameAt f)) was (Some Reply.FrameKind) None)
+            → change_of s c a.call ≡ Refused Reply.FrameKind
         first alone = calls.by_blank setup setting cores t stands c here a active m stage_is has
             (vacant_slot s c target (record { node = node; index = index })
             (calls.reached_is setup setting cores t stands c here a active m stage_is has)
@@ -246,7 +222,7 @@ module _ (setup : Setting) (setting : IsSetting setup) (cores : ℕ → Core) (t
             (calls.fits_in setup setting cores t stands c here a active m stage_is has).fill.entry
             (calls.leaf setup setting cores t stands c here a active m stage_is has)
             (stands_alone setup t c node index m.fill.word knows.spot.own
-            (LoadOf (FrameAt f)) reply.FrameKind alone)).vacant) false other
+            (LoadOf (FrameAt f)) Reply.FrameKind alone)).vacant) false other
 
     -- it is blank
     blank_good : frame_of_word was ≡ Some blank_word
@@ -290,14 +266,14 @@ module _ (setup : Setting) (setting : IsSetting setup) (cores : ℕ → Core) (t
 
             blank_or : (o : Obj) → v ≡ record { kind = FrameKernel; object = o; mark = None } → frame_value (s.frame f) ≡ v
                 → GoodTook setup cores t c (LoadOf (FrameAt f)) (landed a (meets_object m was o))
-            blank_or obj.Blank is same = blank_good (shown ∙ ap (λ (v : FrameWord). Some v) is)
-            blank_or obj.Table is same = kind_good (not_blank_by (s.frame f) obj.Table (ap (λ v. v.object) (same ∙ is)) (λ h. cc))
-            blank_or obj.Leaf is same = kind_good (not_blank_by (s.frame f) obj.Leaf (ap (λ v. v.object) (same ∙ is)) (λ h. cc))
-            blank_or obj.Pages is same = kind_good (not_blank_by (s.frame f) obj.Pages (ap (λ v. v.object) (same ∙ is)) (λ h. cc))
-            blank_or obj.Pleaf is same = kind_good (not_blank_by (s.frame f) obj.Pleaf (ap (λ v. v.object) (same ∙ is)) (λ h. cc))
-            blank_or obj.Comp is same = kind_good (not_blank_by (s.frame f) obj.Comp (ap (λ v. v.object) (same ∙ is)) (λ h. cc))
-            blank_or obj.Thread is same = kind_good (not_blank_by (s.frame f) obj.Thread (ap (λ v. v.object) (same ∙ is)) (λ h. cc))
-            blank_or obj.Tcap is same = kind_good (not_blank_by (s.frame f) obj.Tcap (ap (λ v. v.object) (same ∙ is)) (λ h. cc))
+            blank_or Obj.Blank is same = blank_good (shown ∙ ap (λ (v : FrameWord). Some v) is)
+            blank_or Obj.Table is same = kind_good (not_blank_by (s.frame f) Obj.Table (ap (λ v. v.object) (same ∙ is)) (λ h. cc))
+            blank_or Obj.Leaf is same = kind_good (not_blank_by (s.frame f) Obj.Leaf (ap (λ v. v.object) (same ∙ is)) (λ h. cc))
+            blank_or Obj.Pages is same = kind_good (not_blank_by (s.frame f) Obj.Pages (ap (λ v. v.object) (same ∙ is)) (λ h. cc))
+            blank_or Obj.Pleaf is same = kind_good (not_blank_by (s.frame f) Obj.Pleaf (ap (λ v. v.object) (same ∙ is)) (λ h. cc))
+            blank_or Obj.Comp is same = kind_good (not_blank_by (s.frame f) Obj.Comp (ap (λ v. v.object) (same ∙ is)) (λ h. cc))
+            blank_or Obj.Thread is same = kind_good (not_blank_by (s.frame f) Obj.Thread (ap (λ v. v.object) (same ∙ is)) (λ h. cc))
+            blank_or Obj.Tcap is same = kind_good (not_blank_by (s.frame f) Obj.Tcap (ap (λ v. v.object) (same ∙ is)) (λ h. cc))
 
         by_kind : (v : FrameWord) → frame_of_word was ≡ Some v → v.mark ≡ None → (k : FrameKind) → v.kind ≡ k
             → GoodTook setup cores t c (LoadOf (FrameAt f)) (landed a (meets_kernel m was k v.object))
@@ -508,7 +484,7 @@ module _ (setup : Setting) (setting : IsSetting setup) (cores : ℕ → Core) (t
   -- The compare of the target, where it is lost.
   module _ (word : ℕ) (at_is : m.at ≡ making_fill word) where
     abbrev put_it : Move
-    put_it = CompareOf (EntryAt node index) m.fill.word (word_of_entry (entry.Held m.fill.cap))
+    put_it = CompareOf (EntryAt node index) m.fill.word (word_of_entry (Entry.Held m.fill.cap))
 
     abbrev found_there : ℕ
     found_there = last_left setup t (EntryAt node index)
@@ -543,7 +519,7 @@ module _ (setup : Setting) (setting : IsSetting setup) (cores : ℕ → Core) (t
         })
       where
         kept : left_of put_it found_there ≡ found_there
-        kept = ap (λ b. left_if b found_there (word_of_entry (entry.Held m.fill.cap))) other
+        kept = ap (λ b. left_if b found_there (word_of_entry (Entry.Held m.fill.cap))) other
 
 no_frame : (fate : Option (Option ℕ)) (xs : List Acquired) (f : ℕ) → (holds_counts fate xs).marks (FrameAt f) ≡ false
 no_frame fate [] f = refl

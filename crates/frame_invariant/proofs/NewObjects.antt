@@ -1,62 +1,56 @@
 -- A new object, in the words and in the state: what its words say and that they carry no mark, and which references it takes.
-use Rattle.place_invariant.proofs.Common.{◌≡◌, ◌≢◌, ℕ, zero, suc, ◌+◌, ◌^◌, ◌<◌, ◌≤◌, ◌==◌, nat_lt, Bool, true, false, if◌then◌else◌, []}
-use Rattle.place_invariant.proofs.Common.{◌∷◌, Option, Some, None, arith, refl, sym, ◌∙◌, ap, subst, ltb-true, ltb-false, ne_eqb}
-use Rattle.place_invariant.proofs.Common.{Capability, Make, EntryFits, entry_of_word, word_of_entry, Held, FrameFits, head_of_word}
-use Rattle.place_invariant.proofs.Common.{word_of_head, quality_of_word, stack_of_word, word_of_stack, thread_of_word, word_of_thread}
-use Rattle.place_invariant.proofs.Common.{Idle, CapNames, Place, Holds, ThreadFields, TcapFields, Blank, Kernel, Thing, State, with_frame}
-use Rattle.place_invariant.proofs.Common.{refs, times, frame_names, place_names, ends_by, frame_refs, put_same, put_other, entry_mark}
-use Rattle.place_invariant.proofs.Common.{thread_mark, head_mark, mark_in_frame, frame_value, NewObject, PlaceIs, IsThreadWord}
-use Rattle.place_invariant.proofs.Common.{IsFrameWord}
-use Rattle.std.proofs.lemmas.Option.{slice_get_past}
-use Rattle.place_invariant.specs.spk_nums.specs.declared.calls.Call.TheVariants.{Make as make_call}
-use Rattle.place_invariant.specs.spk_nums.specs.declared.calls.Make.TheVariants as make
-use Rattle.place_invariant.specs.entry_words.specs.declared.entry.Entry.TheVariants.{Free}
+use Rattle.place_invariant.specs.step_ways.proofs.{◌≡◌, ◌≢◌, ℕ, zero, suc, ◌+◌, ◌^◌, ◌<◌, ◌≤◌, ◌==◌, ltb as nat_lt, Bool, true, false}
+use Rattle.place_invariant.specs.step_ways.proofs.{if◌then◌else◌, [], ◌∷◌, Option, Some, None, arith, refl, sym, ◌∙◌, ap, subst, ltb-true}
+use Rattle.place_invariant.specs.step_ways.proofs.{ltb-false, ne_eqb, Capability, EntryFits, entry_of_word, word_of_entry, Held, FrameFits}
+use Rattle.place_invariant.specs.step_ways.proofs.{head_of_word, word_of_head, quality_of_word, stack_of_word, word_of_stack}
+use Rattle.place_invariant.specs.step_ways.proofs.{thread_of_word, word_of_thread, Idle, CapNames, Place, Holds, ThreadFields, TcapFields}
+use Rattle.place_invariant.specs.step_ways.proofs.{Blank, Kernel, Thing, State, with_frame, refs, times, frame_names, place_names, ends_by}
+use Rattle.place_invariant.specs.step_ways.proofs.{frame_refs, put_same, put_other, entry_mark, thread_mark, head_mark, mark_in_frame}
+use Rattle.place_invariant.specs.step_ways.proofs.{frame_value, NewObject, PlaceIs, IsThreadWord, IsFrameWord, Make as make_call}
+use Rattle.place_invariant.specs.act_states.specs.{object_word, last_word, object_names, NamesFit, made}
+use Rattle.place_invariant.specs.kernel_rules.specs.{Make, is_place_of}
+use Rattle.place_invariant.specs.act_states.specs.Objects.{object_cap, thread_word, tcap_word, PairFits}
+use Rattle.place_invariant.proofs.ObjectMakes.{new_object, ready_place, readied}
+use Rattle.{place_invariant.specs.step_ways.proofs.Free as Vacant, std.proofs.lemmas.Option.slice_get_past}
+use Rattle.{place_invariant.specs.entry_words.specs.declared.entry.Entry.TheVariants.Free}
+use Rattle.{place_invariant.specs.tcap_words.specs.Quality.word_of_quality, place_invariant.specs.kernel_invariant.proofs.Refs.cleared_refs}
+use Rattle.{place_invariant.specs.core_invariant.specs.Words.IsTcapWord}
 use Rattle.place_invariant.specs.entry_words.proofs.Spelling as entries
-use Rattle.place_invariant.specs.tcap_words.specs.Quality.{word_of_quality}
 use Rattle.place_invariant.specs.tcap_words.proofs.HeadLemmas as heads
 use Rattle.place_invariant.specs.tcap_words.proofs.QualityLemmas as qualities
 use Rattle.place_invariant.specs.tcap_words.proofs.StackLemmas as stacks
 use Rattle.place_invariant.specs.tcap_words.proofs.ThreadLemmas as threads
-use Rattle.place_invariant.specs.kernel_rules.specs.State.{Free as Vacant}
-use Rattle.place_invariant.specs.kernel_rules.specs.Edits.{is_place_of}
-use Rattle.place_invariant.specs.kernel_invariant.proofs.Refs.{cleared_refs}
-use Rattle.place_invariant.specs.act_states.specs.declared.objects.NewObject.TheVariants as objects
-use Rattle.place_invariant.specs.act_states.specs.Objects.{object_cap, object_word, thread_word, tcap_word, last_word, object_names}
-use Rattle.place_invariant.specs.act_states.specs.Objects.{PairFits, NamesFit}
-use Rattle.place_invariant.specs.act_states.specs.Makings.{made}
-use Rattle.place_invariant.specs.core_invariant.specs.Words.{IsTcapWord}
-use Rattle.place_invariant.proofs.ObjectMakes.{new_object, ready_place, readied}
 
 pub made_value : (o : NewObject) → frame_value (Kernel (new_object o)) ≡ made o
-made_value objects.Table = refl
+made_value NewObject.Table = refl
 made_value _ = refl
 
 pub made_fits : (o : NewObject) → FrameFits (made o)
-made_fits objects.Table = (tt, omega arith)
+made_fits NewObject.Table = (tt, omega arith)
 made_fits _ = (tt, omega arith)
 
 made_names : (o : NewObject) → frame_names (Kernel (new_object o)) ≡ object_names o
-made_names objects.Table = refl
+made_names NewObject.Table = refl
 made_names _ = refl
 
 pub made_cap : (o : NewObject) (f : ℕ) → f < 512 → EntryFits (Held (object_cap o f))
-made_cap objects.Table f small = (small, omega arith, omega arith, omega arith, omega arith)
+made_cap NewObject.Table f small = (small, omega arith, omega arith, omega arith, omega arith)
 made_cap _ f small = (small, omega arith, omega arith, omega arith, omega arith)
 
 pub made_caps : (o : NewObject) (frames f : ℕ) → f < frames → CapNames frames (object_cap o f)
-made_caps objects.Table frames f below = omega (arith, below)
+made_caps NewObject.Table frames f below = omega (arith, below)
 made_caps _ frames f below = omega (arith, below)
 
 pub cap_names : (o : NewObject) (f : ℕ) → place_names (Holds (object_cap o f)) ≡ f ∷ []
-cap_names objects.Table f = refl
+cap_names NewObject.Table f = refl
 cap_names _ f = refl
 
 -- The decision ends no grace period but of the places of its frame.
 pub made_ends : (what : Make) (r f u b : ℕ) (x : Thing) → is_place_of f x ≡ false → ends_by (make_call what r f u b) x ≡ false
-made_ends make.Table r f u b x other = other
-made_ends (make.Thread comp) r f u b x other = refl
-made_ends (make.Tcap sched quality) r f u b x other = refl
-made_ends (make.Comp table pages live) r f u b x other = refl
+made_ends Make.Table r f u b x other = other
+made_ends (Make.Thread comp) r f u b x other = refl
+made_ends (Make.Tcap sched quality) r f u b x other = refl
+made_ends (Make.Comp table pages live) r f u b x other = refl
 made_ends _ r f u b x other = other
 
 -- What the word i of a new object says.
@@ -67,12 +61,12 @@ abbrev listed : ℕ → ℕ → TcapFields
 listed sched quality = record { budget = 0; qualities = (sched, quality) ∷ [] }
 
 abbrev pub SaysNew : NewObject → ℕ → ℕ → Type 0
-SaysNew objects.Table i x = entry_of_word x ≡ Some Free
-SaysNew objects.Leaf i x = entry_of_word x ≡ Some Free
-SaysNew objects.Pages i x = entry_of_word x ≡ Some Free
-SaysNew objects.Pleaf i x = entry_of_word x ≡ Some Free
-SaysNew (objects.Thread comp) i x = IsThreadWord (idle_in comp) i x
-SaysNew (objects.Tcap sched quality) i x = IsTcapWord (listed sched quality) i x
+SaysNew NewObject.Table i x = entry_of_word x ≡ Some Free
+SaysNew NewObject.Leaf i x = entry_of_word x ≡ Some Free
+SaysNew NewObject.Pages i x = entry_of_word x ≡ Some Free
+SaysNew NewObject.Pleaf i x = entry_of_word x ≡ Some Free
+SaysNew (NewObject.Thread comp) i x = IsThreadWord (idle_in comp) i x
+SaysNew (NewObject.Tcap sched quality) i x = IsTcapWord (listed sched quality) i x
 
 -- The words of a thread above its component, and those of a temporal capability after its pair.
 later_thread : (comp i : ℕ) → 2 ≤ i → thread_word comp i ≡ word_of_stack (record { 0 = None })
@@ -105,7 +99,7 @@ thread_says comp (suc (suc h)) x small stored = λ low. ap stack_of_word (stored
     ∙ stacks.spelling.reads (record { 0 = None }) tt
     ∙ ap (λ (o : Option ℕ). Some (record { 0 = o })) (sym (slice_get_past (comp ∷ []) (suc h) (omega arith)))
 
-tcap_says : (sched quality i x : ℕ) → PairFits (objects.Tcap sched quality) → (i ≤ 8 → x ≡ tcap_word sched quality i)
+tcap_says : (sched quality i x : ℕ) → PairFits (NewObject.Tcap sched quality) → (i ≤ 8 → x ≡ tcap_word sched quality i)
     → IsTcapWord (listed sched quality) i x
 tcap_says sched quality zero x pair stored = record {
   version = 0;
@@ -131,63 +125,63 @@ place_says i x stored past = by (nat_lt i 64) refl
 -- Where its words are stored, and those past a frame's 64 say that they are free, they say so.
 pub says_new : (o : NewObject) (i x : ℕ) → PairFits o → NamesFit 512 o → (i ≤ last_word o → x ≡ object_word o i)
     → (64 ≤ i → entry_of_word x ≡ Some Free) → SaysNew o i x
-says_new objects.Table i x pair names stored past = place_says i x stored past
-says_new (objects.Thread comp) i x pair names stored past = thread_says comp i x names stored
-says_new (objects.Tcap sched quality) i x pair names stored past = tcap_says sched quality i x pair stored
+says_new NewObject.Table i x pair names stored past = place_says i x stored past
+says_new (NewObject.Thread comp) i x pair names stored past = thread_says comp i x names stored
+says_new (NewObject.Tcap sched quality) i x pair names stored past = tcap_says sched quality i x pair stored
 says_new _ i x pair names stored past = place_says i x stored past
 
 -- And carry no mark.
 pub bare_new : (o : NewObject) (i x : ℕ) → SaysNew o i x → mark_in_frame (Kernel (new_object o)) i x ≡ None
-bare_new objects.Table i x says = ap entry_mark says
-bare_new objects.Leaf i x says = ap entry_mark says
-bare_new objects.Pages i x says = ap entry_mark says
-bare_new objects.Pleaf i x says = ap entry_mark says
-bare_new (objects.Thread comp) zero x says = ap thread_mark says
-bare_new (objects.Thread comp) (suc i) x says = ap (λ b. if b then thread_mark (thread_of_word x) else None) (not_first i)
-bare_new (objects.Tcap sched quality) zero x says = ap head_mark says.says
-bare_new (objects.Tcap sched quality) (suc i) x says = ap (λ b. if b then head_mark (head_of_word x) else None) (not_first i)
+bare_new NewObject.Table i x says = ap entry_mark says
+bare_new NewObject.Leaf i x says = ap entry_mark says
+bare_new NewObject.Pages i x says = ap entry_mark says
+bare_new NewObject.Pleaf i x says = ap entry_mark says
+bare_new (NewObject.Thread comp) zero x says = ap thread_mark says
+bare_new (NewObject.Thread comp) (suc i) x says = ap (λ b. if b then thread_mark (thread_of_word x) else None) (not_first i)
+bare_new (NewObject.Tcap sched quality) zero x says = ap head_mark says.says
+bare_new (NewObject.Tcap sched quality) (suc i) x says = ap (λ b. if b then head_mark (head_of_word x) else None) (not_first i)
 
 -- Each is below 2^64.
 pub word_small : (o : NewObject) (i : ℕ) → PairFits o → NamesFit 512 o → object_word o i < 2 ^ 64
-word_small objects.Table i pair names = entries.spelling.small Free tt
-word_small objects.Leaf i pair names = entries.spelling.small Free tt
-word_small objects.Pages i pair names = entries.spelling.small Free tt
-word_small objects.Pleaf i pair names = entries.spelling.small Free tt
-word_small (objects.Thread comp) zero pair names = threads.spelling.small (Idle 1) (omega arith, omega arith)
-word_small (objects.Thread comp) (suc zero) pair names = stacks.spelling.small (record { 0 = Some comp }) names
-word_small (objects.Thread comp) (suc (suc h)) pair names =
+word_small NewObject.Table i pair names = entries.spelling.small Free tt
+word_small NewObject.Leaf i pair names = entries.spelling.small Free tt
+word_small NewObject.Pages i pair names = entries.spelling.small Free tt
+word_small NewObject.Pleaf i pair names = entries.spelling.small Free tt
+word_small (NewObject.Thread comp) zero pair names = threads.spelling.small (Idle 1) (omega arith, omega arith)
+word_small (NewObject.Thread comp) (suc zero) pair names = stacks.spelling.small (record { 0 = Some comp }) names
+word_small (NewObject.Thread comp) (suc (suc h)) pair names =
     subst (λ (n : ℕ). n < 2 ^ 64) (sym (later_thread comp (suc (suc h)) (two_up h))) (stacks.spelling.small (record { 0 = None }) tt)
-word_small (objects.Tcap sched quality) zero pair names =
+word_small (NewObject.Tcap sched quality) zero pair names =
     heads.spelling.small (record { budget = 0; mark = None; version = 0 }) (omega arith, tt, omega arith)
-word_small (objects.Tcap sched quality) (suc zero) pair names = qualities.spelling.small (record { 0 = Some (sched, quality) }) pair
-word_small (objects.Tcap sched quality) (suc (suc j)) pair names =
+word_small (NewObject.Tcap sched quality) (suc zero) pair names = qualities.spelling.small (record { 0 = Some (sched, quality) }) pair
+word_small (NewObject.Tcap sched quality) (suc (suc j)) pair names =
     subst (λ (n : ℕ). n < 2 ^ 64) (sym (later_tcap sched quality (suc (suc j)) (two_up j)))
     (qualities.spelling.small (record { 0 = None }) tt)
 
 pub names_small : (o : NewObject) (frames : ℕ) → frames ≤ 512 → NamesFit frames o → NamesFit 512 o
-names_small objects.Table frames few names = tt
-names_small (objects.Thread comp) frames few names = omega (arith, few, names)
+names_small NewObject.Table frames few names = tt
+names_small (NewObject.Thread comp) frames few names = omega (arith, few, names)
 names_small _ frames few names = tt
 
 -- In the state the places of a node are free.
 abbrev pub PlaceReady : NewObject → Place → Type 0
-PlaceReady objects.Table p = p ≡ Vacant
-PlaceReady objects.Leaf p = p ≡ Vacant
-PlaceReady objects.Pages p = p ≡ Vacant
-PlaceReady objects.Pleaf p = p ≡ Vacant
-PlaceReady (objects.Thread comp) p = Unit {0}
-PlaceReady (objects.Tcap sched quality) p = Unit {0}
+PlaceReady NewObject.Table p = p ≡ Vacant
+PlaceReady NewObject.Leaf p = p ≡ Vacant
+PlaceReady NewObject.Pages p = p ≡ Vacant
+PlaceReady NewObject.Pleaf p = p ≡ Vacant
+PlaceReady (NewObject.Thread comp) p = Unit {0}
+PlaceReady (NewObject.Tcap sched quality) p = Unit {0}
 
 pub place_ready : (o : NewObject) (s : State) (f g i : ℕ) → g ≡ f → PlaceReady o (ready_place o s f g i)
-place_ready objects.Table s f g i same = ap (λ r. r i) (put_same s.place f (λ i. Vacant) g same)
-place_ready (objects.Thread comp) s f g i same = tt
-place_ready (objects.Tcap sched quality) s f g i same = tt
+place_ready NewObject.Table s f g i same = ap (λ r. r i) (put_same s.place f (λ i. Vacant) g same)
+place_ready (NewObject.Thread comp) s f g i same = tt
+place_ready (NewObject.Tcap sched quality) s f g i same = tt
 place_ready _ s f g i same = ap (λ r. r i) (put_same s.place f (λ i. Vacant) g same)
 
 pub ready_there : (o : NewObject) (s : State) (f g i : ℕ) → g ≢ f → ready_place o s f g i ≡ s.place g i
-ready_there objects.Table s f g i other = ap (λ r. r i) (put_other s.place f (λ i. Vacant) g other)
-ready_there (objects.Thread comp) s f g i other = refl
-ready_there (objects.Tcap sched quality) s f g i other = refl
+ready_there NewObject.Table s f g i other = ap (λ r. r i) (put_other s.place f (λ i. Vacant) g other)
+ready_there (NewObject.Thread comp) s f g i other = refl
+ready_there (NewObject.Tcap sched quality) s f g i other = refl
 ready_there _ s f g i other = ap (λ r. r i) (put_other s.place f (λ i. Vacant) g other)
 
 place_word : (frames : ℕ) (p : Place) (stamp x : ℕ) → p ≡ Vacant → entry_of_word x ≡ Some Free → PlaceIs frames p stamp (entry_of_word x)
@@ -196,17 +190,17 @@ place_word frames p stamp x free says = subst (λ q. PlaceIs frames q stamp (ent
 -- And so its words say what the frame is.
 pub word_new : (o : NewObject) (frames : ℕ) (p : Place) (stamp i x : ℕ) → PlaceReady o p → SaysNew o i x
     → IsFrameWord frames (Kernel (new_object o)) p stamp i x
-word_new objects.Table frames p stamp i x ready says = λ low. place_word frames p stamp x ready says
-word_new (objects.Thread comp) frames p stamp i x ready says = says
-word_new (objects.Tcap sched quality) frames p stamp i x ready says = says
+word_new NewObject.Table frames p stamp i x ready says = λ low. place_word frames p stamp x ready says
+word_new (NewObject.Thread comp) frames p stamp i x ready says = says
+word_new (NewObject.Tcap sched quality) frames p stamp i x ready says = says
 word_new _ frames p stamp i x ready says = λ low. place_word frames p stamp x ready says
 
 -- The references change by what it names.
 ready_refs : (o : NewObject) (s : State) (f g : ℕ) → ((i : ℕ) (k : Capability) → s.place f i ≡ Holds k → ⊥)
     → refs (readied o s f) g ≡ refs s g
-ready_refs objects.Table s f g bare = cleared_refs s f g bare
-ready_refs (objects.Thread comp) s f g bare = refl
-ready_refs (objects.Tcap sched quality) s f g bare = refl
+ready_refs NewObject.Table s f g bare = cleared_refs s f g bare
+ready_refs (NewObject.Thread comp) s f g bare = refl
+ready_refs (NewObject.Tcap sched quality) s f g bare = refl
 ready_refs _ s f g bare = cleared_refs s f g bare
 
 pub new_refs : (o : NewObject) (s : State) (f g : ℕ) → f < s.limits.frames → s.frame f ≡ Kernel Blank

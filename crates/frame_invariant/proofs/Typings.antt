@@ -1,128 +1,108 @@
 -- The steps that type an untyped frame are good: the load of its word, and the compare, which is lost to another core or makes the
 -- frame a user frame or a blank kernel frame.
-use Rattle.place_invariant.proofs.Common.{Want, IsSome, All-nil, ◌≡◌, ◌≢◌, inl, inr, ℕ, ◌||◌, map, ◌++◌, ◌+◌, ◌^◌, ◌<◌, ◌≤◌, ◌==◌, ◌&&◌}
-use Rattle.place_invariant.proofs.Common.{not}
-use Rattle.place_invariant.proofs.Common.{Bool, true, false, List, [], ◌∷◌, Option, Some, None, arith, refl, sym, ◌∙◌, ap, subst, IsTrue}
-use Rattle.place_invariant.proofs.Common.{if◌then◌else◌, eqb-true, eqb-false, eq-eqb, cases_eq, lt-ltb, false≢true, Capability, Setting}
-use Rattle.place_invariant.proofs.Common.{IsSetting, left_if, FrameKind, Call, Retype, FrameFits, word_of_frame, frame_of_word}
-use Rattle.place_invariant.proofs.Common.{FrameWord, Word, EntryAt, FrameAt, CountAt, CoreAt, FlushAt, LiveAt, ClockAt, Move, LoadOf}
-use Rattle.place_invariant.proofs.Common.{CompareOf, word_of, left_of, told_of, Place, PlaceOf, NumberOf, Frame, Untyped, User, Kernel}
-use Rattle.place_invariant.proofs.Common.{Blank, Thing, State, put, with_frame, thread_in, comp_in, refs, frame_names, times, Slot, found}
-use Rattle.place_invariant.proofs.Common.{own, Change, Cause, Found, Does, RuleMay, outcome, unless, first_of, IsFoundAnd}
-use Rattle.place_invariant.proofs.Common.{has_frame, is_frame, outside, is_untyped, retypes, rule_of, ends_by, flushes_by, change_of}
-use Rattle.place_invariant.proofs.Common.{changed, counted, begins_in, MayReply, calls_counted, frame_refs, put_same, put_other}
-use Rattle.place_invariant.proofs.Common.{frame_value, mark_of, mark_in_frame, frame_mark, marked_by, Step, Trace, Open, phase}
-use Rattle.place_invariant.proofs.Common.{state_after, last_left, state_decided_in, own_left, ok_first, ends_in, flushes_in, stamp}
-use Rattle.place_invariant.proofs.Common.{changes_frames, looks_at_frames, is_one_of, frames_named, frame_at_slot, frame_argument}
-use Rattle.place_invariant.proofs.Common.{footprint_frames, HasReached, way_to, ways, target_of, own_read-here, decided-inside, GoesBy}
-use Rattle.place_invariant.proofs.Common.{own_pages, rule_after, Leads, LeadsIn, leads_by, outcome_left, left_may, Acquired, Load, Act}
-use Rattle.place_invariant.proofs.Common.{Goes, refuse, Undecided, Decided, ActiveCall, StageFits, HasRoom, landed, Core, holds_counts}
-use Rattle.place_invariant.proofs.Common.{settled_by, settled, IsFrameWord, WordIs, HasFound, own_in, due_of, KnowsUndecided}
-use Rattle.place_invariant.proofs.Common.{WorksIn, phase_at, untypes, holds_at, holds_in, holds, held_by, times_of, counted_in, Invariant}
-use Rattle.place_invariant.proofs.Common.{counts, calm_counted, counted_rises, IsUntimed, plain_begins, plain_stamp, plain_flush}
-use Rattle.place_invariant.proofs.Common.{plain_exit, names_on, own_kept, counted_refs, limits_of, sums_keep, SameFor, ReadsAlike}
-use Rattle.place_invariant.proofs.Common.{StaysSaid, word_stays, others_settled}
-use Rattle.place_invariant.specs.spk_nums.specs.declared.kinds.FrameKind.TheVariants as kind
-use Rattle.place_invariant.specs.spk_nums.specs.declared.replies.Reply.TheVariants as reply
-use Rattle.place_invariant.specs.spk_nums.specs.declared.replies.Value.TheVariants.{Nothing}
-use Rattle.place_invariant.specs.frame_words.proofs.FrameLemmas.{spelling}
-use Rattle.place_invariant.specs.kernel_rules.specs.MemoryCalls.{not_untyped, not_retyped}
-use Rattle.place_invariant.specs.kernel_history.specs.Stamps.{begins_in as begins_then}
-use Rattle.place_invariant.specs.plan_ways.proofs.Ways.{all_ways}
-use Rattle.place_invariant.specs.plan_ways.proofs.InFootprint.{one_right, footprint_about}
-use Rattle.place_invariant.specs.act_states.specs.declared.refusals.Refusal.TheVariants as refusal
-use Rattle.place_invariant.specs.act_states.specs.declared.typings.Typing.{Typing}
-use Rattle.place_invariant.specs.act_states.specs.declared.typings.TypingAt.{TypingAt}
-use Rattle.place_invariant.specs.act_states.specs.declared.typings.TypingAt.TheVariants.{Compare as type_compare}
-use Rattle.place_invariant.specs.act_states.specs.declared.work.Act.TheVariants.{Retype as type_act}
-use Rattle.place_invariant.specs.act_states.specs.declared.work.Tail.TheVariants.{Nothing as no_tail}
-use Rattle.place_invariant.specs.act_states.specs.Typings.{typed, typing_at, meets_kind, meets_frame, meets_word, typed_if, took_typing_at}
-use Rattle.place_invariant.specs.core_invariant.specs.Knows.{TypesBy, HasMet}
-use Rattle.place_invariant.specs.kept_facts.proofs.Calm.{own_works}
-use Rattle.place_invariant.specs.step_ways.proofs.Good.{spares_other}
-use Rattle.place_invariant.specs.step_ways.proofs.Loads.{IsOfCall, OnlyLooks, step_to, next_at, core_in_call, inner, call_is, is_active}
-use Rattle.place_invariant.specs.step_ways.proofs.Loads.{loads_on}
-use Rattle.place_invariant.specs.step_ways.proofs.Refusals.{GoodTook, ticks_at, not_spent, refuses_raced, refuses_busy, refuses_frame_kind}
-use Rattle.place_invariant.specs.step_ways.proofs.Writes.{same_marks, writes_on}
-use Rattle.place_invariant.specs.count_invariant.proofs.Findings.{own_is, found_named, way_gone}
-use Rattle.place_invariant.specs.count_invariant.proofs.Acquiring.{plan_leads, goes_by}
-use Rattle.place_invariant.specs.kernel_rules.specs.Edits.{Become as become_edit}
-use Rattle.place_invariant.specs.kernel_rules.specs.Rules.{does}
-use Rattle.place_invariant.specs.act_states.specs.call_plans.specs.PlanOf.{plan_for}
+use Rattle.place_invariant.specs.step_ways.proofs as low
+use low.{Want, IsSome, ◌≡◌, ◌≢◌, inl, inr, ℕ, ◌||◌, map, ◌++◌, ◌+◌, ◌^◌, ◌<◌, ◌≤◌, ◌==◌, ◌&&◌, not, Bool, true, false, List, [], ◌∷◌}
+use low.{Option, Some, None, arith, refl, sym, ◌∙◌, ap, subst, IsTrue, if◌then◌else◌, eqb-true, eqb-false, eq-eqb, lt-ltb, false≢true}
+use low.{Capability, Setting, IsSetting, left_if, FrameKind, Call, Retype, FrameFits, word_of_frame, frame_of_word, FrameWord, Word}
+use low.{EntryAt, FrameAt, CountAt, CoreAt, FlushAt, LiveAt, ClockAt, Move, LoadOf, CompareOf, word_of, left_of, told_of, Place, PlaceOf}
+use low.{NumberOf, Frame, Untyped, User, Kernel, Blank, Thing, State, put, with_frame, thread_in, comp_in, refs, frame_names, times, Slot}
+use low.{found, own, Change, Cause, Found, Does, RuleMay, outcome, unless, first_of, IsFoundAnd, has_frame, is_frame, outside, is_untyped}
+use low.{rule_of, ends_by, flushes_by, change_of, changed, counted, MayReply, calls_counted, frame_refs, put_same, put_other, frame_value}
+use low.{mark_of, mark_in_frame, frame_mark, marked_by, Step, Trace, Open, phase, state_after, last_left, state_decided_in, own_left}
+use low.{ok_first, ends_in, flushes_in, stamp, changes_frames, is_one_of, frames_named, frame_at_slot, frame_argument, footprint_frames}
+use low.{HasReached, way_to, ways, target_of, own_read-here, decided-inside, GoesBy, own_pages, rule_after, Leads, LeadsIn, leads_by}
+use low.{outcome_left, left_may, Acquired, Act, Goes, refuse, Undecided, Decided, ActiveCall, StageFits, HasRoom, landed, Core}
+use low.{holds_counts, settled_by, settled, IsFrameWord, WordIs, HasFound, own_in, due_of, KnowsUndecided, WorksIn, phase_at, untypes}
+use low.{holds_at, holds_in, holds, held_by, times_of, counted_in, Invariant, counts, calm_counted, counted_rises, IsUntimed, plain_begins}
+use low.{plain_stamp, plain_flush, plain_exit, names_on, own_kept, counted_refs, limits_of, sums_keep, SameFor, ReadsAlike, StaysSaid}
+use low.{word_stays, others_settled, begins_in as begins_then, TypingAt, Compare as type_compare, Nothing as no_tail, spares_other}
+use low.{IsOfCall, OnlyLooks, step_to, next_at, core_in_call, inner, call_is, is_active, loads_on, GoodTook, ticks_at, not_spent}
+use low.{refuses_raced, refuses_busy, same_marks, does, plan_for, Reply, Refusal}
+use Rattle.place_invariant.specs.act_states.specs.{begins_in, Nothing, typed, typing_at, meets_frame, meets_word, typed_if, took_typing_at}
+use Rattle.place_invariant.specs.count_invariant.proofs.{own_is, found_named, way_gone, plan_leads, goes_by}
+use Rattle.place_invariant.specs.kernel_rules.specs.{retypes, not_untyped, not_retyped, Become as become_edit}
+use Rattle.place_invariant.specs.core_invariant.specs.{Typing, Retype as type_act, TypesBy}
+use Rattle.place_invariant.specs.plan_ways.proofs.{one_right, footprint_about}
+use Rattle.std.proofs.{lemmas.List.Elements.All-nil, lemmas.Bool.cases_eq}
+use Rattle.place_invariant.specs.act_states.specs.{declared.typings.TypingAt.TheVariants.Load, Typings.meets_kind}
+use low.{Refusals.refuses_frame_kind, Writes.writes_on}
+use Rattle.{place_invariant.specs.kernel_history.specs.Discipline.looks_at_frames}
+use Rattle.{place_invariant.specs.frame_words.proofs.FrameLemmas.spelling, place_invariant.specs.plan_ways.proofs.Ways.all_ways}
+use Rattle.{place_invariant.specs.core_invariant.specs.Acting.HasMet, place_invariant.specs.kept_facts.proofs.Calm.own_works}
 
 -- What a frame becomes, and what its word then says.
 abbrev pub typed_frame : FrameKind → Frame
-typed_frame kind.Untyped = Untyped
-typed_frame kind.User = User
-typed_frame kind.Kernel = Kernel Blank
+typed_frame FrameKind.Untyped = Untyped
+typed_frame FrameKind.User = User
+typed_frame FrameKind.Kernel = Kernel Blank
 
 typed_value : (k : FrameKind) → frame_value (typed_frame k) ≡ typed k
-typed_value kind.Untyped = refl
-typed_value kind.User = refl
-typed_value kind.Kernel = refl
+typed_value FrameKind.Untyped = refl
+typed_value FrameKind.User = refl
+typed_value FrameKind.Kernel = refl
 
 typed_fits : (k : FrameKind) → FrameFits (typed k)
-typed_fits kind.Untyped = (tt, omega arith)
-typed_fits kind.User = (tt, omega arith)
-typed_fits kind.Kernel = (tt, omega arith)
+typed_fits FrameKind.Untyped = (tt, omega arith)
+typed_fits FrameKind.User = (tt, omega arith)
+typed_fits FrameKind.Kernel = (tt, omega arith)
 
 -- It names no frame, has no thread and no component, and its words say nothing and carry no mark.
 typed_names : (k : FrameKind) → frame_names (typed_frame k) ≡ []
-typed_names kind.Untyped = refl
-typed_names kind.User = refl
-typed_names kind.Kernel = refl
+typed_names FrameKind.Untyped = refl
+typed_names FrameKind.User = refl
+typed_names FrameKind.Kernel = refl
 
 typed_thread : (k : FrameKind) → thread_in (typed_frame k) ≡ thread_in Untyped
-typed_thread kind.Untyped = refl
-typed_thread kind.User = refl
-typed_thread kind.Kernel = refl
+typed_thread FrameKind.Untyped = refl
+typed_thread FrameKind.User = refl
+typed_thread FrameKind.Kernel = refl
 
 typed_comp : (k : FrameKind) → comp_in (typed_frame k) ≡ comp_in Untyped
-typed_comp kind.Untyped = refl
-typed_comp kind.User = refl
-typed_comp kind.Kernel = refl
+typed_comp FrameKind.Untyped = refl
+typed_comp FrameKind.User = refl
+typed_comp FrameKind.Kernel = refl
 
 typed_says : (k : FrameKind) (n : ℕ) (p : Place) (r i x : ℕ) → IsFrameWord n (typed_frame k) p r i x
-typed_says kind.Untyped n p r i x = tt
-typed_says kind.User n p r i x = tt
-typed_says kind.Kernel n p r i x = tt
+typed_says FrameKind.Untyped n p r i x = tt
+typed_says FrameKind.User n p r i x = tt
+typed_says FrameKind.Kernel n p r i x = tt
 
 typed_mark : (k : FrameKind) (i x : ℕ) → mark_in_frame (typed_frame k) i x ≡ None
-typed_mark kind.Untyped i x = refl
-typed_mark kind.User i x = refl
-typed_mark kind.Kernel i x = refl
+typed_mark FrameKind.Untyped i x = refl
+typed_mark FrameKind.User i x = refl
+typed_mark FrameKind.Kernel i x = refl
 
 -- A frame is untyped exactly where its word says so.
-untyped_is : (x : Frame) → (frame_value x).kind ≡ kind.Untyped → x ≡ Untyped
+untyped_is : (x : Frame) → (frame_value x).kind ≡ FrameKind.Untyped → x ≡ Untyped
 untyped_is Untyped is = refl
 untyped_is User is = absurd (cc)
 untyped_is (Kernel object) is = absurd (cc)
 
-typed_is : (x : Frame) (k : FrameKind) → (frame_value x).kind ≡ k → (k ≡ kind.Untyped → ⊥) → is_untyped x ≡ false
+typed_is : (x : Frame) (k : FrameKind) → (frame_value x).kind ≡ k → (k ≡ FrameKind.Untyped → ⊥) → is_untyped x ≡ false
 typed_is Untyped k is other = absurd (other (sym is))
 typed_is User k is other = refl
 typed_is (Kernel object) k is other = refl
 
 -- The rule of such a retype, after its name.
-typing_causes : (s : State) (f : ℕ) (k : FrameKind) → k ≢ kind.Untyped → not_retyped s f k ≡ not_untyped s f ∷ []
-typing_causes s f kind.Untyped typing = absurd (typing refl)
-typing_causes s f kind.User typing = refl
-typing_causes s f kind.Kernel typing = refl
+typing_causes : (s : State) (f : ℕ) (k : FrameKind) → k ≢ FrameKind.Untyped → not_retyped s f k ≡ not_untyped s f ∷ []
+typing_causes s f FrameKind.Untyped typing = absurd (typing refl)
+typing_causes s f FrameKind.User typing = refl
+typing_causes s f FrameKind.Kernel typing = refl
 
-typing_change : (f : ℕ) (k : FrameKind) → k ≢ kind.Untyped → retypes f k ≡ become_edit f (typed_frame k)
-typing_change f kind.Untyped typing = absurd (typing refl)
-typing_change f kind.User typing = refl
-typing_change f kind.Kernel typing = refl
+typing_change : (f : ℕ) (k : FrameKind) → k ≢ FrameKind.Untyped → retypes f k ≡ become_edit f (typed_frame k)
+typing_change f FrameKind.Untyped typing = absurd (typing refl)
+typing_change f FrameKind.User typing = refl
+typing_change f FrameKind.Kernel typing = refl
 
-typing_ends : (r f : ℕ) (k : FrameKind) → k ≢ kind.Untyped → (x : Thing) → ends_by (Retype r f k) x ≡ false
-typing_ends r f kind.Untyped typing x = absurd (typing refl)
-typing_ends r f kind.User typing x = refl
-typing_ends r f kind.Kernel typing x = refl
+typing_ends : (r f : ℕ) (k : FrameKind) → k ≢ FrameKind.Untyped → (x : Thing) → ends_by (Retype r f k) x ≡ false
+typing_ends r f FrameKind.Untyped typing x = absurd (typing refl)
+typing_ends r f FrameKind.User typing x = refl
+typing_ends r f FrameKind.Kernel typing x = refl
 
-typing_types : (r f : ℕ) (k : FrameKind) → k ≢ kind.Untyped → untypes (Retype r f k) ≡ false
-typing_types r f kind.Untyped typing = absurd (typing refl)
-typing_types r f kind.User typing = refl
-typing_types r f kind.Kernel typing = refl
+typing_types : (r f : ℕ) (k : FrameKind) → k ≢ FrameKind.Untyped → untypes (Retype r f k) ≡ false
+typing_types r f FrameKind.Untyped typing = absurd (typing refl)
+typing_types r f FrameKind.User typing = refl
+typing_types r f FrameKind.Kernel typing = refl
 
 -- The call that types a frame.
 pub record IsRetype (call : Call) (ks : List Capability) (f : ℕ) (k : FrameKind) : Type 0 where
@@ -131,7 +111,7 @@ pub record IsRetype (call : Call) (ks : List Capability) (f : ℕ) (k : FrameKin
   pub call_is : call ≡ Retype name f k
   pub found_is : ks ≡ range ∷ []
   pub within : has_frame (found range) f ≡ true
-  pub types : k ≢ kind.Untyped
+  pub types : k ≢ FrameKind.Untyped
 
 retype_of : (call : Call) (ks : List Capability) (f : ℕ) (k : FrameKind) (at : TypingAt)
     → TypesBy call ks (record { frame = f; kind = k; at = at }) → IsRetype call ks f k
@@ -172,7 +152,7 @@ module _ (setup : Setting) (setting : IsSetting setup) (cores : ℕ → Core) (t
   is : IsRetype a.call a.found f k
   is = retype_of a.call a.found f k at has.knows.knows.types
 
-  types : k ≢ kind.Untyped
+  types : k ≢ FrameKind.Untyped
   types = is.types
 
   opens : phase_at a.call a.stage ≡ Open a.call
@@ -226,18 +206,18 @@ module _ (setup : Setting) (setting : IsSetting setup) (cores : ℕ → Core) (t
 
   -- the range has the frame, so only what the frame is may refuse it
   by_frame : (untyped : Bool) → is_untyped (s.frame f) ≡ untyped
-      → change_of s c a.call ≡ unless (if not untyped then Some reply.FrameKind else None) change
+      → change_of s c a.call ≡ unless (if not untyped then Some Reply.FrameKind else None) change
   by_frame untyped at_frame =
       outcome_is
-      ∙ ap (λ b. unless (first_of (if not b then Some reply.OutOfRange else None)
-      (first_of (if is_frame s f && not (is_untyped (s.frame f)) then Some reply.FrameKind else None) None)) change) is.within
-      ∙ ap (λ b. unless (first_of (if b && not (is_untyped (s.frame f)) then Some reply.FrameKind else None) None) change)
+      ∙ ap (λ b. unless (first_of (if not b then Some Reply.OutOfRange else None)
+      (first_of (if is_frame s f && not (is_untyped (s.frame f)) then Some Reply.FrameKind else None) None)) change) is.within
+      ∙ ap (λ b. unless (first_of (if b && not (is_untyped (s.frame f)) then Some Reply.FrameKind else None) None) change)
       (lt-ltb f s.limits.frames below)
-      ∙ ap (λ b. unless (first_of (if not b then Some reply.FrameKind else None) None) change) at_frame
+      ∙ ap (λ b. unless (first_of (if not b then Some Reply.FrameKind else None) None) change) at_frame
       ∙ last untyped
     where
-      last : (b : Bool) → unless (first_of (if not b then Some reply.FrameKind else None) None) change
-          ≡ unless (if not b then Some reply.FrameKind else None) change
+      last : (b : Bool) → unless (first_of (if not b then Some Reply.FrameKind else None) None) change
+          ≡ unless (if not b then Some Reply.FrameKind else None) change
       last true = refl
       last false = refl
 
@@ -263,17 +243,17 @@ module _ (setup : Setting) (setting : IsSetting setup) (cores : ℕ → Core) (t
   -- the load
   module _ (at_load : at ≡ Load) where
     marked_good : (d : ℕ) → marked_by setup t (FrameAt f) ≡ Some d
-        → GoodTook setup cores t c (LoadOf (FrameAt f)) (landed a (refuse (refusal.Busy d)))
+        → GoodTook setup cores t c (LoadOf (FrameAt f)) (landed a (refuse (Refusal.Busy d)))
     marked_good d mark = refuses_busy setup setting cores t stands c here a active opens held_is room (LoadOf (FrameAt f)) loading
         (ap ticks_at stage_is) d
         (bare None (FrameAt f)) mark tt
 
-    kind_good : (v : FrameWord) → frame_of_word was ≡ Some v → (v.mark ≡ None) → (j : FrameKind) → v.kind ≡ j → (j ≡ kind.Untyped → ⊥)
-        → GoodTook setup cores t c (LoadOf (FrameAt f)) (landed a (refuse refusal.FrameKind))
+    kind_good : (v : FrameWord) → frame_of_word was ≡ Some v → (v.mark ≡ None) → (j : FrameKind) → v.kind ≡ j → (j ≡ FrameKind.Untyped → ⊥)
+        → GoodTook setup cores t c (LoadOf (FrameAt f)) (landed a (refuse Refusal.FrameKind))
     kind_good v shown no_mark j kind_is other =
         refuses_frame_kind setup setting cores t stands c here a active opens held_is room (LoadOf (FrameAt f)) loading has.acts
-        (left_may s c (own_pages s c) (plan_for a.call) (rule_of s c a.call) a.found by_plan leads reply.FrameKind
-        (subst (λ x. RuleMay s c x reply.FrameKind) (sym left) (inr (inl (stands_so, refl)))))
+        (left_may s c (own_pages s c) (plan_for a.call) (rule_of s c a.call) a.found by_plan leads Reply.FrameKind
+        (subst (λ x. RuleMay s c x Reply.FrameKind) (sym left) (inr (inl (stands_so, refl)))))
         (λ nobody. by_frame false typed_now)
       where
         value : frame_value (s.frame f) ≡ v
@@ -285,7 +265,7 @@ module _ (setup : Setting) (setting : IsSetting setup) (cores : ℕ → Core) (t
         stands_so : (is_frame s f && not (is_untyped (s.frame f))) ≡ true
         stands_so = ap (λ b. b && not (is_untyped (s.frame f))) (lt-ltb f s.limits.frames below) ∙ ap (λ b. not b) typed_now
 
-    untyped_good : (v : FrameWord) → frame_of_word was ≡ Some v → v.mark ≡ None → v.kind ≡ kind.Untyped
+    untyped_good : (v : FrameWord) → frame_of_word was ≡ Some v → v.mark ≡ None → v.kind ≡ FrameKind.Untyped
         → GoodTook setup cores t c (LoadOf (FrameAt f))
         (landed a (Goes (Act (type_act (record { frame = f; kind = k; at = type_compare was })))))
     untyped_good v shown no_mark kind_is lands =
@@ -326,9 +306,9 @@ module _ (setup : Setting) (setting : IsSetting setup) (cores : ℕ → Core) (t
 
         by_kind : (v : FrameWord) → frame_of_word was ≡ Some v → v.mark ≡ None → (j : FrameKind) → v.kind ≡ j
             → GoodTook setup cores t c (LoadOf (FrameAt f)) (landed a (meets_kind typing was j))
-        by_kind v shown no_mark kind.Untyped kind_is = untyped_good v shown no_mark kind_is
-        by_kind v shown no_mark kind.User kind_is = kind_good v shown no_mark kind.User kind_is (λ h. cc)
-        by_kind v shown no_mark kind.Kernel kind_is = kind_good v shown no_mark kind.Kernel kind_is (λ h. cc)
+        by_kind v shown no_mark FrameKind.Untyped kind_is = untyped_good v shown no_mark kind_is
+        by_kind v shown no_mark FrameKind.User kind_is = kind_good v shown no_mark FrameKind.User kind_is (λ h. cc)
+        by_kind v shown no_mark FrameKind.Kernel kind_is = kind_good v shown no_mark FrameKind.Kernel kind_is (λ h. cc)
 
         by_mark : (v : FrameWord) → frame_of_word was ≡ Some v → (mark : Option ℕ) → v.mark ≡ mark
             → GoodTook setup cores t c (LoadOf (FrameAt f)) (landed a (meets_frame typing was v.kind mark))
@@ -368,16 +348,16 @@ module _ (setup : Setting) (setting : IsSetting setup) (cores : ℕ → Core) (t
 
     module _ (equal : (was == word) ≡ true) where
       abbrev e : Step
-      e = inner setup setting cores t stands c here a active compare (Some (reply.Ok Nothing)) None
+      e = inner setup setting cores t stands c here a active compare (Some (Reply.Ok Nothing)) None
 
       abbrev s' : State
       s' = state_after setup (e ∷ t)
 
       abbrev made : ℕ
-      made = (cores c).own.made + calls_counted (reply.Ok Nothing)
+      made = (cores c).own.made + calls_counted (Reply.Ok Nothing)
 
       abbrev after : Core
-      after = core_in_call (cores c) made (next_at a a.found (Decided (reply.Ok Nothing) None no_tail))
+      after = core_in_call (cores c) made (next_at a a.found (Decided (Reply.Ok Nothing) None no_tail))
 
       leaves_it : left_of compare was ≡ new
       leaves_it = ap (λ b. left_if b was new) equal
@@ -396,7 +376,7 @@ module _ (setup : Setting) (setting : IsSetting setup) (cores : ℕ → Core) (t
       change_is = by_frame true (ap is_untyped untyped)
 
       now : s' ≡ counted (with_frame s f (typed_frame k)) c
-      now = ap (λ p. state_decided_in p (reply.Ok Nothing) s c) is_open ∙ ap (λ x. counted (changed s x) c) change_is
+      now = ap (λ p. state_decided_in p (Reply.Ok Nothing) s c) is_open ∙ ap (λ x. counted (changed s x) c) change_is
 
       frame_here : (g : ℕ) → g ≡ f → s'.frame g ≡ typed_frame k
       frame_here g same = ap (λ x. x.frame g) now ∙ put_same s.frame f (typed_frame k) g same
@@ -441,10 +421,10 @@ module _ (setup : Setting) (setting : IsSetting setup) (cores : ℕ → Core) (t
 
       plain : IsUntimed setup t e
       plain = record {
-        begins = λ x. ap (λ p. begins_then (Some (reply.Ok Nothing)) p s c x) is_open ∙ ap (λ y. begins_in y x) change_is;
-        ends = λ x. ap (λ p. ends_in (Some (reply.Ok Nothing)) p x) is_open ∙ ap (λ y. ends_by y x) is.call_is ∙ typing_ends is.name f k
+        begins = λ x. ap (λ p. begins_then (Some (Reply.Ok Nothing)) p s c x) is_open ∙ ap (λ y. begins_in y x) change_is;
+        ends = λ x. ap (λ p. ends_in (Some (Reply.Ok Nothing)) p x) is_open ∙ ap (λ y. ends_by y x) is.call_is ∙ typing_ends is.name f k
             types x;
-        flushes = ap (flushes_in (Some (reply.Ok Nothing))) is_open ∙ ap flushes_by is.call_is;
+        flushes = ap (flushes_in (Some (Reply.Ok Nothing))) is_open ∙ ap flushes_by is.call_is;
         apart = λ d. refl;
         same = refl;
       }
@@ -483,7 +463,7 @@ module _ (setup : Setting) (setting : IsSetting setup) (cores : ℕ → Core) (t
       stays (FrameAt g) there free = said (FrameAt g) (frame_there g (λ same. there (ap (λ (x : ℕ). FrameAt x) same)))
       stays (CountAt g d) there free = said (CountAt g d) tt
       stays (CoreAt d) there free = said (CoreAt d) (record {
-        inside = decided-inside (Some (reply.Ok Nothing)) (phase t c) s c d;
+        inside = decided-inside (Some (Reply.Ok Nothing)) (phase t c) s c d;
         exit = plain_exit t e refl d;
       })
       stays (FlushAt d) there free = said (FlushAt d) (plain_flush setup t e plain d)
@@ -521,7 +501,7 @@ module _ (setup : Setting) (setting : IsSetting setup) (cores : ℕ → Core) (t
       no_count : (g d : ℕ) → CountAt g d ≢ FrameAt f
       no_count g d h = cc
 
-      permitted : MayReply s c a.call (reply.Ok Nothing)
+      permitted : MayReply s c a.call (Reply.Ok Nothing)
       permitted = (
         not_spent setup (cores c) t c (stands.each c here) room,
         (has.acts, subst (λ x. IsFoundAnd x (λ y. y.value ≡ Nothing)) (sym change_is) refl),
@@ -549,8 +529,8 @@ module _ (setup : Setting) (setting : IsSetting setup) (cores : ℕ → Core) (t
       no_entry_word g i h = cc
 
       won : GoodTook setup cores t c compare (landed a (typed_if true))
-      won lands = writes_on setup setting cores t stands c here a active compare made (reply.Ok Nothing) a.found
-          (Decided (reply.Ok Nothing) None no_tail) unmarked bare_now
+      won lands = writes_on setup setting cores t stands c here a active compare made (Reply.Ok Nothing) a.found
+          (Decided (Reply.Ok Nothing) None no_tail) unmarked bare_now
           (subst (λ (n : ℕ). n < 2 ^ 64) (sym leaves_it) (spelling.small (typed k) (typed_fits k)))
           of_call lands opens refl refl (λ g i h. absurd (no_entry_word g i h))
           alike (plain_begins setup t e plain) (spares_other setup t e (λ g i h. cc))

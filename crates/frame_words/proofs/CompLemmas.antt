@@ -1,11 +1,9 @@
 -- One spelling for each component word.
-use Rattle.std.proofs.Common.{◌≡◌, ℕ, ◌+◌, ◌*◌, ◌/◌, ◌%◌, ◌^◌, ◌<◌, ◌&&◌, nat_lt, nat_le, Option, Some, IfSome, subst, arith}
-use Rattle.std.proofs.lemmas.Bool.{and_parts, lt-ltb, le-leb, ltb-true, leb-true}
-use Rattle.spk_nums.proofs.Choices.{kept}
-use Rattle.spk_nums.proofs.OneSpelling.{spelling_reads, spelling_spells}
-use Rattle.spk_nums.specs.Spelling.{IsOneSpelling}
-use Rattle.frame_words.specs.Comp.{CompFits, word_of_comp, comp_of_word}
-use Rattle.frame_words.specs.declared.comp_word.CompWord.{CompWord}
+use Rattle.std.proofs.Common.{◌≡◌, ℕ, ◌+◌, ◌*◌, ◌/◌, ◌%◌, ◌^◌, ◌<◌, ◌&&◌, nat_lt, nat_le, Option, Some, IfSome, subst, arith, lt-ltb}
+use Rattle.std.proofs.Common.{le-leb, ltb-true, leb-true}
+use Rattle.frame_words.specs.{CompFits, word_of_comp, comp_of_word}
+use Rattle.spk_nums.proofs.{Choices.kept, OneSpelling.spelling_reads, OneSpelling.spelling_spells}
+use Rattle.{std.proofs.lemmas.Bool.and_parts, spk_nums.specs.Spelling.IsOneSpelling, frame_words.specs.declared.comp_word.CompWord.CompWord}
 
 reads : (v : CompWord) → CompFits v → comp_of_word (word_of_comp v) ≡ Some v
 unfolding word_of_comp comp_of_word

@@ -1,12 +1,9 @@
 -- One spelling for each core word.
-use Rattle.std.proofs.Common.{◌≡◌, ℕ, Bool, true, false, ◌+◌, ◌*◌, ◌/◌, ◌%◌, ◌^◌, ◌<◌}
-use Rattle.std.proofs.Common.{nat_lt, ◌==◌, Option, Some, IfSome, refl, subst, arith}
-use Rattle.std.proofs.lemmas.Bool.{lt-ltb, ltb-true, eqb-true, eqb-false}
-use Rattle.spk_nums.proofs.Choices.{kept}
-use Rattle.spk_nums.proofs.OneSpelling.{spelling_reads, spelling_spells}
-use Rattle.spk_nums.specs.Spelling.{IsOneSpelling}
-use Rattle.frame_words.specs.Core.{CoreFits, word_of_core, core_of_word}
-use Rattle.frame_words.specs.declared.core_word.CoreWord.{CoreWord}
+use Rattle.std.proofs.Common.{◌≡◌, ℕ, Bool, true, false, ◌+◌, ◌*◌, ◌/◌, ◌%◌, ◌^◌, ◌<◌, nat_lt, ◌==◌, Option, Some, IfSome, refl, subst}
+use Rattle.std.proofs.Common.{arith, lt-ltb, ltb-true, eqb-true}
+use Rattle.spk_nums.proofs.{Choices.kept, OneSpelling.spelling_reads, OneSpelling.spelling_spells}
+use Rattle.{frame_words.specs.word_of_core, frame_words.specs.core_of_word, std.proofs.lemmas.Bool.eqb-false}
+use Rattle.{spk_nums.specs.Spelling.IsOneSpelling, frame_words.specs.Core.CoreFits, frame_words.specs.declared.core_word.CoreWord.CoreWord}
 
 reads_bit : (b : Bool) (s : ℕ) → s < 2 ^ 43
     → core_of_word (word_of_core (record { inside = b; stamp = s })) ≡ Some (record { inside = b; stamp = s })

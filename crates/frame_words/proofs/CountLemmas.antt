@@ -1,18 +1,14 @@
 -- One spelling for each count word.
-use Rattle.std.proofs.Common.{◌≡◌, ◌≢◌, true, ℕ, ◌+◌, ◌-◌, ◌*◌, ◌/◌, ◌%◌, ◌^◌, ◌<◌, ◌≤◌}
-use Rattle.std.proofs.Common.{nat_lt, ◌==◌, Option, Some, None, IfSome, refl, subst, arith}
-use Rattle.std.specs.Prelude.{ℤ}
-use Rattle.std.proofs.lemmas.Bool.{ne_eqb, lt-ltb, le-ltb, ltb-true, ltb-false, eqb-true, eqb-false}
-use Rattle.spk_nums.proofs.Choices.{kept, chosen}
-use Rattle.spk_nums.proofs.OneSpelling.{spelling_reads, spelling_spells}
-use Rattle.spk_nums.specs.Spelling.{IsOneSpelling}
-use Rattle.frame_words.specs.Count.{HoldFits, CountFits}
-use Rattle.frame_words.specs.Count.{number_of_hold, hold_of_number, word_of_count, count_of, count_of_word}
-use Rattle.frame_words.specs.Residue.{residue, signed}
-use Rattle.frame_words.specs.declared.count_word.CountWord.{CountWord}
-use Rattle.frame_words.specs.declared.count_word.Hold.{Hold}
-use Rattle.frame_words.specs.declared.count_word.Hold.TheVariants.{Unheld, Pinned, Closed}
+use Rattle.std.proofs.Common.{◌≡◌, ◌≢◌, true, ℕ, ◌+◌, ◌-◌, ◌*◌, ◌/◌, ◌%◌, ◌^◌, ◌<◌, ◌≤◌, nat_lt, ◌==◌, Option, Some, None, IfSome, refl}
+use Rattle.std.proofs.Common.{subst, arith, ℤ, ne_eqb, lt-ltb, le-ltb, ltb-true, ltb-false, eqb-true}
+use Rattle.frame_words.specs.{CountFits, word_of_count, count_of_word, residue}
+use Rattle.spk_nums.proofs.{Choices.kept, Choices.chosen, OneSpelling.spelling_reads, OneSpelling.spelling_spells}
+use Rattle.frame_words.specs.{Count.HoldFits, Count.number_of_hold, Count.hold_of_number, Count.count_of, Residue.signed}
+use Rattle.frame_words.specs.{declared.count_word.CountWord.CountWord, declared.count_word.Hold.Hold}
+use Rattle.frame_words.specs.{declared.count_word.Hold.TheVariants.Unheld, declared.count_word.Hold.TheVariants.Pinned}
 use Rattle.frame_words.proofs.ResidueLemmas.{IsSigned, signed_is, signed_residue, residue_small}
+use Rattle.{std.proofs.lemmas.Bool.eqb-false, spk_nums.specs.Spelling.IsOneSpelling}
+use Rattle.{frame_words.specs.declared.count_word.Hold.TheVariants.Closed}
 
 -- a hold has a number below 2 ^ 5, and is found again from it
 record IsHoldNumber (h : Hold) : Type 0 where

@@ -1,11 +1,8 @@
 -- One spelling for each flush word.
-use Rattle.std.proofs.Common.{◌≡◌, ℕ, ◌^◌, ◌<◌, nat_lt, Option, Some, IfSome, refl, subst, arith}
-use Rattle.std.proofs.lemmas.Bool.{lt-ltb, ltb-true}
-use Rattle.spk_nums.proofs.Choices.{kept}
-use Rattle.spk_nums.proofs.OneSpelling.{spelling_reads, spelling_spells}
-use Rattle.spk_nums.specs.Spelling.{IsOneSpelling}
-use Rattle.frame_words.specs.Flush.{FlushFits, word_of_flush, flush_of_word}
-use Rattle.frame_words.specs.declared.flush_word.FlushWord.{FlushWord}
+use Rattle.std.proofs.Common.{◌≡◌, ℕ, ◌^◌, ◌<◌, nat_lt, Option, Some, IfSome, refl, subst, arith, lt-ltb, ltb-true}
+use Rattle.spk_nums.proofs.{Choices.kept, OneSpelling.spelling_reads, OneSpelling.spelling_spells}
+use Rattle.{frame_words.specs.word_of_flush, frame_words.specs.flush_of_word, spk_nums.specs.Spelling.IsOneSpelling}
+use Rattle.{frame_words.specs.Flush.FlushFits, frame_words.specs.declared.flush_word.FlushWord.FlushWord}
 
 reads : (v : FlushWord) → FlushFits v → flush_of_word (word_of_flush v) ≡ Some v
 unfolding word_of_flush flush_of_word

@@ -1,19 +1,14 @@
 -- One spelling for each frame word.
-use Rattle.std.proofs.Common.{◌≡◌, ℕ, ◌+◌, ◌*◌, ◌/◌, ◌%◌, ◌^◌, ◌<◌, nat_lt, Option, Some, IfSome, refl, subst, arith}
-use Rattle.std.proofs.lemmas.Bool.{lt-ltb, ltb-true}
-use Rattle.std.proofs.lemmas.Bool.Decides.{nat_tests}
-use Rattle.spk_nums.proofs.Choices.{kept}
-use Rattle.spk_nums.proofs.MarkLemmas.{IsMarkNumber, mark_numbered, MarkFrom, mark_from}
-use Rattle.spk_nums.proofs.OneSpelling.{spelling_reads, spelling_spells}
-use Rattle.spk_nums.specs.Marks.{number_of_mark, mark_of_number}
-use Rattle.spk_nums.specs.Spelling.{IsOneSpelling}
-use Rattle.spk_nums.specs.declared.kinds.FrameKind.{FrameKind}
+use Rattle.std.proofs.Common.{◌≡◌, ℕ, ◌+◌, ◌*◌, ◌/◌, ◌%◌, ◌^◌, ◌<◌, nat_lt, Option, Some, IfSome, refl, subst, arith, lt-ltb, ltb-true}
+use Rattle.frame_words.specs.{FrameFits, word_of_frame, frame_of_word}
+use Rattle.spk_nums.proofs.{Choices.kept, MarkLemmas.IsMarkNumber, MarkLemmas.mark_numbered, MarkLemmas.MarkFrom, MarkLemmas.mark_from}
 use Rattle.spk_nums.specs.declared.kinds.FrameKind.TheVariants.{Untyped, User, Kernel}
-use Rattle.spk_nums.specs.declared.kinds.Obj.{Obj}
 use Rattle.spk_nums.specs.declared.kinds.Obj.TheVariants.{Blank, Table, Leaf, Pages, Pleaf, Comp, Thread, Tcap}
 use Rattle.frame_words.specs.FrameKinds.{number_of_frame_kind, frame_kind_of_number, number_of_object, object_of_number, end_of_object}
-use Rattle.frame_words.specs.Frame.{FrameFits, word_of_frame, frame_of, frame_of_word}
-use Rattle.frame_words.specs.declared.frame_word.FrameWord.{FrameWord}
+use Rattle.{std.proofs.lemmas.Bool.Decides.nat_tests, spk_nums.proofs.OneSpelling.spelling_reads}
+use Rattle.{spk_nums.proofs.OneSpelling.spelling_spells, spk_nums.specs.Marks.number_of_mark, spk_nums.specs.Marks.mark_of_number}
+use Rattle.{spk_nums.specs.Spelling.IsOneSpelling, spk_nums.specs.declared.kinds.FrameKind.FrameKind, spk_nums.specs.declared.kinds.Obj.Obj}
+use Rattle.{frame_words.specs.Frame.frame_of, frame_words.specs.declared.frame_word.FrameWord.FrameWord}
 
 -- a frame's kind has a number below 4, and is found again from it
 record IsNumbered (k : FrameKind) : Type 0 where

@@ -1,13 +1,11 @@
 -- One spelling for each liveness word.
-use Rattle.std.proofs.Common.{◌≡◌, ◌≢◌, ℕ, ◌+◌, ◌*◌, ◌/◌, ◌%◌, ◌^◌, ◌<◌, ◌==◌, ◌&&◌}
-use Rattle.std.proofs.Common.{nat_lt, nat_le, Option, Some, IfSome, refl, subst, arith}
-use Rattle.std.proofs.lemmas.Bool.{and_parts, ne_eqb, lt-ltb, le-leb, ltb-true, leb-true, eqb-true}
-use Rattle.spk_nums.proofs.Choices.{kept, chosen}
-use Rattle.spk_nums.proofs.OneSpelling.{spelling_reads, spelling_spells}
-use Rattle.spk_nums.specs.Spelling.{IsOneSpelling}
-use Rattle.frame_words.specs.Live.{LiveFits, word_of_live, live_of_word, live_of, closing_of, dead_of}
-use Rattle.frame_words.specs.declared.live_word.LiveWord.{LiveWord}
+use Rattle.std.proofs.Common.{◌≡◌, ◌≢◌, ℕ, ◌+◌, ◌*◌, ◌/◌, ◌%◌, ◌^◌, ◌<◌, ◌==◌, ◌&&◌, nat_lt, nat_le, Option, Some, IfSome, refl, subst}
+use Rattle.std.proofs.Common.{arith, ne_eqb, lt-ltb, le-leb, ltb-true, leb-true, eqb-true}
+use Rattle.frame_words.specs.{LiveFits, word_of_live, live_of_word}
+use Rattle.spk_nums.proofs.{Choices.kept, Choices.chosen, OneSpelling.spelling_reads, OneSpelling.spelling_spells}
+use Rattle.frame_words.specs.Live.{live_of, closing_of, dead_of}
 use Rattle.frame_words.specs.declared.live_word.LiveWord.TheVariants.{Free, Live, Closing, Dead}
+use Rattle.{std.proofs.lemmas.Bool.and_parts, spk_nums.specs.Spelling.IsOneSpelling, frame_words.specs.declared.live_word.LiveWord.LiveWord}
 
 reads : (v : LiveWord) → LiveFits v → live_of_word (word_of_live v) ≡ Some v
 unfolding word_of_live live_of_word

@@ -1,11 +1,8 @@
 -- Integers modulo 2 ^ 16: residues, what has them, and sums.
-use Rattle.std.proofs.Common.{◌≡◌, ℕ, ℤ, pos, negsuc, ◌+ℤ◌, ◌-ℤ◌, ◌+◌, ◌-◌, ◌*◌, ◌/◌, ◌%◌, ◌^◌, ◌<◌, ◌≤◌, nat_lt, refl, subst, ap, sym, ◌∙◌, arith}
-use Rattle.std.proofs.lemmas.Int.{ints}
-use Rattle.std.proofs.lemmas.Bool.{lt-ltb, le-ltb, ltb-true, ltb-false}
-use Rattle.std.specs.Int.{int_rem_euclid}
-use Rattle.spk_nums.proofs.Choices.{chosen}
-use Rattle.frame_words.specs.Count.{NumberFits}
-use Rattle.frame_words.specs.Residue.{residue, signed, wrapped}
+use Rattle.std.proofs.Common.{◌≡◌, ℕ, ℤ, pos, negsuc, ◌+ℤ◌, ◌-ℤ◌, ◌+◌, ◌-◌, ◌*◌, ◌/◌, ◌%◌, ◌^◌, ◌<◌, ◌≤◌, nat_lt, refl, subst, ap, sym, ◌∙◌}
+use Rattle.std.proofs.Common.{arith, lt-ltb, le-ltb, ltb-true, ltb-false}
+use Rattle.frame_words.specs.{NumberFits, residue, wrapped}
+use Rattle.{std.proofs.lemmas.Int.ints, std.specs.Int.int_rem_euclid, spk_nums.proofs.Choices.chosen, frame_words.specs.Residue.signed}
 
 -- the residue is what is left by a division by 2 ^ 16
 euclid : (z : ℤ) → int_rem_euclid z (pos (2 ^ 16)) ≡ pos (residue z)

@@ -1,8 +1,7 @@
 use Rattle.std.specs.Prelude.{ℕ, ℤ, pos, negsuc, ◌+◌, ◌-◌, ◌*◌, ◌/◌, ◌%◌, ◌^◌, ◌<◌, ◌==◌, nat_lt, Option, Some, None, if◌then◌else◌}
-use Rattle.frame_words.specs.Residue.{residue, signed}
-use Rattle.frame_words.specs.declared.count_word.CountWord.{CountWord}
-use Rattle.frame_words.specs.declared.count_word.Hold.{Hold}
-use Rattle.frame_words.specs.declared.count_word.Hold.TheVariants.{Unheld, Pinned, Closed}
+use Rattle.frame_words.specs.{Residue.residue, Residue.signed, declared.count_word.CountWord.CountWord, declared.count_word.Hold.Hold}
+use Rattle.frame_words.specs.{declared.count_word.Hold.TheVariants.Unheld, declared.count_word.Hold.TheVariants.Pinned}
+use Rattle.frame_words.specs.{declared.count_word.Hold.TheVariants.Closed}
 
 -- a word is held by no core, or by one
 abbrev pub HoldFits : Hold → Type 0

@@ -1,9 +1,7 @@
 use Rattle.std.specs.Prelude.{ℕ, ◌+◌, ◌*◌, ◌/◌, ◌%◌, ◌^◌, ◌<◌, nat_lt, Option, Some, None, if◌then◌else◌}
-use Rattle.spk_nums.specs.Marks.{MarkFits, number_of_mark, mark_of_number}
-use Rattle.spk_nums.specs.declared.kinds.FrameKind.{FrameKind}
-use Rattle.spk_nums.specs.declared.kinds.Obj.{Obj}
+use Rattle.spk_nums.specs.{Marks.MarkFits, Marks.number_of_mark, Marks.mark_of_number, declared.kinds.FrameKind.FrameKind}
 use Rattle.frame_words.specs.FrameKinds.{number_of_frame_kind, frame_kind_of_number, number_of_object, object_of_number, end_of_object}
-use Rattle.frame_words.specs.declared.frame_word.FrameWord.{FrameWord}
+use Rattle.{spk_nums.specs.declared.kinds.Obj.Obj, frame_words.specs.declared.frame_word.FrameWord.FrameWord}
 
 -- the mark is that of a core, and only a kernel frame holds an object
 abbrev pub FrameFits : FrameWord → Type 0

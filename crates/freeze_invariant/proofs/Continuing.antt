@@ -1,20 +1,16 @@
 -- Where a sweep goes on when its counters are frozen and its scans are over: its object is looked at, or, where it has none, its draw
 -- comes.
-use Rattle.scan_invariant.proofs.Common.{◌≡◌, ℕ, ◌==◌, ◌++◌, map, length, Bool, true, false, List, [], Option}
-use Rattle.scan_invariant.proofs.Common.{Some, None, arith, refl, sym, ◌∙◌, ap, subst, eqb-true, Setting, Obj}
-use Rattle.scan_invariant.proofs.Common.{CountWord, FrameWord, Blank, Table, Leaf, Pages, Pleaf, Comp, Thread, Tcap, Frame}
-use Rattle.scan_invariant.proofs.Common.{Untyped, User, Kernel, State, frame_names, frame_value, Trace, state_after, Acquired, loads_of}
-use Rattle.scan_invariant.proofs.Common.{at_after, empty_next, end_by, swept_of, Owned, Sweep, SweepAt, Empty, Swept, next_work}
-use Rattle.scan_invariant.proofs.Common.{took_sweep, OwnedBy, released_dues, release_of, Untyping, Draw, Work, Act, WorkStep, Goes}
-use Rattle.scan_invariant.proofs.Common.{ActiveCall, Undecided, holds_release, Holding, AreDuesApart, due_of, KnowsWork, holds_work}
-use Rattle.scan_invariant.proofs.Common.{AreKept, IsLookedAt, KnowsSwept, SaysTyped, UntypesBy, names_of}
-use Rattle.std.specs.Prelude.{if◌then◌else◌}
-use Rattle.scan_invariant.specs.spk_nums.specs.declared.kinds.Obj.TheVariants as obj
-use Rattle.scan_invariant.specs.act_states.specs.Untypings.{owned_dues}
-use Rattle.scan_invariant.specs.act_states.specs.declared.work.Act.TheVariants.{Untype as untype_act}
-use Rattle.scan_invariant.specs.step_ways.proofs.Loads.{next_at}
-use Rattle.scan_invariant.specs.core_invariant.specs.Sweeps.{IsSwept}
-use Rattle.scan_invariant.specs.count_invariant.proofs.Acquiring.{knows_next, next_holds}
+use Rattle.scan_invariant.specs.step_ways.proofs as low
+use low.{◌≡◌, ℕ, ◌==◌, ◌++◌, map, length, Bool, true, false, List, [], Option, Some, None, arith, refl, sym, ◌∙◌, ap, subst, eqb-true}
+use low.{Setting, Obj, CountWord, FrameWord, Blank, Table, Leaf, Pages, Pleaf, Comp, Thread, Tcap, Frame, Untyped, User, Kernel, State}
+use low.{frame_names, frame_value, Trace, state_after, Acquired, loads_of, at_after, end_by, swept_of, Owned, Sweep, SweepAt, Empty, Swept}
+use low.{next_work, took_sweep, release_of, Untyping, Work, Act, WorkStep, Goes, ActiveCall, Undecided, holds_release, Holding}
+use low.{AreDuesApart, due_of, KnowsWork, holds_work, IsLookedAt, UntypesBy, names_of, if◌then◌else◌, Untype as untype_act, next_at}
+use Rattle.scan_invariant.specs.core_invariant.specs.{AreKept, KnowsSwept, SaysTyped, IsSwept}
+use Rattle.scan_invariant.specs.act_states.specs.{OwnedBy, released_dues, owned_dues}
+use Rattle.scan_invariant.specs.count_invariant.proofs.{knows_next, next_holds}
+use Rattle.scan_invariant.specs.stage_sweep.specs.Freeze.{empty_next}
+use Rattle.scan_invariant.specs.act_states.specs.declared.untypings.UntypingAt.TheVariants.{Draw}
 use Rattle.freeze_invariant.proofs.Counters.{sweeping, untyping_by}
 
 -- Before its first word was looked at nothing is known of an object.
@@ -36,7 +32,7 @@ looked_none s f User o = tt
 looked_none s f Untyped o = tt
 
 -- A frame without an object names none.
-blank_names : (x : Frame) → (frame_value x).object ≡ obj.Blank → frame_names x ≡ []
+blank_names : (x : Frame) → (frame_value x).object ≡ Obj.Blank → frame_names x ≡ []
 blank_names Untyped is = refl
 blank_names User is = refl
 blank_names (Kernel Blank) is = refl
@@ -49,25 +45,25 @@ blank_names (Kernel (Thread k)) is = absurd (cc)
 blank_names (Kernel (Tcap q)) is = refl
 
 -- An object of which no word is looked at is none.
-no_loads : (o : Obj) → loads_of o ≡ 0 → o ≡ obj.Blank
-no_loads obj.Blank is = refl
-no_loads obj.Table is = absurd (omega (arith, is))
-no_loads obj.Leaf is = absurd (omega (arith, is))
-no_loads obj.Pages is = absurd (omega (arith, is))
-no_loads obj.Pleaf is = absurd (omega (arith, is))
-no_loads obj.Comp is = absurd (omega (arith, is))
-no_loads obj.Thread is = absurd (omega (arith, is))
-no_loads obj.Tcap is = absurd (omega (arith, is))
+no_loads : (o : Obj) → loads_of o ≡ 0 → o ≡ Obj.Blank
+no_loads Obj.Blank is = refl
+no_loads Obj.Table is = absurd (omega (arith, is))
+no_loads Obj.Leaf is = absurd (omega (arith, is))
+no_loads Obj.Pages is = absurd (omega (arith, is))
+no_loads Obj.Pleaf is = absurd (omega (arith, is))
+no_loads Obj.Comp is = absurd (omega (arith, is))
+no_loads Obj.Thread is = absurd (omega (arith, is))
+no_loads Obj.Tcap is = absurd (omega (arith, is))
 
-none_owned : (o : Obj) (owned : Owned) → o ≡ obj.Blank → OwnedBy o owned → (owned.first ≡ None) × (owned.second ≡ None)
-none_owned obj.Blank owned is has = has
-none_owned obj.Table owned is has = absurd (cc)
-none_owned obj.Leaf owned is has = absurd (cc)
-none_owned obj.Pages owned is has = absurd (cc)
-none_owned obj.Pleaf owned is has = absurd (cc)
-none_owned obj.Comp owned is has = absurd (cc)
-none_owned obj.Thread owned is has = absurd (cc)
-none_owned obj.Tcap owned is has = absurd (cc)
+none_owned : (o : Obj) (owned : Owned) → o ≡ Obj.Blank → OwnedBy o owned → (owned.first ≡ None) × (owned.second ≡ None)
+none_owned Obj.Blank owned is has = has
+none_owned Obj.Table owned is has = absurd (cc)
+none_owned Obj.Leaf owned is has = absurd (cc)
+none_owned Obj.Pages owned is has = absurd (cc)
+none_owned Obj.Pleaf owned is has = absurd (cc)
+none_owned Obj.Comp owned is has = absurd (cc)
+none_owned Obj.Thread owned is has = absurd (cc)
+none_owned Obj.Tcap owned is has = absurd (cc)
 
 -- The call knows then what it is to know where its draw comes, and acquires the first of the counts that are due.
 module _ (setup : Setting) (c table : ℕ) (a : ActiveCall) (no_counts : a.counts ≡ []) (f core word : ℕ) (own : core ≡ c)
@@ -131,7 +127,7 @@ module _ (setup : Setting) (c table : ℕ) (a : ActiveCall) (no_counts : a.count
           };
         }
         by true is =
-            let blank : v.object ≡ obj.Blank = no_loads v.object (eqb-true (loads_of v.object) 0 is) in
+            let blank : v.object ≡ Obj.Blank = no_loads v.object (eqb-true (loads_of v.object) 0 is) in
             let none = none_owned v.object o blank owned_by in
             let swept : Swept = swept_of (sweeping g v b kept o at) in record {
               work = next_work core 0 (untype_act (draws swept));

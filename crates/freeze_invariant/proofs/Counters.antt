@@ -1,45 +1,28 @@
 -- The steps by which a call that makes a frame untyped freezes its counters: the load, which finds another core's mark or a count that no
 -- core holds; and the compare, which is lost to another core or freezes the counter. After the last, references refuse the call, or the
 -- scan begins.
-use Rattle.scan_invariant.proofs.Common.{All, ◌≡◌, ◌≢◌, inl, ℕ, ℤ, ◌<◌, ◌≤◌}
-use Rattle.scan_invariant.proofs.Common.{length, slice_get, Bool, true, false, List, [], ◌∷◌, Option, Some, None, IsTrue, arith}
-use Rattle.scan_invariant.proofs.Common.{refl, sym, ◌∙◌, ap, subst, eq-eqb, All-nil}
-use Rattle.scan_invariant.proofs.Common.{Setting, IsSetting, count_of_word}
-use Rattle.scan_invariant.proofs.Common.{CountWord, FrameWord, Word, CountAt, Move, LoadOf}
-use Rattle.scan_invariant.proofs.Common.{word_of, State, FrameOf, refs, count_mark, marked_by}
-use Rattle.scan_invariant.proofs.Common.{frame_value, stamp, Step, Trace, state_after, last_left, own_read-here, unheld}
-use Rattle.scan_invariant.proofs.Common.{Acquired, counters_of, latest_stamp, at_after, end_by, swept_of, thaw_of, Owned, Sweep, SweepAt}
-use Rattle.scan_invariant.proofs.Common.{Compare, Swept, took_sweep, release_of, Untyping, Tail, Act, Goes}
-use Rattle.scan_invariant.proofs.Common.{Refuses, Undecided, ActiveCall, landed, Core, holds_release, holds_thaw, is_frozen, Holding}
-use Rattle.scan_invariant.proofs.Common.{holds_counts, settled_by, settled, KnowsTail, KnowsUndecided, holds, holds_in}
-use Rattle.scan_invariant.proofs.Common.{held_by, Invariant, AreFrozen, KnowsSweep}
-use Rattle.scan_invariant.proofs.Common.{ThawsFrame, SaysCount, names_on, thaws_own}
-use Rattle.scan_invariant.proofs.Common.{HoldsSwept, release_swept, IsInFootprint}
-use Rattle.std.specs.Prelude.{if◌then◌else◌}
-use Rattle.scan_invariant.specs.frame_words.specs.declared.count_word.Hold.{Hold}
-use Rattle.scan_invariant.specs.frame_words.specs.declared.count_word.Hold.TheVariants as hold
+use Rattle.scan_invariant.specs as low
+use low.step_ways.proofs.{All, ◌≡◌, ◌≢◌, inl, ℕ, ℤ, ◌<◌, ◌≤◌, length, slice_get, Bool, true, false, List, [], ◌∷◌, Option, Some, None}
+use low.step_ways.proofs.{IsTrue, arith, refl, sym, ◌∙◌, ap, subst, eq-eqb, Setting, IsSetting, count_of_word, CountWord, FrameWord, Word}
+use low.step_ways.proofs.{CountAt, Move, LoadOf, word_of, State, FrameOf, refs, count_mark, marked_by, frame_value, stamp, Step, Trace}
+use low.step_ways.proofs.{state_after, last_left, own_read-here, unheld, Acquired, latest_stamp, at_after, end_by, swept_of, thaw_of, Owned}
+use low.step_ways.proofs.{Sweep, SweepAt, Swept, took_sweep, release_of, Untyping, Tail, Act, Goes, Refuses, Undecided, ActiveCall, landed}
+use low.step_ways.proofs.{Core, holds_release, holds_thaw, Holding, holds_counts, settled_by, settled, KnowsTail, KnowsUndecided, holds}
+use low.step_ways.proofs.{holds_in, held_by, Invariant, KnowsSweep, SaysCount, names_on, IsInFootprint, if◌then◌else◌, Hold}
+use low.step_ways.proofs.{Untype as untype_act, Release as release_tail, shape_of, counters, count_shown, OnlyLooks, step_to, loads_on}
+use low.step_ways.proofs.{GoodTook, ticks_at, plan_for, Refusal}
+use low.core_invariant.proofs.{Compare, AreFrozen, thaws_own, SameAt, thaw_all, thaw_from}
+use low.kept_facts.proofs.{FrozenSums.counters_length, Swept.frame_says, Swept.kept_shows, Swept.stamp_is}
+use low.{stage_sweep.specs.counters_of, stage_sweep.specs.load_refuses, stage_sweep.specs.load_next, kept_facts.proofs.HoldsSwept}
+use low.{kept_facts.proofs.release_swept, kept_facts.proofs.no_refs, core_invariant.specs.is_frozen, core_invariant.specs.ThawsFrame}
+use low.{stage_sweep.specs.declared.sweep.SweepAt.TheVariants.Load as sweep_load}
+use low.{act_states.specs.declared.untypings.UntypingAt.TheVariants.Sweep as sweep_at, core_invariant.specs.Sweeps.HasReadCount}
+use low.{core_invariant.specs.Frozen.thawed, core_invariant.proofs.Freezing.IsFrozenWord, core_invariant.proofs.Freezing.frozen_word}
+use low.{step_ways.proofs.Refusals.busy_leaving, kernel_history.specs.Discipline.may_count, kernel_history.proofs.OwnCounts.untype_counts}
+use Rattle.{std.proofs.lemmas.List.Elements.All-nil, freeze_invariant.proofs.UntypeCalls.IsUntype}
+use Rattle.{freeze_invariant.proofs.UntypeCalls.untypes_on}
 use Rattle.scan_invariant.specs.frame_words.proofs.CountLemmas as counts
-use Rattle.scan_invariant.specs.stage_sweep.specs.Freeze.{load_refuses, load_next}
-use Rattle.scan_invariant.specs.stage_sweep.specs.declared.sweep.SweepAt.TheVariants.{Load as sweep_load}
-use Rattle.scan_invariant.specs.act_states.specs.declared.refusals.Refusal.TheVariants as refusal
-use Rattle.scan_invariant.specs.act_states.specs.declared.untypings.UntypingAt.TheVariants.{Sweep as sweep_at}
-use Rattle.scan_invariant.specs.act_states.specs.declared.work.Act.TheVariants.{Untype as untype_act}
-use Rattle.scan_invariant.specs.act_states.specs.declared.work.Tail.TheVariants.{Release as release_tail}
-use Rattle.scan_invariant.specs.core_invariant.specs.Sweeps.{HasReadCount}
-use Rattle.scan_invariant.specs.core_invariant.proofs.Freezing.{SameAt, IsFrozenWord, frozen_word, thaw_all, thaw_from}
-use Rattle.scan_invariant.specs.kernel_history.specs.BootWords.{shape_of}
-use Rattle.scan_invariant.specs.kernel_history.specs.Counts.{counters}
-use Rattle.scan_invariant.specs.core_invariant.specs.Invariant.{count_shown}
-use Rattle.scan_invariant.specs.kept_facts.proofs.FrozenSums.{counters_length}
-use Rattle.scan_invariant.specs.kept_facts.proofs.Swept.{frame_says, kept_shows, no_refs, stamp_is}
-use Rattle.scan_invariant.specs.step_ways.proofs.Loads.{OnlyLooks, step_to, loads_on}
-use Rattle.scan_invariant.specs.step_ways.proofs.Refusals.{GoodTook, ticks_at, busy_leaving}
 use Rattle.freeze_invariant.proofs.UntypeCalls as calls
-use Rattle.freeze_invariant.proofs.UntypeCalls.{IsUntype, untypes_on}
-use Rattle.scan_invariant.specs.core_invariant.specs.Frozen.{thawed}
-use Rattle.scan_invariant.specs.kernel_history.specs.Discipline.{may_count}
-use Rattle.scan_invariant.specs.kernel_history.proofs.OwnCounts.{untype_counts}
-use Rattle.scan_invariant.specs.act_states.specs.call_plans.specs.PlanOf.{plan_for}
 
 none_some : (d : ℕ) → None ≡ Some d → ⊥
 none_some d h = cc
@@ -205,7 +188,7 @@ module _ (setup : Setting) (setting : IsSetting setup) (cores : ℕ → Core) (t
         (end_by (load_refuses shown) (load_next shown) (swept_of (After shown)))))
 
     held_good : (d : ℕ) → marked_by setup t at ≡ Some d
-        → GoodTook setup cores t c load (landed a (Refuses (refusal.Busy d) (release_tail (release_of f word (swept_of w) false))))
+        → GoodTook setup cores t c load (landed a (Refuses (Refusal.Busy d) (release_tail (release_of f word (swept_of w) false))))
     held_good d mark = busy_leaving setup setting cores t stands c here a active
         (calls.opens setup setting cores t stands c here a active m stage_is has)
         (undo_with setup setting cores t stands c here a active f core word w stage_is has kept)
@@ -259,9 +242,9 @@ module _ (setup : Setting) (setting : IsSetting setup) (cores : ℕ → Core) (t
       where
         by_hold : (h : Hold) (count : ℤ) (stamp : ℕ) → count_of_word was ≡ Some (record { hold = h; count = count; stamp = stamp })
             → Goal (Some (record { hold = h; count = count; stamp = stamp }))
-        by_hold hold.Unheld count stamp shown = free_good count stamp shown
-        by_hold (hold.Pinned d) count stamp shown = held_good d (ap count_mark shown)
-        by_hold (hold.Closed d) count stamp shown = held_good d (ap count_mark shown)
+        by_hold Hold.Unheld count stamp shown = free_good count stamp shown
+        by_hold (Hold.Pinned d) count stamp shown = held_good d (ap count_mark shown)
+        by_hold (Hold.Closed d) count stamp shown = held_good d (ap count_mark shown)
 
         by_word : (shown : Option CountWord) → count_of_word was ≡ shown → Goal shown
         by_word None shown = absurd (not_some _ (sym shown ∙ (says (ap count_mark shown)).says))

@@ -1,36 +1,22 @@
 -- The step of a retype to untyped that scans a core's word: it is refused where the core may still use the frame.
-use Rattle.scan_invariant.proofs.Common.{list_any, ◌≡◌, ◌≢◌, ◌⊎◌, inl, inr, ℕ, ◌<◌, ◌≤◌, ◌&&◌, ◌||◌, nat_lt, nat_le}
-use Rattle.scan_invariant.proofs.Common.{Bool, true, false, List, ◌∷◌, Option, Some, None, IsTrue, arith, refl, sym, ◌∙◌, ap, subst}
-use Rattle.scan_invariant.proofs.Common.{eq-eqb, ltb-false, leb-true, leb-false, Setting}
-use Rattle.scan_invariant.proofs.Common.{IsSetting, Reply, core_of_word, CountWord, FrameWord}
-use Rattle.scan_invariant.proofs.Common.{CoreAt, Move, LoadOf, State, Thing, FrameOf, same_thing}
-use Rattle.scan_invariant.proofs.Common.{MayWait, rule_of}
-use Rattle.scan_invariant.proofs.Common.{IsRemoved, IsWaiting, exit_of}
-use Rattle.scan_invariant.proofs.Common.{stamp, Step, Trace, state_after, last_left, asked_of, waited_in}
-use Rattle.scan_invariant.proofs.Common.{was_at_once, not_inside, out_passed}
-use Rattle.scan_invariant.proofs.Common.{later_passed, may_wait, own_pages, Quiet, AtCore, AtFlush, next_other, core_scan, flush_scan}
-use Rattle.scan_invariant.proofs.Common.{core_refuses, scan_end, scan_after, quiet_next}
-use Rattle.scan_invariant.proofs.Common.{refusal_of, scan_goes, at_after, end_by, swept_of}
-use Rattle.scan_invariant.proofs.Common.{Owned, Sweep, took_sweep, release_of, UntypingFits, Untyping, Act}
-use Rattle.scan_invariant.proofs.Common.{Refuses, Undecided, ActiveCall, landed, Core}
-use Rattle.scan_invariant.proofs.Common.{KnowsUndecided, Invariant, IsQuiet}
-use Rattle.scan_invariant.proofs.Common.{IsScanning, KnowsSweep, limits_of}
-use Rattle.std.specs.Prelude.{if◌then◌else◌}
-use Rattle.scan_invariant.specs.spk_nums.specs.declared.replies.Reply.TheVariants as reply
-use Rattle.scan_invariant.specs.plan_ways.proofs.Ways.{asked_left}
-use Rattle.scan_invariant.specs.stage_sweep.specs.declared.sweep.SweepAt.TheVariants.{Scan}
-use Rattle.scan_invariant.specs.act_states.specs.declared.work.Act.TheVariants.{Untype as untype_act}
-use Rattle.scan_invariant.specs.act_states.specs.declared.refusals.Refusal.TheVariants as refusal
-use Rattle.scan_invariant.specs.act_states.specs.declared.work.Tail.TheVariants.{Release as release_tail}
-use Rattle.scan_invariant.specs.step_ways.proofs.Loads.{OnlyLooks, inner, decides_with}
-use Rattle.scan_invariant.specs.step_ways.proofs.Refusals.{GoodTook}
-use Rattle.scan_invariant.proofs.Scans.{before_next}
-use Rattle.freeze_invariant.proofs.Counters.{sweeping, untyping_by, sweep_knows, sweep_held}
-use Rattle.freeze_invariant.proofs.Counters.{sweep_since, undo_with, undo_known}
+use Rattle.scan_invariant.specs as low
+use low.step_ways.proofs.{◌≡◌, ◌≢◌, ◌⊎◌, inl, inr, ℕ, ◌<◌, ◌≤◌, ◌&&◌, ◌||◌, ltb as nat_lt, leb as nat_le, Bool, true, false, List, ◌∷◌}
+use low.step_ways.proofs.{Option, Some, None, IsTrue, arith, refl, sym, ◌∙◌, ap, subst, eq-eqb, ltb-false, leb-true, leb-false, Setting}
+use low.step_ways.proofs.{IsSetting, Reply, core_of_word, CountWord, FrameWord, CoreAt, Move, LoadOf, State, Thing, FrameOf, same_thing}
+use low.step_ways.proofs.{rule_of, IsRemoved, exit_of, stamp, Step, Trace, state_after, last_left, not_inside, own_pages, Quiet, AtCore}
+use low.step_ways.proofs.{AtFlush, core_scan, scan_end, scan_after, quiet_next, at_after, end_by, swept_of, Owned, Sweep, took_sweep}
+use low.step_ways.proofs.{release_of, UntypingFits, Untyping, Act, Refuses, Undecided, ActiveCall, landed, Core, KnowsUndecided, Invariant}
+use low.step_ways.proofs.{IsQuiet, KnowsSweep, limits_of, if◌then◌else◌, Untype as untype_act, Release as release_tail, OnlyLooks, inner}
+use low.step_ways.proofs.{decides_with, GoodTook, plan_for, Refusal}
+use low.act_states.specs.{next_other, flush_scan, Scan}
+use low.trace_laws.proofs.{out_passed, later_passed, may_wait}
+use Rattle.freeze_invariant.proofs.Counters.{sweeping, untyping_by, sweep_knows, sweep_held, sweep_since, undo_with, undo_known}
 use Rattle.freeze_invariant.proofs.FrameScans.{all_scanned, scans_on, page_known}
-use Rattle.freeze_invariant.proofs.FrameQuiet.{unpaged_frame}
+use low.{stage_sweep.specs.refusal_of, stage_sweep.specs.scan_goes, kernel_history.specs.asked_of, kernel_history.specs.waited_in}
+use low.{kernel_rules.specs.GracePeriods.MayWait, kernel_history.specs.Justified.IsWaiting, trace_laws.proofs.Carries.was_at_once}
+use low.{stage_quiet.specs.Scan.core_refuses, core_invariant.specs.Sweeps.IsScanning, plan_ways.proofs.Ways.asked_left}
+use Rattle.{std.specs.List.list_any, scan_invariant.proofs.Scans.before_next, freeze_invariant.proofs.FrameQuiet.unpaged_frame}
 use Rattle.freeze_invariant.proofs.UntypeCalls as calls
-use Rattle.scan_invariant.specs.act_states.specs.call_plans.specs.PlanOf.{plan_for}
 
 module _ (setup : Setting) (setting : IsSetting setup) (cores : ℕ → Core) (t : Trace) (stands : Invariant setup cores t) (c : ℕ)
     (here : c < setup.cores)
@@ -85,7 +71,7 @@ module _ (setup : Setting) (setting : IsSetting setup) (cores : ℕ → Core) (t
   -- The core may still use the frame.
   module _ (inside : (s.core at).inside ≡ true) (early : exit_of t at ≤ x) where
     abbrev e : Step
-    e = inner setup setting cores t stands c here a active load (Some (reply.Quiescing at)) None
+    e = inner setup setting cores t stands c here a active load (Some (Reply.Quiescing at)) None
 
     waits : MayWait s c thing at
     waits = record {
@@ -109,15 +95,15 @@ module _ (setup : Setting) (setting : IsSetting setup) (cores : ℕ → Core) (t
       was_removed = was_at_once (IsRemoved thing) setup t e refl tt;
     }
 
-    still_inside : GoodTook setup cores t c load (landed a (Refuses (refusal.Quiescing at)
+    still_inside : GoodTook setup cores t c load (landed a (Refuses (Refusal.Quiescing at)
         (release_tail (release_of f word (swept_of w) false))))
-    still_inside lands = decides_with setup setting cores t stands c here a active load (reply.Quiescing at)
+    still_inside lands = decides_with setup setting cores t stands c here a active load (Reply.Quiescing at)
         (undo_with setup setting cores t stands c here a active f core word w stage_is has kept) a.found looks lands
         (sym (sweep_held setup setting cores t stands c here a active f core word w stage_is has))
         (calls.opens setup setting cores t stands c here a active m stage_is has) refl refl
         (λ y. refl) (λ y. refl) refl (
           calls.unspent setup setting cores t stands c here a active m stage_is has,
-          calls.may_refuse setup setting cores t stands c here a active m stage_is has (reply.Quiescing at) (inr (inr (inr (inl waits)))),
+          calls.may_refuse setup setting cores t stands c here a active m stage_is has (Reply.Quiescing at) (inr (inr (inr (inl waits)))),
         )
         justified
         (λ is_alone. absurd (not_inside setup t e refl is_alone at other inside))
@@ -201,7 +187,7 @@ module _ (setup : Setting) (setting : IsSetting setup) (cores : ℕ → Core) (t
       (by_inside (s.core at).inside refl (nat_le (exit_of t at) x) refl)
     where
       by_inside : (inside : Bool) → (s.core at).inside ≡ inside → (early : Bool) → nat_le (exit_of t at) x ≡ early
-          → Judged (if inside && early then Some (reply.Quiescing at) else None) (quiet_next setup.cores q)
+          → Judged (if inside && early then Some (Reply.Quiescing at) else None) (quiet_next setup.cores q)
       by_inside false is early le = has_passed (out_passed setup t thing (stands.graces thing) at x is)
       by_inside true is true le = still_inside is (leb-true (exit_of t at) x le)
       by_inside true is false le = has_passed (later_passed setup t thing (stands.graces thing) at x (leb-false (exit_of t at) x le))

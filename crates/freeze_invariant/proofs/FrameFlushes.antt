@@ -1,36 +1,29 @@
 -- The step of a retype to untyped that scans a flush word: it is refused where the core may not have flushed since.
-use Rattle.scan_invariant.proofs.Common.{list_any, ◌≡◌, ◌⊎◌, inl, inr, ℕ, ◌+◌, ◌<◌, ◌≤◌, ◌==◌, ◌||◌, nat_lt, nat_le}
-use Rattle.scan_invariant.proofs.Common.{Bool, true, false, List, ◌∷◌, Option, Some, None, IsTrue, arith, refl, sym, ◌∙◌, ap, subst}
-use Rattle.scan_invariant.proofs.Common.{cases_eq, eq-eqb, eqb-true, ltb-false, leb-true, leb-false, Setting}
-use Rattle.scan_invariant.proofs.Common.{IsSetting, Call, Reply, flush_of_word, CountWord, FrameWord}
-use Rattle.scan_invariant.proofs.Common.{FlushAt, same_word, Move, LoadOf, State, Thing, FrameOf, same_thing}
-use Rattle.scan_invariant.proofs.Common.{lowest, unflushed_by, MayBeUnflushed, Refused, rule_of, change_of}
-use Rattle.scan_invariant.proofs.Common.{IsAlone, IsRemoved, IsUnflushed, awaits_flushes, flush_of}
-use Rattle.scan_invariant.proofs.Common.{flush_stored, stamp, Step, Trace, Out, Open, phase, state_after, last_left, asked_of}
-use Rattle.scan_invariant.proofs.Common.{flushed_in, refused_first, nobody_waits, awaits_are, was_at_once}
-use Rattle.scan_invariant.proofs.Common.{own_pages, Quiet, AtFlush}
-use Rattle.scan_invariant.proofs.Common.{flush_refuses, scan_end, scan_after, quiet_next}
-use Rattle.scan_invariant.proofs.Common.{refusal_of, scan_goes, at_after, end_by, swept_of}
-use Rattle.scan_invariant.proofs.Common.{Owned, Sweep, took_sweep, release_of, UntypingFits, Untyping, Act}
-use Rattle.scan_invariant.proofs.Common.{Refuses, Undecided, ActiveCall, landed, Core}
-use Rattle.scan_invariant.proofs.Common.{KnowsUndecided, Invariant, IsQuiet}
-use Rattle.scan_invariant.proofs.Common.{IsScanning, KnowsSweep, limits_of}
-use Rattle.std.specs.Prelude.{if◌then◌else◌}
-use Rattle.scan_invariant.specs.spk_nums.specs.declared.replies.Reply.TheVariants as reply
-use Rattle.scan_invariant.specs.plan_ways.proofs.Ways.{asked_left}
-use Rattle.scan_invariant.specs.stage_sweep.specs.declared.sweep.SweepAt.TheVariants.{Scan}
-use Rattle.scan_invariant.specs.act_states.specs.declared.work.Act.TheVariants.{Untype as untype_act}
-use Rattle.scan_invariant.specs.act_states.specs.declared.refusals.Refusal.TheVariants as refusal
-use Rattle.scan_invariant.specs.act_states.specs.declared.work.Tail.TheVariants.{Release as release_tail}
-use Rattle.scan_invariant.specs.step_ways.proofs.Loads.{OnlyLooks, inner, decides_with}
-use Rattle.scan_invariant.specs.step_ways.proofs.Refusals.{GoodTook}
+use Rattle.scan_invariant.specs.step_ways.proofs.{◌≡◌, ◌⊎◌, inl, inr, ℕ, ◌+◌, ◌<◌, ◌≤◌, ◌==◌, ◌||◌, ltb as nat_lt, leb as nat_le, Bool}
+use Rattle.scan_invariant.specs.step_ways.proofs.{true, false, List, ◌∷◌, Option, Some, None, IsTrue, arith, refl, sym, ◌∙◌, ap, subst}
+use Rattle.scan_invariant.specs.step_ways.proofs.{eq-eqb, eqb-true, ltb-false, leb-true, leb-false, Setting, IsSetting, Call, Reply}
+use Rattle.scan_invariant.specs.step_ways.proofs.{CountWord, FrameWord, FlushAt, same_word, Move, LoadOf, State, Thing, FrameOf, same_thing}
+use Rattle.scan_invariant.specs.step_ways.proofs.{Refused, rule_of, change_of, IsAlone, IsRemoved, flush_of, flush_stored, stamp, Step}
+use Rattle.scan_invariant.specs.step_ways.proofs.{Trace, Out, Open, phase, state_after, last_left, refused_first, own_pages, Quiet, AtFlush}
+use Rattle.scan_invariant.specs.step_ways.proofs.{scan_end, scan_after, quiet_next, at_after, end_by, swept_of, Owned, Sweep, took_sweep}
+use Rattle.scan_invariant.specs.step_ways.proofs.{release_of, UntypingFits, Untyping, Act, Refuses, Undecided, ActiveCall, landed, Core}
+use Rattle.scan_invariant.specs.step_ways.proofs.{KnowsUndecided, Invariant, IsQuiet, KnowsSweep, limits_of, if◌then◌else◌}
+use Rattle.scan_invariant.specs.step_ways.proofs.{Untype as untype_act, Release as release_tail, OnlyLooks, inner, decides_with, GoodTook}
+use Rattle.scan_invariant.specs.step_ways.proofs.{plan_for, Refusal}
+use Rattle.scan_invariant.specs.kernel_history.specs.{flush_of_word, awaits_flushes, asked_of}
+use Rattle.scan_invariant.specs.kernel_rules.specs.{lowest, unflushed_by, MayBeUnflushed}
+use Rattle.scan_invariant.specs.stage_sweep.specs.{refusal_of, scan_goes}
+use Rattle.scan_invariant.specs.trace_laws.proofs.{nobody_waits, awaits_are}
+use Rattle.scan_invariant.specs.kernel_history.specs.{Justified.IsUnflushed, Ways.flushed_in}
 use Rattle.scan_invariant.proofs.FlushScans.{flush_is_stored, flush_shown, lowest_is, still_unflushed, unflushed_shown}
-use Rattle.scan_invariant.specs.place_invariant.proofs.Vacancy.{none_waits}
-use Rattle.freeze_invariant.proofs.Counters.{sweeping, untyping_by, sweep_knows, sweep_held}
-use Rattle.freeze_invariant.proofs.Counters.{sweep_refs, sweep_since, undo_with, undo_known}
+use Rattle.freeze_invariant.proofs.Counters.{sweeping, untyping_by, sweep_knows, sweep_held, sweep_refs, sweep_since, undo_with, undo_known}
 use Rattle.freeze_invariant.proofs.FrameScans.{all_scanned, scans_on, page_known, known_typed}
+use Rattle.{std.specs.List.list_any, std.proofs.lemmas.Bool.cases_eq, scan_invariant.specs.trace_laws.proofs.Carries.was_at_once}
+use Rattle.{scan_invariant.specs.stage_quiet.specs.Scan.flush_refuses, scan_invariant.specs.core_invariant.specs.Sweeps.IsScanning}
+use Rattle.{scan_invariant.specs.plan_ways.proofs.Ways.asked_left}
+use Rattle.{scan_invariant.specs.stage_sweep.specs.declared.sweep.SweepAt.TheVariants.Scan}
+use Rattle.{scan_invariant.specs.place_invariant.proofs.Vacancy.none_waits}
 use Rattle.freeze_invariant.proofs.UntypeCalls as calls
-use Rattle.scan_invariant.specs.act_states.specs.call_plans.specs.PlanOf.{plan_for}
 
 module _ (setup : Setting) (setting : IsSetting setup) (cores : ℕ → Core) (t : Trace) (stands : Invariant setup cores t) (c : ℕ)
     (here : c < setup.cores)
@@ -111,7 +104,7 @@ module _ (setup : Setting) (setting : IsSetting setup) (cores : ℕ → Core) (t
   -- The core may not have flushed since.
   module _ (early : flush_stored t at ≤ x) where
     abbrev e : Step
-    e = inner setup setting cores t stands c here a active load (Some (reply.Unflushed at)) None
+    e = inner setup setting cores t stands c here a active load (Some (Reply.Unflushed at)) None
 
     unflushed : MayBeUnflushed s thing at
     unflushed = unflushed_shown setup cores t stands thing x at below awaits (let z = since in omega (arith, z)) early
@@ -143,8 +136,8 @@ module _ (setup : Setting) (setting : IsSetting setup) (cores : ℕ → Core) (t
           (λ d lower. scan.quiet.flushed d lower since)
           (still_unflushed setup cores t stands thing at below undecided awaits (let z = since in let h = early in omega (arith, z, h)))
 
-      refused : change_of s c a.call ≡ Refused (reply.Unflushed at)
-      refused = calls.by_causes setup setting cores t stands c here a active m stage_is has None None None (Some (reply.Unflushed at)) _
+      refused : change_of s c a.call ≡ Refused (Reply.Unflushed at)
+      refused = calls.by_causes setup setting cores t stands c here a active m stage_is has None None None (Some (Reply.Unflushed at)) _
           (calls.kind_none setup setting cores t stands c here a active m stage_is has
           (known_typed setup setting cores t stands c here a active f core word g v b kept o q stage_is has load looks))
           (calls.refs_none setup setting cores t stands c here a active m stage_is has
@@ -152,21 +145,21 @@ module _ (setup : Setting) (setting : IsSetting setup) (cores : ℕ → Core) (t
           (none_waits s c thing (λ d low other. nobody_waits setup t e stands.legal tt alone a.call is_open thing d))
           (ap unflushed_by first_unflushed) refl
 
-    not_flushed : GoodTook setup cores t c load (landed a (Refuses (refusal.Unflushed at)
+    not_flushed : GoodTook setup cores t c load (landed a (Refuses (Refusal.Unflushed at)
         (release_tail (release_of f word (swept_of w) false))))
     not_flushed lands =
         let unspent = calls.unspent setup setting cores t stands c here a active m stage_is has in
-        decides_with setup setting cores t stands c here a active load (reply.Unflushed at)
+        decides_with setup setting cores t stands c here a active load (Reply.Unflushed at)
         (undo_with setup setting cores t stands c here a active f core word w stage_is has kept) a.found looks lands
         (sym (sweep_held setup setting cores t stands c here a active f core word w stage_is has))
         (calls.opens setup setting cores t stands c here a active m stage_is has) refl refl
         (λ y. refl) (λ y. refl) refl (
           unspent,
-          calls.may_refuse setup setting cores t stands c here a active m stage_is has (reply.Unflushed at)
+          calls.may_refuse setup setting cores t stands c here a active m stage_is has (Reply.Unflushed at)
               (inr (inr (inr (inr (inl unflushed))))),
         )
         justified
-        (λ is_alone. refused_first s c a.call (reply.Unflushed at) has.acts unspent (refused is_alone))
+        (λ is_alone. refused_first s c a.call (Reply.Unflushed at) has.acts unspent (refused is_alone))
         (undo_known setup setting cores t stands c here a active f core word w stage_is has (e ∷ t) kept)
 
   -- The core has flushed since.
@@ -212,6 +205,6 @@ module _ (setup : Setting) (setting : IsSetting setup) (cores : ℕ → Core) (t
       (by_stamp (nat_le (flush_stored t at) x) refl)
     where
       by_stamp : (early : Bool) → nat_le (flush_stored t at) x ≡ early
-          → Judged (if early then Some (reply.Unflushed at) else None) (quiet_next setup.cores q)
+          → Judged (if early then Some (Reply.Unflushed at) else None) (quiet_next setup.cores q)
       by_stamp true le = not_flushed (leb-true (flush_stored t at) x le)
       by_stamp false le = has_flushed (flush_shown setup cores t stands thing x at (leb-false (flush_stored t at) x le))

@@ -1,23 +1,18 @@
 -- Who waits for a frame of which all counters are frozen, and where the scan for them begins.
-use Rattle.scan_invariant.proofs.Common.{◌≡◌, ℕ, ◌<◌, ◌≤◌, ◌==◌, map, Bool, true, false, List, [], Option}
-use Rattle.scan_invariant.proofs.Common.{Some, None, inl, inr, arith, refl, sym, ◌∙◌, ap, subst, eqb-true, eqb-false, false≢true, Setting}
-use Rattle.scan_invariant.proofs.Common.{IsSetting, CountWord, FrameWord, Blank, Table, Leaf, Pages, Pleaf, Comp, Thread, Tcap}
-use Rattle.scan_invariant.proofs.Common.{Frame, Untyped, User, Kernel, FrameOf, is_translated, frame_value, clock, stamp, Trace}
-use Rattle.scan_invariant.proofs.Common.{state_after, awaits_are, cases_bool, quiet_scan, Quiet, AtCore, AtFlush, latest_stamp}
-use Rattle.scan_invariant.proofs.Common.{may_be_cached, at_after, empty_next, end_by, swept_of, Owned, Sweep, SweepAt, took_sweep}
-use Rattle.scan_invariant.proofs.Common.{OwnedBy, release_of, Untyping, Work, Act, WorkStep, Goes, ActiveCall, Undecided, Core}
-use Rattle.scan_invariant.proofs.Common.{holds_release, Holding, due_of, KnowsWork, holds_work, Invariant, AreFrozen, AreKept, IsQuiet}
-use Rattle.scan_invariant.proofs.Common.{KnowsSweepScan, SaysTyped, UntypesBy, core_scan}
-use Rattle.std.specs.Prelude.{if◌then◌else◌}
-use Rattle.scan_invariant.specs.stage_sweep.specs.Freeze.{scan_next}
-use Rattle.scan_invariant.specs.stage_sweep.specs.declared.sweep.SweepAt.TheVariants.{Scan}
-use Rattle.scan_invariant.specs.act_states.specs.declared.work.Act.TheVariants.{Untype as untype_act}
-use Rattle.scan_invariant.specs.step_ways.proofs.Loads.{next_at}
-use Rattle.scan_invariant.proofs.Scans.{ScanBegins, AtCores, AtFlushes, scan_begins, scan_none}
+use Rattle.scan_invariant.specs as low
+use low.step_ways.proofs.{◌≡◌, ℕ, ◌<◌, ◌≤◌, ◌==◌, map, Bool, true, false, List, [], Option, Some, None, inl, inr, arith, refl, sym, ◌∙◌, ap}
+use low.step_ways.proofs.{subst, eqb-true, eqb-false, false≢true, Setting, IsSetting, CountWord, FrameWord, Blank, Table, Leaf, Pages}
+use low.step_ways.proofs.{Pleaf, Comp, Thread, Tcap, Frame, Untyped, User, Kernel, FrameOf, frame_value, clock, stamp, Trace, state_after}
+use low.step_ways.proofs.{quiet_scan, Quiet, AtCore, AtFlush, latest_stamp, at_after, end_by, swept_of, Owned, Sweep, SweepAt, took_sweep}
+use low.step_ways.proofs.{release_of, Untyping, Work, Act, WorkStep, Goes, ActiveCall, Undecided, Core, holds_release, Holding, due_of}
+use low.step_ways.proofs.{KnowsWork, holds_work, Invariant, IsQuiet, UntypesBy, core_scan, if◌then◌else◌, Untype as untype_act, next_at}
+use Rattle.scan_invariant.proofs.{ScanBegins, AtCores, AtFlushes, scan_begins, scan_none}
+use low.core_invariant.specs.{AreFrozen, AreKept, KnowsSweepScan, SaysTyped}
+use low.act_states.specs.{may_be_cached, OwnedBy, Scan, first_other}
+use Rattle.freeze_invariant.proofs.{Continuing.looked_none, Counters.sweeping, Counters.untyping_by}
+use low.{stage_sweep.specs.empty_next, stage_sweep.specs.scan_next, trace_laws.proofs.awaits_are, trace_laws.proofs.cases_bool}
+use low.{kernel_rules.specs.GracePeriods.is_translated}
 use Rattle.freeze_invariant.proofs.Continuing as going
-use Rattle.freeze_invariant.proofs.Continuing.{looked_none}
-use Rattle.freeze_invariant.proofs.Counters.{sweeping, untyping_by}
-use Rattle.scan_invariant.specs.stage_quiet.specs.Scan.{first_other}
 
 -- A frame may be cached exactly where translations reach it.
 pub cached_is : (x : Frame) → may_be_cached (frame_value x).kind (frame_value x).object ≡ is_translated x

@@ -1,30 +1,19 @@
 -- A step of the scan for a frame that is made untyped: it is refused by a core that may still use the frame, or that may not have flushed
 -- it, or goes on to the next word, and from the last to the object in the frame.
-use Rattle.scan_invariant.proofs.Common.{◌≡◌, ℕ, ◌<◌}
-use Rattle.scan_invariant.proofs.Common.{false, List, [], ◌∷◌, Option, Some, None, refl, sym, ◌∙◌, ap, subst}
-use Rattle.scan_invariant.proofs.Common.{Setting}
-use Rattle.scan_invariant.proofs.Common.{IsSetting, Reply, CountWord, FrameWord}
-use Rattle.scan_invariant.proofs.Common.{Move, State, FrameOf, is_untyped}
-use Rattle.scan_invariant.proofs.Common.{is_translated}
-use Rattle.scan_invariant.proofs.Common.{frame_value}
-use Rattle.scan_invariant.proofs.Common.{stamp, Step, Trace, state_after, last_left}
-use Rattle.scan_invariant.proofs.Common.{Quiet}
-use Rattle.scan_invariant.proofs.Common.{latest_stamp, may_be_cached, empty_next, at_after, end_by, swept_of}
-use Rattle.scan_invariant.proofs.Common.{Owned, Sweep, SweepAt, took_sweep, release_of, Untyping, Work, Act}
-use Rattle.scan_invariant.proofs.Common.{WorkStep, Goes, Undecided, ActiveCall, landed, Core, holds_release, Holding}
-use Rattle.scan_invariant.proofs.Common.{holds_counts, KnowsUndecided, KnowsWork, holds_work, Invariant, AreFrozen, IsQuiet}
-use Rattle.scan_invariant.proofs.Common.{KnowsSweep, KnowsSweepScan, names_on, quiet_frame_on, limits_of, word_of}
-use Rattle.scan_invariant.specs.stage_sweep.specs.declared.sweep.SweepAt.TheVariants.{Scan}
-use Rattle.scan_invariant.specs.act_states.specs.declared.work.Act.TheVariants.{Untype as untype_act}
-use Rattle.scan_invariant.specs.step_ways.proofs.Loads.{OnlyLooks, step_to, next_at, loads_on}
-use Rattle.scan_invariant.specs.step_ways.proofs.Refusals.{GoodTook}
-use Rattle.freeze_invariant.proofs.Counters.{sweeping, untyping_by, sweep_knows, sweep_held, sweep_counts}
-use Rattle.freeze_invariant.proofs.Counters.{sweep_frame}
-use Rattle.freeze_invariant.proofs.FrameQuiet as quieting
-use Rattle.freeze_invariant.proofs.FrameQuiet.{cached_is}
-use Rattle.freeze_invariant.proofs.UntypeCalls as calls
+use Rattle.scan_invariant.specs.step_ways.proofs as low
+use low.{◌≡◌, ℕ, ◌<◌, false, List, [], ◌∷◌, Option, Some, None, refl, sym, ◌∙◌, ap, subst, Setting, IsSetting, Reply, CountWord, FrameWord}
+use low.{Move, State, FrameOf, is_untyped, frame_value, stamp, Step, Trace, state_after, last_left, Quiet, latest_stamp, at_after, end_by}
+use low.{swept_of, Owned, Sweep, SweepAt, took_sweep, release_of, Untyping, Work, Act, WorkStep, Goes, Undecided, ActiveCall, landed, Core}
+use low.{holds_release, Holding, holds_counts, KnowsUndecided, KnowsWork, holds_work, Invariant, IsQuiet, KnowsSweep, names_on, limits_of}
+use low.{word_of, Untype as untype_act, OnlyLooks, step_to, next_at, loads_on, GoodTook, plan_for}
+use Rattle.scan_invariant.specs.core_invariant.specs.{AreFrozen, KnowsSweepScan}
+use Rattle.scan_invariant.specs.act_states.specs.{may_be_cached, Scan}
+use Rattle.freeze_invariant.proofs.Counters.{sweeping, untyping_by, sweep_knows, sweep_held, sweep_counts, sweep_frame}
 use Rattle.freeze_invariant.proofs.UntypeCalls.{untypes_on, typed_is}
-use Rattle.scan_invariant.specs.act_states.specs.call_plans.specs.PlanOf.{plan_for}
+use Rattle.{scan_invariant.specs.kernel_rules.specs.GracePeriods.is_translated, scan_invariant.specs.stage_sweep.specs.Freeze.empty_next}
+use Rattle.{scan_invariant.specs.kept_facts.proofs.Carries.quiet_frame_on, freeze_invariant.proofs.FrameQuiet.cached_is}
+use Rattle.freeze_invariant.proofs.FrameQuiet as quieting
+use Rattle.freeze_invariant.proofs.UntypeCalls as calls
 
 -- What is common to the two kinds of word.
 module _ (setup : Setting) (setting : IsSetting setup) (cores : ℕ → Core) (t : Trace) (stands : Invariant setup cores t) (c : ℕ)

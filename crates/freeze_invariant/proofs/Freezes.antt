@@ -1,53 +1,34 @@
 -- The compare by which a counter is frozen, after those before it: it is lost to another core; or the core holds the counter, which stands
 -- for what was found. Then the next one is loaded. After the last, references refuse the call, or the scan begins.
-use Rattle.scan_invariant.proofs.Common.{min, ◌≡◌, ◌≢◌, inl, inr, ℕ, ℤ, pos, ◌+◌, ◌-◌, ◌^◌, ◌<◌, ◌≤◌, ◌==◌, ◌++◌}
-use Rattle.scan_invariant.proofs.Common.{nat_lt, length, Bool, true, false, List, [], ◌∷◌, Option, Some, None, arith, refl}
-use Rattle.scan_invariant.proofs.Common.{sym, ◌∙◌, ap, subst, eqb-true, eqb-false, eq-eqb, All-nil, All-cons, Setting}
-use Rattle.scan_invariant.proofs.Common.{IsSetting, left_if, Reply, CountFits, word_of_count, count_of_word, CountWord, FrameWord, Word}
-use Rattle.scan_invariant.proofs.Common.{FrameAt, CountAt, same_word, Move, CompareOf, left_of, Shape, State}
-use Rattle.scan_invariant.proofs.Common.{FrameOf, put, refs, put_same, counters, count_in, count_sum, count_mark}
-use Rattle.scan_invariant.proofs.Common.{marked_by, frame_value, stamp, Step, Trace, state_after, last_left, refused_first, unheld}
-use Rattle.scan_invariant.proofs.Common.{quiet_scan, counters_of, latest_stamp, may_be_cached, at_after, end_by, swept_of}
-use Rattle.scan_invariant.proofs.Common.{Owned, Sweep, SweepAt, Compare, Swept, took_sweep, UntypingFits}
-use Rattle.scan_invariant.proofs.Common.{release_of, Untyping, Work, Act, WorkStep, Goes, Undecided, ActiveCall, landed, Core}
-use Rattle.scan_invariant.proofs.Common.{holds_release, Holding, holds_counts, settled_by}
-use Rattle.scan_invariant.proofs.Common.{KnowsUndecided, holds, holds_in, held_by, count_shown, Invariant, AreFrozen}
-use Rattle.scan_invariant.proofs.Common.{AreKept, IsQuiet, KnowsSweep, as_none, counts_bare, names_on, counts_on}
-use Rattle.scan_invariant.proofs.Common.{quiet_frame_on, exclusive_elsewhere, holds_work, KnowsWork}
-use Rattle.std.specs.Prelude.{if◌then◌else◌}
-use Rattle.std.proofs.Common.{slice_get, lt-ltb, ◌*◌, ◌≤ℤ◌}
-use Rattle.std.proofs.lemmas.Bool.{cases_eq, ltb-false}
-use Rattle.std.proofs.lemmas.List.Elements.{All-append}
-use Rattle.std.proofs.lemmas.Option.{slice_get_within}
-use Rattle.scan_invariant.specs.core_invariant.proofs.Freezing.{thaw_all, thaw_from, thaw_here, release_bare}
-use Rattle.scan_invariant.specs.kept_facts.proofs.FrozenSums.{got_before, got_last, length_more}
-use Rattle.scan_invariant.specs.kept_facts.proofs.Swept.{kept_stamp, kept_refs}
-use Rattle.freeze_invariant.proofs.Counters.{counter_footprint, counters_number, sweep_shows}
-use Rattle.freeze_invariant.proofs.OneMore.{frozen_beside}
-use Rattle.std.proofs.lemmas.Int.{ints}
-use Rattle.scan_invariant.specs.spk_nums.specs.declared.replies.Reply.TheVariants as reply
-use Rattle.scan_invariant.specs.frame_words.specs.Residue.{residue}
+use Rattle.scan_invariant.specs.step_ways.proofs as low
+use low.{min, ◌≡◌, ◌≢◌, inl, inr, ℕ, ℤ, pos, ◌+◌, ◌-◌, ◌^◌, ◌<◌, ◌≤◌, ◌==◌, ◌++◌, ltb as nat_lt, length, Bool, true, false, List, [], ◌∷◌}
+use low.{Option, Some, None, arith, refl, sym, ◌∙◌, ap, subst, eqb-true, eqb-false, eq-eqb, Setting, IsSetting, left_if, Reply, CountFits}
+use low.{word_of_count, count_of_word, CountWord, FrameWord, Word, FrameAt, CountAt, same_word, Move, CompareOf, left_of, Shape, State}
+use low.{FrameOf, put, refs, put_same, counters, count_in, count_sum, count_mark, marked_by, frame_value, stamp, Step, Trace, state_after}
+use low.{last_left, refused_first, unheld, quiet_scan, latest_stamp, at_after, end_by, swept_of, Owned, Sweep, SweepAt, Swept, took_sweep}
+use low.{UntypingFits, release_of, Untyping, Work, Act, WorkStep, Goes, Undecided, ActiveCall, landed, Core, holds_release, Holding}
+use low.{holds_counts, settled_by, KnowsUndecided, holds, holds_in, held_by, count_shown, Invariant, IsQuiet, KnowsSweep, as_none}
+use low.{counts_bare, names_on, counts_on, exclusive_elsewhere, holds_work, KnowsWork, if◌then◌else◌, slice_get, lt-ltb, ◌*◌, ltb-false}
+use low.{residue, frozen, released, Untype as untype_act, spares_other, IsOfCall, next_at, core_in_call, inner, call_is, GoodTook, ticks_at}
+use low.{raced_leaving, plan_for}
+use Rattle.scan_invariant.specs.stage_sweep.specs.{counters_of, may_be_cached, sum_of_counts, frozen_if, kept_with, compare_refuses}
+use Rattle.scan_invariant.specs.stage_sweep.specs.{compare_next, sum_refuses, scan_next}
+use Rattle.scan_invariant.specs.core_invariant.proofs.{Compare, AreFrozen, AreKept, thaw_all, thaw_from, thaw_here, release_bare}
+use Rattle.scan_invariant.specs.kernel_rules.specs.{is_untyped_now, refusal_of}
+use Rattle.scan_invariant.specs.kept_facts.proofs.{quiet_frame_on, got_before}
+use Rattle.std.proofs.{lemmas.List.Elements.All-nil, lemmas.List.Elements.All-cons, lemmas.List.Elements.All-append, Common.◌≤ℤ◌}
+use Rattle.std.proofs.{lemmas.Bool.cases_eq, lemmas.Option.slice_get_within, lemmas.Int.ints}
+use Rattle.scan_invariant.specs.kept_facts.proofs.{FrozenSums.got_last, FrozenSums.length_more, Swept.kept_stamp, Swept.kept_refs}
+use Rattle.scan_invariant.specs.stage_sweep.specs.{Freeze.some_referenced, declared.sweep.SweepAt.TheVariants.Load as sweep_load}
+use Rattle.freeze_invariant.proofs.Counters.{counter_footprint, counters_number, sweep_shows, sweeping, untyping_by, sweep_knows}
+use Rattle.freeze_invariant.proofs.Counters.{sweep_held, sweep_counts, sweep_frame, undo_with, undo_known, footprint_counter}
+use Rattle.freeze_invariant.proofs.UntypeCalls.{untypes_on, typed_is}
+use Rattle.{scan_invariant.specs.core_invariant.specs.Sweeps.HasReadCount, freeze_invariant.proofs.OneMore.frozen_beside}
 use Rattle.scan_invariant.specs.frame_words.proofs.CountLemmas as counts
-use Rattle.scan_invariant.specs.stage_sweep.specs.Counters.{sum_of_counts}
-use Rattle.scan_invariant.specs.stage_sweep.specs.Freeze.{frozen, frozen_if, kept_with, compare_refuses, compare_next}
-use Rattle.scan_invariant.specs.stage_sweep.specs.Freeze.{sum_refuses, some_referenced, scan_next}
-use Rattle.scan_invariant.specs.stage_sweep.specs.Release.{released}
-use Rattle.scan_invariant.specs.stage_sweep.specs.declared.sweep.SweepAt.TheVariants.{Load as sweep_load}
-use Rattle.scan_invariant.specs.act_states.specs.declared.work.Act.TheVariants.{Untype as untype_act}
-use Rattle.scan_invariant.specs.core_invariant.specs.Sweeps.{HasReadCount}
 use Rattle.scan_invariant.specs.step_ways.proofs.Counting as counting
-use Rattle.scan_invariant.specs.step_ways.proofs.Good.{spares_other}
-use Rattle.scan_invariant.specs.step_ways.proofs.Loads.{IsOfCall, next_at, core_in_call, inner, call_is}
-use Rattle.scan_invariant.specs.step_ways.proofs.Refusals.{GoodTook, ticks_at, raced_leaving}
-use Rattle.freeze_invariant.proofs.Counters.{sweeping, untyping_by, sweep_knows, sweep_held}
-use Rattle.freeze_invariant.proofs.Counters.{sweep_counts, sweep_frame, undo_with, undo_known, footprint_counter}
 use Rattle.freeze_invariant.proofs.FrameQuiet as quieting
 use Rattle.freeze_invariant.proofs.Refusing as refusing
 use Rattle.freeze_invariant.proofs.UntypeCalls as calls
-use Rattle.freeze_invariant.proofs.UntypeCalls.{untypes_on, typed_is}
-use Rattle.scan_invariant.specs.kernel_rules.specs.MemoryCalls.{is_untyped_now}
-use Rattle.scan_invariant.specs.kernel_rules.specs.Rules.{refusal_of}
-use Rattle.scan_invariant.specs.act_states.specs.call_plans.specs.PlanOf.{plan_for}
 
 none_some : (d : ℕ) → None ≡ Some d → ⊥
 none_some d h = cc
@@ -131,7 +112,7 @@ module _ (setup : Setting) (setting : IsSetting setup) (cores : ℕ → Core) (t
   next_then same = compare_next (nat_lt (length (kept_then same)) (counters_of layout)) v.object
       (quiet_scan (latest_stamp (kept_then same)) b layout.cores (may_be_cached v.kind v.object))
 
-  lost : (was == expected) ≡ false → Result kept (Some reply.Raced) (next_then false)
+  lost : (was == expected) ≡ false → Result kept (Some Reply.Raced) (next_then false)
   lost other =
       raced_leaving setup setting cores t stands c here a active
       (calls.opens setup setting cores t stands c here a active m stage_is has)
@@ -316,7 +297,7 @@ module _ (setup : Setting) (setting : IsSetting setup) (cores : ℕ → Core) (t
       -- References stand.
       module _ (n : ℕ) (refs_are : refs s f ≡ n) (some : (n == 0) ≡ false) where
         abbrev answer : Reply
-        answer = reply.Referenced n
+        answer = Reply.Referenced n
 
         exact : n ≡ refs s f
         exact = sym refs_are
@@ -324,8 +305,8 @@ module _ (setup : Setting) (setting : IsSetting setup) (cores : ℕ → Core) (t
         some_refs : nat_lt 0 (refs s f) ≡ true
         some_refs = lt-ltb 0 (refs s f) (let other = eqb-false n 0 some in let are = refs_are in omega (arith, other, are))
 
-        are_some : (nat_lt 0 (refs s f) ≡ true) × (answer ≡ reply.Referenced (refs s f))
-        are_some = (some_refs, ap reply.Referenced exact)
+        are_some : (nat_lt 0 (refs s f) ≡ true) × (answer ≡ Reply.Referenced (refs s f))
+        are_some = (some_refs, ap Reply.Referenced exact)
 
         kind_known : refusal_of s c (is_untyped_now s f) ≡ None
         kind_known = calls.kind_none setup setting cores t stands c here a
@@ -355,8 +336,8 @@ module _ (setup : Setting) (setting : IsSetting setup) (cores : ℕ → Core) (t
             (λ is_alone. refused_first s c a.call answer has.acts
             (calls.unspent setup setting cores t stands c here a active m stage_is has)
             (calls.by_causes setup setting cores t stands c here a active m stage_is has None (Some answer) _ _ _ kind_known
-            (ap (λ x. if x then Some (reply.Referenced (refs s f)) else None) some_refs
-            ∙ ap (λ (k : ℕ). Some (reply.Referenced k)) (sym exact))
+            (ap (λ x. if x then Some (Reply.Referenced (refs s f)) else None) some_refs
+            ∙ ap (λ (k : ℕ). Some (Reply.Referenced k)) (sym exact))
             refl refl refl))
             (undo_known setup setting cores t stands c here a active f core word w stage_is has
             (refusing.e setup setting cores t stands c here a active compare answer

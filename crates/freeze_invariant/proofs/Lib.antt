@@ -1,5 +1,3 @@
--- The names that most proofs use.
-pub use Rattle.scan_invariant.proofs.Common
 -- What such a call knows of its rule, and how it is refused.
 pub mod UntypeCalls
 pub mod Refusing
@@ -14,3 +12,5 @@ pub mod Freezes
 pub mod FrameScans
 pub mod FrameCores
 pub mod FrameFlushes
+-- The names that are used most outside of this library.
+pub use Rattle.freeze_invariant.proofs.Counters.{sweeping, untyping_by}

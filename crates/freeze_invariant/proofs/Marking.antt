@@ -1,31 +1,22 @@
 -- The steps by which a call that makes a frame untyped marks its word: the load, which finds another core's mark or a frame that is
 -- untyped, and the compare, which is lost to another core or holds the word for the call.
-use Rattle.scan_invariant.proofs.Common.{◌≡◌, ◌≢◌, inl, inr, ℕ, ◌^◌, ◌<◌, ◌==◌, ◌&&◌, Bool, true, false, List, [], Option}
-use Rattle.scan_invariant.proofs.Common.{Some, None, arith, refl, sym, ◌∙◌, ap, subst, eqb-true, eqb-false, eq-eqb, All-nil}
-use Rattle.scan_invariant.proofs.Common.{Setting, IsSetting, left_if, FrameKind, CountFits, FrameFits, word_of_frame, frame_of_word}
-use Rattle.scan_invariant.proofs.Common.{FrameWord, FrameAt, Move, LoadOf, CompareOf, left_of, same_same, Frame, Untyped, User}
-use Rattle.scan_invariant.proofs.Common.{Kernel, State, put, is_frame, is_untyped, put_same, frame_mark, marked_by, frame_value, Step}
-use Rattle.scan_invariant.proofs.Common.{Trace, state_after, last_left, same_word-other, own_read-here, unheld, Acquired, untyping_dues}
-use Rattle.scan_invariant.proofs.Common.{refuse, Untyping, Act, Goes, Undecided, ActiveCall, landed, Core, holds_counts}
-use Rattle.scan_invariant.proofs.Common.{settled_by, KnowsUndecided, holds, holds_in, held_by, Invariant, KnowsUntyping}
-use Rattle.scan_invariant.proofs.Common.{as_none, counts_bare, names_on, counts_on, exclusive_elsewhere}
-use Rattle.std.specs.Prelude.{if◌then◌else◌}
-use Rattle.scan_invariant.specs.spk_nums.specs.declared.kinds.FrameKind.TheVariants as kind
-use Rattle.scan_invariant.specs.spk_nums.specs.declared.replies.Reply.TheVariants as reply
-use Rattle.scan_invariant.specs.frame_words.proofs.FrameLemmas as frames
-use Rattle.scan_invariant.specs.act_states.specs.declared.refusals.Refusal.TheVariants as refusal
-use Rattle.scan_invariant.specs.act_states.specs.Acts.{meets_untyped, meets_untyping, sweep_from, sweeps_if}
-use Rattle.scan_invariant.specs.act_states.specs.Untypings.{held_by as marked_word}
+use Rattle.scan_invariant.specs.step_ways.proofs as low
+use low.{◌≡◌, ◌≢◌, inl, inr, ℕ, ◌^◌, ◌<◌, ◌==◌, ◌&&◌, Bool, true, false, List, [], Option, Some, None, arith, refl, sym, ◌∙◌, ap, subst}
+use low.{eqb-true, eqb-false, eq-eqb, Setting, IsSetting, left_if, FrameKind, CountFits, FrameFits, word_of_frame, frame_of_word, FrameWord}
+use low.{FrameAt, Move, LoadOf, CompareOf, left_of, same_same, Frame, Untyped, User, Kernel, State, put, is_frame, is_untyped, put_same}
+use low.{frame_mark, marked_by, frame_value, Step, Trace, state_after, last_left, same_word-other, own_read-here, unheld, Acquired, refuse}
+use low.{Untyping, Act, Goes, Undecided, ActiveCall, landed, Core, holds_counts, settled_by, KnowsUndecided, holds, holds_in, held_by}
+use low.{Invariant, as_none, counts_bare, names_on, counts_on, exclusive_elsewhere, if◌then◌else◌, Untype as untype_act, spares_other}
+use low.{IsOfCall, step_to, next_at, core_in_call, inner, call_is, loads_on, GoodTook, ticks_at, refuses_raced, refuses_busy, plan_for}
+use Rattle.scan_invariant.specs.act_states.specs.{untyping_dues, meets_untyped, meets_untyping, sweeps_if}
 use Rattle.scan_invariant.specs.act_states.specs.declared.untypings.UntypingAt.TheVariants.{Load, Mark, Sweep as sweep_at}
-use Rattle.scan_invariant.specs.act_states.specs.declared.work.Act.TheVariants.{Untype as untype_act}
-use Rattle.scan_invariant.specs.core_invariant.specs.Sweeps.{HasMetTyped}
+use low.{Reply, Refusal, Refusals.refuses_frame_kind}
+use Rattle.{std.proofs.lemmas.List.Elements.All-nil, scan_invariant.specs.core_invariant.specs.Sweeps.KnowsUntyping}
+use Rattle.{scan_invariant.specs.core_invariant.specs.Sweeps.HasMetTyped, scan_invariant.specs.act_states.specs.Taking.sweep_from}
+use Rattle.{scan_invariant.specs.act_states.specs.Untypings.held_by as marked_word, freeze_invariant.proofs.UntypeCalls.untypes_on}
+use Rattle.scan_invariant.specs.frame_words.proofs.FrameLemmas as frames
 use Rattle.scan_invariant.specs.step_ways.proofs.Counting as counting
-use Rattle.scan_invariant.specs.step_ways.proofs.Good.{spares_other}
-use Rattle.scan_invariant.specs.step_ways.proofs.Loads.{IsOfCall, step_to, next_at, core_in_call, inner, call_is, loads_on}
-use Rattle.scan_invariant.specs.step_ways.proofs.Refusals.{GoodTook, ticks_at, refuses_raced, refuses_busy, refuses_frame_kind}
 use Rattle.freeze_invariant.proofs.UntypeCalls as calls
-use Rattle.freeze_invariant.proofs.UntypeCalls.{untypes_on}
-use Rattle.scan_invariant.specs.act_states.specs.call_plans.specs.PlanOf.{plan_for}
 
 none_some : (d : ℕ) → None ≡ Some d → ⊥
 none_some d h = cc
@@ -36,7 +27,7 @@ not_none v h = cc
 some_word : (v u : FrameWord) → Some v ≡ Some u → v ≡ u
 some_word v u h = cc
 
-untyped_by : (x : Frame) → (frame_value x).kind ≡ kind.Untyped → is_untyped x ≡ true
+untyped_by : (x : Frame) → (frame_value x).kind ≡ FrameKind.Untyped → is_untyped x ≡ true
 untyped_by Untyped is = refl
 untyped_by User is = absurd (cc)
 untyped_by (Kernel object) is = absurd (cc)
@@ -68,26 +59,26 @@ module _ (setup : Setting) (setting : IsSetting setup) (cores : ℕ → Core) (t
     no_counts : a.counts ≡ []
     no_counts = calls.none_acquired setup setting cores t stands c here a active m stage_is has Load at_is refl
 
-    marked_good : (d : ℕ) → marked_by setup t (FrameAt f) ≡ Some d → GoodTook setup cores t c load (landed a (refuse (refusal.Busy d)))
+    marked_good : (d : ℕ) → marked_by setup t (FrameAt f) ≡ Some d → GoodTook setup cores t c load (landed a (refuse (Refusal.Busy d)))
     marked_good d mark = refuses_busy setup setting cores t stands c here a active
         (calls.opens setup setting cores t stands c here a active m stage_is has) held_is
         (calls.room setup setting cores t stands c here a active m stage_is has) load
         (calls.loading setup setting cores t stands c here a active m stage_is has) (ap ticks_at stage_is) d
         (ap (λ (xs : List Acquired). (holds_counts None xs).marks (FrameAt f)) no_counts) mark tt
 
-    kind_good : is_untyped (s.frame f) ≡ true → GoodTook setup cores t c load (landed a (refuse refusal.FrameKind))
+    kind_good : is_untyped (s.frame f) ≡ true → GoodTook setup cores t c load (landed a (refuse Refusal.FrameKind))
     kind_good untyped = refuses_frame_kind setup setting cores t stands c here a active
         (calls.opens setup setting cores t stands c here a active m stage_is has) held_is
         (calls.room setup setting cores t stands c here a active m stage_is has) load
         (calls.loading setup setting cores t stands c here a active m stage_is has) has.acts
-        (calls.may_refuse setup setting cores t stands c here a active m stage_is has reply.FrameKind (inr (inl (stands_so, refl))))
-        (λ nobody. calls.by_causes setup setting cores t stands c here a active m stage_is has (Some reply.FrameKind) _ _ _ _
-        (ap (λ b. if b then Some reply.FrameKind else None) stands_so) refl refl refl refl)
+        (calls.may_refuse setup setting cores t stands c here a active m stage_is has Reply.FrameKind (inr (inl (stands_so, refl))))
+        (λ nobody. calls.by_causes setup setting cores t stands c here a active m stage_is has (Some Reply.FrameKind) _ _ _ _
+        (ap (λ b. if b then Some Reply.FrameKind else None) stands_so) refl refl refl refl)
       where
         stands_so : (is_frame s f && is_untyped (s.frame f)) ≡ true
         stands_so = calls.kind_some setup setting cores t stands c here a active m stage_is has untyped
 
-    typed_good : (v : FrameWord) → frame_of_word was ≡ Some v → v.mark ≡ None → v.kind ≢ kind.Untyped
+    typed_good : (v : FrameWord) → frame_of_word was ≡ Some v → v.mark ≡ None → v.kind ≢ FrameKind.Untyped
         → GoodTook setup cores t c load (landed a (Goes (Act (untype_act (record m { at = Mark was v })))))
     typed_good v shown no_mark other lands =
         let e : Step = step_to c None load was None None in
@@ -121,15 +112,15 @@ module _ (setup : Setting) (setting : IsSetting setup) (cores : ℕ → Core) (t
 
         by_kind : (v : FrameWord) → frame_of_word was ≡ Some v → v.mark ≡ None → (k : FrameKind) → v.kind ≡ k
             → GoodTook setup cores t c load (landed a (meets_untyped m was v k None))
-        by_kind v shown no_mark kind.Untyped kind_is =
+        by_kind v shown no_mark FrameKind.Untyped kind_is =
             kind_good (untyped_by (s.frame f) (ap (λ x. x.kind) (value v shown no_mark) ∙ kind_is))
-        by_kind v shown no_mark kind.User kind_is = typed_good v shown no_mark (λ same. apart (sym kind_is ∙ same))
+        by_kind v shown no_mark FrameKind.User kind_is = typed_good v shown no_mark (λ same. apart (sym kind_is ∙ same))
           where
-            apart : kind.User ≡ kind.Untyped → ⊥
+            apart : FrameKind.User ≡ FrameKind.Untyped → ⊥
             apart h = cc
-        by_kind v shown no_mark kind.Kernel kind_is = typed_good v shown no_mark (λ same. apart (sym kind_is ∙ same))
+        by_kind v shown no_mark FrameKind.Kernel kind_is = typed_good v shown no_mark (λ same. apart (sym kind_is ∙ same))
           where
-            apart : kind.Kernel ≡ kind.Untyped → ⊥
+            apart : FrameKind.Kernel ≡ FrameKind.Untyped → ⊥
             apart h = cc
 
         by_mark : (v : FrameWord) → frame_of_word was ≡ Some v → (mark : Option ℕ) → v.mark ≡ mark
@@ -138,9 +129,9 @@ module _ (setup : Setting) (setting : IsSetting setup) (cores : ℕ → Core) (t
         by_mark v shown (Some d) mark = any_kind v.kind
           where
             any_kind : (k : FrameKind) → GoodTook setup cores t c load (landed a (meets_untyped m was v k (Some d)))
-            any_kind kind.Untyped = marked_good d (ap frame_mark shown ∙ mark)
-            any_kind kind.User = marked_good d (ap frame_mark shown ∙ mark)
-            any_kind kind.Kernel = marked_good d (ap frame_mark shown ∙ mark)
+            any_kind FrameKind.Untyped = marked_good d (ap frame_mark shown ∙ mark)
+            any_kind FrameKind.User = marked_good d (ap frame_mark shown ∙ mark)
+            any_kind FrameKind.Kernel = marked_good d (ap frame_mark shown ∙ mark)
 
         by_word : (o : Option FrameWord) → frame_of_word was ≡ o → GoodTook setup cores t c load (landed a (meets_untyping m was o))
         by_word None shown = absurd (not_none (frame_value (s.frame f))

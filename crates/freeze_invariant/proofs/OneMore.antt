@@ -1,13 +1,10 @@
 -- One counter more is frozen, after those before it: of all other words the same is held as was.
-use Rattle.scan_invariant.proofs.Common.{◌≡◌, ◌≢◌, ℕ, ◌+◌, ◌&&◌, ◌==◌, ◌++◌, nat_le, nat_lt, Bool, true, false, List, [], ◌∷◌}
-use Rattle.scan_invariant.proofs.Common.{length, slice_get, arith, refl, ◌∙◌, ap, inl, inr, cases_eq, ne_eqb, ltb-true, ltb-false}
-use Rattle.scan_invariant.proofs.Common.{word_of_count, CountWord, Word, EntryAt, FrameAt, CountAt, CoreAt, FlushAt, LiveAt, ClockAt}
-use Rattle.scan_invariant.proofs.Common.{Thaw, holds_thaw, Holding}
-use Rattle.std.specs.Prelude.{Some, if◌then◌else◌}
-use Rattle.std.proofs.Common.{lt-ltb}
-use Rattle.scan_invariant.specs.stage_sweep.specs.Release.{released}
-use Rattle.scan_invariant.specs.core_invariant.proofs.Freezing.{SameAt}
-use Rattle.scan_invariant.specs.kept_facts.proofs.FrozenSums.{got_before, length_more}
+use Rattle.scan_invariant.specs.kept_facts.proofs.{◌≡◌, ◌≢◌, ℕ, ◌+◌, ◌&&◌, ◌==◌, ◌++◌, leb as nat_le, ltb as nat_lt, Bool, true, false}
+use Rattle.scan_invariant.specs.kept_facts.proofs.{List, [], ◌∷◌, length, slice_get, arith, refl, ◌∙◌, ap, inl, inr, ne_eqb, ltb-true}
+use Rattle.scan_invariant.specs.kept_facts.proofs.{ltb-false, word_of_count, CountWord, Word, EntryAt, FrameAt, CountAt, CoreAt, FlushAt}
+use Rattle.scan_invariant.specs.kept_facts.proofs.{LiveAt, ClockAt, Thaw, holds_thaw, Holding, Some, if◌then◌else◌, lt-ltb, released}
+use Rattle.{scan_invariant.specs.kept_facts.proofs.got_before, std.proofs.lemmas.Bool.cases_eq}
+use Rattle.{scan_invariant.specs.core_invariant.proofs.Freezing.SameAt, scan_invariant.specs.kept_facts.proofs.FrozenSums.length_more}
 
 -- Another number is below the next one where it is below this.
 lt_more : (d n : ℕ) → d ≢ n → nat_lt d (n + 1) ≡ nat_lt d n

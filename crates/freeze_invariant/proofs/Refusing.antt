@@ -1,23 +1,17 @@
 -- The way in which a call is refused at a step by which its core marks a word: it leaves all as it was but counts the call, and has what it
 -- holds still to store.
-use Rattle.scan_invariant.proofs.Common.{◌≡◌, ◌≢◌, inr, ℕ, ◌+◌, ◌^◌, ◌<◌, false, if◌then◌else◌, ◌∷◌, Some, None}
-use Rattle.scan_invariant.proofs.Common.{arith, refl, sym, ◌∙◌, ap, subst, Setting, IsSetting, Reply, Word, CountAt, EntryAt, FlushAt}
-use Rattle.scan_invariant.proofs.Common.{ClockAt, same_word, Move, word_of, left_of, Thing, FrameOf, put, alone, MayReply, begins, ends}
-use Rattle.scan_invariant.proofs.Common.{flushes, counted, state_by, calls_counted, put_same, IsAlone, IsJustified, mark_of, marked_by}
-use Rattle.scan_invariant.proofs.Common.{ends_in, flushes_in, Step, Trace, Open, phase, state_after, state_decided_in, last_left}
-use Rattle.scan_invariant.proofs.Common.{decided-inside, last_left-there, Tail, Stage, Decided, ActiveCall, Core, settled_by, settled}
-use Rattle.scan_invariant.proofs.Common.{phase_at, KnowsTail, flushing_in, holds, held_by, Invariant, AsBefore, IsCalm}
-use Rattle.scan_invariant.proofs.Common.{calm_counted, calm_words, counted_rises, none_stored, IsUntimed, plain_begins, plain_exit}
-use Rattle.scan_invariant.proofs.Common.{exclusive_open, exclusive_elsewhere, sums_stay, marks_own}
-use Rattle.scan_invariant.specs.kernel_history.specs.Stamps.{begins_in}
-use Rattle.scan_invariant.specs.kept_facts.proofs.Calm.{none_time, none_flushed}
-use Rattle.scan_invariant.specs.step_ways.proofs.Flushing.{open_flushed}
-use Rattle.scan_invariant.specs.step_ways.proofs.Good.{IsGood, spares_other}
+use Rattle.scan_invariant.specs.step_ways.proofs as low
+use low.{◌≡◌, ◌≢◌, inr, ℕ, ◌+◌, ◌^◌, ◌<◌, false, if◌then◌else◌, ◌∷◌, Some, None, arith, refl, sym, ◌∙◌, ap, subst, Setting, IsSetting}
+use low.{Reply, Word, CountAt, EntryAt, FlushAt, ClockAt, same_word, Move, word_of, left_of, Thing, FrameOf, put, alone, MayReply, begins}
+use low.{ends, flushes, counted, state_by, calls_counted, put_same, IsAlone, IsJustified, mark_of, marked_by, ends_in, flushes_in, Step}
+use low.{Trace, Open, phase, state_after, state_decided_in, last_left, decided-inside, last_left-there, Tail, Stage, Decided, ActiveCall}
+use low.{Core, settled_by, settled, phase_at, KnowsTail, holds, held_by, Invariant, AsBefore, calm_counted, counted_rises, IsUntimed}
+use low.{plain_begins, plain_exit, exclusive_elsewhere, marks_own, begins_in, open_flushed, IsGood, spares_other, IsOfCall, Lands, next_at}
+use low.{core_in_call, core_is, call_is, inner, inner_works, spares_none}
+use Rattle.scan_invariant.specs.kept_facts.proofs.{flushing_in, IsCalm, calm_words, none_stored, exclusive_open, sums_stay, none_time}
+use Rattle.scan_invariant.specs.kept_facts.proofs.{none_flushed, hold_marks, hold_words, settled_stays}
 use Rattle.scan_invariant.specs.kept_facts.proofs.Exclusive.{given_kept}
-use Rattle.scan_invariant.specs.step_ways.proofs.Loads.{IsOfCall, Lands, next_at, core_in_call, core_is, call_is, inner, inner_works}
 use Rattle.scan_invariant.specs.step_ways.proofs.OwnChanges as owning
-use Rattle.scan_invariant.specs.step_ways.proofs.Users.{spares_none}
-use Rattle.scan_invariant.specs.kept_facts.proofs.WordFrames.{hold_marks, hold_words, settled_stays}
 
 module _ (setup : Setting) (setting : IsSetting setup) (cores : ℕ → Core) (t : Trace) (stands : Invariant setup cores t) (c : ℕ)
     (here : c < setup.cores)

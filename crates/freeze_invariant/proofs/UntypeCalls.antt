@@ -1,31 +1,21 @@
 -- What a call that makes a frame untyped knows of its rule: what is left of it after its name, and what refuses it.
-use Rattle.scan_invariant.proofs.Common.{◌≡◌, ◌≢◌, inl, ℕ, ◌^◌, ◌<◌, ◌&&◌, ◌||◌, not, map, Bool, true}
-use Rattle.scan_invariant.proofs.Common.{false, List, [], ◌∷◌, Option, Some, None, IsTrue, refl, sym, ◌∙◌, ap, subst}
-use Rattle.scan_invariant.proofs.Common.{eq-eqb, Capability, Setting, IsSetting, Call, Retype, Reply, frame_of_word, FrameWord}
-use Rattle.scan_invariant.proofs.Common.{FrameAt, Frame, Untyped, User, Kernel, FrameOf, State, found, refs, Cause, Change}
-use Rattle.scan_invariant.proofs.Common.{Does, RuleMay, outcome, unless, first_of, first_cause, waits_of, When, outside}
-use Rattle.scan_invariant.proofs.Common.{is_frame, has_frame, is_untyped, is_empty, retypes, rule_of, change_of, are_calls_spent}
-use Rattle.scan_invariant.proofs.Common.{changes_frames, counts_references, raises_clock, looks_at_frames, footprint_frames, frame_argument}
-use Rattle.scan_invariant.proofs.Common.{is_one_of, marked_by, frame_value, Trace, Open, phase, state_after, last_left, GoesBy, own_pages}
-use Rattle.scan_invariant.proofs.Common.{rule_after, Leads, LeadsIn, outcome_left, left_may, Acquired, UntypingFits}
-use Rattle.scan_invariant.proofs.Common.{untyping_dues, Untyping, UntypingAt, Act, Undecided, ActiveCall, StageFits, HasRoom, Core}
-use Rattle.scan_invariant.proofs.Common.{holds_untyping, holds_counts, settled_by, due_of, KnowsUndecided, KnowsUnmark, phase_at}
-use Rattle.scan_invariant.proofs.Common.{holds_at, holds_in, holds, held_by, Invariant, UntypesBy, SaysTyped, KnowsUntyping}
-use Rattle.scan_invariant.proofs.Common.{KnowsUntypingAt, limits_of, frame_mark, LoadOf}
-use Rattle.std.specs.Prelude.{nat_lt, if◌then◌else◌}
-use Rattle.std.proofs.Common.{lt-ltb}
+use Rattle.scan_invariant.specs.step_ways.proofs as low
+use low.{◌≡◌, ◌≢◌, inl, ℕ, ◌^◌, ◌<◌, ◌&&◌, ◌||◌, not, map, Bool, true, false, List, [], ◌∷◌, Option, Some, None, IsTrue, refl, sym, ◌∙◌, ap}
+use low.{subst, eq-eqb, Capability, Setting, IsSetting, Call, Retype, Reply, frame_of_word, FrameWord, FrameAt, Frame, Untyped, User}
+use low.{Kernel, FrameOf, State, found, refs, Cause, Change, Does, RuleMay, outcome, unless, first_of, first_cause, outside, is_frame}
+use low.{has_frame, is_untyped, is_empty, rule_of, change_of, are_calls_spent, changes_frames, counts_references, raises_clock}
+use low.{footprint_frames, frame_argument, is_one_of, marked_by, frame_value, Trace, Open, phase, state_after, last_left, GoesBy, own_pages}
+use low.{rule_after, Leads, LeadsIn, outcome_left, left_may, Acquired, UntypingFits, Untyping, UntypingAt, Act, Undecided, ActiveCall}
+use low.{StageFits, HasRoom, Core, holds_untyping, holds_counts, settled_by, due_of, KnowsUndecided, KnowsUnmark, phase_at, holds_at}
+use low.{holds_in, holds, held_by, Invariant, UntypesBy, KnowsUntypingAt, limits_of, frame_mark, LoadOf, ltb as nat_lt, if◌then◌else◌}
+use low.{lt-ltb, does, Untype as untype_act, OnlyLooks, call_is, core_is, is_active, not_spent, plan_for}
+use Rattle.scan_invariant.specs.kernel_rules.specs.{waits_of, When, retypes, refusal_of, flushes_of, WaitedFor, Unflushed, is_untyped_now}
+use Rattle.scan_invariant.specs.count_invariant.proofs.{plan_leads, goes_by, argument_footprint}
+use Rattle.{scan_invariant.specs.kernel_rules.specs.Nothing as no_value, scan_invariant.specs.core_invariant.specs.SaysTyped}
+use Rattle.{scan_invariant.specs.core_invariant.specs.KnowsUntyping, scan_invariant.specs.kernel_history.specs.Discipline.looks_at_frames}
+use Rattle.{scan_invariant.specs.act_states.specs.Untypings.untyping_dues}
 use Rattle.scan_invariant.specs.spk_nums.specs.declared.kinds.FrameKind.TheVariants as kind
-use Rattle.scan_invariant.specs.spk_nums.specs.declared.replies.Reply.TheVariants as reply
 use Rattle.scan_invariant.specs.frame_words.proofs.FrameLemmas as frames
-use Rattle.scan_invariant.specs.kernel_rules.specs.Rules.{refusal_of, flushes_of, WaitedFor, Unflushed, does}
-use Rattle.scan_invariant.specs.kernel_rules.specs.MemoryCalls.{is_untyped_now}
-use Rattle.scan_invariant.specs.act_states.specs.declared.work.Act.TheVariants.{Untype as untype_act}
-use Rattle.scan_invariant.specs.step_ways.proofs.Loads.{OnlyLooks, call_is, core_is, is_active}
-use Rattle.scan_invariant.specs.step_ways.proofs.Refusals.{not_spent}
-use Rattle.scan_invariant.specs.count_invariant.proofs.Acquiring.{plan_leads, goes_by}
-use Rattle.scan_invariant.specs.count_invariant.proofs.MakingCounts.{argument_footprint}
-use Rattle.scan_invariant.specs.spk_nums.specs.declared.replies.Value.TheVariants.{Nothing as no_value}
-use Rattle.scan_invariant.specs.act_states.specs.call_plans.specs.PlanOf.{plan_for}
 
 -- The call that makes a frame untyped.
 pub record IsUntype (call : Call) (ks : List Capability) (f : ℕ) : Type 0 where
@@ -146,10 +136,10 @@ module _ (setup : Setting) (setting : IsSetting setup) (cores : ℕ → Core) (t
   causes =
       outside (found is.range) f
       ∷ is_untyped_now s f
-      ∷ When (nat_lt 0 (refs s f)) (reply.Referenced (refs s f))
+      ∷ When (nat_lt 0 (refs s f)) (Reply.Referenced (refs s f))
       ∷ WaitedFor (FrameOf f)
       ∷ Unflushed (FrameOf f)
-      ∷ When (not (is_empty s f (s.frame f))) reply.NotEmpty
+      ∷ When (not (is_empty s f (s.frame f))) Reply.NotEmpty
       ∷ []
 
   abbrev pub change : Change
@@ -166,14 +156,14 @@ module _ (setup : Setting) (setting : IsSetting setup) (cores : ℕ → Core) (t
   -- the first cause that stands, of those of its own: what the frame is, its references, who waits, who has not flushed, and its object
   pub by_causes : (kind_cause ref_cause wait_cause flush_cause empty_cause : Option Reply)
       → refusal_of s c (is_untyped_now s f) ≡ kind_cause
-      → refusal_of s c (When (nat_lt 0 (refs s f)) (reply.Referenced (refs s f))) ≡ ref_cause
+      → refusal_of s c (When (nat_lt 0 (refs s f)) (Reply.Referenced (refs s f))) ≡ ref_cause
       → waits_of s c (FrameOf f) ≡ wait_cause → flushes_of s (FrameOf f) ≡ flush_cause
-      → refusal_of s c (When (not (is_empty s f (s.frame f))) reply.NotEmpty) ≡ empty_cause
+      → refusal_of s c (When (not (is_empty s f (s.frame f))) Reply.NotEmpty) ≡ empty_cause
       → change_of s c a.call
       ≡ unless (first_of kind_cause (first_of ref_cause (first_of wait_cause (first_of flush_cause (first_of empty_cause None))))) change
   by_causes kind_cause ref_cause wait_cause flush_cause empty_cause kind_is ref_is wait_is flush_is empty_is =
       outcome_left s c (own_pages s c) (plan_for a.call) (rule_of s c a.call) a.found by_plan leads ∙ ap (outcome s c) left
-      ∙ ap (λ b. unless (first_of (if not b then Some reply.OutOfRange else None) (first_cause s c rest)) change) is.within
+      ∙ ap (λ b. unless (first_of (if not b then Some Reply.OutOfRange else None) (first_cause s c rest)) change) is.within
       ∙ ap (λ o. unless (first_of o (first_cause s c later)) change) kind_is
       ∙ ap (λ o. unless (first_of kind_cause (first_of o (first_cause s c latest))) change) ref_is
       ∙ ap (λ o. unless (first_of kind_cause (first_of ref_cause (first_of o (first_cause s c (Unflushed (FrameOf f) ∷ last))))) change)
@@ -184,31 +174,31 @@ module _ (setup : Setting) (setting : IsSetting setup) (cores : ℕ → Core) (t
       empty_is
     where
       last : List Cause
-      last = When (not (is_empty s f (s.frame f))) reply.NotEmpty ∷ []
+      last = When (not (is_empty s f (s.frame f))) Reply.NotEmpty ∷ []
 
       latest : List Cause
-      latest = WaitedFor (FrameOf f) ∷ Unflushed (FrameOf f) ∷ When (not (is_empty s f (s.frame f))) reply.NotEmpty ∷ []
+      latest = WaitedFor (FrameOf f) ∷ Unflushed (FrameOf f) ∷ When (not (is_empty s f (s.frame f))) Reply.NotEmpty ∷ []
 
       later : List Cause
-      later = When (nat_lt 0 (refs s f)) (reply.Referenced (refs s f)) ∷ WaitedFor (FrameOf f) ∷ Unflushed (FrameOf f)
-          ∷ When (not (is_empty s f (s.frame f))) reply.NotEmpty ∷ []
+      later = When (nat_lt 0 (refs s f)) (Reply.Referenced (refs s f)) ∷ WaitedFor (FrameOf f) ∷ Unflushed (FrameOf f)
+          ∷ When (not (is_empty s f (s.frame f))) Reply.NotEmpty ∷ []
 
       rest : List Cause
-      rest = is_untyped_now s f ∷ When (nat_lt 0 (refs s f)) (reply.Referenced (refs s f)) ∷ WaitedFor (FrameOf f) ∷ Unflushed (FrameOf f)
-          ∷ When (not (is_empty s f (s.frame f))) reply.NotEmpty ∷ []
+      rest = is_untyped_now s f ∷ When (nat_lt 0 (refs s f)) (Reply.Referenced (refs s f)) ∷ WaitedFor (FrameOf f) ∷ Unflushed (FrameOf f)
+          ∷ When (not (is_empty s f (s.frame f))) Reply.NotEmpty ∷ []
 
   pub kind_none : is_untyped (s.frame f) ≡ false → refusal_of s c (is_untyped_now s f) ≡ None
-  kind_none typed = ap (λ b. if is_frame s f && b then Some reply.FrameKind else None) typed ∙ by (is_frame s f)
+  kind_none typed = ap (λ b. if is_frame s f && b then Some Reply.FrameKind else None) typed ∙ by (is_frame s f)
     where
-      by : (b : Bool) → (if b && false then Some reply.FrameKind else None) ≡ None
+      by : (b : Bool) → (if b && false then Some Reply.FrameKind else None) ≡ None
       by true = refl
       by false = refl
 
   pub kind_some : is_untyped (s.frame f) ≡ true → (is_frame s f && is_untyped (s.frame f)) ≡ true
   kind_some untyped = ap (λ b. b && is_untyped (s.frame f)) (lt-ltb f s.limits.frames below) ∙ untyped
 
-  pub refs_none : refs s f ≡ 0 → refusal_of s c (When (nat_lt 0 (refs s f)) (reply.Referenced (refs s f))) ≡ None
-  refs_none zero = ap (λ (n : ℕ). if nat_lt 0 n then Some (reply.Referenced n) else None) zero
+  pub refs_none : refs s f ≡ 0 → refusal_of s c (When (nat_lt 0 (refs s f)) (Reply.Referenced (refs s f))) ≡ None
+  refs_none zero = ap (λ (n : ℕ). if nat_lt 0 n then Some (Reply.Referenced n) else None) zero
 
   -- what the frame's word shows, where no core has marked it
   pub frame_says : marked_by setup t (FrameAt f) ≡ None → frame_of_word (last_left setup t (FrameAt f)) ≡ Some (frame_value (s.frame f))

@@ -1,17 +1,10 @@
 -- What is seen of the cores, beside their phases.
-use Rattle.std.proofs.Common.{◌≡◌, ◌≢◌, ℕ, ◌<◌, ◌==◌, Bool, true, false, List, length, get_or, refl, sym, ap, subst, ◌∙◌, inl, inr}
-use Rattle.std.proofs.Common.{IsTrue, arith}
-use Rattle.std.specs.Prelude.{slice_set}
-use Rattle.std.proofs.lemmas.Bool.{false≢true, true≢false, eq-eqb, ne_eqb}
-use Rattle.std.proofs.lemmas.List.{get_or-set_same, get_or-set_other, get_or_default}
-use Rattle.std.proofs.lemmas.Bool.{cases_eq}
-use Rattle.spk_nums.specs.declared.calls.Call.{Call}
-use Rattle.kernel_rules.specs.Runs.{Phase, Out, Open, Decided, is_in, is_decided}
-use Rattle.marked_history.specs.Histories.{CanBeDecided}
-use Rattle.history_check.specs.declared.seen.At.{At}
-use Rattle.history_check.specs.declared.seen.At.TheVariants as at
-use Rattle.history_check.specs.declared.seen.Seen.{Seen}
-use Rattle.history_check.specs.Judging.{at_of, is_inside, no_one, seen_of}
+use Rattle.seq_state.specs.kernel_rules.proofs.{◌≡◌, ◌≢◌, ℕ, ◌<◌, ◌==◌, Bool, true, false, List, length, get_or, refl, sym, ap, subst, ◌∙◌}
+use Rattle.seq_state.specs.kernel_rules.proofs.{inl, inr, IsTrue, arith, set as slice_set, false≢true, true≢false, eq-eqb, ne_eqb}
+use Rattle.seq_state.specs.kernel_rules.proofs.{get_or-set_same, get_or-set_other, Call, Phase, Out, Open, Decided, is_in, is_decided}
+use Rattle.history_check.specs.{at_of, is_inside, seen_of}
+use Rattle.history_check.specs.{declared.seen.At.At, declared.seen.Seen.Seen, Judging.no_one}
+use Rattle.{std.proofs.lemmas.List.get_or_default, std.proofs.lemmas.Bool.cases_eq, marked_history.specs.Histories.CanBeDecided}
 
 -- ---- phases
 
@@ -20,32 +13,32 @@ inside_is Out = refl
 inside_is (Open call) = refl
 inside_is (Decided call r) = refl
 
-pub out_is : (p : Phase) → at.Out ≡ at_of p → p ≡ Out
+pub out_is : (p : Phase) → At.Out ≡ at_of p → p ≡ Out
 out_is Out e = refl
 out_is (Open call) e = absurd (false≢true (ap is_inside e))
 out_is (Decided call r) e = absurd (false≢true (ap is_inside e))
 
 abbrev call_or : At → Call → Call
-call_or at.Out other = other
-call_or (at.Open call) other = call
-call_or at.Decided other = other
+call_or At.Out other = other
+call_or (At.Open call) other = call
+call_or At.Decided other = other
 
 abbrev is_at_open : At → Bool
-is_at_open at.Out = false
-is_at_open (at.Open call) = true
-is_at_open at.Decided = false
+is_at_open At.Out = false
+is_at_open (At.Open call) = true
+is_at_open At.Decided = false
 
 abbrev is_at_decided : At → Bool
-is_at_decided at.Out = false
-is_at_decided (at.Open call) = false
-is_at_decided at.Decided = true
+is_at_decided At.Out = false
+is_at_decided (At.Open call) = false
+is_at_decided At.Decided = true
 
-pub open_is : (p : Phase) (call : Call) → at.Open call ≡ at_of p → p ≡ Open call
+pub open_is : (p : Phase) (call : Call) → At.Open call ≡ at_of p → p ≡ Open call
 open_is Out call e = absurd (true≢false (ap is_at_open e))
 open_is (Open other) call e = ap Open (sym (ap (λ a. call_or a call) e))
 open_is (Decided other r) call e = absurd (true≢false (ap is_at_open e))
 
-pub decided_is : (p : Phase) → at.Decided ≡ at_of p → IsTrue (is_decided p)
+pub decided_is : (p : Phase) → At.Decided ≡ at_of p → IsTrue (is_decided p)
 decided_is Out e = absurd (true≢false (ap is_at_decided e))
 decided_is (Open call) e = absurd (true≢false (ap is_at_decided e))
 decided_is (Decided call r) e = refl

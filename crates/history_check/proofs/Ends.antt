@@ -1,21 +1,15 @@
 -- A judge comes to the end of lines that are a history.
-use Rattle.std.proofs.Common.{◌≡◌, ℕ, ◌+◌, ◌^◌, ◌<◌, ◌≤◌, List, [], ◌∷◌, ◌++◌, reverse, take, length, get_or, Option, Some, None}
-use Rattle.std.proofs.Common.{sym, subst, ◌∙◌, inl, inr}
-use Rattle.std.proofs.lemmas.List.{take_all, get_or_default}
-use Rattle.std.proofs.lemmas.List.Elements.{All-get_or}
-use Rattle.spk_nums.specs.Setting.{Setting, IsSetting}
-use Rattle.marked_history.specs.declared.marks.Mark.{Mark}
-use Rattle.marked_history.specs.declared.marks.Said.{Said}
-use Rattle.marked_history.specs.declared.marks.Line.{Line}
-use Rattle.marked_history.specs.declared.marks.Why.{Why}
-use Rattle.marked_history.specs.declared.marks.Why.TheVariants as why
-use Rattle.marked_history.specs.Histories.{MayFollow}
-use Rattle.marked_history.specs.Verdicts.{said_marks, marks_of, AllFollow, LineFollows, AreHistory, MarkBreaks, FirstBreaks}
-use Rattle.marked_history.specs.Verdicts.{LineBreaks, Misnumbered, Numbered, SaidFits, LinesFit}
-use Rattle.history_check.specs.declared.judge.Judge.{Judge}
-use Rattle.history_check.specs.Judging.{IsJudge, HasCome, LineFound, JudgesLine}
-use Rattle.history_check.specs.Findings.{BreaksAfter}
+use Rattle.call_judge.specs.same_changes.specs.kernel_laws.proofs.{◌≡◌, ℕ, ◌+◌, ◌^◌, ◌<◌, ◌≤◌, List, [], ◌∷◌, ◌++◌, reverse, take, length}
+use Rattle.call_judge.specs.same_changes.specs.kernel_laws.proofs.{get_or, Option, Some, None, sym, subst, ◌∙◌, inl, inr, take_all, Setting}
+use Rattle.call_judge.specs.same_changes.specs.kernel_laws.proofs.{IsSetting}
+use Rattle.marked_history.specs.{MayFollow, said_marks, marks_of, AllFollow, LineFollows, AreHistory, MarkBreaks, FirstBreaks, LineBreaks}
+use Rattle.marked_history.specs.{Misnumbered, Numbered, SaidFits, LinesFit}
+use Rattle.history_check.specs.{IsJudge, HasCome, JudgesLine, BreaksAfter}
+use Rattle.std.proofs.{lemmas.List.get_or_default, lemmas.List.Elements.All-get_or}
+use Rattle.marked_history.specs.{declared.marks.Mark.Mark, declared.marks.Said.Said, declared.marks.Line.Line, declared.marks.Why.Why}
+use Rattle.history_check.specs.{declared.judge.Judge.Judge, Judging.LineFound}
 use Rattle.history_check.proofs.Lines.{Goes, one_line, room_at}
+use Rattle.marked_history.specs.declared.marks.Why.TheVariants as why
 
 -- ---- what follows does not break
 

@@ -1,27 +1,18 @@
 -- A judge takes a line, and line by line it comes to the verdict.
-use Rattle.std.proofs.Common.{◌≡◌, ℕ, ◌+◌, ◌^◌, ◌<◌, ◌≤◌, ◌==◌, Bool, true, false, List, [], ◌∷◌, ◌++◌, reverse, take, drop, length, get_or, Option, Some, None, Result, Ok, Err, IfOk}
-use Rattle.std.proofs.Common.{refl, sym, ap, subst, ◌∙◌, inl, inr, if◌then◌else◌, arith}
-use Rattle.std.proofs.lemmas.List.{take_more, take_all, drop_more, take-append-drop, reverse-append, length-reverse, length-take-le}
-use Rattle.std.proofs.lemmas.List.Elements.{All-get_or}
-use Rattle.spk_nums.specs.Setting.{Setting, IsSetting}
-use Rattle.spk_nums.specs.declared.calls.Call.{Call}
-use Rattle.spk_nums.specs.declared.replies.Reply.{Reply}
-use Rattle.marked_history.specs.declared.marks.Mark.{Mark}
-use Rattle.marked_history.specs.declared.marks.Mark.TheVariants.{Enter, Decide, Return}
-use Rattle.marked_history.specs.declared.marks.Said.{Said}
-use Rattle.marked_history.specs.declared.marks.Said.TheVariants.{One, Whole}
-use Rattle.marked_history.specs.declared.marks.Line.{Line}
-use Rattle.marked_history.specs.declared.marks.Why.{Why}
+use Rattle.seq_state.specs.kernel_rules.proofs.{◌≡◌, ℕ, ◌+◌, ◌^◌, ◌<◌, ◌≤◌, ◌==◌, Bool, true, false, List, [], ◌∷◌, ◌++◌, reverse, take}
+use Rattle.seq_state.specs.kernel_rules.proofs.{drop, length, get_or, Option, Some, None, Result, Ok, Err, IfOk, refl, sym, ap, subst, ◌∙◌}
+use Rattle.seq_state.specs.kernel_rules.proofs.{inl, inr, if◌then◌else◌, arith, take_more, take_all, drop_more, reverse-append}
+use Rattle.seq_state.specs.kernel_rules.proofs.{length-reverse, length-take-le, Setting, IsSetting, Call, Reply, Limits}
+use Rattle.marked_history.specs.{events_of, MayFollow, IsOfMachine, said_marks, marks_of, entered, decisions, AreHistory, SaidFits}
+use Rattle.marked_history.specs.{LinesFit, Misnumbered, Numbered, AreLegal}
+use Rattle.history_check.specs.{seen_of, IsJudge, HasCome, JudgesMark, JudgesLine}
+use Rattle.marked_history.specs.{declared.marks.Mark.Mark, declared.marks.Mark.TheVariants.Enter, declared.marks.Mark.TheVariants.Decide}
+use Rattle.marked_history.specs.{declared.marks.Mark.TheVariants.Return, declared.marks.Said.Said, declared.marks.Said.TheVariants.One}
+use Rattle.marked_history.specs.{declared.marks.Said.TheVariants.Whole, declared.marks.Line.Line, declared.marks.Why.Why, Verdicts.BreakAt}
+use Rattle.history_check.specs.Judging.{HasRoom, RoomFor, MarkFound, call_marks, MarksFound, JudgesOthers, JudgesMarks, LineFound, CallFits}
+use Rattle.{seq_state.proofs.limits_stay, seq_state.proofs.state_of, std.proofs.lemmas.List.take-append-drop}
+use Rattle.{std.proofs.lemmas.List.Elements.All-get_or, history_check.specs.declared.judge.Judge.Judge, history_check.specs.Judging.core_of}
 use Rattle.marked_history.specs.declared.marks.Why.TheVariants as why
-use Rattle.kernel_rules.specs.State.{Limits}
-use Rattle.kernel_invariant.proofs.SoundRuns.{limits_stay}
-use Rattle.seq_state.specs.Maps.{state_of}
-use Rattle.marked_history.specs.Histories.{events_of, MayFollow, IsOfMachine}
-use Rattle.marked_history.specs.Verdicts.{said_marks, marks_of, entered, decisions, AreHistory}
-use Rattle.marked_history.specs.Verdicts.{SaidFits, LinesFit, Misnumbered, Numbered, AreLegal, BreakAt}
-use Rattle.history_check.specs.declared.judge.Judge.{Judge}
-use Rattle.history_check.specs.Judging.{seen_of, IsJudge, HasCome, HasRoom, RoomFor, MarkFound, JudgesMark, call_marks, MarksFound, JudgesOthers}
-use Rattle.history_check.specs.Judging.{JudgesMarks, LineFound, JudgesLine, CallFits, core_of}
 
 pub ok_map : {A E : Type 0} {P Q : A → Type 0} (r : Result A E) → ((a : A) → P a → Q a) → IfOk r P → IfOk r Q
 ok_map (Ok a) f p = f a p

@@ -1,34 +1,22 @@
 -- A judge takes a mark: it has come to the end of the marks with that one.
-use Rattle.std.proofs.Common.{◌≡◌, ◌≢◌, ℕ, ◌+◌, ◌<◌, ◌==◌, ◌&&◌, Bool, true, false, not, List, [], ◌∷◌, length, Option, refl, sym, ap}
-use Rattle.std.proofs.Common.{subst, ◌∙◌, inl, inr, IsTrue, if◌then◌else◌}
-use Rattle.std.specs.Prelude.{slice_set}
-use Rattle.std.proofs.lemmas.Bool.{cases_eq, false≢true}
-use Rattle.spk_nums.specs.Setting.{Setting, IsSetting}
-use Rattle.spk_nums.specs.declared.calls.Call.{Call}
-use Rattle.spk_nums.specs.declared.replies.Reply.{Reply}
-use Rattle.spk_nums.specs.declared.replies.Reply.TheVariants as reply
-use Rattle.kernel_rules.specs.GracePeriods.{entered as entered_state, returned as returned_state}
-use Rattle.kernel_rules.specs.CallRelation.{state_by}
-use Rattle.kernel_rules.specs.Runs.{after, Out, Open, Decided, is_in, is_decided, phase_of}
-use Rattle.kernel_invariant.proofs.SoundRuns.{limits_stay}
-use Rattle.seq_state.specs.Maps.{Maps, state_of}
-use Rattle.seq_state.specs.Representation.{Represents}
-use Rattle.seq_state.proofs.Same.{same_then}
-use Rattle.seq_plans.specs.Refusals.{Decides}
+use Rattle.seq_state.proofs.{◌≡◌, ◌≢◌, ℕ, ◌+◌, ◌<◌, ◌==◌, ◌&&◌, Bool, true, false, not, List, [], ◌∷◌, length, Option, refl, sym, ap, subst}
+use Rattle.seq_state.proofs.{◌∙◌, inl, inr, IsTrue, if◌then◌else◌, set as slice_set, false≢true, Setting, IsSetting, Call, Reply}
+use Rattle.seq_state.proofs.{entered as entered_state, returned as returned_state, state_by, after, Out, Open, Decided, is_in, is_decided}
+use Rattle.seq_state.proofs.{phase_of, limits_stay, state_of, Represents, same_then}
+use Rattle.marked_history.specs.{with_decision, events_of, phase, state, HasMet, MayBeHeldUp, CanBeDecided, MayDecideIn, IsOfMachine}
+use Rattle.history_check.specs.{at_of, is_inside, seen_of, HasCome}
 use Rattle.call_judge.specs.Judged.{IsDecided, IsJudged, JudgesExactly}
-use Rattle.call_judge.specs.plain_kernel.proofs.Stepping.{entered_same, returned_same}
-use Rattle.marked_history.specs.declared.marks.Mark.{Mark}
 use Rattle.marked_history.specs.declared.marks.Mark.TheVariants.{Enter, Decide, Return}
-use Rattle.marked_history.specs.Histories.{with_decision, events_of, phase, state, IsOther, IsAnotherIn, enters, Unless, HasMet, MayBeHeldUp}
-use Rattle.marked_history.specs.Histories.{CanBeDecided, MayDecideIn, IsOfMachine}
-use Rattle.marked_history.specs.declared.marks.Why.TheVariants as why
-use Rattle.marked_history.specs.Verdicts.{entered, MarkBreaks}
-use Rattle.marked_history.proofs.Running.{histories_run}
-use Rattle.history_check.specs.declared.seen.At.TheVariants as at
-use Rattle.history_check.specs.declared.seen.Seen.{Seen}
-use Rattle.history_check.specs.declared.judge.Judge.{Judge}
-use Rattle.history_check.specs.Judging.{at_of, is_inside, seen_of, IsAnotherSeen, is_alone, alone_after, is_held_up, HasCome}
+use Rattle.marked_history.specs.Histories.{IsOther, IsAnotherIn, enters, Unless}
+use Rattle.history_check.specs.{declared.seen.Seen.Seen, declared.judge.Judge.Judge, Judging.IsAnotherSeen, Judging.is_alone}
 use Rattle.history_check.proofs.Cores.{inside_is, out_is, decided_is, of_each, seen_own, seen_other, here, apart, turned}
+use Rattle.{marked_history.specs.entered, marked_history.specs.MarkBreaks, std.proofs.lemmas.Bool.cases_eq, seq_state.specs.Maps.Maps}
+use Rattle.{call_judge.specs.seq_plans.specs.Refusals.Decides, call_judge.specs.plain_kernel.proofs.Stepping.entered_same}
+use Rattle.{call_judge.specs.plain_kernel.proofs.Stepping.returned_same, marked_history.specs.declared.marks.Mark.Mark}
+use Rattle.{marked_history.proofs.Running.histories_run, history_check.specs.Judging.alone_after, history_check.specs.Judging.is_held_up}
+use Rattle.spk_nums.specs.declared.replies.Reply.TheVariants as reply
+use Rattle.marked_history.specs.declared.marks.Why.TheVariants as why
+use Rattle.history_check.specs.declared.seen.At.TheVariants as at
 
 -- ---- who is met
 

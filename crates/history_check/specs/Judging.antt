@@ -1,43 +1,31 @@
 -- What it means that a judge has come to a place of a history.
-use Rattle.std.specs.Prelude.{◌≡◌, ◌≢◌, ◌<◌, ◌^◌, ◌+◌, ◌==◌, ◌&&◌, not, ℕ, Bool, true, false, List, [], ◌∷◌, ◌++◌, reverse, length, get_or, Option, Some, None}
-use Rattle.std.specs.Prelude.{IsTrue, All}
-use Rattle.spk_nums.specs.Setting.{Setting, IsSetting}
-use Rattle.spk_nums.specs.CallLimits.{InLimits}
-use Rattle.spk_nums.specs.declared.calls.Call.{Call}
-use Rattle.spk_nums.specs.declared.replies.Reply.{Reply}
-use Rattle.spk_nums.specs.declared.replies.Reply.TheVariants as reply
-use Rattle.kernel_rules.specs.Runs.{Phase, Out, Open, Decided, is_in}
-use Rattle.seq_state.specs.Representation.{Represents}
-use Rattle.seq_plans.specs.Refusals.{Decides}
-use Rattle.marked_history.specs.declared.marks.Mark.{Mark}
-use Rattle.marked_history.specs.declared.marks.Mark.TheVariants.{Enter, Decide, Return}
-use Rattle.marked_history.specs.declared.marks.Said.{Said}
-use Rattle.marked_history.specs.declared.marks.Said.TheVariants.{One, Whole}
-use Rattle.marked_history.specs.declared.marks.Why.{Why}
-use Rattle.marked_history.specs.Histories.{phase, state, HasMet, IsOfMachine, IsHistory}
-use Rattle.marked_history.specs.Verdicts.{said_marks, entered, decisions, AllFollow, MarkBreaks, FirstBreaks, SaidFits, LineBreaks, LineFollows}
-use Rattle.history_check.specs.declared.seen.At.{At}
-use Rattle.history_check.specs.declared.seen.At.TheVariants as at
-use Rattle.history_check.specs.declared.seen.Seen.{Seen}
-use Rattle.history_check.specs.declared.judge.Judge.{Judge}
+use Rattle.seq_state.specs.{◌≡◌, ◌≢◌, ◌<◌, ◌^◌, ◌+◌, ◌==◌, ◌&&◌, not, ℕ, Bool, true, false, List, [], ◌∷◌, ◌++◌, reverse, length, get_or}
+use Rattle.seq_state.specs.{Option, Some, None, IsTrue, All, Setting, IsSetting, InLimits, Call, Reply, Phase, Out, Open, Decided, is_in}
+use Rattle.marked_history.specs.{phase, state, HasMet, IsOfMachine, IsHistory, said_marks, entered, decisions, AllFollow, MarkBreaks}
+use Rattle.marked_history.specs.{FirstBreaks, SaidFits, LineBreaks, LineFollows}
+use Rattle.marked_history.specs.{declared.marks.Mark.Mark, declared.marks.Mark.TheVariants.Enter, declared.marks.Mark.TheVariants.Decide}
+use Rattle.marked_history.specs.{declared.marks.Mark.TheVariants.Return, declared.marks.Said.Said, declared.marks.Said.TheVariants.One}
+use Rattle.marked_history.specs.{declared.marks.Said.TheVariants.Whole, declared.marks.Why.Why}
+use Rattle.history_check.specs.{declared.seen.At.At, declared.seen.Seen.Seen, declared.judge.Judge.Judge}
+use Rattle.{seq_state.specs.Represents, call_judge.specs.seq_plans.specs.Refusals.Decides}
 
 -- ---- cores
 
 -- Where a core is, by its phase.
 abbrev pub at_of : Phase → At
-at_of Out = at.Out
-at_of (Open call) = at.Open call
-at_of (Decided call r) = at.Decided
+at_of Out = At.Out
+at_of (Open call) = At.Open call
+at_of (Decided call r) = At.Decided
 
 -- Whether a core is in a call.
 abbrev pub is_inside : At → Bool
-is_inside at.Out = false
-is_inside (at.Open call) = true
-is_inside at.Decided = true
+is_inside At.Out = false
+is_inside (At.Open call) = true
+is_inside At.Decided = true
 
 -- A core that has entered no call.
 abbrev pub no_one : Seen
-no_one = record { at = at.Out; entered = 0 }
+no_one = record { at = At.Out; entered = 0 }
 
 -- What is seen of a core; one past the list has entered no call.
 abbrev pub seen_of : List Seen → ℕ → Seen
@@ -51,9 +39,9 @@ pub record IsAnotherSeen (seen : List Seen) (c : ℕ) : Type 0 where
 
 -- The call of a core that is in it is within its limits.
 abbrev pub AtFits : At → Type 0
-AtFits at.Out = Unit {0}
-AtFits (at.Open call) = InLimits call
-AtFits at.Decided = Unit {0}
+AtFits At.Out = Unit {0}
+AtFits (At.Open call) = InLimits call
+AtFits At.Decided = Unit {0}
 
 -- A judge that is used: it sees eight cores, and their calls are within their limits.
 pub record IsJudge (j : Judge) : Type 0 where
@@ -163,6 +151,6 @@ core_of (Return c) = c
 
 -- Whether a reply says nothing of other cores, or what it says is so: another core was met, or that one is in a call.
 abbrev pub is_held_up : Option ℕ → List Seen → ℕ → Reply → Bool
-is_held_up alone seen c reply.Raced = not (is_alone alone c)
-is_held_up alone seen c (reply.Busy d) = not (d == c) && is_inside (seen_of seen d).at
+is_held_up alone seen c Reply.Raced = not (is_alone alone c)
+is_held_up alone seen c (Reply.Busy d) = not (d == c) && is_inside (seen_of seen d).at
 is_held_up alone seen c r = true

@@ -2,7 +2,7 @@
 
 ghost use Rattle.std.specs.Prelude.{◌≡◌, ◌<◌, ◌+◌, ◌==◌, [], slice_set, IfOk};
 ghost use Rattle.spk_nums.specs.CallLimits.{InLimits};
-ghost use Rattle.kernel_rules.specs.Start.{start};
+ghost use Rattle.seq_state.specs.kernel_rules.specs.Start.{start};
 ghost use Rattle.seq_state.specs.Maps.{state_of};
 ghost use Rattle.marked_history.specs.Histories.{IsOfMachine};
 ghost use Rattle.marked_history.specs.declared.marks.Mark.TheVariants as mark;

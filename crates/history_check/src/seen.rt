@@ -1,7 +1,7 @@
 //! What is seen of the cores.
 
 ghost use Rattle.std.specs.Prelude.{◌≡◌, ◌<◌, length, replicate, IfOk};
-ghost use Rattle.seq_plans.specs.Refusals.{Decides};
+ghost use Rattle.call_judge.specs.seq_plans.specs.Refusals.{Decides};
 ghost use Rattle.history_check.specs.Judging.{is_inside, no_one, seen_of, is_held_up, IsAnotherSeen};
 
 use spk_nums::{Call, CoreNo, Make, Reply};

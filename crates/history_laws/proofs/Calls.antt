@@ -1,30 +1,18 @@
 -- Worked traces that the laws of calls refuse: when they are decided, what they have found, and what scans have shown.
-use Rattle.std.proofs.Common.{◌≡◌, inl, ◌<◌, false, [], refl, arith, Some, None}
-use Rattle.std.specs.Prelude.{drop}
-use Rattle.std.proofs.lemmas.Bool.{false≢true, true≢false}
-use Rattle.state_laws.specs.spk_nums.specs.Capability.{cap_of}
-use Rattle.state_laws.specs.spk_nums.specs.declared.kinds.Kind.TheVariants as kind
-use Rattle.state_laws.specs.spk_nums.specs.declared.calls.Call.TheVariants as call
-use Rattle.state_laws.specs.kernel_rules.specs.State.{PlaceOf}
-use Rattle.kernel_history.specs.entry_words.specs.EntryWord.{word_of_entry, entry_of_word}
-use Rattle.kernel_history.specs.frame_words.specs.Core.{word_of_core, core_of_word}
-use Rattle.kernel_history.specs.Discipline.{KeepsDiscipline}
-use Rattle.kernel_history.specs.Legal.{IsLegal}
-use Rattle.kernel_history.specs.Scenes.{two_cores, range_word, range_found, ready_to_look}
-use Rattle.kernel_history.proofs.Computed.{may_follow}
-use Rattle.kernel_history.proofs.Unjustified.{carried_out}
-use Rattle.history_laws.specs.Moments.{AtEachMoment, AtEachStep, OfEachStretch}
-use Rattle.history_laws.specs.Ready.{ReadyDecides, UnreadyRefuses}
-use Rattle.history_laws.specs.Places.{PlacesFound, ScannedCores}
+use Rattle.kernel_history.proofs.{◌≡◌, inl, ◌<◌, false, [], refl, arith, Some, None, drop, false≢true, true≢false, cap_of, PlaceOf}
+use Rattle.kernel_history.proofs.{word_of_entry, entry_of_word, core_of_word, KeepsDiscipline, IsLegal, two_cores, may_follow, carried_out}
+use Rattle.history_laws.specs.{AtEachMoment, AtEachStep, OfEachStretch, ReadyDecides, UnreadyRefuses, PlacesFound, ScannedCores}
 use Rattle.history_laws.specs.Scenes.{looks_on, looked, none_ready, reads_stray, removed_beside, scans_stray}
-use Rattle.history_laws.specs.Refusals.{CallsRefuse}
 use Rattle.history_laws.proofs.Traces.{whole, newest, since, breaks}
-use Rattle.history_laws.proofs.Disciplined.{disciplined_by, go_disciplined}
+use Rattle.{kernel_history.proofs.Kind, kernel_history.proofs.Call, kernel_history.specs.range_word, kernel_history.specs.ready_to_look}
+use Rattle.{kernel_history.specs.frame_words.specs.Core.word_of_core, kernel_history.specs.Scenes.range_found}
+use Rattle.{history_laws.specs.Refusals.CallsRefuse, history_laws.proofs.Disciplined.disciplined_by}
+use Rattle.{history_laws.proofs.Disciplined.go_disciplined}
 
 -- A look that is ready decides nothing.
 ready_refused : AtEachStep (ReadyDecides ready_to_look) looks_on → ⊥
 unfolding two_cores looks_on
-ready_refused law = false≢true (newest (ReadyDecides ready_to_look) looks_on law (call.Look 0) refl refl)
+ready_refused law = false≢true (newest (ReadyDecides ready_to_look) looks_on law (Call.Look 0) refl refl)
 
 looks_legal : IsLegal two_cores looks_on
 unfolding two_cores looks_on word_of_entry
@@ -43,7 +31,7 @@ looked_legal : IsLegal two_cores looked
 unfolding two_cores looked word_of_entry
 looked_legal = (
   ((tt, may_follow refl refl (refl, tt) tt tt), may_follow refl refl tt tt tt),
-  may_follow refl refl tt (carried_out {k = call.Look 0} refl (refl, (refl, refl)) refl) tt,
+  may_follow refl refl tt (carried_out {k = Call.Look 0} refl (refl, (refl, refl)) refl) tt,
 )
 
 looked_disciplined : KeepsDiscipline two_cores looked
@@ -54,8 +42,8 @@ looked_disciplined = (go_disciplined two_cores 2 (drop 1 looked) tt refl, discip
 places_refused : AtEachMoment (PlacesFound two_cores) reads_stray → ⊥
 unfolding two_cores reads_stray range_word word_of_entry entry_of_word
 places_refused law =
-    let none : None ≡ Some (cap_of kind.Range 8 24) =
-    (whole (PlacesFound two_cores) reads_stray law 0 (call.Look 20) refl 1 20 range_word (cap_of kind.Range 8 24) refl refl refl).usable in
+    let none : None ≡ Some (cap_of Kind.Range 8 24) =
+    (whole (PlacesFound two_cores) reads_stray law 0 (Call.Look 20) refl 1 20 range_word (cap_of Kind.Range 8 24) refl refl refl).usable in
     cc
 
 reads_legal : IsLegal two_cores reads_stray
@@ -89,7 +77,7 @@ removed_legal = (
     ),
     may_follow refl refl tt tt tt,
   ),
-  may_follow refl refl tt (carried_out {k = call.Remove 1 13} refl (refl, (refl, refl)) refl) tt,
+  may_follow refl refl tt (carried_out {k = Call.Remove 1 13} refl (refl, (refl, refl)) refl) tt,
 )
 
 scans_legal : IsLegal two_cores scans_stray

@@ -1,29 +1,12 @@
 -- Worked traces that the laws of counts refuse, and one of which they tell a stamp that is drawn and has still to be stored.
-use Rattle.std.proofs.Common.{◌≡◌, ℕ, [], ◌∷◌, Some, refl, arith}
-use Rattle.std.specs.Prelude.{drop, pos}
-use Rattle.std.proofs.lemmas.List.Elements.{All-nil, All-cons}
-use Rattle.state_laws.specs.spk_nums.specs.Rights.{whole_copy}
-use Rattle.state_laws.specs.spk_nums.specs.declared.calls.Call.TheVariants as call
-use Rattle.state_laws.specs.spk_nums.specs.declared.kinds.FrameKind.TheVariants as frame_kind
-use Rattle.state_laws.specs.kernel_rules.specs.References.{sum_below, node_refs, refs}
-use Rattle.kernel_history.specs.entry_words.specs.EntryWord.{word_of_entry, entry_of_word}
-use Rattle.kernel_history.specs.frame_words.specs.Count.{word_of_count, count_of_word}
-use Rattle.kernel_history.specs.frame_words.specs.declared.count_word.Hold.TheVariants.{Closed}
-use Rattle.kernel_history.specs.Counts.{count_at}
-use Rattle.kernel_history.specs.Discipline.{KeepsDiscipline}
-use Rattle.kernel_history.specs.Legal.{IsLegal}
-use Rattle.kernel_history.specs.Scenes.{two_cores}
-use Rattle.kernel_history.specs.Trace.{Open, last_left}
-use Rattle.kernel_history.proofs.Computed.{may_follow}
-use Rattle.kernel_history.proofs.Unjustified.{carried_out}
-use Rattle.history_laws.specs.Moments.{AtEachMoment}
-use Rattle.history_laws.specs.Counts.{Untypes, CountsTell, FrozenSay}
-use Rattle.history_laws.specs.Stamps.{StampsTell}
-use Rattle.history_laws.specs.Sums.{IsFrozenBy, FrozenSums}
-use Rattle.history_laws.specs.Scenes.{count_word, counts_five, dates_early, counts_twice, freezes_one, freezes_both, copy_freezes, draws_held}
-use Rattle.history_laws.specs.Refusals.{CountsRefuse}
-use Rattle.history_laws.proofs.Traces.{whole, breaks}
-use Rattle.history_laws.proofs.Disciplined.{disciplined_by, go_disciplined}
+use Rattle.kernel_history.proofs.{◌≡◌, ℕ, [], ◌∷◌, Some, refl, arith, drop, pos, whole_copy, sum_below, node_refs, refs, word_of_entry}
+use Rattle.kernel_history.proofs.{entry_of_word, word_of_count, count_of_word, Closed, count_at, KeepsDiscipline, IsLegal, two_cores}
+use Rattle.kernel_history.proofs.{last_left, may_follow, carried_out, Call, FrameKind}
+use Rattle.history_laws.specs.{AtEachMoment, Untypes, CountsTell, FrozenSay, StampsTell, FrozenSums}
+use Rattle.history_laws.specs.{Sums.IsFrozenBy, Scenes.count_word, Scenes.counts_five, Scenes.dates_early, Scenes.counts_twice}
+use Rattle.history_laws.specs.{Scenes.freezes_one, Scenes.freezes_both, Scenes.copy_freezes, Scenes.draws_held, Refusals.CountsRefuse}
+use Rattle.history_laws.proofs.{Traces.whole, Traces.breaks, Disciplined.disciplined_by, Disciplined.go_disciplined}
+use Rattle.{std.proofs.lemmas.List.Elements.All-nil, std.proofs.lemmas.List.Elements.All-cons, kernel_history.specs.Trace.Open}
 
 -- A copy that stores a wrong count.
 five_legal : IsLegal two_cores counts_five
@@ -117,7 +100,7 @@ frozen_refused law =
     whole (FrozenSay two_cores) copy_freezes law 0 0 0 (record { hold = Closed 0; count = pos 2; stamp = 0 }) refl refl in
     unlike is.range is.is
   where
-    unlike : (r : ℕ) → Some (whole_copy 1 1 20) ≡ Some (call.Retype r 0 frame_kind.Untyped) → ⊥
+    unlike : (r : ℕ) → Some (whole_copy 1 1 20) ≡ Some (Call.Retype r 0 FrameKind.Untyped) → ⊥
     unlike r h = cc
 
 pub counts_refuse : CountsRefuse

@@ -1,23 +1,12 @@
 -- Steps that keep the discipline, by what the checker computes of them.
-use Rattle.std.proofs.Common.{◌≡◌, ◌≢◌, ◌⊎◌, inl, inr, ℕ, zero, suc, ◌==◌, ◌&&◌, ◌||◌, Bool, true, false, List, [], ◌∷◌, Option, Some, None}
-use Rattle.std.proofs.Common.{refl, sym, ◌∙◌, ap, subst, cond}
-use Rattle.std.specs.Prelude.{drop, is_some, not}
-use Rattle.std.proofs.lemmas.Bool.{and_parts, cases_eq, eqb-true, eq-eqb, ne_eqb, false≢true}
-use Rattle.state_laws.specs.spk_nums.specs.Setting.{Setting}
-use Rattle.state_laws.specs.spk_nums.specs.declared.calls.Call.{Call}
-use Rattle.state_laws.specs.spk_nums.specs.declared.replies.Reply.{Reply}
-use Rattle.state_laws.specs.kernel_rules.specs.State.{Frame, State, put}
-use Rattle.kernel_history.specs.word_map.specs.Word.{Word, EntryAt, FrameAt, CountAt, CoreAt, FlushAt, LiveAt, ClockAt}
-use Rattle.kernel_history.specs.word_map.specs.Moves.{Move, LoadOf, CompareOf, StoreOf, AddOf, word_of, left_of}
-use Rattle.kernel_history.specs.Bounds.{call_in}
-use Rattle.kernel_history.specs.Discipline.{MayMove, MarksOwn, KeepsMarked, IsDisciplined, KeepsDiscipline}
-use Rattle.kernel_history.specs.Marking.{marked_by}
-use Rattle.kernel_history.specs.Marks.{mark_in_frame, mark_of}
-use Rattle.kernel_history.specs.Trace.{Step, Trace, phase, after_enter, state_after, state_entered, state_decided, state_returned}
-use Rattle.kernel_history.specs.Trace.{last_left}
-use Rattle.kernel_history.proofs.Computed.{moves_well}
-use Rattle.kernel_history.proofs.Names.{cases_word}
-use Rattle.kernel_history.proofs.Steps.{last_left-there}
+use Rattle.kernel_history.proofs as low
+use low.{◌≡◌, ◌≢◌, ◌⊎◌, inl, inr, ℕ, zero, suc, ◌==◌, ◌&&◌, ◌||◌, Bool, true, false, List, [], ◌∷◌, Option, Some, None, refl, sym, ◌∙◌, ap}
+use low.{subst, cond, drop, is_some, not, eqb-true, eq-eqb, ne_eqb, false≢true, Setting, Call, Reply, Frame, State, put, Word, EntryAt}
+use low.{FrameAt, CountAt, CoreAt, FlushAt, LiveAt, ClockAt, Move, LoadOf, CompareOf, StoreOf, AddOf, word_of, left_of, call_in}
+use low.{KeepsMarked, KeepsDiscipline, marked_by, mark_in_frame, mark_of, Step, phase, after_enter, state_after, state_entered}
+use low.{state_decided, state_returned, last_left, cases_word, last_left-there, Computed.moves_well}
+use Rattle.{kernel_history.specs.MayMove, kernel_history.specs.MarksOwn, kernel_history.specs.IsDisciplined}
+use Rattle.{std.proofs.lemmas.Bool.and_parts, std.proofs.lemmas.Bool.cases_eq, kernel_history.specs.Trace.Trace}
 
 same_some : (d e : ℕ) → Some d ≡ Some e → d ≡ e
 same_some d e h = cc

@@ -1,25 +1,11 @@
 -- Worked traces that the laws of frames refuse: frames that are made untyped though a call has read them, or holds a count of them, or a
 -- capability refers to them.
-use Rattle.std.proofs.Common.{◌≡◌, inl, zero, suc, ◌<◌, [], ◌∷◌, refl, arith}
-use Rattle.std.specs.Prelude.{take, drop}
-use Rattle.state_laws.specs.spk_nums.specs.declared.kinds.FrameKind.TheVariants as frame_kind
-use Rattle.state_laws.specs.spk_nums.specs.declared.calls.Make.TheVariants as make
-use Rattle.state_laws.specs.spk_nums.specs.declared.calls.Call.TheVariants as call
-use Rattle.state_laws.specs.spk_nums.specs.declared.replies.Value.TheVariants.{Nothing}
-use Rattle.state_laws.specs.kernel_rules.specs.MemoryCalls.{holds_nothing}
-use Rattle.state_laws.specs.kernel_rules.specs.References.{sum_below, node_refs, refs}
-use Rattle.state_laws.specs.kernel_rules.specs.State.{Blank, Leaf, Untyped, User, Kernel}
-use Rattle.kernel_history.specs.entry_words.specs.EntryWord.{word_of_entry, entry_of_word}
-use Rattle.kernel_history.specs.frame_words.specs.Count.{word_of_count, count_of_word}
-use Rattle.kernel_history.specs.Discipline.{KeepsDiscipline}
-use Rattle.kernel_history.specs.Legal.{IsLegal}
-use Rattle.kernel_history.specs.Scenes.{two_cores}
-use Rattle.kernel_history.proofs.Computed.{may_follow}
-use Rattle.kernel_history.proofs.Unjustified.{carried_out}
-use Rattle.history_laws.specs.Moments.{AtEachStep, OfEachStretch}
-use Rattle.history_laws.specs.Frames.{LookedNodesStay, ReadNodesStay, CountedFramesStay, UntypedFramesAreUnused, GoesOn}
-use Rattle.history_laws.specs.Scenes.{count_word, leaf_made, leaf_read, leaf_untyped, count_acquired, counted_untyped, leaf_one_untyped}
-use Rattle.history_laws.specs.Refusals.{FramesRefuse}
+use Rattle.kernel_history.proofs.{◌≡◌, inl, zero, suc, ◌<◌, [], ◌∷◌, refl, arith, take, drop, Nothing, holds_nothing, sum_below, node_refs}
+use Rattle.kernel_history.proofs.{refs, Blank, Leaf, Untyped, User, Kernel, word_of_entry, entry_of_word, word_of_count, count_of_word}
+use Rattle.kernel_history.proofs.{KeepsDiscipline, IsLegal, two_cores, may_follow, carried_out, FrameKind, Make, Call}
+use Rattle.history_laws.specs.{AtEachStep, OfEachStretch, LookedNodesStay, ReadNodesStay, CountedFramesStay, UntypedFramesAreUnused}
+use Rattle.history_laws.specs.{Frames.GoesOn, Scenes.count_word, Scenes.leaf_made, Scenes.leaf_read, Scenes.leaf_untyped}
+use Rattle.history_laws.specs.{Scenes.count_acquired, Scenes.counted_untyped, Scenes.leaf_one_untyped, Refusals.FramesRefuse}
 use Rattle.history_laws.proofs.Traces.{newest, since, breaks}
 use Rattle.history_laws.proofs.Disciplined.{none_some, disciplined_by, go_disciplined}
 
@@ -36,9 +22,9 @@ made_legal = (
             (
               (
                 ((tt, may_follow refl refl (refl, tt) tt tt), may_follow refl refl tt tt tt),
-                may_follow refl refl tt (carried_out {k = call.Retype 0 8 frame_kind.Kernel} refl (refl, (refl, refl)) refl) tt,
+                may_follow refl refl tt (carried_out {k = Call.Retype 0 8 FrameKind.Kernel} refl (refl, (refl, refl)) refl) tt,
               ),
-              may_follow refl refl tt tt (record { call = call.Retype 0 8 frame_kind.Kernel; was_decided = refl }),
+              may_follow refl refl tt tt (record { call = Call.Retype 0 8 FrameKind.Kernel; was_decided = refl }),
             ),
             may_follow refl refl (refl, tt) tt tt,
           ),
@@ -48,9 +34,9 @@ made_legal = (
       ),
       may_follow refl refl tt tt tt,
     ),
-    may_follow refl refl tt (carried_out {k = call.Make make.Leaf 0 8 1 20} refl (refl, (refl, refl)) refl) tt,
+    may_follow refl refl tt (carried_out {k = Call.Make Make.Leaf 0 8 1 20} refl (refl, (refl, refl)) refl) tt,
   ),
-  may_follow refl refl tt tt (record { call = call.Make make.Leaf 0 8 1 20; was_decided = refl }),
+  may_follow refl refl tt tt (record { call = Call.Make Make.Leaf 0 8 1 20; was_decided = refl }),
 )
 
 read_legal : IsLegal two_cores leaf_read
@@ -63,9 +49,9 @@ read_legal = (
           ((made_legal, may_follow refl refl (refl, tt) tt tt), may_follow refl refl tt tt tt),
           may_follow refl refl tt tt tt,
         ),
-        may_follow refl refl tt (carried_out {k = call.Remove 1 20} refl (refl, (refl, refl)) refl) tt,
+        may_follow refl refl tt (carried_out {k = Call.Remove 1 20} refl (refl, (refl, refl)) refl) tt,
       ),
-      may_follow refl refl tt tt (record { call = call.Remove 1 20; was_decided = refl }),
+      may_follow refl refl tt tt (record { call = Call.Remove 1 20; was_decided = refl }),
     ),
     may_follow refl refl (refl, tt) tt tt,
   ),
@@ -76,7 +62,7 @@ untyped_legal : IsLegal two_cores leaf_untyped
 unfolding two_cores leaf_made leaf_read leaf_untyped word_of_entry sum_below node_refs refs holds_nothing
 untyped_legal = (
   ((read_legal, may_follow refl refl (refl, tt) tt tt), may_follow refl refl tt tt tt),
-  may_follow refl refl tt (carried_out {k = call.Retype 0 8 frame_kind.Untyped} refl (refl, (refl, refl)) refl) tt,
+  may_follow refl refl tt (carried_out {k = Call.Retype 0 8 FrameKind.Untyped} refl (refl, (refl, refl)) refl) tt,
 )
 
 -- No word of a leaf that has just been made carries a mark.
@@ -117,7 +103,7 @@ looked_refused : OfEachStretch (LookedNodesStay two_cores) leaf_untyped → ⊥
 unfolding two_cores leaf_made leaf_read leaf_untyped word_of_entry entry_of_word sum_below node_refs refs holds_nothing
 looked_refused law =
     let same : Untyped ≡ Kernel Leaf =
-    since (LookedNodesStay two_cores) 3 leaf_untyped law 0 (call.Retype 0 8 frame_kind.User) refl 8 0 0 refl (inl refl) refl goes_on in
+    since (LookedNodesStay two_cores) 3 leaf_untyped law 0 (Call.Retype 0 8 FrameKind.User) refl 8 0 0 refl (inl refl) refl goes_on in
     cc
 
 read_refused : OfEachStretch (ReadNodesStay two_cores) leaf_untyped → ⊥
@@ -125,7 +111,7 @@ unfolding two_cores leaf_made leaf_read leaf_untyped word_of_entry entry_of_word
 read_refused law =
     let same : Untyped ≡ Kernel Leaf = since (ReadNodesStay two_cores) 3 leaf_untyped law 8
     (record {
-      call = call.Retype 0 8 frame_kind.User;
+      call = Call.Retype 0 8 FrameKind.User;
       is_open = refl;
       apart = refl;
       node = refl;
@@ -145,9 +131,9 @@ acquired_legal = (
     (
       (
         ((tt, may_follow refl refl (refl, tt) tt tt), may_follow refl refl tt tt tt),
-        may_follow refl refl tt (carried_out {k = call.Retype 0 8 frame_kind.User} refl (refl, (refl, refl)) refl) tt,
+        may_follow refl refl tt (carried_out {k = Call.Retype 0 8 FrameKind.User} refl (refl, (refl, refl)) refl) tt,
       ),
-      may_follow refl refl tt tt (record { call = call.Retype 0 8 frame_kind.User; was_decided = refl }),
+      may_follow refl refl tt tt (record { call = Call.Retype 0 8 FrameKind.User; was_decided = refl }),
     ),
     may_follow refl refl (refl, tt) tt tt,
   ),
@@ -158,7 +144,7 @@ counted_legal : IsLegal two_cores counted_untyped
 unfolding two_cores count_acquired counted_untyped count_word word_of_entry word_of_count sum_below node_refs refs
 counted_legal = (
   ((acquired_legal, may_follow refl refl (refl, tt) tt tt), may_follow refl refl tt tt tt),
-  may_follow refl refl tt (carried_out {k = call.Retype 0 8 frame_kind.Untyped} refl (refl, (refl, refl)) refl) tt,
+  may_follow refl refl tt (carried_out {k = Call.Retype 0 8 FrameKind.Untyped} refl (refl, (refl, refl)) refl) tt,
 )
 
 acquired_disciplined : KeepsDiscipline two_cores count_acquired

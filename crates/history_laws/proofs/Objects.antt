@@ -1,34 +1,15 @@
 -- Worked traces and states that the laws of translations, components, gates and threads refuse.
-use Rattle.std.proofs.Common.{◌≡◌, ◌<◌, ◌++◌, List, [], ◌∷◌, refl, arith}
-use Rattle.std.specs.Prelude.{drop}
-use Rattle.std.proofs.lemmas.Bool.{false≢true, true≢false}
-use Rattle.state_laws.specs.spk_nums.specs.Capability.{cap_of}
-use Rattle.state_laws.specs.spk_nums.specs.declared.kinds.Kind.TheVariants as kind
-use Rattle.state_laws.specs.spk_nums.specs.declared.calls.Call.TheVariants as call
-use Rattle.state_laws.specs.spk_nums.specs.declared.replies.Value.TheVariants.{Nothing, Cap}
-use Rattle.state_laws.specs.spk_nums.specs.declared.translations.Translation.{Translation}
-use Rattle.state_laws.specs.Cached.{Stands}
-use Rattle.state_laws.specs.kernel_rules.specs.Start.{start}
-use Rattle.state_laws.specs.kernel_rules.specs.State.{Untyped, User}
-use Rattle.kernel_history.specs.entry_words.specs.EntryWord.{word_of_entry, entry_of_word}
-use Rattle.kernel_history.specs.frame_words.specs.Live.{word_of_live, live_of_word}
-use Rattle.kernel_history.specs.tcap_words.specs.Thread.{word_of_thread, thread_of_word}
-use Rattle.kernel_history.specs.tcap_words.specs.declared.thread_word.ThreadWord.TheVariants.{Idle}
-use Rattle.kernel_history.specs.Discipline.{KeepsDiscipline}
-use Rattle.kernel_history.specs.Legal.{IsLegal}
-use Rattle.kernel_history.specs.Scenes.{two_cores}
-use Rattle.kernel_history.proofs.Computed.{may_follow}
-use Rattle.kernel_history.proofs.Unjustified.{carried_out}
-use Rattle.history_laws.specs.Moments.{AtEachMoment, AtEachStep, OfEachStretch}
-use Rattle.history_laws.specs.Pages.{AllStand, IsKept, TouchesCache}
-use Rattle.history_laws.specs.Lives.{DeadForGood, KilledStop}
-use Rattle.history_laws.specs.Invocations.{EntersTheLiving, EntersNoneKilled}
-use Rattle.history_laws.specs.Threads.{RunApart, ThreadWordsSay}
-use Rattle.history_laws.specs.Scenes.{no_flags, to_eight, cached_eight, touches_nine, killed, gate_killed, goes_through, looks_dead}
-use Rattle.history_laws.specs.Scenes.{both_run, runs_idle}
-use Rattle.history_laws.specs.Refusals.{ObjectsRefuse}
+use Rattle.kernel_history.proofs.{◌≡◌, ◌<◌, ◌++◌, List, [], ◌∷◌, refl, arith, drop, false≢true, true≢false, cap_of, Nothing, Translation}
+use Rattle.kernel_history.proofs.{start, Untyped, User, word_of_entry, entry_of_word, word_of_live, live_of_word, word_of_thread}
+use Rattle.kernel_history.proofs.{thread_of_word, Idle, KeepsDiscipline, IsLegal, two_cores, may_follow, carried_out, Kind, Call}
+use Rattle.history_laws.specs.{AtEachMoment, AtEachStep, OfEachStretch, TouchesCache, DeadForGood, KilledStop, EntersTheLiving}
+use Rattle.history_laws.specs.{EntersNoneKilled, ThreadWordsSay}
+use Rattle.history_laws.specs.{Pages.AllStand, Pages.IsKept, Threads.RunApart, Scenes.no_flags, Scenes.to_eight, Scenes.cached_eight}
+use Rattle.history_laws.specs.{Scenes.touches_nine, Scenes.killed, Scenes.gate_killed, Scenes.goes_through, Scenes.looks_dead}
+use Rattle.history_laws.specs.{Scenes.both_run, Scenes.runs_idle, Refusals.ObjectsRefuse}
 use Rattle.history_laws.proofs.Traces.{whole, newest, since, breaks}
 use Rattle.history_laws.proofs.Disciplined.{disciplined_by, go_disciplined}
+use Rattle.{state_laws.specs.spk_nums.specs.declared.replies.Value.TheVariants.Cap, state_laws.specs.Cached.Stands}
 
 -- translations
 
@@ -58,7 +39,7 @@ killed_legal : IsLegal two_cores killed
 unfolding two_cores killed word_of_entry
 killed_legal = (
   ((tt, may_follow refl refl (refl, tt) tt tt), may_follow refl refl tt tt tt),
-  may_follow refl refl tt (carried_out {k = call.Kill 3} refl (refl, (refl, refl)) refl) tt,
+  may_follow refl refl tt (carried_out {k = Call.Kill 3} refl (refl, (refl, refl)) refl) tt,
 )
 
 killed_disciplined : KeepsDiscipline two_cores killed
@@ -71,20 +52,20 @@ dead_refused law = let higher : 1 < 1 = since (DeadForGood two_cores) 0 killed l
 
 living_refused : AtEachStep (EntersTheLiving two_cores) goes_through → ⊥
 unfolding two_cores gate_killed goes_through
-living_refused law = false≢true (newest (EntersTheLiving two_cores) goes_through law (cap_of kind.Gate 3 1)
+living_refused law = false≢true (newest (EntersTheLiving two_cores) goes_through law (cap_of Kind.Gate 3 1)
     (record { name = 20; value = Nothing; call = refl; decides = refl; leads = refl }))
 
 entered_refused : OfEachStretch (EntersNoneKilled two_cores) goes_through → ⊥
 unfolding two_cores gate_killed goes_through
 entered_refused law =
-    let higher : 1 < 1 = since (EntersNoneKilled two_cores) 2 goes_through law (cap_of kind.Gate 3 1)
+    let higher : 1 < 1 = since (EntersNoneKilled two_cores) 2 goes_through law (cap_of Kind.Gate 3 1)
     (record { name = 20; value = Nothing; call = refl; decides = refl; leads = refl }) 1 refl in
     omega (arith, higher)
 
 stop_refused : OfEachStretch (KilledStop two_cores) looks_dead → ⊥
 unfolding two_cores gate_killed looks_dead
-stop_refused law = true≢false (since (KilledStop two_cores) 2 looks_dead law (call.Look 0)
-    (record { value = Cap (cap_of kind.Range 8 24); is_open = refl; decides = refl }) (record { out = refl; dead = refl }))
+stop_refused law = true≢false (since (KilledStop two_cores) 2 looks_dead law (Call.Look 0)
+    (record { value = Cap (cap_of Kind.Range 8 24); is_open = refl; decides = refl }) (record { out = refl; dead = refl }))
 
 -- threads
 

@@ -1,34 +1,16 @@
 -- Worked traces and states that the laws of time refuse.
-use Rattle.std.proofs.Common.{◌≡◌, ◌⊎◌, inl, inr, ℕ, ◌+◌, ◌<◌, Bool, true, false, [], ◌∷◌, Option, Some, None, refl, ◌∙◌, ap, arith}
-use Rattle.std.specs.Prelude.{drop}
-use Rattle.state_laws.specs.spk_nums.specs.declared.calls.Call.TheVariants as call
-use Rattle.state_laws.specs.spk_nums.specs.declared.replies.Value.TheVariants.{Nothing}
-use Rattle.state_laws.specs.kernel_rules.specs.References.{sum_below}
-use Rattle.state_laws.specs.kernel_rules.specs.Rules.{Judged, Refused, Found}
-use Rattle.state_laws.specs.kernel_rules.specs.State.{TcapFields, Kernel, Tcap}
-use Rattle.state_laws.specs.kernel_rules.specs.TimeCalls.{preemption, preempts}
-use Rattle.state_laws.specs.kernel_rules.specs.Edits.{tcap_at}
-use Rattle.state_laws.specs.spk_nums.specs.Capability.{Capability}
-use Rattle.kernel_history.specs.entry_words.specs.EntryWord.{word_of_entry, entry_of_word}
-use Rattle.kernel_history.specs.tcap_words.specs.Head.{word_of_head, head_of_word}
-use Rattle.kernel_history.specs.tcap_words.specs.Quality.{quality_of_word}
-use Rattle.kernel_history.specs.tcap_words.specs.declared.head_word.HeadWord.{HeadWord}
-use Rattle.kernel_history.specs.tcap_words.specs.declared.quality_word.QualityWord.{QualityWord}
-use Rattle.kernel_history.specs.Discipline.{KeepsDiscipline}
-use Rattle.kernel_history.specs.Legal.{IsLegal}
-use Rattle.kernel_history.specs.Scenes.{two_cores, done}
-use Rattle.kernel_history.proofs.Computed.{may_follow}
-use Rattle.kernel_history.proofs.Unjustified.{carried_out}
-use Rattle.history_laws.specs.Moments.{AtEachMoment, AtEachStep}
-use Rattle.history_laws.specs.Sums.{HeadHolds, TimeSums}
-use Rattle.history_laws.specs.Time.{KeepsTicks, TicksAreCounted, BackIsCounted, HeadsSay, OpenHeadsSay, ShowsOwed, LeadsTo}
-use Rattle.history_laws.specs.Time.{state_of_decision, MarkedHeadsSay, ListsSay, TellsOf, TestsTell}
-use Rattle.history_laws.specs.Scenes.{head_word, ticks_lost, tick_refused, replenish_unspent, budget_lost, marked_lost, list_changed}
-use Rattle.history_laws.specs.Scenes.{taken_early, added_twice}
-use Rattle.history_laws.specs.Scenes.{tests_nothing}
-use Rattle.history_laws.specs.Refusals.{TimeRefuses}
-use Rattle.history_laws.proofs.Traces.{whole, newest, breaks}
-use Rattle.history_laws.proofs.Disciplined.{disciplined_by, go_disciplined}
+use Rattle.kernel_history.proofs.{◌≡◌, ◌⊎◌, inl, inr, ℕ, ◌+◌, ◌<◌, Bool, true, false, [], ◌∷◌, Option, Some, None, refl, ◌∙◌, ap, arith}
+use Rattle.kernel_history.proofs.{drop, Nothing, sum_below, Judged, Found, TcapFields, Kernel, Tcap, tcap_at, Capability, word_of_entry}
+use Rattle.kernel_history.proofs.{entry_of_word, word_of_head, head_of_word, quality_of_word, HeadWord, QualityWord, KeepsDiscipline}
+use Rattle.kernel_history.proofs.{IsLegal, two_cores, may_follow, carried_out, Call}
+use Rattle.history_laws.specs.{AtEachMoment, AtEachStep, TimeSums, TicksAreCounted, BackIsCounted, HeadsSay, OpenHeadsSay}
+use Rattle.history_laws.specs.{state_of_decision, MarkedHeadsSay, ListsSay, TestsTell}
+use Rattle.kernel_history.specs.{preemption, preempts, done}
+use Rattle.state_laws.specs.kernel_rules.specs.Rules.{Refused}
+use Rattle.history_laws.specs.{Sums.HeadHolds, Time.KeepsTicks, Time.ShowsOwed, Time.LeadsTo, Time.TellsOf, Scenes.head_word}
+use Rattle.history_laws.specs.{Scenes.ticks_lost, Scenes.tick_refused, Scenes.replenish_unspent, Scenes.budget_lost, Scenes.marked_lost}
+use Rattle.history_laws.specs.{Scenes.list_changed, Scenes.taken_early, Scenes.added_twice, Scenes.tests_nothing, Refusals.TimeRefuses}
+use Rattle.history_laws.proofs.{Traces.whole, Traces.newest, Traces.breaks, Disciplined.disciplined_by, Disciplined.go_disciplined}
 
 -- What words show.
 budget_in : Option HeadWord → ℕ
@@ -101,7 +83,7 @@ open_refused : AtEachMoment (OpenHeadsSay two_cores) marked_lost → ⊥
 unfolding two_cores marked_lost head_word word_of_head head_of_word budget_in
 open_refused law =
     let is : 5 ≡ 100 =
-    ap budget_in (whole (OpenHeadsSay two_cores) marked_lost law 6 (with_ticks 100) 0 (call.Tick 1) refl refl refl).says in
+    ap budget_in (whole (OpenHeadsSay two_cores) marked_lost law 6 (with_ticks 100) 0 (Call.Tick 1) refl refl refl).says in
     omega (arith, is)
 
 list_legal : IsLegal two_cores list_changed
@@ -128,7 +110,7 @@ taken_legal = (
     (((tt, may_follow refl refl (refl, tt) tt tt), may_follow refl refl tt tt tt), may_follow refl refl tt tt tt),
     may_follow refl refl tt tt tt,
   ),
-  may_follow refl refl tt (carried_out {k = call.Transfer 12 13 10} refl (refl, (refl, refl)) refl) tt,
+  may_follow refl refl tt (carried_out {k = Call.Transfer 12 13 10} refl (refl, (refl, refl)) refl) tt,
 )
 
 taken_disciplined : KeepsDiscipline two_cores taken_early
@@ -142,11 +124,11 @@ taken_disciplined = (
 taken_refused : AtEachMoment (MarkedHeadsSay two_cores) taken_early → ⊥
 unfolding two_cores taken_early head_word word_of_head head_of_word budget_in
 taken_refused law =
-    let owed : ShowsOwed (state_of_decision two_cores taken_early 0) 0 (call.Transfer 12 13 10) done 6 90 (Some (record {
+    let owed : ShowsOwed (state_of_decision two_cores taken_early 0) 0 (Call.Transfer 12 13 10) done 6 90 (Some (record {
       budget = 90;
       mark = Some 0;
       version = 0;
-    })) = whole (MarkedHeadsSay two_cores) taken_early law 6 (with_ticks 90) 0 (call.Transfer 12 13 10) done refl refl refl in
+    })) = whole (MarkedHeadsSay two_cores) taken_early law 6 (with_ticks 90) 0 (Call.Transfer 12 13 10) done refl refl refl in
     let is : 90 ≡ owed.shown = ap budget_in owed.shows.says in
     let still : owed.shown ≡ 100 = owed.owes.1 in
     omega (arith, is, still)
@@ -158,7 +140,7 @@ added_legal = (
     (((tt, may_follow refl refl (refl, tt) tt tt), may_follow refl refl tt tt tt), may_follow refl refl tt tt tt),
     may_follow refl refl tt tt tt,
   ),
-  may_follow refl refl tt (carried_out {k = call.Delegate 12 13 10} refl (refl, (refl, refl)) refl) tt,
+  may_follow refl refl tt (carried_out {k = Call.Delegate 12 13 10} refl (refl, (refl, refl)) refl) tt,
 )
 
 added_disciplined : KeepsDiscipline two_cores added_twice
@@ -180,11 +162,11 @@ added_owes shown is (inr second) = let more : shown + 10 ≡ 110 = second.1 in o
 added_refused : AtEachMoment (MarkedHeadsSay two_cores) added_twice → ⊥
 unfolding two_cores added_twice head_word word_of_head head_of_word budget_in
 added_refused law =
-    let owed : ShowsOwed (state_of_decision two_cores added_twice 0) 0 (call.Delegate 12 13 10) done 7 110 (Some (record {
+    let owed : ShowsOwed (state_of_decision two_cores added_twice 0) 0 (Call.Delegate 12 13 10) done 7 110 (Some (record {
       budget = 120;
       mark = Some 0;
       version = 0;
-    })) = whole (MarkedHeadsSay two_cores) added_twice law 7 (with_ticks 110) 0 (call.Delegate 12 13 10) done refl refl refl in
+    })) = whole (MarkedHeadsSay two_cores) added_twice law 7 (with_ticks 110) 0 (Call.Delegate 12 13 10) done refl refl refl in
     added_owes owed.shown (ap budget_in owed.shows.says) owed.owes
 
 -- tests

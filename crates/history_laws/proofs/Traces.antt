@@ -1,14 +1,8 @@
 -- What a law of each moment, each step or each stretch of a trace says of the whole trace, of its newest step and of its newest steps.
-use Rattle.std.proofs.Common.{◌≡◌, ℕ, true, [], ◌∷◌, refl, sym}
-use Rattle.std.specs.Prelude.{take, drop}
-use Rattle.std.proofs.lemmas.List.{take-append-drop}
-use Rattle.kernel_history.specs.Discipline.{KeepsDiscipline}
-use Rattle.kernel_history.specs.Legal.{IsLegal}
-use Rattle.kernel_history.specs.Scenes.{two_cores}
-use Rattle.kernel_history.specs.Trace.{Step, Trace}
+use Rattle.kernel_history.proofs.{◌≡◌, ℕ, true, [], ◌∷◌, refl, sym, take, drop, KeepsDiscipline, IsLegal, two_cores, Step}
+use Rattle.history_laws.specs.{AtEachMoment, AtEachStep, OfEachStretch}
 use Rattle.kernel_history.proofs.Computed.{is_within, keeps_bounds, is_in_it, keeps_footprints}
-use Rattle.history_laws.specs.Moments.{AtEachMoment, AtEachStep, OfEachStretch}
-use Rattle.history_laws.specs.Refusals.{Breaks}
+use Rattle.{std.proofs.lemmas.List.take-append-drop, kernel_history.specs.Trace.Trace, history_laws.specs.Refusals.Breaks}
 
 pub whole : (Law : Trace → Type 0) (t : Trace) → AtEachMoment Law t → Law t
 whole Law t law = law [] t refl

@@ -1,19 +1,10 @@
 -- What the count words of a frame show at each moment, also while calls hold them: with what these calls have still to store, the
 -- references to the frame, modulo 2 ^ 16.
-use Rattle.std.specs.Prelude.{◌≡◌, ℕ, ℤ, pos, ◌+ℤ◌, ◌-ℤ◌, ◌==◌, ◌&&◌, Bool, false, true, List, [], ◌∷◌}
-use Rattle.std.specs.Prelude.{Option, Some, None, is_some, if◌then◌else◌}
-use Rattle.state_laws.specs.spk_nums.specs.Setting.{Setting}
-use Rattle.state_laws.specs.spk_nums.specs.declared.kinds.FrameKind.TheVariants.{Untyped}
-use Rattle.state_laws.specs.spk_nums.specs.declared.calls.Call.TheVariants.{Retype}
-use Rattle.state_laws.specs.spk_nums.specs.declared.replies.Reply.TheVariants.{Ok}
-use Rattle.kernel_history.specs.frame_words.specs.Residue.{residue, wrapped}
-use Rattle.kernel_history.specs.frame_words.specs.declared.count_word.CountWord.{CountWord}
-use Rattle.kernel_history.specs.frame_words.specs.declared.count_word.Hold.{Hold}
-use Rattle.kernel_history.specs.frame_words.specs.declared.count_word.Hold.TheVariants.{Unheld, Pinned, Closed}
-use Rattle.state_laws.specs.kernel_rules.specs.References.{refs}
-use Rattle.kernel_history.specs.Bounds.{call_in}
-use Rattle.kernel_history.specs.Counts.{counters, count_at}
-use Rattle.kernel_history.specs.Trace.{Trace, Phase, Decided, phase, state_after, state_before, last_left}
+use Rattle.kernel_history.specs.{◌≡◌, ℕ, ℤ, pos, ◌+ℤ◌, ◌-ℤ◌, ◌==◌, ◌&&◌, Bool, false, true, List, [], ◌∷◌, Option, Some, None, is_some}
+use Rattle.kernel_history.specs.{if◌then◌else◌, Setting, Retype, residue, CountWord, Hold, Unheld, Pinned, Closed, refs, call_in, counters}
+use Rattle.kernel_history.specs.{count_at, Phase, Decided, phase, state_after, state_before, last_left}
+use Rattle.state_laws.specs.spk_nums.specs.{declared.kinds.FrameKind.TheVariants.Untyped, declared.replies.Reply.TheVariants.Ok}
+use Rattle.{kernel_history.specs.frame_words.specs.Residue.wrapped, kernel_history.specs.Trace.Trace}
 
 -- What the last decision of core c has changed of the references to frame f: those in the state after it, less those in the state in
 -- which it was made.

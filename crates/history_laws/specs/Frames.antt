@@ -1,21 +1,9 @@
 -- Frames that are made untyped again: what then held, and which frames stay as they are.
-use Rattle.std.specs.Prelude.{◌≡◌, ◌≢◌, ◌<◌, ◌==◌, ◌⊎◌, ℕ, Bool, true, false, [], ◌∷◌, ◌++◌, Option, Some, None, IsTrue}
-use Rattle.state_laws.specs.spk_nums.specs.Setting.{Setting}
-use Rattle.state_laws.specs.spk_nums.specs.declared.kinds.FrameKind.TheVariants.{Untyped}
-use Rattle.state_laws.specs.spk_nums.specs.declared.calls.Call.{Call}
-use Rattle.state_laws.specs.spk_nums.specs.declared.calls.Call.TheVariants.{Retype}
-use Rattle.state_laws.specs.spk_nums.specs.declared.replies.Value.{Value}
-use Rattle.state_laws.specs.spk_nums.specs.declared.replies.Reply.TheVariants.{Ok}
-use Rattle.kernel_history.specs.entry_words.specs.EntryWord.{entry_of_word}
-use Rattle.kernel_history.specs.entry_words.specs.declared.entry.Entry.{Entry}
-use Rattle.kernel_history.specs.entry_words.specs.declared.entry.Entry.TheVariants.{Held}
-use Rattle.kernel_history.specs.word_map.specs.Moves.{word_of}
-use Rattle.kernel_history.specs.word_map.specs.Word.{EntryAt, CountAt}
-use Rattle.state_laws.specs.kernel_rules.specs.State.{FrameOf, State}
-use Rattle.state_laws.specs.kernel_rules.specs.References.{refs}
-use Rattle.state_laws.specs.kernel_rules.specs.Relies.{is_node}
-use Rattle.kernel_history.specs.Marking.{marked_by}
-use Rattle.kernel_history.specs.Trace.{Step, Trace, Open, phase, after_enter, state_after, state_before, own_read, reads}
+use Rattle.kernel_history.specs.{◌≡◌, ◌≢◌, ◌<◌, ◌==◌, ◌⊎◌, ℕ, Bool, true, false, [], ◌∷◌, ◌++◌, Option, Some, None, IsTrue, Setting, Call}
+use Rattle.kernel_history.specs.{Retype, Value, entry_of_word, Entry, Held, word_of, EntryAt, CountAt, FrameOf, State, refs, is_node}
+use Rattle.kernel_history.specs.{marked_by, Step, phase, after_enter, state_after, state_before, own_read, reads}
+use Rattle.state_laws.specs.spk_nums.specs.{declared.kinds.FrameKind.TheVariants.Untyped, declared.replies.Reply.TheVariants.Ok}
+use Rattle.kernel_history.specs.Trace.{Trace, Open}
 
 -- The step e after t decides `ok` of a retype of the frame to untyped.
 pub record MakesUntyped (t : Trace) (e : Step) (f : ℕ) : Type 0 where

@@ -1,16 +1,9 @@
 -- Which components calls through gates enter.
-use Rattle.std.specs.Prelude.{◌≡◌, ◌<◌, ℕ, [], ◌∷◌, ◌++◌, true, Some}
-use Rattle.state_laws.specs.spk_nums.specs.Capability.{Capability}
-use Rattle.state_laws.specs.spk_nums.specs.Setting.{Setting}
-use Rattle.state_laws.specs.spk_nums.specs.declared.calls.Call.TheVariants.{Call as call_gate}
-use Rattle.state_laws.specs.spk_nums.specs.declared.kinds.Kind.TheVariants.{Gate}
-use Rattle.state_laws.specs.spk_nums.specs.declared.replies.Reply.TheVariants.{Ok}
-use Rattle.state_laws.specs.spk_nums.specs.declared.replies.Value.{Value}
-use Rattle.state_laws.specs.kernel_rules.specs.State.{Dead, State, comp_in}
-use Rattle.state_laws.specs.kernel_rules.specs.Access.{to_use, only}
-use Rattle.state_laws.specs.kernel_rules.specs.Rules.{Found, named}
-use Rattle.state_laws.specs.kernel_rules.specs.Life.{is_live_in}
-use Rattle.kernel_history.specs.Trace.{Step, Trace, Open, phase, after_enter, state_before, state_after}
+use Rattle.kernel_history.specs.{◌≡◌, ◌<◌, ℕ, [], ◌∷◌, ◌++◌, true, Some, Capability, Setting, Value, Dead, State, comp_in, to_use, only}
+use Rattle.kernel_history.specs.{Found, named, is_live_in, Step, phase, after_enter, state_before, state_after}
+use Rattle.state_laws.specs.spk_nums.specs.{declared.calls.Call.TheVariants.Call as call_gate, declared.kinds.Kind.TheVariants.Gate}
+use Rattle.state_laws.specs.spk_nums.specs.{declared.replies.Reply.TheVariants.Ok}
+use Rattle.kernel_history.specs.Trace.{Trace, Open}
 
 -- The step decides a call through the gate of this name, which is carried out; the name leads to this gate at that moment.
 pub record GoesThrough (setup : Setting) (t : Trace) (e : Step) (gate : Capability) : Type 0 where

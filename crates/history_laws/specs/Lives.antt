@@ -1,20 +1,13 @@
 -- Liveness numbers and components that were killed.
-use Rattle.std.specs.Prelude.{◌≡◌, ◌<◌, ℕ, [], ◌∷◌, ◌++◌, false, Some}
-use Rattle.state_laws.specs.spk_nums.specs.Setting.{Setting}
-use Rattle.state_laws.specs.spk_nums.specs.declared.calls.Call.{Call}
+use Rattle.kernel_history.specs.{◌≡◌, ◌<◌, ℕ, [], ◌∷◌, ◌++◌, false, Some, Setting, Call, Value, live_of_word, LiveAt, CompFields, Dead}
+use Rattle.kernel_history.specs.{comp_of, asks_life, Step, Out, phase, after_enter, state_before, state_after, last_left, LiveWord}
 use Rattle.state_laws.specs.spk_nums.specs.declared.replies.Reply.TheVariants.{Ok}
-use Rattle.state_laws.specs.spk_nums.specs.declared.replies.Value.{Value}
-use Rattle.kernel_history.specs.frame_words.specs.Live.{live_of_word}
-use Rattle.kernel_history.specs.frame_words.specs.declared.live_word.LiveWord.TheVariants as live_word
-use Rattle.kernel_history.specs.word_map.specs.Word.{LiveAt}
-use Rattle.state_laws.specs.kernel_rules.specs.State.{CompFields, Dead, comp_of}
-use Rattle.state_laws.specs.kernel_rules.specs.Life.{asks_life}
-use Rattle.kernel_history.specs.Trace.{Step, Out, Open, phase, after_enter, state_before, state_after, last_left, Trace}
+use Rattle.kernel_history.specs.Trace.{Open, Trace}
 
 -- Where a number is dead after an epoch, its word shows it live later in higher epochs alone, whatever steps come then.
 abbrev pub DeadForGood : Setting → Trace → Trace → Type 0
 DeadForGood setup u t = (l e d f : ℕ) → (state_after setup t).number l ≡ Dead e
-    → live_of_word (last_left setup (u ++ t) (LiveAt l)) ≡ Some (live_word.Live d f) → e < d
+    → live_of_word (last_left setup (u ++ t) (LiveAt l)) ≡ Some (LiveWord.Live d f) → e < d
 
 -- The step decides this call of its core, which is carried out.
 pub record CarriesOut (t : Trace) (e : Step) (call : Call) : Type 0 where

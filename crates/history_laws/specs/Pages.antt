@@ -1,15 +1,10 @@
 -- The translations that cores have cached.
-use Rattle.std.specs.Prelude.{◌≡◌, ◌<◌, ◌++◌, ℕ, false, [], ◌∷◌, Some}
+use Rattle.kernel_history.specs.{◌≡◌, ◌<◌, ◌++◌, ℕ, false, [], ◌∷◌, Some, Setting, Touch, PageFlags, User, State, comp_of, flushes_at}
+use Rattle.kernel_history.specs.{state_after, state_before, phase, after_enter, Step}
+use Rattle.state_laws.specs.{Stands, Begins, Answers}
 use Rattle.std.specs.List.{AllByRecursion}
-use Rattle.state_laws.specs.spk_nums.specs.Setting.{Setting}
-use Rattle.state_laws.specs.spk_nums.specs.declared.calls.Call.TheVariants.{Touch}
-use Rattle.state_laws.specs.spk_nums.specs.declared.kinds.PageFlags.{PageFlags}
-use Rattle.state_laws.specs.spk_nums.specs.declared.replies.Reply.TheVariants.{Ok}
-use Rattle.state_laws.specs.spk_nums.specs.declared.replies.Value.TheVariants.{Page}
-use Rattle.state_laws.specs.kernel_rules.specs.State.{User, State, comp_of}
-use Rattle.state_laws.specs.Cached.{Stands, Begins, Answers}
-use Rattle.kernel_history.specs.Stamps.{flushes_at}
-use Rattle.kernel_history.specs.Trace.{state_after, state_before, Open, phase, after_enter, Step, Trace}
+use Rattle.state_laws.specs.spk_nums.specs.{declared.replies.Reply.TheVariants.Ok, declared.replies.Value.TheVariants.Page}
+use Rattle.kernel_history.specs.Trace.{Open, Trace}
 
 -- Each translation that a core has cached names a user frame, and it stands: what it was found by is there still, or the core has decided
 -- no flush since it was removed.

@@ -1,19 +1,8 @@
 -- What may be concluded from a word that a step has found: that of a place which is held, and that of a core which has passed a stamp.
-use Rattle.std.specs.Prelude.{◌≡◌, ◌<◌, ◌⊎◌, ℕ, false, [], ◌∷◌, ◌++◌, Some, IsTrue}
-use Rattle.state_laws.specs.spk_nums.specs.Capability.{Capability}
-use Rattle.state_laws.specs.spk_nums.specs.Setting.{Setting}
-use Rattle.state_laws.specs.spk_nums.specs.declared.calls.Call.{Call}
-use Rattle.kernel_history.specs.entry_words.specs.EntryWord.{entry_of_word}
-use Rattle.kernel_history.specs.entry_words.specs.declared.entry.Entry.TheVariants.{Held}
-use Rattle.kernel_history.specs.frame_words.specs.Core.{core_of_word}
-use Rattle.kernel_history.specs.frame_words.specs.declared.core_word.CoreWord.{CoreWord}
-use Rattle.kernel_history.specs.word_map.specs.Word.{EntryAt, CoreAt}
-use Rattle.kernel_history.specs.word_map.specs.Moves.{word_of}
-use Rattle.state_laws.specs.kernel_rules.specs.State.{Thing, State}
-use Rattle.state_laws.specs.kernel_rules.specs.Access.{Slot, usable}
-use Rattle.state_laws.specs.kernel_rules.specs.Relies.{is_node, Relies}
-use Rattle.kernel_history.specs.Trace.{Trace, Open, phase, state_after, own_read}
-use Rattle.kernel_history.specs.Stamps.{stamp, clock}
+use Rattle.kernel_history.specs.{◌≡◌, ◌<◌, ◌⊎◌, ℕ, false, [], ◌∷◌, ◌++◌, Some, IsTrue, Capability, Setting, Call, entry_of_word, Held}
+use Rattle.kernel_history.specs.{core_of_word, CoreWord, EntryAt, CoreAt, word_of, Thing, State, Slot, usable, is_node, Relies, phase}
+use Rattle.kernel_history.specs.{state_after, own_read, stamp, clock}
+use Rattle.kernel_history.specs.Trace.{Trace, Open}
 
 -- Core c may use this capability at a slot: the place holds it, or it is quiescing, held it, and c is among those for whom it waits.
 -- And c relies on the slot's node, which no other core may retype.

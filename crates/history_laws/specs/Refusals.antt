@@ -1,35 +1,19 @@
 -- What each law of a history refuses. Of the laws that say more than that a trace is legal it is a trace that is legal, in the footprints
 -- of its calls, within their bounds and disciplined. Of those that follow from a legal trace it is a trace, or a state, that is none.
-use Rattle.std.specs.Prelude.{◌≡◌}
-use Rattle.state_laws.specs.kernel_rules.specs.Start.{start}
-use Rattle.state_laws.specs.kernel_rules.specs.State.{FrameOf}
-use Rattle.kernel_history.specs.Bounds.{KeepsBounds}
-use Rattle.kernel_history.specs.Counts.{counters}
-use Rattle.kernel_history.specs.Discipline.{KeepsDiscipline}
-use Rattle.kernel_history.specs.Footprint.{KeepsFootprints}
-use Rattle.kernel_history.specs.Legal.{IsLegal}
-use Rattle.kernel_history.specs.Scenes.{two_cores, ready_to_look}
-use Rattle.kernel_history.specs.Stamps.{stamp}
-use Rattle.kernel_history.specs.Trace.{Trace}
-use Rattle.history_laws.specs.Moments.{AtEachMoment, AtEachStep, OfEachStretch}
-use Rattle.history_laws.specs.Ready.{ReadyDecides, UnreadyRefuses}
-use Rattle.history_laws.specs.Places.{PlacesFound, ScannedCores}
-use Rattle.history_laws.specs.Frames.{LookedNodesStay, ReadNodesStay, CountedFramesStay, UntypedFramesAreUnused}
-use Rattle.history_laws.specs.Counts.{CountsTell, FrozenSay}
-use Rattle.history_laws.specs.Stamps.{newest_then, StampsTell}
-use Rattle.history_laws.specs.Sums.{FrozenSums, TimeSums}
-use Rattle.history_laws.specs.Pages.{AllStand, IsKept, TouchesCache}
-use Rattle.history_laws.specs.Lives.{DeadForGood, KilledStop}
-use Rattle.history_laws.specs.Invocations.{EntersTheLiving, EntersNoneKilled}
-use Rattle.history_laws.specs.Threads.{RunApart, ThreadWordsSay}
-use Rattle.history_laws.specs.Time.{KeepsTicks, TicksAreCounted, BackIsCounted, HeadsSay, OpenHeadsSay, MarkedHeadsSay, ListsSay, TestsTell}
-use Rattle.history_laws.specs.Scenes.{looks_on, looked, none_ready, reads_stray, scans_stray, leaf_untyped, counted_untyped}
-use Rattle.history_laws.specs.Scenes.{leaf_one_untyped}
-use Rattle.history_laws.specs.Scenes.{counts_five, dates_early, counts_twice, freezes_one, freezes_both, copy_freezes, draws_held}
-use Rattle.history_laws.specs.Scenes.{cached_eight, touches_nine, killed, goes_through, looks_dead, both_run, runs_idle}
-use Rattle.history_laws.specs.Scenes.{ticks_lost, tick_refused, replenish_unspent, budget_lost, marked_lost, list_changed, taken_early}
-use Rattle.history_laws.specs.Scenes.{added_twice}
-use Rattle.history_laws.specs.Scenes.{tests_nothing}
+use Rattle.history_laws.specs as low
+use Rattle.kernel_history.specs.{◌≡◌, start, FrameOf, KeepsBounds, counters, KeepsDiscipline, KeepsFootprints, IsLegal, two_cores}
+use low.{Moments.AtEachMoment, Moments.AtEachStep, Moments.OfEachStretch, Ready.ReadyDecides, Ready.UnreadyRefuses, Places.PlacesFound}
+use low.{Places.ScannedCores, Frames.LookedNodesStay, Frames.ReadNodesStay, Frames.CountedFramesStay, Frames.UntypedFramesAreUnused}
+use low.{Counts.CountsTell, Counts.FrozenSay, Stamps.newest_then, Stamps.StampsTell, Sums.FrozenSums, Sums.TimeSums, Pages.AllStand}
+use low.{Pages.IsKept, Pages.TouchesCache, Lives.DeadForGood, Lives.KilledStop, Invocations.EntersTheLiving, Invocations.EntersNoneKilled}
+use low.{Threads.RunApart, Threads.ThreadWordsSay, Time.KeepsTicks, Time.TicksAreCounted, Time.BackIsCounted, Time.HeadsSay}
+use low.{Time.OpenHeadsSay, Time.MarkedHeadsSay, Time.ListsSay, Time.TestsTell, Scenes.looks_on, Scenes.looked, Scenes.none_ready}
+use low.{Scenes.reads_stray, Scenes.scans_stray, Scenes.leaf_untyped, Scenes.counted_untyped, Scenes.leaf_one_untyped, Scenes.counts_five}
+use low.{Scenes.dates_early, Scenes.counts_twice, Scenes.freezes_one, Scenes.freezes_both, Scenes.copy_freezes, Scenes.draws_held}
+use low.{Scenes.cached_eight, Scenes.touches_nine, Scenes.killed, Scenes.goes_through, Scenes.looks_dead, Scenes.both_run, Scenes.runs_idle}
+use low.{Scenes.ticks_lost, Scenes.tick_refused, Scenes.replenish_unspent, Scenes.budget_lost, Scenes.marked_lost, Scenes.list_changed}
+use low.{Scenes.taken_early, Scenes.added_twice, Scenes.tests_nothing}
+use Rattle.{kernel_history.specs.ready_to_look, kernel_history.specs.stamp, kernel_history.specs.Trace.Trace}
 
 -- A law of traces refuses the trace, which is legal, in the footprints of its calls, within their bounds and disciplined.
 pub record Breaks (Law : Trace → Type 0) (t : Trace) : Type 0 where

@@ -1,15 +1,8 @@
 -- The stamps that the count words of a frame show at each moment, also while calls hold them: with what these calls have still to store,
 -- the newest is that of the grace period of the frame which began last.
-use Rattle.std.specs.Prelude.{◌≡◌, ℕ, ◌==◌, ◌&&◌, max, List, [], ◌∷◌, Option, Some, None, is_some, if◌then◌else◌}
-use Rattle.state_laws.specs.spk_nums.specs.Setting.{Setting}
-use Rattle.kernel_history.specs.frame_words.specs.declared.count_word.CountWord.{CountWord}
-use Rattle.kernel_history.specs.frame_words.specs.declared.count_word.Hold.{Hold}
-use Rattle.kernel_history.specs.frame_words.specs.declared.count_word.Hold.TheVariants.{Unheld, Pinned, Closed}
-use Rattle.state_laws.specs.kernel_rules.specs.State.{FrameOf}
-use Rattle.kernel_history.specs.Counts.{counters, count_at}
-use Rattle.kernel_history.specs.Stamps.{begins_at, stamp}
-use Rattle.kernel_history.specs.Trace.{Trace, phase, last_left}
-use Rattle.history_laws.specs.Counts.{is_carried_out, has_cleared}
+use Rattle.kernel_history.specs.{◌≡◌, ℕ, ◌==◌, ◌&&◌, max, List, [], ◌∷◌, Option, Some, None, is_some, if◌then◌else◌, Setting, CountWord}
+use Rattle.kernel_history.specs.{Hold, Unheld, Pinned, Closed, FrameOf, counters, count_at, begins_at, stamp, phase, last_left}
+use Rattle.{kernel_history.specs.Trace.Trace, history_laws.specs.Counts.is_carried_out, history_laws.specs.Counts.has_cleared}
 
 -- The stamp that the last decision of core c has drawn for frame f: the value of the clock that its step found, where it began a grace
 -- period of the frame; else 0.

@@ -1,20 +1,9 @@
 -- Time and references as sums over words: what words show at a moment, and what the calls in progress have still to store there.
-use Rattle.std.specs.Prelude.{◌≡◌, ◌<◌, ℕ, false, All, Option, Some, None}
-use Rattle.state_laws.specs.spk_nums.specs.Setting.{Setting}
-use Rattle.kernel_history.specs.tcap_words.specs.Head.{head_of_word}
-use Rattle.kernel_history.specs.frame_words.specs.Residue.{residue}
-use Rattle.kernel_history.specs.frame_words.specs.declared.count_word.CountWord.{CountWord}
-use Rattle.kernel_history.specs.frame_words.specs.declared.count_word.Hold.TheVariants.{Closed}
-use Rattle.kernel_history.specs.word_map.specs.Word.{EntryAt, CountAt}
-use Rattle.state_laws.specs.kernel_rules.specs.Laws.{ticks}
-use Rattle.state_laws.specs.kernel_rules.specs.References.{refs}
-use Rattle.state_laws.specs.kernel_rules.specs.State.{Kernel, Tcap, TcapFields, State}
-use Rattle.state_laws.specs.kernel_laws.specs.Laws.{grants_sum}
-use Rattle.kernel_history.specs.Counts.{counters, count_at, count_sum}
-use Rattle.kernel_history.specs.Marking.{marked_by}
-use Rattle.kernel_history.specs.Trace.{Trace, Phase, Out, Open, Decided, phase, state_after, last_left}
-use Rattle.history_laws.specs.Time.{state_of_decision, Owes}
-use Rattle.history_laws.specs.Counts.{has_cleared}
+use Rattle.kernel_history.specs.{◌≡◌, ◌<◌, ℕ, false, All, Option, Some, None, Setting, head_of_word, residue, CountWord, Closed, EntryAt}
+use Rattle.kernel_history.specs.{CountAt, ticks, refs, Kernel, Tcap, TcapFields, State, counters, count_at, count_sum, marked_by, Phase}
+use Rattle.kernel_history.specs.{Out, Decided, phase, state_after, last_left}
+use Rattle.history_laws.specs.{Time.state_of_decision, Time.Owes, Counts.has_cleared}
+use Rattle.{state_laws.specs.kernel_laws.specs.Laws.grants_sum, kernel_history.specs.Trace.Trace, kernel_history.specs.Trace.Open}
 
 -- What a temporal capability in frame f holds whose head core d has marked, where the head shows this: what is shown, but for the ticks
 -- that the core's call, decided in state s, has still to store there. A core between calls has marked none.

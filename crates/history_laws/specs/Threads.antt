@@ -1,14 +1,7 @@
 -- The threads that cores run, and what the words of threads say of them.
-use Rattle.std.specs.Prelude.{◌≡◌, ◌≢◌, ◌<◌, ℕ, Some, IsTrue}
-use Rattle.state_laws.specs.spk_nums.specs.Setting.{Setting}
-use Rattle.state_laws.specs.spk_nums.specs.declared.kinds.Kind.TheVariants as kind
-use Rattle.kernel_history.specs.tcap_words.specs.Thread.{thread_of_word}
-use Rattle.kernel_history.specs.tcap_words.specs.declared.thread_word.ThreadWord.{ThreadWord}
-use Rattle.kernel_history.specs.tcap_words.specs.declared.thread_word.ThreadWord.TheVariants.{Idle, Running, Claimed}
-use Rattle.kernel_history.specs.word_map.specs.Word.{EntryAt}
-use Rattle.state_laws.specs.kernel_rules.specs.Fitting.{fits}
-use Rattle.state_laws.specs.kernel_rules.specs.State.{State}
-use Rattle.kernel_history.specs.Trace.{Trace, state_after, last_left}
+use Rattle.kernel_history.specs.{◌≡◌, ◌≢◌, ◌<◌, ℕ, Some, IsTrue, Setting, thread_of_word, ThreadWord, Idle, Running, Claimed, EntryAt, fits}
+use Rattle.kernel_history.specs.{State, state_after, last_left, Kind}
+use Rattle.kernel_history.specs.Trace.{Trace}
 
 -- No thread is the current one of two cores of these many.
 abbrev pub RunApart : ℕ → State → Type 0
@@ -28,5 +21,5 @@ IsShown setup t f (Claimed d depth) =
 
 abbrev pub ThreadWordsSay : Setting → Trace → Type 0
 ThreadWordsSay setup t = (f : ℕ)
-    → IsTrue (fits kind.Thread ((state_after setup t).frame f)) → (v : ThreadWord)
+    → IsTrue (fits Kind.Thread ((state_after setup t).frame f)) → (v : ThreadWord)
     → thread_of_word (last_left setup t (EntryAt f 0)) ≡ Some v → IsShown setup t f v

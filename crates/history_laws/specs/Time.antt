@@ -1,28 +1,11 @@
 -- The time of a machine: what its temporal capabilities hold and its cores have spent and owe.
-use Rattle.std.specs.Prelude.{◌≡◌, ℕ, suc, ◌+◌, ◌<◌, ◌≤◌, ◌==◌, ◌&&◌, ◌⊎◌, [], ◌∷◌, slice_get, Option, Some, None, is_some, if◌then◌else◌}
-use Rattle.state_laws.specs.spk_nums.specs.Setting.{Setting}
-use Rattle.state_laws.specs.spk_nums.specs.Capability.{Capability}
-use Rattle.state_laws.specs.spk_nums.specs.declared.kinds.Kind.TheVariants as kind
-use Rattle.state_laws.specs.spk_nums.specs.declared.calls.Call.{Call}
-use Rattle.state_laws.specs.spk_nums.specs.declared.calls.Call.TheVariants.{Transfer, Delegate, Test}
-use Rattle.state_laws.specs.spk_nums.specs.declared.replies.Reply.{Reply}
-use Rattle.state_laws.specs.spk_nums.specs.declared.replies.Reply.TheVariants.{Ok}
-use Rattle.state_laws.specs.spk_nums.specs.declared.replies.Value.{Value}
-use Rattle.kernel_history.specs.tcap_words.specs.Quality.{quality_of_word}
-use Rattle.kernel_history.specs.tcap_words.specs.Head.{head_of_word}
-use Rattle.kernel_history.specs.tcap_words.specs.declared.head_word.HeadWord.{HeadWord}
-use Rattle.kernel_history.specs.word_map.specs.Word.{EntryAt}
-use Rattle.state_laws.specs.kernel_rules.specs.Access.{to_use, only}
-use Rattle.state_laws.specs.kernel_rules.specs.Laws.{ticks}
-use Rattle.state_laws.specs.kernel_rules.specs.Rules.{Found, named}
-use Rattle.state_laws.specs.kernel_rules.specs.Start.{start}
-use Rattle.state_laws.specs.kernel_rules.specs.State.{Kernel, Tcap, TcapFields, State}
-use Rattle.state_laws.specs.kernel_rules.specs.TimeCalls.{preemption, preempts}
-use Rattle.state_laws.specs.kernel_rules.specs.Edits.{tcap_at}
-use Rattle.state_laws.specs.kernel_laws.specs.Laws.{grants_sum, decided_ticks, decided_back}
-use Rattle.kernel_history.specs.Events.{events_of}
-use Rattle.kernel_history.specs.Marking.{marked_by}
-use Rattle.kernel_history.specs.Trace.{Step, Trace, Open, Decided, phase, after_enter, state_after, state_before, last_left}
+use Rattle.kernel_history.specs as low
+use low.{◌≡◌, ℕ, suc, ◌+◌, ◌<◌, ◌≤◌, ◌==◌, ◌&&◌, ◌⊎◌, [], ◌∷◌, slice_get, Option, Some, None, is_some, if◌then◌else◌, Setting, Capability}
+use low.{Call, Transfer, Delegate, Test, Reply, Value, quality_of_word, head_of_word, HeadWord, EntryAt, to_use, only, ticks, Found, named}
+use low.{start, Kernel, Tcap, TcapFields, State, preemption, preempts, tcap_at, events_of, marked_by, Step, Decided, phase, after_enter}
+use low.{state_after, state_before, last_left, Kind, Trace.Trace, Trace.Open}
+use Rattle.{state_laws.specs.kernel_laws.specs.grants_sum, state_laws.specs.kernel_laws.specs.decided_ticks}
+use Rattle.{state_laws.specs.spk_nums.specs.declared.replies.Reply.TheVariants.Ok, state_laws.specs.kernel_laws.specs.Laws.decided_back}
 
 -- The budgets of all temporal capabilities and the ticks that all cores have spent and have not had back sum to the grants.
 abbrev pub KeepsTicks : Setting → State → Type 0
@@ -78,7 +61,7 @@ state_of_decision setup (e ∷ t) c =
 -- A name of a core leads in this state to the temporal capability in this frame.
 pub record LeadsTo (s : State) (c name f : ℕ) : Type 0 where
   pub cap : Capability
-  pub is_named : named s c name (to_use (only kind.Tcap)) ≡ Found cap
+  pub is_named : named s c name (to_use (only Kind.Tcap)) ≡ Found cap
   pub frame : cap.frame ≡ f
 
 -- What a marked head shows of the temporal capability in frame f, which has this budget, where its core's call was decided so in state s.
@@ -115,8 +98,8 @@ ListsSay setup t = (f : ℕ) (q : TcapFields)
 pub record TellsOf (s : State) (c x y : ℕ) (v : Value) : Type 0 where
   pub first : Capability
   pub second : Capability
-  pub first_named : named s c x (to_use (only kind.Tcap)) ≡ Found first
-  pub second_named : named s c y (to_use (only kind.Tcap)) ≡ Found second
+  pub first_named : named s c x (to_use (only Kind.Tcap)) ≡ Found first
+  pub second_named : named s c y (to_use (only Kind.Tcap)) ≡ Found second
   pub answer : v ≡ preemption (preempts (tcap_at s first.frame) (tcap_at s second.frame))
 
 -- A step that decides a `test` with an answer tells so of the state that it finds, though the words of a list are read one by one.

@@ -1,15 +1,9 @@
 -- Texts and lists of replies, one piece after another.
-use Rattle.std.proofs.Common.{◌≡◌, ℕ, suc, ◌+◌, ◌<◌, ◌≤◌, List, [], ◌∷◌, ◌++◌, Bool, length, drop, get_or, append_assoc, append-nil}
-use Rattle.std.proofs.Common.{refl, sym, ◌∙◌, ap, subst, arith}
-use Rattle.std.proofs.lemmas.List.{drop_more, drop_all}
-use Rattle.spk_nums.specs.Setting.{Setting}
-use Rattle.spk_nums.specs.declared.calls.Call.{Call}
-use Rattle.spk_nums.specs.declared.replies.Reply.{Reply}
-use Rattle.marked_history.specs.declared.marks.Line.{Line}
-use Rattle.history_options.specs.declared.forms.Form.{Form}
-use Rattle.history_options.specs.Forms.{with_form}
-use Rattle.history_options.specs.Replies.{core_replies, below_replies}
-use Rattle.history_options.specs.Options.{GoesOn, option_of, AreOptions, AddsOptions}
+use Rattle.open_calls.specs.kernel_rules.proofs.{◌≡◌, ℕ, suc, ◌+◌, ◌<◌, ◌≤◌, List, [], ◌∷◌, ◌++◌, Bool, length, drop, get_or, append_assoc}
+use Rattle.open_calls.specs.kernel_rules.proofs.{append-nil, refl, sym, ◌∙◌, ap, subst, arith, drop_more, Setting, Call, Reply}
+use Rattle.history_options.specs.{core_replies, below_replies}
+use Rattle.history_options.specs.{declared.forms.Form.Form, Forms.with_form, Options.GoesOn, Options.option_of, Options.AreOptions}
+use Rattle.{std.proofs.lemmas.List.drop_all, marked_history.specs.declared.marks.Line.Line, history_options.specs.Options.AddsOptions}
 
 -- four texts after one another
 pub four_more : (old a b c d first second third fourth : List ℕ) → first ≡ old ++ a → second ≡ first ++ b → third ≡ second ++ c

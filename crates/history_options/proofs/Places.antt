@@ -1,47 +1,26 @@
 -- Where a line stands, the judge there, and what is told of it.
-use Rattle.std.proofs.Common.{◌≡◌, ℕ, ◌+◌, ◌^◌, ◌<◌, ◌≤◌, List, [], ◌∷◌, ◌++◌, reverse, take, drop, length, get_or}
-use Rattle.std.proofs.Common.{if◌then◌else◌, refl, sym, ◌∙◌, ap, subst, arith, append_assoc, inr}
-use Rattle.std.proofs.lemmas.Bool.{eq-eqb}
-use Rattle.std.proofs.lemmas.List.{reverse-append, length-append, length-reverse, length-take-le, take-append-drop, drop_more}
+use Rattle.open_calls.specs.kernel_rules.proofs.{◌≡◌, ℕ, ◌+◌, ◌^◌, ◌<◌, ◌≤◌, List, [], ◌∷◌, ◌++◌, reverse, take, drop, length, get_or}
+use Rattle.open_calls.specs.kernel_rules.proofs.{if◌then◌else◌, refl, sym, ◌∙◌, ap, subst, arith, append_assoc, inr, eq-eqb, reverse-append}
+use Rattle.open_calls.specs.kernel_rules.proofs.{length-append, length-reverse, length-take-le, drop_more, Setting, IsSetting, Call, Reply}
+use Rattle.open_calls.specs.kernel_rules.proofs.{Limits, Phase, Out, Open, Decided, alone}
+use Rattle.marked_history.specs.{events_of, phase, state, marks_of, entered, AreHistory, SaidFits, LinesFit}
+use Rattle.history_check.specs.{at_of, seen_of, IsJudge, HasCome, BreaksAfter}
+use Rattle.open_calls.specs.seq_state.proofs.{limits_stay, state_of}
 use Rattle.std.proofs.lemmas.List.Elements.{All-nil, All-cons, All-append, All-get_or, All-take}
-use Rattle.spk_nums.specs.Setting.{Setting, IsSetting}
-use Rattle.spk_nums.specs.declared.calls.Call.{Call}
-use Rattle.spk_nums.specs.declared.replies.Reply.{Reply}
-use Rattle.kernel_rules.specs.State.{Limits}
-use Rattle.kernel_rules.specs.Runs.{Phase, Out, Open, Decided}
-use Rattle.kernel_rules.specs.Alone.{alone}
-use Rattle.kernel_invariant.proofs.SoundRuns.{limits_stay}
-use Rattle.seq_state.specs.Maps.{state_of}
-use Rattle.open_calls.specs.declared.outlooks.Outlook.{Outlook}
-use Rattle.open_calls.specs.Leads.{names_text}
-use Rattle.open_calls.specs.Outlooks.{IsOutlook, IsOutlookWhere}
-use Rattle.marked_history.specs.declared.marks.Mark.{Mark}
-use Rattle.marked_history.specs.declared.marks.Mark.TheVariants.{Enter, Decide, Return}
-use Rattle.marked_history.specs.declared.marks.Said.{Said}
-use Rattle.marked_history.specs.declared.marks.Said.TheVariants.{One, Whole as whole_line}
-use Rattle.marked_history.specs.declared.marks.Line.{Line}
-use Rattle.marked_history.specs.declared.marks.Why.{Why}
-use Rattle.marked_history.specs.declared.marks.Verdict.TheVariants.{Illegal}
-use Rattle.marked_history.specs.Histories.{events_of, phase, state}
-use Rattle.marked_history.specs.Verdicts.{marks_of, entered, AreHistory, SaidFits, LinesFit}
-use Rattle.marked_history.proofs.Running.{histories_run}
-use Rattle.check_run.specs.Texts.{verdict_text}
-use Rattle.history_check.specs.declared.judge.Judge.{Judge}
-use Rattle.history_check.specs.declared.seen.Seen.{Seen}
-use Rattle.history_check.specs.Judging.{at_of, no_one, seen_of, AtFits, IsJudge, HasCome}
-use Rattle.history_check.specs.Findings.{BreaksAfter}
-use Rattle.history_check.proofs.Lines.{few_entered}
-use Rattle.history_options.specs.declared.forms.Form.{Form}
+use Rattle.open_calls.specs.{declared.outlooks.Outlook.Outlook, Leads.names_text, Outlooks.IsOutlook, Outlooks.IsOutlookWhere}
+use Rattle.marked_history.specs.{declared.marks.Mark.Mark, declared.marks.Mark.TheVariants.Enter, declared.marks.Mark.TheVariants.Decide}
+use Rattle.marked_history.specs.{declared.marks.Mark.TheVariants.Return, declared.marks.Said.Said, declared.marks.Said.TheVariants.One}
+use Rattle.marked_history.specs.{declared.marks.Said.TheVariants.Whole as whole_line, declared.marks.Line.Line, declared.marks.Why.Why}
+use Rattle.history_check.specs.{declared.judge.Judge.Judge, declared.seen.Seen.Seen, Judging.no_one, Judging.AtFits}
+use Rattle.history_options.specs.{declared.forms.Form.Form, declared.forms.Place.Place, declared.forms.Place.TheVariants.Without}
+use Rattle.history_options.specs.{declared.forms.Place.TheVariants.Done, declared.forms.Place.TheVariants.During, Forms.core_of}
+use Rattle.history_options.specs.{Forms.place_of, Forms.marks_at, Forms.lines_at, Forms.CanDecide, Forms.DecidesAt, Replies.replies_of}
+use Rattle.history_options.specs.{Texts.said_line, Options.AreOptions, Options.AddsOptions, Advice.out_text, Advice.done_text}
+use Rattle.history_options.specs.{Advice.finding_text, Advice.found_text, Advice.IsAdviceAt, Advice.place_after, Advice.Adds}
+use Rattle.history_options.specs.{Advice.AddsCallAdvice, Advice.AddsAdvice, Told.TellsBreak, Told.IsHistoryTold}
+use Rattle.{std.proofs.lemmas.List.take-append-drop, marked_history.specs.declared.marks.Verdict.TheVariants.Illegal}
+use Rattle.{marked_history.proofs.Running.histories_run, check_run.specs.Texts.verdict_text, history_check.proofs.Lines.few_entered}
 use Rattle.history_options.specs.declared.forms.Form.TheVariants as form
-use Rattle.history_options.specs.declared.forms.Place.{Place}
-use Rattle.history_options.specs.declared.forms.Place.TheVariants.{Without, Done, During}
-use Rattle.history_options.specs.Forms.{core_of, place_of, marks_at, lines_at, CanDecide, DecidesAt}
-use Rattle.history_options.specs.Replies.{replies_of}
-use Rattle.history_options.specs.Texts.{said_line}
-use Rattle.history_options.specs.Options.{AreOptions, AddsOptions}
-use Rattle.history_options.specs.Advice.{out_text, done_text, finding_text, found_text, IsAdviceAt, place_after}
-use Rattle.history_options.specs.Advice.{Adds, AddsCallAdvice, AddsAdvice}
-use Rattle.history_options.specs.Told.{TellsBreak, IsHistoryTold}
 
 -- ---- lines with one more
 

@@ -1,25 +1,12 @@
 -- What may stand in the place of a line.
-use Rattle.std.specs.Prelude.{◌≡◌, ℕ, ◌+◌, Bool, true, false, List, ◌++◌, reverse, codes, decimal, string_bytes}
-use Rattle.spk_nums.specs.Setting.{Setting}
-use Rattle.spk_nums.specs.Texts.{call_text, reply_text}
-use Rattle.spk_nums.specs.declared.calls.Call.{Call}
-use Rattle.spk_nums.specs.declared.replies.Reply.{Reply}
-use Rattle.spk_nums.specs.declared.replies.Reply.TheVariants as reply
-use Rattle.kernel_rules.specs.State.{State}
-use Rattle.kernel_rules.specs.Alone.{alone}
-use Rattle.open_calls.specs.declared.outlooks.Outlook.{Outlook}
-use Rattle.open_calls.specs.Leads.{names_text}
-use Rattle.open_calls.specs.Told.{told}
-use Rattle.marked_history.specs.declared.marks.Line.{Line}
-use Rattle.marked_history.specs.Histories.{phase, state}
-use Rattle.marked_history.specs.Verdicts.{marks_of, entered}
-use Rattle.history_check.specs.Judging.{at_of}
-use Rattle.history_options.specs.declared.forms.Form.{Form}
-use Rattle.history_options.specs.declared.forms.Place.{Place}
-use Rattle.history_options.specs.declared.forms.Place.TheVariants.{Without, Done, During}
-use Rattle.history_options.specs.Forms.{core_of, place_of, marks_at}
-use Rattle.history_options.specs.Replies.{replies_of}
-use Rattle.history_options.specs.Options.{AreOptions}
+use Rattle.open_calls.specs.seq_state.specs.{◌≡◌, ℕ, ◌+◌, Bool, true, false, List, ◌++◌, reverse, codes, decimal, string_bytes, Setting}
+use Rattle.open_calls.specs.seq_state.specs.{reply_text, Call, Reply, State, alone}
+use Rattle.marked_history.specs.{phase, state, marks_of, entered}
+use Rattle.open_calls.specs.{declared.outlooks.Outlook.Outlook, Leads.names_text, Told.told}
+use Rattle.history_options.specs.{declared.forms.Form.Form, declared.forms.Place.Place, declared.forms.Place.TheVariants.Without}
+use Rattle.history_options.specs.{declared.forms.Place.TheVariants.Done, declared.forms.Place.TheVariants.During, Forms.core_of}
+use Rattle.history_options.specs.{Forms.place_of, Forms.marks_at, Replies.replies_of, Options.AreOptions}
+use Rattle.{spk_nums.specs.Texts.call_text, marked_history.specs.declared.marks.Line.Line, history_check.specs.Judging.at_of}
 
 -- where the core is in no call: this is the number of its next one
 abbrev pub out_text : ℕ → ℕ → List ℕ
@@ -36,7 +23,7 @@ in_text c call = codes "core " ++ decimal c ++ codes " is in " ++ call_text call
 
 -- whether a reply is no refusal
 abbrev pub is_ok : Reply → Bool
-is_ok (reply.Ok v) = true
+is_ok (Reply.Ok v) = true
 is_ok _ = false
 
 -- what is said before the first reply in order

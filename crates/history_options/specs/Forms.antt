@@ -1,21 +1,12 @@
 -- Where a line stands, and how a reply is written in its place.
-use Rattle.std.specs.Prelude.{◌≡◌, ◌<◌, ℕ, List, [], ◌∷◌, ◌++◌}
-use Rattle.spk_nums.specs.CallLimits.{InLimits}
-use Rattle.spk_nums.specs.declared.calls.Call.{Call}
-use Rattle.spk_nums.specs.declared.replies.Reply.{Reply}
-use Rattle.kernel_rules.specs.Runs.{Out as out, Open}
-use Rattle.marked_history.specs.declared.marks.Mark.{Mark}
-use Rattle.marked_history.specs.declared.marks.Mark.TheVariants.{Enter, Decide, Return}
-use Rattle.marked_history.specs.declared.marks.Said.{Said}
-use Rattle.marked_history.specs.declared.marks.Said.TheVariants.{One, Whole as whole_line}
-use Rattle.marked_history.specs.declared.marks.Line.{Line}
-use Rattle.marked_history.specs.Histories.{phase}
+use Rattle.open_calls.specs.seq_state.specs.{◌≡◌, ◌<◌, ℕ, List, [], ◌∷◌, ◌++◌, InLimits, Call, Reply, Out as out, Open}
+use Rattle.marked_history.specs.{declared.marks.Mark.Mark, declared.marks.Mark.TheVariants.Enter, declared.marks.Mark.TheVariants.Decide}
+use Rattle.marked_history.specs.{declared.marks.Mark.TheVariants.Return, declared.marks.Said.Said, declared.marks.Said.TheVariants.One}
+use Rattle.marked_history.specs.{declared.marks.Said.TheVariants.Whole as whole_line, declared.marks.Line.Line, Histories.phase}
 use Rattle.history_check.specs.declared.seen.At.{At}
-use Rattle.history_check.specs.declared.seen.At.TheVariants as at
-use Rattle.history_options.specs.declared.forms.Form.{Form}
-use Rattle.history_options.specs.declared.forms.Form.TheVariants.{Decided, Whole}
-use Rattle.history_options.specs.declared.forms.Place.{Place}
-use Rattle.history_options.specs.declared.forms.Place.TheVariants.{Without, Done, During}
+use Rattle.history_options.specs.{declared.forms.Form.Form, declared.forms.Form.TheVariants.Decided, declared.forms.Form.TheVariants.Whole}
+use Rattle.history_options.specs.{declared.forms.Place.Place, declared.forms.Place.TheVariants.Without}
+use Rattle.history_options.specs.{declared.forms.Place.TheVariants.Done, declared.forms.Place.TheVariants.During}
 
 -- the core of a line
 abbrev pub core_of : Said → ℕ
@@ -27,10 +18,10 @@ core_of (whole_line c i call r) = c
 -- where a line stands, by where its core is, and the number of that core's next call: a reply would decide the call that is open, or that
 -- of a line that makes one whole
 abbrev pub place_of : Said → At → ℕ → Place
-place_of said (at.Open call) next = During call Decided
-place_of said at.Decided next = Done
-place_of (One m) at.Out next = Without next
-place_of (whole_line c i call r) at.Out next = During call (Whole next)
+place_of said (At.Open call) next = During call Decided
+place_of said At.Decided next = Done
+place_of (One m) At.Out next = Without next
+place_of (whole_line c i call r) At.Out next = During call (Whole next)
 
 -- the line with a reply to a call of core c
 abbrev pub with_form : ℕ → Call → Form → Reply → Said

@@ -1,16 +1,8 @@
 -- The lines that may stand in the place of one.
-use Rattle.std.specs.Prelude.{◌≡◌, ℕ, List, [], ◌∷◌, ◌++◌, Bool, true, false, if◌then◌else◌}
-use Rattle.spk_nums.specs.Setting.{Setting}
-use Rattle.spk_nums.specs.declared.calls.Call.{Call}
-use Rattle.spk_nums.specs.declared.replies.Reply.{Reply}
-use Rattle.marked_history.specs.declared.marks.Said.{Said}
-use Rattle.marked_history.specs.declared.marks.Line.{Line}
-use Rattle.marked_history.specs.declared.marks.Verdict.{Verdict}
-use Rattle.marked_history.specs.declared.marks.Verdict.TheVariants.{Legal, Illegal}
-use Rattle.marked_history.specs.Verdicts.{IsVerdict}
-use Rattle.history_options.specs.declared.forms.Form.{Form}
-use Rattle.history_options.specs.Forms.{with_form}
-use Rattle.history_options.specs.Texts.{said_line}
+use Rattle.open_calls.specs.seq_state.specs.{◌≡◌, ℕ, List, [], ◌∷◌, ◌++◌, Bool, true, false, if◌then◌else◌, Setting, Call, Reply}
+use Rattle.marked_history.specs.{declared.marks.Said.Said, declared.marks.Line.Line, declared.marks.Verdict.Verdict}
+use Rattle.marked_history.specs.{declared.marks.Verdict.TheVariants.Legal, declared.marks.Verdict.TheVariants.Illegal, Verdicts.IsVerdict}
+use Rattle.history_options.specs.{declared.forms.Form.Form, Forms.with_form, Texts.said_line}
 
 abbrev pub is_legal : Verdict → Bool
 is_legal (Legal decided) = true

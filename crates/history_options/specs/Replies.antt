@@ -1,11 +1,9 @@
 -- The replies that are tried.
-use Rattle.std.specs.Prelude.{ℕ, zero, suc, List, [], ◌∷◌, ◌++◌, Option, Some, None}
-use Rattle.spk_nums.specs.declared.replies.Reply.{Reply}
-use Rattle.spk_nums.specs.declared.replies.Reply.TheVariants as reply
+use Rattle.open_calls.specs.seq_state.specs.{ℕ, zero, suc, List, [], ◌∷◌, ◌++◌, Option, Some, None, Reply}
 
 -- a reply that is no refusal, alone
 abbrev pub ok_of : Reply → List Reply
-ok_of (reply.Ok v) = reply.Ok v ∷ []
+ok_of (Reply.Ok v) = Reply.Ok v ∷ []
 ok_of _ = []
 
 -- a reply, if there is one
@@ -15,13 +13,13 @@ listed (Some r) = r ∷ []
 
 -- the refusals that are names alone
 abbrev pub plain_replies : List Reply
-plain_replies = reply.NoSlot ∷ reply.Empty ∷ reply.WrongCap ∷ reply.NoRight ∷ reply.Occupied ∷ reply.FrameKind ∷ reply.OutOfRange
-    ∷ reply.NotEmpty ∷ reply.Dead ∷ reply.Deep ∷ reply.Bottom ∷ reply.Unlike ∷ reply.TooMany ∷ reply.Same ∷ reply.EpochsSpent
-    ∷ reply.Raced ∷ reply.Fault ∷ reply.CallsSpent ∷ []
+plain_replies = Reply.NoSlot ∷ Reply.Empty ∷ Reply.WrongCap ∷ Reply.NoRight ∷ Reply.Occupied ∷ Reply.FrameKind ∷ Reply.OutOfRange
+    ∷ Reply.NotEmpty ∷ Reply.Dead ∷ Reply.Deep ∷ Reply.Bottom ∷ Reply.Unlike ∷ Reply.TooMany ∷ Reply.Same ∷ Reply.EpochsSpent
+    ∷ Reply.Raced ∷ Reply.Fault ∷ Reply.CallsSpent ∷ []
 
 -- the replies that name this core
 abbrev pub core_replies : ℕ → List Reply
-core_replies c = reply.Quiescing c ∷ reply.Unflushed c ∷ reply.Running c ∷ reply.Busy c ∷ []
+core_replies c = Reply.Quiescing c ∷ Reply.Unflushed c ∷ Reply.Running c ∷ Reply.Busy c ∷ []
 
 -- those of each core below this number
 abbrev pub below_replies : ℕ → List Reply

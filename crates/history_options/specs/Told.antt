@@ -1,13 +1,8 @@
 -- All that is told of a given history.
-use Rattle.std.specs.Prelude.{◌≡◌, ◌⊎◌, ℕ, List, ◌∷◌, ◌++◌, reverse}
-use Rattle.spk_nums.specs.Setting.{Setting}
-use Rattle.marked_history.specs.declared.marks.Line.{Line}
-use Rattle.marked_history.specs.declared.marks.Why.{Why}
-use Rattle.marked_history.specs.declared.marks.Verdict.TheVariants.{Legal, Illegal}
-use Rattle.marked_history.specs.Verdicts.{marks_of, AreHistory, LineBreaks, AreLegal}
-use Rattle.check_run.specs.Texts.{verdict_text}
-use Rattle.history_options.specs.Texts.{said_line}
-use Rattle.history_options.specs.Advice.{IsAdvice}
+use Rattle.open_calls.specs.seq_state.specs.{◌≡◌, ◌⊎◌, ℕ, List, ◌∷◌, ◌++◌, reverse, Setting}
+use Rattle.marked_history.specs.{marks_of, AreHistory, LineBreaks, AreLegal, declared.marks.Line.Line, declared.marks.Why.Why}
+use Rattle.{marked_history.specs.declared.marks.Verdict.TheVariants.Legal, marked_history.specs.declared.marks.Verdict.TheVariants.Illegal}
+use Rattle.{check_run.specs.Texts.verdict_text, history_options.specs.Texts.said_line, history_options.specs.Advice.IsAdvice}
 
 -- the text tells of a line after these, with which no history goes on: the verdict, the line, and what may stand there
 pub record TellsBreak (setting : Setting) (before : List Line) (line : Line) (w : Why) (text : List ℕ) : Type 0 where

@@ -1,25 +1,15 @@
 -- A given history has no more lines than its bytes have words.
-use Rattle.std.proofs.Common.{◌≡◌, ℕ, ◌+◌, ◌≤◌, List, length, IfOk, Result, Ok, Err, ap, arith, inl, inr}
-use Rattle.std.specs.Prelude.{slice_get}
-use Rattle.std.specs.Option.{ok_or, option_and_then}
-use Rattle.std.proofs.lemmas.Bool.{cases_Bool}
-use Rattle.std.proofs.lemmas.List.{length_push}
-use Rattle.script_tokens.specs.Words.{words_of, ending_of}
-use Rattle.line_reader.specs.declared.cause.Cause.{Cause}
-use Rattle.line_reader.specs.declared.cause.Cause.TheVariants.{S2, S7}
-use Rattle.line_reader.specs.declared.cause.ReadFault.{ReadFault}
-use Rattle.line_reader.specs.Lines.{Row, rows_of, Gives}
-use Rattle.line_reader.proofs.LineSteps.{lines_keep}
-use Rattle.line_reader.proofs.Judged.{judged_is, read_is, bind_ok, then_ok, at_line_ok}
-use Rattle.line_reader.proofs.Rows.{few_rows}
-use Rattle.script_reader.specs.Heads.{is_whole}
-use Rattle.script_reader.specs.Readings.{draft_behind, meaning_at}
-use Rattle.history_reader.specs.declared.lines.LineWord.{LineWord}
+use Rattle.std.proofs.Common.{◌≡◌, ℕ, ◌+◌, ◌≤◌, List, length, IfOk, Result, Ok, Err, ap, arith, inl, inr, slice_get, ok_or, option_and_then}
+use Rattle.history_reader.specs.{line_word, History_draft, no_history, line_behind, lines_from, History, history_of}
+use Rattle.line_reader.proofs.{lines_keep, judged_is, read_is, bind_ok, then_ok, at_line_ok, few_rows}
+use Rattle.line_reader.specs.{declared.cause.Cause.Cause, declared.cause.Cause.TheVariants.S2, declared.cause.Cause.TheVariants.S7}
+use Rattle.history_reader.specs.{declared.lines.LineWord.LineWord, declared.reading.GivenHistory.GivenHistory, Lines.said_by}
+use Rattle.history_reader.specs.{Inputs.is_empty, Inputs.head_line, Inputs.with_said, Inputs.given_line, Inputs.line_by, Inputs.line_step}
+use Rattle.{script_reader.specs.is_whole, script_reader.specs.draft_behind, script_reader.specs.meaning_at, line_reader.specs.Row}
+use Rattle.{line_reader.specs.rows_of, line_reader.specs.Gives, script_tokens.specs.words_of, script_tokens.specs.ending_of}
+use Rattle.{std.proofs.lemmas.Bool.cases_Bool, std.proofs.lemmas.List.length_push, line_reader.specs.declared.cause.ReadFault.ReadFault}
+use Rattle.{history_reader.specs.Inputs.history_at, history_reader.specs.Inputs.history_view}
 use Rattle.history_reader.specs.declared.lines.LineWord.TheVariants as known
-use Rattle.history_reader.specs.declared.reading.GivenHistory.{GivenHistory}
-use Rattle.history_reader.specs.Lines.{line_word, said_by}
-use Rattle.history_reader.specs.Inputs.{History_draft, no_history, is_empty, head_line, with_said, given_line, line_by, line_behind}
-use Rattle.history_reader.specs.Inputs.{line_step, lines_from, History, history_at, history_of, history_view}
 
 not_ok : (c : Cause) (e : History_draft) → Err c ≡ Ok e → ⊥
 not_ok c e is = cc

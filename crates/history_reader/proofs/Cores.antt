@@ -1,12 +1,7 @@
 -- A core that is read is below the number of cores.
-use Rattle.std.proofs.Common.{◌≡◌, ℕ, ◌<◌, Bool, true, false, List, Result, Ok, Err, refl, sym, subst, nat_lt, if◌then◌else◌}
-use Rattle.std.specs.Option.{ok_or}
-use Rattle.std.proofs.lemmas.Bool.{ltb-true}
-use Rattle.line_reader.specs.declared.cause.Cause.{Cause}
-use Rattle.line_reader.specs.declared.cause.Cause.TheVariants.{S1, S6}
-use Rattle.line_reader.specs.Causes.{◌>>=◌}
-use Rattle.line_reader.specs.Numerals.{number_of}
-use Rattle.line_reader.specs.Arguments.{word_at, core_at}
+use Rattle.std.proofs.Common.{◌≡◌, ℕ, ◌<◌, Bool, true, false, List, Result, Ok, Err, refl, sym, subst, nat_lt, if◌then◌else◌, ok_or}
+use Rattle.line_reader.specs.{◌>>=◌, number_of, core_at, declared.cause.Cause.Cause, declared.cause.Cause.TheVariants.S1}
+use Rattle.{std.proofs.Common.ltb-true, line_reader.specs.declared.cause.Cause.TheVariants.S6, line_reader.specs.Arguments.word_at}
 
 abbrev judged : ℕ → Result ℕ Cause
 judged n = Ok n

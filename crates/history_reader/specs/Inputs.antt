@@ -1,23 +1,13 @@
 -- A given history as a whole: the lines of the bytes, one after another, and the end.
-use Rattle.std.specs.Prelude.{ℕ, List, [], ◌∷◌, ◌++◌, Bool, true, false, Result, Ok, Err, slice_get, if◌then◌else◌}
-use Rattle.std.specs.Option.{ok_or, option_and_then}
-use Rattle.spk_nums.specs.Setting.{Setting}
-use Rattle.script_tokens.specs.declared.scanning.Ending.{Ending}
-use Rattle.script_tokens.specs.Words.{words_of, ending_of}
-use Rattle.line_reader.specs.declared.cause.Cause.{Cause}
-use Rattle.line_reader.specs.declared.cause.Cause.TheVariants.{S2, S7}
-use Rattle.line_reader.specs.Causes.{◌>>=◌}
-use Rattle.line_reader.specs.Lines.{Row, rows_of, First_fault, at_line, and_then, Step, lines_from as all_lines_from}
-use Rattle.script_reader.specs.Heads.{is_whole}
-use Rattle.script_reader.specs.Readings.{Draft_of, no_draft, draft_behind, meaning_at, IsDraft, draft_view}
-use Rattle.marked_history.specs.declared.marks.Said.{Said}
-use Rattle.marked_history.specs.declared.marks.Line.{Line}
-use Rattle.marked_history.specs.Verdicts.{LinesFit}
-use Rattle.history_reader.specs.declared.lines.LineWord.{LineWord}
-use Rattle.history_reader.specs.declared.lines.LineWord.TheVariants as known
-use Rattle.history_reader.specs.declared.draft.HistoryDraft.{HistoryDraft}
-use Rattle.history_reader.specs.declared.reading.GivenHistory.{GivenHistory}
-use Rattle.history_reader.specs.Lines.{line_word, said_by}
+use Rattle.std.specs.Prelude.{ℕ, List, [], ◌∷◌, ◌++◌, Bool, true, false, Result, Ok, Err, slice_get, if◌then◌else◌, ok_or, option_and_then}
+use Rattle.line_reader.specs.{◌>>=◌, Row, rows_of, First_fault, at_line, and_then, Step, lines_from as all_lines_from}
+use Rattle.script_reader.specs.{is_whole, Draft_of, no_draft, draft_behind, meaning_at, IsDraft, draft_view}
+use Rattle.script_tokens.specs.{words_of, ending_of}
+use Rattle.line_reader.specs.{declared.cause.Cause.Cause, declared.cause.Cause.TheVariants.S2, declared.cause.Cause.TheVariants.S7}
+use Rattle.marked_history.specs.{declared.marks.Said.Said, declared.marks.Line.Line, Verdicts.LinesFit}
+use Rattle.history_reader.specs.{declared.lines.LineWord.LineWord, declared.draft.HistoryDraft.HistoryDraft}
+use Rattle.history_reader.specs.{declared.reading.GivenHistory.GivenHistory, Lines.line_word, Lines.said_by}
+use Rattle.{spk_nums.specs.Setting.Setting, script_tokens.specs.declared.scanning.Ending.Ending}
 
 -- ---- lines
 
@@ -51,7 +41,7 @@ given_line d number words w =
     else Err S7
 
 abbrev pub line_by : History_draft → ℕ → List (List ℕ) → LineWord → Result History_draft Cause
-line_by d number words known.Head = head_line d words
+line_by d number words LineWord.Head = head_line d words
 line_by d number words w = given_line d number words w
 
 -- the draft after a line: its first word is judged for S2, then S7, and then what comes after it

@@ -1,33 +1,23 @@
 -- The lines of a given history, after the head.
-use Rattle.std.specs.Prelude.{ℕ, ◌+◌, ◌==◌, nat_lt, ◌&&◌, List, [], ◌∷◌, take, drop, Bool, true, false, Option, Some, None}
-use Rattle.std.specs.Prelude.{Result, Ok, Err, codes, if◌then◌else◌}
-use Rattle.std.specs.Option.{ok_or}
-use Rattle.spk_nums.specs.declared.calls.Call.{Call}
-use Rattle.line_reader.specs.declared.cause.Cause.{Cause}
-use Rattle.line_reader.specs.declared.cause.Cause.TheVariants.{S1, S2, S6}
-use Rattle.line_reader.specs.Causes.{◌>>=◌}
-use Rattle.line_reader.specs.Numerals.{is_digits, number_of}
-use Rattle.line_reader.specs.Arguments.{is_word, word_at, core_at, end_at}
-use Rattle.call_reader.specs.declared.first_words.FirstWord.{FirstWord}
-use Rattle.call_reader.specs.declared.first_words.FirstWord.TheVariants as first
-use Rattle.call_reader.specs.FirstWords.{first_word}
-use Rattle.call_reader.specs.CallLines.{call_line}
-use Rattle.call_reader.specs.OneLine.{verb_at}
+use Rattle.std.specs.Prelude.{ℕ, ◌+◌, ◌==◌, nat_lt, ◌&&◌, List, [], ◌∷◌, take, drop, Bool, true, false, Option, Some, None, Result, Ok, Err}
+use Rattle.std.specs.Prelude.{codes, if◌then◌else◌, ok_or}
+use Rattle.line_reader.specs.{◌>>=◌, number_of, core_at}
+use Rattle.line_reader.specs.{declared.cause.Cause.Cause, declared.cause.Cause.TheVariants.S1, declared.cause.Cause.TheVariants.S2}
+use Rattle.line_reader.specs.{declared.cause.Cause.TheVariants.S6, Numerals.is_digits, Arguments.is_word, Arguments.word_at}
+use Rattle.call_reader.specs.{declared.first_words.FirstWord.FirstWord, FirstWords.first_word, CallLines.call_line, OneLine.verb_at}
 use Rattle.marked_history.specs.declared.marks.Mark.TheVariants.{Enter, Decide, Return}
-use Rattle.marked_history.specs.declared.marks.Said.{Said}
 use Rattle.marked_history.specs.declared.marks.Said.TheVariants.{One, Whole}
-use Rattle.history_reader.specs.declared.lines.LineWord.{LineWord}
-use Rattle.history_reader.specs.declared.lines.LineWord.TheVariants as known
-use Rattle.history_reader.specs.Replies.{reply_of}
+use Rattle.history_reader.specs.{declared.lines.LineWord.LineWord, Replies.reply_of}
+use Rattle.{spk_nums.specs.declared.calls.Call.Call, line_reader.specs.Arguments.end_at, marked_history.specs.declared.marks.Said.Said}
 
 -- ---- first words
 
 -- the words of the head of a script
 abbrev pub is_of_head : Option FirstWord → Bool
 is_of_head None = false
-is_of_head (Some first.Core) = false
-is_of_head (Some first.Order) = false
-is_of_head (Some (first.Call verb)) = false
+is_of_head (Some FirstWord.Core) = false
+is_of_head (Some FirstWord.Order) = false
+is_of_head (Some (FirstWord.Call verb)) = false
 is_of_head (Some w) = true
 
 -- where the first dot of a word stands; its end where it has none
@@ -42,11 +32,11 @@ is_numbered word = is_digits (take (dot_at word) word) && is_digits (drop (dot_a
 -- the known first words; another is S2
 unfoldable pub line_word : List ℕ → Option LineWord
 line_word word =
-    if is_word word (codes "enter") then Some known.Enter
-    else (if is_word word (codes "decide") then Some known.Decide
-    else (if is_word word (codes "return") then Some known.Return
-    else (if is_numbered word then Some known.Whole
-    else (if is_of_head (first_word 1 word) then Some known.Head
+    if is_word word (codes "enter") then Some LineWord.Enter
+    else (if is_word word (codes "decide") then Some LineWord.Decide
+    else (if is_word word (codes "return") then Some LineWord.Return
+    else (if is_numbered word then Some LineWord.Whole
+    else (if is_of_head (first_word 1 word) then Some LineWord.Head
     else None))))
 
 -- ---- what a line says
@@ -109,8 +99,8 @@ whole_line version cores words = do
 
 -- what a line with this first word says; a line of the head says nothing of a history
 unfoldable pub said_by : ℕ → ℕ → List (List ℕ) → LineWord → Result Said Cause
-said_by version cores words known.Enter = enter_line version cores words
-said_by version cores words known.Decide = decide_line cores words
-said_by version cores words known.Return = return_line cores words
-said_by version cores words known.Whole = whole_line version cores words
-said_by version cores words known.Head = Err S2
+said_by version cores words LineWord.Enter = enter_line version cores words
+said_by version cores words LineWord.Decide = decide_line cores words
+said_by version cores words LineWord.Return = return_line cores words
+said_by version cores words LineWord.Whole = whole_line version cores words
+said_by version cores words LineWord.Head = Err S2

@@ -1,52 +1,41 @@
 -- Replies as they are written: a name, and what comes after it. A reply is the list of its words; its name is at 0.
-use Rattle.std.specs.Prelude.{ℕ, ◌+◌, nat_le, List, length, slice_get, Bool, false, Option, Some, None}
-use Rattle.std.specs.Prelude.{Result, Ok, Err, codes, if◌then◌else◌}
-use Rattle.std.specs.Option.{ok_or}
-use Rattle.spk_nums.specs.Rights.{least_rights}
-use Rattle.spk_nums.specs.declared.kinds.Kind.{Kind}
-use Rattle.spk_nums.specs.declared.kinds.Kind.TheVariants as kind
-use Rattle.spk_nums.specs.declared.replies.Value.{Value}
-use Rattle.spk_nums.specs.declared.replies.Value.TheVariants as value
-use Rattle.spk_nums.specs.declared.replies.Reply.{Reply}
-use Rattle.spk_nums.specs.declared.replies.Reply.TheVariants as reply
-use Rattle.line_reader.specs.declared.cause.Cause.{Cause}
-use Rattle.line_reader.specs.declared.cause.Cause.TheVariants.{S1, S2}
-use Rattle.line_reader.specs.Causes.{◌>>=◌}
-use Rattle.line_reader.specs.Numerals.{is_digits}
-use Rattle.line_reader.specs.Arguments.{is_word, word_at, number_at, core_at, end_at}
-use Rattle.history_reader.specs.declared.replies.ReplyName.{ReplyName}
-use Rattle.history_reader.specs.declared.replies.ReplyName.TheVariants as name
+use Rattle.std.specs.Prelude.{ℕ, ◌+◌, nat_le, List, length, slice_get, Bool, false, Option, Some, None, Result, Ok, Err, codes}
+use Rattle.spk_nums.specs.{Rights.least_rights, declared.kinds.Kind.Kind, declared.replies.Value.Value, declared.replies.Reply.Reply}
+use Rattle.line_reader.specs.{declared.cause.Cause.Cause, declared.cause.Cause.TheVariants.S1, declared.cause.Cause.TheVariants.S2}
+use Rattle.line_reader.specs.{Numerals.is_digits, Arguments.is_word, Arguments.word_at, Arguments.number_at, Arguments.end_at}
+use Rattle.{std.specs.Prelude.if◌then◌else◌, std.specs.Prelude.ok_or, line_reader.specs.◌>>=◌, line_reader.specs.core_at}
+use Rattle.{history_reader.specs.declared.replies.ReplyName.ReplyName}
 
 -- ---- values
 
 -- the kinds of capability
 unfoldable pub kind_of : List ℕ → Option Kind
 kind_of word =
-    if is_word word (codes "range") then Some kind.Range
-    else (if is_word word (codes "table") then Some kind.Table
-    else (if is_word word (codes "leaf") then Some kind.Leaf
-    else (if is_word word (codes "pages") then Some kind.Pages
-    else (if is_word word (codes "pleaf") then Some kind.Pleaf
-    else (if is_word word (codes "comp") then Some kind.Comp
-    else (if is_word word (codes "gate") then Some kind.Gate
-    else (if is_word word (codes "thread") then Some kind.Thread
-    else (if is_word word (codes "tcap") then Some kind.Tcap
-    else (if is_word word (codes "link") then Some kind.Link
-    else (if is_word word (codes "page") then Some kind.Page
+    if is_word word (codes "range") then Some Kind.Range
+    else (if is_word word (codes "table") then Some Kind.Table
+    else (if is_word word (codes "leaf") then Some Kind.Leaf
+    else (if is_word word (codes "pages") then Some Kind.Pages
+    else (if is_word word (codes "pleaf") then Some Kind.Pleaf
+    else (if is_word word (codes "comp") then Some Kind.Comp
+    else (if is_word word (codes "gate") then Some Kind.Gate
+    else (if is_word word (codes "thread") then Some Kind.Thread
+    else (if is_word word (codes "tcap") then Some Kind.Tcap
+    else (if is_word word (codes "link") then Some Kind.Link
+    else (if is_word word (codes "page") then Some Kind.Page
     else None))))))))))
 
 -- after `ok KIND F`: the number of a range, a gate or a page; the other kinds have none
 unfoldable pub arg_at : List (List ℕ) → Kind → Result ℕ Cause
-arg_at words kind.Range = number_at words 3 0 16777215
-arg_at words kind.Gate = number_at words 3 1 65535
-arg_at words kind.Page = number_at words 3 0 3
+arg_at words Kind.Range = number_at words 3 0 16777215
+arg_at words Kind.Gate = number_at words 3 1 65535
+arg_at words Kind.Page = number_at words 3 0 3
 arg_at words k = Ok 0
 
 -- where the rights of a capability stand, after its number if it has one
 abbrev pub rights_place : Kind → ℕ
-rights_place kind.Range = 4
-rights_place kind.Gate = 4
-rights_place kind.Page = 4
+rights_place Kind.Range = 4
+rights_place Kind.Gate = 4
+rights_place Kind.Page = 4
 rights_place k = 3
 
 -- a word is there, and it is this one
@@ -78,13 +67,13 @@ cap_at words k = do
   frame ← number_at words 2 0 511
   arg ← arg_at words k
   rights ← rights_at words (rights_place k) k
-  Ok (value.Cap (record { kind = k; frame = frame; arg = arg; rights = rights }))
+  Ok (Value.Cap (record { kind = k; frame = frame; arg = arg; rights = rights }))
 
 -- `ok N`: an amount of ticks
 unfoldable pub ticks_at : List (List ℕ) → Result Value Cause
 ticks_at words = do
   n ← number_at words 1 0 4294967295
-  Ok (value.Amount n)
+  Ok (Value.Amount n)
 
 -- `ok F W`: a page's frame and its flags
 unfoldable pub page_at : List (List ℕ) → Result Value Cause
@@ -92,7 +81,7 @@ page_at words = do
   frame ← number_at words 1 0 511
   flags ← number_at words 2 0 3
   done ← end_at words 3
-  Ok (value.Page frame (record { 0 = flags }))
+  Ok (Value.Page frame (record { 0 = flags }))
 
 -- `ok preempts` and `ok stays`
 unfoldable pub said_at : List (List ℕ) → Value → Result Value Cause
@@ -112,13 +101,13 @@ cap_if words (Some k) = cap_at words k
 -- a value that begins with another word
 unfoldable pub named_at : List (List ℕ) → List ℕ → Result Value Cause
 named_at words word =
-    if is_word word (codes "preempts") then said_at words value.Preempts
-    else (if is_word word (codes "stays") then said_at words value.Stays
+    if is_word word (codes "preempts") then said_at words Value.Preempts
+    else (if is_word word (codes "stays") then said_at words Value.Stays
     else cap_if words (kind_of word))
 
 -- by the word after `ok`, if there is one
 abbrev pub value_by : List (List ℕ) → Option (List ℕ) → Result Value Cause
-value_by words None = Ok value.Nothing
+value_by words None = Ok Value.Nothing
 value_by words (Some word) = if is_digits word then numbers_at words else named_at words word
 
 -- the value after `ok`
@@ -130,41 +119,41 @@ value_at words = value_by words (slice_get words 1)
 -- the names of replies, from `dead` on
 unfoldable pub later_name : List ℕ → Option ReplyName
 later_name word =
-    if is_word word (codes "dead") then Some (name.Plain reply.Dead)
-    else (if is_word word (codes "deep") then Some (name.Plain reply.Deep)
-    else (if is_word word (codes "bottom") then Some (name.Plain reply.Bottom)
-    else (if is_word word (codes "unlike") then Some (name.Plain reply.Unlike)
-    else (if is_word word (codes "too-many") then Some (name.Plain reply.TooMany)
-    else (if is_word word (codes "same") then Some (name.Plain reply.Same)
-    else (if is_word word (codes "epochs-spent") then Some (name.Plain reply.EpochsSpent)
-    else (if is_word word (codes "raced") then Some (name.Plain reply.Raced)
-    else (if is_word word (codes "fault") then Some (name.Plain reply.Fault)
-    else (if is_word word (codes "calls-spent") then Some (name.Plain reply.CallsSpent)
-    else (if is_word word (codes "no-right") then Some (name.Plain reply.NoRight)
+    if is_word word (codes "dead") then Some (ReplyName.Plain Reply.Dead)
+    else (if is_word word (codes "deep") then Some (ReplyName.Plain Reply.Deep)
+    else (if is_word word (codes "bottom") then Some (ReplyName.Plain Reply.Bottom)
+    else (if is_word word (codes "unlike") then Some (ReplyName.Plain Reply.Unlike)
+    else (if is_word word (codes "too-many") then Some (ReplyName.Plain Reply.TooMany)
+    else (if is_word word (codes "same") then Some (ReplyName.Plain Reply.Same)
+    else (if is_word word (codes "epochs-spent") then Some (ReplyName.Plain Reply.EpochsSpent)
+    else (if is_word word (codes "raced") then Some (ReplyName.Plain Reply.Raced)
+    else (if is_word word (codes "fault") then Some (ReplyName.Plain Reply.Fault)
+    else (if is_word word (codes "calls-spent") then Some (ReplyName.Plain Reply.CallsSpent)
+    else (if is_word word (codes "no-right") then Some (ReplyName.Plain Reply.NoRight)
     else None))))))))))
 
 -- the names of replies, from `no-slot` on
 unfoldable pub plain_name : List ℕ → Option ReplyName
 plain_name word =
-    if is_word word (codes "no-slot") then Some (name.Plain reply.NoSlot)
-    else (if is_word word (codes "empty") then Some (name.Plain reply.Empty)
-    else (if is_word word (codes "wrong-cap") then Some (name.Plain reply.WrongCap)
-    else (if is_word word (codes "occupied") then Some (name.Plain reply.Occupied)
-    else (if is_word word (codes "frame-kind") then Some (name.Plain reply.FrameKind)
-    else (if is_word word (codes "out-of-range") then Some (name.Plain reply.OutOfRange)
-    else (if is_word word (codes "not-empty") then Some (name.Plain reply.NotEmpty)
+    if is_word word (codes "no-slot") then Some (ReplyName.Plain Reply.NoSlot)
+    else (if is_word word (codes "empty") then Some (ReplyName.Plain Reply.Empty)
+    else (if is_word word (codes "wrong-cap") then Some (ReplyName.Plain Reply.WrongCap)
+    else (if is_word word (codes "occupied") then Some (ReplyName.Plain Reply.Occupied)
+    else (if is_word word (codes "frame-kind") then Some (ReplyName.Plain Reply.FrameKind)
+    else (if is_word word (codes "out-of-range") then Some (ReplyName.Plain Reply.OutOfRange)
+    else (if is_word word (codes "not-empty") then Some (ReplyName.Plain Reply.NotEmpty)
     else later_name word))))))
 
 -- the names of replies
 unfoldable pub reply_name : List ℕ → Option ReplyName
 reply_name word =
-    if is_word word (codes "ok") then Some name.Ok
-    else (if is_word word (codes "quiescing") then Some name.Quiescing
-    else (if is_word word (codes "unflushed") then Some name.Unflushed
-    else (if is_word word (codes "running") then Some name.Running
-    else (if is_word word (codes "busy") then Some name.Busy
-    else (if is_word word (codes "referenced") then Some name.Referenced
-    else (if is_word word (codes "short") then Some name.Short
+    if is_word word (codes "ok") then Some ReplyName.Ok
+    else (if is_word word (codes "quiescing") then Some ReplyName.Quiescing
+    else (if is_word word (codes "unflushed") then Some ReplyName.Unflushed
+    else (if is_word word (codes "running") then Some ReplyName.Running
+    else (if is_word word (codes "busy") then Some ReplyName.Busy
+    else (if is_word word (codes "referenced") then Some ReplyName.Referenced
+    else (if is_word word (codes "short") then Some ReplyName.Short
     else plain_name word))))))
 
 -- the core of a reply, and nothing after it
@@ -183,14 +172,14 @@ count_named words = do
 
 -- the reply of that name
 unfoldable pub reply_by : ℕ → List (List ℕ) → ReplyName → Result Reply Cause
-reply_by cores words name.Ok = value_at words >>= λ v. Ok (reply.Ok v)
-reply_by cores words name.Quiescing = core_named cores words >>= λ c. Ok (reply.Quiescing c)
-reply_by cores words name.Unflushed = core_named cores words >>= λ c. Ok (reply.Unflushed c)
-reply_by cores words name.Running = core_named cores words >>= λ c. Ok (reply.Running c)
-reply_by cores words name.Busy = core_named cores words >>= λ c. Ok (reply.Busy c)
-reply_by cores words name.Referenced = count_named words >>= λ n. Ok (reply.Referenced n)
-reply_by cores words name.Short = count_named words >>= λ n. Ok (reply.Short n)
-reply_by cores words (name.Plain r) = end_at words 1 >>= λ done. Ok r
+reply_by cores words ReplyName.Ok = value_at words >>= λ v. Ok (Reply.Ok v)
+reply_by cores words ReplyName.Quiescing = core_named cores words >>= λ c. Ok (Reply.Quiescing c)
+reply_by cores words ReplyName.Unflushed = core_named cores words >>= λ c. Ok (Reply.Unflushed c)
+reply_by cores words ReplyName.Running = core_named cores words >>= λ c. Ok (Reply.Running c)
+reply_by cores words ReplyName.Busy = core_named cores words >>= λ c. Ok (Reply.Busy c)
+reply_by cores words ReplyName.Referenced = count_named words >>= λ n. Ok (Reply.Referenced n)
+reply_by cores words ReplyName.Short = count_named words >>= λ n. Ok (Reply.Short n)
+reply_by cores words (ReplyName.Plain r) = end_at words 1 >>= λ done. Ok r
 
 -- the reply that words are: its name is judged for S3, then S2, and then what comes after it
 unfoldable pub reply_of : ℕ → List (List ℕ) → Result Reply Cause

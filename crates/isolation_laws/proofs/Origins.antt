@@ -1,29 +1,17 @@
 -- What a step puts has a parent; and the chains and the confinement of runs, said of traces.
-use Rattle.std.proofs.Common.{◌≡◌, ◌⊎◌, inl, inr, ℕ, true, refl, sym, ◌∙◌, ap, subst, List, [], ◌∷◌, ◌++◌, Option, Some, None}
-use Rattle.world_laws.specs.spk_nums.specs.Capability.{Capability}
-use Rattle.world_laws.specs.spk_nums.specs.declared.calls.Call.{Call}
-use Rattle.world_laws.specs.spk_nums.specs.declared.replies.Value.{Value}
-use Rattle.world_laws.specs.spk_nums.specs.declared.replies.Reply.{Reply}
-use Rattle.world_laws.specs.spk_nums.specs.declared.replies.Reply.TheVariants as reply
-use Rattle.world_laws.specs.kernel_rules.specs.State.{Place, Free, Holds, Quiescing, State}
-use Rattle.world_laws.specs.kernel_rules.specs.Rules.{Change, Judged, Refused, Found, IsFoundAnd}
-use Rattle.world_laws.specs.kernel_rules.specs.CallRelation.{rule_of, change_of, changed, state_by}
-use Rattle.world_laws.specs.kernel_rules.specs.Runs.{Event, Enters, Decides, Returns, after, IsRun}
-use Rattle.world_laws.specs.kernel_rules.proofs.Changes.{IfFound}
-use Rattle.world_laws.specs.kernel_invariant.proofs.Facts.{outcome_from}
-use Rattle.kernel_history.specs.Trace.{Trace, Phase, Out, Open, Decided, phase, after_enter, state_after}
-use Rattle.kernel_history.specs.Events.{with_entry, with_decision, with_return, events_of}
-use Rattle.kernel_history.proofs.Events.{entered_events, state_is, run_of}
-use Rattle.origin_rules.specs.declared.chains.Step.{Step as Way}
-use Rattle.origin_rules.specs.Chains.{origin_of, is_own}
-use Rattle.origin_rules.specs.Derived.{Gives}
-use Rattle.origin_rules.proofs.Placed.{Placed, call_placed, shown as shown_there}
-use Rattle.origin_rules.proofs.EachChain.{chains_are_real}
-use Rattle.origin_rules.proofs.Falling.{rights_only_fall}
-use Rattle.origin_laws.specs.Confined.{IsForeign, IsCovered}
-use Rattle.origin_laws.proofs.EachConfined.{cores_are_confined}
+use Rattle.kernel_history.proofs.{◌≡◌, ◌⊎◌, inl, inr, ℕ, true, refl, sym, ◌∙◌, ap, subst, List, [], ◌∷◌, ◌++◌, Option, Some, None}
+use Rattle.kernel_history.proofs.{Capability, Call, Value, Reply, Place, Free, Holds, Quiescing, State, Change, Judged, Found, IsFoundAnd}
+use Rattle.kernel_history.proofs.{rule_of, change_of, changed, state_by, Event, Enters, Decides, Returns, after, IsRun, IfFound, Phase, Out}
+use Rattle.kernel_history.proofs.{Decided, phase, after_enter, state_after, with_entry, with_decision, with_return, events_of}
+use Rattle.kernel_history.proofs.{entered_events, state_is, run_of}
+use Rattle.origin_laws.specs.origin_rules.specs.{origin_of, is_own, Gives}
+use Rattle.origin_laws.specs.origin_rules.proofs.{Placed.Placed, Placed.call_placed, Placed.shown as shown_there, EachChain.chains_are_real}
 use Rattle.isolation_laws.specs.Origins.{shown, PutsBy, StepsPutFalling, TracesHaveChains, StretchesConfine}
 use Rattle.isolation_laws.proofs.Steps.{OnlyCore, before, decided, into, out_of, Carrying, step_does, carried, at_decision}
+use Rattle.{origin_laws.specs.IsForeign, origin_laws.specs.IsCovered, world_laws.specs.kernel_laws.proofs.Refused}
+use Rattle.{world_laws.specs.kernel_laws.proofs.outcome_from, kernel_history.specs.Trace.Trace, kernel_history.specs.Trace.Open}
+use Rattle.{origin_laws.specs.origin_rules.specs.declared.chains.Step.Step as Way}
+use Rattle.{origin_laws.specs.origin_rules.proofs.Falling.rights_only_fall, origin_laws.proofs.EachConfined.cores_are_confined}
 
 -- ---- a step
 
@@ -44,7 +32,7 @@ ShowsBy s c call t = (f i : ℕ) (k : Capability) → shown (t.place f i) ≡ So
     → (shown (s.place f i) ≡ Some k) ⊎ IsGiven s c call k
 
 ok_shows : (s : State) (c : ℕ) (call : Call) (v : Value) → IsFoundAnd (change_of s c call) (λ change. change.value ≡ v)
-    → ShowsBy s c call (state_by s c call (reply.Ok v))
+    → ShowsBy s c call (state_by s c call (Reply.Ok v))
 ok_shows s c call v ok = by_outcome (change_of s c call) ok (outcome_from (Placed s c call) s c (rule_of s c call) (call_placed s c call))
   where
     by_outcome : (x : Judged Change) → IsFoundAnd x (λ change. change.value ≡ v) → IfFound x (Placed s c call)

@@ -1,9 +1,6 @@
 -- Each part of the state that a step changes is one that its core may change by the call that the step carries out.
-use Rattle.std.proofs.Common.{◌≡◌, ◌⊎◌, inl, inr, ◌∷◌}
-use Rattle.world_laws.specs.spk_nums.specs.declared.replies.Reply.TheVariants as reply
-use Rattle.kernel_history.specs.Trace.{state_after}
-use Rattle.kernel_history.proofs.Events.{entered_events}
-use Rattle.world_laws.specs.authority_laws.specs.Authority.{CoreIs, IsUnderOne, OwnBy, SamePart}
+use Rattle.kernel_history.proofs.{◌≡◌, ◌⊎◌, inl, inr, ◌∷◌, state_after, entered_events, Reply}
+use Rattle.world_laws.specs.authority_laws.specs.{CoreIs, IsUnderOne, OwnBy, SamePart}
 use Rattle.world_laws.specs.authority_laws.proofs.DecidedParts.{calls_change_their_own}
 use Rattle.isolation_laws.specs.Authority.{ChangesBy, StepsHaveAuthority}
 use Rattle.isolation_laws.proofs.Steps.{part_on, part_only, before, decided, into, out_of, Carrying, step_does, carried, at_decision}
@@ -22,7 +19,7 @@ steps_have_authority setup lim t e legal x = elim (step_does setup t e legal) [
         ⊎ (OwnBy k.call (before setup t e legal) e.core x ⊎ IsUnderOne k.call (before setup t e legal) e.core x)
     may k = at_decision setup t e legal
         (λ s u. SamePart s u x ⊎ (OwnBy k.call s e.core x ⊎ IsUnderOne k.call s e.core x)) k
-        (calls_change_their_own setup lim (entered_events t e) e.core k.call (reply.Ok k.value) k.run x)
+        (calls_change_their_own setup lim (entered_events t e) e.core k.call (Reply.Ok k.value) k.run x)
 
     by_call : Carrying setup t e legal
         → SamePart (state_after setup t) (state_after setup (e ∷ t)) x ⊎ ((x ≡ CoreIs e.core) ⊎ ChangesBy setup t e x)

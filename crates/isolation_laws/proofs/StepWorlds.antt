@@ -1,24 +1,13 @@
 -- A step of a core that works outside a sealed world leaves the world alone; and how a step brings its core into a world.
-use Rattle.std.proofs.Common.{◌≡◌, ◌≢◌, ◌⊎◌, inl, inr, ℕ, Bool, true, false, sym, ◌∙◌, ap, subst, ◌∷◌, Option, Some, None}
-use Rattle.std.proofs.lemmas.Bool.{false≢true}
-use Rattle.world_laws.specs.spk_nums.specs.Setting.{Setting, IsSetting}
-use Rattle.world_laws.specs.spk_nums.specs.declared.kinds.Kind.{Kind}
-use Rattle.world_laws.specs.spk_nums.specs.declared.calls.Call.{Call}
-use Rattle.world_laws.specs.spk_nums.specs.declared.replies.Reply.TheVariants as reply
-use Rattle.world_laws.specs.kernel_rules.specs.State.{Place, Frame, Liveness, State, comp_in, thread_in, first_of_stack}
-use Rattle.world_laws.specs.kernel_rules.specs.Life.{is_live_in}
-use Rattle.kernel_history.specs.Trace.{Step, Trace, state_after, state_entered}
-use Rattle.kernel_history.specs.Legal.{IsLegal}
-use Rattle.kernel_history.proofs.Events.{entered_events}
-use Rattle.world_laws.specs.authority_laws.specs.Authority.{Part, CoreIs, OwnBy, SamePart}
-use Rattle.world_laws.specs.Worlds.{works_in, lives_at, gates, IsSealed, LeavesAlone}
-use Rattle.world_laws.specs.Laws.{EntersBy, IsOf}
-use Rattle.world_laws.proofs.Entering.{entered_by}
-use Rattle.world_laws.proofs.Leaving.{outside_leaves, lent_alone}
-use Rattle.world_laws.proofs.Sealing.{sealed_entered}
+use Rattle.kernel_history.proofs.{◌≡◌, ◌≢◌, ◌⊎◌, inl, inr, ℕ, Bool, true, false, sym, ◌∙◌, ap, subst, ◌∷◌, Option, Some, None, false≢true}
+use Rattle.kernel_history.proofs.{Setting, IsSetting, Kind, Call, Place, Frame, Liveness, State, comp_in, thread_in, first_of_stack}
+use Rattle.kernel_history.proofs.{is_live_in, Step, state_after, state_entered, IsLegal, entered_events, Reply}
+use Rattle.world_laws.specs.{works_in, lives_at, gates, IsSealed, LeavesAlone, EntersBy, IsOf}
+use Rattle.world_laws.specs.authority_laws.specs.{Part, CoreIs, OwnBy, SamePart}
+use Rattle.world_laws.proofs.{Entering.entered_by, Leaving.outside_leaves, Leaving.lent_alone, Sealing.sealed_entered}
 use Rattle.isolation_laws.specs.Worlds.{SparesWorld, ComesIn, StepsSpareWorlds, StepsEnterWorlds}
 use Rattle.isolation_laws.proofs.Steps.{OnlyCore, part_on, part_only, before, decided, into, out_of, Carrying, step_does, carried}
-use Rattle.isolation_laws.proofs.Steps.{at_decision}
+use Rattle.{kernel_history.specs.Trace.Trace, isolation_laws.proofs.Steps.at_decision}
 
 -- ---- where at most a core is another
 
@@ -104,11 +93,11 @@ module _ (setup : Setting) (lim : IsSetting setup) (t : Trace) (e : Step) (legal
         alone = leaves_on w first from onto last e.core (into setup t e legal)
             (at_decision setup t e legal
             (λ s u. IsSealed w gates s → w (works_in s e.core) ≡ false → LeavesAlone w s u e.core) k
-            (outside_leaves setup lim (entered_events t e) e.core k.call (reply.Ok k.value) k.run w) sealed_from out_from)
+            (outside_leaves setup lim (entered_events t e) e.core k.call (Reply.Ok k.value) k.run w) sealed_from out_from)
             (out_of setup t e legal);
         lent = λ x of. elim (at_decision setup t e legal
             (λ s u. IsSealed w gates s → w (works_in s e.core) ≡ false → (x : Part) → IsOf w x → SamePart s u x ⊎ OwnBy k.call s e.core x) k
-            (lent_alone setup lim (entered_events t e) e.core k.call (reply.Ok k.value) k.run w) sealed_from out_from x of) [
+            (lent_alone setup lim (entered_events t e) e.core k.call (Reply.Ok k.value) k.run w) sealed_from out_from x of) [
               | inr own ↦ inr (record { done = carried setup t e legal k; own = own })
               | inl same ↦ elim (part_on first from onto last e.core (into setup t e legal) (out_of setup t e legal) x same) [
                 | inl stays ↦ inl stays
@@ -124,7 +113,7 @@ module _ (setup : Setting) (lim : IsSetting setup) (t : Trace) (e : Step) (legal
         done = carried setup t e legal k;
         by = at_decision setup t e legal
             (λ s u. w (works_in s e.core) ≡ false → w (works_in u e.core) ≡ true → EntersBy k.call w s e.core) k
-            (entered_by setup lim (entered_events t e) e.core k.call (reply.Ok k.value) k.run w) out_from
+            (entered_by setup lim (entered_events t e) e.core k.call (Reply.Ok k.value) k.run w) out_from
             (ap w (sym (works_only onto last e.core (out_of setup t e legal))) ∙ within);
       }
     ]

@@ -1,26 +1,13 @@
 -- What a step of a legal trace does to the state: of a decision that is carried out, what the sequential kernel says of it; of all else,
 -- at most that its core is another, which runs on the same.
-use Rattle.std.proofs.Common.{◌≡◌, ◌≢◌, ◌⊎◌, inl, inr, ℕ, ◌+◌, true, false, refl, sym, ◌∙◌, ap, subst, ◌∷◌, Option, Some, None}
-use Rattle.std.proofs.lemmas.Bool.{cases_eq}
-use Rattle.world_laws.specs.spk_nums.specs.Setting.{Setting}
-use Rattle.world_laws.specs.spk_nums.specs.declared.kinds.Kind.TheVariants as kind
-use Rattle.world_laws.specs.spk_nums.specs.declared.calls.Call.{Call}
-use Rattle.world_laws.specs.spk_nums.specs.declared.calls.Call.TheVariants.{Tick}
-use Rattle.world_laws.specs.spk_nums.specs.declared.replies.Value.{Value}
-use Rattle.world_laws.specs.spk_nums.specs.declared.replies.Reply.{Reply}
-use Rattle.world_laws.specs.spk_nums.specs.declared.replies.Reply.TheVariants as reply
-use Rattle.world_laws.specs.kernel_rules.specs.State.{Place, Frame, Liveness, Core, State, with_core, thread_in, tcap_in}
-use Rattle.world_laws.specs.kernel_rules.specs.CallRelation.{counted, owed_by, state_by}
-use Rattle.world_laws.specs.kernel_rules.specs.Runs.{Decides, after, IsRun}
-use Rattle.world_laws.specs.kernel_rules.proofs.Within.{put_same, put_other}
-use Rattle.kernel_history.specs.Trace.{Step, Trace, Phase, Out, Open, Decided, phase, after_enter, state_after, state_before}
-use Rattle.kernel_history.specs.Trace.{state_entered, state_decided, state_returned}
-use Rattle.kernel_history.specs.Events.{with_decision}
-use Rattle.kernel_history.specs.Legal.{IsLegal}
-use Rattle.kernel_history.proofs.Events.{entered_events, before_is, decided_run, run_of}
-use Rattle.world_laws.specs.authority_laws.specs.Authority.{bare_of, Part, PlaceIs, FrameIs, StackIs, RunsIs, BudgetIs, ListIs, NumberIs}
-use Rattle.world_laws.specs.authority_laws.specs.Authority.{CoreIs, Stays, SamePart}
-use Rattle.isolation_laws.specs.Carried.{CarriesOut}
+use Rattle.kernel_history.proofs.{◌≡◌, ◌≢◌, ◌⊎◌, inl, inr, ℕ, ◌+◌, true, false, refl, sym, ◌∙◌, ap, subst, ◌∷◌, Option, Some, None, Setting}
+use Rattle.kernel_history.proofs.{Call, Tick, Value, Reply, Place, Frame, Liveness, Core, State, with_core, thread_in, tcap_in, counted}
+use Rattle.kernel_history.proofs.{owed_by, state_by, Decides, after, IsRun, put_same, put_other, Step, Phase, Out, Decided, phase}
+use Rattle.kernel_history.proofs.{after_enter, state_after, state_before, state_entered, state_decided, state_returned, with_decision}
+use Rattle.kernel_history.proofs.{IsLegal, entered_events, before_is, decided_run, run_of, Kind}
+use Rattle.world_laws.specs.authority_laws.specs.{bare_of, Part, PlaceIs, FrameIs, StackIs, RunsIs, BudgetIs, ListIs, NumberIs, CoreIs}
+use Rattle.{world_laws.specs.authority_laws.specs.Stays, world_laws.specs.authority_laws.specs.SamePart, std.proofs.lemmas.Bool.cases_eq}
+use Rattle.{kernel_history.specs.Trace.Trace, kernel_history.specs.Trace.Open, isolation_laws.specs.Carried.CarriesOut}
 
 -- From s to t at most core c is another, and it runs on the same thread and temporal capability; or grace periods change.
 pub record OnlyCore (s t : State) (c : ℕ) : Type 0 where
@@ -76,14 +63,14 @@ owed_only s c _ = same_core s c
 
 record IsOk (r : Reply) : Type 0 where
   value : Value
-  is : r ≡ reply.Ok value
+  is : r ≡ Reply.Ok value
 
 -- A refusal leaves all but its core.
 decided_only : (s : State) (c : ℕ) (call : Call) (r : Reply) → OnlyCore s (state_by s c call r) c ⊎ IsOk r
-decided_only s c call (reply.Ok v) = inr (record { value = v; is = refl })
-decided_only s c call reply.CallsSpent = inl (same_core s c)
-decided_only s c call reply.Raced = inl (counted_only s (owed_by s c call) c (owed_only s c call))
-decided_only s c call (reply.Busy d) = inl (counted_only s (owed_by s c call) c (owed_only s c call))
+decided_only s c call (Reply.Ok v) = inr (record { value = v; is = refl })
+decided_only s c call Reply.CallsSpent = inl (same_core s c)
+decided_only s c call Reply.Raced = inl (counted_only s (owed_by s c call) c (owed_only s c call))
+decided_only s c call (Reply.Busy d) = inl (counted_only s (owed_by s c call) c (owed_only s c call))
 decided_only s c call _ = inl (counted_only s s c (same_core s c))
 
 -- The step e carries out a call, where it decides so in this phase: the events go on by that decision.
@@ -91,9 +78,9 @@ pub record CarriesIn (setup : Setting) (t : Trace) (e : Step) (o : Option Reply)
   pub call : Call
   pub value : Value
   pub is_open : p ≡ Open call
-  pub decides : o ≡ Some (reply.Ok value)
-  pub run : IsRun setup (Decides e.core call (reply.Ok value) ∷ entered_events t e)
-  pub left : state_decided o p (state_before setup t e) e.core ≡ state_by (state_before setup t e) e.core call (reply.Ok value)
+  pub decides : o ≡ Some (Reply.Ok value)
+  pub run : IsRun setup (Decides e.core call (Reply.Ok value) ∷ entered_events t e)
+  pub left : state_decided o p (state_before setup t e) e.core ≡ state_by (state_before setup t e) e.core call (Reply.Ok value)
 
 by_decision : (setup : Setting) (t : Trace) (e : Step) (o : Option Reply) (p : Phase)
     → IsRun setup (with_decision o p e.core (entered_events t e))
@@ -125,10 +112,10 @@ module _ (s t u v : State) (c : ℕ) (a : OnlyCore s t c) (b : OnlyCore u v c) w
   part_on (PlaceIs f i) h =
       inl (ap (λ (g : ℕ → ℕ → Place). g f i) b.place ∙ h ∙ ap (λ (g : ℕ → ℕ → Place). g f i) a.place)
   part_on (FrameIs f) h = inl (moved f (λ x y. bare_of y ≡ bare_of x) h)
-  part_on (StackIs f) h = inl (moved f (λ x y. Stays kind.Thread x y → (thread_in y).stack ≡ (thread_in x).stack) h)
-  part_on (RunsIs f) h = inl (moved f (λ x y. Stays kind.Thread x y → (thread_in y).runs_on ≡ (thread_in x).runs_on) h)
-  part_on (BudgetIs f) h = inl (moved f (λ x y. Stays kind.Tcap x y → (tcap_in y).budget ≡ (tcap_in x).budget) h)
-  part_on (ListIs f) h = inl (moved f (λ x y. Stays kind.Tcap x y → (tcap_in y).qualities ≡ (tcap_in x).qualities) h)
+  part_on (StackIs f) h = inl (moved f (λ x y. Stays Kind.Thread x y → (thread_in y).stack ≡ (thread_in x).stack) h)
+  part_on (RunsIs f) h = inl (moved f (λ x y. Stays Kind.Thread x y → (thread_in y).runs_on ≡ (thread_in x).runs_on) h)
+  part_on (BudgetIs f) h = inl (moved f (λ x y. Stays Kind.Tcap x y → (tcap_in y).budget ≡ (tcap_in x).budget) h)
+  part_on (ListIs f) h = inl (moved f (λ x y. Stays Kind.Tcap x y → (tcap_in y).qualities ≡ (tcap_in x).qualities) h)
   part_on (NumberIs l) h = inl (ap (λ (g : ℕ → Liveness). g l) b.number ∙ h ∙ ap (λ (g : ℕ → Liveness). g l) a.number)
   part_on (CoreIs d) h = elim (cases_eq d c) [
     | inl same ↦ inr (ap CoreIs same)
@@ -180,7 +167,7 @@ module _ (setup : Setting) (t : Trace) (e : Step) (legal : IsLegal setup (e ∷ 
 
   -- what is said of a decision in runs holds of the states before it and after it
   pub at_decision : (T : State → State → Type 0) (k : Carrying)
-      → T (after setup (entered_events t e)) (after setup (Decides e.core k.call (reply.Ok k.value) ∷ entered_events t e))
+      → T (after setup (entered_events t e)) (after setup (Decides e.core k.call (Reply.Ok k.value) ∷ entered_events t e))
       → T before decided
   at_decision T k h = subst (T before) (sym k.left)
-      (subst (λ s. T s (state_by s e.core k.call (reply.Ok k.value))) (sym (before_is setup t e)) h)
+      (subst (λ s. T s (state_by s e.core k.call (Reply.Ok k.value))) (sym (before_is setup t e)) h)

@@ -1,32 +1,22 @@
 -- Worlds over stretches of steps: what each event of a run keeps, or is a call that is carried out by such a core, holds after each
 -- stretch, or such a call was carried out in it.
-use Rattle.std.proofs.Common.{◌≡◌, ◌⊎◌, inl, inr, ℕ, Bool, true, refl, sym, ◌∙◌, ap, subst, List, [], ◌∷◌, ◌++◌, Option, Some, None}
-use Rattle.world_laws.specs.spk_nums.specs.Setting.{Setting, IsSetting}
-use Rattle.world_laws.specs.spk_nums.specs.declared.kinds.Kind.{Kind}
-use Rattle.world_laws.specs.spk_nums.specs.declared.calls.Call.{Call}
-use Rattle.world_laws.specs.spk_nums.specs.declared.replies.Value.{Value}
-use Rattle.world_laws.specs.spk_nums.specs.declared.replies.Reply.{Reply}
-use Rattle.world_laws.specs.spk_nums.specs.declared.replies.Reply.TheVariants as reply
-use Rattle.world_laws.specs.kernel_rules.specs.State.{State}
-use Rattle.world_laws.specs.kernel_rules.specs.Runs.{Event, Enters, Decides, Returns, after, IsRun}
-use Rattle.kernel_history.specs.Trace.{Step, Trace, Phase, Out, Open, Decided, phase, after_enter, state_after, state_before}
-use Rattle.kernel_history.specs.Events.{with_entry, with_decision, with_return, events_of}
-use Rattle.kernel_history.specs.Legal.{IsLegal}
-use Rattle.kernel_history.proofs.Events.{entered_events, decided_events, state_is, before_is, entered_run, decided_run, step_run, run_of}
-use Rattle.world_laws.specs.Worlds.{works_in, lives_at, gates, OnlyGates, IsSealed, AreApart}
-use Rattle.world_laws.specs.Laws.{ActsInside}
-use Rattle.world_laws.specs.Time.{ticks_in, RunsAcross, ActsAcross}
-use Rattle.world_laws.proofs.Stretches.{opened_from_inside, dies_by_its_own, apart_for_good}
-use Rattle.world_laws.proofs.Timing.{time_of_worlds}
-use Rattle.isolation_laws.specs.Carried.{CarriesOut, CarriedOutBy}
-use Rattle.isolation_laws.specs.Worlds.{WorksInside, StretchesKeepWorlds}
+use Rattle.kernel_history.proofs.{◌≡◌, ◌⊎◌, inl, inr, ℕ, Bool, true, refl, sym, ◌∙◌, ap, subst, List, [], ◌∷◌, ◌++◌, Option, Some, None}
+use Rattle.kernel_history.proofs.{Setting, IsSetting, Kind, Call, Value, Reply, State, Event, Enters, Decides, Returns, after, IsRun, Step}
+use Rattle.kernel_history.proofs.{Phase, Out, Decided, phase, after_enter, state_after, state_before, with_entry, with_decision}
+use Rattle.kernel_history.proofs.{with_return, events_of, IsLegal, entered_events, decided_events, state_is, before_is, entered_run}
+use Rattle.world_laws.specs.{works_in, lives_at, gates, OnlyGates, IsSealed, AreApart, ticks_in, RunsAcross}
+use Rattle.world_laws.proofs.{Stretches.opened_from_inside, Stretches.dies_by_its_own, Stretches.apart_for_good, Timing.time_of_worlds}
+use Rattle.{kernel_history.proofs.decided_run, kernel_history.proofs.run_of, isolation_laws.specs.CarriedOutBy}
+use Rattle.{isolation_laws.specs.WorksInside, kernel_history.specs.Trace.Trace, kernel_history.specs.Trace.Open}
+use Rattle.{kernel_history.proofs.Events.step_run, world_laws.specs.Laws.ActsInside, world_laws.specs.Time.ActsAcross}
+use Rattle.{isolation_laws.specs.Carried.CarriesOut, isolation_laws.specs.Worlds.StretchesKeepWorlds}
 
 -- The event is a call that is carried out, of a core of which this was so before it.
 pub record ActsNow (setup : Setting) (P : State → ℕ → Type 0) (earlier : List Event) (event : Event) : Type 0 where
   pub core : ℕ
   pub call : Call
   pub value : Value
-  pub is : event ≡ Decides core call (reply.Ok value)
+  pub is : event ≡ Decides core call (Reply.Ok value)
   pub holds : P (after setup earlier) core
 
 no_entry : (c d : ℕ) (j k : Call) (r : Reply) → Enters c j ≡ Decides d k r → ⊥
@@ -46,7 +36,7 @@ record DecidedNow (P : State → ℕ → Type 0) (o : Option Reply) (p : Phase) 
   call : Call
   value : Value
   is_open : p ≡ Open call
-  decides : o ≡ Some (reply.Ok value)
+  decides : o ≡ Some (Reply.Ok value)
   holds : P s c
 
 -- So does the step e, made after t.
@@ -62,7 +52,7 @@ module _ (setup : Setting) (P : State → ℕ → Type 0) (S : State → Type 0)
   entry None c events run s = s
   entry (Some call) c events run s = elim (next events (Enters c call) run s) [
     | inl h ↦ h
-    | inr acts ↦ absurd (no_entry c acts.core call acts.call (reply.Ok acts.value) acts.is)
+    | inr acts ↦ absurd (no_entry c acts.core call acts.call (Reply.Ok acts.value) acts.is)
   ]
 
   leave : (o : Option Reply) (c : ℕ) (events : List Event) → IsRun setup (with_return o c events) → S (after setup events)
@@ -70,7 +60,7 @@ module _ (setup : Setting) (P : State → ℕ → Type 0) (S : State → Type 0)
   leave None c events run s = s
   leave (Some r) c events run s = elim (next events (Returns c) run s) [
     | inl h ↦ h
-    | inr acts ↦ absurd (no_return c acts.core acts.call (reply.Ok acts.value) acts.is)
+    | inr acts ↦ absurd (no_return c acts.core acts.call (Reply.Ok acts.value) acts.is)
   ]
 
   decision : (o : Option Reply) (p : Phase) (c : ℕ) (events : List Event) → IsRun setup (with_decision o p c events)
@@ -84,8 +74,8 @@ module _ (setup : Setting) (P : State → ℕ → Type 0) (S : State → Type 0)
       call = call;
       value = acts.value;
       is_open = refl;
-      decides = ap (λ (x : Reply). Some x) (same_reply c acts.core call acts.call r (reply.Ok acts.value) acts.is);
-      holds = subst (P (after setup events)) (same_core c acts.core call acts.call r (reply.Ok acts.value) acts.is) acts.holds;
+      decides = ap (λ (x : Reply). Some x) (same_reply c acts.core call acts.call r (Reply.Ok acts.value) acts.is);
+      holds = subst (P (after setup events)) (same_core c acts.core call acts.call r (Reply.Ok acts.value) acts.is) acts.holds;
     })
   ]
 
@@ -147,7 +137,7 @@ single (x ∷ more) event first since e = absurd (not_empty more (tail e))
 module _ (setup : Setting) (w : ℕ → Bool) (earlier : List Event) (event : Event) where
   inside_now : ActsInside setup w earlier (event ∷ []) → ActsNow setup (WorksInside w) earlier event
   inside_now acts =
-      let one = single acts.more event (Decides acts.core acts.call (reply.Ok acts.value)) acts.since acts.is_part in
+      let one = single acts.more event (Decides acts.core acts.call (Reply.Ok acts.value)) acts.since acts.is_part in
       record {
         core = acts.core;
         call = acts.call;
@@ -158,7 +148,7 @@ module _ (setup : Setting) (w : ℕ → Bool) (earlier : List Event) (event : Ev
 
   across_now : ActsAcross setup w earlier (event ∷ []) → ActsNow setup (RunsAcross w) earlier event
   across_now acts =
-      let one = single acts.more event (Decides acts.core acts.call (reply.Ok acts.value)) acts.since acts.is_part in
+      let one = single acts.more event (Decides acts.core acts.call (Reply.Ok acts.value)) acts.since acts.is_part in
       record {
         core = acts.core;
         call = acts.call;

@@ -1,14 +1,8 @@
 -- What follows from the laws of steps and of stretches by their words alone.
-use Rattle.std.proofs.Common.{◌≡◌, inl, inr, ℕ, sym, ◌∙◌, subst, [], ◌∷◌, ◌++◌, Some, None}
-use Rattle.world_laws.specs.spk_nums.specs.Setting.{Setting}
-use Rattle.world_laws.specs.spk_nums.specs.declared.replies.Reply.{Reply}
-use Rattle.world_laws.specs.spk_nums.specs.declared.replies.Reply.TheVariants as reply
-use Rattle.world_laws.specs.kernel_rules.specs.State.{State}
-use Rattle.kernel_history.specs.Trace.{Step, Trace, state_before}
-use Rattle.world_laws.specs.Time.{RunsAcross}
-use Rattle.isolation_laws.specs.Carried.{CarriedOutBy}
-use Rattle.isolation_laws.specs.Worlds.{ComesIn, WorksInside}
+use Rattle.kernel_history.proofs.{◌≡◌, inl, inr, ℕ, sym, ◌∙◌, subst, [], ◌∷◌, ◌++◌, Some, None, Setting, Reply, State, Step, state_before}
+use Rattle.isolation_laws.specs.{CarriedOutBy, WorksInside}
 use Rattle.isolation_laws.specs.Uses.{UndecidedChangeNothing, SparedPlacesStay, UndecidedStayOut, NoneOf, WorldsStayAlone}
+use Rattle.{kernel_history.specs.Trace.Trace, world_laws.specs.Time.RunsAcross, isolation_laws.specs.Worlds.ComesIn}
 
 none_some : (r : Reply) → None ≡ Some r → ⊥
 none_some r q = cc
@@ -17,7 +11,7 @@ pub undecided_change_nothing : UndecidedChangeNothing
 undecided_change_nothing setup t e law none x other = elim (law x) [
   | inl same ↦ same
   | inr (inl core) ↦ absurd (other core)
-  | inr (inr change) ↦ absurd (none_some (reply.Ok change.done.value) (sym none ∙ change.done.decides))
+  | inr (inr change) ↦ absurd (none_some (Reply.Ok change.done.value) (sym none ∙ change.done.decides))
 ]
 
 pub spared_places_stay : SparedPlacesStay
@@ -26,7 +20,7 @@ spared_places_stay setup t e law w sealed out f i of = (law w sealed out).alone.
 pub undecided_stay_out : UndecidedStayOut
 undecided_stay_out setup t e law none w out inside =
     let comes : ComesIn setup w t e = law w out inside in
-    none_some (reply.Ok comes.done.value) (sym none ∙ comes.done.decides)
+    none_some (Reply.Ok comes.done.value) (sym none ∙ comes.done.decides)
 
 -- None of the steps is one that is of such a core.
 none_at : (P : State → ℕ → Type 0) (setup : Setting) (more since t : Trace) (e : Step) → NoneOf P setup (more ++ (e ∷ since)) t

@@ -1,10 +1,7 @@
 -- The authority of one step of a legal trace.
-use Rattle.std.specs.Prelude.{◌≡◌, ◌⊎◌, ◌∷◌}
-use Rattle.world_laws.specs.spk_nums.specs.Setting.{Setting, IsSetting}
-use Rattle.kernel_history.specs.Trace.{Step, Trace, state_after, state_before}
-use Rattle.kernel_history.specs.Legal.{IsLegal}
-use Rattle.world_laws.specs.authority_laws.specs.Authority.{Part, CoreIs, IsUnderOne, OwnBy, SamePart}
-use Rattle.isolation_laws.specs.Carried.{CarriesOut}
+use Rattle.kernel_history.specs.{◌≡◌, ◌⊎◌, ◌∷◌, Setting, IsSetting, Step, state_after, state_before, IsLegal}
+use Rattle.world_laws.specs.authority_laws.specs.{Part, CoreIs, IsUnderOne, OwnBy, SamePart}
+use Rattle.{kernel_history.specs.Trace.Trace, isolation_laws.specs.Carried.CarriesOut}
 
 -- The step changes a part by a call that it carries out: the part is its core's own and the call is for it, or it lies under a capability
 -- that one of the call's names led the core to, in the state in which the call is decided.

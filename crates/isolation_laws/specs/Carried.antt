@@ -1,11 +1,7 @@
 -- Calls that steps carry out.
-use Rattle.std.specs.Prelude.{◌≡◌, ℕ, ◌∷◌, ◌++◌, Some}
-use Rattle.world_laws.specs.spk_nums.specs.Setting.{Setting}
-use Rattle.world_laws.specs.spk_nums.specs.declared.calls.Call.{Call}
-use Rattle.world_laws.specs.spk_nums.specs.declared.replies.Value.{Value}
-use Rattle.world_laws.specs.spk_nums.specs.declared.replies.Reply.TheVariants.{Ok}
-use Rattle.world_laws.specs.kernel_rules.specs.State.{State}
-use Rattle.kernel_history.specs.Trace.{Step, Trace, Open, phase, after_enter, state_before}
+use Rattle.kernel_history.specs.{◌≡◌, ℕ, ◌∷◌, ◌++◌, Some, Setting, Call, Value, State, Step, phase, after_enter, state_before}
+use Rattle.kernel_history.specs.spk_nums.specs.declared.replies.Reply.TheVariants.{Ok}
+use Rattle.kernel_history.specs.Trace.{Trace, Open}
 
 -- The step e, made after t, carries its core's call out: it decides it with `ok`.
 pub record CarriesOut (t : Trace) (e : Step) : Type 0 where

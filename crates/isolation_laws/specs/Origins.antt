@@ -1,16 +1,10 @@
 -- Where the capabilities of legal traces come from.
-use Rattle.std.specs.Prelude.{◌≡◌, ◌⊎◌, ℕ, true, ◌∷◌, ◌++◌, Option, Some, None}
-use Rattle.world_laws.specs.spk_nums.specs.Capability.{Capability}
-use Rattle.world_laws.specs.spk_nums.specs.Setting.{Setting, IsSetting}
-use Rattle.world_laws.specs.kernel_rules.specs.State.{Place, Free, Holds, Quiescing}
-use Rattle.kernel_history.specs.Trace.{Step, Trace, state_after, state_before}
-use Rattle.kernel_history.specs.Events.{events_of}
-use Rattle.kernel_history.specs.Legal.{IsLegal}
-use Rattle.origin_rules.specs.declared.chains.Step.{Step as Way}
-use Rattle.origin_rules.specs.Chains.{origin_of, is_own}
-use Rattle.origin_rules.specs.Derived.{Gives, Falls, HasChain}
-use Rattle.origin_laws.specs.Confined.{IsForeign, IsCovered}
-use Rattle.isolation_laws.specs.Carried.{CarriesOut}
+use Rattle.kernel_history.specs.{◌≡◌, ◌⊎◌, ℕ, true, ◌∷◌, ◌++◌, Option, Some, None, Capability, Setting, IsSetting, Place, Free, Holds}
+use Rattle.kernel_history.specs.{Quiescing, Step, state_after, state_before, events_of, IsLegal}
+use Rattle.origin_laws.specs.origin_rules.specs.{origin_of, is_own, Gives, HasChain}
+use Rattle.origin_laws.specs.{IsForeign, IsCovered}
+use Rattle.origin_laws.specs.origin_rules.specs.{declared.chains.Step.Step as Way, Derived.Falls}
+use Rattle.{kernel_history.specs.Trace.Trace, isolation_laws.specs.Carried.CarriesOut}
 
 -- What a place shows: what it holds, or held until it was removed.
 abbrev pub shown : Place → Option Capability

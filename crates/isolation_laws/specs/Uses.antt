@@ -1,14 +1,9 @@
 -- What follows from the laws of steps and of stretches by their words alone: so these refuse laws that say nothing.
-use Rattle.std.specs.Prelude.{◌≡◌, ◌≢◌, ℕ, Bool, true, false, [], ◌∷◌, ◌++◌, None}
-use Rattle.world_laws.specs.spk_nums.specs.Setting.{Setting}
-use Rattle.world_laws.specs.spk_nums.specs.declared.kinds.Kind.{Kind}
-use Rattle.world_laws.specs.kernel_rules.specs.State.{State}
-use Rattle.kernel_history.specs.Trace.{Step, Trace, state_after, state_before}
-use Rattle.world_laws.specs.authority_laws.specs.Authority.{Part, CoreIs, SamePart}
-use Rattle.world_laws.specs.Worlds.{works_in, lives_at, gates, OnlyGates, IsSealed, AreApart}
-use Rattle.world_laws.specs.Time.{ticks_in, RunsAcross}
-use Rattle.isolation_laws.specs.Authority.{HasAuthority}
-use Rattle.isolation_laws.specs.Worlds.{SparesWorlds, EntersWorlds, WorksInside, WorldsStay}
+use Rattle.kernel_history.specs.{◌≡◌, ◌≢◌, ℕ, Bool, true, false, [], ◌∷◌, ◌++◌, None, Setting, Kind, State, Step, state_after, state_before}
+use Rattle.world_laws.specs.{works_in, lives_at, gates, OnlyGates, IsSealed, AreApart, ticks_in, RunsAcross}
+use Rattle.world_laws.specs.authority_laws.specs.{Part, CoreIs, SamePart}
+use Rattle.kernel_history.specs.Trace.{Trace}
+use Rattle.isolation_laws.specs.{Authority.HasAuthority, Worlds.SparesWorlds, Worlds.EntersWorlds, Worlds.WorksInside, Worlds.WorldsStay}
 
 -- A step that has authority and decides nothing changes no part but its core.
 abbrev pub UndecidedChangeNothing : Type 0

@@ -1,15 +1,9 @@
 -- Sealed worlds along legal traces.
-use Rattle.std.specs.Prelude.{◌≡◌, ◌⊎◌, ℕ, Bool, true, false, ◌∷◌, ◌++◌}
-use Rattle.world_laws.specs.spk_nums.specs.Setting.{Setting, IsSetting}
-use Rattle.world_laws.specs.spk_nums.specs.declared.kinds.Kind.{Kind}
-use Rattle.world_laws.specs.kernel_rules.specs.State.{State}
-use Rattle.kernel_history.specs.Trace.{Step, Trace, state_after, state_before}
-use Rattle.kernel_history.specs.Legal.{IsLegal}
-use Rattle.world_laws.specs.authority_laws.specs.Authority.{Part, OwnBy, SamePart}
-use Rattle.world_laws.specs.Worlds.{works_in, lives_at, gates, OnlyGates, IsSealed, AreApart, LeavesAlone}
-use Rattle.world_laws.specs.Laws.{EntersBy, IsOf}
-use Rattle.world_laws.specs.Time.{ticks_in, RunsAcross}
-use Rattle.isolation_laws.specs.Carried.{CarriesOut, CarriedOutBy}
+use Rattle.kernel_history.specs.{◌≡◌, ◌⊎◌, ℕ, Bool, true, false, ◌∷◌, ◌++◌, Setting, IsSetting, Kind, State, Step, state_after}
+use Rattle.world_laws.specs.{works_in, lives_at, gates, OnlyGates, IsSealed, AreApart, LeavesAlone, EntersBy, IsOf, ticks_in, RunsAcross}
+use Rattle.world_laws.specs.authority_laws.specs.{Part, OwnBy, SamePart}
+use Rattle.{kernel_history.specs.state_before, kernel_history.specs.IsLegal, kernel_history.specs.Trace.Trace}
+use Rattle.{isolation_laws.specs.Carried.CarriesOut, isolation_laws.specs.Carried.CarriedOutBy}
 
 -- The step carries out a call, and this part is its core's own, which the call is for.
 pub record LendsTo (setup : Setting) (t : Trace) (e : Step) (x : Part) : Type 0 where

@@ -1,29 +1,16 @@
 -- Steps that change no frame and no liveness number, and of the cores only what the own core counts and whether it is inside; and
 -- steps at which no grace period begins or ends and nothing is flushed. A step that decides nothing is such, and so is a refusal and the
 -- decision that fills a place; one that draws a stamp, or changes what a frame is, is not.
-use Rattle.std.proofs.Common.{◌≡◌, ◌≢◌, inl, inr, ℕ, zero, suc, ◌+◌, ◌*◌, ◌<◌, ◌≤◌, ◌==◌, if◌then◌else◌, Bool}
-use Rattle.std.proofs.Common.{true, false, cond, ◌∷◌, None, arith, refl, sym, ◌∙◌, ap, subst}
-use Rattle.std.proofs.lemmas.Bool.{cases_eq, eq-eqb, false≢true}
-use Rattle.thread_laws.specs.spk_nums.specs.Setting.{Setting}
-use Rattle.thread_laws.specs.word_map.specs.Word.{Word, EntryAt, FrameAt, CountAt, CoreAt, FlushAt, LiveAt, ClockAt, same_word}
-use Rattle.thread_laws.specs.word_map.specs.Moves.{word_of}
-use Rattle.thread_laws.specs.kernel_rules.specs.State.{Core as CoreFields, Thing, PlaceOf, NumberOf, State, put}
-use Rattle.thread_laws.specs.kernel_rules.specs.State.{thread_in, comp_in, first_of_stack, thread_of, comp_of}
-use Rattle.thread_laws.specs.kernel_rules.specs.References.{sum_below}
-use Rattle.thread_laws.specs.kernel_rules.specs.GracePeriods.{entered, returned}
-use Rattle.thread_laws.specs.kernel_rules.specs.CallRelation.{counted}
-use Rattle.thread_laws.specs.kernel_invariant.proofs.Sums.{sum_one}
-use Rattle.thread_laws.specs.kernel_rules.proofs.Within.{put_same, put_other}
-use Rattle.thread_laws.specs.kernel_history.specs.Trace.{Step, Trace, state_after}
-use Rattle.thread_laws.specs.kernel_history.specs.Stamps.{begins_at, ends_at, flushes_at, stamp, clock}
-use Rattle.thread_laws.specs.kernel_history.specs.Stamps.{clock_seen, exit_of, exit_after, flush_of, flush_stored}
-use Rattle.thread_laws.specs.kernel_history.proofs.Steps.{stamp-kept, exit_of-own, exit_of-other, flush_of-own}
-use Rattle.thread_laws.specs.kernel_history.proofs.Steps.{flush_of-other, flush_stored-own, flush_stored-other}
-use Rattle.thread_laws.specs.kernel_history.specs.Graces.{KeepsTime}
-use Rattle.core_invariant.specs.act_states.specs.declared.own.Own.{Own}
-use Rattle.core_invariant.specs.Knows.{WorksIn}
-use Rattle.core_invariant.specs.Invariant.{times_of, counted_in}
-use Rattle.kept_facts.proofs.WordFrames.{SameFor}
+use Rattle.core_invariant.proofs.{◌≡◌, ◌≢◌, inl, inr, ℕ, zero, suc, ◌+◌, ◌*◌, ◌<◌, ◌≤◌, ◌==◌, if◌then◌else◌, Bool, true, false, cond, ◌∷◌}
+use Rattle.core_invariant.proofs.{None, arith, refl, sym, ◌∙◌, ap, subst, eq-eqb, false≢true, Setting, Word, EntryAt, FrameAt, CountAt}
+use Rattle.core_invariant.proofs.{CoreAt, FlushAt, LiveAt, ClockAt, same_word, word_of, Thing, PlaceOf, NumberOf, State, put, thread_in}
+use Rattle.core_invariant.proofs.{comp_in, first_of_stack, thread_of, comp_of, sum_below, counted, sum_one, put_same, put_other, Step}
+use Rattle.core_invariant.proofs.{Trace, state_after, begins_at, ends_at, flushes_at, stamp, clock, exit_of, flush_of, flush_stored}
+use Rattle.core_invariant.proofs.{stamp-kept, flush_of-own, flush_stored-own, flush_stored-other, KeepsTime, Own, WorksIn, times_of}
+use Rattle.thread_laws.specs.kernel_history.proofs.{Core as CoreFields, exit_of-own, exit_of-other, flush_of-other}
+use Rattle.thread_laws.specs.kernel_history.specs.{clock_seen, exit_after}
+use Rattle.kernel_laws.specs.kernel_rules.specs.{entered, returned}
+use Rattle.{core_invariant.proofs.counted_in, std.proofs.lemmas.Bool.cases_eq, kept_facts.proofs.WordFrames.SameFor}
 
 -- A core that is or is not inside, and has counted so many calls; all else of it stays.
 abbrev pub counts : CoreFields → Bool → ℕ → CoreFields

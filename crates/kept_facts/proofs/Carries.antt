@@ -1,123 +1,41 @@
 -- What a call knows it still knows after a step of another core, and after an own step that decides nothing: each kind of
 -- knowledge once, over the few things that such a step keeps.
-use Rattle.core_invariant.specs.act_states.specs.Objects.{last_word}
-use Rattle.core_invariant.specs.act_states.specs.declared.objects.NewObject.{NewObject}
-use Rattle.thread_laws.specs.frame_words.specs.Live.{live_of_word}
-use Rattle.thread_laws.specs.frame_words.specs.declared.live_word.LiveWord.{LiveWord}
-use Rattle.thread_laws.specs.frame_words.specs.declared.live_word.LiveWord.TheVariants as live_word
-use Rattle.core_invariant.specs.act_states.specs.declared.comps.CompAt.{CompAt}
-use Rattle.core_invariant.specs.act_states.specs.declared.comps.CompAt.TheVariants as comp_at
-use Rattle.core_invariant.specs.act_states.specs.declared.comps.CompMaking.{CompMaking}
-use Rattle.core_invariant.specs.act_states.specs.declared.comps.LastEpoch.{LastEpoch}
-use Rattle.core_invariant.specs.act_states.specs.Comps.{comp_is_marked, comp_word_at}
-use Rattle.core_invariant.specs.act_states.specs.Makings.{is_marked}
-use Rattle.core_invariant.specs.act_states.specs.declared.makings.MakingAt.TheVariants.{Load as making_load, Mark, Store}
-use Rattle.core_invariant.specs.act_states.specs.declared.makings.MakingAt.TheVariants.{Fill as making_fill}
-use Rattle.core_invariant.specs.act_states.specs.declared.makings.MakingAt.{MakingAt}
-use Rattle.std.proofs.Common.{map, ◌+◌, ◌≡◌, ◌≤◌, arith, inl, inr, ℕ, ◌&&◌, ◌||◌, not, nat_le, if◌then◌else◌, cond, [], ◌∷◌, ◌++◌}
-use Rattle.std.proofs.Common.{List, Bool, true, false, Option, Some, None, refl, ◌∙◌, ap, subst, ◌==◌, sym, IsTrue}
-use Rattle.std.specs.Prelude.{IsSome, is_some, All, length}
-use Rattle.std.proofs.lemmas.Bool.{eq-eqb, false≢true}
-use Rattle.std.proofs.lemmas.List.Elements.{All-nil, All-cons, All-head, All-tail}
-use Rattle.core_invariant.specs.stage_pins.specs.declared.held.Acquired.{Acquired}
-use Rattle.core_invariant.specs.Holding.{count_of}
-use Rattle.thread_laws.specs.spk_nums.specs.Capability.{Capability}
-use Rattle.thread_laws.specs.spk_nums.specs.Setting.{Setting, IsSetting}
-use Rattle.thread_laws.specs.spk_nums.specs.declared.kinds.Kind.TheVariants.{Comp as comp_kind}
-use Rattle.thread_laws.specs.frame_words.specs.declared.comp_word.CompWord.{CompWord}
-use Rattle.core_invariant.specs.act_states.specs.declared.kills.KillingAt.{KillingAt}
-use Rattle.core_invariant.specs.act_states.specs.declared.kills.KillingAt.TheVariants.{LoadComp, LoadLive, Close as kill_close}
-use Rattle.core_invariant.specs.act_states.specs.declared.kills.KillingAt.TheVariants.{Draw as kill_draw}
-use Rattle.thread_laws.specs.spk_nums.specs.declared.calls.Call.{Call}
-use Rattle.thread_laws.specs.word_map.specs.Word.{Word, EntryAt, CountAt, FrameAt, LiveAt}
-use Rattle.thread_laws.specs.word_map.specs.Moves.{word_of}
-use Rattle.core_invariant.specs.stage_look.specs.declared.look.Look.{Look}
-use Rattle.core_invariant.specs.stage_look.specs.declared.look.Look.TheVariants.{AtRoot, AtLeaf, AtEntry}
-use Rattle.thread_laws.specs.kernel_rules.specs.MemoryCalls.{translation_of}
-use Rattle.thread_laws.specs.kernel_rules.specs.Access.{Want, Slot, Named, root_at, found, Target, Under, InRoot, usable, linked, root_slot}
-use Rattle.thread_laws.specs.kernel_rules.specs.Access.{reached}
-use Rattle.thread_laws.specs.kernel_invariant.proofs.Facts.{some_inj, none_some}
-use Rattle.thread_laws.specs.kernel_rules.specs.Fitting.{fits}
-use Rattle.thread_laws.specs.kernel_rules.specs.Relies.{is_fixed, Relies}
-use Rattle.thread_laws.specs.kernel_history.specs.Trace.{Step, Trace, Open, phase, state_after, own_left, own_read, last_left}
-use Rattle.thread_laws.specs.kernel_history.specs.Justified.{HasReached}
-use Rattle.thread_laws.specs.kernel_history.specs.Legal.{IsLegal}
-use Rattle.thread_laws.specs.kernel_history.proofs.Names.{cases_word}
-use Rattle.thread_laws.specs.kernel_history.proofs.Steps.{own_left-here, own_left-there}
-use Rattle.thread_laws.specs.trace_laws.proofs.Stays.{relies_reached}
-use Rattle.thread_laws.specs.trace_laws.proofs.Carries.{Carries, was_stays}
-use Rattle.thread_laws.specs.kernel_history.specs.Footprint.{IsInFootprint}
-use Rattle.core_invariant.specs.call_plans.specs.declared.plans.Name.{Name}
-use Rattle.core_invariant.specs.call_plans.specs.declared.plans.Plan.{Plan}
-use Rattle.core_invariant.specs.call_plans.specs.GoesBy.{want_of}
-use Rattle.core_invariant.specs.call_plans.specs.After.{Leads, Next, NextName, NextFree, NextHeld, NextOwn, NextNothing, next_of}
-use Rattle.core_invariant.specs.act_states.specs.declared.fills.Fill.{Fill}
-use Rattle.thread_laws.specs.entry_words.specs.declared.entry.Entry.{Entry}
-use Rattle.thread_laws.specs.entry_words.specs.declared.entry.Entry.TheVariants as entry
-use Rattle.thread_laws.specs.entry_words.specs.EntryWord.{entry_of_word}
-use Rattle.thread_laws.specs.kernel_rules.specs.State.{Thing, PlaceOf, Frame, Kernel, Comp, comp_in, first_of_stack, NumberOf}
-use Rattle.thread_laws.specs.kernel_rules.specs.State.{FrameOf, thread_in}
-use Rattle.thread_laws.specs.kernel_history.specs.Stamps.{stamp}
-use Rattle.core_invariant.specs.stage_quiet.specs.declared.close.Close.{Close}
-use Rattle.core_invariant.specs.stage_quiet.specs.declared.close.Close.TheVariants.{AtCompare, AtDraw, AtStore}
-use Rattle.core_invariant.specs.stage_quiet.specs.declared.quiet.Quiet.{Quiet}
-use Rattle.core_invariant.specs.stage_quiet.specs.declared.quiet.Quiet.TheVariants.{AtCore, AtFlush}
-use Rattle.core_invariant.specs.stage_pins.specs.declared.pin.Pin.{Pin}
-use Rattle.core_invariant.specs.stage_pins.specs.declared.pin.Pin.TheVariants.{AtLoad, AtCompare as pin_compare}
-use Rattle.core_invariant.specs.act_states.specs.declared.work.Act.{Act as ActOf}
-use Rattle.core_invariant.specs.act_states.specs.declared.work.Act.TheVariants.{Fill as fill_act, Remove as remove_act, Retype as type_act}
-use Rattle.core_invariant.specs.act_states.specs.declared.work.Act.TheVariants.{Make as make_act, Outside, Tick as tick_act}
-use Rattle.core_invariant.specs.act_states.specs.declared.work.Act.TheVariants.{Flush as flush_act}
-use Rattle.core_invariant.specs.act_states.specs.declared.work.Act.TheVariants.{Kill as kill_act, Untype as untype_act, Map as map_act}
-use Rattle.core_invariant.specs.act_states.specs.declared.work.Act.TheVariants.{MakeComp as comp_act, Invoke as invoke_act}
-use Rattle.core_invariant.specs.act_states.specs.declared.work.Act.TheVariants.{Return as return_act}
-use Rattle.core_invariant.specs.act_states.specs.declared.work.Act.TheVariants.{Touch as touch_act, Share as share_act}
-use Rattle.core_invariant.specs.act_states.specs.declared.work.Act.TheVariants.{Refill as refill_act}
-use Rattle.core_invariant.specs.act_states.specs.declared.work.Act.TheVariants.{Switch as switch_act}
-use Rattle.core_invariant.specs.act_states.specs.declared.work.Work.{Work}
-use Rattle.core_invariant.specs.act_states.specs.declared.work.Work.TheVariants.{Lookup, Read, Scan, Acquire, Act}
-use Rattle.core_invariant.specs.act_states.specs.Acts.{reads_of}
-use Rattle.core_invariant.specs.call_stages.specs.declared.stages.ActiveCall.{ActiveCall}
-use Rattle.core_invariant.specs.Knows.{due_of, IsCount, IsReached, HasFound, LookIs, LooksUp, own_in, NamesAre, LooksFor}
-use Rattle.core_invariant.specs.Knows.{IsScanned, MayFill, IsFill, IsRemoval, KnowsClose, KnowsAct, KnowsQuiet, KnowsStore, HasLoaded}
-use Rattle.thread_laws.specs.kernel_rules.specs.Life.{asks_life, may_act, acts}
-use Rattle.core_invariant.specs.stage_thread.specs.declared.alive.Alive.{Alive}
-use Rattle.core_invariant.specs.stage_thread.specs.declared.alive.Alive.TheVariants.{AtComp, AtLive}
-use Rattle.core_invariant.specs.Knows.{KnowsAlive, KnowsAliveAt}
-use Rattle.core_invariant.specs.Knows.{KnowsWork, KnowsUndecided, KnowsTyping, HasMetAt, ChargesBy, HasHeadAt, KnowsTick, IsSpot, HasStored}
-use Rattle.core_invariant.specs.Knows.{KnowsMakingAt, HasLife, HasComp, KnowsKillingAt, KnowsDead, ReadIs, ReadBefore, scanned_for}
-use Rattle.core_invariant.specs.Knows.{KnowsScan, HasUser, MayTake, TakesNumber, KnowsNumber, HasWords, KnowsCompAt, KnowsLive}
-use Rattle.core_invariant.specs.stage_tcap.specs.declared.charge.Charge.{Charge}
-use Rattle.core_invariant.specs.stage_tcap.specs.declared.charge.Charge.TheVariants.{AtLoad as charge_load, AtCompare as charge_compare}
-use Rattle.core_invariant.specs.act_states.specs.Ticks.{ticks_due}
-use Rattle.thread_laws.specs.spk_nums.specs.declared.calls.Call.TheVariants.{Map, Tick}
-use Rattle.core_invariant.specs.act_states.specs.declared.typings.Typing.{Typing}
-use Rattle.core_invariant.specs.act_states.specs.declared.typings.TypingAt.{TypingAt}
-use Rattle.core_invariant.specs.act_states.specs.declared.typings.TypingAt.TheVariants.{Load, Compare as type_compare}
-use Rattle.thread_laws.specs.frame_words.specs.declared.count_word.CountWord.{CountWord}
-use Rattle.thread_laws.specs.kernel_rules.specs.References.{frame_names}
-use Rattle.core_invariant.specs.stage_sweep.specs.Counters.{latest_stamp}
-use Rattle.core_invariant.specs.stage_sweep.specs.Emptiness.{loads_of}
-use Rattle.core_invariant.specs.stage_sweep.specs.declared.empty.Owned.{Owned}
-use Rattle.core_invariant.specs.stage_sweep.specs.declared.sweep.Sweep.{Sweep}
-use Rattle.core_invariant.specs.stage_sweep.specs.declared.sweep.SweepAt.{SweepAt}
-use Rattle.core_invariant.specs.stage_sweep.specs.declared.sweep.SweepAt.TheVariants.{Load as sweep_load, Compare as sweep_compare}
-use Rattle.core_invariant.specs.stage_sweep.specs.declared.sweep.SweepAt.TheVariants.{Scan as sweep_scan, Empty as sweep_empty}
-use Rattle.core_invariant.specs.act_states.specs.declared.untypings.UntypingAt.{UntypingAt}
-use Rattle.core_invariant.specs.act_states.specs.declared.untypings.UntypingAt.TheVariants as untype
-use Rattle.core_invariant.specs.act_states.specs.declared.invocations.Invoking.{Invoking}
-use Rattle.core_invariant.specs.act_states.specs.declared.invocations.Returning.{Returning}
-use Rattle.core_invariant.specs.act_states.specs.declared.invocations.ReturningAt.{ReturningAt}
-use Rattle.core_invariant.specs.act_states.specs.declared.invocations.ReturningAt.TheVariants as returning
-use Rattle.core_invariant.specs.Components.{IsOnThread, HasLoadedComp, KnowsInvoking, IsBelow, HasLoadedBelow, KnowsReturning, below_of}
-use Rattle.core_invariant.specs.stage_thread.specs.declared.claim.Claim.TheVariants as claim
-use Rattle.core_invariant.specs.stage_thread.specs.declared.claim.Claimed.{Claimed}
-use Rattle.core_invariant.specs.act_states.specs.declared.switches.SwitchAt.{SwitchAt}
-use Rattle.core_invariant.specs.act_states.specs.declared.switches.SwitchAt.TheVariants as switch_at
-use Rattle.core_invariant.specs.Threads.{IsTop, HasTable, HasRoots, KnowsSwitchAt, claimed_by, is_claimed}
-use Rattle.core_invariant.specs.Sweeps.{IsQuiet, IsSwept, KnowsSweepScan, KnowsSweepAt, KnowsUntypingAt}
-use Rattle.kept_facts.proofs.Swept.{LeavesFrame, looked_on}
-use Rattle.core_invariant.specs.call_plans.specs.PlanOf.{plan_for}
+use Rattle.core_invariant.specs as low
+use low.{NewObject, live_of_word, LiveWord, CompAt, CompMaking, Load as making_load, Mark, Store, MakingAt, map, ◌+◌, ◌≡◌, ◌≤◌, ℕ, ◌&&◌}
+use low.{◌||◌, not, leb as nat_le, if◌then◌else◌, cond, [], ◌∷◌, ◌++◌, List, Bool, true, false, Option, Some, None, refl, ◌==◌, IsTrue}
+use low.{IsSome, is_some, All, length, Acquired, count_of, Capability, Setting, IsSetting, CompWord, KillingAt, LoadComp, LoadLive}
+use low.{Close as kill_close, Draw as kill_draw, Call, Word, EntryAt, CountAt, FrameAt, LiveAt, word_of, Look, AtRoot, AtLeaf, AtEntry}
+use low.{Want, Slot, Named, root_at, found, Target, Under, InRoot, usable, linked, root_slot, reached, fits, Relies, Step, Trace, Open}
+use low.{phase, state_after, own_left, own_read, last_left, HasReached, IsLegal, IsInFootprint, Name, Plan, Leads, Next, NextName, NextFree}
+use low.{NextHeld, NextOwn, NextNothing, next_of, Entry, entry_of_word, Thing, PlaceOf, Frame, Kernel, Comp, comp_in, first_of_stack}
+use low.{NumberOf, FrameOf, thread_in, stamp, AtCompare, AtDraw, AtStore, Quiet, AtCore, AtFlush, Pin, Fill as fill_act}
+use low.{Remove as remove_act, Retype as type_act, Make as make_act, Outside, Tick as tick_act, Flush as flush_act, Kill as kill_act}
+use low.{Untype as untype_act, Map as map_act, MakeComp as comp_act, Invoke as invoke_act, Return as return_act, Touch as touch_act}
+use low.{Share as share_act, Refill as refill_act, Switch as switch_act, Work, Lookup, Read, Scan, Acquire, Act, reads_of, ActiveCall}
+use low.{due_of, IsCount, HasFound, LooksUp, own_in, NamesAre, LooksFor, IsScanned, MayFill, KnowsClose, KnowsAct, KnowsQuiet, KnowsStore}
+use low.{acts, AtComp, AtLive, KnowsWork, KnowsUndecided, ChargesBy, IsSpot, HasStored, KnowsMakingAt, HasComp, ReadIs, ReadBefore}
+use low.{scanned_for, HasUser, MayTake, KnowsCompAt, KnowsLive, Charge, AtLoad as charge_load, Typing, TypingAt, CountWord, frame_names}
+use low.{latest_stamp, loads_of, Owned, Sweep, SweepAt, Compare as sweep_compare, Empty as sweep_empty, UntypingAt, Invoking, ReturningAt}
+use low.{HasLoadedComp, KnowsInvoking, HasLoadedBelow, KnowsReturning, below_of, Claimed, SwitchAt, IsTop, KnowsSwitchAt, claimed_by}
+use low.{is_claimed, IsQuiet, IsSwept, KnowsSweepScan, KnowsSweepAt, KnowsUntypingAt, plan_for, Claim}
+use low.act_states.proofs.{last_word, arith, inl, inr, ◌∙◌, ap, subst, sym, eq-eqb, false≢true, translation_of, some_inj, want_of, Close}
+use low.act_states.proofs.{asks_life, Alive, Map, Tick, Load as sweep_load, Scan as sweep_scan}
+use low.act_states.specs.{declared.comps.LastEpoch.LastEpoch, declared.makings.MakingAt.TheVariants.Fill as making_fill}
+use low.act_states.specs.{declared.fills.Fill.Fill, declared.work.Act.Act as ActOf, declared.typings.TypingAt.TheVariants.Load}
+use low.Acting.{KnowsTyping, HasMetAt, HasHeadAt, KnowsTick, KnowsKillingAt, TakesNumber, KnowsNumber, HasWords}
+use low.{act_states.specs.comp_is_marked, act_states.specs.comp_word_at, act_states.specs.is_marked, act_states.specs.AtLoad}
+use low.{act_states.specs.ticks_due, act_states.specs.declared.typings.TypingAt.TheVariants.Compare as type_compare}
+use low.{act_states.specs.declared.invocations.Returning.Returning, stage_pins.specs.declared.pin.Pin.TheVariants.AtCompare as pin_compare}
+use low.{Reaching.IsReached, Reaching.LookIs, Reaching.IsFill, Reaching.IsRemoval, Knows.HasLoaded, Knows.KnowsAlive, Knows.KnowsAliveAt}
+use low.{Knows.KnowsDead, Knows.KnowsScan, Components.HasLife, Components.IsOnThread, Components.IsBelow, Threads.HasTable}
+use low.{Threads.HasRoots, stage_tcap.specs.declared.charge.Charge.TheVariants.AtCompare as charge_compare}
+use Rattle.{kernel_laws.specs.kernel_rules.specs.is_fixed, kernel_laws.specs.kernel_rules.specs.may_act}
+use Rattle.{thread_laws.specs.trace_laws.proofs.relies_reached, thread_laws.specs.trace_laws.proofs.was_stays}
+use Rattle.{thread_laws.specs.kernel_history.proofs.cases_word, thread_laws.specs.kernel_history.proofs.own_left-here}
+use Rattle.{std.proofs.lemmas.List.Elements.All-nil, std.proofs.lemmas.List.Elements.All-cons, std.proofs.lemmas.List.Elements.All-head}
+use Rattle.{std.proofs.lemmas.List.Elements.All-tail, kernel_laws.specs.spk_nums.specs.declared.kinds.Kind.TheVariants.Comp as comp_kind}
+use Rattle.{kernel_laws.specs.kernel_invariant.proofs.Facts.none_some, thread_laws.specs.kernel_history.proofs.Steps.own_left-there}
+use Rattle.{thread_laws.specs.trace_laws.proofs.Carries.Carries, kept_facts.proofs.Swept.LeavesFrame, kept_facts.proofs.Swept.looked_on}
 pub use Rattle.kept_facts.proofs.KeptReads.{stores_in, stores_of, freezes, looks_at, freezes_at, looks_in}
 pub use Rattle.kept_facts.proofs.KeptReads.{reads_counts, looked_in, looked_of, claimed_in, claimed_of, KeepsThreads}
 pub use Rattle.kept_facts.proofs.KeptReads.{KeepsUsers, PairsStay, start_pairs, due_pairs, quiet_starts, ReadsSame}
@@ -228,10 +146,10 @@ module _ (setup : Setting) (setting : IsSetting setup) (t : Trace) (e : Step) (l
   may_fill_on : (x : Thing) (upto : ℕ) (o : Option Entry) → stamp setup t x ≤ stamp setup (e ∷ t) x → MayFill setup t c x upto o
       → MayFill setup (e ∷ t) c x upto o
   may_fill_on x upto None rises has = has
-  may_fill_on x upto (Some entry.Free) rises has = has
-  may_fill_on x upto (Some (entry.Held k)) rises has = has
-  may_fill_on x upto (Some (entry.Closing by)) rises has = has
-  may_fill_on x upto (Some (entry.Quiescing at)) rises has = scanned_on x at upto rises has
+  may_fill_on x upto (Some Entry.Free) rises has = has
+  may_fill_on x upto (Some (Entry.Held k)) rises has = has
+  may_fill_on x upto (Some (Entry.Closing by)) rises has = has
+  may_fill_on x upto (Some (Entry.Quiescing at)) rises has = scanned_on x at upto rises has
 
   comp_on : (f : ℕ) → HasComp (state_after setup t) c f → (state_after setup (e ∷ t)).frame f ≡ (state_after setup t).frame f
   comp_on f has = carries.stays.frame f (comp_fixed ((state_after setup t).frame f) has.comp) has.guarded
@@ -275,11 +193,11 @@ module _ (setup : Setting) (setting : IsSetting setup) (t : Trace) (e : Step) (l
       record { is = has.is ∙ ap (λ k. below_of k.stack) (sym carries.stays.thread); comp = has_comp_on comp has.comp }
 
   loaded_below_on : (at : ReturningAt) → HasLoadedBelow (state_after setup t) c at → HasLoadedBelow (state_after setup (e ∷ t)) c at
-  loaded_below_on returning.LoadBelow has = tt
-  loaded_below_on (returning.LoadTable comp) has = below_on comp has
-  loaded_below_on (returning.LoadPages comp table) has =
+  loaded_below_on ReturningAt.LoadBelow has = tt
+  loaded_below_on (ReturningAt.LoadTable comp) has = below_on comp has
+  loaded_below_on (ReturningAt.LoadPages comp table) has =
       (below_on comp has.0, has.1 ∙ ap (λ x. (comp_in x).table) (sym (comp_on comp has.0.comp)))
-  loaded_below_on (returning.Draw comp table pages) has = (
+  loaded_below_on (ReturningAt.Draw comp table pages) has = (
     below_on comp has.0,
     has.1 ∙ ap (λ x. (comp_in x).table) (sym (comp_on comp has.0.comp)),
     has.2 ∙ ap (λ x. (comp_in x).pages) (sym (comp_on comp has.0.comp)),
@@ -320,13 +238,13 @@ module _ (setup : Setting) (setting : IsSetting setup) (t : Trace) (e : Step) (l
   pub switch_on : (at : SwitchAt) → ((f i : ℕ) → own_read (e ∷ t) c (EntryAt f i) ≡ own_read t c (EntryAt f i))
       → (is_claimed at ≡ true → (state_after setup (e ∷ t)).frame (claimed_by at) ≡ (state_after setup t).frame (claimed_by at))
       → KnowsSwitchAt setup t c at → KnowsSwitchAt setup (e ∷ t) c at
-  switch_on (switch_at.Claim (claim.AtLoad f core)) reads rests has = has
-  switch_on (switch_at.Claim (claim.AtCompare f core depth)) reads rests has = (has.0, reads f 0 ∙ has.1)
-  switch_on (switch_at.Claim (claim.AtStack f depth)) reads rests has = tt
-  switch_on (switch_at.LoadTable to) reads rests has = top_on to (rests refl) has
-  switch_on (switch_at.LoadPages to table) reads rests has = table_on to table (rests refl) has
-  switch_on (switch_at.Leave to table pages) reads rests has = roots_on to table pages (rests refl) has
-  switch_on (switch_at.Draw to table pages) reads rests has = roots_on to table pages (rests refl) has
+  switch_on (SwitchAt.Claim (Claim.AtLoad f core)) reads rests has = has
+  switch_on (SwitchAt.Claim (Claim.AtCompare f core depth)) reads rests has = (has.0, reads f 0 ∙ has.1)
+  switch_on (SwitchAt.Claim (Claim.AtStack f depth)) reads rests has = tt
+  switch_on (SwitchAt.LoadTable to) reads rests has = top_on to (rests refl) has
+  switch_on (SwitchAt.LoadPages to table) reads rests has = table_on to table (rests refl) has
+  switch_on (SwitchAt.Leave to table pages) reads rests has = roots_on to table pages (rests refl) has
+  switch_on (SwitchAt.Draw to table pages) reads rests has = roots_on to table pages (rests refl) has
 
   pub read_on : (o read : Option ℕ) → ReadIs (state_after setup t) c o read → ReadIs (state_after setup (e ∷ t)) c o read
   read_on None read has = tt
@@ -452,10 +370,10 @@ module _ (setup : Setting) (setting : IsSetting setup) (t : Trace) (e : Step) (l
 
   pub may_take_on : (l last upto : ℕ) (o : Option LiveWord) → MayTake setup t c l last upto o → MayTake setup (e ∷ t) c l last upto o
   may_take_on l last upto None has = has
-  may_take_on l last upto (Some live_word.Free) has = has
-  may_take_on l last upto (Some (live_word.Live d f)) has = has
-  may_take_on l last upto (Some (live_word.Closing d by)) has = has
-  may_take_on l last upto (Some (live_word.Dead d x)) has = (has.0, scanned_on (NumberOf l) x upto (carries.number_rises l) has.1)
+  may_take_on l last upto (Some LiveWord.Free) has = has
+  may_take_on l last upto (Some (LiveWord.Live d f)) has = has
+  may_take_on l last upto (Some (LiveWord.Closing d by)) has = has
+  may_take_on l last upto (Some (LiveWord.Dead d x)) has = (has.0, scanned_on (NumberOf l) x upto (carries.number_rises l) has.1)
 
   pub takes_on : (l epochs : ℕ) (last : LastEpoch) → TakesNumber setup t c l epochs last → TakesNumber setup (e ∷ t) c l epochs last
   takes_on l epochs last has = record { may = may_take_on l last.epoch setup.cores (live_of_word last.word) has.may; more = has.more }
@@ -480,18 +398,18 @@ module _ (setup : Setting) (setting : IsSetting setup) (t : Trace) (e : Step) (l
       → ((l : ℕ) → own_read (e ∷ t) c (LiveAt l) ≡ own_read t c (LiveAt l))
       → (comp_is_marked at ≡ true → (i : ℕ) → last_left setup (e ∷ t) (EntryAt m.frame i) ≡ last_left setup t (EntryAt m.frame i))
       → KnowsCompAt setup t c m at → KnowsCompAt setup (e ∷ t) c m at
-  making_comp_on m comp_at.Load frames numbers stays has = tt
-  making_comp_on m (comp_at.Mark word) frames numbers stays has = record { own = frames m.frame ∙ has.own; says = has.says }
-  making_comp_on m (comp_at.LoadLive word) frames numbers stays has = has
-  making_comp_on m (comp_at.Scan word last q) frames numbers stays has = (has.0, number_on m.number last q (numbers m.number) has.1)
-  making_comp_on m (comp_at.Close word last) frames numbers stays has =
+  making_comp_on m CompAt.Load frames numbers stays has = tt
+  making_comp_on m (CompAt.Mark word) frames numbers stays has = record { own = frames m.frame ∙ has.own; says = has.says }
+  making_comp_on m (CompAt.LoadLive word) frames numbers stays has = has
+  making_comp_on m (CompAt.Scan word last q) frames numbers stays has = (has.0, number_on m.number last q (numbers m.number) has.1)
+  making_comp_on m (CompAt.Close word last) frames numbers stays has =
       (has.0, record { takes = takes_on m.number m.epochs last has.1.takes; own = numbers m.number ∙ has.1.own })
-  making_comp_on m (comp_at.Store word last n) frames numbers stays has = (
+  making_comp_on m (CompAt.Store word last n) frames numbers stays has = (
     has.0,
     takes_on m.number m.epochs last has.1,
     words_on m.frame (comp_word_at m (last.epoch + 1)) n (stays refl) has.2,
   )
-  making_comp_on m (comp_at.Fill word last) frames numbers stays has = (
+  making_comp_on m (CompAt.Fill word last) frames numbers stays has = (
     has.0,
     takes_on m.number m.epochs last has.1,
     words_on m.frame (comp_word_at m (last.epoch + 1)) 3 (stays refl) has.2,
@@ -545,16 +463,16 @@ module _ (setup : Setting) (setting : IsSetting setup) (t : Trace) (e : Step) (l
       → (freezes_at at ≡ true → (g d : ℕ) → own_read (e ∷ t) c (CountAt g d) ≡ own_read t c (CountAt g d))
       → (looks_in at ≡ true → LeavesFrame (state_after setup t) (state_after setup (e ∷ t)) f)
       → KnowsUntypingAt setup t c f at → KnowsUntypingAt setup (e ∷ t) c f at
-  untyping_on f untype.Load frames counts rests has = tt
-  untyping_on f (untype.Mark word v) frames counts rests has = record { own = frames f ∙ has.own; met = has.met }
-  untyping_on f (untype.Sweep word w) frames counts rests has = record {
+  untyping_on f UntypingAt.Load frames counts rests has = tt
+  untyping_on f (UntypingAt.Mark word v) frames counts rests has = record { own = frames f ∙ has.own; met = has.met }
+  untyping_on f (UntypingAt.Sweep word w) frames counts rests has = record {
     frame = has.frame;
     core = has.core;
     met = has.met;
     kept = has.kept;
     at = sweep_at_on f w w.at counts rests has.at;
   }
-  untyping_on f (untype.Draw word w) frames counts rests has = record {
+  untyping_on f (UntypingAt.Draw word w) frames counts rests has = record {
     frame = has.frame;
     shown = has.shown;
     met = has.met;

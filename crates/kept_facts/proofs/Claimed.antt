@@ -1,30 +1,13 @@
 -- What a step of another core leaves of threads: one that a core in a call guards stays a thread that it guards, and one that it has
 -- claimed is idle before the step and after it, so it is as it was.
-use Rattle.std.proofs.Common.{◌≡◌, ◌≢◌, ℕ, ◌∷◌, true, Option}
-use Rattle.std.proofs.Common.{Some, None, IsTrue, arith, refl, ◌∙◌, ap, subst}
-use Rattle.std.proofs.lemmas.Bool.{false≢true}
-use Rattle.thread_laws.specs.spk_nums.specs.Setting.{Setting, IsSetting}
-use Rattle.thread_laws.specs.spk_nums.specs.declared.kinds.Kind.TheVariants as kind
-use Rattle.thread_laws.specs.tcap_words.specs.Thread.{word_of_thread, thread_of_word}
-use Rattle.thread_laws.specs.tcap_words.specs.declared.thread_word.ThreadWord.TheVariants.{Idle, Running}
+use Rattle.core_invariant.proofs.{◌≡◌, ◌≢◌, ℕ, ◌∷◌, true, Option, Some, None, IsTrue, arith, refl, ◌∙◌, ap, subst, false≢true, Setting}
+use Rattle.core_invariant.proofs.{IsSetting, word_of_thread, thread_of_word, Idle, Running, Word, EntryAt, Frame, Kernel, Thread, PlaceOf}
+use Rattle.core_invariant.proofs.{State, put, thread_in, fits, put_other, MayFollow, marked_by, thread_value, is_in, Step, Trace, phase}
+use Rattle.core_invariant.proofs.{state_after, last_left, Core, MarkIs, settled, settled_by, IsFrameWord, WordIs, holds, held_by, times_of}
+use Rattle.core_invariant.proofs.{HasThread, IsIdleIn, Kind}
+use Rattle.{thread_laws.specs.trace_laws.proofs.Stays.stays_in_other, thread_laws.proofs.Steps.thread_stays}
+use Rattle.{thread_laws.proofs.Steps.idle_stays, core_invariant.specs.Words.Times, core_invariant.specs.Invariant.Invariant}
 use Rattle.thread_laws.specs.tcap_words.proofs.ThreadLemmas as words
-use Rattle.thread_laws.specs.word_map.specs.Word.{Word, EntryAt}
-use Rattle.thread_laws.specs.kernel_rules.specs.State.{Frame, Kernel, Thread, PlaceOf, State, put, thread_in}
-use Rattle.thread_laws.specs.kernel_rules.specs.Fitting.{fits}
-use Rattle.thread_laws.specs.kernel_rules.proofs.Within.{put_other}
-use Rattle.thread_laws.specs.kernel_history.specs.Legal.{MayFollow}
-use Rattle.thread_laws.specs.kernel_history.specs.Marking.{marked_by}
-use Rattle.thread_laws.specs.kernel_history.specs.ObjectWords.{thread_value}
-use Rattle.thread_laws.specs.kernel_history.specs.Stamps.{is_in}
-use Rattle.thread_laws.specs.kernel_history.specs.Trace.{Step, Trace, phase, state_after, last_left}
-use Rattle.thread_laws.specs.trace_laws.proofs.Stays.{stays_in_other}
-use Rattle.thread_laws.proofs.Steps.{thread_stays, idle_stays}
-use Rattle.core_invariant.specs.call_stages.specs.View.{Core}
-use Rattle.core_invariant.specs.Holding.{MarkIs, settled, settled_by}
-use Rattle.core_invariant.specs.Words.{Times, IsFrameWord, WordIs}
-use Rattle.core_invariant.specs.Invariant.{holds, held_by, times_of, Invariant}
-use Rattle.core_invariant.specs.Threads.{HasThread}
-use Rattle.core_invariant.proofs.ThreadHolds.{IsIdleIn}
 
 -- A word of an idle thread says that a thread runs nowhere.
 unlike : (depth d n : ℕ) → word_of_thread (Running d n) ≡ word_of_thread (Idle depth) → ⊥
@@ -57,7 +40,7 @@ module _ (setup : Setting) (setting : IsSetting setup) (cores : ℕ → Core) (t
     word = word_of_thread (Idle idle.depth)
 
     -- a thread whose first word is this
-    rests_in : (u : State) (times : Times) (x : Frame) → u.frame f ≡ x → IsTrue (fits kind.Thread x) → WordIs u times (EntryAt f 0) word
+    rests_in : (u : State) (times : Times) (x : Frame) → u.frame f ≡ x → IsTrue (fits Kind.Thread x) → WordIs u times (EntryAt f 0) word
         → (thread_in x).runs_on ≡ None
     rests_in u times (Kernel (Thread k)) is fit says = says_idle idle.depth k.runs_on _
         (subst (λ y. IsFrameWord u.limits.frames y (u.place f 0) (times.stamp (PlaceOf f 0)) 0 word) is says)

@@ -1,23 +1,14 @@
 -- How the sum of a frame's counts changes where one count word does, and how references change.
-use Rattle.std.proofs.Common.{◌≡◌, ◌≢◌, inl, inr, ℕ, zero, suc, ℤ, ◌+ℤ◌, ◌-ℤ◌, ◌+◌, ◌<◌, ◌≤◌, ◌==◌, max}
-use Rattle.std.proofs.Common.{cond, List, [], ◌∷◌, Option, arith, refl, sym, ◌∙◌, ap}
-use Rattle.std.specs.List.{range_with_len}
-use Rattle.std.proofs.lemmas.Bool.{cases_eq, cases_order, eq-eqb, ne_eqb}
-use Rattle.std.proofs.lemmas.Int.{ints}
-use Rattle.thread_laws.specs.spk_nums.specs.Capability.{Capability}
-use Rattle.thread_laws.specs.frame_words.specs.Residue.{residue}
-use Rattle.thread_laws.specs.frame_words.specs.declared.count_word.CountWord.{CountWord}
-use Rattle.thread_laws.specs.kernel_rules.specs.State.{Holds, Quiescing, Grace, Thing, State, with_place, with_grace}
-use Rattle.thread_laws.specs.kernel_rules.specs.References.{named_by, place_names, frame_names, number_names, core_names, sum_below}
-use Rattle.thread_laws.specs.kernel_rules.specs.References.{times, node_refs, refs}
-use Rattle.thread_laws.specs.kernel_rules.specs.CallRelation.{counted}
+use Rattle.core_invariant.proofs.{◌≡◌, ◌≢◌, inl, inr, ℕ, zero, suc, ℤ, ◌+ℤ◌, ◌+◌, ◌<◌, ◌≤◌, ◌==◌, max, cond, List, [], ◌∷◌, Option, arith}
+use Rattle.core_invariant.proofs.{refl, sym, ◌∙◌, ap, eq-eqb, ne_eqb, Capability, residue, CountWord, Holds, Quiescing, Grace, Thing, State}
+use Rattle.core_invariant.proofs.{with_place, named_by, place_names, frame_names, sum_below, times, refs, counted, grace_refs, counters}
+use Rattle.core_invariant.proofs.{count_in, count_sum, stamp_in, newest_of}
+use Rattle.kernel_laws.specs.kernel_rules.specs.{◌-ℤ◌, with_grace, number_names, core_names, node_refs}
+use Rattle.{std.proofs.lemmas.Bool.cases_eq, std.proofs.lemmas.Bool.cases_order, std.specs.List.range_with_len, std.proofs.lemmas.Int.ints}
+use Rattle.{kernel_laws.specs.kernel_invariant.proofs.Refs.place_refs, core_invariant.proofs.Residues.residue_plus}
+use Rattle.{kept_facts.proofs.Calm.IsCalm, kept_facts.proofs.Calm.calm_counted}
 use Rattle.thread_laws.specs.kernel_invariant.proofs.Sums as sums
-use Rattle.thread_laws.specs.kernel_invariant.proofs.Refs.{place_refs, grace_refs}
-use Rattle.thread_laws.specs.kernel_history.specs.Counts.{counters, count_in, count_sum}
 pub use Rattle.thread_laws.specs.kernel_history.proofs.Counters.{counter_all}
-use Rattle.core_invariant.specs.CountWords.{stamp_in, newest_of}
-use Rattle.core_invariant.proofs.Residues.{residue_plus}
-use Rattle.kept_facts.proofs.Calm.{IsCalm, calm_counted}
 
 -- How often a number occurs in a list whose first it is, or is not.
 pub times_here : (d c : ℕ) (cs : List ℕ) → c ≡ d → times d (c ∷ cs) ≡ 1 + times d cs

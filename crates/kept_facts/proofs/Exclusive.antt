@@ -1,42 +1,18 @@
 -- Who keeps a word without a mark: the core whose current thread has it, or the one whose mark the head carries of the temporal capability
 -- whose list has it. So no word has two keepers, and another word settles to itself where it carries no mark.
-use Rattle.std.proofs.Common.{◌≡◌, ◌≢◌, ◌≤◌, ◌<◌, ◌⊎◌, inl, inr, ℕ, [], ◌∷◌, length, Bool, true, false}
-use Rattle.std.proofs.Common.{Option, Some, None, IsTrue, if◌then◌else◌, arith, refl, sym, ◌∙◌, ap, subst}
-use Rattle.std.proofs.lemmas.Bool.{false≢true, ne_eqb}
-use Rattle.thread_laws.specs.spk_nums.specs.Setting.{Setting, IsSetting}
-use Rattle.thread_laws.specs.spk_nums.specs.declared.calls.Call.{Call}
-use Rattle.thread_laws.specs.word_map.specs.Word.{Word, EntryAt}
-use Rattle.thread_laws.specs.word_map.specs.Moves.{word_of, left_of}
-use Rattle.thread_laws.specs.kernel_rules.specs.Relies.{is_node}
-use Rattle.thread_laws.specs.kernel_rules.specs.State.{Frame, Kernel, Untyped, User, Blank, Table, Leaf, Pages, Pleaf}
-use Rattle.thread_laws.specs.kernel_rules.specs.State.{Comp, Thread, Tcap, TcapFields, thread_in, thread_of, put}
-use Rattle.thread_laws.specs.kernel_rules.proofs.Within.{put_same}
-use Rattle.thread_laws.specs.kernel_history.specs.Trace.{Step, Trace, Open, state_after, last_left}
-use Rattle.thread_laws.specs.kernel_history.specs.Marks.{mark_of, mark_in_frame, head_mark}
-use Rattle.thread_laws.specs.kernel_history.specs.Marking.{marked_by}
-use Rattle.thread_laws.specs.kernel_history.specs.Discipline.{KeepsMarked}
-use Rattle.thread_laws.specs.kernel_history.proofs.Names.{cases_word}
-use Rattle.thread_laws.specs.kernel_history.proofs.Inside.{inside_is}
-use Rattle.thread_laws.specs.kernel_history.proofs.Steps.{last_left-here, last_left-there}
-use Rattle.thread_laws.specs.found_stays.proofs.Stays.{OwnStay}
-use Rattle.thread_laws.specs.kernel_history.specs.Legal.{MayFollow}
-use Rattle.thread_laws.specs.found_stays.proofs.Spares.{RunsOn}
-use Rattle.thread_laws.specs.found_stays.proofs.SparesRuns.{runs_of}
-use Rattle.thread_laws.specs.kernel_invariant.proofs.SoundRuns.{limits_stay}
-use Rattle.thread_laws.specs.kernel_history.specs.Events.{events_of}
-use Rattle.thread_laws.specs.kernel_history.proofs.Events.{state_is, run_of}
-use Rattle.thread_laws.specs.trace_laws.proofs.Stays.{own_stays_other}
-use Rattle.thread_laws.specs.tcap_words.specs.Head.{head_of_word}
-use Rattle.core_invariant.specs.call_stages.specs.declared.stages.ActiveCall.{ActiveCall}
-use Rattle.core_invariant.specs.call_stages.specs.View.{Core}
-use Rattle.core_invariant.specs.Holding.{Holding, bare_value, MarkIs}
-use Rattle.core_invariant.specs.Knows.{phase_at}
-use Rattle.core_invariant.specs.Shares.{HasTcap}
-use Rattle.core_invariant.specs.Invariant.{holds, holds_in, held_by, IsExclusive, IsOfThread, IsOfList, SaysRunning, Invariant}
-use Rattle.core_invariant.proofs.ActBares.{open_bare}
-use Rattle.core_invariant.proofs.Bare.{AsBefore, IsNotKept, none_kept, own_kept, core_bare}
-use Rattle.core_invariant.proofs.Markers.{marker_inside}
+use Rattle.core_invariant.proofs.{◌≡◌, ◌≢◌, ◌≤◌, ◌<◌, ◌⊎◌, inl, inr, ℕ, [], ◌∷◌, length, Bool, true, false, Option, Some, None, IsTrue}
+use Rattle.core_invariant.proofs.{if◌then◌else◌, arith, refl, sym, ◌∙◌, ap, subst, false≢true, ne_eqb, Setting, IsSetting, Call, Word}
+use Rattle.core_invariant.proofs.{EntryAt, word_of, left_of, is_node, Frame, Kernel, Untyped, User, Blank, Table, Leaf, Pages, Pleaf, Comp}
+use Rattle.core_invariant.proofs.{Thread, Tcap, TcapFields, thread_in, thread_of, put, put_same, Step, Trace, Open, state_after, last_left}
+use Rattle.core_invariant.proofs.{mark_of, mark_in_frame, head_mark, marked_by, cases_word, inside_is, last_left-here, last_left-there}
+use Rattle.core_invariant.proofs.{MayFollow, events_of, state_is, run_of, head_of_word, ActiveCall, Core, MarkIs, phase_at, HasTcap, holds}
+use Rattle.core_invariant.proofs.{holds_in, held_by, IsExclusive, AsBefore, IsNotKept, none_kept, own_kept, core_bare, marker_inside}
+use Rattle.core_invariant.specs.{bare_value, IsOfThread, SaysRunning}
+use Rattle.kernel_laws.specs.found_stays.proofs.{OwnStay, RunsOn, runs_of}
+use Rattle.core_invariant.specs.{Holding.Holding, Invariant.IsOfList, Invariant.Invariant}
 use Rattle.kept_facts.proofs.Tcaps.{is_tcap, tcap_of, tcap_stays}
+use Rattle.{thread_laws.specs.kernel_history.specs.Discipline.KeepsMarked, kernel_laws.specs.kernel_invariant.proofs.SoundRuns.limits_stay}
+use Rattle.{thread_laws.specs.trace_laws.proofs.Stays.own_stays_other, core_invariant.proofs.ActBares.open_bare}
 
 none_some : (v : ℕ) → None ≡ Some v → ⊥
 none_some v h = cc

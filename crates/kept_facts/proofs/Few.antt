@@ -1,14 +1,7 @@
 -- After a legal trace a frame has at most 32,848 references, so their number modulo 2 ^ 16 is the number itself.
-use Rattle.std.proofs.Common.{◌≡◌, ◌≤◌, ◌<◌, ◌^◌, ℕ, pos, arith, sym, subst}
-use Rattle.kernel_laws.proofs.FewRefs.{references_few}
-use Rattle.thread_laws.specs.spk_nums.specs.Setting.{Setting, IsSetting}
-use Rattle.thread_laws.specs.frame_words.specs.Residue.{residue}
-use Rattle.thread_laws.specs.frame_words.proofs.ResidueLemmas.{residue_pos}
-use Rattle.thread_laws.specs.kernel_rules.specs.References.{refs}
-use Rattle.thread_laws.specs.kernel_history.specs.Events.{events_of}
-use Rattle.thread_laws.specs.kernel_history.specs.Legal.{IsLegal}
-use Rattle.thread_laws.specs.kernel_history.specs.Trace.{Trace, state_after}
-use Rattle.thread_laws.specs.kernel_history.proofs.Events.{state_is, run_of}
+use Rattle.core_invariant.proofs.{◌≡◌, ◌≤◌, ◌<◌, ◌^◌, ℕ, pos, arith, sym, subst, Setting, IsSetting, residue, refs, events_of, IsLegal}
+use Rattle.core_invariant.proofs.{Trace, state_after, state_is, run_of}
+use Rattle.{kernel_laws.proofs.FewRefs.references_few, thread_laws.specs.frame_words.proofs.ResidueLemmas.residue_pos}
 
 pub few_after : (setup : Setting) → IsSetting setup → (t : Trace) → IsLegal setup t → (f : ℕ) → refs (state_after setup t) f ≤ 32848
 few_after setup setting t legal f =

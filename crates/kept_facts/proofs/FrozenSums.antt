@@ -1,18 +1,11 @@
 -- The counters of a frame that were frozen in order: where each count word shows the count and the stamp that were found there, the counts
 -- that they show sum to those found, and the newest stamp that they show is the latest found.
-use Rattle.std.proofs.Common.{◌≡◌, ℕ, zero, suc, ℤ, pos, ◌+ℤ◌, ◌+◌, ◌<◌, max, List, [], ◌∷◌, ◌++◌, fold, length}
-use Rattle.std.proofs.Common.{slice_get}
-use Rattle.std.proofs.Common.{Option, Some, arith, refl, sym, ◌∙◌, ap, subst}
-use Rattle.std.specs.Prelude.{All}
-use Rattle.std.specs.List.{range_with_len}
-use Rattle.std.proofs.lemmas.Int.{ints}
-use Rattle.std.proofs.lemmas.List.Elements.{All-get_or, All-head, All-tail}
-use Rattle.std.proofs.lemmas.List.FromFn.{length-range_with_len}
-use Rattle.std.proofs.lemmas.Option.{get_or_from_slice_get, slice_get_within}
-use Rattle.thread_laws.specs.frame_words.specs.declared.count_word.CountWord.{CountWord}
-use Rattle.thread_laws.specs.kernel_history.specs.Counts.{counters, count_in, count_sum}
-use Rattle.core_invariant.specs.stage_sweep.specs.Counters.{add_count, sum_of_counts, later_of, latest_stamp}
-use Rattle.core_invariant.specs.CountWords.{stamp_in, newest_of}
+use Rattle.core_invariant.proofs.{◌≡◌, ℕ, zero, suc, ℤ, pos, ◌+ℤ◌, ◌+◌, ◌<◌, max, List, [], ◌∷◌, ◌++◌, length, slice_get, Option, Some}
+use Rattle.core_invariant.proofs.{arith, refl, sym, ◌∙◌, ap, subst, All, CountWord, counters, count_in, count_sum, latest_stamp, stamp_in}
+use Rattle.std.proofs.{Common.fold, lemmas.Int.ints, lemmas.List.Elements.All-get_or, lemmas.List.Elements.All-head}
+use Rattle.std.proofs.{lemmas.List.Elements.All-tail, lemmas.List.FromFn.length-range_with_len, lemmas.Option.get_or_from_slice_get}
+use Rattle.core_invariant.specs.stage_sweep.specs.Counters.{add_count, sum_of_counts, later_of}
+use Rattle.{core_invariant.proofs.newest_of, std.proofs.lemmas.Option.slice_get_within, std.specs.List.range_with_len}
 
 -- An element of a list that is followed by one more is in the list, or is that one.
 pub got_before : {A : Type 0} (xs : List A) (x : A) (d : ℕ) → d < length xs → slice_get (xs ++ x ∷ []) d ≡ slice_get xs d

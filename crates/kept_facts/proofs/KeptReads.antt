@@ -1,46 +1,15 @@
 -- What a step leaves of that on which a call's knowledge of its act rests.
-use Rattle.core_invariant.specs.act_states.specs.Comps.{comp_is_marked}
-use Rattle.core_invariant.specs.act_states.specs.Makings.{is_marked}
-use Rattle.std.proofs.Common.{◌≡◌, ℕ, ◌&&◌, [], ◌∷◌, ◌++◌}
-use Rattle.std.proofs.Common.{List, Bool, true, false, ◌∙◌, ap, ◌==◌, sym}
-use Rattle.std.proofs.lemmas.Bool.{false≢true}
-use Rattle.thread_laws.specs.spk_nums.specs.Capability.{Capability}
-use Rattle.thread_laws.specs.spk_nums.specs.Setting.{Setting}
-use Rattle.thread_laws.specs.spk_nums.specs.declared.calls.Call.{Call}
-use Rattle.thread_laws.specs.word_map.specs.Word.{EntryAt, CountAt, FrameAt, LiveAt}
-use Rattle.thread_laws.specs.kernel_history.specs.Trace.{Step, Trace, state_after, own_read, last_left}
-use Rattle.thread_laws.specs.kernel_history.specs.Stamps.{stamp}
-use Rattle.core_invariant.specs.stage_quiet.specs.declared.quiet.Quiet.{Quiet}
-use Rattle.core_invariant.specs.stage_quiet.specs.declared.quiet.Quiet.TheVariants.{AtCore, AtFlush}
-use Rattle.core_invariant.specs.act_states.specs.declared.work.Act.{Act as ActOf}
-use Rattle.core_invariant.specs.act_states.specs.declared.work.Act.TheVariants.{Fill as fill_act, Remove as remove_act, Retype as type_act}
-use Rattle.core_invariant.specs.act_states.specs.declared.work.Act.TheVariants.{Make as make_act, Outside, Tick as tick_act}
-use Rattle.core_invariant.specs.act_states.specs.declared.work.Act.TheVariants.{Flush as flush_act}
-use Rattle.core_invariant.specs.act_states.specs.declared.work.Act.TheVariants.{Kill as kill_act, Untype as untype_act, Map as map_act}
-use Rattle.core_invariant.specs.act_states.specs.declared.work.Act.TheVariants.{MakeComp as comp_act, Invoke as invoke_act}
-use Rattle.core_invariant.specs.act_states.specs.declared.work.Act.TheVariants.{Return as return_act}
-use Rattle.core_invariant.specs.act_states.specs.declared.work.Act.TheVariants.{Touch as touch_act, Share as share_act}
-use Rattle.core_invariant.specs.act_states.specs.declared.work.Act.TheVariants.{Refill as refill_act}
-use Rattle.core_invariant.specs.act_states.specs.declared.work.Act.TheVariants.{Switch as switch_act}
-use Rattle.core_invariant.specs.act_states.specs.declared.work.Work.{Work}
-use Rattle.core_invariant.specs.act_states.specs.declared.work.Work.TheVariants.{Lookup, Read, Scan, Acquire, Act}
-use Rattle.core_invariant.specs.act_states.specs.Acts.{dues}
-use Rattle.core_invariant.specs.Shares.{KnowsShare}
-use Rattle.core_invariant.specs.Refills.{KnowsRefill}
-use Rattle.core_invariant.specs.stage_tcap.specs.declared.refill.Refill.{Refill}
-use Rattle.core_invariant.specs.call_stages.specs.declared.stages.ActiveCall.{ActiveCall}
-use Rattle.core_invariant.specs.act_states.specs.declared.work.Due.{Due}
-use Rattle.core_invariant.specs.stage_tcap.specs.declared.pair.Pair.{Pair}
-use Rattle.core_invariant.specs.Knows.{is_start}
-use Rattle.core_invariant.specs.Knows.{KnowsQuiet}
-use Rattle.core_invariant.specs.Knows.{IsUser}
-use Rattle.core_invariant.specs.stage_sweep.specs.declared.sweep.SweepAt.{SweepAt}
-use Rattle.core_invariant.specs.stage_sweep.specs.declared.sweep.SweepAt.TheVariants.{Load as sweep_load, Compare as sweep_compare}
-use Rattle.core_invariant.specs.stage_sweep.specs.declared.sweep.SweepAt.TheVariants.{Scan as sweep_scan, Empty as sweep_empty}
-use Rattle.core_invariant.specs.act_states.specs.declared.untypings.UntypingAt.{UntypingAt}
-use Rattle.core_invariant.specs.act_states.specs.declared.untypings.UntypingAt.TheVariants as untype
-use Rattle.core_invariant.specs.Threads.{HasThread, claimed_by, is_claimed}
-use Rattle.kept_facts.proofs.Swept.{LeavesFrame}
+use Rattle.core_invariant.proofs.{◌≡◌, ℕ, ◌&&◌, [], ◌∷◌, ◌++◌, List, Bool, true, false, ◌∙◌, ap, ◌==◌, sym, false≢true, Capability, Setting}
+use Rattle.core_invariant.proofs.{Call, EntryAt, CountAt, FrameAt, LiveAt, Step, Trace, state_after, own_read, last_left, stamp, Quiet}
+use Rattle.core_invariant.proofs.{AtCore, AtFlush, Fill as fill_act, Remove as remove_act, Retype as type_act, Make as make_act, Outside}
+use Rattle.core_invariant.proofs.{Tick as tick_act, Flush as flush_act, Kill as kill_act, Untype as untype_act, Map as map_act}
+use Rattle.core_invariant.proofs.{MakeComp as comp_act, Invoke as invoke_act, Return as return_act, Touch as touch_act, Share as share_act}
+use Rattle.core_invariant.proofs.{Refill as refill_act, Switch as switch_act, Work, Lookup, Read, Scan, Acquire, Act, dues, ActiveCall, Due}
+use Rattle.core_invariant.proofs.{Pair, SweepAt, Compare as sweep_compare, Empty as sweep_empty, UntypingAt, HasThread, claimed_by}
+use Rattle.core_invariant.specs.act_states.specs.{comp_is_marked, is_marked, Refill, Load as sweep_load, Scan as sweep_scan}
+use Rattle.core_invariant.specs.{Shares.KnowsShare, Refills.KnowsRefill, Reaching.IsUser}
+use Rattle.{core_invariant.proofs.is_claimed, core_invariant.specs.is_start, core_invariant.specs.KnowsQuiet}
+use Rattle.{core_invariant.specs.act_states.specs.declared.work.Act.Act as ActOf, kept_facts.proofs.Swept.LeavesFrame}
 
 -- The frame whose words an act has stored.
 abbrev pub stores_in : ActOf → ℕ → Bool
@@ -83,16 +52,16 @@ looks_at (sweep_scan q) = false
 looks_at (sweep_empty entry) = true
 
 abbrev pub freezes_at : UntypingAt → Bool
-freezes_at untype.Load = false
-freezes_at (untype.Mark word v) = false
-freezes_at (untype.Sweep word w) = freezes w.at
-freezes_at (untype.Draw word w) = false
+freezes_at UntypingAt.Load = false
+freezes_at (UntypingAt.Mark word v) = false
+freezes_at (UntypingAt.Sweep word w) = freezes w.at
+freezes_at (UntypingAt.Draw word w) = false
 
 abbrev pub looks_in : UntypingAt → Bool
-looks_in untype.Load = false
-looks_in (untype.Mark word v) = false
-looks_in (untype.Sweep word w) = looks_at w.at
-looks_in (untype.Draw word w) = true
+looks_in UntypingAt.Load = false
+looks_in (UntypingAt.Mark word v) = false
+looks_in (UntypingAt.Sweep word w) = looks_at w.at
+looks_in (UntypingAt.Draw word w) = true
 
 abbrev pub reads_counts : ActOf → Bool
 reads_counts (untype_act m) = freezes_at m.at

@@ -1,33 +1,16 @@
 -- What a call knows of two temporal capabilities it knows still after a step that spares their words.
-use Rattle.std.proofs.Common.{◌≡◌, ◌≢◌, ◌⊎◌, inl, inr, ℕ, zero, suc, ◌<◌, ◌≤◌, ◌==◌, ◌&&◌, not, Bool, true, false}
-use Rattle.std.proofs.Common.{IsSome, is_some, if◌then◌else◌, List, Option, Some, None, arith, refl, sym, ◌∙◌, ap, subst, ◌∷◌}
-use Rattle.std.proofs.lemmas.Bool.{cases_eq, eq-eqb, ne_eqb, false≢true}
-use Rattle.thread_laws.specs.spk_nums.specs.Setting.{Setting}
-use Rattle.thread_laws.specs.tcap_words.specs.Head.{word_of_head, head_of_word}
-use Rattle.thread_laws.specs.tcap_words.specs.Quality.{quality_of_word}
-use Rattle.thread_laws.specs.tcap_words.specs.declared.head_word.HeadWord.{HeadWord}
+use Rattle.core_invariant.proofs.{◌≡◌, ◌≢◌, ◌⊎◌, inl, inr, ℕ, zero, suc, ◌<◌, ◌≤◌, ◌==◌, ◌&&◌, not, Bool, true, false, IsSome, is_some}
+use Rattle.core_invariant.proofs.{if◌then◌else◌, List, Option, Some, None, arith, refl, sym, ◌∙◌, ap, subst, ◌∷◌, eq-eqb, ne_eqb}
+use Rattle.core_invariant.proofs.{false≢true, Setting, word_of_head, head_of_word, quality_of_word, HeadWord, Word, EntryAt, FrameAt}
+use Rattle.core_invariant.proofs.{CountAt, CoreAt, FlushAt, LiveAt, ClockAt, word_of, left_of, Kernel, Tcap, TcapFields, mark_in_frame}
+use Rattle.core_invariant.proofs.{head_mark, marked_by, Step, Trace, state_after, last_left, own_read, cases_word, last_left-here}
+use Rattle.core_invariant.proofs.{last_left-there, marked, read_word, Pair, PairAt, LoadA, MarkA, ListA, LoadB, ListB, CompareB, AgainB}
+use Rattle.core_invariant.proofs.{StoreList, StoreB, StoreA, list_changed, TurnsHead, SparesTcap, list_word, read_up, HasMarkedA, HasBoth}
+use Rattle.core_invariant.proofs.{KnowsPairAt, StoresA, HeadFits}
+use Rattle.core_invariant.specs.{turns_list, HasSeenB, KeepsList, KnowsRefillAt}
+use Rattle.core_invariant.specs.{Shares.MayTurn, Shares.ReadsHead, Shares.HasReadB, Refills.HasReadList, Refills.HasWeighed}
+use Rattle.{core_invariant.specs.act_states.specs.Refill, core_invariant.specs.act_states.specs.RefillAt, std.proofs.lemmas.Bool.cases_eq}
 use Rattle.thread_laws.specs.tcap_words.proofs.HeadLemmas as heads
-use Rattle.thread_laws.specs.word_map.specs.Word.{Word, EntryAt, FrameAt, CountAt, CoreAt, FlushAt, LiveAt, ClockAt}
-use Rattle.thread_laws.specs.word_map.specs.Moves.{word_of, left_of}
-use Rattle.thread_laws.specs.kernel_rules.specs.State.{Kernel, Tcap, TcapFields}
-use Rattle.thread_laws.specs.kernel_history.specs.Marks.{mark_in_frame, head_mark}
-use Rattle.thread_laws.specs.kernel_history.specs.Marking.{marked_by}
-use Rattle.thread_laws.specs.kernel_history.specs.Trace.{Step, Trace, state_after, last_left, own_read}
-use Rattle.thread_laws.specs.kernel_history.proofs.Names.{cases_word}
-use Rattle.thread_laws.specs.kernel_history.proofs.Steps.{last_left-here, last_left-there}
-use Rattle.core_invariant.specs.stage_tcap.specs.Heads.{marked}
-use Rattle.core_invariant.specs.stage_tcap.specs.Lists.{read_word}
-use Rattle.core_invariant.specs.stage_tcap.specs.declared.pair.Pair.{Pair}
-use Rattle.core_invariant.specs.stage_tcap.specs.declared.pair.PairAt.{PairAt}
-use Rattle.core_invariant.specs.stage_tcap.specs.declared.pair.PairAt.TheVariants.{LoadA, MarkA, ListA, LoadB, ListB, CompareB}
-use Rattle.core_invariant.specs.stage_tcap.specs.declared.pair.PairAt.TheVariants.{AgainB, StoreList, StoreB, StoreA}
-use Rattle.core_invariant.specs.Shares.{turns_list, list_changed, MayTurn, TurnsHead, SparesTcap, list_word, read_up}
-use Rattle.core_invariant.specs.Shares.{ReadsHead, HasMarkedA, HasSeenB, HasReadB, HasBoth, KnowsPairAt, StoresA, KeepsList}
-use Rattle.core_invariant.specs.Refills.{HasReadList, HasWeighed, KnowsRefillAt}
-use Rattle.core_invariant.specs.stage_tcap.specs.declared.refill.Refill.{Refill}
-use Rattle.core_invariant.specs.stage_tcap.specs.declared.refill.RefillAt.{RefillAt}
-use Rattle.core_invariant.specs.stage_tcap.specs.declared.refill.RefillAt.TheVariants as refill
-use Rattle.thread_laws.specs.tcap_words.specs.Head.{HeadFits}
 
 -- A list is read alike from words that are alike.
 pub read_alike : (w v : ℕ → ℕ) (n : ℕ) → ((j : ℕ) → w j ≡ v j) → read_up w n ≡ read_up v n
@@ -316,11 +299,11 @@ module _ (setup : Setting) (t : Trace) (e : Step) (found_is : e.found ≡ last_l
   weighed_other covered has = record { read = read_other 8 has.read; is = has.is; enough = has.enough }
 
   pub refill_other : (at : RefillAt) → KnowsRefillAt setup t c r at → KnowsRefillAt setup (e ∷ t) c r at
-  refill_other refill.Load has = has
-  refill_other (refill.List zero) has = has
-  refill_other (refill.List (suc n)) has = read_other n has
-  refill_other refill.Compare has = weighed_other true has
-  refill_other refill.Again has = weighed_other false has
+  refill_other RefillAt.Load has = has
+  refill_other (RefillAt.List zero) has = has
+  refill_other (RefillAt.List (suc n)) has = read_other n has
+  refill_other RefillAt.Compare has = weighed_other true has
+  refill_other RefillAt.Again has = weighed_other false has
 
 -- A step of another core, where both are temporal capabilities.
 module _ (setup : Setting) (t : Trace) (e : Step) (found_is : e.found ≡ last_left setup t (word_of e.move)) (c : ℕ) (other : c ≢ e.core)

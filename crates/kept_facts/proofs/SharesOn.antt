@@ -1,33 +1,16 @@
 -- What a call knows of two temporal capabilities it knows still after a step of another core.
-use Rattle.std.proofs.Common.{◌≡◌, ◌≢◌, ◌<◌, ℕ, true, List, [], ◌∷◌, Some, arith, sym, ◌∙◌, ap}
-use Rattle.thread_laws.specs.spk_nums.specs.Setting.{Setting, IsSetting}
-use Rattle.thread_laws.specs.spk_nums.specs.Capability.{Capability}
-use Rattle.thread_laws.specs.spk_nums.specs.declared.calls.Call.{Call}
-use Rattle.thread_laws.specs.spk_nums.specs.declared.calls.Call.TheVariants.{Replenish}
-use Rattle.thread_laws.specs.tcap_words.specs.Head.{HeadFits, word_of_head, head_of_word}
-use Rattle.thread_laws.specs.tcap_words.specs.declared.head_word.HeadWord.{HeadWord}
-use Rattle.thread_laws.specs.tcap_words.proofs.HeadLemmas as heads
-use Rattle.thread_laws.specs.word_map.specs.Word.{EntryAt}
-use Rattle.thread_laws.specs.word_map.specs.Moves.{word_of, left_of}
-use Rattle.thread_laws.specs.kernel_rules.specs.State.{Kernel, Tcap, TcapFields}
-use Rattle.thread_laws.specs.kernel_history.specs.Footprint.{IsInFootprint}
-use Rattle.thread_laws.specs.kernel_history.specs.Legal.{MayFollow, IsLegal}
-use Rattle.thread_laws.specs.kernel_history.specs.Trace.{Step, Trace, phase, state_after, last_left}
-use Rattle.thread_laws.specs.kernel_history.specs.Stamps.{is_in}
-use Rattle.thread_laws.specs.kernel_history.proofs.Steps.{own_read-other}
-use Rattle.thread_laws.specs.trace_laws.proofs.Carries.{was_stays}
-use Rattle.thread_laws.specs.trace_laws.proofs.Stays.{stays_in_other}
-use Rattle.core_invariant.specs.stage_tcap.specs.Heads.{marked}
-use Rattle.core_invariant.specs.stage_tcap.specs.declared.pair.Pair.{Pair}
-use Rattle.core_invariant.specs.stage_tcap.specs.declared.pair.PairAt.{PairAt}
-use Rattle.core_invariant.specs.stage_tcap.specs.declared.pair.PairAt.TheVariants.{LoadA, MarkA, ListA, LoadB, ListB, CompareB}
-use Rattle.core_invariant.specs.stage_tcap.specs.declared.pair.PairAt.TheVariants.{AgainB, StoreList, StoreB, StoreA}
-use Rattle.core_invariant.specs.act_states.specs.Refills.{left_among}
-use Rattle.core_invariant.specs.stage_tcap.specs.declared.refill.Refill.{Refill}
-use Rattle.core_invariant.specs.Refills.{RefillsBy, KnowsRefill}
-use Rattle.core_invariant.specs.Shares.{SparesTcap, HasTcap, KnowsShare, StoresA, StoresB, KnowsStoresAt, KnowsShared}
+use Rattle.core_invariant.proofs.{◌≡◌, ◌≢◌, ◌<◌, ℕ, true, List, [], ◌∷◌, Some, arith, sym, ◌∙◌, ap, Setting, IsSetting, Capability, Call}
+use Rattle.core_invariant.proofs.{Replenish, HeadFits, word_of_head, head_of_word, HeadWord, EntryAt, word_of, left_of, Kernel, Tcap}
+use Rattle.core_invariant.proofs.{TcapFields, IsInFootprint, MayFollow, IsLegal, Step, Trace, phase, state_after, last_left, is_in, marked}
+use Rattle.core_invariant.proofs.{Pair, PairAt, LoadA, MarkA, ListA, LoadB, ListB, CompareB, AgainB, StoreList, StoreB, StoreA, SparesTcap}
+use Rattle.core_invariant.proofs.{HasTcap, StoresA, KnowsStoresAt}
+use Rattle.core_invariant.specs.{RefillsBy, StoresB, KnowsShared}
 use Rattle.kept_facts.proofs.Pairs.{tcap_mark, kept_all, left_same, pair_other, refill_other, stores_on_a, keeps_on_b}
-use Rattle.kept_facts.proofs.Tcaps.{tcap_of, tcap_stays}
+use Rattle.{core_invariant.specs.act_states.specs.left_among, core_invariant.specs.act_states.specs.Refill}
+use Rattle.{thread_laws.specs.trace_laws.proofs.was_stays, thread_laws.specs.trace_laws.proofs.stays_in_other}
+use Rattle.{thread_laws.specs.kernel_history.proofs.Steps.own_read-other, core_invariant.specs.Refills.KnowsRefill}
+use Rattle.{core_invariant.specs.Shares.KnowsShare, kept_facts.proofs.Tcaps.tcap_of, kept_facts.proofs.Tcaps.tcap_stays}
+use Rattle.thread_laws.specs.tcap_words.proofs.HeadLemmas as heads
 
 -- What core c knows of them stays known, while its call is undecided and after.
 pub record SharesStay (setup : Setting) (t : Trace) (e : Step) (c : ℕ) : Type 0 where

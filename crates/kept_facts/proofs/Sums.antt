@@ -1,19 +1,8 @@
 -- The sum of a frame's counts stays where a step leaves what its count words stand for, and its references.
-use Rattle.std.proofs.Common.{◌≡◌, ℕ, pos, ◌∷◌, sym, ◌∙◌, ap}
-use Rattle.thread_laws.specs.spk_nums.specs.Setting.{Setting}
-use Rattle.thread_laws.specs.frame_words.specs.Count.{count_of_word}
-use Rattle.thread_laws.specs.frame_words.specs.Residue.{residue}
-use Rattle.thread_laws.specs.word_map.specs.Word.{CountAt}
-use Rattle.thread_laws.specs.kernel_rules.specs.State.{FrameOf}
-use Rattle.thread_laws.specs.kernel_rules.specs.References.{refs}
-use Rattle.thread_laws.specs.kernel_history.specs.Counts.{counters, count_sum}
-use Rattle.thread_laws.specs.kernel_history.specs.Stamps.{stamp}
-use Rattle.thread_laws.specs.kernel_history.specs.Trace.{Step, Trace, state_after}
-use Rattle.core_invariant.specs.Holding.{Holding, settled}
-use Rattle.core_invariant.specs.CountWords.{stamp_in, newest_of}
-use Rattle.core_invariant.specs.Invariant.{count_shown, SumIs}
-use Rattle.kept_facts.proofs.Calm.{IsCalm, IsUntimed, plain_stamp}
-use Rattle.kept_facts.proofs.CountSums.{sum_same, newest_same, calm_refs}
+use Rattle.core_invariant.proofs.{◌≡◌, ℕ, pos, ◌∷◌, sym, ◌∙◌, ap, Setting, count_of_word, residue, CountAt, FrameOf, refs, counters}
+use Rattle.core_invariant.proofs.{count_sum, stamp, Step, Trace, state_after, settled, stamp_in, newest_of, count_shown, SumIs}
+use Rattle.core_invariant.specs.Holding.{Holding}
+use Rattle.kept_facts.proofs.{Calm.IsCalm, Calm.IsUntimed, Calm.plain_stamp, CountSums.sum_same, CountSums.newest_same, CountSums.calm_refs}
 
 module _ (setup : Setting) (t : Trace) (e : Step) (held held' : ℕ → Holding)
     (same : (f d : ℕ) → settled setup held' (e ∷ t) (CountAt f d) ≡ settled setup held t (CountAt f d)) where

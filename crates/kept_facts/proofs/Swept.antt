@@ -1,63 +1,34 @@
 -- What the frozen counters of a frame say: while a core holds them all, nothing refers to the frame where their sum is 0, and their latest
 -- stamp is that of the frame's last release. So nobody else uses the frame, and what was found of its object stays.
-use Rattle.std.proofs.Common.{◌≡◌, ◌≢◌, inl, inr, ℕ, pos, ◌<◌, Bool, true, false, List, Option}
-use Rattle.std.proofs.Common.{◌∷◌, length, slice_get, Some, IsTrue, arith, refl, sym, ◌∙◌, ap, subst}
-use Rattle.std.proofs.lemmas.Bool.{false≢true}
-use Rattle.std.specs.List.{range_with_len}
-use Rattle.std.proofs.lemmas.Option.{slice_get_within}
-use Rattle.thread_laws.specs.spk_nums.specs.Setting.{Setting, IsSetting}
-use Rattle.thread_laws.specs.spk_nums.specs.declared.kinds.FrameKind.TheVariants as frame_kind
-use Rattle.thread_laws.specs.spk_nums.specs.declared.kinds.Obj.TheVariants as obj
-use Rattle.thread_laws.specs.frame_words.specs.Count.{CountFits, word_of_count, count_of_word}
-use Rattle.thread_laws.specs.frame_words.specs.Frame.{frame_of_word}
-use Rattle.thread_laws.specs.frame_words.specs.Residue.{residue}
-use Rattle.thread_laws.specs.frame_words.specs.declared.count_word.CountWord.{CountWord}
-use Rattle.thread_laws.specs.frame_words.specs.declared.frame_word.FrameWord.{FrameWord}
+use Rattle.core_invariant.proofs as low
+use low.{◌≡◌, ◌≢◌, inl, inr, ℕ, pos, ◌<◌, Bool, true, false, List, Option, ◌∷◌, length, slice_get, Some, IsTrue, arith, refl, sym, ◌∙◌, ap}
+use low.{subst, false≢true, Setting, IsSetting, CountFits, word_of_count, count_of_word, frame_of_word, residue, CountWord, FrameWord, Word}
+use low.{CountAt, FrameAt, Frame, Untyped, User, Kernel, Object, Blank, Table, Leaf, Pages, Pleaf, Comp, Thread, Tcap, FrameOf, State}
+use low.{held_in, refs, is_node, counters, count_in, count_sum, MayFollow, frame_value, stamp, Step, Trace, state_after, unheld}
+use low.{latest_stamp, released, Owned, Swept, release_of, Core, stamp_in, newest_of, holds_release, settled, held_by, count_shown}
+use low.{AreFrozen, AreKept, IsLookedAt, IsQuiet, SaysTyped, limits_of, release_frame, thaw_all, thaw_from, thaw_here, FrameKind, Obj}
+use Rattle.core_invariant.specs.{Holding.Holding, Invariant.Invariant}
+use Rattle.kept_facts.proofs.{FrozenSums.counters_are, FrozenSums.frozen_sum, FrozenSums.got_all, Few.refs_residue}
+use Rattle.{std.specs.List.range_with_len, std.proofs.lemmas.Option.slice_get_within}
+use Rattle.{kernel_laws.specs.kernel_invariant.proofs.FrameTurns.is_typed}
+use Rattle.{thread_laws.specs.kernel_history.specs.ObjectWords.name_of_object, resting_frames.proofs.Rests.step_rests}
+use Rattle.{core_invariant.specs.stage_sweep.specs.Counters.sum_of_counts}
 use Rattle.thread_laws.specs.frame_words.proofs.CountLemmas as counts
-use Rattle.thread_laws.specs.word_map.specs.Word.{Word, CountAt, FrameAt}
-use Rattle.thread_laws.specs.kernel_rules.specs.State.{Frame, Untyped, User, Kernel, Object, Blank, Table}
-use Rattle.thread_laws.specs.kernel_rules.specs.State.{Leaf, Pages, Pleaf, Comp, Thread, Tcap, FrameOf, State}
-use Rattle.thread_laws.specs.kernel_rules.specs.Access.{held_in}
-use Rattle.thread_laws.specs.kernel_rules.specs.References.{refs}
-use Rattle.thread_laws.specs.kernel_rules.specs.Relies.{is_node}
-use Rattle.thread_laws.specs.kernel_invariant.proofs.FrameTurns.{is_typed}
-use Rattle.thread_laws.specs.kernel_history.specs.Counts.{counters, count_in, count_sum}
-use Rattle.thread_laws.specs.kernel_history.specs.Legal.{MayFollow}
-use Rattle.thread_laws.specs.kernel_history.specs.ObjectWords.{frame_value, name_of_object}
-use Rattle.thread_laws.specs.kernel_history.specs.Stamps.{stamp}
-use Rattle.thread_laws.specs.kernel_history.specs.Trace.{Step, Trace, state_after}
-use Rattle.resting_frames.proofs.Rests.{step_rests}
-use Rattle.core_invariant.specs.stage_pins.specs.Counts.{unheld}
-use Rattle.core_invariant.specs.stage_sweep.specs.Counters.{sum_of_counts, latest_stamp}
-use Rattle.core_invariant.specs.stage_sweep.specs.Release.{released}
-use Rattle.core_invariant.specs.stage_sweep.specs.declared.empty.Owned.{Owned}
-use Rattle.core_invariant.specs.stage_sweep.specs.declared.sweep.Swept.{Swept}
-use Rattle.core_invariant.specs.act_states.specs.Untypings.{release_of}
-use Rattle.core_invariant.specs.call_stages.specs.View.{Core}
-use Rattle.core_invariant.specs.CountWords.{stamp_in, newest_of}
-use Rattle.core_invariant.specs.Frozen.{holds_release}
-use Rattle.core_invariant.specs.Holding.{Holding, settled}
-use Rattle.core_invariant.specs.Invariant.{Invariant, held_by, count_shown}
-use Rattle.core_invariant.specs.Sweeps.{AreFrozen, AreKept, IsLookedAt, IsQuiet, SaysTyped}
-use Rattle.core_invariant.proofs.Sounds.{limits_of}
-use Rattle.core_invariant.proofs.Freezing.{release_frame, thaw_all, thaw_from, thaw_here}
-use Rattle.kept_facts.proofs.FrozenSums.{counters_are, frozen_sum, got_all}
-use Rattle.kept_facts.proofs.Few.{refs_residue}
 
 -- A frame of which the word says that it is a blank kernel frame.
-pub kernel_is : (x : Frame) → (frame_value x).kind ≡ frame_kind.Kernel → (frame_value x).object ≡ obj.Blank → x ≡ Kernel Blank
+pub kernel_is : (x : Frame) → (frame_value x).kind ≡ FrameKind.Kernel → (frame_value x).object ≡ Obj.Blank → x ≡ Kernel Blank
 kernel_is (Kernel Blank) kind object = refl
 kernel_is Untyped kind object = absurd (not_kernel kind)
   where
-    not_kernel : frame_kind.Untyped ≡ frame_kind.Kernel → ⊥
+    not_kernel : FrameKind.Untyped ≡ FrameKind.Kernel → ⊥
     not_kernel h = cc
 kernel_is User kind object = absurd (not_kernel kind)
   where
-    not_kernel : frame_kind.User ≡ frame_kind.Kernel → ⊥
+    not_kernel : FrameKind.User ≡ FrameKind.Kernel → ⊥
     not_kernel h = cc
 kernel_is (Kernel x) kind object = object_is x object
   where
-    object_is : (x : Object) → name_of_object x ≡ obj.Blank → Kernel x ≡ Kernel Blank
+    object_is : (x : Object) → name_of_object x ≡ Obj.Blank → Kernel x ≡ Kernel Blank
     object_is Blank h = refl
     object_is Table h = absurd (cc)
     object_is Leaf h = absurd (cc)

@@ -1,43 +1,21 @@
 -- Each step leaves each temporal capability one, though its budget or its list may change, but for the end of its frame's grace period.
-use Rattle.std.proofs.Common.{◌≡◌, ◌≢◌, ◌⊎◌, ◌<◌, arith, inl, inr, ℕ, ◌-◌, List, [], ◌∷◌, Bool, true, false, ◌||◌}
-use Rattle.std.proofs.Common.{Option, Some, None, refl, sym, ◌∙◌, ap, subst, IsTrue}
-use Rattle.std.proofs.lemmas.Bool.{false≢true, eq-eqb, or_left, or_right}
-use Rattle.thread_laws.specs.spk_nums.specs.Setting.{Setting, IsSetting}
-use Rattle.thread_laws.specs.spk_nums.specs.declared.kinds.Kind.TheVariants as kind
-use Rattle.thread_laws.specs.spk_nums.specs.declared.calls.Call.{Call}
-use Rattle.thread_laws.specs.spk_nums.specs.declared.calls.Call.TheVariants.{Tick}
-use Rattle.thread_laws.specs.spk_nums.specs.declared.replies.Value.{Value}
-use Rattle.thread_laws.specs.spk_nums.specs.declared.replies.Reply.{Reply}
-use Rattle.thread_laws.specs.spk_nums.specs.declared.replies.Reply.TheVariants as reply
-use Rattle.thread_laws.specs.kernel_rules.specs.State.{ThreadFields, TcapFields, Blank, Comp, Tcap, Frame, Untyped, Kernel}
-use Rattle.thread_laws.specs.kernel_rules.specs.State.{Thing, FrameOf, State, put}
-use Rattle.thread_laws.specs.kernel_rules.specs.Fitting.{fits}
-use Rattle.thread_laws.specs.kernel_rules.specs.Edits.{with_thread, running, with_tcap, with_budget, tcap_at, edited, after_edits}
-use Rattle.thread_laws.specs.kernel_rules.specs.Edits.{Edit, Node, Become, Untype, Component, Push, Pop, Switch, Charge, Move, Merge, Give}
-use Rattle.thread_laws.specs.kernel_rules.specs.Rules.{Change, does, Judged, Refused, Found}
-use Rattle.thread_laws.specs.kernel_rules.specs.CallRelation.{change_of, changed, owed_by, state_by, ends, ends_by, MayReply}
-use Rattle.thread_laws.specs.kernel_invariant.proofs.Sound.{put_all}
-use Rattle.thread_laws.specs.kernel_invariant.specs.Edits.{ends_in, ends_all}
-use Rattle.thread_laws.specs.kernel_invariant.proofs.SoundCalls.{IsOpen}
-use Rattle.thread_laws.specs.kernel_invariant.proofs.Edited.{is_bare, Known, Each, Edits, found_by}
-use Rattle.thread_laws.specs.kernel_rules.proofs.Changes.{IfFound}
-use Rattle.thread_laws.specs.kernel_invariant.proofs.Ends.{MayEnd, ends_by_rule}
-use Rattle.thread_laws.specs.kernel_invariant.proofs.SoundRuns.{opened}
-use Rattle.thread_laws.specs.found_stays.proofs.SparesRuns.{core_same_refs}
-use Rattle.thread_laws.specs.kernel_rules.specs.Relies.{IsGuarded}
-use Rattle.thread_laws.specs.kernel_history.specs.Legal.{MayDecide, MayFollow, IsLegal}
-use Rattle.thread_laws.specs.kernel_history.specs.Trace.{Step, Trace, Phase, Out, Open, phase, after_enter, state_after}
-use Rattle.thread_laws.specs.kernel_history.specs.Trace.{state_entered, state_decided, state_returned, state_before}
+use Rattle.kernel_laws.proofs.{◌≡◌, ◌≢◌, ◌⊎◌, ◌<◌, arith, inl, inr, ℕ, ◌-◌, List, [], ◌∷◌, Bool, true, false, ◌||◌, Option, Some, None}
+use Rattle.kernel_laws.proofs.{refl, sym, ◌∙◌, ap, subst, IsTrue, false≢true, eq-eqb, Setting, IsSetting, Call, Tick, Value, Reply}
+use Rattle.kernel_laws.proofs.{ThreadFields, TcapFields, Blank, Comp, Tcap, Frame, Untyped, Kernel, Thing, FrameOf, State, put, fits}
+use Rattle.kernel_laws.proofs.{with_thread, running, with_tcap, with_budget, tcap_at, edited, after_edits, Edit, Node, Become, Untype}
+use Rattle.kernel_laws.proofs.{Component, Push, Pop, Charge, Move, Merge, Give, Change, does, Judged, Refused, Found, change_of, changed}
+use Rattle.kernel_laws.proofs.{owed_by, state_by, ends, ends_by, MayReply, put_all, IsOpen, is_bare, Each, Edits, found_by, IfFound}
+use Rattle.kernel_laws.proofs.{ends_by_rule, opened, core_same_refs, IsGuarded, Kind}
+use Rattle.core_invariant.proofs.{MayDecide, MayFollow, IsLegal, Step, Trace, Phase, Out, Open, phase, after_enter, state_after}
+use Rattle.core_invariant.proofs.{state_entered, state_decided, state_returned, state_before, is_in, entered_events, HasTcap, limits_of}
+use Rattle.thread_laws.specs.trace_laws.proofs.{opens, open_inj, stays_in_other}
+use Rattle.{std.proofs.lemmas.Bool.or_left, std.proofs.lemmas.Bool.or_right, kernel_laws.specs.kernel_invariant.specs.ends_in}
+use Rattle.{kernel_laws.specs.kernel_invariant.specs.ends_all, kernel_laws.specs.kernel_invariant.proofs.Known}
+use Rattle.{kernel_laws.specs.kernel_invariant.proofs.MayEnd, kernel_laws.specs.kernel_rules.specs.Edits.Switch}
 use Rattle.thread_laws.specs.kernel_history.specs.Trace as history
-use Rattle.thread_laws.specs.kernel_history.specs.Stamps.{is_in}
-use Rattle.thread_laws.specs.kernel_history.proofs.Events.{entered_events}
-use Rattle.thread_laws.specs.trace_laws.proofs.Opens.{opens, open_inj}
-use Rattle.thread_laws.specs.trace_laws.proofs.Stays.{stays_in_other}
-use Rattle.core_invariant.specs.Shares.{HasTcap}
-use Rattle.core_invariant.proofs.Sounds.{limits_of}
 
 abbrev pub is_tcap : Frame → Bool
-is_tcap x = fits kind.Tcap x
+is_tcap x = fits Kind.Tcap x
 
 -- A frame, which is x, becomes y, where the grace period of the frame ends or does not.
 abbrev pub KeepsTcap : Bool → Frame → Frame → Type 0
@@ -132,11 +110,11 @@ same_in call r f x y same is = inr (subst (λ z. IsTrue (is_tcap z)) (sym same) 
 
 pub decided_keeps : (s : State) (o : ℕ → Bool) (d : ℕ) → IsOpen s o d → (call : Call) (r : Reply) (f : ℕ)
     → KeepsTcapIn call r f (s.frame f) ((state_by s d call r).frame f)
-decided_keeps s o d opens call (reply.Ok v) f =
+decided_keeps s o d opens call (Reply.Ok v) f =
     found_keeps s call (change_of s d call) (found_by s d call (KeepsBy s call) (keeps_by s o d opens call)) f
-decided_keeps s o d opens call reply.Raced f = same_in call reply.Raced f (s.frame f) _ (owed_frame s d call f)
-decided_keeps s o d opens call (reply.Busy e) f = same_in call (reply.Busy e) f (s.frame f) _ (owed_frame s d call f)
-decided_keeps s o d opens call reply.CallsSpent f = same_in call reply.CallsSpent f (s.frame f) _ refl
+decided_keeps s o d opens call Reply.Raced f = same_in call Reply.Raced f (s.frame f) _ (owed_frame s d call f)
+decided_keeps s o d opens call (Reply.Busy e) f = same_in call (Reply.Busy e) f (s.frame f) _ (owed_frame s d call f)
+decided_keeps s o d opens call Reply.CallsSpent f = same_in call Reply.CallsSpent f (s.frame f) _ refl
 decided_keeps s o d opens call r f = same_in call r f (s.frame f) _ refl
 
 -- A temporal capability, with its fields.

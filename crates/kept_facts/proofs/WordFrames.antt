@@ -1,26 +1,13 @@
 -- What is said of a word stays where the step leaves the word, and what is said of it, as they were; of every kind of word at once.
-use Rattle.std.proofs.Common.{◌≡◌, ◌≢◌, ◌≤◌, inl, inr, ℕ, zero, suc, arith, Bool, true, false}
-use Rattle.std.proofs.Common.{if◌then◌else◌, ◌∷◌, Option, Some, None, refl, sym, ◌∙◌, ap, subst}
-use Rattle.std.proofs.lemmas.Bool.{cases_eq}
-use Rattle.thread_laws.specs.spk_nums.specs.Setting.{Setting}
-use Rattle.thread_laws.specs.word_map.specs.Word.{Word, EntryAt, FrameAt, CountAt, CoreAt, FlushAt, LiveAt, ClockAt}
-use Rattle.thread_laws.specs.word_map.specs.Moves.{word_of, left_of}
-use Rattle.thread_laws.specs.kernel_rules.specs.State.{Place, TcapFields, Object, Blank, Table, Leaf, Pages, Pleaf, Comp, Thread}
-use Rattle.thread_laws.specs.kernel_rules.specs.State.{Tcap, Frame, Untyped, User, Kernel, Liveness, PlaceOf, NumberOf, State, put}
-use Rattle.thread_laws.specs.kernel_rules.proofs.Within.{put_same, put_other}
-use Rattle.thread_laws.specs.frame_words.specs.Live.{live_of_word}
-use Rattle.thread_laws.specs.kernel_history.specs.ObjectWords.{frame_value}
-use Rattle.thread_laws.specs.kernel_history.specs.Marks.{mark_of, mark_in_frame}
-use Rattle.thread_laws.specs.kernel_history.specs.Trace.{Step, Trace, state_after, last_left}
-use Rattle.thread_laws.specs.kernel_history.proofs.Steps.{last_left-here, last_left-there}
-use Rattle.thread_laws.specs.kernel_history.proofs.Names.{cases_word}
-use Rattle.core_invariant.specs.call_stages.specs.View.{Core}
-use Rattle.thread_laws.specs.kernel_history.specs.Marking.{marked_by}
-use Rattle.thread_laws.specs.kernel_history.specs.Discipline.{MarksOwn}
-use Rattle.core_invariant.specs.Holding.{Holding, bare_value, settled_by, settled, MarkIs}
-use Rattle.core_invariant.specs.Words.{Times, IsFrameWord, NumberIs, WordIs}
-use Rattle.core_invariant.proofs.Bare.{same_value, core_bare, AsBefore}
-use Rattle.core_invariant.specs.Invariant.{holds, held_by, times_of}
+use Rattle.core_invariant.proofs.{◌≡◌, ◌≢◌, ◌≤◌, inl, inr, ℕ, zero, suc, arith, Bool, true, false, if◌then◌else◌, ◌∷◌, Option, Some, None}
+use Rattle.core_invariant.proofs.{refl, sym, ◌∙◌, ap, subst, Setting, Word, EntryAt, FrameAt, CountAt, CoreAt, FlushAt, LiveAt, ClockAt}
+use Rattle.core_invariant.proofs.{word_of, left_of, Place, TcapFields, Object, Blank, Table, Leaf, Pages, Pleaf, Comp, Thread, Tcap, Frame}
+use Rattle.core_invariant.proofs.{Untyped, User, Kernel, Liveness, PlaceOf, NumberOf, State, put, put_same, put_other, live_of_word}
+use Rattle.core_invariant.proofs.{frame_value, mark_of, mark_in_frame, Step, Trace, state_after, last_left, last_left-here, last_left-there}
+use Rattle.core_invariant.proofs.{cases_word, Core, marked_by, settled_by, settled, MarkIs, IsFrameWord, NumberIs, WordIs, same_value}
+use Rattle.core_invariant.proofs.{core_bare, AsBefore, holds, held_by, times_of}
+use Rattle.core_invariant.specs.{Holding.Holding, Holding.bare_value, Words.Times}
+use Rattle.{std.proofs.lemmas.Bool.cases_eq, thread_laws.specs.kernel_history.specs.Discipline.MarksOwn}
 
 -- What is said of a word is as before, kind by kind.
 pub record SameEntry (s s' : State) (m m' : Times) (f i : ℕ) : Type 0 where

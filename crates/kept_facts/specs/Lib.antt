@@ -1,4 +1,7 @@
 -- What the crates above name through this one.
+pub use Rattle.core_invariant.specs.quality_lists
+pub use Rattle.thread_laws.specs.boot_words
+pub use Rattle.kernel_laws
 pub use Rattle.thread_laws.specs.spk_nums
 pub use Rattle.thread_laws.specs.entry_words
 pub use Rattle.thread_laws.specs.frame_words

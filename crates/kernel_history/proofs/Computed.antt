@@ -1,28 +1,16 @@
 -- Tests of worked traces, which the checker computes: a step may follow, is in the footprint of its call, keeps its call's bound; and
 -- what a call
 -- does out of the discipline, or far from its footprint, is refused.
-use Rattle.std.proofs.Common.{◌≡◌, ◌≢◌, ◌⊎◌, inl, inr, ℕ, ◌^◌, ◌==◌, ◌&&◌, Bool, true, false, [], ◌∷◌, List, Option, Some, None}
-use Rattle.std.proofs.Common.{refl, sym, ◌∙◌, subst}
-use Rattle.std.specs.Prelude.{nat_lt, nat_le, is_some, IsSome}
-use Rattle.std.proofs.lemmas.Bool.{and_parts, ltb-true, leb-true, false≢true}
-use Rattle.std.proofs.lemmas.List.Elements.{All-nil, All-cons}
-use Rattle.spk_nums.specs.Bounds.{bound_of}
-use Rattle.spk_nums.specs.Setting.{Setting}
-use Rattle.spk_nums.specs.declared.calls.Call.{Call}
-use Rattle.word_map.specs.Word.{Word, EntryAt, FrameAt, CountAt, CoreAt, FlushAt, LiveAt, ClockAt}
-use Rattle.word_map.specs.Places.{Shape, IsIn}
-use Rattle.word_map.specs.Moves.{Move, LoadOf, CompareOf, StoreOf, AddOf, word_of, left_of}
-use Rattle.kernel_rules.specs.Access.{Slot}
-use Rattle.kernel_rules.specs.State.{State}
-use Rattle.kernel_history.specs.BootWords.{shape_of}
-use Rattle.kernel_history.specs.Bounds.{call_in, IsWithin, KeepsBounds}
-use Rattle.kernel_history.specs.Discipline.{may_load, may_change, raises_clock, MayRaise, MayMove, KeepsDiscipline}
-use Rattle.kernel_history.specs.Footprint.{footprint_frames, footprint_numbers, is_one_of, IsInFootprint, StepsInFootprint, KeepsFootprints}
-use Rattle.kernel_history.specs.Justified.{HasReached}
-use Rattle.kernel_history.specs.Legal.{MayEnter, MayDecide, MayReturn, MayFollow}
-use Rattle.kernel_history.specs.Stamps.{is_in}
-use Rattle.kernel_history.specs.Trace.{Step, Trace, Phase, Out, Open, Decided, phase, after_enter, after_decide}
-use Rattle.kernel_history.specs.Trace.{state_after, state_before, last_left, own_left, steps_in_call}
+use Rattle.kernel_history.specs.{◌≡◌, ◌≢◌, ◌⊎◌, ℕ, ◌^◌, ◌==◌, ◌&&◌, Bool, true, false, [], ◌∷◌, List, Option, Some, None, refl}
+use Rattle.kernel_history.specs.{ltb as nat_lt, leb as nat_le, is_some, IsSome, bound_of, Setting, Call, Word, EntryAt, FrameAt, CountAt}
+use Rattle.kernel_history.specs.{CoreAt, FlushAt, LiveAt, ClockAt, Shape, IsIn, Move, LoadOf, CompareOf, StoreOf, AddOf, word_of, left_of}
+use Rattle.kernel_history.specs.{Slot, State, shape_of, call_in, IsWithin, KeepsBounds, raises_clock, MayMove, KeepsDiscipline}
+use Rattle.kernel_history.specs.{footprint_frames, footprint_numbers, is_one_of, IsInFootprint, StepsInFootprint, KeepsFootprints}
+use Rattle.kernel_history.specs.{HasReached, MayEnter, MayDecide, MayReturn, MayFollow, is_in, Step, Phase, Out, Decided, phase}
+use Rattle.kernel_history.specs.{after_enter, after_decide, state_after, state_before, last_left, own_left, steps_in_call}
+use Rattle.kernel_rules.proofs.{inl, inr, sym, ◌∙◌, subst, ltb-true, leb-true, false≢true}
+use Rattle.std.proofs.{lemmas.Bool.and_parts, lemmas.List.Elements.All-nil, lemmas.List.Elements.All-cons}
+use Rattle.kernel_history.specs.{Discipline.may_load, Discipline.may_change, Discipline.MayRaise, Trace.Trace, Trace.Open}
 
 pub neither : {A B : Type 0} → (A → ⊥) → (B → ⊥) → A ⊎ B → ⊥
 neither a b (inl x) = a x

@@ -1,13 +1,9 @@
 -- The counters of a machine of n cores are the numbers below n.
-use Rattle.std.proofs.Common.{◌≡◌, ℕ, ◌+◌, ◌<◌, ◌≤◌, zero, suc, pos, Option, refl, sym, subst, arith}
-use Rattle.std.specs.Prelude.{All}
-use Rattle.std.specs.List.{range_with_len}
-use Rattle.std.proofs.Common.{get_or, length}
-use Rattle.std.proofs.lemmas.Int.{ints}
-use Rattle.std.proofs.lemmas.List.Elements.{All-from_get_or, All-get_or}
-use Rattle.std.proofs.lemmas.List.FromFn.{length-range_with_len, get_or-range_with_len}
-use Rattle.frame_words.specs.declared.count_word.CountWord.{CountWord}
-use Rattle.kernel_history.specs.Counts.{counters, count_in, count_sum}
+use Rattle.kernel_history.specs.{◌≡◌, ℕ, ◌+◌, ◌<◌, ◌≤◌, zero, suc, pos, Option, refl, All, get_or, length, CountWord, counters, count_in}
+use Rattle.std.proofs.Common.{sym, subst, arith}
+use Rattle.std.proofs.{lemmas.Int.ints, lemmas.List.Elements.All-from_get_or, lemmas.List.Elements.All-get_or}
+use Rattle.std.proofs.{lemmas.List.FromFn.length-range_with_len, lemmas.List.FromFn.get_or-range_with_len}
+use Rattle.{kernel_history.specs.count_sum, std.specs.List.range_with_len}
 
 number_at : (n i : ℕ) → i < n → get_or (counters n) i 0 ≡ i
 number_at n i below = let at = get_or-range_with_len 0 n i 0 below in omega (arith, at)

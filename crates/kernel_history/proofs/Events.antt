@@ -1,17 +1,11 @@
 -- A legal trace is a run of its events, and leaves what they leave.
-use Rattle.std.proofs.Common.{◌≡◌, ◌≢◌, inl, inr, ℕ, ◌<◌, cond, List, [], ◌∷◌, Option, Some, None, refl, sym, ◌∙◌, ap, subst}
-use Rattle.std.proofs.lemmas.Bool.{cases_eq, eq-eqb, ne_eqb}
-use Rattle.spk_nums.specs.declared.calls.Call.{Call}
-use Rattle.spk_nums.specs.declared.replies.Reply.{Reply}
-use Rattle.spk_nums.specs.Setting.{Setting}
-use Rattle.kernel_rules.specs.State.{State}
-use Rattle.kernel_rules.specs.CallRelation.{MayReply}
-use Rattle.kernel_rules.specs.Runs.{Event, Enters, Decides, Returns, after, is_decided, core_of, phase_by, phase_of, IsRun}
-use Rattle.kernel_history.specs.Trace.{Step, Trace, Phase, Out, Open, Decided, phase, after_enter, after_decide}
-use Rattle.kernel_history.specs.Trace.{after_return, state_after, state_entered, state_decided, state_returned, state_before}
-use Rattle.kernel_history.specs.Events.{with_entry, with_decision, with_return, events_of, plain_phase}
-use Rattle.kernel_history.specs.Legal.{MayEnter, MayDecide, MayReturn, MayFollow, IsLegal}
-use Rattle.kernel_history.proofs.Steps.{phase-own, phase-other}
+use Rattle.kernel_history.specs.{◌≡◌, ◌≢◌, ℕ, ◌<◌, cond, List, [], ◌∷◌, Option, Some, None, refl, Call, Reply, Setting, State, MayReply}
+use Rattle.kernel_history.specs.{Event, Enters, Decides, Returns, after, phase_of, IsRun, Step, Phase, Out, Decided, phase, after_enter}
+use Rattle.kernel_history.specs.{after_decide, after_return, state_after, state_entered, state_decided, state_returned, state_before}
+use Rattle.kernel_history.specs.{with_entry, with_decision, with_return, events_of, plain_phase, MayEnter, MayDecide, MayReturn, MayFollow}
+use Rattle.kernel_rules.proofs.{inl, inr, sym, ◌∙◌, ap, subst, eq-eqb, ne_eqb, is_decided, core_of, phase_by}
+use Rattle.{kernel_history.specs.IsLegal, std.proofs.lemmas.Bool.cases_eq, kernel_history.specs.Trace.Trace}
+use Rattle.{kernel_history.specs.Trace.Open, kernel_history.proofs.Steps.phase-own, kernel_history.proofs.Steps.phase-other}
 
 -- the state
 

@@ -1,17 +1,10 @@
 -- A core is inside exactly where it is in a call.
-use Rattle.std.proofs.Common.{◌≡◌, ◌≢◌, inl, inr, ℕ, Bool, true, false, cond, [], ◌∷◌, Option, Some, None, refl, sym, ◌∙◌, ap}
-use Rattle.std.specs.Prelude.{is_some}
-use Rattle.std.proofs.lemmas.Bool.{cases_eq}
-use Rattle.spk_nums.specs.declared.calls.Call.{Call}
-use Rattle.spk_nums.specs.declared.replies.Reply.{Reply}
-use Rattle.spk_nums.specs.Setting.{Setting}
-use Rattle.kernel_rules.specs.State.{State}
-use Rattle.kernel_rules.proofs.Within.{put_same, put_other}
-use Rattle.kernel_rules.proofs.AloneLaw.{decided_stays}
-use Rattle.kernel_history.specs.Trace.{Step, Trace, Phase, Out, Open, Decided, phase, after_enter, after_decide}
-use Rattle.kernel_history.specs.Trace.{after_return, state_after, state_entered, state_decided, state_returned}
-use Rattle.kernel_history.specs.Stamps.{is_in}
-use Rattle.kernel_history.proofs.Steps.{phase-own, phase-other}
+use Rattle.kernel_history.specs.{◌≡◌, ◌≢◌, ℕ, Bool, true, false, cond, [], ◌∷◌, Option, Some, None, refl, is_some, Call, Reply, Setting}
+use Rattle.kernel_history.specs.{State, Step, Phase, Out, Decided, phase, after_enter, after_decide, after_return, state_after}
+use Rattle.kernel_history.specs.{state_entered, state_decided, state_returned, is_in}
+use Rattle.kernel_rules.proofs.{inl, inr, sym, ◌∙◌, ap, put_same, put_other, decided_stays}
+use Rattle.{std.proofs.lemmas.Bool.cases_eq, kernel_history.specs.Trace.Trace, kernel_history.specs.Trace.Open}
+use Rattle.{kernel_history.proofs.Steps.phase-own, kernel_history.proofs.Steps.phase-other}
 
 -- A decision leaves each core in a call where it was.
 pub decided-inside : (o : Option Reply) (p : Phase) (s : State) (c d : ℕ) → ((state_decided o p s c).core d).inside ≡ (s.core d).inside

@@ -1,29 +1,17 @@
 -- The laws of legal traces.
-use Rattle.std.proofs.Common.{◌≡◌, ◌≢◌, inl, inr, ℕ, ◌+◌, ◌==◌, ◌&&◌, ◌++◌, cond, Bool, true, false, arith}
-use Rattle.std.proofs.Common.{List, [], ◌∷◌, length, Option, Some, None, refl, sym, ◌∙◌, ap, subst, IsTrue}
-use Rattle.std.specs.Prelude.{is_some, option_to_list}
-use Rattle.std.proofs.lemmas.Bool.{cases_eq, eq-eqb, ne_eqb, eqb-true, false≢true}
-use Rattle.std.proofs.lemmas.List.{length-append}
-use Rattle.spk_nums.specs.declared.calls.Call.{Call}
-use Rattle.spk_nums.specs.declared.replies.Reply.{Reply}
-use Rattle.spk_nums.specs.declared.replies.Reply.TheVariants as reply
-use Rattle.spk_nums.specs.Setting.{Setting}
-use Rattle.word_map.specs.Word.{Word}
-use Rattle.word_map.specs.Moves.{word_of, left_of}
-use Rattle.kernel_rules.specs.Runs.{after, phase_of}
-use Rattle.kernel_rules.specs.CallRelation.{rule_of}
-use Rattle.kernel_history.specs.Trace.{Step, Trace, Phase, Out, Open, Decided, phase, after_enter, after_decide, after_return}
-use Rattle.kernel_history.specs.Trace.{state_after, state_before, calls_of, last_left, own_left, reads, own_read}
-use Rattle.kernel_history.specs.Stamps.{is_in}
-use Rattle.kernel_history.specs.Justified.{IsJustifiedIn, own_read_before}
-use Rattle.kernel_history.specs.Legal.{MayEnter, MayDecide, MayReturn, MayFollow}
+use Rattle.kernel_history.specs.{◌≡◌, ◌≢◌, ℕ, ◌+◌, ◌==◌, ◌&&◌, ◌++◌, cond, Bool, true, false, List, [], ◌∷◌, length, Option, Some, None}
+use Rattle.kernel_history.specs.{refl, IsTrue, is_some, option_to_list, Call, Reply, Setting, Word, word_of, left_of, after, phase_of}
+use Rattle.kernel_history.specs.{rule_of, Step, Phase, Out, Decided, phase, after_enter, after_decide, after_return, state_after}
+use Rattle.kernel_history.specs.{state_before, calls_of, last_left, own_left, reads, own_read, is_in, MayEnter, MayDecide, MayReturn}
+use Rattle.kernel_history.specs.{MayFollow, UnlessEnters, IsUndisturbed, IsAlone}
+use Rattle.kernel_rules.proofs.{inl, inr, arith, sym, ◌∙◌, ap, subst, eq-eqb, ne_eqb, eqb-true, false≢true, length-append}
 use Rattle.kernel_history.specs.Laws.{LegalRuns, EventsDetermine, LegalUpTo, returned_calls, OneCallAtATime, IsNotHeldUp, AloneGoesOn}
-use Rattle.kernel_history.specs.Alone.{UnlessEnters, IsUndisturbed, IsAlone}
-use Rattle.kernel_history.proofs.Names.{cases_word}
-use Rattle.kernel_history.proofs.Steps.{phase-own, phase-other, calls_of-own, calls_of-other, own_left-here, own_left-there}
-use Rattle.kernel_history.proofs.Steps.{own_left-other, own_read-here, own_read-there, own_read-other, last_left-here, last_left-there}
-use Rattle.kernel_history.proofs.Events.{state_is, phase_is, run_of, plain_inj}
-use Rattle.kernel_history.proofs.Inside.{inside_is, entered-inside}
+use Rattle.kernel_history.proofs.{Names.cases_word, Steps.phase-own, Steps.phase-other, Steps.calls_of-own, Steps.calls_of-other}
+use Rattle.kernel_history.proofs.{Steps.own_left-here, Steps.own_left-there, Steps.own_left-other, Steps.own_read-here}
+use Rattle.kernel_history.proofs.{Steps.own_read-there, Steps.own_read-other, Steps.last_left-here, Steps.last_left-there, Events.state_is}
+use Rattle.kernel_history.proofs.{Events.phase_is, Events.run_of, Events.plain_inj, Inside.inside_is, Inside.entered-inside}
+use Rattle.{std.proofs.lemmas.Bool.cases_eq, kernel_history.specs.Trace.Trace, kernel_history.specs.Trace.Open}
+use Rattle.{kernel_history.specs.Justified.IsJustifiedIn, kernel_history.specs.Justified.own_read_before}
 
 pub legal_runs : LegalRuns
 legal_runs setup t legal = record { run = run_of setup t legal; state = state_is setup t }
@@ -163,9 +151,9 @@ module _ (setup : Setting) (t : Trace) (e : Step) (found : e.found ≡ last_left
 
   calm : (r : Reply) (call : Call) → IsJustifiedIn setup t e (state_before setup t e) (rule_of (state_before setup t e) e.core call) r
       → IsNotHeldUp (Some r)
-  calm reply.Raced call lost = not_changed lost.own lost.has_read lost.changed
-  calm (reply.Busy d) call held = not_inside d held.other held.is_inside
-  calm (reply.Quiescing d) call waits = not_inside d waits.may_wait.other waits.may_wait.is_inside
+  calm Reply.Raced call lost = not_changed lost.own lost.has_read lost.changed
+  calm (Reply.Busy d) call held = not_inside d held.other held.is_inside
+  calm (Reply.Quiescing d) call waits = not_inside d waits.may_wait.other waits.may_wait.is_inside
   calm _ call justified = tt
 
   decides_calm : (o : Option Reply) (p : Phase) → MayDecide setup t e o p → IsNotHeldUp o

@@ -1,13 +1,8 @@
 -- Marks are put by the cores whose they are, in their present calls.
-use Rattle.std.proofs.Common.{◌≡◌, ◌≢◌, ◌⊎◌, inl, inr, ℕ, ◌==◌, ◌&&◌, Bool, true, false, ◌∷◌, Option, Some, None, refl, ◌∙◌, ap}
-use Rattle.std.specs.Prelude.{is_some}
-use Rattle.std.proofs.lemmas.Bool.{cases_eq, eqb-true}
-use Rattle.spk_nums.specs.Setting.{Setting}
-use Rattle.spk_nums.specs.declared.calls.Call.{Call}
-use Rattle.word_map.specs.Word.{Word}
-use Rattle.kernel_history.specs.Trace.{Step, Trace, IfNot}
-use Rattle.kernel_history.specs.Marking.{marked_by, HasMarked}
-use Rattle.kernel_history.specs.Discipline.{MarksOwn}
+use Rattle.kernel_history.specs.{◌≡◌, ◌≢◌, ◌⊎◌, ℕ, ◌==◌, ◌&&◌, Bool, true, false, ◌∷◌, Option, Some, None, refl, is_some, Setting, Call}
+use Rattle.kernel_history.specs.{Word, Step, IfNot, marked_by, HasMarked, MarksOwn}
+use Rattle.std.proofs.Common.{inl, inr, ◌∙◌, ap, eqb-true}
+use Rattle.{std.proofs.lemmas.Bool.cases_eq, kernel_history.specs.Trace.Trace}
 
 -- A core is the one named, or it is not.
 pub cases_mark : (o : Option ℕ) (d : ℕ) → (o ≡ Some d) ⊎ (o ≢ Some d)

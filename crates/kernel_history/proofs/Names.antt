@@ -1,6 +1,6 @@
 -- Whether two names of words are one.
 use Rattle.std.proofs.Common.{◌≡◌, ◌≢◌, ◌⊎◌, inl, inr, true, false, Bool, sym, ◌∙◌, ap, refl}
-use Rattle.word_map.specs.Word.{Word, same_word}
+use Rattle.kernel_history.specs.{Word, same_word}
 use Rattle.word_map.proofs.WordLemmas.{same_same, same_word-true}
 
 pub same_word-same : (w v : Word) → w ≡ v → same_word w v ≡ true

@@ -1,11 +1,8 @@
 -- A step that may follow leaves its core between calls exactly where it returns.
-use Rattle.std.proofs.Common.{◌≡◌, ◌≢◌, ℕ, ◌∷◌, Option, Some, None, refl, sym, ◌∙◌, ap}
-use Rattle.std.specs.Prelude.{IsSome}
-use Rattle.spk_nums.specs.declared.replies.Reply.{Reply}
-use Rattle.spk_nums.specs.Setting.{Setting}
-use Rattle.kernel_history.specs.Trace.{Step, Trace, Phase, Out, Open, Decided, phase, after_enter, after_decide, after_return}
-use Rattle.kernel_history.specs.Legal.{MayFollow}
-use Rattle.kernel_history.proofs.Steps.{phase-own}
+use Rattle.kernel_history.specs.{◌≡◌, ◌≢◌, ℕ, ◌∷◌, Option, Some, None, refl, IsSome, Reply, Setting, Step, Phase, Out, Decided, phase}
+use Rattle.kernel_history.specs.{after_enter, after_decide, after_return, MayFollow}
+use Rattle.std.proofs.Common.{sym, ◌∙◌, ap}
+use Rattle.{kernel_history.specs.Trace.Trace, kernel_history.specs.Trace.Open, kernel_history.proofs.Steps.phase-own}
 
 stays_in : (d : Option Reply) (p : Phase) → p ≢ Out → after_decide d p ≢ Out
 stays_in None p h = h

@@ -1,10 +1,7 @@
 -- A call that counts references may step on its own core's count words, and a retype to untyped on each count word of its frame.
-use Rattle.std.proofs.Common.{◌≡◌, ℕ, ◌==◌, ◌&&◌, ◌||◌, ◌∙◌, ap, IsTrue}
-use Rattle.std.proofs.lemmas.Bool.{eq-eqb, or_left, or_right}
-use Rattle.spk_nums.specs.declared.kinds.FrameKind.TheVariants.{Untyped}
-use Rattle.spk_nums.specs.declared.calls.Call.{Call}
-use Rattle.spk_nums.specs.declared.calls.Call.TheVariants.{Retype}
-use Rattle.kernel_history.specs.Discipline.{counts_references, untypes_frame, may_count}
+use Rattle.kernel_rules.proofs.{◌≡◌, ℕ, ◌==◌, ◌&&◌, ◌||◌, ◌∙◌, ap, IsTrue, eq-eqb, or_left, or_right, Call, Retype}
+use Rattle.kernel_history.specs.{counts_references, may_count}
+use Rattle.{entry_words.specs.spk_nums.specs.declared.kinds.FrameKind.TheVariants.Untyped, kernel_history.specs.Discipline.untypes_frame}
 
 pub own_counts : (call : Call) (f c d : ℕ) → d ≡ c → IsTrue (counts_references call) → IsTrue (may_count c call f d)
 own_counts call f c d own counts =

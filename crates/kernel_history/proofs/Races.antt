@@ -1,18 +1,11 @@
 -- A race is lost only to another core.
-use Rattle.std.proofs.Common.{◌≡◌, ◌≢◌, inl, inr, ℕ, ◌==◌, ◌&&◌, ◌||◌, cond, Bool, true}
-use Rattle.std.proofs.Common.{false, [], ◌∷◌, Option, Some, None, refl, sym, ◌∙◌, ap, subst}
-use Rattle.std.specs.Prelude.{is_some}
-use Rattle.std.proofs.lemmas.Bool.{cases_eq, ne_eqb, eqb-true, true≢false}
-use Rattle.spk_nums.specs.Setting.{Setting}
-use Rattle.spk_nums.specs.declared.calls.Call.{Call}
-use Rattle.spk_nums.specs.declared.replies.Reply.TheVariants as reply
-use Rattle.word_map.specs.Word.{Word, same_word}
-use Rattle.word_map.specs.Moves.{word_of, left_of}
-use Rattle.kernel_history.specs.Trace.{Trace, after_enter, phase, last_left, reads, own_read, IfNot}
-use Rattle.kernel_history.specs.Legal.{MayDecide, IsLegal}
-use Rattle.kernel_history.specs.Laws.{WasChanged, RacedByAnother}
-use Rattle.kernel_history.proofs.Names.{cases_word, same_word-other}
+use Rattle.kernel_history.specs.{◌≡◌, ◌≢◌, ℕ, ◌==◌, ◌&&◌, ◌||◌, cond, Bool, true, false, [], ◌∷◌, Option, Some, None, refl, is_some}
+use Rattle.kernel_history.specs.{Setting, Call, Word, same_word, word_of, left_of, Reply, after_enter, phase, last_left, reads, own_read}
+use Rattle.kernel_history.specs.{IfNot, MayDecide, IsLegal, WasChanged}
+use Rattle.std.proofs.Common.{inl, inr, sym, ◌∙◌, ap, subst, ne_eqb, eqb-true, true≢false}
 use Rattle.kernel_history.proofs.Steps.{own_read-here, own_read-there, own_read-other, last_left-here, last_left-there}
+use Rattle.{std.proofs.lemmas.Bool.cases_eq, kernel_history.specs.Trace.Trace, kernel_history.specs.Laws.RacedByAnother}
+use Rattle.{kernel_history.proofs.Names.cases_word, kernel_history.proofs.Names.same_word-other}
 
 none_some : (v : ℕ) → None ≡ Some v → ⊥
 none_some v h = cc
@@ -76,7 +69,7 @@ raced_by_another setup t e legal is =
     by_entry None own has = has
     by_entry (Some call) own has = absurd (none_some own has)
 
-    by_decision : MayDecide setup t e (Some reply.Raced) (after_enter e.enters (phase t e.core)) → WasChanged t e.core (word_of e.move)
+    by_decision : MayDecide setup t e (Some Reply.Raced) (after_enter e.enters (phase t e.core)) → WasChanged t e.core (word_of e.move)
     by_decision may = changed_since setup t legal.0 e.core (word_of e.move)
         may.justified.own (by_entry e.enters may.justified.own may.justified.has_read)
         (λ same. may.justified.changed (legal.1.found ∙ same))

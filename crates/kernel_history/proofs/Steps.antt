@@ -1,17 +1,10 @@
 -- What one more step changes: at its own core and word, and elsewhere.
-use Rattle.std.proofs.Common.{◌≡◌, ◌≢◌, ℕ, ◌+◌, ◌++◌, true, false, ◌∷◌, Some, None, cond, ap, ◌∙◌}
-use Rattle.std.specs.Prelude.{option_to_list, is_some}
-use Rattle.std.proofs.lemmas.Bool.{eq-eqb, ne_eqb}
-use Rattle.spk_nums.specs.Setting.{Setting}
-use Rattle.word_map.specs.Word.{Word, FlushAt, ClockAt, same_word}
-use Rattle.word_map.specs.Moves.{word_of, left_of}
-use Rattle.kernel_rules.specs.State.{Thing}
-use Rattle.kernel_rules.specs.GracePeriods.{needs_flush}
-use Rattle.kernel_history.specs.Trace.{Step, Trace, phase, after_enter, after_decide, after_return, last_left}
-use Rattle.kernel_history.specs.Trace.{calls_of, steps_in_call, own_left, only_reads, own_read, state_before}
-use Rattle.kernel_history.specs.Stamps.{begins_at, ends_at, flushes_at, stamp, awaits_flushes}
-use Rattle.kernel_history.specs.Stamps.{clock_seen, exit_after, exit_of, flush_of, flush_stored}
-use Rattle.kernel_history.proofs.Names.{same_word-same, same_word-other}
+use Rattle.kernel_history.specs.{◌≡◌, ◌≢◌, ℕ, ◌+◌, ◌++◌, true, false, ◌∷◌, Some, None, cond, option_to_list, is_some, Setting, Word}
+use Rattle.kernel_history.specs.{FlushAt, ClockAt, same_word, word_of, left_of, Thing, Step, phase, after_enter, after_decide, after_return}
+use Rattle.kernel_history.specs.{last_left, calls_of, steps_in_call, own_left, only_reads, own_read, state_before, begins_at, ends_at}
+use Rattle.kernel_history.specs.{flushes_at, stamp, awaits_flushes, clock_seen, exit_after, exit_of, flush_of, flush_stored}
+use Rattle.kernel_rules.proofs.{ap, ◌∙◌, eq-eqb, ne_eqb, needs_flush}
+use Rattle.{kernel_history.specs.Trace.Trace, kernel_history.proofs.Names.same_word-same, kernel_history.proofs.Names.same_word-other}
 
 module _ (c : ℕ) (e : Step) (t : Trace) (own : c ≡ e.core) where
   pub phase-own : phase (e ∷ t) c ≡ after_return e.returns (after_decide e.decides (after_enter e.enters (phase t c)))

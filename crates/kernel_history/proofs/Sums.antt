@@ -1,8 +1,7 @@
 -- Sums over the numbers below a bound, in parts; and how often a run of numbers has a number.
-use Rattle.std.proofs.Common.{◌≡◌, ◌≢◌, inl, inr, ℕ, zero, suc, ◌+◌, ◌*◌, ◌<◌, ◌≤◌, arith}
-use Rattle.std.proofs.Common.{refl, sym, ap, ◌∙◌, ◌==◌, cond, List, [], ◌∷◌, ◌++◌, fold}
-use Rattle.std.proofs.lemmas.Bool.{cases_eq, eq-eqb, ne_eqb}
-use Rattle.kernel_rules.specs.References.{sum_below, times}
+use Rattle.kernel_rules.proofs.{◌≡◌, ◌≢◌, inl, inr, ℕ, zero, suc, ◌+◌, ◌*◌, ◌<◌, ◌≤◌, arith, refl, sym, ap, ◌∙◌, ◌==◌, cond, List, [], ◌∷◌}
+use Rattle.kernel_rules.proofs.{◌++◌, fold, eq-eqb, ne_eqb, sum_below, times}
+use Rattle.std.proofs.lemmas.Bool.{cases_eq}
 
 pub sum_none : (f : ℕ → ℕ) → sum_below f 0 ≡ 0
 unfolding sum_below

@@ -1,21 +1,10 @@
 -- Texts that no machine writes, though each reply in them is one that the call relation permits. The checker computes what
 -- forbids each.
-use Rattle.std.proofs.Common.{◌≡◌, ◌≢◌, ◌⊎◌, inl, inr, ℕ, ◌∷◌, [], Some, None, refl, sym, subst, arith, IsTrue}
-use Rattle.std.proofs.lemmas.Bool.{false≢true, ne_eqb}
-use Rattle.spk_nums.specs.Rights.{whole_copy}
-use Rattle.spk_nums.specs.Setting.{Setting}
-use Rattle.spk_nums.specs.declared.calls.Call.{Call}
-use Rattle.spk_nums.specs.declared.calls.Call.TheVariants as call
-use Rattle.spk_nums.specs.declared.replies.Reply.{Reply}
-use Rattle.spk_nums.specs.declared.replies.Reply.TheVariants as reply
-use Rattle.entry_words.specs.EntryWord.{word_of_entry, entry_of_word}
-use Rattle.word_map.specs.Word.{EntryAt, CoreAt, LiveAt}
-use Rattle.word_map.specs.Moves.{Move, LoadOf, StoreOf}
-use Rattle.kernel_rules.specs.CallRelation.{MayReply, rule_of}
-use Rattle.kernel_history.specs.Trace.{Step, Trace, Out, phase, state_before}
-use Rattle.kernel_history.specs.Discipline.{changes_numbers, looks_at_numbers, KeepsDiscipline}
-use Rattle.kernel_history.specs.Justified.{IsHeldUp}
-use Rattle.kernel_history.specs.Alone.{IsAlone, KeepsFirst}
+use Rattle.kernel_history.specs.{◌≡◌, ◌≢◌, ◌⊎◌, ℕ, ◌∷◌, [], Some, None, refl, IsTrue, whole_copy, Setting, Call, Reply, word_of_entry}
+use Rattle.kernel_history.specs.{entry_of_word, EntryAt, CoreAt, LiveAt, Move, LoadOf, StoreOf, MayReply, rule_of, Step, Out, phase}
+use Rattle.kernel_history.specs.{state_before, changes_numbers, looks_at_numbers, KeepsDiscipline, IsHeldUp, IsAlone, KeepsFirst}
+use Rattle.kernel_rules.proofs.{inl, inr, sym, subst, arith, false≢true, ne_eqb}
+use Rattle.kernel_history.specs.Trace.{Trace}
 
 two_cores : Setting
 two_cores = record {
@@ -42,35 +31,35 @@ same_call j k h = cc
 -- `raced` though only a `look` came between: core 0 loads liveness number 5, core 1's `look` stores 7 there, and core 0 loads it again.
 
 looked : Trace
-looked = enters 1 (call.Look 0) ∷ makes 0 (LoadOf (LiveAt 5)) 0 ∷ enters 0 (call.Tick 5) ∷ []
+looked = enters 1 (Call.Look 0) ∷ makes 0 (LoadOf (LiveAt 5)) 0 ∷ enters 0 (Call.Tick 5) ∷ []
 
 raced : Trace
-raced = decides 0 (LoadOf (LiveAt 5)) 7 reply.Raced ∷ makes 1 (StoreOf (LiveAt 5) 7) 0 ∷ looked
+raced = decides 0 (LoadOf (LiveAt 5)) 7 Reply.Raced ∷ makes 1 (StoreOf (LiveAt 5) 7) 0 ∷ looked
 
 -- A look changes no liveness number,
 no_look_stores : KeepsDiscipline two_cores raced → ⊥
 unfolding looked raced
 no_look_stores keeps =
     let step = keeps.0.1 in
-    false≢true (subst (λ k. IsTrue (changes_numbers k)) (sym (same_call (call.Look 0) step.call step.is_of)) step.moves)
+    false≢true (subst (λ k. IsTrue (changes_numbers k)) (sym (same_call (Call.Look 0) step.call step.is_of)) step.moves)
 
 -- and a tick, which asks of no component that it lives, does not even load one.
 no_tick_loads : KeepsDiscipline two_cores raced → ⊥
 unfolding looked raced
 no_tick_loads keeps =
     let step = keeps.1 in
-    false≢true (subst (λ k. IsTrue (looks_at_numbers k)) (sym (same_call (call.Tick 5) step.call step.is_of)) step.moves)
+    false≢true (subst (λ k. IsTrue (looks_at_numbers k)) (sym (same_call (Call.Tick 5) step.call step.is_of)) step.moves)
 
 -- `busy 1` though core 1 touched nothing: core 0 stores the mark of core 1 in place 20 while core 1 is in a `look`, and loads it.
 
 inside : Trace
-inside = enters 0 (whole_copy 0 1 20) ∷ enters 1 (call.Look 0) ∷ []
+inside = enters 0 (whole_copy 0 1 20) ∷ enters 1 (Call.Look 0) ∷ []
 
 marked : Trace
 marked = makes 0 (StoreOf (EntryAt 1 20) 6) 0 ∷ inside
 
 held_up : Step
-held_up = decides 0 (LoadOf (EntryAt 1 20)) 6 (reply.Busy 1)
+held_up = decides 0 (LoadOf (EntryAt 1 20)) 6 (Reply.Busy 1)
 
 -- No core puts the mark of another,
 no_mark_of_another : KeepsDiscipline two_cores marked → ⊥
@@ -102,9 +91,9 @@ copied = makes 0 (LoadOf (EntryAt 0 0)) 101 ∷ makes 0 (LoadOf (EntryAt 1 63)) 
     ∷ makes 0 (LoadOf (EntryAt 0 0)) 101 ∷ enters 0 (whole_copy 63 0 20) ∷ []
 
 wrong : Step
-wrong = decides 0 (LoadOf (EntryAt 1 0)) 0 reply.WrongCap
+wrong = decides 0 (LoadOf (EntryAt 1 0)) 0 Reply.WrongCap
 
-may_be_wrong : MayReply (state_before two_cores copied wrong) 0 (whole_copy 63 0 20) reply.WrongCap
+may_be_wrong : MayReply (state_before two_cores copied wrong) 0 (whole_copy 63 0 20) Reply.WrongCap
 unfolding two_cores copied wrong
 may_be_wrong = (refl, inr (inl refl))
 
@@ -118,4 +107,4 @@ is_alone = record { others_out = out; undisturbed = (refl, (refl, (refl, (refl, 
 -- Made alone, it answers its first cause.
 empty_comes_first : KeepsFirst two_cores (wrong ∷ copied) → ⊥
 unfolding two_cores copied wrong
-empty_comes_first keeps = let first : reply.WrongCap ≡ reply.Empty = keeps.1 is_alone in cc
+empty_comes_first keeps = let first : Reply.WrongCap ≡ Reply.Empty = keeps.1 is_alone in cc

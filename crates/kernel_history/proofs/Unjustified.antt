@@ -1,38 +1,20 @@
 -- Worked traces whose last decision the call relation permits, and no step of its call justifies; and a trace that follows no order
 -- of its one item. The checker computes what holds of each.
-use Rattle.std.proofs.Common.{◌≡◌, inl, inr, ℕ, zero, suc, ◌<◌, ◌==◌, ◌&&◌, ◌||◌, ◌++◌, cond, Bool, true, false, arith}
-use Rattle.std.proofs.Common.{List, [], ◌∷◌, length, Option, Some, None, refl, sym, ◌∙◌, ap, subst, IsTrue, append_assoc, append-nil}
-use Rattle.std.specs.Prelude.{is_some}
-use Rattle.std.specs.List.{list_any}
-use Rattle.std.proofs.lemmas.Bool.{and_parts, and_from, eq-eqb, eqb-true, false≢true}
+use Rattle.kernel_history.specs.{◌≡◌, ℕ, zero, suc, ◌<◌, ◌==◌, ◌&&◌, ◌||◌, ◌++◌, cond, Bool, true, false, List, [], ◌∷◌, length, Option}
+use Rattle.kernel_history.specs.{Some, None, refl, IsTrue, is_some, whole_copy, Call, How, Return, Value, Reply, word_of_entry}
+use Rattle.kernel_history.specs.{entry_of_word, EntryAt, CoreAt, ClockAt, Move, LoadOf, CompareOf, StoreOf, Slot, same_thing, Thing}
+use Rattle.kernel_history.specs.{PlaceOf, FrameOf, NumberOf, MayReply, rule_of, ways, IsRemoved, IsJustified, DecidesBy, MayDecide, IsLegal}
+use Rattle.kernel_history.specs.{AreOf, MakesOne, Stretch, FollowsCores, IsIdle, Follows, Step, Phase, phase, state_before, WasBefore}
+use Rattle.kernel_history.specs.{two_cores, there, decides, goes, range_word, done, ready_to_look}
+use Rattle.kernel_rules.proofs.{inl, inr, arith, sym, ◌∙◌, ap, subst, append_assoc, append-nil, and_from, eq-eqb, eqb-true, false≢true}
 use Rattle.std.proofs.lemmas.List.Elements.{All-nil, All-cons, All-head, All-tail}
-use Rattle.spk_nums.specs.Rights.{whole_copy}
-use Rattle.spk_nums.specs.declared.calls.Call.{Call}
-use Rattle.spk_nums.specs.declared.calls.Call.TheVariants as call
-use Rattle.spk_nums.specs.declared.steps.How.{How}
-use Rattle.spk_nums.specs.declared.steps.How.TheVariants.{One, Ready, Decide, Return}
-use Rattle.spk_nums.specs.declared.replies.Value.{Value}
-use Rattle.spk_nums.specs.declared.replies.Reply.{Reply}
-use Rattle.spk_nums.specs.declared.replies.Reply.TheVariants as reply
-use Rattle.entry_words.specs.EntryWord.{word_of_entry, entry_of_word}
-use Rattle.frame_words.specs.Core.{word_of_core}
-use Rattle.word_map.specs.Word.{EntryAt, CoreAt, ClockAt}
-use Rattle.word_map.specs.Moves.{Move, LoadOf, CompareOf, StoreOf}
-use Rattle.kernel_rules.specs.Access.{Slot}
-use Rattle.kernel_rules.specs.GracePeriods.{same_thing}
-use Rattle.kernel_rules.specs.State.{Thing, PlaceOf, FrameOf, NumberOf}
-use Rattle.kernel_rules.specs.CallRelation.{MayReply, rule_of}
-use Rattle.kernel_history.specs.Ways.{ways}
-use Rattle.kernel_history.specs.Justified.{IsRemoved, IsJustified}
-use Rattle.kernel_history.specs.Legal.{DecidesBy, MayDecide, IsLegal}
-use Rattle.kernel_history.specs.Order.{AreOf, MakesOne, GoesThrough, GoesUntilReady, Stretch, FollowsCores, IsIdle, Follows}
-use Rattle.kernel_history.specs.Trace.{Step, Trace, Phase, Open, phase, state_before, WasBefore}
-use Rattle.kernel_history.specs.Scenes.{two_cores, there, decides, goes, range_word, mark_word, done, named, half_named, marked_beside}
-use Rattle.kernel_history.specs.Scenes.{name_removed, other_enters, clock_raised, target_read, removed, filled, fills_again}
-use Rattle.kernel_history.specs.Scenes.{between, both_look, ready_to_look}
-use Rattle.kernel_history.specs.Refusals.{deciding, Unjustified, JustificationRefuses, OrderRefuses}
-use Rattle.kernel_history.proofs.Computed.{neither, none, may_follow, is_within, keeps_bounds, is_in_it, keeps_footprints}
-use Rattle.kernel_history.proofs.Computed.{has_stepped, has_reached}
+use Rattle.kernel_history.specs.{Order.GoesThrough, Order.GoesUntilReady, Trace.Trace, Trace.Open, Scenes.mark_word, Scenes.named}
+use Rattle.kernel_history.specs.{Scenes.half_named, Scenes.marked_beside, Scenes.name_removed, Scenes.other_enters, Scenes.clock_raised}
+use Rattle.kernel_history.specs.{Scenes.target_read, Scenes.removed, Scenes.filled, Scenes.fills_again, Scenes.between, Scenes.both_look}
+use Rattle.kernel_history.specs.{Refusals.deciding, Refusals.Unjustified, Refusals.JustificationRefuses, Refusals.OrderRefuses}
+use Rattle.kernel_history.proofs.Computed.{neither, none, may_follow, is_within, keeps_bounds, is_in_it, keeps_footprints, has_stepped}
+use Rattle.{kernel_rules.specs.One, kernel_rules.specs.Ready, kernel_rules.specs.Decide, std.specs.List.list_any}
+use Rattle.{std.proofs.lemmas.Bool.and_parts, frame_words.specs.Core.word_of_core, kernel_history.proofs.Computed.has_reached}
 
 abbrev slot : ℕ → ℕ → Slot
 slot f i = record { node = f; index = i }
@@ -64,16 +46,16 @@ not_permitted {t} {e} {r} {p} k is decides not = not (subst (λ j. MayReply (sta
 
 -- An open call may be carried out where it has stepped on the places of its way.
 pub carried_out : {c : ℕ} {m : Move} {k : Call} {v : Value} {t : Trace} → phase t c ≡ Open k
-    → MayReply (state_before two_cores t (deciding c m (reply.Ok v) t)) c k (reply.Ok v)
-    → has_stepped (decides c m (reply.Ok v) t) c (ways (state_before two_cores t (deciding c m (reply.Ok v) t)) c
-    (rule_of (state_before two_cores t (deciding c m (reply.Ok v) t)) c k)) ≡ true
-    → MayDecide two_cores t (deciding c m (reply.Ok v) t) (Some (reply.Ok v)) (phase t c)
+    → MayReply (state_before two_cores t (deciding c m (Reply.Ok v) t)) c k (Reply.Ok v)
+    → has_stepped (decides c m (Reply.Ok v) t) c (ways (state_before two_cores t (deciding c m (Reply.Ok v) t)) c
+    (rule_of (state_before two_cores t (deciding c m (Reply.Ok v) t)) c k)) ≡ true
+    → MayDecide two_cores t (deciding c m (Reply.Ok v) t) (Some (Reply.Ok v)) (phase t c)
 carried_out {c} {m} {k} {v} {t} is may stepped = record {
   call = k;
   is_open = is;
   permitted = may;
-  justified = has_reached (decides c m (reply.Ok v) t) c (ways (state_before two_cores t (deciding c m (reply.Ok v) t)) c
-      (rule_of (state_before two_cores t (deciding c m (reply.Ok v) t)) c k)) stepped;
+  justified = has_reached (decides c m (Reply.Ok v) t) c (ways (state_before two_cores t (deciding c m (Reply.Ok v) t)) c
+      (rule_of (state_before two_cores t (deciding c m (Reply.Ok v) t)) c k)) stepped;
 }
 
 -- the traces are legal
@@ -122,7 +104,7 @@ removed_legal = (
     (((tt, may_follow refl refl (refl, tt) tt tt), may_follow refl refl tt tt tt), may_follow refl refl tt tt tt),
     may_follow refl refl tt tt tt,
   ),
-  may_follow refl refl tt (carried_out {k = call.Remove 1 13} refl (refl, (refl, refl)) refl) tt,
+  may_follow refl refl tt (carried_out {k = Call.Remove 1 13} refl (refl, (refl, refl)) refl) tt,
 )
 
 filled_legal : IsLegal two_cores filled
@@ -132,7 +114,7 @@ filled_legal = (
     (
       (
         (
-          (removed_legal, may_follow refl refl tt tt (record { call = call.Remove 1 13; was_decided = refl })),
+          (removed_legal, may_follow refl refl tt tt (record { call = Call.Remove 1 13; was_decided = refl })),
           may_follow refl refl (refl, omega arith) tt tt,
         ),
         may_follow refl refl tt tt tt,
@@ -168,15 +150,15 @@ between_legal = (
             ((tt, may_follow refl refl (refl, tt) tt tt), may_follow refl refl (refl, tt) tt tt),
             may_follow refl refl tt tt tt,
           ),
-          may_follow refl refl tt (carried_out {k = call.Look 0} refl (refl, (refl, refl)) refl) tt,
+          may_follow refl refl tt (carried_out {k = Call.Look 0} refl (refl, (refl, refl)) refl) tt,
         ),
-        may_follow refl refl tt tt (record { call = call.Look 0; was_decided = refl }),
+        may_follow refl refl tt tt (record { call = Call.Look 0; was_decided = refl }),
       ),
       may_follow refl refl tt tt tt,
     ),
-    may_follow refl refl tt (carried_out {k = call.Look 0} refl (refl, (refl, refl)) refl) tt,
+    may_follow refl refl tt (carried_out {k = Call.Look 0} refl (refl, (refl, refl)) refl) tt,
   ),
-  may_follow refl refl tt tt (record { call = call.Look 0; was_decided = refl }),
+  may_follow refl refl tt tt (record { call = Call.Look 0; was_decided = refl }),
 )
 
 -- An `ok` off its way.
@@ -194,14 +176,14 @@ ok_off_target reached = let inside : 5 < 6 = omega arith in false≢true (reache
 free_read : (own : ℕ) → Some 0 ≡ Some own → 0 ≡ own
 free_read own h = cc
 
-no_race : IsJustified two_cores target_read (deciding 1 (LoadOf (EntryAt 1 20)) reply.Raced target_read) (whole_copy 0 1 20) reply.Raced → ⊥
+no_race : IsJustified two_cores target_read (deciding 1 (LoadOf (EntryAt 1 20)) Reply.Raced target_read) (whole_copy 0 1 20) Reply.Raced → ⊥
 unfolding two_cores target_read word_of_entry
 no_race lost = let same : 0 ≡ lost.own = free_read lost.own lost.has_read in lost.changed same
 
 -- A `quiescing` for a place that was not removed at a moment of its call: it waits for no place that it asks for.
 
 again_waits : Step
-again_waits = deciding 0 (LoadOf (EntryAt 1 13)) (reply.Quiescing 1) fills_again
+again_waits = deciding 0 (LoadOf (EntryAt 1 13)) (Reply.Quiescing 1) fills_again
 
 or_false : (b : Bool) → (b || false) ≡ true → b ≡ true
 or_false true h = refl
@@ -220,7 +202,7 @@ never_removed (PlaceOf f i) asked was =
     place : WasBefore (IsRemoved (PlaceOf 1 13)) two_cores fills_again again_waits → ⊥
     place = neither none (neither none (neither none none))
 
-no_waiting : IsJustified two_cores fills_again again_waits (whole_copy 0 1 13) (reply.Quiescing 1) → ⊥
+no_waiting : IsJustified two_cores fills_again again_waits (whole_copy 0 1 13) (Reply.Quiescing 1) → ⊥
 unfolding two_cores range_word removed filled fills_again again_waits word_of_entry
 no_waiting waits = never_removed waits.thing waits.asked waits.was_removed
 
@@ -232,18 +214,18 @@ justification_refuses = record {
       (half_legal, may_follow refl refl tt tt tt) refl refl refl (refl, (refl, refl)) ok_off;
   ok_off_its_target = unjustified 0 (LoadOf (EntryAt 0 0)) (whole_copy 0 1 20) done named
       (named_legal, may_follow refl refl tt tt tt) refl refl refl (refl, (refl, refl)) ok_off_target;
-  busy_beside_the_way = unjustified 0 (LoadOf (EntryAt 1 21)) (whole_copy 0 1 20) (reply.Busy 1) marked_beside
+  busy_beside_the_way = unjustified 0 (LoadOf (EntryAt 1 21)) (whole_copy 0 1 20) (Reply.Busy 1) marked_beside
       (beside_legal, may_follow refl refl tt tt tt) refl refl refl (refl, tt) (λ held. false≢true (held.on_way refl));
-  raced_for_a_name = unjustified 0 (LoadOf (EntryAt 1 0)) (whole_copy 0 1 20) reply.Raced name_removed
+  raced_for_a_name = unjustified 0 (LoadOf (EntryAt 1 0)) (whole_copy 0 1 20) Reply.Raced name_removed
       (name_legal, may_follow refl refl tt tt tt) refl refl refl (refl, tt)
       (λ lost. neither (λ target. let place : 20 ≡ 0 = target.1 in omega (arith, place)) (λ head. head.0) lost.at);
-  raced_for_a_core = unjustified 0 (LoadOf (CoreAt 1)) (whole_copy 0 1 20) reply.Raced other_enters
+  raced_for_a_core = unjustified 0 (LoadOf (CoreAt 1)) (whole_copy 0 1 20) Reply.Raced other_enters
       (other_legal, may_follow refl refl tt tt tt) refl refl refl (refl, tt) (λ lost. lost.at);
-  raced_for_the_clock = unjustified 0 (LoadOf ClockAt) (whole_copy 0 1 20) reply.Raced clock_raised
+  raced_for_the_clock = unjustified 0 (LoadOf ClockAt) (whole_copy 0 1 20) Reply.Raced clock_raised
       (clock_legal, may_follow refl refl tt tt tt) refl refl refl (refl, tt) (λ lost. lost.at);
-  raced_for_nothing = unjustified 1 (LoadOf (EntryAt 1 20)) (whole_copy 0 1 20) reply.Raced target_read
+  raced_for_nothing = unjustified 1 (LoadOf (EntryAt 1 20)) (whole_copy 0 1 20) Reply.Raced target_read
       (target_legal, may_follow refl refl tt tt tt) refl refl refl (refl, tt) no_race;
-  waits_for_nothing = unjustified 0 (LoadOf (EntryAt 1 13)) (whole_copy 0 1 13) (reply.Quiescing 1) fills_again
+  waits_for_nothing = unjustified 0 (LoadOf (EntryAt 1 13)) (whole_copy 0 1 13) (Reply.Quiescing 1) fills_again
       (again_legal, may_follow refl refl tt tt tt) refl refl refl
       (refl, inr (inr (inl (record { is_core = omega arith; other = λ e. omega (arith, e); is_inside = refl; not_passed = refl }))))
       no_waiting;
@@ -293,7 +275,7 @@ entry = record {
   core = 0;
   move = StoreOf (CoreAt 0) 1;
   found = there [] (CoreAt 0);
-  enters = Some (call.Look 0);
+  enters = Some (Call.Look 0);
   decides = None;
   returns = None;
 }
@@ -344,10 +326,10 @@ by_item c how busy refused follows =
     (λ moves. refused after.0 follows.by_items.0 moves.1 (after.1 ∙ ap (λ (m : Trace). after.0 ++ m) follows.by_items.2)) follows.by_items.1
 
 first_busy : IsIdle both_look [] 0 → ⊥
-first_busy idle = let none : [] ≡ call.Look 0 ∷ [] = idle.finished in cc
+first_busy idle = let none : [] ≡ Call.Look 0 ∷ [] = idle.finished in cc
 
 second_busy : IsIdle both_look [] 1 → ⊥
-second_busy idle = let none : [] ≡ call.Look 0 ∷ [] = idle.finished in cc
+second_busy idle = let none : [] ≡ Call.Look 0 ∷ [] = idle.finished in cc
 
 has_looked : (c : ℕ) → c < 2 → IsIdle both_look between c
 unfolding two_cores between

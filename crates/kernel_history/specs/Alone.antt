@@ -1,9 +1,5 @@
 -- Calls that are made alone: no other core is in a call from the entry to the decision.
-use Rattle.std.specs.Prelude.{◌≡◌, ◌≢◌, ℕ, [], ◌∷◌, Option, Some, None}
-use Rattle.spk_nums.specs.Setting.{Setting}
-use Rattle.spk_nums.specs.declared.calls.Call.{Call}
-use Rattle.spk_nums.specs.declared.replies.Reply.{Reply}
-use Rattle.kernel_rules.specs.Alone.{alone}
+use Rattle.kernel_rules.specs.{◌≡◌, ◌≢◌, ℕ, [], ◌∷◌, Option, Some, None, Setting, Call, Reply, alone}
 use Rattle.kernel_history.specs.Trace.{Step, Trace, Phase, Out, Open, Decided, phase, after_enter, state_before}
 
 -- What is said, unless the step enters a call.

@@ -1,32 +1,19 @@
 -- The words of the machine at the start: those of the start state, where the clock is 1 and every stamp and version is 0.
-use Rattle.std.specs.Prelude.{ℕ, ◌-◌, ◌==◌, false, if◌then◌else◌, length, pos, None}
-use Rattle.spk_nums.specs.Setting.{Setting}
-use Rattle.entry_words.specs.declared.entry.Entry.{Entry}
-use Rattle.entry_words.specs.declared.entry.Entry.TheVariants as entry
-use Rattle.entry_words.specs.EntryWord.{word_of_entry}
-use Rattle.frame_words.specs.Frame.{word_of_frame}
-use Rattle.frame_words.specs.Count.{word_of_count}
-use Rattle.frame_words.specs.Core.{word_of_core}
-use Rattle.frame_words.specs.Flush.{word_of_flush}
-use Rattle.frame_words.specs.Live.{word_of_live}
-use Rattle.frame_words.specs.declared.count_word.Hold.TheVariants.{Unheld}
-use Rattle.frame_words.specs.declared.live_word.LiveWord.{LiveWord}
-use Rattle.frame_words.specs.declared.live_word.LiveWord.TheVariants as live_word
-use Rattle.tcap_words.specs.Head.{word_of_head}
-use Rattle.tcap_words.specs.Thread.{word_of_thread}
-use Rattle.word_map.specs.Places.{Shape}
-use Rattle.word_map.specs.Word.{Word, EntryAt, FrameAt, CountAt, CoreAt, FlushAt, LiveAt, ClockAt}
-use Rattle.kernel_rules.specs.State.{Place, Free, Holds, Quiescing, ThreadFields, TcapFields, Object, Blank, Table, Leaf, Pages}
-use Rattle.kernel_rules.specs.State.{Pleaf, Comp, Thread, Tcap, Frame, Untyped, User, Kernel, Liveness, Unused, Live, Dead}
-use Rattle.kernel_rules.specs.Start.{start}
-use Rattle.kernel_rules.specs.References.{refs}
+use Rattle.kernel_rules.specs.{ℕ, ◌-◌, ◌==◌, false, if◌then◌else◌, length, pos, None, Setting, Place, Free, Holds, Quiescing, ThreadFields}
+use Rattle.kernel_rules.specs.{TcapFields, Object, Blank, Table, Leaf, Pages, Pleaf, Comp, Thread, Tcap, Frame, Untyped, User, Kernel}
+use Rattle.kernel_rules.specs.{Liveness, Unused, Live, Dead, start, refs}
+use Rattle.word_map.specs.{Shape, EntryAt, FrameAt, CountAt, CoreAt, FlushAt, LiveAt, ClockAt}
+use Rattle.frame_words.specs.{word_of_frame, word_of_count, word_of_core, word_of_flush, word_of_live}
 use Rattle.kernel_history.specs.ObjectWords.{frame_value, comp_word, thread_value, stack_word, quality_word}
+use Rattle.{tcap_words.specs.word_of_head, tcap_words.specs.word_of_thread, entry_words.specs.declared.entry.Entry.Entry}
+use Rattle.{entry_words.specs.EntryWord.word_of_entry, frame_words.specs.declared.count_word.Hold.TheVariants.Unheld}
+use Rattle.{frame_words.specs.declared.live_word.LiveWord.LiveWord, word_map.specs.Word.Word}
 
 -- The entry of a place; at the start none is quiescing.
 abbrev pub boot_entry : Place → Entry
-boot_entry Free = entry.Free
-boot_entry (Holds k) = entry.Held k
-boot_entry (Quiescing k) = entry.Free
+boot_entry Free = Entry.Free
+boot_entry (Holds k) = Entry.Held k
+boot_entry (Quiescing k) = Entry.Free
 
 -- The words of a thread: its first word, and its stack from height 0 on.
 abbrev pub boot_thread : ThreadFields → ℕ → ℕ
@@ -55,9 +42,9 @@ boot_frame (Kernel object) place i = boot_object object place i
 
 -- The word of a liveness number; at the start none is dead.
 abbrev pub boot_live : Liveness → LiveWord
-boot_live Unused = live_word.Free
-boot_live (Live epoch f) = live_word.Live epoch f
-boot_live (Dead epoch) = live_word.Free
+boot_live Unused = LiveWord.Free
+boot_live (Live epoch f) = LiveWord.Live epoch f
+boot_live (Dead epoch) = LiveWord.Free
 
 -- The word of this name at the start. The references to a frame are counted in core 0's word.
 abbrev pub boot_word : Setting → Word → ℕ

@@ -1,7 +1,5 @@
 -- Traces whose calls keep within the most steps of their kinds.
-use Rattle.std.specs.Prelude.{◌≡◌, ◌≤◌, ℕ, [], ◌∷◌, Option, Some, None}
-use Rattle.spk_nums.specs.Bounds.{bound_of}
-use Rattle.spk_nums.specs.declared.calls.Call.{Call}
+use Rattle.kernel_rules.specs.{◌≡◌, ◌≤◌, ℕ, [], ◌∷◌, Option, Some, None, bound_of, Call}
 use Rattle.kernel_history.specs.Trace.{Step, Trace, Phase, Out, Open, Decided, phase, after_enter, steps_in_call}
 
 -- The call in which a core is, if it is in one.

@@ -1,20 +1,14 @@
 -- Who may step on a word, and who may change it: what other cores and other calls may rely on, whatever the plans of the calls.
-use Rattle.std.specs.Prelude.{◌≡◌, ◌≢◌, ◌⊎◌, ℕ, ◌==◌, ◌&&◌, ◌||◌, Bool, true, false, [], ◌∷◌, Some, IsTrue}
-use Rattle.spk_nums.specs.Setting.{Setting}
-use Rattle.spk_nums.specs.declared.kinds.FrameKind.TheVariants.{Untyped as to_untyped}
-use Rattle.spk_nums.specs.declared.calls.Make.{Make}
-use Rattle.spk_nums.specs.declared.calls.Make.TheVariants.{Comp as make_comp}
-use Rattle.spk_nums.specs.declared.calls.Call.{Call}
-use Rattle.spk_nums.specs.declared.calls.Call.TheVariants.{Look, Copy, Remove, Grow, Shrink, Retype, Make as make_call}
-use Rattle.spk_nums.specs.declared.calls.Call.TheVariants.{Map, Unmap, Touch, Flush, Gate, Kill, Call as call_gate}
-use Rattle.spk_nums.specs.declared.calls.Call.TheVariants.{Ret, Switch, Tick, Transfer, Delegate, Test, Part, Replenish}
-use Rattle.word_map.specs.Word.{Word, EntryAt, FrameAt, CountAt, CoreAt, FlushAt, LiveAt, ClockAt}
-use Rattle.word_map.specs.Moves.{Move, LoadOf, CompareOf, StoreOf, AddOf, word_of, left_of}
-use Rattle.kernel_rules.specs.State.{Object, Blank, Table, Leaf, Pages, Pleaf, Comp, Thread, Tcap, Frame, Untyped, User, Kernel, State}
-use Rattle.kernel_rules.specs.Life.{asks_life}
-use Rattle.kernel_history.specs.Bounds.{call_in}
-use Rattle.kernel_history.specs.Trace.{Step, Trace, phase, after_enter, state_after}
-use Rattle.kernel_history.specs.Marking.{marked_by}
+use Rattle.kernel_rules.specs.{◌≡◌, ◌≢◌, ◌⊎◌, ℕ, ◌==◌, ◌&&◌, ◌||◌, Bool, true, false, [], ◌∷◌, Some, IsTrue, Setting, Make, Call, Look}
+use Rattle.kernel_rules.specs.{Copy, Remove, Grow, Shrink, Retype, Map, Unmap, Touch, Flush, Gate, Kill, Ret, Switch, Tick, Transfer}
+use Rattle.kernel_rules.specs.{Delegate, Test, Part, Replenish, Object, Blank, Table, Leaf, Pages, Pleaf, Comp, Thread, Tcap, Frame}
+use Rattle.kernel_rules.specs.{Untyped, User, Kernel, asks_life}
+use Rattle.word_map.specs.{EntryAt, FrameAt, CountAt, CoreAt, FlushAt, LiveAt, ClockAt, Move, LoadOf, CompareOf, StoreOf, AddOf, word_of}
+use Rattle.entry_words.specs.spk_nums.specs.declared.calls.Call.TheVariants.{Make as make_call, Call as call_gate}
+use Rattle.kernel_history.specs.{Bounds.call_in, Trace.Step, Trace.Trace, Trace.phase, Trace.after_enter, Trace.state_after}
+use Rattle.{word_map.specs.left_of, entry_words.specs.spk_nums.specs.declared.kinds.FrameKind.TheVariants.Untyped as to_untyped}
+use Rattle.{entry_words.specs.spk_nums.specs.declared.calls.Make.TheVariants.Comp as make_comp, word_map.specs.Word.Word}
+use Rattle.{kernel_rules.specs.State.State, kernel_history.specs.Marking.marked_by}
 
 -- The entries of a node are changed by the calls that fill a place or remove what one holds.
 abbrev pub changes_places : Call → Bool

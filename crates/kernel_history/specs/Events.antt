@@ -1,9 +1,6 @@
 -- The events of a trace: the invocations, decisions and responses of its steps, the newest first.
-use Rattle.std.specs.Prelude.{ℕ, List, [], ◌∷◌, Option, Some, None}
-use Rattle.spk_nums.specs.declared.calls.Call.{Call}
-use Rattle.spk_nums.specs.declared.replies.Reply.{Reply}
-use Rattle.kernel_rules.specs.Runs.{Event, Enters, Decides, Returns, Phase as event_phase}
-use Rattle.kernel_rules.specs.Runs.{Out as is_out, Open as is_open, Decided as is_decided}
+use Rattle.kernel_rules.specs.{ℕ, List, [], ◌∷◌, Option, Some, None, Call, Reply, Event, Enters, Decides, Returns, Phase as event_phase}
+use Rattle.kernel_rules.specs.{Out as is_out, Open as is_open, Decided as is_decided}
 use Rattle.kernel_history.specs.Trace.{Trace, Phase, Out, Open, Decided, phase, after_enter}
 
 -- The events with that of a step that may enter a call.

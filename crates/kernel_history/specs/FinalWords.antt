@@ -1,36 +1,23 @@
 -- When words and core ends represent a state in which no core is in a call.
-use Rattle.std.specs.Prelude.{◌≡◌, ◌<◌, ◌≤◌, ◌+◌, ℕ, false, [], List, length, Option, Some, None, unwrap_or, slice_index, slice_get}
-use Rattle.spk_nums.specs.declared.translations.CoreEnd.{CoreEnd}
-use Rattle.entry_words.specs.declared.entry.Entry.{Entry}
-use Rattle.entry_words.specs.declared.entry.Entry.TheVariants as entry
-use Rattle.entry_words.specs.EntryWord.{entry_of_word}
-use Rattle.frame_words.specs.Comp.{comp_of_word}
-use Rattle.frame_words.specs.Frame.{frame_of_word}
-use Rattle.frame_words.specs.Core.{core_of_word}
-use Rattle.frame_words.specs.Live.{live_of_word}
-use Rattle.frame_words.specs.declared.core_word.CoreWord.{CoreWord}
-use Rattle.frame_words.specs.declared.live_word.LiveWord.{LiveWord}
-use Rattle.frame_words.specs.declared.live_word.LiveWord.TheVariants as live_word
-use Rattle.tcap_words.specs.Head.{head_of_word}
-use Rattle.tcap_words.specs.Quality.{quality_of_word}
-use Rattle.tcap_words.specs.Stack.{stack_of_word}
-use Rattle.tcap_words.specs.Thread.{thread_of_word}
-use Rattle.word_map.specs.Word.{Word, EntryAt, FrameAt, CoreAt, LiveAt}
-use Rattle.word_map.specs.Places.{Shape, place_of}
-use Rattle.kernel_rules.specs.State.{Place, Free, Holds, Quiescing, CompFields, ThreadFields, TcapFields, Object}
-use Rattle.kernel_rules.specs.State.{Blank, Table, Leaf, Pages, Pleaf, Comp, Thread, Tcap, Frame, Untyped, User}
-use Rattle.kernel_rules.specs.State.{Kernel, Liveness, Unused, Live, Dead, State, first_of_stack, thread_of}
-use Rattle.kernel_rules.specs.Access.{held_in}
+use Rattle.kernel_rules.specs.{◌≡◌, ◌<◌, ◌≤◌, ◌+◌, ℕ, false, [], List, length, Option, Some, None, unwrap_or, slice_index, slice_get}
+use Rattle.kernel_rules.specs.{CoreEnd, Place, Free, Holds, Quiescing, CompFields, ThreadFields, TcapFields, Object, Blank, Table, Leaf}
+use Rattle.kernel_rules.specs.{Pages, Pleaf, Comp, Thread, Tcap, Frame, Untyped, User, Kernel, Liveness, Unused, Live, Dead, first_of_stack}
+use Rattle.word_map.specs.{EntryAt, FrameAt, CoreAt, LiveAt, Shape, place_of}
+use Rattle.tcap_words.specs.{head_of_word, quality_of_word, stack_of_word, thread_of_word}
+use Rattle.frame_words.specs.{comp_of_word, frame_of_word, core_of_word, live_of_word}
 use Rattle.kernel_history.specs.ObjectWords.{holds_node, frame_value, thread_value, at_height}
+use Rattle.{kernel_rules.specs.thread_of, kernel_rules.specs.held_in, entry_words.specs.declared.entry.Entry.Entry}
+use Rattle.{entry_words.specs.EntryWord.entry_of_word, frame_words.specs.declared.core_word.CoreWord.CoreWord}
+use Rattle.{frame_words.specs.declared.live_word.LiveWord.LiveWord, word_map.specs.Word.Word, kernel_rules.specs.State.State}
 
 -- What the word of a place says that no core is closing: it is free, holds the capability, or is quiescing since some stamp.
 pub record SaysQuiescing (shown : Option Entry) : Type 0 where
   pub stamp : ℕ
-  pub says : shown ≡ Some (entry.Quiescing stamp)
+  pub says : shown ≡ Some (Entry.Quiescing stamp)
 
 abbrev pub SaysPlace : Place → Option Entry → Type 0
-SaysPlace Free shown = shown ≡ Some entry.Free
-SaysPlace (Holds k) shown = shown ≡ Some (entry.Held k)
+SaysPlace Free shown = shown ≡ Some Entry.Free
+SaysPlace (Holds k) shown = shown ≡ Some (Entry.Held k)
 SaysPlace (Quiescing k) shown = SaysQuiescing shown
 
 -- Each entry of a node says its place.
@@ -74,11 +61,11 @@ AreFrame (Kernel object) place word = AreObject object place word
 -- What the word of a liveness number says that no core is closing.
 pub record SaysDead (epoch : ℕ) (shown : Option LiveWord) : Type 0 where
   pub stamp : ℕ
-  pub says : shown ≡ Some (live_word.Dead epoch stamp)
+  pub says : shown ≡ Some (LiveWord.Dead epoch stamp)
 
 abbrev pub SaysNumber : Liveness → Option LiveWord → Type 0
-SaysNumber Unused shown = shown ≡ Some live_word.Free
-SaysNumber (Live epoch f) shown = shown ≡ Some (live_word.Live epoch f)
+SaysNumber Unused shown = shown ≡ Some LiveWord.Free
+SaysNumber (Live epoch f) shown = shown ≡ Some (LiveWord.Live epoch f)
 SaysNumber (Dead epoch) shown = SaysDead epoch shown
 
 -- The word of a core that is out of a call, with the stamp of its last exit.

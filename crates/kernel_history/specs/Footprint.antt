@@ -1,22 +1,12 @@
 -- The footprint of a call: the frames and liveness numbers whose words its steps may be on.
-use Rattle.std.specs.Prelude.{◌≡◌, ℕ, ◌==◌, Bool, List, [], ◌∷◌, ◌++◌, map, Option, Some, None, IsTrue}
-use Rattle.std.specs.List.{list_any, flat_map}
-use Rattle.spk_nums.specs.Capability.{Capability}
-use Rattle.spk_nums.specs.Setting.{Setting}
-use Rattle.spk_nums.specs.declared.calls.Call.{Call}
-use Rattle.spk_nums.specs.declared.calls.Call.TheVariants.{Retype, Make as make_call, Map}
-use Rattle.spk_nums.specs.declared.calls.Make.{Make}
-use Rattle.spk_nums.specs.declared.calls.Make.TheVariants.{Comp as make_comp}
-use Rattle.word_map.specs.Word.{Word, EntryAt, FrameAt, CountAt, CoreAt, FlushAt, LiveAt, ClockAt}
-use Rattle.word_map.specs.Moves.{word_of}
-use Rattle.kernel_rules.specs.State.{Frame, Kernel, Comp, State, thread_of, comp_of}
-use Rattle.kernel_rules.specs.References.{named_by, frame_names}
-use Rattle.kernel_rules.specs.Access.{Slot, place_at}
-use Rattle.kernel_rules.specs.Rules.{Rule, Name, Vacant, Held, Mapped, Does, Judged, Refused, Found, named, name_of}
-use Rattle.kernel_rules.specs.CallRelation.{rule_of}
-use Rattle.kernel_history.specs.Ways.{capability_in, wide_ways, target_of}
-use Rattle.kernel_history.specs.Bounds.{call_in}
-use Rattle.kernel_history.specs.Trace.{Step, Trace, phase, after_enter, WasBefore}
+use Rattle.kernel_rules.specs.{◌≡◌, ℕ, ◌==◌, Bool, List, [], ◌∷◌, ◌++◌, map, Option, Some, None, IsTrue, flat_map, Capability, Setting}
+use Rattle.kernel_rules.specs.{Call, Retype, Map, Make, Frame, Kernel, Comp, thread_of, comp_of, named_by, frame_names, Slot, place_at}
+use Rattle.kernel_rules.specs.{Rule, Name, Vacant, Held, Mapped, Does, Judged, Refused, Found, named, name_of, rule_of}
+use Rattle.word_map.specs.{EntryAt, FrameAt, CountAt, CoreAt, FlushAt, LiveAt, ClockAt, word_of}
+use Rattle.kernel_history.specs.{Ways.capability_in, Ways.wide_ways, Ways.target_of, Bounds.call_in, Trace.Step, Trace.Trace, Trace.phase}
+use Rattle.{std.specs.List.list_any, entry_words.specs.spk_nums.specs.declared.calls.Call.TheVariants.Make as make_call}
+use Rattle.{entry_words.specs.spk_nums.specs.declared.calls.Make.TheVariants.Comp as make_comp, word_map.specs.Word.Word}
+use Rattle.{kernel_rules.specs.State.State, kernel_history.specs.Trace.after_enter, kernel_history.specs.Trace.WasBefore}
 
 -- The frame that a capability names; a range names none.
 abbrev pub frame_of_cap : Option Capability → List ℕ

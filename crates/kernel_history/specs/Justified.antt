@@ -1,24 +1,12 @@
 -- When a decision is justified by the steps of its own call.
-use Rattle.std.specs.Prelude.{◌≡◌, ◌≢◌, ◌⊎◌, ℕ, ◌==◌, ◌&&◌, Bool, Option, Some, None}
-use Rattle.std.specs.Prelude.{List, ◌∷◌, IsSome, is_some, IsTrue, All, if◌then◌else◌}
-use Rattle.std.specs.List.{list_any}
-use Rattle.spk_nums.specs.declared.calls.Call.{Call}
-use Rattle.spk_nums.specs.declared.replies.Reply.{Reply}
-use Rattle.spk_nums.specs.declared.replies.Reply.TheVariants as reply
-use Rattle.spk_nums.specs.Setting.{Setting}
-use Rattle.word_map.specs.Word.{Word, EntryAt, FrameAt, CountAt, CoreAt, FlushAt, LiveAt, ClockAt}
-use Rattle.word_map.specs.Moves.{word_of}
-use Rattle.kernel_rules.specs.State.{Place, Free, Holds, Quiescing, Thread, Tcap, Frame, Kernel, Liveness}
-use Rattle.kernel_rules.specs.State.{Unused, Live, Dead, Thing, PlaceOf, FrameOf, NumberOf, State}
-use Rattle.kernel_rules.specs.Access.{Slot}
-use Rattle.kernel_rules.specs.GracePeriods.{same_thing, MayWait, MayBeUnflushed}
-use Rattle.kernel_rules.specs.CallRelation.{rule_of}
-use Rattle.kernel_rules.specs.Rules.{Rule}
-use Rattle.kernel_history.specs.ObjectWords.{holds_node}
-use Rattle.kernel_history.specs.Marks.{mark_of}
-use Rattle.kernel_history.specs.Marking.{HasMarked}
-use Rattle.kernel_history.specs.Ways.{ways, wide_ways, target_of, asked_of, waited_in, flushed_in}
-use Rattle.kernel_history.specs.Trace.{Step, Trace, own_left, only_reads, own_read, state_before, WasBefore}
+use Rattle.kernel_rules.specs.{◌≡◌, ◌≢◌, ◌⊎◌, ℕ, ◌==◌, ◌&&◌, Bool, Option, Some, None, List, ◌∷◌, IsSome, is_some, IsTrue, All}
+use Rattle.kernel_rules.specs.{if◌then◌else◌, Call, Reply, Setting, Place, Free, Holds, Quiescing, Thread, Tcap, Frame, Kernel, Liveness}
+use Rattle.kernel_rules.specs.{Unused, Live, Dead, Thing, PlaceOf, FrameOf, NumberOf, Slot, same_thing, MayWait, MayBeUnflushed, rule_of}
+use Rattle.word_map.specs.{EntryAt, FrameAt, CountAt, CoreAt, FlushAt, LiveAt, ClockAt, word_of}
+use Rattle.kernel_history.specs.{ObjectWords.holds_node, Marks.mark_of, Marking.HasMarked, Ways.ways, Ways.wide_ways, Ways.target_of}
+use Rattle.kernel_history.specs.{Ways.asked_of, Ways.waited_in, Ways.flushed_in, Trace.Step, Trace.Trace, Trace.own_left, Trace.only_reads}
+use Rattle.kernel_history.specs.{Trace.own_read, Trace.state_before, Trace.WasBefore}
+use Rattle.{kernel_rules.specs.Rule, std.specs.List.list_any, word_map.specs.Word.Word, kernel_rules.specs.State.State}
 
 -- What the last step before e of e's own call on e's word has read there, if that step left it as found.
 abbrev pub own_read_before : Trace → Step → Option ℕ
@@ -112,11 +100,11 @@ HasReached t c slots = All (λ at. IsSome (own_left t c (EntryAt at.node at.inde
 -- The reply that e decides, in state s by the rule of its call, is justified: an `ok` has reached its places, a `raced` has lost
 -- a race, a `busy` is held up, and a `quiescing` or an `unflushed` waits. Other refusals stand by the call relation alone.
 abbrev pub IsJustifiedIn : Setting → Trace → Step → State → Rule → Reply → Type 0
-IsJustifiedIn setup t e s rule (reply.Ok v) = HasReached (e ∷ t) e.core (ways s e.core rule)
-IsJustifiedIn setup t e s rule reply.Raced = IsRaceLost t e s rule
-IsJustifiedIn setup t e s rule (reply.Busy d) = IsHeldUp setup t e s rule d
-IsJustifiedIn setup t e s rule (reply.Quiescing d) = IsWaiting setup t e s rule d
-IsJustifiedIn setup t e s rule (reply.Unflushed d) = IsUnflushed setup t e s rule d
+IsJustifiedIn setup t e s rule (Reply.Ok v) = HasReached (e ∷ t) e.core (ways s e.core rule)
+IsJustifiedIn setup t e s rule Reply.Raced = IsRaceLost t e s rule
+IsJustifiedIn setup t e s rule (Reply.Busy d) = IsHeldUp setup t e s rule d
+IsJustifiedIn setup t e s rule (Reply.Quiescing d) = IsWaiting setup t e s rule d
+IsJustifiedIn setup t e s rule (Reply.Unflushed d) = IsUnflushed setup t e s rule d
 IsJustifiedIn setup t e s rule _ = Unit {0}
 
 -- The reply that e decides for the call is justified.

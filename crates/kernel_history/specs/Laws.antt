@@ -1,16 +1,9 @@
 -- Laws of legal traces, each the contract of a function of this crate.
-use Rattle.std.specs.Prelude.{◌≡◌, ◌≢◌, ◌⊎◌, ◌||◌, ◌+◌, ◌==◌, ◌&&◌, ◌++◌, ℕ, if◌then◌else◌, [], ◌∷◌, length, Option, Some, None, is_some}
-use Rattle.spk_nums.specs.declared.replies.Reply.{Reply}
-use Rattle.spk_nums.specs.declared.replies.Reply.TheVariants as reply
-use Rattle.spk_nums.specs.Setting.{Setting}
-use Rattle.word_map.specs.Word.{Word, same_word}
-use Rattle.word_map.specs.Moves.{word_of, left_of}
-use Rattle.kernel_rules.specs.Runs.{after, IsRun}
-use Rattle.kernel_history.specs.Trace.{Step, Trace, phase, state_after, calls_of, IfNot}
-use Rattle.kernel_history.specs.Stamps.{is_in}
-use Rattle.kernel_history.specs.Events.{events_of}
-use Rattle.kernel_history.specs.Legal.{IsLegal}
-use Rattle.kernel_history.specs.Alone.{IsAlone}
+use Rattle.kernel_rules.specs.{◌≡◌, ◌≢◌, ◌⊎◌, ◌||◌, ◌+◌, ◌==◌, ◌&&◌, ◌++◌, ℕ, if◌then◌else◌, [], ◌∷◌, length, Option, Some, None, is_some}
+use Rattle.kernel_rules.specs.{Reply, Setting, after, IsRun}
+use Rattle.kernel_history.specs.{Trace.Step, Trace.Trace, Trace.phase, Trace.state_after, Trace.calls_of, Trace.IfNot, Stamps.is_in}
+use Rattle.{word_map.specs.same_word, word_map.specs.word_of, word_map.specs.left_of, word_map.specs.Word.Word}
+use Rattle.{kernel_history.specs.Events.events_of, kernel_history.specs.Legal.IsLegal, kernel_history.specs.Alone.IsAlone}
 
 -- The events of the trace are a run of the sequential kernel, and the trace leaves the state that they leave.
 pub record IsRunOfEvents (setup : Setting) (t : Trace) : Type 0 where
@@ -47,9 +40,9 @@ OneCallAtATime = (setup : Setting) (t : Trace) → IsLegal setup t → (c : ℕ)
 -- The step decides none of `raced`, `busy` and `quiescing`.
 abbrev pub IsNotHeldUp : Option Reply → Type 0
 IsNotHeldUp None = Unit {0}
-IsNotHeldUp (Some reply.Raced) = ⊥
-IsNotHeldUp (Some (reply.Busy d)) = ⊥
-IsNotHeldUp (Some (reply.Quiescing d)) = ⊥
+IsNotHeldUp (Some Reply.Raced) = ⊥
+IsNotHeldUp (Some (Reply.Busy d)) = ⊥
+IsNotHeldUp (Some (Reply.Quiescing d)) = ⊥
 IsNotHeldUp (Some r) = Unit {0}
 
 -- A call that is alone loses no race, is held up by no core and waits for none.
@@ -70,4 +63,4 @@ WasChanged (e ∷ t) c w = ChangesWord c e w ⊎ IfNot (c == e.core && (same_wor
 -- A call is answered `raced` only where another core has changed the word that it read, since it read it.
 abbrev pub RacedByAnother : Type 0
 RacedByAnother = (setup : Setting) (t : Trace) (e : Step) → IsLegal setup (e ∷ t)
-    → e.decides ≡ Some reply.Raced → WasChanged t e.core (word_of e.move)
+    → e.decides ≡ Some Reply.Raced → WasChanged t e.core (word_of e.move)

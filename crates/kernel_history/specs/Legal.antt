@@ -1,15 +1,8 @@
 -- When a trace is a legal history.
-use Rattle.std.specs.Prelude.{◌≡◌, ◌≢◌, ◌<◌, ◌^◌, [], ◌∷◌, Option, Some, None}
-use Rattle.spk_nums.specs.declared.calls.Call.{Call}
-use Rattle.spk_nums.specs.declared.replies.Reply.{Reply}
-use Rattle.spk_nums.specs.Setting.{Setting}
-use Rattle.spk_nums.specs.CallLimits.{InLimits}
-use Rattle.word_map.specs.Places.{IsIn}
-use Rattle.word_map.specs.Moves.{word_of, left_of}
-use Rattle.kernel_rules.specs.CallRelation.{MayReply}
-use Rattle.kernel_history.specs.BootWords.{shape_of}
-use Rattle.kernel_history.specs.Justified.{IsJustified}
-use Rattle.kernel_history.specs.Trace.{Step, Trace, Phase, Out, Open, Decided, phase, after_enter, after_decide, state_before, last_left}
+use Rattle.kernel_rules.specs.{◌≡◌, ◌≢◌, ◌<◌, ◌^◌, [], ◌∷◌, Option, Some, None, Call, Reply, Setting, InLimits, MayReply}
+use Rattle.word_map.specs.{IsIn, word_of, left_of}
+use Rattle.kernel_history.specs.{BootWords.shape_of, Justified.IsJustified, Trace.Step, Trace.Trace, Trace.Phase, Trace.Out, Trace.Open}
+use Rattle.kernel_history.specs.{Trace.Decided, Trace.phase, Trace.after_enter, Trace.after_decide, Trace.state_before, Trace.last_left}
 
 -- A call within its limits is entered between calls alone.
 abbrev pub MayEnter : Option Call → Phase → Type 0

@@ -1,10 +1,7 @@
 -- The marks that words carry after a trace, and whose step has put a mark there.
-use Rattle.std.specs.Prelude.{◌≡◌, ◌≢◌, ◌⊎◌, ℕ, ◌==◌, ◌&&◌, [], ◌∷◌, Option, Some, is_some}
-use Rattle.spk_nums.specs.Setting.{Setting}
-use Rattle.word_map.specs.Word.{Word}
-use Rattle.word_map.specs.Moves.{word_of}
-use Rattle.kernel_history.specs.Marks.{mark_of}
-use Rattle.kernel_history.specs.Trace.{Step, Trace, state_after, last_left, IfNot}
+use Rattle.kernel_rules.specs.{◌≡◌, ◌≢◌, ◌⊎◌, ℕ, ◌==◌, ◌&&◌, [], ◌∷◌, Option, Some, is_some, Setting}
+use Rattle.word_map.specs.{Word.Word, Moves.word_of}
+use Rattle.kernel_history.specs.{Marks.mark_of, Trace.Step, Trace.Trace, Trace.state_after, Trace.last_left, Trace.IfNot}
 
 -- The core whose mark a word carries after the trace.
 abbrev pub marked_by : Setting → Trace → Word → Option ℕ

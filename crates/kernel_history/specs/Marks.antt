@@ -1,32 +1,24 @@
 -- The marks that cores set in words: a core's mark keeps a word for it, until that core gives the word back.
-use Rattle.std.specs.Prelude.{ℕ, ◌==◌, if◌then◌else◌, Option, Some, None}
-use Rattle.entry_words.specs.declared.entry.Entry.{Entry}
-use Rattle.entry_words.specs.declared.entry.Entry.TheVariants as entry
-use Rattle.entry_words.specs.EntryWord.{entry_of_word}
-use Rattle.frame_words.specs.Frame.{frame_of_word}
-use Rattle.frame_words.specs.Count.{count_of_word}
-use Rattle.frame_words.specs.Live.{live_of_word}
-use Rattle.frame_words.specs.declared.frame_word.FrameWord.{FrameWord}
-use Rattle.frame_words.specs.declared.count_word.CountWord.{CountWord}
-use Rattle.frame_words.specs.declared.count_word.Hold.{Hold}
-use Rattle.frame_words.specs.declared.count_word.Hold.TheVariants.{Unheld, Pinned, Closed}
-use Rattle.frame_words.specs.declared.live_word.LiveWord.{LiveWord}
-use Rattle.frame_words.specs.declared.live_word.LiveWord.TheVariants as live_word
-use Rattle.tcap_words.specs.Head.{head_of_word}
-use Rattle.tcap_words.specs.Thread.{thread_of_word}
-use Rattle.tcap_words.specs.declared.head_word.HeadWord.{HeadWord}
-use Rattle.tcap_words.specs.declared.thread_word.ThreadWord.{ThreadWord}
+use Rattle.kernel_rules.specs.{ℕ, ◌==◌, if◌then◌else◌, Option, Some, None, Object, Blank, Table, Leaf, Pages, Pleaf, Comp, Thread, Tcap}
+use Rattle.kernel_rules.specs.{Frame, Untyped, User, Kernel}
+use Rattle.word_map.specs.{EntryAt, FrameAt, CountAt, CoreAt, FlushAt, LiveAt, ClockAt}
+use Rattle.frame_words.specs.{frame_of_word, count_of_word, live_of_word}
+use Rattle.tcap_words.specs.{head_of_word, thread_of_word}
+use Rattle.entry_words.specs.{declared.entry.Entry.Entry, EntryWord.entry_of_word}
+use Rattle.frame_words.specs.{declared.frame_word.FrameWord.FrameWord, declared.count_word.CountWord.CountWord}
+use Rattle.frame_words.specs.{declared.count_word.Hold.Hold, declared.count_word.Hold.TheVariants.Unheld}
+use Rattle.frame_words.specs.{declared.count_word.Hold.TheVariants.Pinned, declared.count_word.Hold.TheVariants.Closed}
 use Rattle.tcap_words.specs.declared.thread_word.ThreadWord.TheVariants.{Idle, Running, Claimed}
-use Rattle.word_map.specs.Word.{Word, EntryAt, FrameAt, CountAt, CoreAt, FlushAt, LiveAt, ClockAt}
-use Rattle.kernel_rules.specs.State.{Object, Blank, Table, Leaf, Pages, Pleaf, Comp, Thread, Tcap, Frame, Untyped, User, Kernel, State}
+use Rattle.{frame_words.specs.declared.live_word.LiveWord.LiveWord, tcap_words.specs.declared.head_word.HeadWord.HeadWord}
+use Rattle.{tcap_words.specs.declared.thread_word.ThreadWord.ThreadWord, word_map.specs.Word.Word, kernel_rules.specs.State.State}
 
 -- The core that is closing an entry.
 abbrev pub entry_mark : Option Entry → Option ℕ
 entry_mark None = None
-entry_mark (Some entry.Free) = None
-entry_mark (Some (entry.Held k)) = None
-entry_mark (Some (entry.Closing d)) = Some d
-entry_mark (Some (entry.Quiescing stamp)) = None
+entry_mark (Some Entry.Free) = None
+entry_mark (Some (Entry.Held k)) = None
+entry_mark (Some (Entry.Closing d)) = Some d
+entry_mark (Some (Entry.Quiescing stamp)) = None
 
 -- The core that has marked a frame's word.
 abbrev pub frame_mark : Option FrameWord → Option ℕ
@@ -46,10 +38,10 @@ count_mark (Some v) = hold_mark v.hold
 -- The core that is closing a liveness number.
 abbrev pub live_mark : Option LiveWord → Option ℕ
 live_mark None = None
-live_mark (Some live_word.Free) = None
-live_mark (Some (live_word.Live epoch f)) = None
-live_mark (Some (live_word.Closing epoch d)) = Some d
-live_mark (Some (live_word.Dead epoch stamp)) = None
+live_mark (Some LiveWord.Free) = None
+live_mark (Some (LiveWord.Live epoch f)) = None
+live_mark (Some (LiveWord.Closing epoch d)) = Some d
+live_mark (Some (LiveWord.Dead epoch stamp)) = None
 
 -- The core that has claimed a thread.
 abbrev pub thread_mark : Option ThreadWord → Option ℕ

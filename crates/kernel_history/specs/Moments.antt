@@ -1,19 +1,14 @@
 -- What the words say at each moment of a trace.
-use Rattle.std.specs.Prelude.{◌≡◌, ◌≢◌, ◌<◌, ◌⊎◌, ◌↔◌, ℕ, [], ◌∷◌, Some, IsTrue}
-use Rattle.spk_nums.specs.Setting.{Setting}
-use Rattle.entry_words.specs.declared.entry.Entry.TheVariants as entry
-use Rattle.entry_words.specs.EntryWord.{entry_of_word}
-use Rattle.frame_words.specs.Core.{core_of_word}
-use Rattle.frame_words.specs.declared.core_word.CoreWord.{CoreWord}
-use Rattle.word_map.specs.Word.{EntryAt, CoreAt}
-use Rattle.kernel_history.specs.ObjectWords.{holds_node}
-use Rattle.kernel_history.specs.FinalWords.{SaysPlace}
-use Rattle.kernel_history.specs.Trace.{Trace, Out, phase, state_after, last_left}
+use Rattle.kernel_rules.specs.{◌≡◌, ◌≢◌, ◌<◌, ◌⊎◌, ◌↔◌, ℕ, [], ◌∷◌, Some, IsTrue, Setting}
+use Rattle.kernel_history.specs.{ObjectWords.holds_node, FinalWords.SaysPlace, Trace.Trace, Trace.Out, Trace.phase, Trace.state_after}
+use Rattle.{word_map.specs.EntryAt, word_map.specs.CoreAt, entry_words.specs.EntryWord.entry_of_word}
+use Rattle.{entry_words.specs.declared.entry.Entry.Entry, frame_words.specs.Core.core_of_word}
+use Rattle.{frame_words.specs.declared.core_word.CoreWord.CoreWord, kernel_history.specs.Trace.last_left}
 
 -- The word of a place is being closed by core d, which is in a call.
 pub record IsClosedBySome (setup : Setting) (t : Trace) (f i : ℕ) : Type 0 where
   pub by : ℕ
-  pub says : entry_of_word (last_left setup t (EntryAt f i)) ≡ Some (entry.Closing by)
+  pub says : entry_of_word (last_left setup t (EntryAt f i)) ≡ Some (Entry.Closing by)
   pub in_call : phase t by ≢ Out
 
 -- The word of a place of a node says what the place is, or is being closed.

@@ -1,15 +1,10 @@
 -- The words of the objects of frames: what each field of the state is in words.
-use Rattle.std.specs.Prelude.{ℕ, ◌==◌, Bool, true, false, if◌then◌else◌, List, slice_get, reverse, Option, Some, None}
-use Rattle.spk_nums.specs.declared.kinds.FrameKind.TheVariants as frame_kind
-use Rattle.spk_nums.specs.declared.kinds.Obj.{Obj}
-use Rattle.spk_nums.specs.declared.kinds.Obj.TheVariants as obj
-use Rattle.frame_words.specs.Comp.{word_of_comp}
-use Rattle.frame_words.specs.declared.frame_word.FrameWord.{FrameWord}
-use Rattle.tcap_words.specs.Quality.{word_of_quality}
-use Rattle.tcap_words.specs.Stack.{word_of_stack}
+use Rattle.kernel_rules.specs.{ℕ, ◌==◌, Bool, true, false, if◌then◌else◌, List, slice_get, reverse, Option, Some, None, Obj, CompFields}
+use Rattle.kernel_rules.specs.{Object, Blank, Table, Leaf, Pages, Pleaf, Comp, Thread, Tcap, Frame, Untyped, User, Kernel, FrameKind}
+use Rattle.tcap_words.specs.{word_of_quality, word_of_stack}
+use Rattle.frame_words.specs.{Comp.word_of_comp, declared.frame_word.FrameWord.FrameWord}
 use Rattle.tcap_words.specs.declared.thread_word.ThreadWord.{ThreadWord}
 use Rattle.tcap_words.specs.declared.thread_word.ThreadWord.TheVariants.{Idle, Running}
-use Rattle.kernel_rules.specs.State.{CompFields, Object, Blank, Table, Leaf, Pages, Pleaf, Comp, Thread, Tcap, Frame, Untyped, User, Kernel}
 
 -- Whether an object is a node, whose 64 words are entries.
 abbrev pub is_node_object : Object → Bool
@@ -30,20 +25,20 @@ holds_node (Kernel object) = is_node_object object
 
 -- The object's name in the frame's word.
 abbrev pub name_of_object : Object → Obj
-name_of_object Blank = obj.Blank
-name_of_object Table = obj.Table
-name_of_object Leaf = obj.Leaf
-name_of_object Pages = obj.Pages
-name_of_object Pleaf = obj.Pleaf
-name_of_object (Comp k) = obj.Comp
-name_of_object (Thread t) = obj.Thread
-name_of_object (Tcap q) = obj.Tcap
+name_of_object Blank = Obj.Blank
+name_of_object Table = Obj.Table
+name_of_object Leaf = Obj.Leaf
+name_of_object Pages = Obj.Pages
+name_of_object Pleaf = Obj.Pleaf
+name_of_object (Comp k) = Obj.Comp
+name_of_object (Thread t) = Obj.Thread
+name_of_object (Tcap q) = Obj.Tcap
 
 -- What the word of a frame says that no core has marked.
 abbrev pub frame_value : Frame → FrameWord
-frame_value Untyped = record { kind = frame_kind.Untyped; object = obj.Blank; mark = None }
-frame_value User = record { kind = frame_kind.User; object = obj.Blank; mark = None }
-frame_value (Kernel object) = record { kind = frame_kind.Kernel; object = name_of_object object; mark = None }
+frame_value Untyped = record { kind = FrameKind.Untyped; object = Obj.Blank; mark = None }
+frame_value User = record { kind = FrameKind.User; object = Obj.Blank; mark = None }
+frame_value (Kernel object) = record { kind = FrameKind.Kernel; object = name_of_object object; mark = None }
 
 -- The words of a component: the frame of its table, the frame of its pages, and its liveness number with its epoch.
 abbrev pub comp_word : CompFields → ℕ → ℕ

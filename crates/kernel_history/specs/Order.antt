@@ -1,11 +1,6 @@
 -- Traces that have the calls of lists, and that follow an order.
-use Rattle.std.specs.Prelude.{◌≡◌, ◌⊎◌, ℕ, zero, suc, Bool, List, [], ◌∷◌, ◌++◌, length}
-use Rattle.std.specs.Prelude.{All, slice_index_or, Option, None, IsSome, IsTrue, IsFalse}
-use Rattle.spk_nums.specs.declared.calls.Call.{Call}
-use Rattle.spk_nums.specs.declared.replies.Reply.{Reply}
-use Rattle.spk_nums.specs.declared.steps.Item.{Item}
-use Rattle.spk_nums.specs.declared.steps.How.{How}
-use Rattle.spk_nums.specs.declared.steps.How.TheVariants.{One, Ready, Decide, Return}
+use Rattle.kernel_rules.specs.{◌≡◌, ◌⊎◌, ℕ, zero, suc, Bool, List, [], ◌∷◌, ◌++◌, length, All, get_or as slice_index_or, Option, None}
+use Rattle.kernel_rules.specs.{IsSome, IsTrue, IsFalse, Call, Reply, Item, How, One, Ready, Decide, Return}
 use Rattle.kernel_history.specs.Trace.{Step, Trace, Phase, Out, Open, Decided, phase, calls_of}
 
 -- The list of a core's calls.

@@ -1,12 +1,8 @@
 -- Stamps: the value of the clock at which a grace period began, at which a core left its last call, and at which it flushed last.
-use Rattle.std.specs.Prelude.{ℕ, Bool, true, false, ◌==◌, ◌&&◌, if◌then◌else◌, [], ◌∷◌, Option, Some, None}
-use Rattle.spk_nums.specs.declared.replies.Reply.{Reply}
-use Rattle.spk_nums.specs.Setting.{Setting}
-use Rattle.word_map.specs.Word.{FlushAt, ClockAt, same_word}
-use Rattle.word_map.specs.Moves.{word_of}
-use Rattle.kernel_rules.specs.State.{Thing, State}
-use Rattle.kernel_rules.specs.GracePeriods.{needs_flush}
-use Rattle.kernel_rules.specs.CallRelation.{begins, ends, flushes}
+use Rattle.kernel_rules.specs.{ℕ, Bool, true, false, ◌==◌, ◌&&◌, if◌then◌else◌, [], ◌∷◌, Option, Some, None, Reply, Setting, Thing}
+use Rattle.kernel_rules.specs.{needs_flush, begins, ends, flushes}
+use Rattle.word_map.specs.{FlushAt, ClockAt, same_word, word_of}
+use Rattle.kernel_rules.specs.State.{State}
 use Rattle.kernel_history.specs.Trace.{Step, Trace, Phase, Out, Open, Decided, phase, after_enter, state_before, last_left}
 
 -- Whether a core is in a call.

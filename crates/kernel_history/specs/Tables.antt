@@ -1,13 +1,9 @@
 -- The tables of a state, as they are printed.
-use Rattle.std.specs.Prelude.{ℕ, zero, suc, ◌==◌, ◌||◌, ◌&&◌, Bool, nat_lt, List, [], ◌∷◌, ◌++◌, codes, decimal, if◌then◌else◌, reverse}
-use Rattle.std.specs.List.{flat_map}
-use Rattle.spk_nums.specs.Texts.{cap_text}
-use Rattle.spk_nums.specs.declared.translations.Translation.{Translation}
-use Rattle.kernel_rules.specs.State.{Place, Free, Holds, Quiescing, CompFields, ThreadFields, TcapFields, Object}
-use Rattle.kernel_rules.specs.State.{Blank, Table, Leaf, Pages, Pleaf, Comp, Thread, Tcap, Frame, Untyped, User}
-use Rattle.kernel_rules.specs.State.{Kernel, Liveness, Unused, Live, Dead, Core, State, first_of_stack, thread_of}
-use Rattle.kernel_rules.specs.References.{refs}
-use Rattle.kernel_rules.specs.Laws.{ticks}
+use Rattle.kernel_rules.specs.{ℕ, zero, suc, ◌==◌, ◌||◌, ◌&&◌, Bool, ltb as nat_lt, List, [], ◌∷◌, ◌++◌, codes, decimal, if◌then◌else◌}
+use Rattle.kernel_rules.specs.{reverse, flat_map, Translation, Place, Free, Holds, Quiescing, CompFields, ThreadFields, TcapFields, Object}
+use Rattle.kernel_rules.specs.{Blank, Table, Leaf, Pages, Pleaf, Comp, Thread, Tcap, Frame, Untyped, User, Kernel, Liveness, Unused, Live}
+use Rattle.kernel_rules.specs.{Dead, Core, first_of_stack, thread_of, refs, ticks}
+use Rattle.{entry_words.specs.spk_nums.specs.Texts.cap_text, kernel_rules.specs.State.State}
 
 -- A space and a number.
 abbrev pub number : ℕ → List ℕ

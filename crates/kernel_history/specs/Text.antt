@@ -1,15 +1,8 @@
 -- The texts of finished traces, and of the sequential kernel's run.
-use Rattle.std.specs.Prelude.{ℕ, zero, suc, ◌+◌, ◌-◌, ◌==◌, List, [], ◌∷◌, ◌++◌, Option, Some, None, slice_get}
-use Rattle.std.specs.List.{flat_map, filter}
-use Rattle.spk_nums.specs.Texts.{reply_line_text}
-use Rattle.spk_nums.specs.declared.calls.Call.{Call}
-use Rattle.spk_nums.specs.declared.replies.Decision.{Decision}
-use Rattle.spk_nums.specs.Setting.{Setting}
-use Rattle.kernel_rules.specs.State.{State}
-use Rattle.kernel_rules.specs.Start.{start}
-use Rattle.kernel_rules.specs.Alone.{plain_reply, plain_step, plain_steps}
-use Rattle.kernel_history.specs.Trace.{Trace, state_after, calls_of, decisions_of}
-use Rattle.kernel_history.specs.Tables.{tables_of, lines_below}
+use Rattle.kernel_rules.specs.{ℕ, zero, suc, ◌+◌, ◌-◌, ◌==◌, List, [], ◌∷◌, ◌++◌, Option, Some, None, slice_get, flat_map, Call, Decision}
+use Rattle.kernel_rules.specs.{Setting, start, plain_reply, plain_step, plain_steps}
+use Rattle.kernel_history.specs.{Trace.Trace, Trace.state_after, Trace.calls_of, Trace.decisions_of, Tables.tables_of, Tables.lines_below}
+use Rattle.{std.specs.List.filter, entry_words.specs.spk_nums.specs.Texts.reply_line_text, kernel_rules.specs.State.State}
 
 -- The reply line of a decision on this call, if there is one.
 abbrev pub line_if : Decision → Option Call → List ℕ

@@ -1,17 +1,8 @@
 -- Traces of atomic steps, and what they leave. A trace lists its steps with the newest first.
-use Rattle.std.specs.Prelude.{ℕ, Bool, true, false, ◌⊎◌, ◌+◌, ◌==◌, ◌&&◌, List, [], ◌∷◌, ◌++◌}
-use Rattle.std.specs.Prelude.{Option, Some, None, is_some, if◌then◌else◌, option_to_list, length}
-use Rattle.spk_nums.specs.declared.calls.Call.{Call}
-use Rattle.spk_nums.specs.declared.replies.Reply.{Reply}
-use Rattle.spk_nums.specs.declared.replies.Decision.{Decision}
-use Rattle.spk_nums.specs.Setting.{Setting}
-use Rattle.word_map.specs.Word.{Word, same_word}
-use Rattle.word_map.specs.Moves.{Move, LoadOf, CompareOf, StoreOf, AddOf, word_of, left_of}
-use Rattle.kernel_rules.specs.State.{State}
-use Rattle.kernel_rules.specs.Start.{start}
-use Rattle.kernel_rules.specs.GracePeriods.{entered, returned}
-use Rattle.kernel_rules.specs.CallRelation.{state_by}
-use Rattle.kernel_history.specs.BootWords.{boot_word}
+use Rattle.kernel_rules.specs.{ℕ, Bool, true, false, ◌⊎◌, ◌+◌, ◌==◌, ◌&&◌, List, [], ◌∷◌, ◌++◌, Option, Some, None, is_some, if◌then◌else◌}
+use Rattle.kernel_rules.specs.{option_to_list, length, Call, Reply, Decision, Setting, start, entered, returned, state_by}
+use Rattle.word_map.specs.{same_word, Move, LoadOf, CompareOf, StoreOf, AddOf, word_of, left_of}
+use Rattle.{word_map.specs.Word.Word, kernel_rules.specs.State.State, kernel_history.specs.BootWords.boot_word}
 
 -- An atomic step of a core: its operation on a word, the value found there, and the events of the core's call at it: it enters,
 -- decides (the call takes effect there) or returns. What it leaves in the word is a function of the operation and of what it found.

@@ -1,10 +1,9 @@
 -- The places through which the names, the target and the page of a call are reached, and the things that it waits for.
-use Rattle.std.specs.Prelude.{ℕ, ◌%◌, ◌&&◌, nat_le, if◌then◌else◌, List, [], ◌∷◌, ◌++◌, option_to_list, Option, Some, None}
-use Rattle.spk_nums.specs.Capability.{Capability}
-use Rattle.kernel_rules.specs.State.{Place, Free, Holds, Quiescing, Thing, PlaceOf, State}
-use Rattle.kernel_rules.specs.Access.{Slot, Target, Under, InRoot, place_at, linked, slot_in, root_slot, reached, root_at, own}
-use Rattle.kernel_rules.specs.Rules.{Rule, Name, Vacant, Held, Mapped, Does, Cause, When, WaitedFor}
-use Rattle.kernel_rules.specs.Rules.{Unflushed, Judged, Refused, Found, named, held, name_of, slot_of}
+use Rattle.kernel_rules.specs.{ℕ, ◌%◌, ◌&&◌, leb as nat_le, if◌then◌else◌, List, [], ◌∷◌, ◌++◌, option_to_list, Option, Some, None}
+use Rattle.kernel_rules.specs.{Capability, Place, Free, Holds, Quiescing, Thing, PlaceOf, Slot, Target, Under, InRoot, place_at, linked}
+use Rattle.kernel_rules.specs.{slot_in, root_slot, reached, root_at, own, Rule, Name, Vacant, Held, Mapped, Does, Cause, When, WaitedFor}
+use Rattle.kernel_rules.specs.{Unflushed, Judged, Refused, Found, named, held, name_of, slot_of}
+use Rattle.kernel_rules.specs.State.{State}
 
 -- The capability of a place, also where it is removed.
 abbrev pub capability_in : Place → Option Capability

@@ -1,51 +1,26 @@
 -- What is known where each edit of a call is made.
-use Rattle.std.proofs.Common.{◌≡◌, ◌≢◌, ℕ, ◌+◌, ◌-◌, ◌<◌, ◌≤◌, Bool, true, false, not, refl, sym, ◌∙◌, ap, subst, cond, min}
-use Rattle.std.proofs.Common.{◌==◌, nat_lt, nat_le, length, IsTrue, IsFalse, List, [], ◌∷◌, Option, Some, None}
-use Rattle.std.proofs.lemmas.Bool.{false≢true, true≢false, eqb-false, ltb-false, leb-false}
-use Rattle.spk_nums.specs.Capability.{Capability}
-use Rattle.spk_nums.specs.CallLimits.{InLimits}
-use Rattle.spk_nums.specs.Merging.{merged}
-use Rattle.spk_nums.specs.Qualities.{IsQualityList}
-use Rattle.spk_nums.specs.declared.kinds.Kind.{Kind}
-use Rattle.spk_nums.specs.Rights.{kept, part_of}
-use Rattle.spk_nums.specs.declared.kinds.Kind.TheVariants as kind
-use Rattle.spk_nums.specs.declared.kinds.FrameKind.{FrameKind}
-use Rattle.spk_nums.specs.declared.kinds.FrameKind.TheVariants as frame_kind
-use Rattle.spk_nums.specs.declared.calls.Make.{Make}
-use Rattle.spk_nums.specs.declared.calls.Make.TheVariants as make
-use Rattle.spk_nums.specs.declared.calls.Call.{Call}
-use Rattle.spk_nums.specs.declared.calls.Call.TheVariants as call
-use Rattle.spk_nums.specs.declared.translations.Translation.{Translation}
-use Rattle.spk_nums.specs.declared.replies.Value.{Value}
-use Rattle.spk_nums.specs.declared.replies.Reply.TheVariants as reply
-use Rattle.kernel_rules.specs.State.{Free, Holds, Object, Blank, Table, Leaf, Pages, Pleaf, Comp, Thread, Tcap, Frame, Untyped, User}
-use Rattle.kernel_rules.specs.State.{Kernel, CompFields, TcapFields, Liveness, Live, Grace, Thing, FrameOf, NumberOf, State, put}
-use Rattle.kernel_rules.specs.State.{with_frame, outstanding, tcap_in, comp_in, comp_of, thread_in, thread_of}
-use Rattle.kernel_rules.specs.Start.{plain_cap, no_grace}
-use Rattle.kernel_rules.specs.References.{refs}
-use Rattle.kernel_rules.specs.Access.{to_use, to_copy, to_part, any, Slot, Target, Under, InRoot, found, held_in, place_at, only, root}
-use Rattle.kernel_rules.specs.Fitting.{fits, IsGood, EndsWithin}
-use Rattle.kernel_rules.specs.Relies.{is_node}
-use Rattle.kernel_rules.specs.Rules.{Change, does, Cause, When, WaitedFor, Unflushed, Found, named, vacant, held, mapped, first_cause}
-use Rattle.kernel_rules.specs.Rules.{refusal_of, waits_of, flushes_of, Judged, Refused, IsFoundAnd}
-use Rattle.kernel_rules.specs.CapabilityCalls.{leaf_of, outside, not_blank, make_node, make_rule, not_taken, is_live, epoch_of}
-use Rattle.kernel_rules.specs.MemoryCalls.{is_user, not_user, is_untyped_now, is_empty, not_retyped, retype_rule, touch_by, translation_of}
-use Rattle.kernel_rules.specs.Life.{is_live_in}
-use Rattle.kernel_rules.specs.InvocationCalls.{not_live, switch_to}
-use Rattle.kernel_rules.specs.TimeCalls.{merged_list, are_same, is_short, are_unlike, are_many, is_finer, is_less}
-use Rattle.kernel_rules.specs.Edits.{tcap_at, with_tcap, with_budget, moved, Edit, Fill, Remove, Node, Become, Untype, Component, Deaden}
-use Rattle.kernel_rules.specs.GracePeriods.{begun}
-use Rattle.kernel_rules.specs.CallRelation.{rule_of, change_of, changed, MayReply, ends_by, flushes_by}
-use Rattle.kernel_rules.proofs.Changes.{IfFound}
-use Rattle.kernel_rules.proofs.Within.{put_same}
+use Rattle.kernel_rules.proofs as low
+use low.{◌≡◌, ◌≢◌, ℕ, ◌+◌, ◌-◌, ◌<◌, ◌≤◌, Bool, true, false, not, refl, sym, ◌∙◌, ap, subst, cond, min, ◌==◌, ltb as nat_lt, leb as nat_le}
+use low.{length, IsTrue, IsFalse, List, [], ◌∷◌, Option, Some, None, false≢true, true≢false, eqb-false, ltb-false, leb-false, Capability}
+use low.{InLimits, merged, IsQualityList, Kind, kept, part_of, FrameKind, Make, Call, Translation, Value, Free, Holds, Object, Blank, Table}
+use low.{Leaf, Pages, Pleaf, Comp, Thread, Tcap, Frame, Untyped, User, Kernel, CompFields, TcapFields, Liveness, Live, Grace, Thing}
+use low.{FrameOf, NumberOf, put, with_frame, outstanding, tcap_in, comp_in, comp_of, thread_in, thread_of, plain_cap, no_grace, refs}
+use low.{to_use, to_copy, to_part, any, Slot, Target, Under, InRoot, found, held_in, place_at, only, root, fits, IsGood, EndsWithin}
+use low.{is_node, Change, does, Cause, When, WaitedFor, Unflushed, Found, named, vacant, held, mapped, first_cause, refusal_of, waits_of}
+use low.{flushes_of, Judged, Refused, IsFoundAnd, leaf_of, outside, not_blank, make_node, make_rule, not_taken, is_live, epoch_of, is_user}
+use low.{not_user, is_untyped_now, is_empty, not_retyped, retype_rule, touch_by, translation_of, is_live_in, not_live, switch_to}
+use low.{merged_list, are_same, is_short, are_unlike, are_many, is_finer, is_less, tcap_at, with_tcap, with_budget, moved, Edit, Fill, Node}
+use low.{Become, Untype, Component, Deaden, begun, rule_of, change_of, changed, MayReply, ends_by, flushes_by, IfFound, put_same, Push, Pop}
+use low.{Cache, Charge, Move, Merge, Give, edited, after_edits, begins_all, Reply}
+use Rattle.kernel_invariant.specs.{ends_in, ends_all, flush_in, charged_by, charged_all}
+use Rattle.kernel_rules.specs.{State.State, Edits.Remove, Edits.Switch, Edits.Flush, Edits.begins_in}
+use Rattle.kernel_invariant.specs.Edits.{kept_all}
 use Rattle.kernel_invariant.proofs.Sound.{put_all, IsObjectGood, Extends, from_blank, from_untyped}
 use Rattle.kernel_invariant.proofs.SoundRemovals.{below_by, none_waiting}
 use Rattle.kernel_invariant.proofs.Facts.{ChangesFrom, EditsFrom, edits_map, outcome_from, named_good, named_fit, RootIsNode, vacant_facts}
 use Rattle.kernel_invariant.proofs.Facts.{held_facts, none_parts, when_not, not_not, first_two, some_none}
 use Rattle.kernel_invariant.proofs.SoundCalls.{IsOpen, node_of, in_range, blank_by, untyped_by, own_thread, leaf_link, user_is, kind_by}
 use Rattle.kernel_invariant.proofs.SoundCalls.{thread_below, tcap_below, root_node, zero_refs, gate_comp, comp_gate, within_by, part_good}
-use Rattle.kernel_rules.specs.Edits.{Push, Pop, Switch, Cache, Flush, Charge, Move, Merge, Give, edited, after_edits, begins_in, begins_all}
-use Rattle.kernel_invariant.specs.Edits.{ends_in, ends_all, flush_in, kept_all, charged_by, charged_all}
 
 -- A frame without an object, which may become anything.
 abbrev pub is_bare : Frame → Bool
@@ -86,11 +61,11 @@ pub record PlaceKnown (frames : ℕ) (at : Slot) : Type 0 where
   pub small : at.index < 64
 
 pub record HasTcap (s : State) (f : ℕ) : Type 0 where
-  pub fit : IsTrue (fits kind.Tcap (s.frame f))
+  pub fit : IsTrue (fits Kind.Tcap (s.frame f))
   pub below : f < s.limits.frames
 
 pub record HasThread (s : State) (f : ℕ) : Type 0 where
-  pub fit : IsTrue (fits kind.Thread (s.frame f))
+  pub fit : IsTrue (fits Kind.Thread (s.frame f))
   pub below : f < s.limits.frames
 
 pub record Moves (s : State) (a b m : ℕ) : Type 0 where
@@ -159,8 +134,8 @@ Good c s (Fill at k) =
     IsTrue (is_node (s.frame at.node)) × IsTrue (fits k.kind (s.frame k.frame)) × EndsWithin k.kind k.frame k.arg s.limits.frames
 Good c s (Become f x) = IsObjectGood s x
 Good c s (Component f k) = IsObjectGood s (Kernel (Comp k))
-Good c s (Push f) = IsTrue (fits kind.Comp (s.frame f))
-Good c s (Switch h q) = IsTrue (fits kind.Tcap (s.frame q))
+Good c s (Push f) = IsTrue (fits Kind.Comp (s.frame f))
+Good c s (Switch h q) = IsTrue (fits Kind.Tcap (s.frame q))
 Good c s _ = Unit {0}
 
 -- Each edit of a list, in the state that it finds.
@@ -213,7 +188,7 @@ pub record Edits (call : Call) (c : ℕ) (s : State) (list : List Edit) : Type 0
   pub good : (o : ℕ → Bool) → IsOpen s o c → Each Good c s list
 
 -- A temporal capability in place of one.
-tcap_fits : (x : Frame) (q : TcapFields) → IsTrue (fits kind.Tcap x) → IsTrue (fits kind.Tcap (with_tcap x q))
+tcap_fits : (x : Frame) (q : TcapFields) → IsTrue (fits Kind.Tcap x) → IsTrue (fits Kind.Tcap (with_tcap x q))
 tcap_fits (Kernel (Tcap p)) q h = refl
 tcap_fits _ q h = absurd (false≢true h)
 
@@ -242,7 +217,7 @@ module _ (s : State) (c : ℕ) (o : ℕ → Bool) (h : IsOpen s o c) where
   )
     where
       ends : (k : Kind) → IsFalse (fits k Untyped) → EndsWithin k f 0 s.limits.frames
-      ends kind.Range r = absurd (true≢false r)
+      ends Kind.Range r = absurd (true≢false r)
       ends _ r = tt
 
   remove_known : (target : Target) (at : Slot) (k : Capability) → held s c target ≡ Found (at, k) → Known c s (Remove at k)
@@ -250,9 +225,9 @@ module _ (s : State) (c : ℕ) (o : ℕ → Bool) (h : IsOpen s o c) where
       let p = (held_facts s c target at k e).1 in
       (node_known at (h.sound.bare at.node at.index k p), p)
 
-  tcap_known : (n : ℕ) (k : Capability) → named s c n (to_use (only kind.Tcap)) ≡ Found k → HasTcap s k.frame
+  tcap_known : (n : ℕ) (k : Capability) → named s c n (to_use (only Kind.Tcap)) ≡ Found k → HasTcap s k.frame
   tcap_known n k e =
-      let fit = named_fit s o c n kind.Tcap k h.sound h.is e in
+      let fit = named_fit s o c n Kind.Tcap k h.sound h.is e in
       record { fit = fit; below = tcap_below s o k.frame h.sound fit }
 
   own_core : c < s.limits.cores
@@ -272,14 +247,14 @@ module _ (s : State) (c : ℕ) (o : ℕ → Bool) (h : IsOpen s o c) where
       record { below = at.0; bare = subst (λ x. IsTrue (is_bare x)) (sym at.1) bare; poor = poor; idle = idle }
 
   fresh : (r f : ℕ) (range : Capability) (causes : List Cause) (object : Object)
-      → named s c r (to_use (only kind.Range)) ≡ Found range
+      → named s c r (to_use (only Kind.Range)) ≡ Found range
       → (tcap_in (Kernel object)).budget ≡ 0 → (thread_in (Kernel object)).runs_on ≡ None
       → first_cause s c (outside (found range) f ∷ not_blank s f ∷ causes) ≡ None → TakesFresh s f (Kernel object)
   fresh r f range causes object e poor idle calm =
       fresh_at f (Kernel object) (Kernel Blank) (blank_by s o c r f range causes h e calm) refl poor idle
 
   node_fresh : (r f : ℕ) (range : Capability) (object : Object) (at : Slot) (k : Capability)
-      → named s c r (to_use (only kind.Range)) ≡ Found range
+      → named s c r (to_use (only Kind.Range)) ≡ Found range
       → (tcap_in (Kernel object)).budget ≡ 0 → (thread_in (Kernel object)).runs_on ≡ None
       → first_cause s c (outside (found range) f ∷ not_blank s f ∷ []) ≡ None → Known c s (Fill at k)
       → Known c s (Node f object) × Known c (edited c s (Node f object)) (Fill at k)
@@ -298,7 +273,7 @@ module _ (s : State) (c : ℕ) (o : ℕ → Bool) (h : IsOpen s o c) where
   number_small l e _ is q = absurd (false≢true (sym (ap (λ x. is_live_in x e) is) ∙ q))
 
   moves_known : (a b m : ℕ) (j k : Capability) (causes : List Cause)
-      → named s c a (to_use (only kind.Tcap)) ≡ Found j → named s c b (to_use (only kind.Tcap)) ≡ Found k
+      → named s c a (to_use (only Kind.Tcap)) ≡ Found j → named s c b (to_use (only Kind.Tcap)) ≡ Found k
       → first_cause s c (are_same (found j) (found k) ∷ is_short s (found j) m ∷ causes) ≡ None → Moves s j.frame k.frame m
   moves_known a b m j k causes e f calm =
       let p = first_two s c (are_same (found j) (found k)) (is_short s (found j) m) causes calm in
@@ -306,11 +281,11 @@ module _ (s : State) (c : ℕ) (o : ℕ → Bool) (h : IsOpen s o c) where
       record {
         from = tcap_known a j e;
         to = tcap_known b k f;
-        apart = eqb-false j.frame k.frame (when_not (j.frame == k.frame) reply.Same p.0);
-        enough = ltb-false budget m (when_not (nat_lt budget m) (reply.Short budget) p.1);
+        apart = eqb-false j.frame k.frame (when_not (j.frame == k.frame) Reply.Same p.0);
+        enough = ltb-false budget m (when_not (nat_lt budget m) (Reply.Short budget) p.1);
       }
 
-  gives_known : (a m : ℕ) (j : Capability) → named s c a (to_use (only kind.Tcap)) ≡ Found j
+  gives_known : (a m : ℕ) (j : Capability) → named s c a (to_use (only Kind.Tcap)) ≡ Found j
       → first_cause s c (is_finer s c (found j) ∷ is_less s c m ∷ []) ≡ None → Gives s c j.frame m
   gives_known a m j e calm =
       let p = first_two s c (is_finer s c (found j)) (is_less s c m) [] calm in
@@ -318,16 +293,16 @@ module _ (s : State) (c : ℕ) (o : ℕ → Bool) (h : IsOpen s o c) where
       record {
         core = (h.sound.inside c h.is).1;
         to = tcap_known a j e;
-        enough = ltb-false left m (when_not (nat_lt left m) (reply.Short (min left m)) p.1);
+        enough = ltb-false left m (when_not (nat_lt left m) (Reply.Short (min left m)) p.1);
       }
 
   moved_known : (a b m g : ℕ) → HasTcap s g → HasTcap (moved s a b m) g
   moved_known a b m g t = record { fit = then_tcap (with_budget s a _) b _ g (then_tcap s a _ g t.fit); below = t.below }
     where
-      then_tcap : (s : State) (a : ℕ) (q : TcapFields) (g : ℕ) → IsTrue (fits kind.Tcap (s.frame g))
-          → IsTrue (fits kind.Tcap (put s.frame a (with_tcap (s.frame a) q) g))
-      then_tcap s a q g fit = put_all (λ g x. IsTrue (fits kind.Tcap x)) s.frame a _ g
-          (λ same. tcap_fits (s.frame a) q (subst (λ n. IsTrue (fits kind.Tcap (s.frame n))) same fit)) (λ other. fit)
+      then_tcap : (s : State) (a : ℕ) (q : TcapFields) (g : ℕ) → IsTrue (fits Kind.Tcap (s.frame g))
+          → IsTrue (fits Kind.Tcap (put s.frame a (with_tcap (s.frame a) q) g))
+      then_tcap s a q g fit = put_all (λ g x. IsTrue (fits Kind.Tcap x)) s.frame a _ g
+          (λ same. tcap_fits (s.frame a) q (subst (λ n. IsTrue (fits Kind.Tcap (s.frame n))) same fit)) (λ other. fit)
 
 -- Lists of qualities stay where budgets are put.
 budget_qualities : (s : State) (a n g : ℕ) → (tcap_at (with_budget s a n) g).qualities ≡ (tcap_at s g).qualities
@@ -411,7 +386,7 @@ module _ (s : State) (c : ℕ) where
       → Agrees call c (Become f (Kernel object) ∷ Fill at (plain_cap k f) ∷ []) → (InLimits call → Limited c s (Become f (Kernel object)))
       → ((o : ℕ → Bool) → IsOpen s o c → IsObjectGood s (Kernel object)) → IsTrue (fits k (Kernel object)) → IsFalse (fits k Untyped)
       → RootIsNode s target
-      → named s c r (to_use (only kind.Range)) ≡ Found range → vacant s c target ≡ Found at
+      → named s c r (to_use (only Kind.Range)) ≡ Found range → vacant s c target ≡ Found at
       → first_cause s c (outside (found range) f ∷ not_blank s f ∷ []) ≡ None
       → Edits call c s (Become f (Kernel object) ∷ Fill at (plain_cap k f) ∷ [])
   made call object k r f range target at none poor idle agrees limited good fit real node e v calm =
@@ -423,154 +398,154 @@ module _ (s : State) (c : ℕ) where
             fit real node v,
       ))
 
-  make_edits : (what : Make) (r f t b : ℕ) → EditsFrom (λ v es. Edits (call.Make what r f t b) c s es) s c (make_rule s what r f t b)
-  make_edits make.Table r f t b =
-      made_node (call.Make make.Table r f t b) Table kind.Table r f t b refl refl refl refl refl
+  make_edits : (what : Make) (r f t b : ℕ) → EditsFrom (λ v es. Edits (Call.Make what r f t b) c s es) s c (make_rule s what r f t b)
+  make_edits Make.Table r f t b =
+      made_node (Call.Make Make.Table r f t b) Table Kind.Table r f t b refl refl refl refl refl
       (λ at. (λ x. refl, refl, λ x g. refl, refl))
-  make_edits make.Leaf r f t b =
-      made_node (call.Make make.Leaf r f t b) Leaf kind.Leaf r f t b refl refl refl refl refl (λ at. (λ x. refl, refl, λ x g. refl, refl))
-  make_edits make.Pages r f t b =
-      made_node (call.Make make.Pages r f t b) Pages kind.Pages r f t b refl refl refl refl refl
+  make_edits Make.Leaf r f t b =
+      made_node (Call.Make Make.Leaf r f t b) Leaf Kind.Leaf r f t b refl refl refl refl refl (λ at. (λ x. refl, refl, λ x g. refl, refl))
+  make_edits Make.Pages r f t b =
+      made_node (Call.Make Make.Pages r f t b) Pages Kind.Pages r f t b refl refl refl refl refl
       (λ at. (λ x. refl, refl, λ x g. refl, refl))
-  make_edits make.Pleaf r f t b =
-      made_node (call.Make make.Pleaf r f t b) Pleaf kind.Pleaf r f t b refl refl refl refl refl
+  make_edits Make.Pleaf r f t b =
+      made_node (Call.Make Make.Pleaf r f t b) Pleaf Kind.Pleaf r f t b refl refl refl refl refl
       (λ at. (λ x. refl, refl, λ x g. refl, refl))
-  make_edits (make.Thread comp) r f t b = λ range e table g k j at v calm.
-      made (call.Make (make.Thread comp) r f t b) (Thread (record { stack = k.frame ∷ []; runs_on = None })) kind.Thread r f range
+  make_edits (Make.Thread comp) r f t b = λ range e table g k j at v calm.
+      made (Call.Make (Make.Thread comp) r f t b) (Thread (record { stack = k.frame ∷ []; runs_on = None })) Kind.Thread r f range
       (Under (found table) b) at refl refl refl (λ x. refl, refl, λ x g. refl, refl) (λ lim. refl)
-      (λ o h. (named_fit s o c comp kind.Comp k h.sound h.is j, tt)) refl refl tt e v calm
-  make_edits (make.Tcap sched quality) r f t b = λ range e table g at v calm.
-      made (call.Make (make.Tcap sched quality) r f t b) (Tcap (record { budget = 0; qualities = (sched, quality) ∷ [] }))
-      kind.Tcap r f range (Under (found table) b) at refl refl refl (λ x. refl, refl, λ x g. refl, refl)
+      (λ o h. (named_fit s o c comp Kind.Comp k h.sound h.is j, tt)) refl refl tt e v calm
+  make_edits (Make.Tcap sched quality) r f t b = λ range e table g at v calm.
+      made (Call.Make (Make.Tcap sched quality) r f t b) (Tcap (record { budget = 0; qualities = (sched, quality) ∷ [] }))
+      Kind.Tcap r f range (Under (found table) b) at refl refl refl (λ x. refl, refl, λ x g. refl, refl)
       (λ lim. (refl, (lim, tt, tt))) (λ o h. tt) refl refl tt e v calm
-  make_edits (make.Comp x p l) r f t b = λ range e table g own_table a own_pages d at v calm.
+  make_edits (Make.Comp x p l) r f t b = λ range e table g own_table a own_pages d at v calm.
       let q1 = none_parts (refusal_of s c (outside (found range) f)) (first_cause s c (not_blank s f ∷ not_taken s l)) calm in
       let q2 = none_parts (refusal_of s c (not_blank s f)) (first_cause s c (not_taken s l)) q1.1 in
-      let q3 = none_parts (refusal_of s c (When (is_live (s.number l)) reply.Occupied)) _ q2.1 in
+      let q3 = none_parts (refusal_of s c (When (is_live (s.number l)) Reply.Occupied)) _ q2.1 in
       let q4 = none_parts (waits_of s c (NumberOf l)) _ q3.1 in
-      let q5 = none_parts (refusal_of s c (When (epoch_of (s.number l) == s.limits.epochs) reply.EpochsSpent)) None q4.1 in
+      let q5 = none_parts (refusal_of s c (When (epoch_of (s.number l) == s.limits.epochs) Reply.EpochsSpent)) None q4.1 in
       let fields : CompFields =
       record { table = own_table.frame; pages = own_pages.frame; number = l; epoch = epoch_of (s.number l) + 1 } in
-      two (call.Make (make.Comp x p l) r f t b) (Component f fields) (Fill at (plain_cap kind.Comp f))
+      two (Call.Make (Make.Comp x p l) r f t b) (Component f fields) (Fill at (plain_cap Kind.Comp f))
       (λ x. refl, refl, λ x g. refl, refl) (refl, λ x. refl, tt) (
         (
-          when_not (is_live (s.number l)) reply.Occupied q3.0,
+          when_not (is_live (s.number l)) Reply.Occupied q3.0,
           refl,
-          eqb-false (epoch_of (s.number l)) s.limits.epochs (when_not (epoch_of (s.number l) == s.limits.epochs) reply.EpochsSpent q5.0),
+          eqb-false (epoch_of (s.number l)) s.limits.epochs (when_not (epoch_of (s.number l) == s.limits.epochs) Reply.EpochsSpent q5.0),
         ),
         tt,
       ) (λ lim. (lim, tt))
       (λ o h. (
         fresh s c o h r f range (not_taken s l) (Comp fields) e refl refl calm,
-        fill_known s c o h (Under (found table) b) at (plain_cap kind.Comp f) tt v,
+        fill_known s c o h (Under (found table) b) at (plain_cap Kind.Comp f) tt v,
       ))
       (λ o h. (
-        (named_fit s o c x kind.Table own_table h.sound h.is a, named_fit s o c p kind.Pages own_pages h.sound h.is d),
-        fresh_good s c o h f (Kernel (Comp fields)) kind.Comp (Under (found table) b) at
+        (named_fit s o c x Kind.Table own_table h.sound h.is a, named_fit s o c p Kind.Pages own_pages h.sound h.is d),
+        fresh_good s c o h f (Kernel (Comp fields)) Kind.Comp (Under (found table) b) at
             (fresh s c o h r f range (not_taken s l) (Comp fields) e refl refl calm).bare refl refl tt v,
       ))
 
-  retype_edits : (r f : ℕ) (k : FrameKind) → EditsFrom (λ v es. Edits (call.Retype r f k) c s es) s c (retype_rule s r f k)
-  retype_edits r f frame_kind.User = λ range e calm.
-      one (call.Retype r f frame_kind.User) (Become f User) (λ x. refl, refl, λ x g. refl, refl) tt (λ lim. tt)
+  retype_edits : (r f : ℕ) (k : FrameKind) → EditsFrom (λ v es. Edits (Call.Retype r f k) c s es) s c (retype_rule s r f k)
+  retype_edits r f FrameKind.User = λ range e calm.
+      one (Call.Retype r f FrameKind.User) (Become f User) (λ x. refl, refl, λ x g. refl, refl) tt (λ lim. tt)
       (λ o h. (refl, fresh_at s c o h f User Untyped (untyped_by s o c r f range h e calm) refl refl refl)) (λ o h. tt)
-  retype_edits r f frame_kind.Kernel = λ range e calm.
-      one (call.Retype r f frame_kind.Kernel) (Become f (Kernel Blank)) (λ x. refl, refl, λ x g. refl, refl) tt (λ lim. tt)
+  retype_edits r f FrameKind.Kernel = λ range e calm.
+      one (Call.Retype r f FrameKind.Kernel) (Become f (Kernel Blank)) (λ x. refl, refl, λ x g. refl, refl) tt (λ lim. tt)
       (λ o h. (refl, fresh_at s c o h f (Kernel Blank) Untyped (untyped_by s o c r f range h e calm) refl refl refl)) (λ o h. tt)
-  retype_edits r f frame_kind.Untyped = λ range e calm.
-      let full : Cause = When (not (is_empty s f (s.frame f))) reply.NotEmpty in
-      let referenced : Cause = When (nat_lt 0 (refs s f)) (reply.Referenced (refs s f)) in
-      let p = none_parts (refusal_of s c (outside (found range) f)) (first_cause s c (not_retyped s f frame_kind.Untyped)) calm in
+  retype_edits r f FrameKind.Untyped = λ range e calm.
+      let full : Cause = When (not (is_empty s f (s.frame f))) Reply.NotEmpty in
+      let referenced : Cause = When (nat_lt 0 (refs s f)) (Reply.Referenced (refs s f)) in
+      let p = none_parts (refusal_of s c (outside (found range) f)) (first_cause s c (not_retyped s f FrameKind.Untyped)) calm in
       let p1 = none_parts (refusal_of s c (is_untyped_now s f))
       (first_cause s c (referenced ∷ WaitedFor (FrameOf f) ∷ Unflushed (FrameOf f) ∷ full ∷ [])) p.1 in
       let p2 = none_parts (refusal_of s c referenced) (first_cause s c (WaitedFor (FrameOf f) ∷ Unflushed (FrameOf f) ∷ full ∷ [])) p1.1 in
       let p3 = none_parts (waits_of s c (FrameOf f)) (first_cause s c (Unflushed (FrameOf f) ∷ full ∷ [])) p2.1 in
       let p4 = none_parts (flushes_of s (FrameOf f)) (first_cause s c (full ∷ [])) p3.1 in
       let p5 = none_parts (refusal_of s c full) None p4.1 in
-      one (call.Retype r f frame_kind.Untyped) (Untype f) (λ x. refl, refl, λ x g. refl, refl) p4.0 (λ lim. tt) (λ o h. record {
+      one (Call.Retype r f FrameKind.Untyped) (Untype f) (λ x. refl, refl, λ x g. refl, refl) p4.0 (λ lim. tt) (λ o h. record {
         below = in_range s o c r f range h e p.0;
-        empty = not_not (is_empty s f (s.frame f)) (when_not (not (is_empty s f (s.frame f))) reply.NotEmpty p5.0);
-        unnamed = zero_refs (refs s f) (when_not (nat_lt 0 (refs s f)) (reply.Referenced (refs s f)) p2.0);
+        empty = not_not (is_empty s f (s.frame f)) (when_not (not (is_empty s f (s.frame f))) Reply.NotEmpty p5.0);
+        unnamed = zero_refs (refs s f) (when_not (nat_lt 0 (refs s f)) (Reply.Referenced (refs s f)) p2.0);
         unwaited = none_waiting s c (FrameOf f) p3.0;
       }) (λ o h. tt)
 
-  touch_edits : (v : ℕ) (t : Option Translation) → EditsFrom (λ x es. Edits (call.Touch v) c s es) s c (touch_by (comp_of s c).pages v t)
+  touch_edits : (v : ℕ) (t : Option Translation) → EditsFrom (λ x es. Edits (Call.Touch v) c s es) s c (touch_by (comp_of s c).pages v t)
   touch_edits v None = λ mapping e calm.
       let t : Translation = record { pages = (comp_of s c).pages; page = v; frame = mapping.frame; flags = record { 0 = mapping.arg } } in
-      one (call.Touch v) (Cache t) (λ x. refl, refl, λ x g. refl, refl) (mapping, e, refl) (λ lim. tt)
+      one (Call.Touch v) (Cache t) (λ x. refl, refl, λ x g. refl, refl) (mapping, e, refl) (λ lim. tt)
       (λ o h. own_core s c o h) (λ o h. tt)
-  touch_edits v (Some t) = λ calm. nothing (call.Touch v) (λ x. refl, refl, λ x g. refl, refl)
+  touch_edits v (Some t) = λ calm. nothing (Call.Touch v) (λ x. refl, refl, λ x g. refl, refl)
 
-  switch_edits : (a b : ℕ) (j k : Capability) → named s c a (to_use (only kind.Thread)) ≡ Found j
-      → named s c b (to_use (only kind.Tcap)) ≡ Found k → (e : Option ℕ) → (thread_in (s.frame j.frame)).runs_on ≡ e
-      → EditsFrom (λ v es. Edits (call.Switch a b) c s es) s c (switch_to (found j) k.frame e)
-  switch_edits a b j k g d (Some e) is = λ calm. absurd (some_none (reply.Running e) (none_parts (Some (reply.Running e)) None calm).0)
+  switch_edits : (a b : ℕ) (j k : Capability) → named s c a (to_use (only Kind.Thread)) ≡ Found j
+      → named s c b (to_use (only Kind.Tcap)) ≡ Found k → (e : Option ℕ) → (thread_in (s.frame j.frame)).runs_on ≡ e
+      → EditsFrom (λ v es. Edits (Call.Switch a b) c s es) s c (switch_to (found j) k.frame e)
+  switch_edits a b j k g d (Some e) is = λ calm. absurd (some_none (Reply.Running e) (none_parts (Some (Reply.Running e)) None calm).0)
   switch_edits a b j k g d None is = λ calm.
-      one (call.Switch a b) (Switch j.frame k.frame) (λ x. refl, refl, λ x g. refl, refl) tt (λ lim. tt)
-      (λ o h. let fit = named_fit s o c a kind.Thread j h.sound h.is g in record {
+      one (Call.Switch a b) (Switch j.frame k.frame) (λ x. refl, refl, λ x g. refl, refl) tt (λ lim. tt)
+      (λ o h. let fit = named_fit s o c a Kind.Thread j h.sound h.is g in record {
         core = own_core s c o h;
         old = own_known s c o h;
         new = record { fit = fit; below = thread_below s o j.frame h.sound fit };
         idle = is;
-      }) (λ o h. named_fit s o c b kind.Tcap k h.sound h.is d)
+      }) (λ o h. named_fit s o c b Kind.Tcap k h.sound h.is d)
 
   pub rule_edits : (call : Call) → EditsFrom (λ v es. Edits call c s es) s c (rule_of s c call)
-  rule_edits (call.Look a) = λ k e calm. nothing (call.Look a) (λ x. refl, refl, λ x g. refl, refl)
-  rule_edits (call.Copy a t b rights) = λ k e table f at g calm.
-      filled (call.Copy a t b rights) (Under (found table) b) at (kept k rights.0) (λ x. refl, refl, λ x g. refl, refl) (λ o h. tt) g
+  rule_edits (Call.Look a) = λ k e calm. nothing (Call.Look a) (λ x. refl, refl, λ x g. refl, refl)
+  rule_edits (Call.Copy a t b rights) = λ k e table f at g calm.
+      filled (Call.Copy a t b rights) (Under (found table) b) at (kept k rights.0) (λ x. refl, refl, λ x g. refl, refl) (λ o h. tt) g
       (λ o h. let good = (named_good s o c a (to_copy any) k h.sound h.is e).0 in (good.fit, good.within))
-  rule_edits (call.Remove t b) = λ table e at k g calm.
-      removed (call.Remove t b) (Under (found table) b) at k (λ x. refl, refl, λ x g. refl, refl) g
-  rule_edits (call.Grow t i l) = λ table e leaf f at g calm.
-      filled (call.Grow t i l) (InRoot (found table) i) at (plain_cap kind.Link leaf.frame) (λ x. refl, refl, λ x g. refl, refl)
+  rule_edits (Call.Remove t b) = λ table e at k g calm.
+      removed (Call.Remove t b) (Under (found table) b) at k (λ x. refl, refl, λ x g. refl, refl) g
+  rule_edits (Call.Grow t i l) = λ table e leaf f at g calm.
+      filled (Call.Grow t i l) (InRoot (found table) i) at (plain_cap Kind.Link leaf.frame) (λ x. refl, refl, λ x g. refl, refl)
       (λ o h. let a : IsGood s table × IsTrue (root table.kind) = named_good s o c t (to_use root) table h.sound h.is e in
       root_node table.kind (s.frame table.frame) a.1 a.0.fit) g
       (λ o h. (leaf_link table.kind (s.frame leaf.frame) (named_fit s o c l (leaf_of table.kind) leaf h.sound h.is f), tt))
-  rule_edits (call.Shrink t i) = λ table e at k g calm.
-      removed (call.Shrink t i) (InRoot (found table) i) at k (λ x. refl, refl, λ x g. refl, refl) g
-  rule_edits (call.Retype r f k) = retype_edits r f k
-  rule_edits (call.Make what r f t b) = make_edits what r f t b
-  rule_edits (call.Map p v r f w) = λ pages e range g at u calm.
-      filled (call.Map p v r f w) (Under (found pages) v) at _ (λ x. refl, refl, λ x g. refl, refl) (λ o h. tt) u (λ o h.
+  rule_edits (Call.Shrink t i) = λ table e at k g calm.
+      removed (Call.Shrink t i) (InRoot (found table) i) at k (λ x. refl, refl, λ x g. refl, refl) g
+  rule_edits (Call.Retype r f k) = retype_edits r f k
+  rule_edits (Call.Make what r f t b) = make_edits what r f t b
+  rule_edits (Call.Map p v r f w) = λ pages e range g at u calm.
+      filled (Call.Map p v r f w) (Under (found pages) v) at _ (λ x. refl, refl, λ x g. refl, refl) (λ o h. tt) u (λ o h.
       let q = first_two s c (outside (found range) f) (not_user s f) [] calm in
       let user = user_is (s.frame f) (kind_by s f (is_user (s.frame f)) (in_range s o c r f range h g q.0) q.1) in
-      (subst (λ x. IsTrue (fits kind.Page x)) (sym user) refl, tt))
-  rule_edits (call.Unmap p v) = λ pages e at k g calm.
-      removed (call.Unmap p v) (Under (found pages) v) at k (λ x. refl, refl, λ x g. refl, refl) g
-  rule_edits (call.Touch v) = touch_edits v (translation_of (s.core c).cached (comp_of s c).pages v)
-  rule_edits call.Flush = λ calm.
-      one call.Flush Flush (λ x. refl, refl, λ x g. refl, refl) tt (λ lim. tt) (λ o h. own_core s c o h) (λ o h. tt)
-  rule_edits (call.Gate k t b) = λ comp e table f at g calm.
-      filled (call.Gate k t b) (Under (found table) b) at _ (λ x. refl, refl, λ x g. refl, refl) (λ o h. tt) g
-      (λ o h. (comp_gate (s.frame comp.frame) (named_fit s o c k kind.Comp comp h.sound h.is e), tt))
-  rule_edits (call.Kill k) = λ comp e calm.
+      (subst (λ x. IsTrue (fits Kind.Page x)) (sym user) refl, tt))
+  rule_edits (Call.Unmap p v) = λ pages e at k g calm.
+      removed (Call.Unmap p v) (Under (found pages) v) at k (λ x. refl, refl, λ x g. refl, refl) g
+  rule_edits (Call.Touch v) = touch_edits v (translation_of (s.core c).cached (comp_of s c).pages v)
+  rule_edits Call.Flush = λ calm.
+      one Call.Flush Flush (λ x. refl, refl, λ x g. refl, refl) tt (λ lim. tt) (λ o h. own_core s c o h) (λ o h. tt)
+  rule_edits (Call.Gate k t b) = λ comp e table f at g calm.
+      filled (Call.Gate k t b) (Under (found table) b) at _ (λ x. refl, refl, λ x g. refl, refl) (λ o h. tt) g
+      (λ o h. (comp_gate (s.frame comp.frame) (named_fit s o c k Kind.Comp comp h.sound h.is e), tt))
+  rule_edits (Call.Kill k) = λ comp e calm.
       let fields = comp_in (s.frame comp.frame) in
       let p = none_parts (refusal_of s c (not_live s (found comp) fields.number fields.epoch)) None calm in
-      let live : is_live_in (s.number fields.number) fields.epoch ≡ true = not_not _ (when_not _ reply.Dead p.0) in
-      one (call.Kill k) (Deaden fields.number fields.epoch) (λ x. refl, refl, λ x g. refl, refl) live (λ lim. tt)
+      let live : is_live_in (s.number fields.number) fields.epoch ≡ true = not_not _ (when_not _ Reply.Dead p.0) in
+      one (Call.Kill k) (Deaden fields.number fields.epoch) (λ x. refl, refl, λ x g. refl, refl) live (λ lim. tt)
       (λ o h. number_small s c o h fields.number fields.epoch (s.number fields.number) refl live) (λ o h. tt)
-  rule_edits (call.Call g) = λ gate e calm.
-      let p = none_parts (refusal_of s c (When (nat_le 16 (length (thread_of s c).stack)) reply.Deep)) _ calm in
-      one (call.Call g) (Push gate.frame) (λ x. refl, refl, λ x g. refl, refl)
-      (leb-false 16 (length (thread_of s c).stack) (when_not _ reply.Deep p.0)) (λ lim. tt) (λ o h. own_known s c o h)
-      (λ o h. gate_comp (s.frame gate.frame) (named_fit s o c g kind.Gate gate h.sound h.is e))
-  rule_edits call.Ret = λ calm.
-      let p = none_parts (refusal_of s c (When (nat_le (length (thread_of s c).stack) 1) reply.Bottom)) None calm in
-      one call.Ret Pop (λ x. refl, refl, λ x g. refl, refl)
-      (leb-false (length (thread_of s c).stack) 1 (when_not _ reply.Bottom p.0)) (λ lim. tt) (λ o h. own_known s c o h) (λ o h. tt)
-  rule_edits (call.Switch f q) = λ thread e tcap g.
+  rule_edits (Call.Call g) = λ gate e calm.
+      let p = none_parts (refusal_of s c (When (nat_le 16 (length (thread_of s c).stack)) Reply.Deep)) _ calm in
+      one (Call.Call g) (Push gate.frame) (λ x. refl, refl, λ x g. refl, refl)
+      (leb-false 16 (length (thread_of s c).stack) (when_not _ Reply.Deep p.0)) (λ lim. tt) (λ o h. own_known s c o h)
+      (λ o h. gate_comp (s.frame gate.frame) (named_fit s o c g Kind.Gate gate h.sound h.is e))
+  rule_edits Call.Ret = λ calm.
+      let p = none_parts (refusal_of s c (When (nat_le (length (thread_of s c).stack) 1) Reply.Bottom)) None calm in
+      one Call.Ret Pop (λ x. refl, refl, λ x g. refl, refl)
+      (leb-false (length (thread_of s c).stack) 1 (when_not _ Reply.Bottom p.0)) (λ lim. tt) (λ o h. own_known s c o h) (λ o h. tt)
+  rule_edits (Call.Switch f q) = λ thread e tcap g.
       switch_edits f q thread tcap e g (thread_in (s.frame thread.frame)).runs_on refl
-  rule_edits (call.Tick n) = λ calm.
-      one (call.Tick n) (Charge n) (λ x. refl, refl, λ x g. refl, refl) tt (λ lim. lim)
+  rule_edits (Call.Tick n) = λ calm.
+      one (Call.Tick n) (Charge n) (λ x. refl, refl, λ x g. refl, refl) tt (λ lim. lim)
       (λ o h. (own_core s c o h, charge_known s c o h)) (λ o h. tt)
-  rule_edits (call.Transfer a b m) = λ j e k f calm.
-      one (call.Transfer a b m) (Move j.frame k.frame m) (λ x. refl, refl, λ x g. refl, refl) tt (λ lim. tt)
+  rule_edits (Call.Transfer a b m) = λ j e k f calm.
+      one (Call.Transfer a b m) (Move j.frame k.frame m) (λ x. refl, refl, λ x g. refl, refl) tt (λ lim. tt)
       (λ o h. moves_known s c o h a b m j k (are_unlike s (found j) (found k) ∷ []) e f calm) (λ o h. tt)
-  rule_edits (call.Delegate a b m) = λ j e k f calm.
+  rule_edits (Call.Delegate a b m) = λ j e k f calm.
       let p = none_parts (refusal_of s c (are_same (found j) (found k))) _ calm in
       let q = none_parts (refusal_of s c (is_short s (found j) m)) _ p.1 in
       let r = none_parts (refusal_of s c (are_many s (found j) (found k))) None q.1 in
-      two (call.Delegate a b m) (Move j.frame k.frame m) (Merge k.frame (merged_list s j.frame k.frame))
+      two (Call.Delegate a b m) (Move j.frame k.frame m) (Merge k.frame (merged_list s j.frame k.frame))
       (λ x. refl, refl, λ x g. refl, refl) (refl, λ x. refl, tt) (tt, tt) (λ lim. (tt, tt)) (λ o h. (
         moves_known s c o h a b m j k (are_many s (found j) (found k) ∷ []) e f calm,
         record {
@@ -578,16 +553,16 @@ module _ (s : State) (c : ℕ) where
           other = j.frame;
           from = moved_known s c o h j.frame k.frame m j.frame (tcap_known s c o h a j e);
           is = merged_moved s j.frame k.frame m;
-          few = ltb-false 8 (length (merged_list s j.frame k.frame)) (when_not _ reply.TooMany r.0);
+          few = ltb-false 8 (length (merged_list s j.frame k.frame)) (when_not _ Reply.TooMany r.0);
         },
       )) (λ o h. (tt, tt))
-  rule_edits (call.Test a b) = λ j e k f calm. nothing (call.Test a b) (λ x. refl, refl, λ x g. refl, refl)
-  rule_edits (call.Replenish a m) = λ j e calm.
-      one (call.Replenish a m) (Give j.frame m) (λ x. refl, refl, λ x g. refl, refl) tt (λ lim. tt)
+  rule_edits (Call.Test a b) = λ j e k f calm. nothing (Call.Test a b) (λ x. refl, refl, λ x g. refl, refl)
+  rule_edits (Call.Replenish a m) = λ j e calm.
+      one (Call.Replenish a m) (Give j.frame m) (λ x. refl, refl, λ x g. refl, refl) tt (λ lim. tt)
       (λ o h. gives_known s c o h a m j e calm) (λ o h. tt)
-  rule_edits (call.Part r f n t b) = λ k e table g at u calm.
-      filled (call.Part r f n t b) (Under (found table) b) at (part_of k f n) (λ x. refl, refl, λ x g. refl, refl) (λ o h. tt) u
-      (λ o h. let a : IsGood s k × IsTrue (only kind.Range k.kind) = named_good s o c r (to_part (only kind.Range)) k h.sound h.is e in
+  rule_edits (Call.Part r f n t b) = λ k e table g at u calm.
+      filled (Call.Part r f n t b) (Under (found table) b) at (part_of k f n) (λ x. refl, refl, λ x g. refl, refl) (λ o h. tt) u
+      (λ o h. let a : IsGood s k × IsTrue (only Kind.Range k.kind) = named_good s o c r (to_part (only Kind.Range)) k h.sound h.is e in
       let good = part_good s k f n a.0 a.1 (within_by s c k f n calm) in (good.fit, good.within))
 
   -- What holds of such edits holds of a call's change.
@@ -600,7 +575,7 @@ module _ (s : State) (c : ℕ) where
   found_by call P by = outcome_from P s c (rule_of s c call) (rule_by call P by)
 
   -- What holds after the edits of a call, whose grace periods begin, holds after its answer `ok`.
-  pub after_ok : (call : Call) (v : Value) (Q : State → Type 0) → MayReply s c call (reply.Ok v)
+  pub after_ok : (call : Call) (v : Value) (Q : State → Type 0) → MayReply s c call (Reply.Ok v)
       → ((es : List Edit) → Edits call c s es → Q (begun s (begins_all c s es) (after_edits c s es)))
       → Q (changed s (change_of s c call))
   after_ok call v Q may by =

@@ -1,18 +1,9 @@
 -- A grace period ends only of a frame that nothing names and for which no other core waits, and of the places of a blank frame.
-use Rattle.std.proofs.Common.{◌≡◌, ◌≢◌, ℕ, ◌<◌, Bool, true, false, sym, ◌∙◌, ap, subst, List, [], ◌∷◌}
-use Rattle.std.proofs.lemmas.Bool.{false≢true, eqb-true}
-use Rattle.spk_nums.specs.declared.calls.Call.{Call}
-use Rattle.spk_nums.specs.declared.replies.Reply.{Reply}
-use Rattle.spk_nums.specs.declared.replies.Reply.TheVariants as reply
-use Rattle.kernel_rules.specs.State.{Blank, Kernel, Thing, PlaceOf, FrameOf, NumberOf, State}
-use Rattle.kernel_rules.specs.References.{refs}
-use Rattle.kernel_rules.specs.Rules.{Judged, Refused, Found, IsFoundAnd}
-use Rattle.kernel_rules.specs.CallRelation.{change_of, ends, MayReply}
-use Rattle.kernel_rules.proofs.Changes.{IfFound}
-use Rattle.kernel_invariant.specs.Edits.{ends_in, ends_all}
-use Rattle.kernel_rules.specs.Edits.{Edit, Node, Untype}
-use Rattle.kernel_invariant.proofs.Edited.{Known, Each, Calm, found_by}
-use Rattle.kernel_invariant.proofs.SoundCalls.{IsOpen}
+use Rattle.kernel_rules.proofs.{◌≡◌, ◌≢◌, ℕ, ◌<◌, Bool, true, false, sym, ◌∙◌, ap, subst, List, [], ◌∷◌, false≢true, eqb-true, Call, Reply}
+use Rattle.kernel_rules.proofs.{Blank, Kernel, Thing, PlaceOf, FrameOf, NumberOf, refs, Judged, Refused, Found, IsFoundAnd, change_of, ends}
+use Rattle.kernel_rules.proofs.{MayReply, IfFound, Edit, Node, Untype}
+use Rattle.kernel_invariant.proofs.{Edited.Known, Edited.Each, Edited.Calm, Edited.found_by, SoundCalls.IsOpen}
+use Rattle.{kernel_invariant.specs.ends_in, kernel_invariant.specs.ends_all, kernel_rules.specs.State.State}
 
 -- What is known of a thing whose grace period core d ends: the frame of a place is blank; a frame is not referenced, and no other
 -- core waits for it; a liveness number's grace period ends never.
@@ -38,7 +29,7 @@ edits_end d s (e ∷ es) calm k x is = edit_end d s e k.0 x (sym (calm.1 x) ∙ 
 -- What is known where a decision ends a grace period.
 pub ends_by_rule : (s : State) (o : ℕ → Bool) (d : ℕ) → IsOpen s o d
     → (call : Call) (r : Reply) (x : Thing) → MayReply s d call r → ends call r x ≡ true → MayEnd s d x
-ends_by_rule s o d opens call (reply.Ok v) x may h =
+ends_by_rule s o d opens call (Reply.Ok v) x may h =
     found_fact (change_of s d call) (λ k. k.value ≡ v) (found_by s d call (λ change. MayEnd s d x)
     (λ v es e. edits_end d s es e.calm (e.known o opens) x (sym (e.agrees.0 x) ∙ h))) may.1.1
 ends_by_rule s o d opens call _ x may h = absurd (false≢true h)

@@ -1,25 +1,12 @@
 -- What is known where a rule is carried out.
-use Rattle.std.proofs.Common.{◌&&◌, ◌≡◌, ℕ, ◌<◌, ◌≤◌, ◌%◌, Bool, true, false, not, refl, sym, ◌∙◌, ap}
-use Rattle.std.proofs.Common.{subst, arith, nat_le, if◌then◌else◌, IsTrue, List, ◌∷◌, Option, Some, None}
-use Rattle.std.proofs.lemmas.Bool.{false≢true, true≢false, leb-true}
-use Rattle.spk_nums.specs.Capability.{Capability}
-use Rattle.spk_nums.specs.Rights.{has_rights}
-use Rattle.spk_nums.specs.declared.kinds.Kind.{Kind}
-use Rattle.spk_nums.specs.declared.kinds.Kind.TheVariants as kind
-use Rattle.spk_nums.specs.declared.replies.Value.{Value}
-use Rattle.spk_nums.specs.declared.replies.Reply.{Reply}
-use Rattle.spk_nums.specs.declared.replies.Reply.TheVariants as reply
-use Rattle.kernel_rules.specs.State.{Place, Free, Holds, Quiescing, Frame, Kernel, Leaf, Pleaf, PlaceOf, State}
-use Rattle.kernel_rules.specs.Access.{Slot, found, Want, to_use, Target, Under, InRoot, place_at, held_in, usable_in}
-use Rattle.kernel_rules.specs.Access.{usable, linked, slot_in, reached, root_slot, only, own}
-use Rattle.kernel_rules.specs.Edits.{Edit}
-use Rattle.kernel_rules.specs.Rules.{Change, does, Cause, Rule, Name, Vacant, Held, Mapped, Does, Judged}
-use Rattle.kernel_rules.specs.Rules.{Refused, Found, and_then, unless, or_refuse, with_rights, of_kind, named, first_of}
-use Rattle.kernel_rules.specs.Rules.{not_vacant, vacant, held, mapped, refusal_of, first_cause, outcome}
-use Rattle.kernel_rules.proofs.Changes.{IfFound}
-use Rattle.kernel_rules.specs.Fitting.{fits, IsGood}
-use Rattle.kernel_rules.specs.Relies.{is_node}
-use Rattle.kernel_invariant.proofs.Sound.{IsSound, only_is}
+use Rattle.kernel_rules.proofs.{◌&&◌, ◌≡◌, ℕ, ◌<◌, ◌≤◌, ◌%◌, Bool, true, false, not, refl, sym, ◌∙◌, ap, subst, arith, leb as nat_le}
+use Rattle.kernel_rules.proofs.{if◌then◌else◌, IsTrue, List, ◌∷◌, Option, Some, None, false≢true, true≢false, leb-true, Capability}
+use Rattle.kernel_rules.proofs.{has_rights, Kind, Value, Reply, Place, Free, Holds, Quiescing, Frame, Kernel, Leaf, Pleaf, PlaceOf, Slot}
+use Rattle.kernel_rules.proofs.{found, Want, to_use, Target, Under, InRoot, place_at, held_in, usable_in, usable, linked, slot_in, reached}
+use Rattle.kernel_rules.proofs.{root_slot, only, own, Edit, Change, does, Cause, Rule, Name, Vacant, Held, Mapped, Does, Judged, Refused}
+use Rattle.kernel_rules.proofs.{Found, and_then, unless, or_refuse, with_rights, of_kind, named, first_of, not_vacant, vacant, held, mapped}
+use Rattle.kernel_rules.proofs.{refusal_of, first_cause, outcome, IfFound, fits, IsGood, is_node}
+use Rattle.{kernel_rules.specs.State.State, kernel_invariant.proofs.Sound.IsSound, kernel_invariant.proofs.Sound.only_is}
 
 -- P holds of the value and the edits of a rule where it is carried out.
 abbrev pub EditsFrom : (Value → List Edit → Type 0) → State → ℕ → Rule → Type 0
@@ -113,23 +100,23 @@ pub suits : (want : Want) (j k : Capability) → of_kind want j ≡ Found k → 
 suits want j k q = by_kind (want.kinds j.kind) refl q
   where
     by_rights : IsTrue (want.kinds j.kind) → (b : Bool) → has_rights j.rights want.needs ≡ b
-        → (if b then Found j else Refused reply.NoRight) ≡ Found k → Suits want j k
+        → (if b then Found j else Refused Reply.NoRight) ≡ Found k → Suits want j k
     by_rights w true h q = record { is = found_inj j k q; kind = w; rights = h }
-    by_rights w false h q = absurd (refused_found reply.NoRight k q)
+    by_rights w false h q = absurd (refused_found Reply.NoRight k q)
 
     by_kind : (b : Bool) → want.kinds j.kind ≡ b
-        → (if b then with_rights want.needs j else Refused reply.WrongCap) ≡ Found k → Suits want j k
+        → (if b then with_rights want.needs j else Refused Reply.WrongCap) ≡ Found k → Suits want j k
     by_kind true w q = by_rights w (has_rights j.rights want.needs) refl q
-    by_kind false w q = absurd (refused_found reply.WrongCap k q)
+    by_kind false w q = absurd (refused_found Reply.WrongCap k q)
 
 -- A named capability is good, and of a wanted kind.
 pub named_good : (s : State) (o : ℕ → Bool) (c n : ℕ) (want : Want) (k : Capability) → IsSound s o → o c ≡ true
     → named s c n want ≡ Found k → IsGood s k × IsTrue (want.kinds k.kind)
 named_good s o c n want k h inc e =
-    let a = then_parts (or_refuse (reached s c (own s c n)) reply.NoSlot)
-    (λ at. and_then (or_refuse (usable s c at) reply.Empty) λ k. of_kind want k) k e in
-    let b = then_parts (or_refuse (usable s c a.0) reply.Empty) (λ k. of_kind want k) k a.2 in
-    let u : usable s c a.0 ≡ Some b.0 = or_found (usable s c a.0) reply.Empty b.0 b.1 in
+    let a = then_parts (or_refuse (reached s c (own s c n)) Reply.NoSlot)
+    (λ at. and_then (or_refuse (usable s c at) Reply.Empty) λ k. of_kind want k) k e in
+    let b = then_parts (or_refuse (usable s c a.0) Reply.Empty) (λ k. of_kind want k) k a.2 in
+    let u : usable s c a.0 ≡ Some b.0 = or_found (usable s c a.0) Reply.Empty b.0 b.1 in
     let w : Suits want b.0 k = suits want b.0 k b.2 in
     (subst (IsGood s) w.is (usable_good s o c a.0 b.0 h inc u), subst (λ j. IsTrue (want.kinds j.kind)) w.is w.kind)
 
@@ -145,7 +132,7 @@ abbrev pub RootIsNode : State → Target → Type 0
 RootIsNode s (Under table n) = Unit {0}
 RootIsNode s (InRoot table i) = IsTrue (is_node (s.frame table.frame))
 
-pub link_node : (x : Frame) → IsTrue (fits kind.Link x) → IsTrue (is_node x)
+pub link_node : (x : Frame) → IsTrue (fits Kind.Link x) → IsTrue (is_node x)
 link_node (Kernel Leaf) h = refl
 link_node (Kernel Pleaf) h = refl
 link_node _ h = absurd (false≢true h)
@@ -170,8 +157,8 @@ reached_node s o c (Under table n) at h inc node e = by_number (table.found && n
         small : at.index < 64
         small = let i : n % 64 ≡ at.index = ap (λ x. x.index) (some_inj record { node = leaf; index = n % 64 } at q) in omega (arith, i)
 
-        by_kind : (j : Capability) (b : Bool) → only kind.Link j.kind ≡ b
-            → (if b then Some j.frame else None) ≡ Some leaf → (IsTrue (only kind.Link j.kind)) × (j.frame ≡ leaf)
+        by_kind : (j : Capability) (b : Bool) → only Kind.Link j.kind ≡ b
+            → (if b then Some j.frame else None) ≡ Some leaf → (IsTrue (only Kind.Link j.kind)) × (j.frame ≡ leaf)
         by_kind j true is q = (is, some_inj j.frame leaf q)
         by_kind j false is q = absurd (none_some leaf q)
 
@@ -179,10 +166,10 @@ reached_node s o c (Under table n) at h inc node e = by_number (table.found && n
             → linked u ≡ Some leaf → IsTrue (is_node (s.frame at.node)) × (at.index < 64)
         by_link None is q = absurd (none_some leaf q)
         by_link (Some j) is q =
-            let k : (IsTrue (only kind.Link j.kind)) × (j.frame ≡ leaf) = by_kind j (only kind.Link j.kind) refl q in
+            let k : (IsTrue (only Kind.Link j.kind)) × (j.frame ≡ leaf) = by_kind j (only Kind.Link j.kind) refl q in
             let g : IsGood s j = usable_good s o c (root_slot table.frame n) j h inc is in (
               subst (λ f. IsTrue (is_node (s.frame f))) (k.1 ∙ same)
-                  (link_node (s.frame j.frame) (subst (λ i. IsTrue (fits i (s.frame j.frame))) (only_is kind.Link j.kind k.0) g.fit)),
+                  (link_node (s.frame j.frame) (subst (λ i. IsTrue (fits i (s.frame j.frame))) (only_is Kind.Link j.kind k.0) g.fit)),
               small,
             )
 
@@ -207,9 +194,9 @@ reached_node s o c (InRoot table i) at h inc node e = by_entry (table.found && n
 pub vacant_facts : (s : State) (c : ℕ) (target : Target) (at : Slot)
     → vacant s c target ≡ Found at → (reached s c target ≡ Some at) × (held_in (place_at s at) ≡ None)
 vacant_facts s c target at e =
-    let a = then_parts (or_refuse (reached s c target) reply.NoSlot)
+    let a = then_parts (or_refuse (reached s c target) Reply.NoSlot)
     (λ at. unless (not_vacant s c (PlaceOf at.node at.index) (place_at s at)) at) at e in
-    let r : reached s c target ≡ Some a.0 = or_found (reached s c target) reply.NoSlot a.0 a.1 in
+    let r : reached s c target ≡ Some a.0 = or_found (reached s c target) Reply.NoSlot a.0 a.1 in
     let u : (not_vacant s c (PlaceOf a.0.node a.0.index) (place_at s a.0) ≡ None) × (a.0 ≡ at) =
     unless_parts (not_vacant s c (PlaceOf a.0.node a.0.index) (place_at s a.0)) a.0 a.2 in
     (r ∙ ap Some u.1, subst (λ x. held_in (place_at s x) ≡ None) u.1 (nothing (PlaceOf a.0.node a.0.index) (place_at s a.0) u.0))
@@ -219,20 +206,20 @@ vacant_facts s c target at e =
     unless_parts (Some r) x q = absurd (refused_found r at q)
 
     nothing : (x : Rattle.kernel_rules.specs.State.Thing) (p : Place) → not_vacant s c x p ≡ None → held_in p ≡ None
-    nothing x (Holds k) q = absurd (some_none reply.Occupied q)
+    nothing x (Holds k) q = absurd (some_none Reply.Occupied q)
     nothing x _ q = refl
 
 -- A held target is reached, and holds the capability.
 pub held_facts : (s : State) (c : ℕ) (target : Target) (at : Slot) (k : Capability)
     → held s c target ≡ Found (at, k) → (reached s c target ≡ Some at) × (place_at s at ≡ Holds k)
 held_facts s c target at k e =
-    let a = then_parts (or_refuse (reached s c target) reply.NoSlot)
-    (λ at. and_then (or_refuse (held_in (place_at s at)) reply.Empty) λ k. Found (at, k)) (at, k) e in
-    let b = then_parts (or_refuse (held_in (place_at s a.0)) reply.Empty) (λ k. Found (a.0, k)) (at, k) a.2 in
+    let a = then_parts (or_refuse (reached s c target) Reply.NoSlot)
+    (λ at. and_then (or_refuse (held_in (place_at s at)) Reply.Empty) λ k. Found (at, k)) (at, k) e in
+    let b = then_parts (or_refuse (held_in (place_at s a.0)) Reply.Empty) (λ k. Found (a.0, k)) (at, k) a.2 in
     let p : (a.0, b.0) ≡ (at, k) = found_inj (a.0, b.0) (at, k) b.2 in
     let same : a.0 ≡ at = ap (λ q. q.0) p in (
-      or_found (reached s c target) reply.NoSlot a.0 a.1 ∙ ap Some same,
-      ap (place_at s) (sym same) ∙ holds (place_at s a.0) b.0 (or_found (held_in (place_at s a.0)) reply.Empty b.0 b.1)
+      or_found (reached s c target) Reply.NoSlot a.0 a.1 ∙ ap Some same,
+      ap (place_at s) (sym same) ∙ holds (place_at s a.0) b.0 (or_found (held_in (place_at s a.0)) Reply.Empty b.0 b.1)
           ∙ ap (λ q. Holds q.1) p,
     )
   where

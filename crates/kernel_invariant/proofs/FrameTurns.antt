@@ -1,25 +1,13 @@
 -- How a call that is carried out turns frames: a node is made only with the end of its places' grace periods, and what a frame is
 -- changes only with the end of its own; and only frames that are something have references released.
-use Rattle.std.proofs.Common.{◌≡◌, ◌⊎◌, inl, inr, ℕ, ◌-◌, Bool, true, false, ◌||◌, refl, sym, ◌∙◌, ap, subst, IsTrue, List, [], ◌∷◌, None}
-use Rattle.std.proofs.lemmas.Bool.{false≢true, eq-eqb}
-use Rattle.spk_nums.specs.declared.calls.Call.{Call}
-use Rattle.spk_nums.specs.declared.calls.Call.TheVariants.{Tick}
-use Rattle.spk_nums.specs.declared.replies.Value.{Value}
-use Rattle.spk_nums.specs.declared.replies.Reply.{Reply}
-use Rattle.spk_nums.specs.declared.replies.Reply.TheVariants as reply
-use Rattle.kernel_rules.specs.State.{ThreadFields, TcapFields, Blank, Comp, Thread, Tcap}
-use Rattle.kernel_rules.specs.State.{Frame, Untyped, Kernel, Thing, PlaceOf, FrameOf, State, put}
-use Rattle.kernel_rules.specs.GracePeriods.{is_translated}
-use Rattle.kernel_rules.specs.Rules.{Change, does, Judged, Refused, Found}
-use Rattle.kernel_rules.specs.Edits.{with_thread, running, with_tcap, with_budget, tcap_at, Edit, Node, Become, Untype, Component, Push}
-use Rattle.kernel_rules.specs.Edits.{Pop, Switch, Charge, Move, Merge, Give, edited, after_edits}
-use Rattle.kernel_rules.specs.CallRelation.{change_of, changed, owed_by, state_by, ends, ends_by}
-use Rattle.kernel_rules.specs.Relies.{is_node}
-use Rattle.kernel_rules.proofs.Changes.{IfFound}
-use Rattle.kernel_invariant.proofs.Sound.{put_all}
-use Rattle.kernel_invariant.proofs.SoundCalls.{IsOpen}
-use Rattle.kernel_invariant.specs.Edits.{ends_in, ends_all}
-use Rattle.kernel_invariant.proofs.Edited.{is_bare, Known, Each, Edits, found_by}
+use Rattle.kernel_rules.proofs.{◌≡◌, ◌⊎◌, inl, inr, ℕ, ◌-◌, Bool, true, false, ◌||◌, refl, sym, ◌∙◌, ap, subst, IsTrue, List, [], ◌∷◌, None}
+use Rattle.kernel_rules.proofs.{false≢true, eq-eqb, Call, Tick, Value, Reply, ThreadFields, TcapFields, Blank, Comp, Thread, Tcap, Frame}
+use Rattle.kernel_rules.proofs.{Untyped, Kernel, Thing, PlaceOf, FrameOf, put, is_translated, Change, does, Judged, Refused, Found}
+use Rattle.kernel_rules.proofs.{with_thread, running, with_tcap, with_budget, tcap_at, Edit, Node, Become, Untype, Component, Push, Pop}
+use Rattle.kernel_rules.proofs.{Charge, Move, Merge, Give, edited, after_edits, change_of, changed, owed_by, state_by, ends, ends_by}
+use Rattle.kernel_invariant.proofs.{Sound.put_all, SoundCalls.IsOpen, Edited.is_bare, Edited.Known, Edited.Each, Edited.Edits}
+use Rattle.{kernel_rules.proofs.is_node, kernel_rules.proofs.IfFound, kernel_invariant.specs.ends_in, kernel_invariant.specs.ends_all}
+use Rattle.{kernel_rules.specs.State.State, kernel_rules.specs.Edits.Switch, kernel_invariant.proofs.Edited.found_by}
 
 -- Whether a frame is something: a user frame, or has an object.
 abbrev pub is_typed : Frame → Bool
@@ -150,11 +138,11 @@ turns_in_same call r f x y same = record {
 
 pub decided_turns : (s : State) (o : ℕ → Bool) (d : ℕ) → IsOpen s o d
     → (call : Call) (r : Reply) (f : ℕ) → TurnsIn call r f (s.frame f) ((state_by s d call r).frame f)
-decided_turns s o d opens call (reply.Ok v) f =
+decided_turns s o d opens call (Reply.Ok v) f =
     let a : Turns (ends_by call) f (s.frame f) ((changed s (change_of s d call)).frame f) =
     found_turns s call (change_of s d call) (found_by s d call (TurnsBy s call) (turns_by s o d opens call)) f in
     record { node = a.node; typed = a.typed }
-decided_turns s o d opens call reply.Raced f = turns_in_same call reply.Raced f (s.frame f) _ (owed_frame s d call f)
-decided_turns s o d opens call (reply.Busy e) f = turns_in_same call (reply.Busy e) f (s.frame f) _ (owed_frame s d call f)
-decided_turns s o d opens call reply.CallsSpent f = turns_in_same call reply.CallsSpent f (s.frame f) _ refl
+decided_turns s o d opens call Reply.Raced f = turns_in_same call Reply.Raced f (s.frame f) _ (owed_frame s d call f)
+decided_turns s o d opens call (Reply.Busy e) f = turns_in_same call (Reply.Busy e) f (s.frame f) _ (owed_frame s d call f)
+decided_turns s o d opens call Reply.CallsSpent f = turns_in_same call Reply.CallsSpent f (s.frame f) _ refl
 decided_turns s o d opens call r f = turns_in_same call r f (s.frame f) _ refl

@@ -1,22 +1,10 @@
 -- What a decision makes of the grace period of each thing: it begins, it ends, a flush leaves it, or it stays.
-use Rattle.std.proofs.Common.{◌≡◌, ℕ, true, false, cond, refl, ◌∙◌, ap, List, [], ◌∷◌}
-use Rattle.std.proofs.lemmas.Bool.{false≢true}
-use Rattle.std.specs.List.{list_any}
-use Rattle.spk_nums.specs.declared.calls.Call.{Call}
-use Rattle.spk_nums.specs.declared.calls.Call.TheVariants.{Flush, Tick}
-use Rattle.spk_nums.specs.declared.replies.Value.{Value}
-use Rattle.spk_nums.specs.declared.replies.Reply.{Reply}
-use Rattle.spk_nums.specs.declared.replies.Reply.TheVariants as reply
-use Rattle.kernel_rules.specs.State.{Grace, Thing, State, put}
-use Rattle.kernel_rules.specs.Start.{no_grace}
-use Rattle.kernel_rules.specs.GracePeriods.{same_thing, new_grace, begun}
-use Rattle.kernel_rules.specs.Rules.{Change, does, Judged, Refused, Found, IsFoundAnd}
-use Rattle.kernel_rules.specs.CallRelation.{change_of, changed, owed_by, state_by, MayReply}
-use Rattle.kernel_rules.specs.CallRelation.{begins, begins_in, ends, ends_by, flushes, flushes_by}
-use Rattle.kernel_rules.proofs.Changes.{IfFound}
-use Rattle.kernel_invariant.specs.Edits.{kept_in, kept_all}
-use Rattle.kernel_rules.specs.Edits.{Edit, Node, edited, after_edits, begins_all}
-use Rattle.kernel_invariant.proofs.Edited.{Edits, found_by}
+use Rattle.kernel_rules.proofs.{◌≡◌, ℕ, true, false, cond, refl, ◌∙◌, ap, List, [], ◌∷◌, false≢true, Call, Flush, Tick, Value, Reply, Grace}
+use Rattle.kernel_rules.proofs.{Thing, put, no_grace, same_thing, new_grace, begun, Change, does, Judged, Refused, Found, IsFoundAnd}
+use Rattle.kernel_rules.proofs.{change_of, changed, owed_by, state_by, MayReply, begins, begins_in, ends, ends_by, flushes, flushes_by}
+use Rattle.kernel_rules.proofs.{IfFound, Edit, Node, edited, after_edits, begins_all}
+use Rattle.{std.specs.List.list_any, kernel_rules.specs.State.State, kernel_invariant.specs.Edits.kept_in}
+use Rattle.{kernel_invariant.specs.Edits.kept_all, kernel_invariant.proofs.Edited.Edits, kernel_invariant.proofs.Edited.found_by}
 
 -- A grace period as core c flushes.
 abbrev pub flushed_by : ℕ → Grace → Grace
@@ -60,16 +48,16 @@ owed_grace s c _ x = refl
 
 pub grace_is : (s : State) (c : ℕ) (call : Call) (r : Reply) → MayReply s c call r
     → (x : Thing) → (state_by s c call r).grace x ≡ grace_by s c call r x
-grace_is s c call (reply.Ok v) may x =
+grace_is s c call (Reply.Ok v) may x =
     changed_grace s c call v (change_of s c call) (found_by s c call (GraceBy s c call) (grace_by_edits s c call)) may.1.1 x
-grace_is s c call reply.CallsSpent may x = refl
-grace_is s c call reply.Raced may x = owed_grace s c call x
-grace_is s c call (reply.Busy d) may x = owed_grace s c call x
+grace_is s c call Reply.CallsSpent may x = refl
+grace_is s c call Reply.Raced may x = owed_grace s c call x
+grace_is s c call (Reply.Busy d) may x = owed_grace s c call x
 grace_is s c call _ may x = refl
 
 -- A flush begins no grace period, and ends none.
 pub flush_begins : (s : State) (c : ℕ) (call : Call) (r : Reply) (x : Thing)
     → flushes call r ≡ true → (begins s c call r x ≡ false) × (ends call r x ≡ false)
-flush_begins s c Flush (reply.Ok v) x h = (refl, refl)
-flush_begins s c call (reply.Ok v) x h = absurd (false≢true h)
+flush_begins s c Flush (Reply.Ok v) x h = (refl, refl)
+flush_begins s c call (Reply.Ok v) x h = absurd (false≢true h)
 flush_begins s c call _ x h = absurd (false≢true h)

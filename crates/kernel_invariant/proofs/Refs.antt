@@ -1,31 +1,17 @@
 -- Every edit changes the references to a frame by those that it takes less those that it releases.
-use Rattle.std.proofs.Common.{◌≡◌, ℕ, ◌+◌, ◌-◌, ◌<◌, Bool, true, false, refl, sym, ◌∙◌, ap, arith}
-use Rattle.std.proofs.Common.{◌==◌, if◌then◌else◌, IsTrue, List, [], ◌∷◌, ◌++◌, take, drop, Option, Some, None}
-use Rattle.std.proofs.lemmas.Bool.{false≢true, true≢false, eqb-true}
-use Rattle.spk_nums.specs.Capability.{Capability}
-use Rattle.spk_nums.specs.CallLimits.{InLimits}
-use Rattle.spk_nums.specs.declared.calls.Call.{Call}
-use Rattle.spk_nums.specs.declared.kinds.Kind.TheVariants as kind
-use Rattle.kernel_rules.specs.State.{Place, Free, Holds, Quiescing, ThreadFields, TcapFields, Comp, Blank, Thread, Tcap, Frame, Untyped}
-use Rattle.kernel_rules.specs.State.{Kernel, Liveness, Live, Dead, Core, Thing, FrameOf, State, put, with_place, with_frame, with_number}
-use Rattle.kernel_rules.specs.State.{with_core, with_grace, Grace, thread_in, thread_of}
-use Rattle.kernel_rules.specs.References.{place_names, frame_names, number_names, core_names, sum_below, times, node_refs, refs}
-use Rattle.kernel_rules.specs.Access.{held_in}
-use Rattle.spk_nums.specs.declared.replies.Value.{Value}
-use Rattle.kernel_rules.specs.Rules.{Change, does}
-use Rattle.kernel_rules.specs.Edits.{frames_of, cleared, with_thread, with_stack, running, tcap_at, with_tcap, with_budget, Edit, Fill}
-use Rattle.kernel_rules.specs.CapabilityCalls.{is_live}
-use Rattle.kernel_rules.specs.Edits.{Remove, Node, Become, Untype, Component, Deaden, Push, Pop, Switch, Cache, Flush, Charge, Move, Merge}
-use Rattle.kernel_rules.specs.CallRelation.{rule_of}
-use Rattle.kernel_rules.specs.Edits.{Give, edited, after_edits, takes_in, begins_in, takes_all, begins_all}
-use Rattle.kernel_rules.specs.Laws.{released}
-use Rattle.kernel_rules.specs.Fitting.{fits}
-use Rattle.kernel_rules.proofs.Within.{put_same, put_other}
-use Rattle.kernel_invariant.proofs.Sums.{sum_same, sum_one, times_cons, times_append}
-use Rattle.kernel_invariant.proofs.Sound.{put_all}
-use Rattle.kernel_invariant.proofs.Facts.{ChangesFrom, some_none}
-use Rattle.kernel_invariant.proofs.SoundCalls.{IsOpen}
-use Rattle.kernel_invariant.proofs.Edited.{is_bare, Tested, Limited, Known, Each, Edits, HasThread, rule_by}
+use Rattle.kernel_rules.proofs.{◌≡◌, ℕ, ◌+◌, ◌-◌, ◌<◌, Bool, true, false, refl, sym, ◌∙◌, ap, arith, ◌==◌, if◌then◌else◌, IsTrue, List, []}
+use Rattle.kernel_rules.proofs.{◌∷◌, ◌++◌, take, drop, Option, Some, None, false≢true, true≢false, eqb-true, Capability, InLimits, Call}
+use Rattle.kernel_rules.proofs.{Place, Free, Holds, Quiescing, ThreadFields, TcapFields, Comp, Blank, Thread, Tcap, Frame, Untyped, Kernel}
+use Rattle.kernel_rules.proofs.{Liveness, Live, Dead, Core, Thing, FrameOf, put, with_place, with_frame, with_number, with_core, with_grace}
+use Rattle.kernel_rules.proofs.{Grace, thread_in, thread_of, place_names, frame_names, number_names, core_names, sum_below, times}
+use Rattle.kernel_rules.proofs.{node_refs, refs, held_in, Value, Change, does, frames_of, cleared, with_thread, with_stack, running}
+use Rattle.kernel_rules.proofs.{tcap_at, with_tcap, with_budget, Edit, Fill, is_live, Node, Become, Untype, Component, Deaden, Push, Pop}
+use Rattle.kernel_rules.proofs.{Cache, Charge, Move, Merge, rule_of, Give, edited, after_edits, begins_all, fits, put_same, put_other, Kind}
+use Rattle.kernel_rules.specs.{State.State, Edits.Remove, Edits.Switch, Edits.Flush, Edits.takes_in, Edits.begins_in, Edits.takes_all}
+use Rattle.kernel_rules.specs.{Laws.released}
+use Rattle.kernel_invariant.proofs.{Sums.sum_same, Sums.sum_one, Sums.times_cons, Sums.times_append, Sound.put_all, Facts.ChangesFrom}
+use Rattle.kernel_invariant.proofs.{Facts.some_none, SoundCalls.IsOpen, Edited.is_bare, Edited.Tested, Edited.Limited, Edited.Known}
+use Rattle.kernel_invariant.proofs.{Edited.Each, Edited.Edits, Edited.HasThread, Edited.rule_by}
 
 -- What a change of a place makes of the references.
 pub place_refs : (s : State) (g i : ℕ) (p : Place) (f : ℕ) → g < s.limits.frames → i < 64
@@ -116,7 +102,7 @@ bare_names Untyped h = refl
 bare_names _ h = absurd (false≢true h)
 
 -- The stack that is put into a frame with a thread is its references.
-stack_names : (x : Frame) (t : ThreadFields) → IsTrue (fits kind.Thread x)
+stack_names : (x : Frame) (t : ThreadFields) → IsTrue (fits Kind.Thread x)
     → (frame_names (with_thread x t) ≡ t.stack) × (frame_names x ≡ (thread_in x).stack)
 stack_names (Kernel (Thread u)) t h = (refl, refl)
 stack_names _ t h = absurd (false≢true h)

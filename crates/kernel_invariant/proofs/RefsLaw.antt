@@ -1,19 +1,9 @@
 -- In every state that a run reaches, references change by what a call takes less what it releases.
-use Rattle.std.proofs.Common.{◌≡◌, ℕ, ◌+◌, refl, sym, ap, arith}
-use Rattle.spk_nums.specs.declared.replies.Value.{Value}
-use Rattle.kernel_rules.specs.State.{State}
-use Rattle.kernel_rules.specs.References.{times, core_names, node_refs, refs}
-use Rattle.kernel_rules.specs.GracePeriods.{begun}
-use Rattle.kernel_rules.specs.Rules.{Change, Judged, Refused, Found, IsFoundAnd}
-use Rattle.kernel_rules.specs.CallRelation.{rule_of, change_of, changed, counted}
-use Rattle.kernel_rules.specs.Laws.{released, RefsChange}
-use Rattle.kernel_rules.specs.Runs.{after, is_open}
-use Rattle.kernel_rules.proofs.Changes.{IfFound}
-use Rattle.kernel_invariant.proofs.Sums.{sum_same}
-use Rattle.kernel_invariant.proofs.Sound.{put_all}
-use Rattle.kernel_invariant.proofs.Facts.{outcome_from}
-use Rattle.kernel_invariant.proofs.SoundRuns.{opened, open_limits, open_is}
-use Rattle.kernel_invariant.proofs.Refs.{RefsBy, grace_refs, rule_refs}
+use Rattle.kernel_rules.proofs.{◌≡◌, ℕ, ◌+◌, refl, sym, ap, arith, Value, times, core_names, node_refs, refs, begun, Change, Judged}
+use Rattle.kernel_rules.proofs.{Refused, Found, IsFoundAnd, rule_of, change_of, changed, counted, after, is_open, IfFound}
+use Rattle.kernel_rules.specs.{State.State, Laws.released, Laws.RefsChange}
+use Rattle.kernel_invariant.proofs.{Sums.sum_same, Sound.put_all, Facts.outcome_from, SoundRuns.opened, SoundRuns.open_limits}
+use Rattle.kernel_invariant.proofs.{SoundRuns.open_is, Refs.RefsBy, Refs.grace_refs, Refs.rule_refs}
 
 -- A call that is counted changes no reference.
 pub counted_refs : (s : State) (c f : ℕ) → refs (counted s c) f ≡ refs s f

@@ -1,30 +1,14 @@
 -- References are released only to frames that are something; and a decision that ends a grace period does not begin it.
-use Rattle.std.proofs.Common.{◌≡◌, ◌⊎◌, inl, inr, ℕ, ◌≤◌, arith, Bool, true, false, ◌||◌, ◌==◌, refl, sym}
-use Rattle.std.proofs.Common.{◌∙◌, ap, subst, IsTrue, if◌then◌else◌, List, [], ◌∷◌, take}
-use Rattle.std.proofs.lemmas.Bool.{false≢true, eqb-true, cases_lt}
-use Rattle.std.specs.List.{list_any}
-use Rattle.spk_nums.specs.declared.kinds.Kind.{Kind}
-use Rattle.spk_nums.specs.declared.kinds.Kind.TheVariants as kind
-use Rattle.spk_nums.specs.declared.calls.Call.{Call}
-use Rattle.spk_nums.specs.declared.replies.Value.{Value}
-use Rattle.spk_nums.specs.declared.replies.Reply.{Reply}
-use Rattle.spk_nums.specs.declared.replies.Reply.TheVariants as reply
-use Rattle.kernel_rules.specs.State.{Untyped, Blank, Comp, Thread, Frame, Kernel, Liveness, Live, Thing}
-use Rattle.kernel_rules.specs.State.{FrameOf, State, thread_in, thread_of}
-use Rattle.kernel_rules.specs.References.{named_by, frame_names, number_names, times, refs}
-use Rattle.kernel_rules.specs.GracePeriods.{same_thing}
-use Rattle.kernel_rules.specs.Rules.{Change, does, Judged, Refused, Found}
-use Rattle.kernel_rules.specs.Edits.{frames_of, Edit, Remove, Node, Untype, Deaden, Pop, Switch, begins_in, begins_all}
-use Rattle.kernel_rules.specs.CallRelation.{change_of, begins, ends, MayReply, begins_in as begun_in}
-use Rattle.kernel_rules.specs.Fitting.{fits}
-use Rattle.kernel_rules.proofs.Changes.{IfFound}
-use Rattle.kernel_invariant.specs.Edits.{ends_in, ends_all}
-use Rattle.kernel_invariant.proofs.Sound.{AreComps, IsStack, IsObjectGood, IsSound}
-use Rattle.kernel_invariant.proofs.SoundCalls.{IsOpen}
-use Rattle.kernel_invariant.proofs.Edited.{Known, Each, Calm, Edits, found_by}
-use Rattle.kernel_invariant.proofs.FrameTurns.{is_typed}
-use Rattle.kernel_invariant.proofs.Sums.{times_cons, times_first}
-use Rattle.kernel_invariant.proofs.SoundRemovals.{unnamed}
+use Rattle.kernel_rules.proofs.{◌≡◌, ◌⊎◌, inl, inr, ℕ, ◌≤◌, arith, Bool, true, false, ◌||◌, ◌==◌, refl, sym, ◌∙◌, ap, subst, IsTrue}
+use Rattle.kernel_rules.proofs.{if◌then◌else◌, List, [], ◌∷◌, take, false≢true, eqb-true, Kind, Call, Value, Reply, Untyped, Blank, Comp}
+use Rattle.kernel_rules.proofs.{Thread, Frame, Kernel, Liveness, Live, Thing, FrameOf, thread_in, thread_of, named_by, frame_names}
+use Rattle.kernel_rules.proofs.{number_names, times, refs, same_thing, Change, does, Judged, Refused, Found, frames_of, Edit, Node, Untype}
+use Rattle.kernel_rules.proofs.{Deaden, Pop, begins_all, change_of, begins, ends, MayReply, begins_in as begun_in, fits, IfFound}
+use Rattle.kernel_rules.specs.{State.State, Edits.Remove, Edits.Switch, Edits.begins_in}
+use Rattle.kernel_invariant.proofs.{Sound.AreComps, Sound.IsStack, Sound.IsObjectGood, Sound.IsSound, SoundCalls.IsOpen, Edited.Known}
+use Rattle.kernel_invariant.proofs.{Edited.Each, Edited.Calm, Edited.Edits, Edited.found_by, FrameTurns.is_typed, Sums.times_cons}
+use Rattle.{kernel_invariant.specs.ends_in, kernel_invariant.specs.ends_all, std.proofs.lemmas.Bool.cases_lt, std.specs.List.list_any}
+use Rattle.{kernel_invariant.proofs.Sums.times_first, kernel_invariant.proofs.SoundRemovals.unnamed}
 
 -- Each of these frames is something.
 abbrev pub AreTyped : State → List ℕ → Type 0
@@ -43,7 +27,7 @@ one_typed s f (g ∷ fs) h is = by_first (one_typed s f fs h.1) (f == g) refl is
 
 -- What fits a capability but a range is something.
 fit_typed : (k : Kind) (x : Frame) (f : ℕ) → IsTrue (fits k x) → (named_by k f ≡ []) ⊎ IsTrue (is_typed x)
-fit_typed kind.Range x f h = inl refl
+fit_typed Kind.Range x f h = inl refl
 fit_typed k Untyped f h = absurd (false≢true h)
 fit_typed k (Kernel Blank) f h = absurd (false≢true h)
 fit_typed k x f h = inr refl
@@ -53,15 +37,15 @@ abbrev pub ReleasesTyped : State → Change → Type 0
 ReleasesTyped s change = (f : ℕ) → list_any (same_thing (FrameOf f)) change.begins ≡ true → IsTrue (is_typed (s.frame f))
 
 names_typed : (s : State) (k : Kind) (f : ℕ) → IsTrue (fits k (s.frame f)) → AreTyped s (named_by k f)
-names_typed s kind.Range f h = tt
+names_typed s Kind.Range f h = tt
 names_typed s k f h = (by_fit (fit_typed k (s.frame f) f h), tt)
   where
     by_fit : (f ∷ [] ≡ []) ⊎ IsTrue (is_typed (s.frame f)) → IsTrue (is_typed (s.frame f))
     by_fit (inl none) = absurd (cc)
     by_fit (inr typed) = typed
 
-comp_typed : (s : State) (f : ℕ) → IsTrue (fits kind.Comp (s.frame f)) → IsTrue (is_typed (s.frame f))
-comp_typed s f h = (names_typed s kind.Comp f h).0
+comp_typed : (s : State) (f : ℕ) → IsTrue (fits Kind.Comp (s.frame f)) → IsTrue (is_typed (s.frame f))
+comp_typed s f h = (names_typed s Kind.Comp f h).0
 
 comps_typed : (s : State) (fs : List ℕ) → AreComps s fs → AreTyped s fs
 comps_typed s [] h = tt
@@ -76,16 +60,16 @@ take_typed s [] h = tt
 take_typed s (f ∷ fs) h = (h.0, tt)
 
 object_typed : (s : State) (x : Frame) → IsObjectGood s x → AreTyped s (frame_names x)
-object_typed s (Kernel (Comp k)) h = ((names_typed s kind.Table k.table h.0).0, ((names_typed s kind.Pages k.pages h.1).0, tt))
+object_typed s (Kernel (Comp k)) h = ((names_typed s Kind.Table k.table h.0).0, ((names_typed s Kind.Pages k.pages h.1).0, tt))
 object_typed s (Kernel (Thread t)) h = stack_typed s t.stack h
 object_typed s _ h = tt
 
 module _ (s : State) (o : ℕ → Bool) (d : ℕ) (h : IsOpen s o d) where
   cores_typed : IsTrue (is_typed (s.frame (s.core d).thread)) × IsTrue (is_typed (s.frame (s.core d).tcap))
   cores_typed =
-      let fit : IsTrue (fits kind.Thread (s.frame (s.core d).thread)) × IsTrue (fits kind.Tcap (s.frame (s.core d).tcap)) =
+      let fit : IsTrue (fits Kind.Thread (s.frame (s.core d).thread)) × IsTrue (fits Kind.Tcap (s.frame (s.core d).tcap)) =
       h.sound.cores d (h.sound.inside d h.is).1 in
-      ((names_typed s kind.Thread (s.core d).thread fit.0).0, (names_typed s kind.Tcap (s.core d).tcap fit.1).0)
+      ((names_typed s Kind.Thread (s.core d).thread fit.0).0, (names_typed s Kind.Tcap (s.core d).tcap fit.1).0)
 
   left_typed : (b : Bool) → AreTyped s ((s.core d).thread ∷ (if b then [] else (s.core d).tcap ∷ []))
   left_typed true = (cores_typed.0, tt)
@@ -95,7 +79,7 @@ module _ (s : State) (o : ℕ → Bool) (d : ℕ) (h : IsOpen s o d) where
   number_typed l (Live epoch f) is = (comp_typed s f (h.sound.numbers l epoch f is).0, tt)
   number_typed l _ is = tt
 
-  own_typed : (x : Frame) → IsTrue (fits kind.Thread x) → IsObjectGood s x → AreTyped s (thread_in x).stack
+  own_typed : (x : Frame) → IsTrue (fits Kind.Thread x) → IsObjectGood s x → AreTyped s (thread_in x).stack
   own_typed (Kernel (Thread t)) fit good = stack_typed s t.stack good
   own_typed _ fit good = absurd (false≢true fit)
 
@@ -126,7 +110,7 @@ module _ (s : State) (o : ℕ → Bool) (d : ℕ) (h : IsOpen s o d) where
 
   -- The grace period of a frame begins only where it is something.
   pub begins_typed : (call : Call) (r : Reply) (f : ℕ) → begins s d call r (FrameOf f) ≡ true → IsTrue (is_typed (s.frame f))
-  begins_typed call (reply.Ok v) f is =
+  begins_typed call (Reply.Ok v) f is =
       found_releases (change_of s d call) (found_by s d call (ReleasesTyped s) (releases_by call)) f is
   begins_typed call _ f is = absurd (false≢true is)
 
@@ -174,7 +158,7 @@ edits_begin s o d h (e ∷ es) calm k x is =
 
 pub ends_begins : (s : State) (o : ℕ → Bool) (d : ℕ) (call : Call) (r : Reply) (x : Thing)
     → IsOpen s o d → MayReply s d call r → ends call r x ≡ true → begins s d call r x ≡ false
-ends_begins s o d call (reply.Ok v) x h may is =
+ends_begins s o d call (Reply.Ok v) x h may is =
     found_not (change_of s d call) x (found_by s d call (BeginsNot x) (λ v es e.
     edits_begin s o d h es e.calm (e.known o h) x (sym (e.agrees.0 x) ∙ is)))
 ends_begins s o d call _ x h may is = absurd (false≢true is)

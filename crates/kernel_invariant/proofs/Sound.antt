@@ -1,17 +1,10 @@
 -- In every state that a run reaches, capabilities name frames with an object of their kind, and no frame that is referenced
 -- is untyped. `open` are the cores in a call that is not decided.
-use Rattle.std.proofs.Common.{◌≡◌, ◌≢◌, inl, inr, ℕ, ◌<◌, ◌≤◌, Bool, true, refl, sym, ◌∙◌}
-use Rattle.std.proofs.Common.{ap, subst, arith, ◌==◌, if◌then◌else◌, IsTrue, List, [], ◌∷◌}
-use Rattle.std.proofs.lemmas.Bool.{cases_eq, false≢true, eq-eqb, ne_eqb, eqb-true}
-use Rattle.spk_nums.specs.Capability.{Capability}
-use Rattle.spk_nums.specs.declared.kinds.Kind.{Kind}
-use Rattle.spk_nums.specs.declared.kinds.Kind.TheVariants as kind
-use Rattle.kernel_rules.specs.State.{Holds, Quiescing, Blank, Comp, Thread, Frame, Untyped}
-use Rattle.kernel_rules.specs.State.{Kernel, Live, PlaceOf, FrameOf, State, put, with_frame}
-use Rattle.kernel_rules.specs.References.{named_by}
-use Rattle.kernel_rules.specs.Access.{kind_number, only}
-use Rattle.kernel_rules.specs.Fitting.{fits, IsGood}
-use Rattle.kernel_rules.specs.Relies.{is_node}
+use Rattle.kernel_rules.proofs.{◌≡◌, ◌≢◌, inl, inr, ℕ, ◌<◌, ◌≤◌, Bool, true, refl, sym, ◌∙◌, ap, subst, arith, ◌==◌, if◌then◌else◌, IsTrue}
+use Rattle.kernel_rules.proofs.{List, [], ◌∷◌, false≢true, eq-eqb, ne_eqb, eqb-true, Capability, Kind, Holds, Quiescing, Blank, Comp}
+use Rattle.kernel_rules.proofs.{Thread, Frame, Untyped, Kernel, Live, PlaceOf, FrameOf, put, with_frame, named_by, only, fits, IsGood}
+use Rattle.kernel_rules.specs.{State.State, Access.kind_number}
+use Rattle.{kernel_rules.proofs.is_node, std.proofs.lemmas.Bool.cases_eq}
 
 -- Core c waits for each of these frames.
 abbrev pub WaitsForAll : State → ℕ → List ℕ → Type 0
@@ -21,16 +14,16 @@ WaitsForAll s c (f ∷ fs) = IsTrue ((s.grace (FrameOf f)).waits c) × WaitsForA
 -- Each of these frames has a component.
 abbrev pub AreComps : State → List ℕ → Type 0
 AreComps s [] = Unit {0}
-AreComps s (f ∷ fs) = IsTrue (fits kind.Comp (s.frame f)) × AreComps s fs
+AreComps s (f ∷ fs) = IsTrue (fits Kind.Comp (s.frame f)) × AreComps s fs
 
 -- A stack has a bottom, and components alone.
 abbrev pub IsStack : State → List ℕ → Type 0
 IsStack s [] = ⊥
-IsStack s (f ∷ fs) = IsTrue (fits kind.Comp (s.frame f)) × AreComps s fs
+IsStack s (f ∷ fs) = IsTrue (fits Kind.Comp (s.frame f)) × AreComps s fs
 
 -- The fields of a frame's object name objects of their kinds.
 abbrev pub IsObjectGood : State → Frame → Type 0
-IsObjectGood s (Kernel (Comp k)) = IsTrue (fits kind.Table (s.frame k.table)) × IsTrue (fits kind.Pages (s.frame k.pages))
+IsObjectGood s (Kernel (Comp k)) = IsTrue (fits Kind.Table (s.frame k.table)) × IsTrue (fits Kind.Pages (s.frame k.pages))
 IsObjectGood s (Kernel (Thread t)) = IsStack s t.stack
 IsObjectGood s _ = Unit {0}
 
@@ -40,8 +33,8 @@ pub record IsSound (s : State) (opened : ℕ → Bool) : Type 0 where
       → IsTrue ((s.grace (PlaceOf f i)).waits c) → IsGood s k × WaitsForAll s c (named_by k.kind k.frame)
   pub objects : (f : ℕ) → IsObjectGood s (s.frame f)
   pub cores : (c : ℕ) → c < s.limits.cores
-      → IsTrue (fits kind.Thread (s.frame (s.core c).thread)) × IsTrue (fits kind.Tcap (s.frame (s.core c).tcap))
-  pub numbers : (l e f : ℕ) → s.number l ≡ Live e f → IsTrue (fits kind.Comp (s.frame f)) × (l < 64)
+      → IsTrue (fits Kind.Thread (s.frame (s.core c).thread)) × IsTrue (fits Kind.Tcap (s.frame (s.core c).tcap))
+  pub numbers : (l e f : ℕ) → s.number l ≡ Live e f → IsTrue (fits Kind.Comp (s.frame f)) × (l < 64)
   pub beyond : (f : ℕ) → s.limits.frames ≤ f → s.frame f ≡ Untyped
   pub bare : (f i : ℕ) (k : Capability) → s.place f i ≡ Holds k → IsTrue (is_node (s.frame f)) × (i < 64)
   pub inside : (c : ℕ) → opened c ≡ true → IsTrue (s.core c).inside × (c < s.limits.cores)
@@ -62,21 +55,21 @@ weaken s o o' less h = record {
 -- The kind that is wanted alone is the kind.
 kind_at : ℕ → Kind
 kind_at n =
-    if n == 0 then kind.Range
-    else (if n == 1 then kind.Table
-    else (if n == 2 then kind.Leaf
-    else (if n == 3 then kind.Pages
-    else (if n == 4 then kind.Pleaf
-    else (if n == 5 then kind.Comp
-    else (if n == 6 then kind.Gate
-    else (if n == 7 then kind.Thread
-    else (if n == 8 then kind.Tcap
-    else (if n == 9 then kind.Link
-    else kind.Page)))))))))
+    if n == 0 then Kind.Range
+    else (if n == 1 then Kind.Table
+    else (if n == 2 then Kind.Leaf
+    else (if n == 3 then Kind.Pages
+    else (if n == 4 then Kind.Pleaf
+    else (if n == 5 then Kind.Comp
+    else (if n == 6 then Kind.Gate
+    else (if n == 7 then Kind.Thread
+    else (if n == 8 then Kind.Tcap
+    else (if n == 9 then Kind.Link
+    else Kind.Page)))))))))
 
 kind_back : (k : Kind) → kind_at (kind_number k) ≡ k
 unfolding kind_at
-kind_back kind.Range = refl
+kind_back Kind.Range = refl
 kind_back _ = refl
 
 pub only_is : (j k : Kind) → only j k ≡ true → k ≡ j
@@ -92,14 +85,14 @@ pub from_blank : (y : Frame) → Extends (Kernel Blank) y
 from_blank y = record { fit = fit; node = λ h. absurd (false≢true h) }
   where
     fit : (k : Kind) → IsTrue (fits k (Kernel Blank)) → IsTrue (fits k y)
-    fit kind.Range h = refl
+    fit Kind.Range h = refl
     fit _ h = absurd (false≢true h)
 
 pub from_untyped : (y : Frame) → Extends Untyped y
 from_untyped y = record { fit = fit; node = λ h. absurd (false≢true h) }
   where
     fit : (k : Kind) → IsTrue (fits k Untyped) → IsTrue (fits k y)
-    fit kind.Range h = refl
+    fit Kind.Range h = refl
     fit _ h = absurd (false≢true h)
 
 put_same : {A : Type 0} (f : ℕ → A) (i : ℕ) (x : A) (j : ℕ) → j ≡ i → put f i x j ≡ x
@@ -123,14 +116,14 @@ section_fit s f y e k g h = put_all (λ g x. IsTrue (fits k x)) s.frame f y g
 
 comps_fit : (s : State) (f : ℕ) (y : Frame) → Extends (s.frame f) y → (fs : List ℕ) → AreComps s fs → AreComps (with_frame s f y) fs
 comps_fit s f y e [] h = tt
-comps_fit s f y e (g ∷ fs) h = (section_fit s f y e kind.Comp g h.0, comps_fit s f y e fs h.1)
+comps_fit s f y e (g ∷ fs) h = (section_fit s f y e Kind.Comp g h.0, comps_fit s f y e fs h.1)
 
 stack_fit : (s : State) (f : ℕ) (y : Frame) → Extends (s.frame f) y → (fs : List ℕ) → IsStack s fs → IsStack (with_frame s f y) fs
 stack_fit s f y e [] h = absurd h
-stack_fit s f y e (g ∷ fs) h = (section_fit s f y e kind.Comp g h.0, comps_fit s f y e fs h.1)
+stack_fit s f y e (g ∷ fs) h = (section_fit s f y e Kind.Comp g h.0, comps_fit s f y e fs h.1)
 
 object_fit : (s : State) (f : ℕ) (y : Frame) → Extends (s.frame f) y → (x : Frame) → IsObjectGood s x → IsObjectGood (with_frame s f y) x
-object_fit s f y e (Kernel (Comp k)) h = (section_fit s f y e kind.Table k.table h.0, section_fit s f y e kind.Pages k.pages h.1)
+object_fit s f y e (Kernel (Comp k)) h = (section_fit s f y e Kind.Table k.table h.0, section_fit s f y e Kind.Pages k.pages h.1)
 object_fit s f y e (Kernel (Thread t)) h = stack_fit s f y e t.stack h
 object_fit s f y e _ h = tt
 
@@ -147,10 +140,10 @@ frame_step s o f y below e good h = record {
   objects = λ g. put_all (λ g x. IsObjectGood (with_frame s f y) x) s.frame f y g
       (λ same. object_fit s f y e y good) (λ other. object_fit s f y e (s.frame g) (h.objects g));
   cores = λ c m. (
-    section_fit s f y e kind.Thread (s.core c).thread (h.cores c m).0,
-    section_fit s f y e kind.Tcap (s.core c).tcap (h.cores c m).1,
+    section_fit s f y e Kind.Thread (s.core c).thread (h.cores c m).0,
+    section_fit s f y e Kind.Tcap (s.core c).tcap (h.cores c m).1,
   );
-  numbers = λ l d g n. (section_fit s f y e kind.Comp g (h.numbers l d g n).0, (h.numbers l d g n).1);
+  numbers = λ l d g n. (section_fit s f y e Kind.Comp g (h.numbers l d g n).0, (h.numbers l d g n).1);
   beyond = λ g past. put_all (λ g x. x ≡ Untyped) s.frame f y g
       (λ same. absurd (omega (arith, past, below, same))) (λ other. h.beyond g past);
   bare = λ g i k p. let a : IsTrue (is_node (s.frame g)) × (i < 64) = h.bare g i k p in (

@@ -1,31 +1,18 @@
 -- What is known of a sound state in which the call of a core is open, and steps that keep it sound.
-use Rattle.std.proofs.Common.{◌≡◌, inl, inr, ℕ, zero, suc, ◌+◌, ◌-◌, ◌<◌, ◌≤◌, Bool, true, false, not, ◌&&◌}
-use Rattle.std.proofs.Common.{◌||◌, refl, sym, ◌∙◌, ap, subst, arith, nat_lt, nat_le, if◌then◌else◌}
-use Rattle.std.proofs.Common.{IsTrue, List, [], ◌∷◌, length, drop, Option, Some, None, is_some}
-use Rattle.std.proofs.lemmas.Bool.{cases_eq, false≢true, ltb-true, ltb-false, lt-ltb, and_parts}
-use Rattle.std.specs.List.{list_any, range_with_len}
-use Rattle.spk_nums.specs.Capability.{Capability}
-use Rattle.spk_nums.specs.Rights.{part_of}
-use Rattle.spk_nums.specs.declared.kinds.Kind.{Kind}
-use Rattle.spk_nums.specs.declared.kinds.Kind.TheVariants as kind
-use Rattle.spk_nums.specs.declared.replies.Reply.TheVariants as reply
-use Rattle.kernel_rules.specs.State.{Holds, ThreadFields, TcapFields, Blank, Table, Leaf, Pages, Pleaf, Comp, Thread, Tcap, Frame, Untyped}
-use Rattle.kernel_rules.specs.State.{User, Kernel, Core, State, put, with_frame, with_core, thread_in}
-use Rattle.kernel_rules.specs.Access.{Slot, found, to_use, Target, held_in, only, root}
-use Rattle.kernel_rules.specs.GracePeriods.{flushed}
-use Rattle.kernel_rules.specs.Rules.{Cause, Found, named, vacant, first_cause, refusal_of}
-use Rattle.kernel_rules.specs.CapabilityCalls.{leaf_of, has_frame, outside, is_frame, is_blank, not_blank, has_frames, beyond}
-use Rattle.kernel_rules.specs.MemoryCalls.{is_untyped, not_untyped, is_user, holds_nothing, is_empty}
-use Rattle.kernel_rules.specs.Edits.{with_thread, running, with_tcap, with_budget, tcap_at, moved}
-use Rattle.kernel_rules.proofs.PartFrames.{frames_in}
-use Rattle.kernel_rules.specs.Fitting.{fits, IsGood, EndsWithin}
-use Rattle.kernel_rules.specs.Relies.{is_node}
-use Rattle.kernel_invariant.proofs.Sound.{AreComps, IsStack, IsObjectGood, IsSound, only_is}
-use Rattle.kernel_invariant.proofs.Sound.{Extends, put_all, frame_step}
-use Rattle.kernel_invariant.proofs.SoundSteps.{core_step, grace_step}
-use Rattle.kernel_invariant.proofs.SoundRemovals.{below_by}
-use Rattle.kernel_invariant.proofs.Facts.{named_good, RootIsNode, reached_node}
-use Rattle.kernel_invariant.proofs.Facts.{vacant_facts, when_not, not_not, first_two, none_parts}
+use Rattle.kernel_rules.proofs.{◌≡◌, inl, inr, ℕ, zero, suc, ◌+◌, ◌-◌, ◌<◌, ◌≤◌, Bool, true, false, not, ◌&&◌, ◌||◌, refl, sym, ◌∙◌, ap}
+use Rattle.kernel_rules.proofs.{subst, arith, ltb as nat_lt, leb as nat_le, if◌then◌else◌, IsTrue, List, [], ◌∷◌, length, drop, Option}
+use Rattle.kernel_rules.proofs.{Some, None, is_some, false≢true, ltb-true, ltb-false, lt-ltb, Capability, part_of, Kind, Holds}
+use Rattle.kernel_rules.proofs.{ThreadFields, TcapFields, Blank, Table, Leaf, Pages, Pleaf, Comp, Thread, Tcap, Frame, Untyped, User}
+use Rattle.kernel_rules.proofs.{Kernel, Core, put, with_frame, with_core, thread_in, Slot, found, to_use, Target, held_in, only, root}
+use Rattle.kernel_rules.proofs.{flushed, Cause, Found, named, vacant, first_cause, refusal_of, leaf_of, has_frame, outside, is_frame}
+use Rattle.kernel_rules.proofs.{is_blank, not_blank, has_frames, is_untyped, is_user, holds_nothing, is_empty, with_thread, running}
+use Rattle.kernel_rules.proofs.{with_tcap, with_budget, tcap_at, moved, frames_in, fits, IsGood, EndsWithin, is_node, Reply}
+use Rattle.kernel_invariant.proofs.Sound.{AreComps, IsStack, IsObjectGood, IsSound, only_is, Extends, put_all, frame_step}
+use Rattle.kernel_invariant.proofs.Facts.{named_good, RootIsNode, reached_node, vacant_facts, when_not, not_not, first_two, none_parts}
+use Rattle.{std.proofs.lemmas.Bool.cases_eq, std.proofs.lemmas.Bool.and_parts, kernel_rules.specs.beyond, kernel_rules.specs.not_untyped}
+use Rattle.{std.specs.List.list_any, std.specs.List.range_with_len, kernel_rules.specs.State.State}
+use Rattle.{kernel_invariant.proofs.SoundSteps.core_step, kernel_invariant.proofs.SoundSteps.grace_step}
+use Rattle.{kernel_invariant.proofs.SoundRemovals.below_by}
 
 -- A sound state in which core c's call is open.
 pub record IsOpen (s : State) (o : ℕ → Bool) (c : ℕ) : Type 0 where
@@ -38,25 +25,25 @@ pub node_of : (s : State) (o : ℕ → Bool) (c : ℕ) (target : Target) (at : S
 node_of s o c target at h node e = reached_node s o c target at h.sound h.is node (vacant_facts s c target at e).0
 
 pub root_node : (k : Kind) (x : Frame) → IsTrue (root k) → IsTrue (fits k x) → IsTrue (is_node x)
-root_node kind.Table (Kernel Table) r h = refl
-root_node kind.Table Untyped r h = absurd (false≢true h)
-root_node kind.Table User r h = absurd (false≢true h)
-root_node kind.Table (Kernel _) r h = absurd (false≢true h)
-root_node kind.Pages (Kernel Pages) r h = refl
-root_node kind.Pages Untyped r h = absurd (false≢true h)
-root_node kind.Pages User r h = absurd (false≢true h)
-root_node kind.Pages (Kernel _) r h = absurd (false≢true h)
+root_node Kind.Table (Kernel Table) r h = refl
+root_node Kind.Table Untyped r h = absurd (false≢true h)
+root_node Kind.Table User r h = absurd (false≢true h)
+root_node Kind.Table (Kernel _) r h = absurd (false≢true h)
+root_node Kind.Pages (Kernel Pages) r h = refl
+root_node Kind.Pages Untyped r h = absurd (false≢true h)
+root_node Kind.Pages User r h = absurd (false≢true h)
+root_node Kind.Pages (Kernel _) r h = absurd (false≢true h)
 root_node _ x r h = absurd (false≢true r)
 
-pub leaf_link : (j : Kind) (x : Frame) → IsTrue (fits (leaf_of j) x) → IsTrue (fits kind.Link x)
-leaf_link kind.Table x h = leaf x h
+pub leaf_link : (j : Kind) (x : Frame) → IsTrue (fits (leaf_of j) x) → IsTrue (fits Kind.Link x)
+leaf_link Kind.Table x h = leaf x h
   where
-    leaf : (x : Frame) → IsTrue (fits kind.Leaf x) → IsTrue (fits kind.Link x)
+    leaf : (x : Frame) → IsTrue (fits Kind.Leaf x) → IsTrue (fits Kind.Link x)
     leaf (Kernel Leaf) h = refl
     leaf _ h = absurd (false≢true h)
 leaf_link _ x h = pleaf x h
   where
-    pleaf : (x : Frame) → IsTrue (fits kind.Pleaf x) → IsTrue (fits kind.Link x)
+    pleaf : (x : Frame) → IsTrue (fits Kind.Pleaf x) → IsTrue (fits Kind.Link x)
     pleaf (Kernel Pleaf) h = refl
     pleaf _ h = absurd (false≢true h)
 
@@ -74,28 +61,28 @@ user_is _ h = absurd (false≢true h)
 
 -- A frame of a named range is a frame of the machine.
 pub in_range : (s : State) (o : ℕ → Bool) (c r f : ℕ) (range : Capability) → IsOpen s o c
-    → named s c r (to_use (only kind.Range)) ≡ Found range
+    → named s c r (to_use (only Kind.Range)) ≡ Found range
     → refusal_of s c (outside (found range) f) ≡ None → f < s.limits.frames
 in_range s o c r f range h e none =
-    let a : IsGood s range × IsTrue (only kind.Range range.kind) = named_good s o c r (to_use (only kind.Range)) range h.sound h.is e in
-    let ends : EndsWithin kind.Range range.frame range.arg s.limits.frames =
-    subst (λ k. EndsWithin k range.frame range.arg s.limits.frames) (only_is kind.Range range.kind a.1) a.0.within in
+    let a : IsGood s range × IsTrue (only Kind.Range range.kind) = named_good s o c r (to_use (only Kind.Range)) range h.sound h.is e in
+    let ends : EndsWithin Kind.Range range.frame range.arg s.limits.frames =
+    subst (λ k. EndsWithin k range.frame range.arg s.limits.frames) (only_is Kind.Range range.kind a.1) a.0.within in
     let has : has_frame (found range) f ≡ true =
-    not_not (has_frame (found range) f) (when_not (not (has_frame (found range) f)) reply.OutOfRange none) in
+    not_not (has_frame (found range) f) (when_not (not (has_frame (found range) f)) Reply.OutOfRange none) in
     let below : f < range.frame + range.arg =
     ltb-true f (range.frame + range.arg) (and_parts (nat_le range.frame f) (nat_lt f (range.frame + range.arg)) has).1 in
     omega (arith, ends, below)
 
 -- A frame of the machine is of the kind that a cause of `frame-kind` asks for, where the cause does not stand.
 pub kind_by : (s : State) (f : ℕ) (wanted : Bool) → f < s.limits.frames
-    → (if is_frame s f && not wanted then Some reply.FrameKind else None) ≡ None → wanted ≡ true
+    → (if is_frame s f && not wanted then Some Reply.FrameKind else None) ≡ None → wanted ≡ true
 kind_by s f wanted below none =
     not_not wanted (sym (ap (λ b. b && not wanted) (lt-ltb f s.limits.frames below))
-    ∙ when_not (is_frame s f && not wanted) reply.FrameKind none)
+    ∙ when_not (is_frame s f && not wanted) Reply.FrameKind none)
 
 -- Where no cause of a `make` stands, its frame is a blank frame of the machine.
 pub blank_by : (s : State) (o : ℕ → Bool) (c r f : ℕ) (range : Capability) (causes : List Cause)
-    → IsOpen s o c → named s c r (to_use (only kind.Range)) ≡ Found range
+    → IsOpen s o c → named s c r (to_use (only Kind.Range)) ≡ Found range
     → first_cause s c (outside (found range) f ∷ not_blank s f ∷ causes) ≡ None → (f < s.limits.frames) × (s.frame f ≡ Kernel Blank)
 blank_by s o c r f range causes h e calm =
     let p = first_two s c (outside (found range) f) (not_blank s f) causes calm in
@@ -104,7 +91,7 @@ blank_by s o c r f range causes h e calm =
 
 -- Where no cause of a retype to user or kernel stands, its frame is an untyped frame of the machine.
 pub untyped_by : (s : State) (o : ℕ → Bool) (c r f : ℕ) (range : Capability) → IsOpen s o c
-    → named s c r (to_use (only kind.Range)) ≡ Found range
+    → named s c r (to_use (only Kind.Range)) ≡ Found range
     → first_cause s c (outside (found range) f ∷ not_untyped s f ∷ []) ≡ None → (f < s.limits.frames) × (s.frame f ≡ Untyped)
 untyped_by s o c r f range h e calm =
     let p = first_two s c (outside (found range) f) (not_untyped s f) [] calm in
@@ -145,8 +132,8 @@ pub core_keeps : (s : State) (o : ℕ → Bool) (c : ℕ) (k : Core)
     → IsSound s o → IsSound (with_core s c k) o
 core_keeps s o c k inside thread tcap h =
     core_step s o c k inside (λ m. (
-      subst (λ f. IsTrue (fits kind.Thread (s.frame f))) (sym thread) (h.cores c m).0,
-      subst (λ f. IsTrue (fits kind.Tcap (s.frame f))) (sym tcap) (h.cores c m).1,
+      subst (λ f. IsTrue (fits Kind.Thread (s.frame f))) (sym thread) (h.cores c m).0,
+      subst (λ f. IsTrue (fits Kind.Tcap (s.frame f))) (sym tcap) (h.cores c m).1,
     )) h
 
 pub flush_keeps : (s : State) (o : ℕ → Bool) (c : ℕ) → IsOpen s o c → IsSound (flushed s c) o
@@ -156,11 +143,11 @@ flush_keeps s o c h =
     (λ f i d q w. w) (λ f d q w. w) (core_keeps s o c (record (s.core c) { cached = [] }) refl refl refl h.sound)
 
 -- Each call of invocation.
-pub gate_comp : (x : Frame) → IsTrue (fits kind.Gate x) → IsTrue (fits kind.Comp x)
+pub gate_comp : (x : Frame) → IsTrue (fits Kind.Gate x) → IsTrue (fits Kind.Comp x)
 gate_comp (Kernel (Comp k)) h = refl
 gate_comp _ h = absurd (false≢true h)
 
-pub comp_gate : (x : Frame) → IsTrue (fits kind.Comp x) → IsTrue (fits kind.Gate x)
+pub comp_gate : (x : Frame) → IsTrue (fits Kind.Comp x) → IsTrue (fits Kind.Gate x)
 comp_gate (Kernel (Comp k)) h = refl
 comp_gate _ h = absurd (false≢true h)
 
@@ -168,8 +155,8 @@ pub thread_extends : (x : Frame) (t : ThreadFields) → Extends x (with_thread x
 thread_extends (Kernel (Thread u)) t = record { fit = λ k h. thread_kind k h; node = λ h. h }
   where
     thread_kind : (k : Kind) → IsTrue (fits k (Kernel (Thread u))) → IsTrue (fits k (Kernel (Thread t)))
-    thread_kind kind.Range h = refl
-    thread_kind kind.Thread h = refl
+    thread_kind Kind.Range h = refl
+    thread_kind Kind.Thread h = refl
     thread_kind _ h = absurd (false≢true h)
 thread_extends _ t = record { fit = λ k h. h; node = λ h. h }
 
@@ -184,8 +171,8 @@ pub thread_step : (s : State) (o : ℕ → Bool) (f : ℕ) (t : ThreadFields) �
 thread_step s o f t below stack h =
     frame_step s o f (with_thread (s.frame f) t) below (thread_extends (s.frame f) t) (thread_good s (s.frame f) t (h.objects f) stack) h
 
-pub thread_below : (s : State) (o : ℕ → Bool) (f : ℕ) → IsSound s o → IsTrue (fits kind.Thread (s.frame f)) → f < s.limits.frames
-thread_below s o f h fit = below_by s o f h (fits kind.Thread) refl fit
+pub thread_below : (s : State) (o : ℕ → Bool) (f : ℕ) → IsSound s o → IsTrue (fits Kind.Thread (s.frame f)) → f < s.limits.frames
+thread_below s o f h fit = below_by s o f h (fits Kind.Thread) refl fit
 
 pub own_thread : (s : State) (o : ℕ → Bool) (c : ℕ) → IsOpen s o c → (s.core c).thread < s.limits.frames
 own_thread s o c h = thread_below s o (s.core c).thread h.sound (h.sound.cores c (h.sound.inside c h.is).1).0
@@ -214,8 +201,8 @@ tcap_extends : (x : Frame) (q : TcapFields) → Extends x (with_tcap x q)
 tcap_extends (Kernel (Tcap p)) q = record { fit = λ k h. tcap_kind k h; node = λ h. h }
   where
     tcap_kind : (k : Kind) → IsTrue (fits k (Kernel (Tcap p))) → IsTrue (fits k (Kernel (Tcap q)))
-    tcap_kind kind.Range h = refl
-    tcap_kind kind.Tcap h = refl
+    tcap_kind Kind.Range h = refl
+    tcap_kind Kind.Tcap h = refl
     tcap_kind _ h = absurd (false≢true h)
 tcap_extends _ q = record { fit = λ k h. h; node = λ h. h }
 
@@ -228,8 +215,8 @@ pub tcap_step : (s : State) (o : ℕ → Bool) (f : ℕ) (q : TcapFields) → f 
 tcap_step s o f q below h =
     frame_step s o f (with_tcap (s.frame f) q) below (tcap_extends (s.frame f) q) (tcap_good s (s.frame f) q (h.objects f)) h
 
-pub tcap_below : (s : State) (o : ℕ → Bool) (f : ℕ) → IsSound s o → IsTrue (fits kind.Tcap (s.frame f)) → f < s.limits.frames
-tcap_below s o f h fit = below_by s o f h (fits kind.Tcap) refl fit
+pub tcap_below : (s : State) (o : ℕ → Bool) (f : ℕ) → IsSound s o → IsTrue (fits Kind.Tcap (s.frame f)) → f < s.limits.frames
+tcap_below s o f h fit = below_by s o f h (fits Kind.Tcap) refl fit
 
 pub moved_step : (s : State) (o : ℕ → Bool) (a b m : ℕ) → a < s.limits.frames → b < s.limits.frames
     → IsSound s o → IsSound (moved s a b m) o
@@ -243,12 +230,12 @@ pub within_by : (s : State) (c : ℕ) (range : Capability) (f n : ℕ) → first
     → has_frames (found range) f n ≡ true
 within_by s c range f n calm =
     let p = none_parts (refusal_of s c (beyond (found range) f n)) None calm in
-    not_not (has_frames (found range) f n) (when_not (not (has_frames (found range) f n)) reply.OutOfRange p.0)
+    not_not (has_frames (found range) f n) (when_not (not (has_frames (found range) f n)) Reply.OutOfRange p.0)
 
-pub part_good : (s : State) (range : Capability) (f n : ℕ) → IsGood s range → IsTrue (only kind.Range range.kind)
+pub part_good : (s : State) (range : Capability) (f n : ℕ) → IsGood s range → IsTrue (only Kind.Range range.kind)
     → has_frames (found range) f n ≡ true → IsGood s (part_of range f n)
 part_good s range f n good is has =
-    let ends : EndsWithin kind.Range range.frame range.arg s.limits.frames =
-    subst (λ k. EndsWithin k range.frame range.arg s.limits.frames) (only_is kind.Range range.kind is) good.within in
+    let ends : EndsWithin Kind.Range range.frame range.arg s.limits.frames =
+    subst (λ k. EndsWithin k range.frame range.arg s.limits.frames) (only_is Kind.Range range.kind is) good.within in
     let last = (frames_in (found range) f n has).last in
     record { fit = refl; within = omega (arith, ends, last) }

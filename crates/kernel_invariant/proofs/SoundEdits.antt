@@ -1,29 +1,17 @@
 -- Each edit, and so each call that is carried out, keeps a state sound.
-use Rattle.std.proofs.Common.{◌≡◌, inl, inr, ℕ, ◌<◌, Bool, true, false, refl, sym, ◌∙◌, subst, ◌==◌, if◌then◌else◌}
-use Rattle.std.proofs.Common.{IsTrue, List, [], ◌∷◌, Some, None, take, drop}
-use Rattle.std.proofs.lemmas.Bool.{cases_eq, false≢true}
-use Rattle.std.specs.List.{list_any}
-use Rattle.spk_nums.specs.declared.kinds.Kind.TheVariants as kind
-use Rattle.spk_nums.specs.CallLimits.{InLimits}
-use Rattle.spk_nums.specs.declared.calls.Call.{Call}
-use Rattle.kernel_rules.specs.State.{Comp, Thread, Frame, Kernel, Thing, PlaceOf, State, put, thread_of}
-use Rattle.kernel_rules.specs.References.{frame_names, number_names}
-use Rattle.kernel_rules.specs.GracePeriods.{same_thing, begun}
-use Rattle.kernel_rules.specs.Edits.{Edit, Fill, Remove, Node, Become, Untype, Component, Deaden, Push, Pop, Switch, Cache, Flush}
-use Rattle.kernel_rules.specs.Edits.{Charge, Move, Merge, Give, edited, after_edits, begins_in, begins_all, cleared, running, tcap_at}
-use Rattle.kernel_rules.specs.Rules.{Change}
-use Rattle.kernel_rules.specs.CallRelation.{rule_of}
-use Rattle.kernel_rules.specs.Fitting.{fits}
-use Rattle.kernel_rules.specs.Relies.{is_node}
-use Rattle.kernel_rules.proofs.Within.{put_same, put_other}
+use Rattle.kernel_rules.proofs.{◌≡◌, inl, inr, ℕ, ◌<◌, Bool, true, false, refl, sym, ◌∙◌, subst, ◌==◌, if◌then◌else◌, IsTrue, List, [], ◌∷◌}
+use Rattle.kernel_rules.proofs.{Some, None, take, drop, false≢true, InLimits, Call, Comp, Thread, Frame, Kernel, Thing, PlaceOf, put}
+use Rattle.kernel_rules.proofs.{thread_of, frame_names, number_names, same_thing, begun, Edit, Fill, Node, Become, Untype, Component}
+use Rattle.kernel_rules.proofs.{Deaden, Push, Pop, Cache, Charge, Move, Merge, Give, edited, after_edits, begins_all, cleared, running}
+use Rattle.kernel_rules.proofs.{tcap_at, Change, rule_of, fits, is_node, put_same, put_other, Kind}
+use Rattle.kernel_rules.specs.{State.State, Edits.Remove, Edits.Switch, Edits.Flush, Edits.begins_in}
 use Rattle.kernel_invariant.proofs.Sound.{IsObjectGood, IsSound, weaken, frame_step}
 use Rattle.kernel_invariant.proofs.SoundSteps.{fill_step, core_step, live_step, dead_step, clear_step}
 use Rattle.kernel_invariant.proofs.SoundRemovals.{frames_no_place, begin_step, remove_step, unnamed, untype_step}
-use Rattle.kernel_invariant.proofs.Facts.{ChangesFrom}
 use Rattle.kernel_invariant.proofs.SoundCalls.{IsOpen, empty_node, nothing_held, core_keeps, flush_keeps, thread_step, own_thread}
-use Rattle.kernel_invariant.proofs.SoundCalls.{stack_comps}
-use Rattle.kernel_invariant.proofs.SoundCalls.{popped, running_step, running_fit, tcap_step, moved_step}
+use Rattle.kernel_invariant.proofs.SoundCalls.{stack_comps, popped, running_step, running_fit, tcap_step, moved_step}
 use Rattle.kernel_invariant.proofs.Edited.{from_bare, Tested, Limited, Known, Good, Each, AreLater, Calm, rule_by}
+use Rattle.{std.proofs.lemmas.Bool.cases_eq, std.specs.List.list_any, kernel_invariant.proofs.Facts.ChangesFrom}
 
 -- The state after a change, in which the call of core c is no longer open, is sound.
 abbrev pub Keeps : State → (ℕ → Bool) → ℕ → Change → Type 0
@@ -73,7 +61,7 @@ module _ (s : State) (o : ℕ → Bool) (c : ℕ) (h : IsOpen s o c) where
       nothing_held s f i k (empty_node s f (s.frame f) known.empty b.0) b.1 at) h.sound)
   edit_keeps (Component f k) tested lim known good = plain s (edited c s (Component f k)) o c h
       (live_step (edited c s (Become f (Kernel (Comp k)))) o k.number k.epoch f
-      (subst (λ y. IsTrue (fits kind.Comp y)) (sym (put_same s.frame f (Kernel (Comp k)) f refl)) refl) lim
+      (subst (λ y. IsTrue (fits Kind.Comp y)) (sym (put_same s.frame f (Kernel (Comp k)) f refl)) refl) lim
       (frame_step s o f (Kernel (Comp k)) known.below (from_bare (s.frame f) (Kernel (Comp k)) known.bare) good h.sound))
   edit_keeps (Deaden l e) tested lim known good = done s (edited c s (Deaden l e)) o c (begins_in c s (Deaden l e)) h
       (λ f i. frames_no_place f i (number_names (s.number l))) (dead_step s o l e h.sound)
@@ -91,8 +79,8 @@ module _ (s : State) (o : ℕ → Bool) (c : ℕ) (h : IsOpen s o c) where
       (λ g i. frames_no_place g i (old ∷ (if q == (s.core c).tcap then [] else (s.core c).tcap ∷ [])))
       (core_step (running idle f (Some c)) o c (record (s.core c) { thread = f; tcap = q }) refl
       (λ m. (
-        running_fit idle f (Some c) kind.Thread f (running_fit s old None kind.Thread f known.new.fit),
-        running_fit idle f (Some c) kind.Tcap q (running_fit s old None kind.Tcap q good),
+        running_fit idle f (Some c) Kind.Thread f (running_fit s old None Kind.Thread f known.new.fit),
+        running_fit idle f (Some c) Kind.Tcap q (running_fit s old None Kind.Tcap q good),
       ))
       (running_step idle o f (Some c) known.new.below (running_step s o old None (own_thread s o c h) h.sound)))
   edit_keeps (Cache t) tested lim known good =

@@ -1,27 +1,16 @@
 -- Removals, releases and retypes to untyped keep a state sound.
-use Rattle.std.proofs.Common.{◌≡◌, ◌≢◌, inl, inr, ℕ, zero, suc, ◌+◌, ◌<◌, ◌≤◌, Bool, true, false, not, ◌&&◌, refl, sym, ◌∙◌}
-use Rattle.std.proofs.Common.{ap, subst, arith, ◌==◌, cond, if◌then◌else◌, IsTrue, List, [], ◌∷◌, Option, Some, None, find}
-use Rattle.std.proofs.lemmas.Bool.{cases_eq, false≢true, true≢false, eq-eqb, ne_eqb, eqb-true}
-use Rattle.std.proofs.lemmas.Bool.{or_from, or_left, or_right, cases_lt, and_parts}
-use Rattle.std.specs.List.{list_any, range_with_len}
-use Rattle.spk_nums.specs.Capability.{Capability}
-use Rattle.spk_nums.specs.declared.kinds.Kind.{Kind}
-use Rattle.spk_nums.specs.declared.kinds.Kind.TheVariants as kind
-use Rattle.spk_nums.specs.declared.replies.Reply.TheVariants as reply
-use Rattle.kernel_rules.specs.State.{Holds, Quiescing, Comp, Thread, Frame, Untyped, Kernel, Grace, Thing}
-use Rattle.kernel_rules.specs.State.{PlaceOf, FrameOf, State, put, with_place, with_frame, with_grace}
-use Rattle.kernel_rules.specs.Start.{no_grace}
-use Rattle.kernel_rules.specs.References.{named_by, place_names, frame_names, number_names, core_names, times, node_refs, refs}
-use Rattle.kernel_rules.specs.GracePeriods.{same_thing, new_grace, begun, other_waiting, quiescing_by}
-use Rattle.kernel_rules.specs.Rules.{waits_of}
-use Rattle.kernel_rules.specs.Edits.{frames_of}
-use Rattle.kernel_rules.proofs.Within.{put_same, put_other}
+use Rattle.kernel_rules.proofs.{◌≡◌, ◌≢◌, inl, inr, ℕ, zero, suc, ◌+◌, ◌<◌, ◌≤◌, Bool, true, false, not, ◌&&◌, refl, sym, ◌∙◌, ap, subst}
+use Rattle.kernel_rules.proofs.{arith, ◌==◌, cond, if◌then◌else◌, IsTrue, List, [], ◌∷◌, Option, Some, None, find, false≢true, true≢false}
+use Rattle.kernel_rules.proofs.{eq-eqb, ne_eqb, eqb-true, or_left, or_right, Capability, Kind, Holds, Quiescing, Comp, Thread, Frame}
+use Rattle.kernel_rules.proofs.{Untyped, Kernel, Grace, Thing, PlaceOf, FrameOf, put, with_place, with_frame, with_grace, no_grace}
+use Rattle.kernel_rules.proofs.{named_by, place_names, frame_names, number_names, core_names, times, node_refs, refs, same_thing, new_grace}
+use Rattle.kernel_rules.proofs.{begun, waits_of, frames_of, put_same, put_other, fits, IsGood, is_node, Reply}
+use Rattle.std.proofs.lemmas.Bool.{cases_eq, or_from, cases_lt, and_parts}
 use Rattle.kernel_invariant.proofs.Sums.{sum_term, times_cons, times_first}
-use Rattle.kernel_rules.specs.Fitting.{fits, IsGood}
-use Rattle.kernel_rules.specs.Relies.{is_node}
-use Rattle.kernel_invariant.proofs.Facts.{some_none}
 use Rattle.kernel_invariant.proofs.Sound.{WaitsForAll, AreComps, IsStack, IsObjectGood, IsSound, put_all}
 use Rattle.kernel_invariant.proofs.SoundSteps.{place_all, holds_quiescing, quiescing_holds, quiescing_inj, waits_all, grace_step}
+use Rattle.{kernel_rules.specs.other_waiting, kernel_rules.specs.quiescing_by, std.specs.List.list_any, std.specs.List.range_with_len}
+use Rattle.{kernel_rules.specs.State.State, kernel_invariant.proofs.Facts.some_none}
 
 -- No frame is a place.
 pub frames_no_place : (f i : ℕ) (fs : List ℕ) → list_any (same_thing (PlaceOf f i)) (frames_of fs) ≡ false
@@ -157,7 +146,7 @@ below_by s o g h P none fit = elim (cases_lt g s.limits.frames) [
 -- A frame that is not named fits what names others.
 fit_apart : (s : State) (f : ℕ) (k : Kind) (g : ℕ) → times f (named_by k g) ≡ 0
     → IsTrue (fits k (s.frame g)) → IsTrue (fits k (put s.frame f Untyped g))
-fit_apart s f kind.Range g e h = refl
+fit_apart s f Kind.Range g e h = refl
 fit_apart s f k g e h = subst (λ x. IsTrue (fits k x)) (sym (put_other s.frame f Untyped g (apart f g [] e))) h
 
 fit_other : (s : State) (f : ℕ) (k : Kind) (g : ℕ) → g ≢ f → IsTrue (fits k (s.frame g)) → IsTrue (fits k (put s.frame f Untyped g))
@@ -169,16 +158,16 @@ untyped s f = with_grace (with_frame s f Untyped) (λ x. if same_thing x (FrameO
 
 comps_apart : (s : State) (f : ℕ) (fs : List ℕ) → times f fs ≡ 0 → AreComps s fs → AreComps (untyped s f) fs
 comps_apart s f [] e h = tt
-comps_apart s f (g ∷ fs) e h = (fit_other s f kind.Comp g (apart f g fs e) h.0, comps_apart s f fs (rest_apart f g fs e) h.1)
+comps_apart s f (g ∷ fs) e h = (fit_other s f Kind.Comp g (apart f g fs e) h.0, comps_apart s f fs (rest_apart f g fs e) h.1)
 
 stack_apart : (s : State) (f : ℕ) (fs : List ℕ) → times f fs ≡ 0 → IsStack s fs → IsStack (untyped s f) fs
 stack_apart s f [] e h = absurd h
-stack_apart s f (g ∷ fs) e h = (fit_other s f kind.Comp g (apart f g fs e) h.0, comps_apart s f fs (rest_apart f g fs e) h.1)
+stack_apart s f (g ∷ fs) e h = (fit_other s f Kind.Comp g (apart f g fs e) h.0, comps_apart s f fs (rest_apart f g fs e) h.1)
 
 object_apart : (s : State) (f : ℕ) (x : Frame) → times f (frame_names x) ≡ 0 → IsObjectGood s x → IsObjectGood (untyped s f) x
 object_apart s f (Kernel (Comp k)) e h = (
-  fit_other s f kind.Table k.table (apart f k.table (k.pages ∷ []) e) h.0,
-  fit_other s f kind.Pages k.pages (apart f k.pages [] (rest_apart f k.table (k.pages ∷ []) e)) h.1,
+  fit_other s f Kind.Table k.table (apart f k.table (k.pages ∷ []) e) h.0,
+  fit_other s f Kind.Pages k.pages (apart f k.pages [] (rest_apart f k.table (k.pages ∷ []) e)) h.1,
 )
 object_apart s f (Kernel (Thread t)) e h = stack_apart s f t.stack e h
 object_apart s f _ e h = tt
@@ -204,13 +193,13 @@ untype_step s o c f below un none bare h = record {
       (λ other. object_apart s f (s.frame g) (names_apart g) (h.objects g));
   cores = λ d m.
       let e : times f ((s.core d).thread ∷ (s.core d).tcap ∷ []) ≡ 0 = un.cores d m in (
-        fit_other s f kind.Thread (s.core d).thread (apart f (s.core d).thread ((s.core d).tcap ∷ []) e) (h.cores d m).0,
-        fit_other s f kind.Tcap (s.core d).tcap (apart f (s.core d).tcap [] (rest_apart f (s.core d).thread ((s.core d).tcap ∷ []) e))
+        fit_other s f Kind.Thread (s.core d).thread (apart f (s.core d).thread ((s.core d).tcap ∷ []) e) (h.cores d m).0,
+        fit_other s f Kind.Tcap (s.core d).tcap (apart f (s.core d).tcap [] (rest_apart f (s.core d).thread ((s.core d).tcap ∷ []) e))
             (h.cores d m).1,
       );
   numbers = λ l e g n.
-      let a : IsTrue (fits kind.Comp (s.frame g)) × (l < 64) = h.numbers l e g n in
-      (fit_other s f kind.Comp g (apart f g [] (subst (λ x. times f (number_names x) ≡ 0) n (un.numbers l a.1))) a.0, a.1);
+      let a : IsTrue (fits Kind.Comp (s.frame g)) × (l < 64) = h.numbers l e g n in
+      (fit_other s f Kind.Comp g (apart f g [] (subst (λ x. times f (number_names x) ≡ 0) n (un.numbers l a.1))) a.0, a.1);
   beyond = λ g past. put_all (λ g x. x ≡ Untyped) s.frame f Untyped g (λ same. refl) (λ other. h.beyond g past);
   bare = λ g i k p.
       let b : IsTrue (is_node (s.frame g)) × (i < 64) = h.bare g i k p in (
@@ -275,7 +264,7 @@ none_waiting s c x h d below other = waits_not ((s.grace x).waits d)
   where
     not_found : (w : Option ℕ) → quiescing_by w ≡ None → w ≡ None
     not_found None e = refl
-    not_found (Some e) q = absurd (some_none (reply.Quiescing e) q)
+    not_found (Some e) q = absurd (some_none (Reply.Quiescing e) q)
 
     waits_not : (b : Bool) → (b && true) ≡ false → b ≡ false
     waits_not true e = absurd (true≢false e)

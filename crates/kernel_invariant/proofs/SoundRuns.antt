@@ -1,33 +1,14 @@
 -- In every state that a run reaches, what is named is sound.
-use Rattle.std.proofs.Common.{◌≡◌, ◌≢◌, inl, inr, ℕ, ◌<◌, Bool, true, false, refl, sym}
-use Rattle.std.proofs.Common.{◌∙◌, ap, subst, if◌then◌else◌, IsTrue, List, [], ◌∷◌}
-use Rattle.std.proofs.lemmas.Bool.{cases_eq, false≢true, eq-eqb, ne_eqb}
-use Rattle.spk_nums.specs.Setting.{Setting, IsSetting}
-use Rattle.spk_nums.specs.declared.kinds.Kind.TheVariants as kind
-use Rattle.spk_nums.specs.CallLimits.{InLimits}
-use Rattle.spk_nums.specs.declared.calls.Call.{Call}
-use Rattle.spk_nums.specs.declared.calls.Call.TheVariants.{Tick}
-use Rattle.spk_nums.specs.declared.replies.Reply.{Reply}
-use Rattle.spk_nums.specs.declared.replies.Reply.TheVariants as reply
-use Rattle.spk_nums.specs.declared.replies.Value.{Value}
-use Rattle.kernel_rules.specs.State.{Thing, PlaceOf, FrameOf, State, put}
-use Rattle.kernel_rules.specs.Start.{start}
-use Rattle.kernel_rules.specs.GracePeriods.{entered, returned}
-use Rattle.kernel_rules.specs.Rules.{Change, Judged, Refused, Found, IsFoundAnd}
-use Rattle.kernel_rules.specs.CallRelation.{rule_of, change_of, changed, counted, owed_by, state_by, MayReply}
-use Rattle.kernel_rules.specs.Runs.{Event, Enters, Decides, Returns, after, Phase, Out, Open, Decided}
-use Rattle.kernel_rules.specs.Runs.{is_in, is_open, core_of, phase_by, phase_of, MayFollow, IsRun}
-use Rattle.kernel_rules.proofs.Changes.{IfFound}
-use Rattle.kernel_rules.proofs.Within.{put_same, put_other}
-use Rattle.kernel_rules.proofs.AloneLaw.{waits_inside, decided_stays}
-use Rattle.kernel_rules.specs.Fitting.{fits, IsGood}
-use Rattle.kernel_invariant.proofs.Sound.{WaitsForAll, IsSound, weaken, put_all}
-use Rattle.kernel_invariant.proofs.SoundSteps.{waits_all}
-use Rattle.kernel_invariant.proofs.SoundStart.{start_sound}
-use Rattle.kernel_invariant.proofs.Facts.{outcome_from, usable_good}
-use Rattle.kernel_rules.specs.Laws.{CapabilitiesFit}
-use Rattle.kernel_invariant.proofs.SoundCalls.{IsOpen, core_keeps}
-use Rattle.kernel_invariant.proofs.SoundEdits.{Keeps, rule_keeps}
+use Rattle.kernel_rules.proofs.{◌≡◌, ◌≢◌, inl, inr, ℕ, ◌<◌, Bool, true, false, refl, sym, ◌∙◌, ap, subst, if◌then◌else◌, IsTrue, List, []}
+use Rattle.kernel_rules.proofs.{◌∷◌, false≢true, eq-eqb, ne_eqb, Setting, IsSetting, InLimits, Call, Tick, Reply, Value, Thing, PlaceOf}
+use Rattle.kernel_rules.proofs.{FrameOf, put, start, entered, returned, Change, Judged, Refused, Found, IsFoundAnd, rule_of, change_of}
+use Rattle.kernel_rules.proofs.{changed, counted, owed_by, state_by, MayReply, Event, Enters, Decides, Returns, after, Phase, Out, Open}
+use Rattle.kernel_rules.proofs.{Decided, is_in, is_open, core_of, phase_by, phase_of, IsRun, IfFound, put_same, put_other, waits_inside}
+use Rattle.kernel_rules.proofs.{decided_stays, fits, IsGood, Kind}
+use Rattle.kernel_rules.specs.{State.State, Runs.MayFollow, Laws.CapabilitiesFit}
+use Rattle.kernel_invariant.proofs.{Sound.WaitsForAll, Sound.IsSound, Sound.weaken, Sound.put_all, SoundSteps.waits_all}
+use Rattle.kernel_invariant.proofs.{SoundStart.start_sound, Facts.outcome_from, Facts.usable_good, SoundCalls.IsOpen, SoundCalls.core_keeps}
+use Rattle.{std.proofs.lemmas.Bool.cases_eq, kernel_invariant.proofs.SoundEdits.Keeps, kernel_invariant.proofs.SoundEdits.rule_keeps}
 
 -- The cores whose calls are open.
 abbrev pub opened : List Event → ℕ → Bool
@@ -88,7 +69,7 @@ enter_sound s o o' c below calm others h = record {
         (record { fit = a.0.fit; within = a.0.within }, waits_all s (entered s c) d (λ f w. w) _ a.1)
   ];
   objects = h.objects;
-  cores = λ d m. put_all (λ d x. IsTrue (fits kind.Thread (s.frame x.thread)) × IsTrue (fits kind.Tcap (s.frame x.tcap))) s.core c _ d
+  cores = λ d m. put_all (λ d x. IsTrue (fits Kind.Thread (s.frame x.thread)) × IsTrue (fits Kind.Tcap (s.frame x.tcap))) s.core c _ d
       (λ same. h.cores c below) (λ other. h.cores d m);
   numbers = h.numbers;
   beyond = h.beyond;
@@ -112,7 +93,7 @@ return_sound s o o' c others h = record {
         waits_all s (returned s c) d (λ f w. put_other (s.grace (FrameOf f)).waits c false d b.0 ∙ w) _ a.1,
       );
   objects = h.objects;
-  cores = λ d m. put_all (λ d x. IsTrue (fits kind.Thread (s.frame x.thread)) × IsTrue (fits kind.Tcap (s.frame x.tcap))) s.core c _ d
+  cores = λ d m. put_all (λ d x. IsTrue (fits Kind.Thread (s.frame x.thread)) × IsTrue (fits Kind.Tcap (s.frame x.tcap))) s.core c _ d
       (λ same. h.cores c (subst (λ n. n < s.limits.cores) same m)) (λ other. h.cores d m);
   numbers = h.numbers;
   beyond = h.beyond;
@@ -143,12 +124,12 @@ changed_sound s o c v (Found change) keeps ok = keeps
 
 decided_sound : (s : State) (o : ℕ → Bool) (c : ℕ) (call : Call) (r : Reply) → IsOpen s o c → InLimits call → MayReply s c call r
     → IsSound (state_by s c call r) (put o c false)
-decided_sound s o c call (reply.Ok v) h lim may = counted_sound (changed s (change_of s c call)) (put o c false) c
+decided_sound s o c call (Reply.Ok v) h lim may = counted_sound (changed s (change_of s c call)) (put o c false) c
     (changed_sound s o c v (change_of s c call) (outcome_from (Keeps s o c) s c (rule_of s c call) (rule_keeps s o c h call lim)) may.1.1)
-decided_sound s o c call reply.CallsSpent h lim may = shut s o c h.sound
-decided_sound s o c call reply.Raced h lim may =
+decided_sound s o c call Reply.CallsSpent h lim may = shut s o c h.sound
+decided_sound s o c call Reply.Raced h lim may =
     counted_sound (owed_by s c call) (put o c false) c (shut (owed_by s c call) o c (owed_sound s o c call h.sound))
-decided_sound s o c call (reply.Busy e) h lim may =
+decided_sound s o c call (Reply.Busy e) h lim may =
     counted_sound (owed_by s c call) (put o c false) c (shut (owed_by s c call) o c (owed_sound s o c call h.sound))
 decided_sound s o c call _ h lim may = counted_sound s (put o c false) c (shut s o c h.sound)
 

@@ -1,15 +1,10 @@
 -- The start state is sound.
-use Rattle.std.proofs.Common.{◌≡◌, ℕ, ◌+◌, ◌-◌, ◌*◌, ◌<◌, ◌≤◌, Bool, true, false, refl, sym, ◌∙◌, ap, subst}
-use Rattle.std.proofs.Common.{arith, ◌==◌, nat_lt, if◌then◌else◌, IsTrue, [], ◌∷◌, Option, Some, None, slice_get}
-use Rattle.std.proofs.lemmas.Bool.{false≢true, ne_eqb, eqb-true, ltb-true, ltb-false, lt-ltb}
-use Rattle.spk_nums.specs.Capability.{Capability}
-use Rattle.spk_nums.specs.Setting.{Setting, IsSetting}
-use Rattle.spk_nums.specs.declared.kinds.Kind.TheVariants as kind
-use Rattle.kernel_rules.specs.State.{Place, Holds, Quiescing, Frame, Untyped, Kernel, Thread, Tcap, Unused, Live}
-use Rattle.kernel_rules.specs.Start.{start, start_place, start_frame, start_cap, core_cap, start_number, granted, plain_cap, place_with}
+use Rattle.kernel_rules.proofs.{◌≡◌, ℕ, ◌+◌, ◌-◌, ◌*◌, ◌<◌, ◌≤◌, Bool, true, false, refl, sym, ◌∙◌, ap, subst, arith, ◌==◌, ltb as nat_lt}
+use Rattle.kernel_rules.proofs.{if◌then◌else◌, IsTrue, [], ◌∷◌, Option, Some, None, slice_get, false≢true, ne_eqb, eqb-true, ltb-true}
+use Rattle.kernel_rules.proofs.{ltb-false, lt-ltb, Capability, Setting, IsSetting, Place, Holds, Quiescing, Frame, Untyped, Kernel, Thread}
+use Rattle.kernel_rules.proofs.{Tcap, Unused, Live, start, start_place, start_frame, start_cap, core_cap, start_number, granted, plain_cap}
+use Rattle.kernel_rules.proofs.{place_with, fits, IsGood, is_node, Kind}
 use Rattle.kernel_invariant.proofs.SoundSteps.{free_holds, free_quiescing, holds_quiescing, holds_inj}
-use Rattle.kernel_rules.specs.Fitting.{fits, IsGood}
-use Rattle.kernel_rules.specs.Relies.{is_node}
 use Rattle.kernel_invariant.proofs.Sound.{IsObjectGood, IsSound}
 
 -- A choice has what each of its cases has.
@@ -40,17 +35,17 @@ past_three setting f past =
     ∙ if_not (f == 2) _ _ (ne_eqb f 2 (λ e. omega (arith, past, e)))
     ∙ if_not (f == 3) _ _ (ne_eqb f 3 (λ e. omega (arith, past, e)))
 
-thread_frame : (setting : Setting) (f : ℕ) → 4 ≤ f → f < 4 + setting.cores → IsTrue (fits kind.Thread (start_frame setting f))
-thread_frame setting f past below = subst (λ x. IsTrue (fits kind.Thread x)) (sym (past_three setting f past))
-    (choose (λ x. IsTrue (fits kind.Thread x)) (nat_lt f (4 + setting.cores)) _ _
+thread_frame : (setting : Setting) (f : ℕ) → 4 ≤ f → f < 4 + setting.cores → IsTrue (fits Kind.Thread (start_frame setting f))
+thread_frame setting f past below = subst (λ x. IsTrue (fits Kind.Thread x)) (sym (past_three setting f past))
+    (choose (λ x. IsTrue (fits Kind.Thread x)) (nat_lt f (4 + setting.cores)) _ _
     (λ e. refl) (λ e. absurd (false≢true (sym e ∙ lt-ltb f (4 + setting.cores) below))))
 
 tcap_frame : (setting : Setting) (f : ℕ) → 4 + setting.cores ≤ f
-    → f < 4 + 2 * setting.cores → IsTrue (fits kind.Tcap (start_frame setting f))
-tcap_frame setting f past below = subst (λ x. IsTrue (fits kind.Tcap x)) (sym (past_three setting f (omega (arith, past))))
-    (choose (λ x. IsTrue (fits kind.Tcap x)) (nat_lt f (4 + setting.cores)) _ _
+    → f < 4 + 2 * setting.cores → IsTrue (fits Kind.Tcap (start_frame setting f))
+tcap_frame setting f past below = subst (λ x. IsTrue (fits Kind.Tcap x)) (sym (past_three setting f (omega (arith, past))))
+    (choose (λ x. IsTrue (fits Kind.Tcap x)) (nat_lt f (4 + setting.cores)) _ _
     (λ e. absurd (false≢true (sym (not_below f (4 + setting.cores) past) ∙ e)))
-    (λ e. choose (λ x. IsTrue (fits kind.Tcap x)) (nat_lt f (4 + 2 * setting.cores)) _ _
+    (λ e. choose (λ x. IsTrue (fits Kind.Tcap x)) (nat_lt f (4 + 2 * setting.cores)) _ _
     (λ e. refl) (λ e. absurd (false≢true (sym e ∙ lt-ltb f (4 + 2 * setting.cores) below)))))
 
 untyped_frame : (setting : Setting) (f : ℕ) → 4 + 2 * setting.cores ≤ f → start_frame setting f ≡ Untyped
@@ -114,7 +109,7 @@ place_good setting lim f i =
     choose (PlaceGood setting f i) (f == 0) _ _
     (λ e. choose (PlaceGood setting f i) (i == 0) _ _
     (λ q k is. (
-      subst (IsGood (start setting)) (holds_inj (plain_cap kind.Link 1) k is) (record { fit = refl; within = tt }),
+      subst (IsGood (start setting)) (holds_inj (plain_cap Kind.Link 1) k is) (record { fit = refl; within = tt }),
       subst (λ n. IsTrue (is_node (start_frame setting n))) (sym (eqb-true f 0 e)) refl,
       (let p = eqb-true i 0 q in omega (arith, p)),
     ))
@@ -127,7 +122,7 @@ not_quiescing : (setting : Setting) (f i : ℕ) (k : Capability) → start_place
 not_quiescing setting f i k =
     choose (λ p. p ≡ Quiescing k → ⊥) (f == 0) _ _
     (λ e. choose (λ p. p ≡ Quiescing k → ⊥) (i == 0) _ _
-    (λ q is. holds_quiescing (plain_cap kind.Link 1) k is) (λ q is. free_quiescing k is))
+    (λ q is. holds_quiescing (plain_cap Kind.Link 1) k is) (λ q is. free_quiescing k is))
     λ e. choose (λ p. p ≡ Quiescing k → ⊥) (f == 1) _ _
     (λ q. cap_not (start_cap setting i)) (λ q is. free_quiescing k is)
   where
@@ -144,11 +139,11 @@ object_good setting f =
     choose (IsObjectGood (start setting)) (nat_lt f (4 + setting.cores)) _ _ (λ e. (refl, tt)) λ e.
     choose (IsObjectGood (start setting)) (nat_lt f (4 + 2 * setting.cores)) _ _ (λ e. tt) λ e. tt
 
-number_good : (setting : Setting) (l e f : ℕ) → start_number l ≡ Live e f → IsTrue (fits kind.Comp (start_frame setting f)) × (l < 64)
+number_good : (setting : Setting) (l e f : ℕ) → start_number l ≡ Live e f → IsTrue (fits Kind.Comp (start_frame setting f)) × (l < 64)
 number_good setting l e f =
-    choose (λ x. x ≡ Live e f → IsTrue (fits kind.Comp (start_frame setting f)) × (l < 64)) (l == 0) _ _
+    choose (λ x. x ≡ Live e f → IsTrue (fits Kind.Comp (start_frame setting f)) × (l < 64)) (l == 0) _ _
     (λ q is. (
-      subst (λ n. IsTrue (fits kind.Comp (start_frame setting n))) (live_inj is) refl,
+      subst (λ n. IsTrue (fits Kind.Comp (start_frame setting n))) (live_inj is) refl,
       (let p = eqb-true l 0 q in omega (arith, p)),
     ))
     (λ q is. absurd (unused_live is))

@@ -1,15 +1,8 @@
 -- Each part of a change keeps a state sound.
-use Rattle.std.proofs.Common.{◌≡◌, ◌≢◌, ℕ, ◌<◌, Bool, true, sym, ◌∙◌, subst, ◌==◌, if◌then◌else◌, IsTrue, List, [], ◌∷◌}
-use Rattle.std.proofs.lemmas.Bool.{ne_eqb}
-use Rattle.spk_nums.specs.Capability.{Capability}
-use Rattle.spk_nums.specs.declared.kinds.Kind.TheVariants as kind
-use Rattle.kernel_rules.specs.State.{Place, Free, Holds, Quiescing, Live, Dead, Core, Grace, Thing, PlaceOf}
-use Rattle.kernel_rules.specs.State.{FrameOf, State, put, with_place, with_number, with_core, with_grace}
-use Rattle.kernel_rules.specs.Start.{no_grace}
-use Rattle.kernel_rules.specs.References.{named_by}
-use Rattle.kernel_rules.specs.Edits.{cleared}
-use Rattle.kernel_rules.specs.Fitting.{fits, IsGood}
-use Rattle.kernel_rules.specs.Relies.{is_node}
+use Rattle.kernel_rules.proofs.{◌≡◌, ◌≢◌, ℕ, ◌<◌, Bool, true, sym, ◌∙◌, subst, ◌==◌, if◌then◌else◌, IsTrue, List, [], ◌∷◌, ne_eqb}
+use Rattle.kernel_rules.proofs.{Capability, Place, Free, Holds, Quiescing, Live, Dead, Core, Grace, Thing, PlaceOf, FrameOf, put}
+use Rattle.kernel_rules.proofs.{with_place, with_number, with_core, with_grace, no_grace, named_by, cleared, fits, IsGood, is_node, Kind}
+use Rattle.kernel_rules.specs.State.{State}
 use Rattle.kernel_invariant.proofs.Sound.{WaitsForAll, IsSound, put_all}
 
 -- P holds of every place where it holds of the old places and of the new one.
@@ -80,14 +73,14 @@ fill_step s o g j k good node small h = record {
 
 -- Another core that has the same kind of thread and temporal capability, and is in a call where it was.
 pub core_step : (s : State) (o : ℕ → Bool) (c : ℕ) (k : Core) → k.inside ≡ (s.core c).inside
-    → (c < s.limits.cores → IsTrue (fits kind.Thread (s.frame k.thread)) × IsTrue (fits kind.Tcap (s.frame k.tcap)))
+    → (c < s.limits.cores → IsTrue (fits Kind.Thread (s.frame k.thread)) × IsTrue (fits Kind.Tcap (s.frame k.tcap)))
     → IsSound s o → IsSound (with_core s c k) o
 core_step s o c k inside good h = record {
   held = λ f i m p. let a : IsGood s m = h.held f i m p in record { fit = a.fit; within = a.within };
   waiting = λ f i m d p q w. let a : IsGood s m × WaitsForAll s d (named_by m.kind m.frame) = h.waiting f i m d p q w in
       (record { fit = a.0.fit; within = a.0.within }, waits_all s (with_core s c k) d (λ f w. w) (named_by m.kind m.frame) a.1);
   objects = h.objects;
-  cores = λ d m. put_all (λ d x. IsTrue (fits kind.Thread (s.frame x.thread)) × IsTrue (fits kind.Tcap (s.frame x.tcap))) s.core c k d
+  cores = λ d m. put_all (λ d x. IsTrue (fits Kind.Thread (s.frame x.thread)) × IsTrue (fits Kind.Tcap (s.frame x.tcap))) s.core c k d
       (λ same. good (subst (λ n. n < s.limits.cores) same m)) (λ other. h.cores d m);
   numbers = h.numbers;
   beyond = h.beyond;
@@ -100,7 +93,7 @@ core_step s o c k inside good h = record {
 }
 
 -- A liveness number is live for a component.
-pub live_step : (s : State) (o : ℕ → Bool) (l e f : ℕ) → IsTrue (fits kind.Comp (s.frame f)) → l < 64
+pub live_step : (s : State) (o : ℕ → Bool) (l e f : ℕ) → IsTrue (fits Kind.Comp (s.frame f)) → l < 64
     → IsSound s o → IsSound (with_number s l (Live e f)) o
 live_step s o l e f comp small h = record {
   held = λ g i m p. let a : IsGood s m = h.held g i m p in record { fit = a.fit; within = a.within };
@@ -108,8 +101,8 @@ live_step s o l e f comp small h = record {
       (record { fit = a.0.fit; within = a.0.within }, waits_all s (with_number s l (Live e f)) d (λ f w. w) (named_by m.kind m.frame) a.1);
   objects = h.objects;
   cores = h.cores;
-  numbers = λ n d g. put_all (λ n x. x ≡ Live d g → IsTrue (fits kind.Comp (s.frame g)) × (n < 64)) s.number l (Live e f) n
-      (λ same is. (subst (λ m. IsTrue (fits kind.Comp (s.frame m))) (live_inj e d f g is) comp, subst (λ m. m < 64) (sym same) small))
+  numbers = λ n d g. put_all (λ n x. x ≡ Live d g → IsTrue (fits Kind.Comp (s.frame g)) × (n < 64)) s.number l (Live e f) n
+      (λ same is. (subst (λ m. IsTrue (fits Kind.Comp (s.frame m))) (live_inj e d f g is) comp, subst (λ m. m < 64) (sym same) small))
       (λ other. h.numbers n d g);
   beyond = h.beyond;
   bare = h.bare;
@@ -127,7 +120,7 @@ dead_step s o l e h = record {
       (record { fit = a.0.fit; within = a.0.within }, waits_all s (with_number s l (Dead e)) d (λ f w. w) (named_by m.kind m.frame) a.1);
   objects = h.objects;
   cores = h.cores;
-  numbers = λ n d g. put_all (λ n x. x ≡ Live d g → IsTrue (fits kind.Comp (s.frame g)) × (n < 64)) s.number l (Dead e) n
+  numbers = λ n d g. put_all (λ n x. x ≡ Live d g → IsTrue (fits Kind.Comp (s.frame g)) × (n < 64)) s.number l (Dead e) n
       (λ same is. absurd (dead_live d g is))
       (λ other. h.numbers n d g);
   beyond = h.beyond;

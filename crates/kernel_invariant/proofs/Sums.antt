@@ -1,7 +1,7 @@
 -- Sums over numbers below a bound, where one term changes; and how often a list names a frame.
-use Rattle.std.proofs.Common.{◌≡◌, ◌≢◌, inl, inr, ℕ, zero, suc, ◌+◌, ◌<◌, ◌≤◌, arith, refl, sym, ap, ◌==◌, cond, List, [], ◌∷◌, ◌++◌, fold}
-use Rattle.std.proofs.lemmas.Bool.{cases_eq, eq-eqb}
-use Rattle.kernel_rules.specs.References.{sum_below, times}
+use Rattle.kernel_rules.proofs.{◌≡◌, ◌≢◌, inl, inr, ℕ, zero, suc, ◌+◌, ◌<◌, ◌≤◌, arith, refl, sym, ap, ◌==◌, cond, List, [], ◌∷◌, ◌++◌}
+use Rattle.kernel_rules.proofs.{fold, eq-eqb, sum_below, times}
+use Rattle.std.proofs.lemmas.Bool.{cases_eq}
 
 pub sum_same : (f f' : ℕ → ℕ) (n : ℕ) → ((i : ℕ) → i < n → f' i ≡ f i) → sum_below f' n ≡ sum_below f n
 unfolding sum_below

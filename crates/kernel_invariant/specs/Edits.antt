@@ -1,11 +1,7 @@
 -- What the laws ask of a list of edits besides: the grace periods that it ends, whether it flushes, and the ticks that it charges.
-use Rattle.std.specs.Prelude.{ℕ, ◌+◌, ◌||◌, Bool, true, false, if◌then◌else◌, List, [], ◌∷◌}
-use Rattle.spk_nums.specs.declared.calls.Call.{Call}
-use Rattle.spk_nums.specs.declared.calls.Call.TheVariants.{Tick, Replenish}
-use Rattle.kernel_rules.specs.State.{Grace, Thing, FrameOf, put}
-use Rattle.kernel_rules.specs.Start.{no_grace}
-use Rattle.kernel_rules.specs.GracePeriods.{same_thing}
-use Rattle.kernel_rules.specs.Edits.{Edit, Node, Untype, Flush, Charge, Give, is_place_of}
+use Rattle.kernel_rules.specs.{ℕ, ◌+◌, ◌||◌, Bool, true, false, if◌then◌else◌, List, [], ◌∷◌, Call, Tick, Replenish, Grace, Thing, FrameOf}
+use Rattle.kernel_rules.specs.{put, no_grace, same_thing, Edit, Node, Untype, Charge, Give, is_place_of}
+use Rattle.kernel_rules.specs.Edits.{Flush}
 
 -- The things whose grace periods an edit ends.
 abbrev pub ends_in : Edit → Thing → Bool

@@ -1,23 +1,13 @@
 -- What a core has had back is the sum of its replenishments, and no more than it has spent.
-use Rattle.std.proofs.Common.{◌≡◌, ◌≢◌, ◌⊎◌, inl, inr, ℕ, ◌+◌, ◌-◌, ◌≤◌, arith}
-use Rattle.std.proofs.Common.{Bool, true, false, refl, sym, ◌∙◌, ap, subst, ◌==◌, if◌then◌else◌, List, [], ◌∷◌}
-use Rattle.std.proofs.lemmas.Bool.{cases_eq, eq-eqb, ne_eqb}
-use Rattle.spk_nums.specs.Setting.{Setting, IsSetting}
-use Rattle.spk_nums.specs.declared.calls.Call.{Call}
-use Rattle.spk_nums.specs.declared.calls.Call.TheVariants.{Tick, Replenish}
-use Rattle.spk_nums.specs.declared.replies.Value.{Value}
-use Rattle.spk_nums.specs.declared.replies.Reply.{Reply}
-use Rattle.spk_nums.specs.declared.replies.Reply.TheVariants as reply
-use Rattle.kernel_rules.specs.State.{Core, State, put}
-use Rattle.kernel_rules.specs.Edits.{caching, charge, Give, Edit, Switch, Cache, Flush, Charge, edited, after_edits}
-use Rattle.kernel_rules.specs.CallRelation.{change_of, changed, counted, owed_by, state_by, MayReply}
-use Rattle.kernel_rules.specs.Runs.{Event, Enters, Decides, Returns, after, is_open, IsRun}
-use Rattle.kernel_rules.proofs.Within.{put_same, put_other}
-use Rattle.kernel_invariant.specs.Edits.{charged_by, charged_in, charged_all}
-use Rattle.kernel_invariant.proofs.Sound.{put_all}
-use Rattle.kernel_invariant.proofs.SoundCalls.{IsOpen}
-use Rattle.kernel_invariant.proofs.SoundRuns.{opened, open_is}
-use Rattle.kernel_invariant.proofs.Edited.{Known, Each, after_ok}
+use Rattle.found_stays.specs.kernel_rules.proofs.{◌≡◌, ◌≢◌, ◌⊎◌, inl, inr, ℕ, ◌+◌, ◌-◌, ◌≤◌, arith, Bool, true, false, refl, sym, ◌∙◌, ap}
+use Rattle.found_stays.specs.kernel_rules.proofs.{subst, ◌==◌, if◌then◌else◌, List, [], ◌∷◌, eq-eqb, ne_eqb, Setting, IsSetting, Call, Tick}
+use Rattle.found_stays.specs.kernel_rules.proofs.{Replenish, Value, Reply, Core, put, caching, charge, Give, Edit, Cache, Charge, edited}
+use Rattle.found_stays.specs.kernel_rules.proofs.{after_edits, change_of, changed, counted, owed_by, state_by, MayReply, Event, Enters}
+use Rattle.found_stays.specs.kernel_rules.proofs.{Decides, Returns, after, is_open, IsRun, put_same, put_other}
+use Rattle.found_stays.specs.kernel_invariant.proofs.{put_all, IsOpen, opened, open_is, Known, Each, after_ok}
+use Rattle.found_stays.specs.kernel_invariant.specs.{charged_by, charged_in, charged_all}
+use Rattle.std.proofs.lemmas.Bool.{cases_eq}
+use Rattle.found_stays.specs.kernel_rules.specs.{State.State, Edits.Switch, Edits.Flush}
 use Rattle.kernel_laws.specs.Laws.{given_of, given_by, back_by, decided_back, IsHadBack, BackSums}
 
 -- Core c has had so many ticks more back, and no more than it has spent; no other core changes what it has spent and had back.
@@ -66,7 +56,7 @@ given_ticks (Tick n) = refl
 given_ticks (Replenish a m) = refl
 given_ticks _ = refl
 
-changed_back : (s : State) (o : ℕ → Bool) (c : ℕ) (call : Call) (v : Value) → IsOpen s o c → MayReply s c call (reply.Ok v)
+changed_back : (s : State) (o : ℕ → Bool) (c : ℕ) (call : Call) (v : Value) → IsOpen s o c → MayReply s c call (Reply.Ok v)
     → Gets s c (given_of call) (changed s (change_of s c call)).core
 changed_back s o c call v h may = after_ok s c call v (λ t. Gets s c (given_of call) t.core) may (λ es e.
     subst (λ n. Gets s c n (after_edits c s es).core) (ap (λ (p : ℕ × ℕ). p.1) (sym e.agrees.3) ∙ given_ticks call)
@@ -86,11 +76,11 @@ owed_back s c _ = same s c
 
 decided_gets : (s : State) (o : ℕ → Bool) (c : ℕ) (call : Call) (r : Reply) → IsOpen s o c → MayReply s c call r
     → Gets s c (given_by call r) (state_by s c call r).core
-decided_gets s o c call (reply.Ok v) h may =
+decided_gets s o c call (Reply.Ok v) h may =
     counts s c (given_of call) (changed s (change_of s c call)) (changed_back s o c call v h may)
-decided_gets s o c call reply.CallsSpent h may = same s c
-decided_gets s o c call reply.Raced h may = counts s c 0 (owed_by s c call) (owed_back s c call)
-decided_gets s o c call (reply.Busy e) h may = counts s c 0 (owed_by s c call) (owed_back s c call)
+decided_gets s o c call Reply.CallsSpent h may = same s c
+decided_gets s o c call Reply.Raced h may = counts s c 0 (owed_by s c call) (owed_back s c call)
+decided_gets s o c call (Reply.Busy e) h may = counts s c 0 (owed_by s c call) (owed_back s c call)
 decided_gets s o c call _ h may = counts s c 0 s (same s c)
 
 -- A core enters or returns.

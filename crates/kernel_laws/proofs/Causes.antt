@@ -1,63 +1,44 @@
 -- Each reply that the relation permits has its cause.
-use Rattle.std.proofs.Common.{◌≡◌, ◌≢◌, ◌⊎◌, inl, inr, ℕ, zero, suc, ◌+◌, ◌<◌, ◌≤◌, Bool, true, false, not, min}
-use Rattle.std.proofs.Common.{◌&&◌, ◌||◌, refl, sym, ◌∙◌, ap, subst, arith, ◌==◌, nat_lt, nat_le, if◌then◌else◌}
-use Rattle.std.proofs.Common.{IsTrue, IsFalse, IsSomeAnd, is_some, List, [], ◌∷◌, length, Option, Some, None}
-use Rattle.std.proofs.lemmas.Bool.{false≢true, true≢false, eqb-true, eqb-false, ltb-true, ltb-false, leb-true, leb-false, and_parts}
+use Rattle.found_stays.specs.kernel_rules.proofs.{◌≡◌, ◌≢◌, ◌⊎◌, inl, inr, ℕ, zero, suc, ◌+◌, ◌<◌, ◌≤◌, Bool, true, false, not, min, ◌&&◌}
+use Rattle.found_stays.specs.kernel_rules.proofs.{◌||◌, refl, sym, ◌∙◌, ap, subst, arith, ◌==◌, ltb as nat_lt, leb as nat_le, if◌then◌else◌}
+use Rattle.found_stays.specs.kernel_rules.proofs.{IsTrue, IsFalse, IsSomeAnd, is_some, List, [], ◌∷◌, length, Option, Some, None}
+use Rattle.found_stays.specs.kernel_rules.proofs.{false≢true, true≢false, eqb-true, eqb-false, ltb-true, ltb-false, leb-true, leb-false}
+use Rattle.found_stays.specs.kernel_rules.proofs.{Capability, has_rights, Kind, FrameKind, PageFlags, Make, Call, Look, Copy, Remove, Grow}
+use Rattle.found_stays.specs.kernel_rules.proofs.{Shrink, Retype, Map, Unmap, Touch, Flush, Gate, Kill, Ret, Switch, Tick, Transfer}
+use Rattle.found_stays.specs.kernel_rules.proofs.{Delegate, Test, Part, Replenish, Translation, Reply, covers, Object, Blank, Table, Leaf}
+use Rattle.found_stays.specs.kernel_rules.proofs.{Pages, Pleaf, Comp, Thread, Tcap, Frame, Untyped, User, Kernel, outstanding, Liveness}
+use Rattle.found_stays.specs.kernel_rules.proofs.{Live, Thing, FrameOf, NumberOf, comp_in, comp_of, thread_in, tcap_in, thread_of, refs}
+use Rattle.found_stays.specs.kernel_rules.proofs.{Slot, Named, found, Want, to_use, Target, Under, InRoot, held_in, usable, reached, only}
+use Rattle.found_stays.specs.kernel_rules.proofs.{root, own, to_part, MayWait, MayBeUnflushed, Judged, Refused, Found, and_then, or_refuse}
+use Rattle.found_stays.specs.kernel_rules.proofs.{of_kind, named, mapped, NameMay, VacantMay, Lacks, HeldMay, MappedMay, OneMay, RuleMay}
+use Rattle.found_stays.specs.kernel_rules.proofs.{IsFoundAnd, name_of, leaf_for, outside, has_frame, is_frame, is_blank, not_blank}
+use Rattle.found_stays.specs.kernel_rules.proofs.{make_node, make_rule, not_taken, epoch_of, has_frames, is_untyped, is_user, holds_nothing}
+use Rattle.found_stays.specs.kernel_rules.proofs.{is_empty, not_retyped, retype_rule, touch_by, translation_of, is_live_in, asks_life}
+use Rattle.found_stays.specs.kernel_rules.proofs.{switch_to, are_alike, are_same, is_short, is_finer, is_less, rule_of}
+use Rattle.kernel_laws.specs.{used_at, leads_as, tcap_named, leads}
+use Rattle.found_stays.specs.kernel_rules.specs.{WaitedMay, UnflushedMay, CauseMay, MayBeDead}
 use Rattle.std.specs.List.{list_any, range_with_len}
-use Rattle.spk_nums.specs.Capability.{Capability}
-use Rattle.spk_nums.specs.Rights.{has_rights}
-use Rattle.spk_nums.specs.declared.rights.Rights.{Rights}
-use Rattle.spk_nums.specs.declared.kinds.Kind.{Kind}
-use Rattle.spk_nums.specs.declared.kinds.Kind.TheVariants as kind
-use Rattle.spk_nums.specs.declared.kinds.FrameKind.{FrameKind}
-use Rattle.spk_nums.specs.declared.kinds.FrameKind.TheVariants as frame_kind
-use Rattle.spk_nums.specs.declared.kinds.PageFlags.{PageFlags}
-use Rattle.spk_nums.specs.declared.calls.Make.{Make}
-use Rattle.spk_nums.specs.declared.calls.Make.TheVariants as make
-use Rattle.spk_nums.specs.declared.calls.Call.{Call}
-use Rattle.spk_nums.specs.declared.calls.Call.TheVariants.{Look, Copy, Remove, Grow, Shrink, Retype, Make as make_call}
-use Rattle.spk_nums.specs.declared.calls.Call.TheVariants.{Map, Unmap, Touch, Flush, Gate, Kill, Call as call_gate}
-use Rattle.spk_nums.specs.declared.calls.Call.TheVariants.{Ret, Switch, Tick, Transfer, Delegate, Test, Part, Replenish}
-use Rattle.spk_nums.specs.declared.translations.Translation.{Translation}
-use Rattle.spk_nums.specs.declared.replies.Reply.{Reply}
-use Rattle.spk_nums.specs.declared.replies.Reply.TheVariants as reply
-use Rattle.spk_nums.specs.Merging.{covers}
-use Rattle.kernel_rules.specs.State.{Object, Blank, Table, Leaf, Pages, Pleaf, Comp, Thread, Tcap, Frame, Untyped, User, Kernel}
-use Rattle.kernel_rules.specs.State.{outstanding}
-use Rattle.kernel_rules.specs.State.{Liveness, Live, Thing, FrameOf, NumberOf, State, comp_in, comp_of, thread_in, tcap_in, thread_of}
-use Rattle.kernel_rules.specs.References.{refs}
-use Rattle.kernel_rules.specs.Access.{Slot, Named, found, Want, to_use, Target, Under, InRoot, held_in, usable, reached, only, root, own}
-use Rattle.kernel_rules.specs.Access.{to_part}
-use Rattle.kernel_rules.specs.GracePeriods.{MayWait, MayBeUnflushed}
-use Rattle.kernel_rules.specs.Rules.{Judged, Refused, Found, and_then, or_refuse, of_kind, named, mapped, NameMay, VacantMay}
-use Rattle.kernel_rules.specs.Rules.{Lacks, HeldMay, MappedMay, WaitedMay, UnflushedMay, CauseMay, OneMay, RuleMay, IsFoundAnd, name_of}
-use Rattle.kernel_rules.specs.CapabilityCalls.{leaf_for, outside, has_frame, is_frame, is_blank}
-use Rattle.kernel_rules.specs.CapabilityCalls.{not_blank, make_node, make_rule, not_taken, epoch_of, has_frames}
-use Rattle.kernel_rules.specs.MemoryCalls.{is_untyped, is_user, holds_nothing, is_empty, not_retyped, retype_rule, touch_by, translation_of}
-use Rattle.kernel_rules.specs.Life.{is_live_in, asks_life}
-use Rattle.kernel_rules.specs.InvocationCalls.{switch_to}
-use Rattle.kernel_rules.specs.TimeCalls.{are_alike, are_same, is_short, is_finer, is_less}
-use Rattle.kernel_rules.specs.CallRelation.{rule_of, MayBeDead}
-use Rattle.kernel_laws.specs.Causes.{OneIs, used_at, as_wanted, leads_as, Name, name, names_of, fills_at, empties_at, IsFiner}
-use Rattle.kernel_laws.specs.Causes.{NeedsLife, IsDead}
-use Rattle.kernel_laws.specs.Causes.{LiesOutside, HeldIn, IsDeadIn, BothAre, tcap_named, tcap_of, HasLess, HasCause, LiesBeyond, leads}
-use Rattle.kernel_laws.specs.Laws.{CausesStand}
+use Rattle.found_stays.specs.spk_nums.specs.declared.calls.Call.TheVariants.{Make as make_call, Call as call_gate}
+use Rattle.kernel_laws.specs.Causes.{OneIs, as_wanted, Name, name, names_of, fills_at, empties_at, IsFiner, NeedsLife, IsDead, LiesOutside}
+use Rattle.kernel_laws.specs.Causes.{HeldIn, IsDeadIn, BothAre, tcap_of, HasLess, HasCause, LiesBeyond}
+use Rattle.{std.proofs.lemmas.Bool.and_parts, found_stays.specs.spk_nums.specs.declared.rights.Rights.Rights}
+use Rattle.{found_stays.specs.kernel_rules.specs.State.State, kernel_laws.specs.Laws.CausesStand}
 
 -- What a rule finds under a name is what the name leads to.
 module _ (s : State) (c : ℕ) (wanted : Want) where
   by_kind : (k : Capability) (b d : Bool)
-      → name_of (if b then (if d then Found k else Refused reply.NoRight) else Refused reply.WrongCap)
-      ≡ (if b && d then found k else Rattle.kernel_rules.specs.Access.not_found)
+      → name_of (if b then (if d then Found k else Refused Reply.NoRight) else Refused Reply.WrongCap)
+      ≡ (if b && d then found k else Rattle.found_stays.specs.kernel_rules.specs.Access.not_found)
   by_kind k true true = refl
   by_kind k true false = refl
   by_kind k false d = refl
 
-  by_use : (u : Option Capability) → name_of (and_then (or_refuse u reply.Empty) λ k. of_kind wanted k) ≡ as_wanted wanted u
+  by_use : (u : Option Capability) → name_of (and_then (or_refuse u Reply.Empty) λ k. of_kind wanted k) ≡ as_wanted wanted u
   by_use None = refl
   by_use (Some k) = by_kind k (wanted.kinds k.kind) (has_rights k.rights wanted.needs)
 
   by_slot : (o : Option Slot)
-      → name_of (and_then (or_refuse o reply.NoSlot) λ at. and_then (or_refuse (usable s c at) reply.Empty) λ k. of_kind wanted k)
+      → name_of (and_then (or_refuse o Reply.NoSlot) λ at. and_then (or_refuse (usable s c at) Reply.Empty) λ k. of_kind wanted k)
       ≡ as_wanted wanted (used_at s c o)
   by_slot None = refl
   by_slot (Some at) = by_use (usable s c at)
@@ -93,26 +74,26 @@ module _ (s : State) (c : ℕ) (call : Call) where
   at_use P (Some at) h = h
 
   name_cause : (r : Reply) → OneIs (λ (n : Name). NameMay s c n.number n.want r) (names_of s c call) → HasCause s c call r
-  name_cause reply.NoSlot h = inl h
-  name_cause reply.Empty h = inl h
-  name_cause reply.WrongCap h = one_map (λ (n : Name). NameMay s c n.number n.want reply.WrongCap) _ (names_of s c call)
+  name_cause Reply.NoSlot h = inl h
+  name_cause Reply.Empty h = inl h
+  name_cause Reply.WrongCap h = one_map (λ (n : Name). NameMay s c n.number n.want Reply.WrongCap) _ (names_of s c call)
       (λ n. at_use (λ k. IsFalse (n.want.kinds k.kind)) (reached s c (own s c n.number))) h
-  name_cause reply.NoRight h = one_map (λ (n : Name). NameMay s c n.number n.want reply.NoRight) _ (names_of s c call)
+  name_cause Reply.NoRight h = one_map (λ (n : Name). NameMay s c n.number n.want Reply.NoRight) _ (names_of s c call)
       (λ n. at_use (Lacks n.want) (reached s c (own s c n.number))) h
   name_cause _ h = absurd (no_one (names_of s c call) h)
 
   -- A cause at the place to be filled.
   fill_cause : (r : Reply) (t : Target) → fills_at s c call ≡ Some t → VacantMay s c t r → HasCause s c call r
-  fill_cause reply.NoSlot t e h = inr (inl (some_and (fills_at s c call) t _ e h))
-  fill_cause reply.Occupied t e h = inl (some_and (fills_at s c call) t _ e h)
-  fill_cause (reply.Quiescing d) t e h = inl (some_and (fills_at s c call) t _ e h)
-  fill_cause (reply.Unflushed d) t e h = inl (some_and (fills_at s c call) t _ e h)
+  fill_cause Reply.NoSlot t e h = inr (inl (some_and (fills_at s c call) t _ e h))
+  fill_cause Reply.Occupied t e h = inl (some_and (fills_at s c call) t _ e h)
+  fill_cause (Reply.Quiescing d) t e h = inl (some_and (fills_at s c call) t _ e h)
+  fill_cause (Reply.Unflushed d) t e h = inl (some_and (fills_at s c call) t _ e h)
   fill_cause _ t e h = absurd h
 
   -- A cause at the place to be emptied.
   empty_cause : (r : Reply) (t : Target) → empties_at s c call ≡ Some t → HeldMay s c t r → HasCause s c call r
-  empty_cause reply.NoSlot t e h = inr (inr (inl (some_and (empties_at s c call) t _ e h)))
-  empty_cause reply.Empty t e h = inr (some_and (empties_at s c call) t _ e h)
+  empty_cause Reply.NoSlot t e h = inr (inr (inl (some_and (empties_at s c call) t _ e h)))
+  empty_cause Reply.Empty t e h = inr (some_and (empties_at s c call) t _ e h)
   empty_cause _ t e h = absurd h
 
   -- A cause of the call's own.
@@ -120,14 +101,14 @@ module _ (s : State) (c : ℕ) (call : Call) where
       → HasCause s c call r
   when_cause condition q r f h = subst (HasCause s c call) (sym h.1) (f h.0)
 
-  wait_cause : (x : Thing) (r : Reply) → ((e : ℕ) → MayWait s c x e → HasCause s c call (reply.Quiescing e)) → WaitedMay s c x r
+  wait_cause : (x : Thing) (r : Reply) → ((e : ℕ) → MayWait s c x e → HasCause s c call (Reply.Quiescing e)) → WaitedMay s c x r
       → HasCause s c call r
-  wait_cause x (reply.Quiescing e) f h = f e h
+  wait_cause x (Reply.Quiescing e) f h = f e h
   wait_cause x _ f h = absurd h
 
-  flush_cause : (x : Thing) (r : Reply) → ((e : ℕ) → MayBeUnflushed s x e → HasCause s c call (reply.Unflushed e)) → UnflushedMay s x r
+  flush_cause : (x : Thing) (r : Reply) → ((e : ℕ) → MayBeUnflushed s x e → HasCause s c call (Reply.Unflushed e)) → UnflushedMay s x r
       → HasCause s c call r
-  flush_cause x (reply.Unflushed e) f h = f e h
+  flush_cause x (Reply.Unflushed e) f h = f e h
   flush_cause x _ f h = absurd h
 
 -- A name alone, and two names.
@@ -141,7 +122,7 @@ module _ (s : State) (c : ℕ) where
   copy_cause a t b rights r (inl n) = name_cause s c (Copy a t b rights) r (inl n)
   copy_cause a t b rights r (inr (inl n)) = name_cause s c (Copy a t b rights) r (inr (inl n))
   copy_cause a t b rights r (inr (inr (inl v))) =
-      fill_cause s c (Copy a t b rights) r _ refl (subst (λ (x : Named). VacantMay s c (Under x b) r) (leads_is s c (only kind.Table) t) v)
+      fill_cause s c (Copy a t b rights) r _ refl (subst (λ (x : Named). VacantMay s c (Under x b) r) (leads_is s c (only Kind.Table) t) v)
   copy_cause a t b rights r (inr (inr (inr h))) = absurd h
 
   held_none : {A : Type 0} (x : Judged A) → IsFoundAnd x (λ p. ⊥) → ⊥
@@ -151,7 +132,7 @@ module _ (s : State) (c : ℕ) where
   remove_cause : (t b : ℕ) (r : Reply) → RuleMay s c (rule_of s c (Remove t b)) r → HasCause s c (Remove t b) r
   remove_cause t b r (inl n) = name_cause s c (Remove t b) r (inl n)
   remove_cause t b r (inr (inl v)) =
-      empty_cause s c (Remove t b) r _ refl (subst (λ (x : Named). HeldMay s c (Under x b) r) (leads_is s c (only kind.Table) t) v)
+      empty_cause s c (Remove t b) r _ refl (subst (λ (x : Named). HeldMay s c (Under x b) r) (leads_is s c (only Kind.Table) t) v)
   remove_cause t b r (inr (inr h)) = absurd (held_none _ h)
 
   grow_cause : (t i l : ℕ) (r : Reply) → RuleMay s c (rule_of s c (Grow t i l)) r → HasCause s c (Grow t i l) r
@@ -171,14 +152,14 @@ module _ (s : State) (c : ℕ) where
   unmap_cause : (p v : ℕ) (r : Reply) → RuleMay s c (rule_of s c (Unmap p v)) r → HasCause s c (Unmap p v) r
   unmap_cause p v r (inl n) = name_cause s c (Unmap p v) r (inl n)
   unmap_cause p v r (inr (inl h)) =
-      empty_cause s c (Unmap p v) r _ refl (subst (λ (x : Named). HeldMay s c (Under x v) r) (leads_is s c (only kind.Pages) p) h)
+      empty_cause s c (Unmap p v) r _ refl (subst (λ (x : Named). HeldMay s c (Under x v) r) (leads_is s c (only Kind.Pages) p) h)
   unmap_cause p v r (inr (inr h)) = absurd (held_none _ h)
 
   gate_cause : (k t b : ℕ) (r : Reply) → RuleMay s c (rule_of s c (Gate k t b)) r → HasCause s c (Gate k t b) r
   gate_cause k t b r (inl n) = name_cause s c (Gate k t b) r (inl n)
   gate_cause k t b r (inr (inl n)) = name_cause s c (Gate k t b) r (inr (inl n))
   gate_cause k t b r (inr (inr (inl v))) =
-      fill_cause s c (Gate k t b) r _ refl (subst (λ (x : Named). VacantMay s c (Under x b) r) (leads_is s c (only kind.Table) t) v)
+      fill_cause s c (Gate k t b) r _ refl (subst (λ (x : Named). VacantMay s c (Under x b) r) (leads_is s c (only Kind.Table) t) v)
   gate_cause k t b r (inr (inr (inr h))) = absurd h
 
   -- The frame of a range.
@@ -197,12 +178,12 @@ module _ (s : State) (c : ℕ) where
       by_test true false low high e = inr (ltb-false f (range.frame + range.arg) high)
       by_test true true low high e = absurd (true≢false e)
 
-  named_lies : (call : Call) (r f : ℕ) (q : Reply) → (LiesOutside (leads_as s c r (only kind.Range)) f → HasCause s c call reply.OutOfRange)
-      → CauseMay s c (outside (name_of (named s c r (to_use (only kind.Range)))) f) q → HasCause s c call q
+  named_lies : (call : Call) (r f : ℕ) (q : Reply) → (LiesOutside (leads_as s c r (only Kind.Range)) f → HasCause s c call Reply.OutOfRange)
+      → CauseMay s c (outside (name_of (named s c r (to_use (only Kind.Range)))) f) q → HasCause s c call q
   named_lies call r f q is h =
-      when_cause s c call _ reply.OutOfRange q
+      when_cause s c call _ Reply.OutOfRange q
       (λ (t : IsTrue _). is (subst (λ (x : Named). LiesOutside x f)
-      (leads_is s c (only kind.Range) r) (lies (name_of (named s c r (to_use (only kind.Range)))) f t))) h
+      (leads_is s c (only Kind.Range) r) (lies (name_of (named s c r (to_use (only Kind.Range)))) f t))) h
 
   -- `part`.
   lies_beyond : (range : Named) (f n : ℕ) → IsTrue (range.found && not (has_frames range f n)) → LiesBeyond range f n
@@ -226,11 +207,11 @@ module _ (s : State) (c : ℕ) where
   part_cause a f n t b r (inl h) = name_cause s c (Part a f n t b) r (inl h)
   part_cause a f n t b r (inr (inl h)) = name_cause s c (Part a f n t b) r (inr (inl h))
   part_cause a f n t b r (inr (inr (inl v))) =
-      fill_cause s c (Part a f n t b) r _ refl (subst (λ (x : Named). VacantMay s c (Under x b) r) (leads_is s c (only kind.Table) t) v)
+      fill_cause s c (Part a f n t b) r _ refl (subst (λ (x : Named). VacantMay s c (Under x b) r) (leads_is s c (only Kind.Table) t) v)
   part_cause a f n t b r (inr (inr (inr (inl h)))) =
-      when_cause s c (Part a f n t b) _ reply.OutOfRange r
-      (λ (t : IsTrue _). subst (λ (x : Named). LiesBeyond x f n) (leads_wanted s c (to_part (only kind.Range)) a)
-      (lies_beyond (name_of (named s c a (to_part (only kind.Range)))) f n t)) h
+      when_cause s c (Part a f n t b) _ Reply.OutOfRange r
+      (λ (t : IsTrue _). subst (λ (x : Named). LiesBeyond x f n) (leads_wanted s c (to_part (only Kind.Range)) a)
+      (lies_beyond (name_of (named s c a (to_part (only Kind.Range)))) f n t)) h
   part_cause a f n t b r (inr (inr (inr (inr h)))) = absurd h
 
   -- The kind of a frame of the machine.
@@ -249,17 +230,17 @@ module _ (s : State) (c : ℕ) where
 
   -- `make`.
   made_own : (what : Make) (r f t b : ℕ) (q : Reply)
-      → CauseMay s c (outside (name_of (named s c r (to_use (only kind.Range)))) f) q ⊎ CauseMay s c (not_blank s f) q
+      → CauseMay s c (outside (name_of (named s c r (to_use (only Kind.Range)))) f) q ⊎ CauseMay s c (not_blank s f) q
       → HasCause s c (make_call what r f t b) q
   made_own what r f t b q (inl h) = named_lies (make_call what r f t b) r f q (λ l. l) h
   made_own what r f t b q (inr h) =
-      when_cause s c (make_call what r f t b) _ reply.FrameKind q (λ t. differs f (Kernel Blank) is_blank refl t) h
+      when_cause s c (make_call what r f t b) _ Reply.FrameKind q (λ t. differs f (Kernel Blank) is_blank refl t) h
 
-  made_fill : (what : Make) (r f t b : ℕ) (q : Reply) → VacantMay s c (Under (name_of (named s c t (to_use (only kind.Table)))) b) q
+  made_fill : (what : Make) (r f t b : ℕ) (q : Reply) → VacantMay s c (Under (name_of (named s c t (to_use (only Kind.Table)))) b) q
       → HasCause s c (make_call what r f t b) q
   made_fill what r f t b q v =
       fill_cause s c (make_call what r f t b) q _ refl
-      (subst (λ (x : Named). VacantMay s c (Under x b) q) (leads_is s c (only kind.Table) t) v)
+      (subst (λ (x : Named). VacantMay s c (Under x b) q) (leads_is s c (only Kind.Table) t) v)
 
   node_cause : (what : Make) (object : Object) (k : Kind) (r f t b : ℕ) (q : Reply) → RuleMay s c (make_node s object k r f t b) q
       → HasCause s c (make_call what r f t b) q
@@ -270,60 +251,60 @@ module _ (s : State) (c : ℕ) where
   node_cause what object k r f t b q (inr (inr (inr (inr (inl h))))) = made_own what r f t b q (inr h)
   node_cause what object k r f t b q (inr (inr (inr (inr (inr h))))) = absurd h
 
-  thread_cause : (comp r f t b : ℕ) (q : Reply) → RuleMay s c (make_rule s (make.Thread comp) r f t b) q
-      → HasCause s c (make_call (make.Thread comp) r f t b) q
-  thread_cause comp r f t b q (inl n) = name_cause s c (make_call (make.Thread comp) r f t b) q (inl n)
-  thread_cause comp r f t b q (inr (inl n)) = name_cause s c (make_call (make.Thread comp) r f t b) q (inr (inl n))
-  thread_cause comp r f t b q (inr (inr (inl n))) = name_cause s c (make_call (make.Thread comp) r f t b) q (inr (inr (inl n)))
-  thread_cause comp r f t b q (inr (inr (inr (inl v)))) = made_fill (make.Thread comp) r f t b q v
-  thread_cause comp r f t b q (inr (inr (inr (inr (inl h))))) = made_own (make.Thread comp) r f t b q (inl h)
-  thread_cause comp r f t b q (inr (inr (inr (inr (inr (inl h)))))) = made_own (make.Thread comp) r f t b q (inr h)
+  thread_cause : (comp r f t b : ℕ) (q : Reply) → RuleMay s c (make_rule s (Make.Thread comp) r f t b) q
+      → HasCause s c (make_call (Make.Thread comp) r f t b) q
+  thread_cause comp r f t b q (inl n) = name_cause s c (make_call (Make.Thread comp) r f t b) q (inl n)
+  thread_cause comp r f t b q (inr (inl n)) = name_cause s c (make_call (Make.Thread comp) r f t b) q (inr (inl n))
+  thread_cause comp r f t b q (inr (inr (inl n))) = name_cause s c (make_call (Make.Thread comp) r f t b) q (inr (inr (inl n)))
+  thread_cause comp r f t b q (inr (inr (inr (inl v)))) = made_fill (Make.Thread comp) r f t b q v
+  thread_cause comp r f t b q (inr (inr (inr (inr (inl h))))) = made_own (Make.Thread comp) r f t b q (inl h)
+  thread_cause comp r f t b q (inr (inr (inr (inr (inr (inl h)))))) = made_own (Make.Thread comp) r f t b q (inr h)
   thread_cause comp r f t b q (inr (inr (inr (inr (inr (inr h)))))) = absurd h
 
-  tcap_cause : (sched quality r f t b : ℕ) (q : Reply) → RuleMay s c (make_rule s (make.Tcap sched quality) r f t b) q
-      → HasCause s c (make_call (make.Tcap sched quality) r f t b) q
-  tcap_cause sched quality r f t b q (inl n) = name_cause s c (make_call (make.Tcap sched quality) r f t b) q (inl n)
-  tcap_cause sched quality r f t b q (inr (inl n)) = name_cause s c (make_call (make.Tcap sched quality) r f t b) q (inr (inl n))
-  tcap_cause sched quality r f t b q (inr (inr (inl v))) = made_fill (make.Tcap sched quality) r f t b q v
-  tcap_cause sched quality r f t b q (inr (inr (inr (inl h)))) = made_own (make.Tcap sched quality) r f t b q (inl h)
-  tcap_cause sched quality r f t b q (inr (inr (inr (inr (inl h))))) = made_own (make.Tcap sched quality) r f t b q (inr h)
+  tcap_cause : (sched quality r f t b : ℕ) (q : Reply) → RuleMay s c (make_rule s (Make.Tcap sched quality) r f t b) q
+      → HasCause s c (make_call (Make.Tcap sched quality) r f t b) q
+  tcap_cause sched quality r f t b q (inl n) = name_cause s c (make_call (Make.Tcap sched quality) r f t b) q (inl n)
+  tcap_cause sched quality r f t b q (inr (inl n)) = name_cause s c (make_call (Make.Tcap sched quality) r f t b) q (inr (inl n))
+  tcap_cause sched quality r f t b q (inr (inr (inl v))) = made_fill (Make.Tcap sched quality) r f t b q v
+  tcap_cause sched quality r f t b q (inr (inr (inr (inl h)))) = made_own (Make.Tcap sched quality) r f t b q (inl h)
+  tcap_cause sched quality r f t b q (inr (inr (inr (inr (inl h))))) = made_own (Make.Tcap sched quality) r f t b q (inr h)
   tcap_cause sched quality r f t b q (inr (inr (inr (inr (inr h))))) = absurd h
 
-  number_cause : (x p l r f t b : ℕ) (q : Reply) → OneMay s c (not_taken s l) q → HasCause s c (make_call (make.Comp x p l) r f t b) q
-  number_cause x p l r f t b q (inl h) = when_cause s c (make_call (make.Comp x p l) r f t b) _ reply.Occupied q (λ t. inr t) h
-  number_cause x p l r f t b q (inr (inl h)) = wait_cause s c (make_call (make.Comp x p l) r f t b) (NumberOf l) q (λ e w. inr (inr w)) h
+  number_cause : (x p l r f t b : ℕ) (q : Reply) → OneMay s c (not_taken s l) q → HasCause s c (make_call (Make.Comp x p l) r f t b) q
+  number_cause x p l r f t b q (inl h) = when_cause s c (make_call (Make.Comp x p l) r f t b) _ Reply.Occupied q (λ t. inr t) h
+  number_cause x p l r f t b q (inr (inl h)) = wait_cause s c (make_call (Make.Comp x p l) r f t b) (NumberOf l) q (λ e w. inr (inr w)) h
   number_cause x p l r f t b q (inr (inr (inl h))) =
-      when_cause s c (make_call (make.Comp x p l) r f t b) _ reply.EpochsSpent q (λ t. eqb-true (epoch_of (s.number l)) s.limits.epochs t) h
+      when_cause s c (make_call (Make.Comp x p l) r f t b) _ Reply.EpochsSpent q (λ t. eqb-true (epoch_of (s.number l)) s.limits.epochs t) h
   number_cause x p l r f t b q (inr (inr (inr h))) = absurd h
 
-  comp_cause : (x p l r f t b : ℕ) (q : Reply) → RuleMay s c (make_rule s (make.Comp x p l) r f t b) q
-      → HasCause s c (make_call (make.Comp x p l) r f t b) q
-  comp_cause x p l r f t b q (inl n) = name_cause s c (make_call (make.Comp x p l) r f t b) q (inl n)
-  comp_cause x p l r f t b q (inr (inl n)) = name_cause s c (make_call (make.Comp x p l) r f t b) q (inr (inl n))
-  comp_cause x p l r f t b q (inr (inr (inl n))) = name_cause s c (make_call (make.Comp x p l) r f t b) q (inr (inr (inl n)))
-  comp_cause x p l r f t b q (inr (inr (inr (inl n)))) = name_cause s c (make_call (make.Comp x p l) r f t b) q (inr (inr (inr (inl n))))
-  comp_cause x p l r f t b q (inr (inr (inr (inr (inl v))))) = made_fill (make.Comp x p l) r f t b q v
-  comp_cause x p l r f t b q (inr (inr (inr (inr (inr (inl h)))))) = made_own (make.Comp x p l) r f t b q (inl h)
-  comp_cause x p l r f t b q (inr (inr (inr (inr (inr (inr (inl h))))))) = made_own (make.Comp x p l) r f t b q (inr h)
+  comp_cause : (x p l r f t b : ℕ) (q : Reply) → RuleMay s c (make_rule s (Make.Comp x p l) r f t b) q
+      → HasCause s c (make_call (Make.Comp x p l) r f t b) q
+  comp_cause x p l r f t b q (inl n) = name_cause s c (make_call (Make.Comp x p l) r f t b) q (inl n)
+  comp_cause x p l r f t b q (inr (inl n)) = name_cause s c (make_call (Make.Comp x p l) r f t b) q (inr (inl n))
+  comp_cause x p l r f t b q (inr (inr (inl n))) = name_cause s c (make_call (Make.Comp x p l) r f t b) q (inr (inr (inl n)))
+  comp_cause x p l r f t b q (inr (inr (inr (inl n)))) = name_cause s c (make_call (Make.Comp x p l) r f t b) q (inr (inr (inr (inl n))))
+  comp_cause x p l r f t b q (inr (inr (inr (inr (inl v))))) = made_fill (Make.Comp x p l) r f t b q v
+  comp_cause x p l r f t b q (inr (inr (inr (inr (inr (inl h)))))) = made_own (Make.Comp x p l) r f t b q (inl h)
+  comp_cause x p l r f t b q (inr (inr (inr (inr (inr (inr (inl h))))))) = made_own (Make.Comp x p l) r f t b q (inr h)
   comp_cause x p l r f t b q (inr (inr (inr (inr (inr (inr (inr h))))))) = number_cause x p l r f t b q h
 
   make_cause : (what : Make) (r f t b : ℕ) (q : Reply) → RuleMay s c (make_rule s what r f t b) q → HasCause s c (make_call what r f t b) q
-  make_cause make.Table r f t b q h = node_cause make.Table Table kind.Table r f t b q h
-  make_cause make.Leaf r f t b q h = node_cause make.Leaf Leaf kind.Leaf r f t b q h
-  make_cause make.Pages r f t b q h = node_cause make.Pages Pages kind.Pages r f t b q h
-  make_cause make.Pleaf r f t b q h = node_cause make.Pleaf Pleaf kind.Pleaf r f t b q h
-  make_cause (make.Thread comp) r f t b q h = thread_cause comp r f t b q h
-  make_cause (make.Tcap sched quality) r f t b q h = tcap_cause sched quality r f t b q h
-  make_cause (make.Comp x p l) r f t b q h = comp_cause x p l r f t b q h
+  make_cause Make.Table r f t b q h = node_cause Make.Table Table Kind.Table r f t b q h
+  make_cause Make.Leaf r f t b q h = node_cause Make.Leaf Leaf Kind.Leaf r f t b q h
+  make_cause Make.Pages r f t b q h = node_cause Make.Pages Pages Kind.Pages r f t b q h
+  make_cause Make.Pleaf r f t b q h = node_cause Make.Pleaf Pleaf Kind.Pleaf r f t b q h
+  make_cause (Make.Thread comp) r f t b q h = thread_cause comp r f t b q h
+  make_cause (Make.Tcap sched quality) r f t b q h = tcap_cause sched quality r f t b q h
+  make_cause (Make.Comp x p l) r f t b q h = comp_cause x p l r f t b q h
 
   map_cause : (p v r f : ℕ) (w : PageFlags) (q : Reply) → RuleMay s c (rule_of s c (Map p v r f w)) q → HasCause s c (Map p v r f w) q
   map_cause p v r f w q (inl n) = name_cause s c (Map p v r f w) q (inl n)
   map_cause p v r f w q (inr (inl n)) = name_cause s c (Map p v r f w) q (inr (inl n))
   map_cause p v r f w q (inr (inr (inl h))) =
-      fill_cause s c (Map p v r f w) q _ refl (subst (λ (x : Named). VacantMay s c (Under x v) q) (leads_is s c (only kind.Pages) p) h)
+      fill_cause s c (Map p v r f w) q _ refl (subst (λ (x : Named). VacantMay s c (Under x v) q) (leads_is s c (only Kind.Pages) p) h)
   map_cause p v r f w q (inr (inr (inr (inl h)))) = named_lies (Map p v r f w) r f q (λ l. l) h
   map_cause p v r f w q (inr (inr (inr (inr (inl h))))) =
-      when_cause s c (Map p v r f w) _ reply.FrameKind q (λ t. differs f User is_user refl t) h
+      when_cause s c (Map p v r f w) _ Reply.FrameKind q (λ t. differs f User is_user refl t) h
   map_cause p v r f w q (inr (inr (inr (inr (inr h))))) = absurd h
 
   -- A retype.
@@ -358,24 +339,24 @@ module _ (s : State) (c : ℕ) where
   not_empty f _ is h = absurd (false≢true h)
 
   retype_own : (r f : ℕ) (k : FrameKind) (q : Reply) → OneMay s c (not_retyped s f k) q → HasCause s c (Retype r f k) q
-  retype_own r f frame_kind.Untyped q (inl h) =
-      when_cause s c (Retype r f frame_kind.Untyped) _ reply.FrameKind q
+  retype_own r f FrameKind.Untyped q (inl h) =
+      when_cause s c (Retype r f FrameKind.Untyped) _ Reply.FrameKind q
       (λ t. let p = is_machine f (is_untyped (s.frame f)) t in (p.0, untyped_is (s.frame f) p.1)) h
-  retype_own r f frame_kind.Untyped q (inr (inl h)) =
-      when_cause s c (Retype r f frame_kind.Untyped) _ (reply.Referenced (refs s f)) q (λ t. (ltb-true 0 (refs s f) t, refl)) h
-  retype_own r f frame_kind.Untyped q (inr (inr (inl h))) =
-      wait_cause s c (Retype r f frame_kind.Untyped) (FrameOf f) q (λ e w. inr (inl w)) h
-  retype_own r f frame_kind.Untyped q (inr (inr (inr (inl h)))) =
-      flush_cause s c (Retype r f frame_kind.Untyped) (FrameOf f) q (λ e w. inr w) h
-  retype_own r f frame_kind.Untyped q (inr (inr (inr (inr (inl h))))) =
-      when_cause s c (Retype r f frame_kind.Untyped) _ reply.NotEmpty q (λ t. not_empty f (s.frame f) refl t) h
-  retype_own r f frame_kind.Untyped q (inr (inr (inr (inr (inr h))))) = absurd h
-  retype_own r f frame_kind.User q (inl h) =
-      when_cause s c (Retype r f frame_kind.User) _ reply.FrameKind q (λ t. differs f Untyped is_untyped refl t) h
-  retype_own r f frame_kind.User q (inr h) = absurd h
-  retype_own r f frame_kind.Kernel q (inl h) =
-      when_cause s c (Retype r f frame_kind.Kernel) _ reply.FrameKind q (λ t. differs f Untyped is_untyped refl t) h
-  retype_own r f frame_kind.Kernel q (inr h) = absurd h
+  retype_own r f FrameKind.Untyped q (inr (inl h)) =
+      when_cause s c (Retype r f FrameKind.Untyped) _ (Reply.Referenced (refs s f)) q (λ t. (ltb-true 0 (refs s f) t, refl)) h
+  retype_own r f FrameKind.Untyped q (inr (inr (inl h))) =
+      wait_cause s c (Retype r f FrameKind.Untyped) (FrameOf f) q (λ e w. inr (inl w)) h
+  retype_own r f FrameKind.Untyped q (inr (inr (inr (inl h)))) =
+      flush_cause s c (Retype r f FrameKind.Untyped) (FrameOf f) q (λ e w. inr w) h
+  retype_own r f FrameKind.Untyped q (inr (inr (inr (inr (inl h))))) =
+      when_cause s c (Retype r f FrameKind.Untyped) _ Reply.NotEmpty q (λ t. not_empty f (s.frame f) refl t) h
+  retype_own r f FrameKind.Untyped q (inr (inr (inr (inr (inr h))))) = absurd h
+  retype_own r f FrameKind.User q (inl h) =
+      when_cause s c (Retype r f FrameKind.User) _ Reply.FrameKind q (λ t. differs f Untyped is_untyped refl t) h
+  retype_own r f FrameKind.User q (inr h) = absurd h
+  retype_own r f FrameKind.Kernel q (inl h) =
+      when_cause s c (Retype r f FrameKind.Kernel) _ Reply.FrameKind q (λ t. differs f Untyped is_untyped refl t) h
+  retype_own r f FrameKind.Kernel q (inr h) = absurd h
 
   retype_cause : (r f : ℕ) (k : FrameKind) (q : Reply) → RuleMay s c (retype_rule s r f k) q → HasCause s c (Retype r f k) q
   retype_cause r f k q (inl n) = name_cause s c (Retype r f k) q (inl n)
@@ -389,15 +370,15 @@ module _ (s : State) (c : ℕ) where
 
   page_cause : (v : ℕ) (q : Reply) → translation_of (s.core c).cached (comp_of s c).pages v ≡ None → MappedMay s c (comp_of s c).pages v q
       → HasCause s c (Touch v) q
-  page_cause v reply.NoSlot is h = inr (inr (inr (ltb-true 4095 v h)))
-  page_cause v reply.Fault is h = (is, leb-true v 4095 h.0, h.1)
+  page_cause v Reply.NoSlot is h = inr (inr (inr (ltb-true 4095 v h)))
+  page_cause v Reply.Fault is h = (is, leb-true v 4095 h.0, h.1)
   page_cause v _ is h = absurd h
 
   touch_cause : (v : ℕ) (q : Reply) → (t : Option Translation) → translation_of (s.core c).cached (comp_of s c).pages v ≡ t
       → RuleMay s c (touch_by (comp_of s c).pages v t) q → HasCause s c (Touch v) q
   touch_cause v q None is (inl h) = page_cause v q is h
   touch_cause v q None is (inr h) = absurd (page_none (mapped s c (comp_of s c).pages v) h)
-  touch_cause v q (Some t) is (inl h) = when_cause s c (Touch v) _ reply.NoSlot q (λ t. inr (inr (inr (ltb-true 4095 v t)))) h
+  touch_cause v q (Some t) is (inl h) = when_cause s c (Touch v) _ Reply.NoSlot q (λ t. inr (inr (inr (ltb-true 4095 v t)))) h
   touch_cause v q (Some t) is (inr h) = absurd h
 
   -- Invocations.
@@ -415,31 +396,31 @@ module _ (s : State) (c : ℕ) where
 
   kill_cause : (k : ℕ) (q : Reply) → RuleMay s c (rule_of s c (Kill k)) q → HasCause s c (Kill k) q
   kill_cause k q (inl n) = name_cause s c (Kill k) q (inl n)
-  kill_cause k q (inr (inl h)) = when_cause s c (Kill k) _ reply.Dead q
-      (λ t. inr (subst (λ (x : Named). IsDeadIn s x (comp_in (s.frame x.frame)).epoch) (leads_is s c (only kind.Comp) k)
-      (dead_in (name_of (named s c k (to_use (only kind.Comp))))
-      (comp_in (s.frame (name_of (named s c k (to_use (only kind.Comp)))).frame)).epoch
+  kill_cause k q (inr (inl h)) = when_cause s c (Kill k) _ Reply.Dead q
+      (λ t. inr (subst (λ (x : Named). IsDeadIn s x (comp_in (s.frame x.frame)).epoch) (leads_is s c (only Kind.Comp) k)
+      (dead_in (name_of (named s c k (to_use (only Kind.Comp))))
+      (comp_in (s.frame (name_of (named s c k (to_use (only Kind.Comp)))).frame)).epoch
       t))) h
   kill_cause k q (inr (inr h)) = absurd h
 
   call_cause : (g : ℕ) (q : Reply) → RuleMay s c (rule_of s c (call_gate g)) q → HasCause s c (call_gate g) q
   call_cause g q (inl n) = name_cause s c (call_gate g) q (inl n)
-  call_cause g q (inr (inl h)) = when_cause s c (call_gate g) _ reply.Deep q (λ t. leb-true 16 (length (thread_of s c).stack) t) h
-  call_cause g q (inr (inr (inl h))) = when_cause s c (call_gate g) _ reply.Dead q
-      (λ t. inr (subst (λ (x : Named). IsDeadIn s x x.arg) (leads_is s c (only kind.Gate) g)
-      (dead_in (name_of (named s c g (to_use (only kind.Gate)))) (name_of (named s c g (to_use (only kind.Gate)))).arg t))) h
+  call_cause g q (inr (inl h)) = when_cause s c (call_gate g) _ Reply.Deep q (λ t. leb-true 16 (length (thread_of s c).stack) t) h
+  call_cause g q (inr (inr (inl h))) = when_cause s c (call_gate g) _ Reply.Dead q
+      (λ t. inr (subst (λ (x : Named). IsDeadIn s x x.arg) (leads_is s c (only Kind.Gate) g)
+      (dead_in (name_of (named s c g (to_use (only Kind.Gate)))) (name_of (named s c g (to_use (only Kind.Gate)))).arg t))) h
   call_cause g q (inr (inr (inr h))) = absurd h
 
   ret_cause : (q : Reply) → RuleMay s c (rule_of s c Ret) q → HasCause s c Ret q
-  ret_cause q (inl h) = when_cause s c Ret _ reply.Bottom q (λ t. leb-true (length (thread_of s c).stack) 1 t) h
+  ret_cause q (inl h) = when_cause s c Ret _ Reply.Bottom q (λ t. leb-true (length (thread_of s c).stack) 1 t) h
   ret_cause q (inr h) = absurd h
 
-  switch_own : (h q : ℕ) (x : Named) (p : ℕ) (r : Reply) → x ≡ leads_as s c h (only kind.Thread) → (e : Option ℕ)
+  switch_own : (h q : ℕ) (x : Named) (p : ℕ) (r : Reply) → x ≡ leads_as s c h (only Kind.Thread) → (e : Option ℕ)
       → (thread_in (s.frame x.frame)).runs_on ≡ e
       → RuleMay s c (switch_to x p e) r → HasCause s c (Switch h q) r
   switch_own h q x p r at None is may = absurd may
   switch_own h q x p r at (Some e) is (inl may) =
-      when_cause s c (Switch h q) _ (reply.Running e) r
+      when_cause s c (Switch h q) _ (Reply.Running e) r
       (λ t. subst (λ (x : Named). IsTrue x.found × ((thread_in (s.frame x.frame)).runs_on ≡ Some e)) at (t, is)) may
   switch_own h q x p r at (Some e) is (inr may) = absurd may
 
@@ -447,17 +428,17 @@ module _ (s : State) (c : ℕ) where
   switch_cause h q r (inl n) = name_cause s c (Switch h q) r (inl n)
   switch_cause h q r (inr (inl n)) = name_cause s c (Switch h q) r (inr (inl n))
   switch_cause h q r (inr (inr may)) =
-      switch_own h q (name_of (named s c h (to_use (only kind.Thread))))
-      (name_of (named s c q (to_use (only kind.Tcap)))).frame r (leads_is s c (only kind.Thread) h)
-      (thread_in (s.frame (name_of (named s c h (to_use (only kind.Thread)))).frame)).runs_on refl may
+      switch_own h q (name_of (named s c h (to_use (only Kind.Thread))))
+      (name_of (named s c q (to_use (only Kind.Tcap)))).frame r (leads_is s c (only Kind.Thread) h)
+      (thread_in (s.frame (name_of (named s c h (to_use (only Kind.Thread)))).frame)).runs_on refl may
 
   -- Two temporal capabilities.
   both_are : (a b : ℕ) (P : ℕ → ℕ → Type 0)
-      → BothAre (name_of (named s c a (to_use (only kind.Tcap)))) (name_of (named s c b (to_use (only kind.Tcap)))) P
+      → BothAre (name_of (named s c a (to_use (only Kind.Tcap)))) (name_of (named s c b (to_use (only Kind.Tcap)))) P
       → BothAre (tcap_named s c a) (tcap_named s c b) P
   both_are a b P h =
-      subst (λ (x : Named). BothAre (tcap_named s c a) x P) (leads_is s c (only kind.Tcap) b)
-      (subst (λ (x : Named). BothAre x (name_of (named s c b (to_use (only kind.Tcap)))) P) (leads_is s c (only kind.Tcap) a) h)
+      subst (λ (x : Named). BothAre (tcap_named s c a) x P) (leads_is s c (only Kind.Tcap) b)
+      (subst (λ (x : Named). BothAre x (name_of (named s c b (to_use (only Kind.Tcap)))) P) (leads_is s c (only Kind.Tcap) a) h)
 
   two_found : (x y : Named) (b : Bool) (P : ℕ → ℕ → Type 0) → (IsTrue b → P x.frame y.frame) → IsTrue (x.found && (y.found && b))
       → BothAre x y P
@@ -467,21 +448,21 @@ module _ (s : State) (c : ℕ) where
       record { first = p.0; second = q.0; both = f q.1 }
 
   same_cause : (call : Call) (a b : ℕ) (r : Reply)
-      → (BothAre (tcap_named s c a) (tcap_named s c b) (λ f g. f ≡ g) → HasCause s c call reply.Same)
-      → CauseMay s c (are_same (name_of (named s c a (to_use (only kind.Tcap)))) (name_of (named s c b (to_use (only kind.Tcap))))) r
+      → (BothAre (tcap_named s c a) (tcap_named s c b) (λ f g. f ≡ g) → HasCause s c call Reply.Same)
+      → CauseMay s c (are_same (name_of (named s c a (to_use (only Kind.Tcap)))) (name_of (named s c b (to_use (only Kind.Tcap))))) r
       → HasCause s c call r
-  same_cause call a b r f h = when_cause s c call _ reply.Same r
-      (λ t. f (both_are a b (λ f g. f ≡ g) (two_found (name_of (named s c a (to_use (only kind.Tcap))))
-      (name_of (named s c b (to_use (only kind.Tcap)))) _ (λ f g. f ≡ g) (eqb-true _ _) t))) h
+  same_cause call a b r f h = when_cause s c call _ Reply.Same r
+      (λ t. f (both_are a b (λ f g. f ≡ g) (two_found (name_of (named s c a (to_use (only Kind.Tcap))))
+      (name_of (named s c b (to_use (only Kind.Tcap)))) _ (λ f g. f ≡ g) (eqb-true _ _) t))) h
 
-  short_cause : (call : Call) (a m : ℕ) (r : Reply) → ((n : ℕ) → HasLess s (tcap_named s c a) m n → HasCause s c call (reply.Short n))
-      → CauseMay s c (is_short s (name_of (named s c a (to_use (only kind.Tcap)))) m) r → HasCause s c call r
-  short_cause call a m r f h = when_cause s c call _ (reply.Short n) r
-      (λ t. f n (subst (λ (x : Named). HasLess s x m n) (leads_is s c (only kind.Tcap) a)
+  short_cause : (call : Call) (a m : ℕ) (r : Reply) → ((n : ℕ) → HasLess s (tcap_named s c a) m n → HasCause s c call (Reply.Short n))
+      → CauseMay s c (is_short s (name_of (named s c a (to_use (only Kind.Tcap)))) m) r → HasCause s c call r
+  short_cause call a m r f h = when_cause s c call _ (Reply.Short n) r
+      (λ t. f n (subst (λ (x : Named). HasLess s x m n) (leads_is s c (only Kind.Tcap) a)
       (let p = and_parts x.found (nat_lt n m) t in record { found = p.0; is = refl; less = ltb-true n m p.1 }))) h
     where
       x : Named
-      x = name_of (named s c a (to_use (only kind.Tcap)))
+      x = name_of (named s c a (to_use (only Kind.Tcap)))
 
       n : ℕ
       n = (tcap_of s x.frame).budget
@@ -504,22 +485,22 @@ module _ (s : State) (c : ℕ) where
   transfer_cause a b m r (inr (inl n)) = name_cause s c (Transfer a b m) r (inr (inl n))
   transfer_cause a b m r (inr (inr (inl h))) = same_cause (Transfer a b m) a b r (λ x. x) h
   transfer_cause a b m r (inr (inr (inr (inl h)))) = short_cause (Transfer a b m) a m r (λ n x. x) h
-  transfer_cause a b m r (inr (inr (inr (inr (inl h))))) = when_cause s c (Transfer a b m) _ reply.Unlike r
+  transfer_cause a b m r (inr (inr (inr (inr (inl h))))) = when_cause s c (Transfer a b m) _ Reply.Unlike r
       (λ t. both_are a b _ (two_found _ _ _ _ (λ t. unlike_lists _ _ (not_is _ t)) t)) h
   transfer_cause a b m r (inr (inr (inr (inr (inr h))))) = absurd h
 
-  finer_cause : (a m : ℕ) (r : Reply) → CauseMay s c (is_finer s c (name_of (named s c a (to_use (only kind.Tcap))))) r
+  finer_cause : (a m : ℕ) (r : Reply) → CauseMay s c (is_finer s c (name_of (named s c a (to_use (only Kind.Tcap))))) r
       → HasCause s c (Replenish a m) r
-  finer_cause a m r h = when_cause s c (Replenish a m) _ reply.Unlike r
-      (λ t. subst (λ (x : Named). IsFiner s c x) (leads_is s c (only kind.Tcap) a)
+  finer_cause a m r h = when_cause s c (Replenish a m) _ Reply.Unlike r
+      (λ t. subst (λ (x : Named). IsFiner s c x) (leads_is s c (only Kind.Tcap) a)
       (let p = and_parts x.found (not (covers (tcap_of s x.frame).qualities (s.core c).grant)) t in
       record { found = p.0; finer = not_is _ p.1 })) h
     where
       x : Named
-      x = name_of (named s c a (to_use (only kind.Tcap)))
+      x = name_of (named s c a (to_use (only Kind.Tcap)))
 
   less_cause : (a m : ℕ) (r : Reply) → CauseMay s c (is_less s c m) r → HasCause s c (Replenish a m) r
-  less_cause a m r h = when_cause s c (Replenish a m) _ (reply.Short (min left m)) r
+  less_cause a m r h = when_cause s c (Replenish a m) _ (Reply.Short (min left m)) r
       (λ t. let less : left < m = ltb-true left m t in (omega (arith, less), omega (arith, less))) h
     where
       left : ℕ
@@ -536,7 +517,7 @@ module _ (s : State) (c : ℕ) where
   delegate_cause a b m r (inr (inl n)) = name_cause s c (Delegate a b m) r (inr (inl n))
   delegate_cause a b m r (inr (inr (inl h))) = same_cause (Delegate a b m) a b r (λ x. x) h
   delegate_cause a b m r (inr (inr (inr (inl h)))) = short_cause (Delegate a b m) a m r (λ n x. x) h
-  delegate_cause a b m r (inr (inr (inr (inr (inl h))))) = when_cause s c (Delegate a b m) _ reply.TooMany r
+  delegate_cause a b m r (inr (inr (inr (inr (inl h))))) = when_cause s c (Delegate a b m) _ Reply.TooMany r
       (λ t. both_are a b _ (two_found _ _ _ _ (λ t. ltb-true 8 _ t) t)) h
   delegate_cause a b m r (inr (inr (inr (inr (inr h))))) = absurd h
 
@@ -577,17 +558,17 @@ module _ (s : State) (c : ℕ) where
   needs_life (Tick n) h = false≢true h
   needs_life _ h = tt
 
-  dead_cause : (call : Call) → MayBeDead s c call ⊎ RuleMay s c (rule_of s c call) reply.Dead → IsDead s c call
+  dead_cause : (call : Call) → MayBeDead s c call ⊎ RuleMay s c (rule_of s c call) Reply.Dead → IsDead s c call
   dead_cause call (inl h) = inl (record {
     needs = needs_life call h.0;
     dead = not_live_in (s.number (comp_of s c).number) (comp_of s c).epoch h.1;
   })
-  dead_cause call (inr h) = rule_cause call reply.Dead h
+  dead_cause call (inr h) = rule_cause call Reply.Dead h
 
 pub causes_stand : CausesStand
-causes_stand s c call (reply.Ok v) may = tt
-causes_stand s c call reply.Raced may = tt
-causes_stand s c call (reply.Busy e) may = tt
-causes_stand s c call reply.CallsSpent may = leb-true s.limits.calls (s.core c).counted may
-causes_stand s c call reply.Dead may = dead_cause s c call may.1
+causes_stand s c call (Reply.Ok v) may = tt
+causes_stand s c call Reply.Raced may = tt
+causes_stand s c call (Reply.Busy e) may = tt
+causes_stand s c call Reply.CallsSpent may = leb-true s.limits.calls (s.core c).counted may
+causes_stand s c call Reply.Dead may = dead_cause s c call may.1
 causes_stand s c call r may = rule_cause s c call r may.1

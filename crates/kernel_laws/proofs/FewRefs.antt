@@ -1,23 +1,13 @@
 -- In every state that a run reaches, a frame has at most 32,848 references: a node's 64 places have one each, any other object at most 16, a
 -- core two, and a liveness number one.
-use Rattle.std.proofs.Common.{◌≡◌, ℕ, zero, suc, ◌+◌, ◌*◌, ◌<◌, ◌≤◌, ◌==◌, Bool, true, false, cond, refl, sym, ap, subst, arith}
-use Rattle.std.proofs.Common.{List, [], ◌∷◌, length, IsTrue}
-use Rattle.std.proofs.lemmas.Bool.{false≢true}
-use Rattle.spk_nums.specs.Capability.{Capability}
-use Rattle.spk_nums.specs.declared.kinds.Kind.{Kind}
-use Rattle.spk_nums.specs.declared.kinds.Kind.TheVariants as kind
-use Rattle.kernel_rules.specs.State.{Place, Free, Holds, Quiescing, Frame, Untyped, User, Kernel, Blank, Table, Leaf, Pages, Pleaf}
-use Rattle.kernel_rules.specs.State.{Comp, Thread, Tcap, Liveness, Unused, Live, Dead, State}
-use Rattle.kernel_rules.specs.Start.{start}
-use Rattle.kernel_rules.specs.References.{named_by, place_names, frame_names, number_names, core_names, sum_below, times, node_refs, refs}
-use Rattle.kernel_rules.specs.Relies.{is_node}
-use Rattle.kernel_rules.specs.Ranges.{InRanges, FrameInRange}
-use Rattle.kernel_rules.specs.Runs.{after}
-use Rattle.kernel_invariant.proofs.Sums.{times_cons}
-use Rattle.kernel_invariant.proofs.Sound.{IsSound}
-use Rattle.kernel_invariant.proofs.SoundRuns.{opened, limits_stay, runs_sound}
-use Rattle.kernel_laws.specs.Laws.{ReferencesFew}
-use Rattle.kernel_laws.proofs.RangesLaw.{ranges_hold}
+use Rattle.found_stays.specs.kernel_rules.proofs as low
+use low.{◌≡◌, ℕ, zero, suc, ◌+◌, ◌*◌, ◌<◌, ◌≤◌, ◌==◌, Bool, true, false, cond, refl, sym, ap, subst, arith, List, [], ◌∷◌, length, IsTrue}
+use low.{false≢true, Capability, Kind, Place, Free, Holds, Quiescing, Frame, Untyped, User, Kernel, Blank, Table, Leaf, Pages, Pleaf, Comp}
+use low.{Thread, Tcap, Liveness, Unused, Live, Dead, start, named_by, place_names, frame_names, number_names, core_names, sum_below, times}
+use low.{node_refs, refs, is_node, InRanges, FrameInRange, after}
+use Rattle.found_stays.specs.kernel_invariant.proofs.{times_cons, IsSound, opened, limits_stay, runs_sound}
+use Rattle.{found_stays.specs.kernel_rules.specs.State.State, kernel_laws.specs.Laws.ReferencesFew}
+use Rattle.{kernel_laws.proofs.RangesLaw.ranges_hold}
 
 -- A list names a frame at most as often as it has items.
 times_most : (f : ℕ) (xs : List ℕ) → times f xs ≤ length xs
@@ -55,7 +45,7 @@ place_most f (Quiescing k) = omega arith
 place_most f (Holds k) = by_kind k.kind
   where
     by_kind : (d : Kind) → times f (named_by d k.frame) ≤ 1
-    by_kind kind.Range = omega arith
+    by_kind Kind.Range = omega arith
     by_kind _ = times_most f (k.frame ∷ [])
 
 place_none : (f : ℕ) (p : Place) → ((k : Capability) → p ≡ Holds k → ⊥) → times f (place_names p) ≡ 0

@@ -1,25 +1,15 @@
 -- Each part of a change keeps what nodes hold fitting them.
-use Rattle.std.proofs.Common.{◌≡◌, ◌≢◌, ℕ, ◌<◌, ◌≤◌, Bool, true, false, ◌&&◌, refl, sym, ◌∙◌}
-use Rattle.std.proofs.Common.{ap, subst, arith, ◌==◌, if◌then◌else◌, IsTrue, List, [], ◌∷◌}
-use Rattle.std.proofs.lemmas.Bool.{false≢true, eqb-true, ne_eqb, or_from, and_parts}
-use Rattle.std.specs.List.{list_any}
-use Rattle.spk_nums.specs.Capability.{Capability}
-use Rattle.spk_nums.specs.declared.kinds.Kind.{Kind}
-use Rattle.spk_nums.specs.declared.kinds.Kind.TheVariants as kind
-use Rattle.kernel_rules.specs.State.{Free, Holds, Quiescing, Table, Leaf, Pages, Pleaf, Frame, Untyped, Kernel}
-use Rattle.kernel_rules.specs.State.{Comp, Thing, PlaceOf, FrameOf, State, put, with_place, with_frame}
-use Rattle.kernel_rules.specs.Start.{no_grace}
-use Rattle.kernel_rules.specs.References.{named_by, place_names, times}
-use Rattle.kernel_rules.specs.GracePeriods.{same_thing, new_grace, begun}
-use Rattle.kernel_rules.specs.Edits.{frames_of, cleared}
-use Rattle.kernel_rules.specs.Relies.{is_node}
-use Rattle.kernel_rules.proofs.Within.{put_same, put_other}
-use Rattle.kernel_invariant.proofs.Sums.{times_first}
-use Rattle.kernel_invariant.proofs.Sound.{WaitsForAll, IsSound, only_is, put_all}
-use Rattle.kernel_invariant.proofs.SoundSteps.{place_all, free_holds, free_quiescing, holds_quiescing}
-use Rattle.kernel_invariant.proofs.SoundSteps.{quiescing_holds, holds_inj, quiescing_inj}
-use Rattle.kernel_invariant.proofs.SoundRemovals.{frames_no_place, not_chosen, IsUnnamed, NoneWaits, below_by, untyped}
+use Rattle.found_stays.specs as low
+use low.kernel_rules.proofs.{◌≡◌, ◌≢◌, ℕ, ◌<◌, ◌≤◌, Bool, true, false, ◌&&◌, refl, sym, ◌∙◌, ap, subst, arith, ◌==◌, if◌then◌else◌, IsTrue}
+use low.kernel_rules.proofs.{List, [], ◌∷◌, false≢true, eqb-true, ne_eqb, Capability, Kind, Free, Holds, Quiescing, Table, Leaf, Pages}
+use low.kernel_rules.proofs.{Pleaf, Frame, Untyped, Kernel, Comp, Thing, PlaceOf, FrameOf, put, with_place, with_frame, no_grace, named_by}
+use low.kernel_rules.proofs.{place_names, times, same_thing, new_grace, begun, frames_of, cleared, is_node, put_same, put_other}
+use low.kernel_invariant.proofs.{times_first, WaitsForAll, IsSound, only_is, put_all, place_all, free_holds, free_quiescing}
+use low.kernel_invariant.proofs.{holds_quiescing, quiescing_holds, holds_inj, frames_no_place, below_by}
+use low.kernel_invariant.proofs.SoundRemovals.{not_chosen, IsUnnamed, NoneWaits, untyped}
 use Rattle.kernel_laws.specs.Nodes.{takes, leads_to, FitsNode}
+use Rattle.{std.proofs.lemmas.Bool.or_from, std.proofs.lemmas.Bool.and_parts, std.specs.List.list_any}
+use low.{kernel_rules.specs.State.State, kernel_invariant.proofs.SoundSteps.quiescing_inj}
 
 -- What places hold, and what open cores may still use of nodes, fits the nodes.
 pub record IsFitted (s : State) (o : ℕ → Bool) : Type 0 where
@@ -174,9 +164,9 @@ object_fits s o f y none h = record {
         }
 
 -- A frame that leads to some frames alone is a root, and takes links.
-root_links : (x : Frame) (k : Kind) (y : Frame) → IsTrue (takes x k) → leads_to x y ≡ false → k ≡ kind.Link
-root_links (Kernel Table) k y h none = only_is kind.Link k h
-root_links (Kernel Pages) k y h none = only_is kind.Link k h
+root_links : (x : Frame) (k : Kind) (y : Frame) → IsTrue (takes x k) → leads_to x y ≡ false → k ≡ Kind.Link
+root_links (Kernel Table) k y h none = only_is Kind.Link k h
+root_links (Kernel Pages) k y h none = only_is Kind.Link k h
 root_links (Kernel Leaf) k y h none = absurd (false≢true (sym none))
 root_links (Kernel Pleaf) k y h none = absurd (false≢true (sym none))
 root_links _ k y h none = absurd (false≢true h)
@@ -207,19 +197,19 @@ untype_fits s o c f un none bare sound h = record {
     opened : (d : ℕ) → put o c false d ≡ true → o d ≡ true
     opened d q = sym (put_other o c false d (other d q)) ∙ q
 
-    not_named : (k : Capability) → k.kind ≡ kind.Link → k.frame ≡ f → times f (named_by k.kind k.frame) ≡ 0 → ⊥
+    not_named : (k : Capability) → k.kind ≡ Kind.Link → k.frame ≡ f → times f (named_by k.kind k.frame) ≡ 0 → ⊥
     not_named k link same zero =
         let one : 1 ≤ times f (f ∷ []) = times_first f [] in
         let e : times f (f ∷ []) ≡ 0 = ap (λ n. times f (n ∷ [])) (sym same) ∙ ap (λ j. times f (named_by j k.frame)) (sym link) ∙ zero in
         omega (arith, one, e)
 
-    waits_link : (k : Capability) (d : ℕ) → k.kind ≡ kind.Link → k.frame ≡ f → WaitsForAll s d (named_by k.kind k.frame)
+    waits_link : (k : Capability) (d : ℕ) → k.kind ≡ Kind.Link → k.frame ≡ f → WaitsForAll s d (named_by k.kind k.frame)
         → IsTrue ((s.grace (FrameOf f)).waits d)
     waits_link k d link same a =
         let l : WaitsForAll s d (k.frame ∷ []) = subst (λ j. WaitsForAll s d (named_by j k.frame)) link a in
         subst (λ n. IsTrue ((s.grace (FrameOf n)).waits d)) same l.0
 
-    fits : (g : ℕ) (k : Capability) → g ≢ f → (k.kind ≡ kind.Link → k.frame ≡ f → ⊥) → FitsNode (s.frame g) k.kind (s.frame k.frame)
+    fits : (g : ℕ) (k : Capability) → g ≢ f → (k.kind ≡ Kind.Link → k.frame ≡ f → ⊥) → FitsNode (s.frame g) k.kind (s.frame k.frame)
         → FitsNode (put s.frame f Untyped g) k.kind (put s.frame f Untyped k.frame)
     fits g k away not_link a =
         let e : put s.frame f Untyped g ≡ s.frame g = put_other s.frame f Untyped g away in

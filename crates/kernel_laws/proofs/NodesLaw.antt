@@ -1,61 +1,32 @@
 -- In every state that a run reaches, nodes hold what fits them.
-use Rattle.std.proofs.Common.{◌≡◌, ◌≢◌, inl, inr, ℕ, ◌+◌, ◌-◌, ◌<◌, ◌%◌, Bool, true, false, not, ◌&&◌, refl, sym, ◌∙◌, ap}
-use Rattle.std.proofs.Common.{subst, ◌==◌, nat_lt, nat_le, if◌then◌else◌, IsTrue, List, [], ◌∷◌, take, Option, Some, None}
-use Rattle.std.proofs.lemmas.Bool.{cases_eq, false≢true, eqb-true}
-use Rattle.std.specs.List.{list_any}
-use Rattle.spk_nums.specs.Setting.{Setting, IsSetting}
-use Rattle.spk_nums.specs.Capability.{Capability, cap_of}
-use Rattle.spk_nums.specs.Rights.{kept, part_of}
-use Rattle.spk_nums.specs.declared.kinds.Kind.{Kind}
-use Rattle.spk_nums.specs.declared.kinds.Kind.TheVariants as kind
-use Rattle.spk_nums.specs.declared.kinds.FrameKind.{FrameKind}
-use Rattle.spk_nums.specs.declared.kinds.FrameKind.TheVariants as frame_kind
-use Rattle.spk_nums.specs.declared.calls.Make.{Make}
-use Rattle.spk_nums.specs.declared.calls.Make.TheVariants as make
-use Rattle.spk_nums.specs.declared.calls.Call.{Call}
-use Rattle.spk_nums.specs.declared.calls.Call.TheVariants.{Look, Copy, Remove as remove_call, Grow, Shrink, Retype, Make as make_call}
-use Rattle.spk_nums.specs.declared.calls.Call.TheVariants.{Map, Unmap, Touch, Flush, Gate, Kill, Call as call_gate}
-use Rattle.spk_nums.specs.declared.calls.Call.TheVariants.{Ret, Switch, Tick, Transfer, Delegate, Test, Part, Replenish}
-use Rattle.spk_nums.specs.declared.translations.Translation.{Translation}
-use Rattle.spk_nums.specs.declared.replies.Value.{Value}
-use Rattle.spk_nums.specs.declared.replies.Value.TheVariants.{Nothing}
-use Rattle.spk_nums.specs.declared.replies.Reply.{Reply}
-use Rattle.spk_nums.specs.declared.replies.Reply.TheVariants as reply
-use Rattle.kernel_rules.specs.State.{Place, Free, Holds, Quiescing, CompFields, ThreadFields, TcapFields, Object, Blank, Table}
-use Rattle.kernel_rules.specs.State.{Leaf, Pages, Pleaf, Comp, Thread, Tcap, Frame, Untyped, User, Kernel, Thing, PlaceOf}
-use Rattle.kernel_rules.specs.State.{FrameOf, State, put, with_frame, with_core, comp_in, comp_of, thread_in, thread_of}
-use Rattle.kernel_rules.specs.Start.{plain_cap, start, start_frame, start_cap, core_cap, place_with}
-use Rattle.kernel_rules.specs.References.{refs, frame_names, number_names}
-use Rattle.kernel_rules.specs.Access.{Want, any, to_copy, to_use, Slot, Named, found, root_at, Target, Under, InRoot, place_at}
-use Rattle.kernel_rules.specs.Access.{held_in, usable_in, usable, reached, root_slot, only, root}
-use Rattle.kernel_rules.specs.GracePeriods.{same_thing, begun}
-use Rattle.kernel_rules.specs.Rules.{Change, does, Cause, When, WaitedFor, Unflushed, Judged, Refused, Found, IsFoundAnd, named, held}
-use Rattle.kernel_rules.specs.Rules.{mapped, and_then, or_refuse, unless, first_cause, refusal_of, waits_of, flushes_of}
-use Rattle.kernel_rules.specs.Edits.{frames_of, cleared, with_thread, running, switched, Fill, Remove, Node, Become, Untype, Deaden, Pop}
-use Rattle.kernel_rules.specs.CapabilityCalls.{leaf_of, outside, make_node, make_rule, not_taken}
-use Rattle.kernel_rules.specs.Edits.{Switch as switch_edit, edited, after_edits, begins_in, with_tcap, with_budget, tcap_at, moved}
-use Rattle.kernel_rules.specs.MemoryCalls.{is_untyped_now, is_empty, not_retyped, retype_rule, touch_by, translation_of}
-use Rattle.kernel_rules.specs.InvocationCalls.{switch_to}
-use Rattle.kernel_rules.specs.CallRelation.{rule_of, change_of, changed, counted, owed_by, state_by, MayReply}
-use Rattle.kernel_rules.specs.Runs.{Event, Enters, Decides, Returns, after, is_in, is_open, IsRun}
-use Rattle.kernel_rules.specs.Relies.{is_node}
-use Rattle.kernel_rules.specs.Fitting.{fits, IsGood}
-use Rattle.kernel_rules.proofs.Changes.{IfFound}
-use Rattle.kernel_rules.proofs.Within.{put_other}
-use Rattle.kernel_rules.proofs.AloneLaw.{waits_inside}
-use Rattle.kernel_invariant.proofs.Sound.{only_is, put_all}
-use Rattle.kernel_invariant.proofs.SoundRemovals.{frames_no_place, not_chosen, unnamed, none_waits}
-use Rattle.kernel_invariant.proofs.SoundCalls.{IsOpen, blank_by, untyped_by, zero_refs, nothing_held, empty_node}
-use Rattle.kernel_invariant.proofs.SoundEdits.{closed}
-use Rattle.kernel_invariant.proofs.SoundSteps.{free_holds, holds_inj}
-use Rattle.kernel_invariant.proofs.SoundStart.{choose}
-use Rattle.kernel_invariant.proofs.SoundRuns.{opened, open_is, inside_is, phase_own, phase_other, decided_opened}
-use Rattle.kernel_invariant.proofs.Facts.{ChangesFrom, outcome_from, suits, named_good, named_fit, vacant_facts, held_facts, none_parts}
-use Rattle.kernel_invariant.proofs.Facts.{when_not, not_not, then_parts, or_found, some_inj, some_none, none_some}
-use Rattle.found_stays.proofs.Stays.{link_of, name_parts, fields, table_relies}
+use Rattle.found_stays.specs.kernel_rules.proofs as low
+use low.{◌≡◌, ◌≢◌, inl, inr, ℕ, ◌+◌, ◌-◌, ◌<◌, ◌%◌, Bool, true, false, not, ◌&&◌, refl, sym, ◌∙◌, ap, subst, ◌==◌, ltb as nat_lt}
+use low.{leb as nat_le, if◌then◌else◌, IsTrue, List, [], ◌∷◌, take, Option, Some, None, false≢true, eqb-true, Setting, IsSetting}
+use low.{Capability, cap_of, kept, part_of, Kind, FrameKind, Make, Call, Look, Copy, Remove as remove_call, Grow, Shrink, Retype, Map}
+use low.{Unmap, Touch, Flush, Gate, Kill, Ret, Switch, Tick, Transfer, Delegate, Test, Part, Replenish, Translation, Value, Nothing, Reply}
+use low.{Place, Free, Holds, Quiescing, CompFields, ThreadFields, TcapFields, Object, Blank, Table, Leaf, Pages, Pleaf, Comp, Thread, Tcap}
+use low.{Frame, Untyped, User, Kernel, Thing, PlaceOf, FrameOf, put, with_frame, with_core, comp_in, comp_of, thread_in, thread_of}
+use low.{plain_cap, start, start_frame, start_cap, core_cap, place_with, refs, frame_names, number_names, Want, any, to_copy, to_use, Slot}
+use low.{Named, found, root_at, Target, Under, InRoot, place_at, held_in, usable_in, usable, reached, root_slot, only, root, same_thing}
+use low.{begun, Change, does, Cause, When, WaitedFor, Unflushed, Judged, Refused, Found, IsFoundAnd, named, held, mapped, and_then}
+use low.{or_refuse, unless, first_cause, refusal_of, waits_of, flushes_of, frames_of, cleared, with_thread, running, switched, Fill, Node}
+use low.{Become, Untype, Deaden, Pop, leaf_of, outside, make_node, make_rule, not_taken, edited, after_edits, with_tcap, with_budget}
+use low.{tcap_at, moved, is_untyped_now, is_empty, not_retyped, retype_rule, touch_by, translation_of, switch_to, rule_of, change_of}
+use low.{changed, counted, owed_by, state_by, MayReply, Event, Enters, Decides, Returns, after, is_in, is_open, IsRun, is_node, fits}
+use low.{IsGood, IfFound, put_other, waits_inside}
+use Rattle.found_stays.specs.kernel_invariant.proofs.{only_is, put_all, frames_no_place, unnamed, IsOpen, blank_by, untyped_by, free_holds}
+use Rattle.found_stays.specs.kernel_invariant.proofs.{holds_inj, choose, opened, open_is, inside_is, phase_own, phase_other, decided_opened}
+use Rattle.found_stays.specs.kernel_invariant.proofs.{ChangesFrom, outcome_from, suits, named_good, named_fit, vacant_facts, held_facts}
+use Rattle.found_stays.specs.kernel_invariant.proofs.{none_parts, when_not, not_not, then_parts, or_found, some_inj, some_none, none_some}
+use Rattle.found_stays.specs.kernel_rules.specs.{State.State, Edits.Remove, Edits.Switch as switch_edit, Edits.begins_in}
+use Rattle.found_stays.specs.kernel_invariant.proofs.{SoundRemovals.not_chosen, SoundRemovals.none_waits, SoundCalls.zero_refs}
+use Rattle.found_stays.specs.kernel_invariant.proofs.{SoundCalls.nothing_held, SoundCalls.empty_node, SoundEdits.closed}
 use Rattle.kernel_laws.specs.Nodes.{takes, leads_to, FitsNode, NodesHoldWhatFits}
-use Rattle.kernel_laws.proofs.NodeSteps.{IsFitted, fewer, IsAlike, alike_same, alike_none, alike_then}
-use Rattle.kernel_laws.proofs.NodeSteps.{alike_step, fill_fits, remove_fits, object_fits, untype_fits}
+use Rattle.kernel_laws.proofs.NodeSteps.{IsFitted, fewer, IsAlike, alike_same, alike_none, alike_then, alike_step, fill_fits, remove_fits}
+use Rattle.{found_stays.proofs.name_parts, found_stays.proofs.table_relies, std.proofs.lemmas.Bool.cases_eq, std.specs.List.list_any}
+use Rattle.{found_stays.specs.spk_nums.specs.declared.calls.Call.TheVariants.Make as make_call}
+use Rattle.{found_stays.specs.spk_nums.specs.declared.calls.Call.TheVariants.Call as call_gate, found_stays.proofs.Stays.link_of}
+use Rattle.{found_stays.proofs.Stays.fields, kernel_laws.proofs.NodeSteps.object_fits, kernel_laws.proofs.NodeSteps.untype_fits}
 
 -- What is known where a call is carried out
 
@@ -84,49 +55,49 @@ module _ (s : State) (o : ℕ → Bool) (c : ℕ) (h : IsOpen s o c) (w : IsFitt
       let l = link_of (usable s c (root_slot table.frame n)) (table.found && nat_le n 4095) (n % 64) at e in
       subst (λ f. IsTrue (leads_to (s.frame table.frame) (s.frame f))) l.3 (usable_fits (root_slot table.frame n) l.0 node l.1).leaf
 
-  table_leaf : (x : Frame) → IsTrue (fits kind.Table x) → (y : Frame) → IsTrue (leads_to x y) → y ≡ Kernel Leaf
+  table_leaf : (x : Frame) → IsTrue (fits Kind.Table x) → (y : Frame) → IsTrue (leads_to x y) → y ≡ Kernel Leaf
   table_leaf (Kernel Table) fit (Kernel Leaf) leads = refl
   table_leaf (Kernel Table) fit _ leads = absurd (false≢true leads)
   table_leaf _ fit y leads = absurd (false≢true fit)
 
-  pub pages_leaf : (x : Frame) → IsTrue (fits kind.Pages x) → (y : Frame) → IsTrue (leads_to x y) → y ≡ Kernel Pleaf
+  pub pages_leaf : (x : Frame) → IsTrue (fits Kind.Pages x) → (y : Frame) → IsTrue (leads_to x y) → y ≡ Kernel Pleaf
   pages_leaf (Kernel Pages) fit (Kernel Pleaf) leads = refl
   pages_leaf (Kernel Pages) fit _ leads = absurd (false≢true leads)
   pages_leaf _ fit y leads = absurd (false≢true fit)
 
-  pub fit_node : (k : Kind) (x : Frame) → IsTrue (fits k x) → (k ≡ kind.Table → IsTrue (is_node x)) × (k ≡ kind.Pages → IsTrue (is_node x))
+  pub fit_node : (k : Kind) (x : Frame) → IsTrue (fits k x) → (k ≡ Kind.Table → IsTrue (is_node x)) × (k ≡ Kind.Pages → IsTrue (is_node x))
   fit_node k x fit = ((λ e. table x (subst (λ j. IsTrue (fits j x)) e fit)), (λ e. pages x (subst (λ j. IsTrue (fits j x)) e fit)))
     where
-      table : (x : Frame) → IsTrue (fits kind.Table x) → IsTrue (is_node x)
+      table : (x : Frame) → IsTrue (fits Kind.Table x) → IsTrue (is_node x)
       table (Kernel Table) h = refl
       table _ h = absurd (false≢true h)
 
-      pages : (x : Frame) → IsTrue (fits kind.Pages x) → IsTrue (is_node x)
+      pages : (x : Frame) → IsTrue (fits Kind.Pages x) → IsTrue (is_node x)
       pages (Kernel Pages) h = refl
       pages _ h = absurd (false≢true h)
 
   -- The slot under a table is in a leaf, and one under pages in a leaf of pages.
-  in_leaf : (t b : ℕ) (table : Capability) (at : Slot) → named s c t (to_use (only kind.Table)) ≡ Found table
+  in_leaf : (t b : ℕ) (table : Capability) (at : Slot) → named s c t (to_use (only Kind.Table)) ≡ Found table
       → reached s c (Under (found table) b) ≡ Some at
       → s.frame at.node ≡ Kernel Leaf
   in_leaf t b table at e r =
-      let fit = named_fit s o c t kind.Table table h.sound h.is e in
+      let fit = named_fit s o c t Kind.Table table h.sound h.is e in
       table_leaf (s.frame table.frame) fit (s.frame at.node)
-      (leaf_fits (found table) b at ((fit_node kind.Table (s.frame table.frame) fit).0 refl) r)
+      (leaf_fits (found table) b at ((fit_node Kind.Table (s.frame table.frame) fit).0 refl) r)
 
-  in_pleaf : (p v : ℕ) (pages : Capability) (at : Slot) → named s c p (to_use (only kind.Pages)) ≡ Found pages
+  in_pleaf : (p v : ℕ) (pages : Capability) (at : Slot) → named s c p (to_use (only Kind.Pages)) ≡ Found pages
       → reached s c (Under (found pages) v) ≡ Some at
       → s.frame at.node ≡ Kernel Pleaf
   in_pleaf p v pages at e r =
-      let fit = named_fit s o c p kind.Pages pages h.sound h.is e in
+      let fit = named_fit s o c p Kind.Pages pages h.sound h.is e in
       pages_leaf (s.frame pages.frame) fit (s.frame at.node)
-      (leaf_fits (found pages) v at ((fit_node kind.Pages (s.frame pages.frame) fit).1 refl) r)
+      (leaf_fits (found pages) v at ((fit_node Kind.Pages (s.frame pages.frame) fit).1 refl) r)
 
   -- What a name leads to is no link and no page.
   name_takes : (n : ℕ) (wanted : Want) (k : Capability) → named s c n wanted ≡ Found k → IsTrue (takes (Kernel Leaf) k.kind)
   name_takes n wanted k e =
       let p = name_parts s c n wanted k e in
-      let fit : IsTrue (fits kind.Table (s.frame (comp_of s c).table)) = (fields s o c h.sound h.is).0 in
+      let fit : IsTrue (fits Kind.Table (s.frame (comp_of s c).table)) = (fields s o c h.sound h.is).0 in
       let at : s.frame p.0.node ≡ Kernel Leaf =
       table_leaf (s.frame (comp_of s c).table) fit (s.frame p.0.node)
       (leaf_fits (root_at (comp_of s c).table) n p.0 (table_relies s o c h.sound h.is).node p.1) in
@@ -229,20 +200,20 @@ module _ (s : State) (o : ℕ → Bool) (c : ℕ) (h : IsOpen s o c) (w : IsFitt
       apart e = false≢true (sym (blank_none f blank) ∙ ap (λ n. is_node (s.frame n)) (sym e) ∙ ap is_node leaf)
 
   make_keeps : (what : Make) (r f t b : ℕ) → ChangesFrom Keeps s c (make_rule s what r f t b)
-  make_keeps make.Table r f t b = node_keeps Table kind.Table refl r f t b
-  make_keeps make.Leaf r f t b = node_keeps Leaf kind.Leaf refl r f t b
-  make_keeps make.Pages r f t b = node_keeps Pages kind.Pages refl r f t b
-  make_keeps make.Pleaf r f t b = node_keeps Pleaf kind.Pleaf refl r f t b
-  make_keeps (make.Thread comp) r f t b = λ range e table g k j at v calm.
+  make_keeps Make.Table r f t b = node_keeps Table Kind.Table refl r f t b
+  make_keeps Make.Leaf r f t b = node_keeps Leaf Kind.Leaf refl r f t b
+  make_keeps Make.Pages r f t b = node_keeps Pages Kind.Pages refl r f t b
+  make_keeps Make.Pleaf r f t b = node_keeps Pleaf Kind.Pleaf refl r f t b
+  make_keeps (Make.Thread comp) r f t b = λ range e table g k j at v calm.
       plain _ (object_keeps f (Thread (record { stack = k.frame ∷ []; runs_on = None }))
-      kind.Thread at refl (blank_by s o c r f range [] h e calm).1
+      Kind.Thread at refl (blank_by s o c r f range [] h e calm).1
       (in_leaf t b table at g (vacant_facts s c (Under (found table) b) at v).0) refl)
-  make_keeps (make.Tcap sched quality) r f t b = λ range e table g at v calm.
+  make_keeps (Make.Tcap sched quality) r f t b = λ range e table g at v calm.
       plain _ (object_keeps f (Tcap (record { budget = 0; qualities = (sched, quality) ∷ [] }))
-      kind.Tcap at refl (blank_by s o c r f range [] h e calm).1
+      Kind.Tcap at refl (blank_by s o c r f range [] h e calm).1
       (in_leaf t b table at g (vacant_facts s c (Under (found table) b) at v).0) refl)
-  make_keeps (make.Comp x p l) r f t b = λ range e table g own_table a own_pages d at v calm.
-      let fitted = object_keeps f (Comp _) kind.Comp at refl (blank_by s o c r f range (not_taken s l) h e calm).1
+  make_keeps (Make.Comp x p l) r f t b = λ range e table g own_table a own_pages d at v calm.
+      let fitted = object_keeps f (Comp _) Kind.Comp at refl (blank_by s o c r f range (not_taken s l) h e calm).1
       (in_leaf t b table at g (vacant_facts s c (Under (found table) b) at v).0) refl in
       plain _ (record { held = fitted.held; waiting = fitted.waiting })
 
@@ -251,25 +222,25 @@ module _ (s : State) (o : ℕ → Bool) (c : ℕ) (h : IsOpen s o c) (w : IsFitt
   typed_alike f y is none = subst (λ x. IsAlike x y) (sym is) (alike_none Untyped y refl none)
 
   retype_keeps : (r f : ℕ) (k : FrameKind) → ChangesFrom Keeps s c (retype_rule s r f k)
-  retype_keeps r f frame_kind.User = λ range e calm.
+  retype_keeps r f FrameKind.User = λ range e calm.
       framed (with_frame s f User) [] (λ g i. refl) (λ g i. refl)
       (put_alike s f User (typed_alike f User (untyped_by s o c r f range h e calm).1 refl)) (λ g i d q. q)
-  retype_keeps r f frame_kind.Kernel = λ range e calm.
+  retype_keeps r f FrameKind.Kernel = λ range e calm.
       framed (with_frame s f (Kernel Blank)) [] (λ g i. refl) (λ g i. refl)
       (put_alike s f (Kernel Blank) (typed_alike f (Kernel Blank) (untyped_by s o c r f range h e calm).1 refl)) (λ g i d q. q)
-  retype_keeps r f frame_kind.Untyped = λ range e calm.
-      let held : Cause = When (not (is_empty s f (s.frame f))) reply.NotEmpty in
-      let referenced : Cause = When (nat_lt 0 (refs s f)) (reply.Referenced (refs s f)) in
-      let p = none_parts (refusal_of s c (outside (found range) f)) (first_cause s c (not_retyped s f frame_kind.Untyped)) calm in
+  retype_keeps r f FrameKind.Untyped = λ range e calm.
+      let held : Cause = When (not (is_empty s f (s.frame f))) Reply.NotEmpty in
+      let referenced : Cause = When (nat_lt 0 (refs s f)) (Reply.Referenced (refs s f)) in
+      let p = none_parts (refusal_of s c (outside (found range) f)) (first_cause s c (not_retyped s f FrameKind.Untyped)) calm in
       let p1 = none_parts (refusal_of s c (is_untyped_now s f))
       (first_cause s c (referenced ∷ WaitedFor (FrameOf f) ∷ Unflushed (FrameOf f) ∷ held ∷ [])) p.1 in
       let p2 = none_parts (refusal_of s c referenced) (first_cause s c (WaitedFor (FrameOf f) ∷ Unflushed (FrameOf f) ∷ held ∷ [])) p1.1 in
       let p3 = none_parts (waits_of s c (FrameOf f)) (first_cause s c (Unflushed (FrameOf f) ∷ held ∷ [])) p2.1 in
       let p4 = none_parts (flushes_of s (FrameOf f)) (first_cause s c (held ∷ [])) p3.1 in
       let p5 = none_parts (refusal_of s c held) None p4.1 in
-      let zero : refs s f ≡ 0 = zero_refs (refs s f) (when_not (nat_lt 0 (refs s f)) (reply.Referenced (refs s f)) p2.0) in
+      let zero : refs s f ≡ 0 = zero_refs (refs s f) (when_not (nat_lt 0 (refs s f)) (Reply.Referenced (refs s f)) p2.0) in
       let empty : is_empty s f (s.frame f) ≡ true =
-      not_not (is_empty s f (s.frame f)) (when_not (not (is_empty s f (s.frame f))) reply.NotEmpty p5.0) in
+      not_not (is_empty s f (s.frame f)) (when_not (not (is_empty s f (s.frame f))) Reply.NotEmpty p5.0) in
       let fitted = untype_fits s o c f (unnamed s f zero) (none_waits s c f p3.0)
       (λ i k at. let b : IsTrue (is_node (s.frame f)) × (i < 64) = h.sound.bare f i k at in
       nothing_held s f i k (empty_node s f (s.frame f) empty b.0) b.1 at)
@@ -291,7 +262,7 @@ module _ (s : State) (o : ℕ → Bool) (c : ℕ) (h : IsOpen s o c) (w : IsFitt
       (λ g i. frames_no_place g i ((s.core c).thread ∷ (if q == (s.core c).tcap then [] else (s.core c).tcap ∷ []))) (λ g i. refl)
       (λ f. alike_then (s.frame f) (idle.frame f) _ (put_alike s (s.core c).thread _ (thread_alike (s.frame (s.core c).thread) _) f)
       (put_alike idle j.frame _ (thread_alike (idle.frame j.frame) _) f)) (λ g i d q. q)
-  switch_keeps j q (Some e) = λ calm. absurd (some_none (reply.Running e) (none_parts (Some (reply.Running e)) None calm).0)
+  switch_keeps j q (Some e) = λ calm. absurd (some_none (Reply.Running e) (none_parts (Some (Reply.Running e)) None calm).0)
 
   -- Every call that is carried out.
   rule_keeps : (call : Call) → ChangesFrom Keeps s c (rule_of s c call)
@@ -302,13 +273,13 @@ module _ (s : State) (o : ℕ → Bool) (c : ℕ) (h : IsOpen s o c) (w : IsFitt
   rule_keeps (remove_call t b) = λ table e at k g calm. removed (Under (found table) b) at k g
   rule_keeps (Grow t i l) = λ table e leaf f at g calm. grown t l table leaf at e f (vacant_facts s c (InRoot (found table) i) at g).0
     where
-      root_fits : (j : Kind) (x y : Frame) → IsTrue (root j) → IsTrue (fits j x) → IsTrue (fits (leaf_of j) y) → FitsNode x kind.Link y
-      root_fits kind.Table (Kernel Table) (Kernel Leaf) r a b = record { kind = refl; leaf = refl }
-      root_fits kind.Table (Kernel Table) _ r a b = absurd (false≢true b)
-      root_fits kind.Table _ y r a b = absurd (false≢true a)
-      root_fits kind.Pages (Kernel Pages) (Kernel Pleaf) r a b = record { kind = refl; leaf = refl }
-      root_fits kind.Pages (Kernel Pages) _ r a b = absurd (false≢true b)
-      root_fits kind.Pages _ y r a b = absurd (false≢true a)
+      root_fits : (j : Kind) (x y : Frame) → IsTrue (root j) → IsTrue (fits j x) → IsTrue (fits (leaf_of j) y) → FitsNode x Kind.Link y
+      root_fits Kind.Table (Kernel Table) (Kernel Leaf) r a b = record { kind = refl; leaf = refl }
+      root_fits Kind.Table (Kernel Table) _ r a b = absurd (false≢true b)
+      root_fits Kind.Table _ y r a b = absurd (false≢true a)
+      root_fits Kind.Pages (Kernel Pages) (Kernel Pleaf) r a b = record { kind = refl; leaf = refl }
+      root_fits Kind.Pages (Kernel Pages) _ r a b = absurd (false≢true b)
+      root_fits Kind.Pages _ y r a b = absurd (false≢true a)
       root_fits _ x y r a b = absurd (false≢true r)
 
       in_root : (table : Capability) (at : Slot) → reached s c (InRoot (found table) i) ≡ Some at → table.frame ≡ at.node
@@ -320,26 +291,26 @@ module _ (s : State) (o : ℕ → Bool) (c : ℕ) (h : IsOpen s o c) (w : IsFitt
 
       grown : (t l : ℕ) (table leaf : Capability) (at : Slot) → named s c t (to_use root) ≡ Found table
           → named s c l (to_use (only (leaf_of table.kind))) ≡ Found leaf
-          → reached s c (InRoot (found table) i) ≡ Some at → Keeps (does c s Nothing (Fill at (plain_cap kind.Link leaf.frame) ∷ []))
+          → reached s c (InRoot (found table) i) ≡ Some at → Keeps (does c s Nothing (Fill at (plain_cap Kind.Link leaf.frame) ∷ []))
       grown t l table leaf at e f r =
           let a : IsGood s table × IsTrue (root table.kind) = named_good s o c t (to_use root) table h.sound h.is e in
           let fit : IsTrue (fits (leaf_of table.kind) (s.frame leaf.frame)) = named_fit s o c l (leaf_of table.kind) leaf h.sound h.is f in
-          filled at (plain_cap kind.Link leaf.frame)
-          (subst (λ n. FitsNode (s.frame n) kind.Link (s.frame leaf.frame)) (in_root table at r)
+          filled at (plain_cap Kind.Link leaf.frame)
+          (subst (λ n. FitsNode (s.frame n) Kind.Link (s.frame leaf.frame)) (in_root table at r)
           (root_fits table.kind (s.frame table.frame) (s.frame leaf.frame) a.1 a.0.fit fit))
   rule_keeps (Shrink t i) = λ table e at k g calm. removed (InRoot (found table) i) at k g
   rule_keeps (Retype r f k) = retype_keeps r f k
   rule_keeps (make_call what r f t b) = make_keeps what r f t b
   rule_keeps (Map p v r f m) = λ pages e range g at u calm.
-      filled at (cap_of kind.Page f m.0)
-      (subst (λ x. FitsNode x kind.Page (s.frame f))
+      filled at (cap_of Kind.Page f m.0)
+      (subst (λ x. FitsNode x Kind.Page (s.frame f))
       (sym (in_pleaf p v pages at e (vacant_facts s c (Under (found pages) v) at u).0)) (record { kind = refl; leaf = refl }))
   rule_keeps (Unmap p v) = λ pages e at k g calm. removed (Under (found pages) v) at k g
   rule_keeps (Touch v) = touch_keeps (comp_of s c).pages v (translation_of (s.core c).cached (comp_of s c).pages v)
   rule_keeps Flush = λ calm. framed _ [] (λ g i. refl) (λ g i. refl) (λ g. alike_same (s.frame g)) (λ g i d q. q)
   rule_keeps (Gate k t b) = λ comp e table f at g calm.
-      filled at (cap_of kind.Gate comp.frame _)
-      (in_leaf_fits at kind.Gate (s.frame comp.frame) (in_leaf t b table at f (vacant_facts s c (Under (found table) b) at g).0) refl)
+      filled at (cap_of Kind.Gate comp.frame _)
+      (in_leaf_fits at Kind.Gate (s.frame comp.frame) (in_leaf t b table at f (vacant_facts s c (Under (found table) b) at g).0) refl)
   rule_keeps (Kill k) = λ comp e calm.
       let fields : CompFields = comp_in (s.frame comp.frame) in
       framed (edited c s (Deaden fields.number fields.epoch)) (begins_in c s (Deaden fields.number fields.epoch))
@@ -365,7 +336,7 @@ module _ (s : State) (o : ℕ → Bool) (c : ℕ) (h : IsOpen s o c) (w : IsFitt
       framed _ [] (λ g i. refl) (λ g i. refl) (put_alike s j.frame _ (tcap_alike (s.frame j.frame) _)) (λ g i d q. q)
   rule_keeps (Part r f n t b) = λ range e table g at u calm.
       filled at (part_of range f n)
-      (in_leaf_fits at kind.Range (s.frame f) (in_leaf t b table at g (vacant_facts s c (Under (found table) b) at u).0) refl)
+      (in_leaf_fits at Kind.Range (s.frame f) (in_leaf t b table at g (vacant_facts s c (Under (found table) b) at u).0) refl)
 
 -- Runs
 
@@ -393,13 +364,13 @@ changed_fits s o c v (Found change) keeps ok = keeps
 
 decided_fits : (s : State) (o : ℕ → Bool) (c : ℕ) (call : Call) (r : Reply) → IsOpen s o c → MayReply s c call r → IsFitted s o
     → IsFitted (state_by s c call r) (put o c false)
-decided_fits s o c call (reply.Ok v) h may w = counted_fits (changed s (change_of s c call)) (put o c false) c
+decided_fits s o c call (Reply.Ok v) h may w = counted_fits (changed s (change_of s c call)) (put o c false) c
     (changed_fits s o c v (change_of s c call)
     (outcome_from (λ k. IsFitted (begun s k.begins k.next) (put o c false)) s c (rule_of s c call) (rule_keeps s o c h w call)) may.1.1)
-decided_fits s o c call reply.CallsSpent h may w = shut s o c w
-decided_fits s o c call reply.Raced h may w =
+decided_fits s o c call Reply.CallsSpent h may w = shut s o c w
+decided_fits s o c call Reply.Raced h may w =
     counted_fits (owed_by s c call) (put o c false) c (shut (owed_by s c call) o c (owed_fits s o c call w))
-decided_fits s o c call (reply.Busy e) h may w =
+decided_fits s o c call (Reply.Busy e) h may w =
     counted_fits (owed_by s c call) (put o c false) c (shut (owed_by s c call) o c (owed_fits s o c call w))
 decided_fits s o c call _ h may w = counted_fits s (put o c false) c (shut s o c w)
 
@@ -435,8 +406,8 @@ start_fits setting = record { held = held; waiting = λ f i k c p q. absurd (fal
         choose P (f == 0) _ _
         (λ is. choose P (i == 0) _ _
         (λ first at. subst (λ (n : Capability). FitsNode (start_frame setting f) n.kind (start_frame setting n.frame))
-        (holds_inj (plain_cap kind.Link 1) k at)
-        (subst (λ n. FitsNode (start_frame setting n) kind.Link (start_frame setting 1))
+        (holds_inj (plain_cap Kind.Link 1) k at)
+        (subst (λ n. FitsNode (start_frame setting n) Kind.Link (start_frame setting 1))
         (sym (eqb-true f 0 is)) (record { kind = refl; leaf = refl })))
         (λ none at. absurd (free_holds k at)))
         (λ other. choose P (f == 1) _ _
@@ -484,29 +455,29 @@ runs_fit setting lim (Decides c call r ∷ events) run =
 
 -- What is found mapped is a page.
 module _ (s : State) (o : ℕ → Bool) (c : ℕ) (h : IsOpen s o c) (w : IsFitted s o) where
-  page_of : (x : Frame) (k : Kind) → x ≡ Kernel Pleaf → IsTrue (takes x k) → k ≡ kind.Page
-  page_of x k is take = only_is kind.Page k (subst (λ y. IsTrue (takes y k)) is take)
+  page_of : (x : Frame) (k : Kind) → x ≡ Kernel Pleaf → IsTrue (takes x k) → k ≡ Kind.Page
+  page_of x k is take = only_is Kind.Page k (subst (λ y. IsTrue (takes y k)) is take)
 
   pub held_is : (p : Place) (k : Capability) → held_in p ≡ Some k → p ≡ Holds k
   held_is (Holds j) k e = ap Holds (some_inj j k e)
   held_is _ k e = absurd (none_some k e)
 
-  pub mapped_page : (v : ℕ) (k : Capability) → mapped s c (comp_of s c).pages v ≡ Found k → k.kind ≡ kind.Page
+  pub mapped_page : (v : ℕ) (k : Capability) → mapped s c (comp_of s c).pages v ≡ Found k → k.kind ≡ Kind.Page
   mapped_page v k e =
-      let a = then_parts (unless (if nat_lt 4095 v then Some reply.NoSlot else None) v)
-      (λ v. and_then (or_refuse (reached s c (Under (root_at (comp_of s c).pages) v)) reply.Fault)
-      λ at. or_refuse (held_in (place_at s at)) reply.Fault) k e in
-      let b = then_parts (or_refuse (reached s c (Under (root_at (comp_of s c).pages) a.0)) reply.Fault)
-      (λ at. or_refuse (held_in (place_at s at)) reply.Fault) k a.2 in
+      let a = then_parts (unless (if nat_lt 4095 v then Some Reply.NoSlot else None) v)
+      (λ v. and_then (or_refuse (reached s c (Under (root_at (comp_of s c).pages) v)) Reply.Fault)
+      λ at. or_refuse (held_in (place_at s at)) Reply.Fault) k e in
+      let b = then_parts (or_refuse (reached s c (Under (root_at (comp_of s c).pages) a.0)) Reply.Fault)
+      (λ at. or_refuse (held_in (place_at s at)) Reply.Fault) k a.2 in
       let at : reached s c (Under (root_at (comp_of s c).pages) a.0) ≡ Some b.0 =
-      or_found (reached s c (Under (root_at (comp_of s c).pages) a.0)) reply.Fault b.0 b.1 in
-      let fit : IsTrue (fits kind.Pages (s.frame (comp_of s c).pages)) = (fields s o c h.sound h.is).1 in
+      or_found (reached s c (Under (root_at (comp_of s c).pages) a.0)) Reply.Fault b.0 b.1 in
+      let fit : IsTrue (fits Kind.Pages (s.frame (comp_of s c).pages)) = (fields s o c h.sound h.is).1 in
       let leaf : s.frame b.0.node ≡ Kernel Pleaf =
       pages_leaf s o c h w (s.frame (comp_of s c).pages) fit (s.frame b.0.node)
       (leaf_fits s o c h w (root_at (comp_of s c).pages) a.0 b.0
-      ((fit_node s o c h w kind.Pages (s.frame (comp_of s c).pages) fit).1 refl) at) in
+      ((fit_node s o c h w Kind.Pages (s.frame (comp_of s c).pages) fit).1 refl) at) in
       page_of (s.frame b.0.node) k.kind leaf
-      (w.held b.0.node b.0.index k (held_is (place_at s b.0) k (or_found (held_in (place_at s b.0)) reply.Fault k b.2))).kind
+      (w.held b.0.node b.0.index k (held_is (place_at s b.0) k (or_found (held_in (place_at s b.0)) Reply.Fault k b.2))).kind
 
 pub nodes_hold_what_fits : NodesHoldWhatFits
 nodes_hold_what_fits setting lim events run = record {

@@ -1,35 +1,18 @@
 -- In every state that a run reaches, the numbers are in range.
-use Rattle.std.proofs.Common.{◌≡◌, ◌≢◌, inl, inr, ℕ, zero, suc, ◌+◌, ◌*◌, ◌<◌, ◌≤◌, ◌-◌, ◌^◌, ◌==◌, Bool, true, false, refl}
-use Rattle.std.proofs.Common.{sym, ◌∙◌, ap, subst, arith, nat_le, nat_lt, List, [], ◌∷◌, length, slice_get, fold, All}
-use Rattle.std.proofs.lemmas.Bool.{cases_eq, cases_lt, leb-false, ltb-true, ltb-false}
-use Rattle.spk_nums.specs.Setting.{Setting, IsSetting, GrantFits}
-use Rattle.spk_nums.specs.CallLimits.{InLimits}
-use Rattle.spk_nums.specs.declared.grants.Grant.{Grant}
-use Rattle.spk_nums.specs.declared.calls.Call.{Call}
-use Rattle.spk_nums.specs.declared.calls.Call.TheVariants.{Tick}
-use Rattle.spk_nums.specs.declared.replies.Value.{Value}
-use Rattle.spk_nums.specs.declared.replies.Reply.{Reply}
-use Rattle.spk_nums.specs.declared.replies.Reply.TheVariants as reply
-use Rattle.kernel_rules.specs.State.{Comp, Thread, Tcap, Frame, Kernel, Core, Limits, State, put, with_core, tcap_in, outstanding}
-use Rattle.kernel_rules.specs.Start.{start, granted}
-use Rattle.kernel_rules.specs.References.{sum_below}
-use Rattle.kernel_rules.specs.Rules.{Change, Judged, Refused, Found, IsFoundAnd}
-use Rattle.kernel_rules.specs.CallRelation.{change_of, changed, counted, owed_by, state_by, MayReply}
-use Rattle.kernel_rules.specs.Ranges.{FrameInRange, NumberInRange, budget_at}
-use Rattle.kernel_rules.specs.Runs.{Event, Enters, Decides, Returns, after, is_open, IsRun}
-use Rattle.kernel_rules.specs.Laws.{ticks}
-use Rattle.kernel_rules.proofs.Changes.{IfFound}
-use Rattle.kernel_rules.proofs.Within.{put_same, put_other}
-use Rattle.kernel_rules.proofs.AloneLaw.{decided_stays}
-use Rattle.kernel_invariant.proofs.Sound.{IsSound, put_all}
-use Rattle.kernel_invariant.proofs.SoundCalls.{IsOpen}
-use Rattle.kernel_invariant.proofs.SoundStart.{choose}
-use Rattle.kernel_invariant.proofs.SoundRuns.{opened, open_is, open_limits, runs_sound}
-use Rattle.kernel_laws.specs.Laws.{RangesHold}
-use Rattle.kernel_laws.proofs.TicksLaw.{ticks_kept}
-use Rattle.kernel_laws.proofs.Back.{within_spent}
-use Rattle.kernel_laws.proofs.Shapes.{ListInRange, FrameShape, CoreShape, Shaped, Grows, ShapedBy, shaped_by}
-use Rattle.kernel_invariant.proofs.Edited.{found_by}
+use Rattle.found_stays.specs.kernel_rules.proofs.{◌≡◌, ◌≢◌, inl, inr, ℕ, zero, suc, ◌+◌, ◌*◌, ◌<◌, ◌≤◌, ◌-◌, ◌^◌, ◌==◌, Bool, true, false}
+use Rattle.found_stays.specs.kernel_rules.proofs.{refl, sym, ◌∙◌, ap, subst, arith, leb as nat_le, ltb as nat_lt, List, [], ◌∷◌, length}
+use Rattle.found_stays.specs.kernel_rules.proofs.{slice_get, fold, All, leb-false, ltb-true, ltb-false, Setting, IsSetting, InLimits, Grant}
+use Rattle.found_stays.specs.kernel_rules.proofs.{Call, Tick, Value, Reply, Comp, Thread, Tcap, Frame, Kernel, Core, Limits, put, with_core}
+use Rattle.found_stays.specs.kernel_rules.proofs.{tcap_in, outstanding, start, granted, sum_below, Change, Judged, Refused, Found}
+use Rattle.found_stays.specs.kernel_rules.proofs.{IsFoundAnd, change_of, changed, counted, owed_by, state_by, MayReply, FrameInRange}
+use Rattle.found_stays.specs.kernel_rules.proofs.{NumberInRange, Event, Enters, Decides, Returns, after, is_open, IsRun, ticks, IfFound}
+use Rattle.found_stays.specs.kernel_rules.proofs.{put_same, put_other, decided_stays}
+use Rattle.found_stays.specs.kernel_invariant.proofs.{IsSound, put_all, IsOpen, choose, opened, open_is, open_limits, runs_sound, found_by}
+use Rattle.std.proofs.lemmas.Bool.{cases_eq, cases_lt}
+use Rattle.found_stays.specs.kernel_rules.specs.{State.State, Ranges.budget_at}
+use Rattle.kernel_laws.proofs.{TicksLaw.ticks_kept, Back.within_spent, Shapes.ListInRange, Shapes.FrameShape, Shapes.CoreShape}
+use Rattle.kernel_laws.proofs.{Shapes.Shaped, Shapes.Grows, Shapes.ShapedBy, Shapes.shaped_by}
+use Rattle.{found_stays.specs.spk_nums.specs.Setting.GrantFits, kernel_laws.specs.Laws.RangesHold}
 
 -- the shape
 
@@ -100,12 +83,12 @@ owed_shape s c _ lim more h = refused_shape s c (s.core c) more (stays s c h) h
 
 decided_shape : (s : State) (o : ℕ → Bool) (c : ℕ) (call : Call) (r : Reply) → IsOpen s o c → InLimits call → MayReply s c call r
     → Shaped s → Shaped (state_by s c call r)
-decided_shape s o c call (reply.Ok v) turn lim may h = found_shape s c v (change_of s c call) may.0 h
+decided_shape s o c call (Reply.Ok v) turn lim may h = found_shape s c v (change_of s c call) may.0 h
     (found_by s c call (ShapedBy s c) (shaped_by s o c turn h call lim))
-    may.1.1 (decided_stays s c call (reply.Ok v)).limits
-decided_shape s o c call reply.CallsSpent turn lim may h = h
-decided_shape s o c call reply.Raced turn lim may h = owed_shape s c call lim may.0 h
-decided_shape s o c call (reply.Busy e) turn lim may h = owed_shape s c call lim may.0 h
+    may.1.1 (decided_stays s c call (Reply.Ok v)).limits
+decided_shape s o c call Reply.CallsSpent turn lim may h = h
+decided_shape s o c call Reply.Raced turn lim may h = owed_shape s c call lim may.0 h
+decided_shape s o c call (Reply.Busy e) turn lim may h = owed_shape s c call lim may.0 h
 decided_shape s o c call _ turn lim may h = refused_shape s c (s.core c) may.0 (stays s c h) h
 
 -- What holds of all of a list holds of its first, and of all others.

@@ -1,30 +1,16 @@
 -- Every decision keeps the lengths, lists, epochs and counts of a state in range.
-use Rattle.std.proofs.Common.{◌≡◌, ◌≢◌, ℕ, ◌+◌, ◌-◌, ◌*◌, ◌<◌, ◌≤◌, Bool, true, false, refl, sym, ◌∙◌, ap, subst, arith, min}
-use Rattle.std.proofs.Common.{nat_lt, if◌then◌else◌, IsTrue, List, [], ◌∷◌, ◌++◌, length, length-append, drop, Option, Some, None}
-use Rattle.std.proofs.lemmas.Bool.{false≢true, eqb-true, ltb-true}
-use Rattle.spk_nums.specs.CallLimits.{InLimits}
-use Rattle.spk_nums.specs.Qualities.{IsQualityList}
-use Rattle.spk_nums.specs.declared.kinds.Kind.TheVariants as kind
-use Rattle.spk_nums.specs.declared.calls.Call.{Call}
-use Rattle.spk_nums.specs.declared.calls.Call.TheVariants.{Tick}
-use Rattle.spk_nums.specs.declared.translations.Translation.{Translation}
-use Rattle.kernel_rules.specs.State.{ThreadFields, TcapFields, Comp, Thread, Tcap, Frame, Untyped, Kernel, Liveness, Unused, Live, Dead}
-use Rattle.kernel_rules.specs.State.{Core, State, put, thread_in, tcap_in, thread_of}
-use Rattle.spk_nums.specs.declared.replies.Value.{Value}
-use Rattle.kernel_rules.specs.Rules.{Change, does}
-use Rattle.kernel_rules.specs.CapabilityCalls.{epoch_of}
-use Rattle.kernel_rules.specs.Edits.{caching, with_thread, with_stack, running, tcap_at, with_tcap, with_budget, charge, Edit, Fill, Node}
-use Rattle.kernel_rules.specs.Life.{is_live_in}
-use Rattle.kernel_rules.specs.Edits.{Become, Untype, Component, Deaden, Push, Pop, Switch, Cache, Flush, Charge, Move, Merge, Give, edited}
-use Rattle.kernel_rules.specs.Edits.{after_edits}
-use Rattle.kernel_rules.specs.Ranges.{EpochInRange, CompInRange, ThreadInRange, NumberInRange}
-use Rattle.kernel_rules.specs.Fitting.{fits}
-use Rattle.kernel_rules.specs.Relies.{is_node}
-use Rattle.kernel_rules.proofs.Within.{put_same, put_other}
-use Rattle.kernel_invariant.specs.Edits.{charged_by, charged_in, charged_all}
-use Rattle.kernel_invariant.proofs.Sound.{put_all}
-use Rattle.kernel_invariant.proofs.SoundCalls.{IsOpen}
-use Rattle.kernel_invariant.proofs.Edited.{Tested, Limited, Known, Each, Edits}
+use Rattle.found_stays.specs.kernel_rules.proofs as low
+use low.{◌≡◌, ◌≢◌, ℕ, ◌+◌, ◌-◌, ◌*◌, ◌<◌, ◌≤◌, Bool, true, false, refl, sym, ◌∙◌, ap, subst, arith, min, ltb as nat_lt, if◌then◌else◌}
+use low.{IsTrue, List, [], ◌∷◌, ◌++◌, length, length-append, drop, Option, Some, None, false≢true, eqb-true, ltb-true, InLimits}
+use low.{IsQualityList, Call, Tick, Translation, ThreadFields, TcapFields, Comp, Thread, Tcap, Frame, Untyped, Kernel, Liveness, Unused}
+use low.{Live, Dead, Core, put, thread_in, tcap_in, thread_of, Value, Change, does, epoch_of, caching, with_thread, with_stack, running}
+use low.{tcap_at, with_tcap, with_budget, charge, Edit, Fill, Node, is_live_in, Become, Untype, Component, Deaden, Push, Pop, Cache, Charge}
+use low.{Move, Merge, Give, edited, after_edits, NumberInRange, fits, is_node, put_same, put_other, Kind}
+use Rattle.found_stays.specs.kernel_invariant.proofs.{put_all, IsOpen, Tested, Known, Each}
+use Rattle.found_stays.specs.kernel_invariant.specs.{charged_by, charged_in, charged_all}
+use Rattle.found_stays.specs.kernel_rules.specs.{State.State, Edits.Switch, Edits.Flush, Ranges.EpochInRange, Ranges.CompInRange}
+use Rattle.found_stays.specs.kernel_rules.specs.{Ranges.ThreadInRange}
+use Rattle.found_stays.specs.kernel_invariant.proofs.Edited.{Limited, Edits}
 use Rattle.kernel_laws.proofs.Lists.{merged_list_is, merged_some}
 
 -- A list of qualities has 1 to 8 pairs, in order and in range.
@@ -106,7 +92,7 @@ fresh_shape c s e f (Kernel (Tcap q)) h = (let n = h.0 in record { least = omega
 fresh_shape c s e f _ h = tt
 
 -- The list of a frame with a temporal capability.
-list_shape : (e : ℕ) (x : Frame) → IsTrue (fits kind.Tcap x) → FrameShape e x → ListInRange (tcap_in x).qualities
+list_shape : (e : ℕ) (x : Frame) → IsTrue (fits Kind.Tcap x) → FrameShape e x → ListInRange (tcap_in x).qualities
 list_shape e (Kernel (Tcap q)) fit h = h
 list_shape e _ fit h = absurd (false≢true fit)
 
@@ -194,7 +180,7 @@ edit_fits c s (Merge f qs) tested lim k h = tcap_puts s f _ (λ l. subst ListInR
     second : ListInRange (tcap_at s f).qualities
     second = list_shape s.limits.epochs (s.frame f) k.to.fit (h.frames f)
 
-    list : ListInRange (Rattle.kernel_rules.specs.TimeCalls.merged_list s k.other f)
+    list : ListInRange (Rattle.found_stays.specs.kernel_rules.specs.TimeCalls.merged_list s k.other f)
     list = record {
       least = merged_some (tcap_at s k.other).qualities (tcap_at s f).qualities first.least;
       most = (let n = ap (λ (l : List (ℕ × ℕ)). length l) k.is in let few = k.few in omega (arith, n, few));

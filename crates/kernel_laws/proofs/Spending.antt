@@ -1,22 +1,13 @@
 -- What a core has spent and owes is the sum of its decided ticks.
-use Rattle.std.proofs.Common.{◌≡◌, ◌≢◌, ◌⊎◌, inl, inr, ℕ, ◌+◌, ◌-◌, ◌≤◌, min, arith}
-use Rattle.std.proofs.Common.{IsTrue, refl, sym, ◌∙◌, ap, subst, true, false, ◌==◌, if◌then◌else◌, List, [], ◌∷◌}
-use Rattle.std.proofs.lemmas.Bool.{cases_eq, eq-eqb, ne_eqb, false≢true}
-use Rattle.spk_nums.specs.declared.calls.Call.{Call}
-use Rattle.spk_nums.specs.declared.calls.Call.TheVariants.{Tick}
-use Rattle.spk_nums.specs.declared.replies.Value.{Value}
-use Rattle.spk_nums.specs.declared.replies.Reply.{Reply}
-use Rattle.spk_nums.specs.declared.replies.Reply.TheVariants as reply
-use Rattle.kernel_rules.specs.State.{Core, State, put}
-use Rattle.kernel_rules.specs.Rules.{RuleMay}
-use Rattle.kernel_rules.specs.Edits.{caching, tcap_at, charge, Edit, Switch, Cache, Flush, Charge, Give, edited, after_edits}
-use Rattle.kernel_rules.specs.Life.{asks_life}
-use Rattle.kernel_rules.specs.CallRelation.{rule_of, change_of, changed, counted, owed_by, state_by, MayBeDead, MayReply}
-use Rattle.kernel_rules.specs.Runs.{Enters, Decides, Returns, after}
-use Rattle.kernel_rules.proofs.Within.{put_same, put_other}
-use Rattle.kernel_invariant.specs.Edits.{charged_by, charged_in, charged_all}
-use Rattle.kernel_invariant.proofs.Sound.{put_all}
-use Rattle.kernel_invariant.proofs.Edited.{after_ok}
+use Rattle.found_stays.specs.kernel_rules.proofs.{◌≡◌, ◌≢◌, ◌⊎◌, inl, inr, ℕ, ◌+◌, ◌-◌, ◌≤◌, min, arith, IsTrue, refl, sym, ◌∙◌, ap, subst}
+use Rattle.found_stays.specs.kernel_rules.proofs.{true, false, ◌==◌, if◌then◌else◌, List, [], ◌∷◌, eq-eqb, ne_eqb, false≢true, Call, Tick}
+use Rattle.found_stays.specs.kernel_rules.proofs.{Value, Reply, Core, put, RuleMay, caching, tcap_at, charge, Edit, Cache, Charge, Give}
+use Rattle.found_stays.specs.kernel_rules.proofs.{edited, after_edits, asks_life, rule_of, change_of, changed, counted, owed_by, state_by}
+use Rattle.found_stays.specs.kernel_rules.proofs.{MayReply, Enters, Decides, Returns, after, put_same, put_other}
+use Rattle.found_stays.specs.kernel_invariant.specs.{charged_by, charged_in, charged_all}
+use Rattle.found_stays.specs.kernel_invariant.proofs.{put_all, after_ok}
+use Rattle.std.proofs.lemmas.Bool.{cases_eq}
+use Rattle.found_stays.specs.kernel_rules.specs.{State.State, Edits.Switch, Edits.Flush, CallRelation.MayBeDead}
 use Rattle.kernel_laws.specs.Laws.{ticks_of, ticks_counted, ticks_by, decided_ticks, SpendingSums}
 
 -- What a core has spent and owes.
@@ -67,7 +58,7 @@ charged_ticks (Tick n) = refl
 charged_ticks _ = refl
 
 -- A decision: the counted ticks of a call by its reply.
-changed_due : (s : State) (c : ℕ) (call : Call) (v : Value) → MayReply s c call (reply.Ok v)
+changed_due : (s : State) (c : ℕ) (call : Call) (v : Value) → MayReply s c call (Reply.Ok v)
     → Counts s c (ticks_of call) (changed s (change_of s c call)).core
 changed_due s c call v may = after_ok s c call v (λ t. Counts s c (ticks_of call) t.core) may (λ es e.
     subst (λ n. Counts s c n (after_edits c s es).core) (ap (λ (p : ℕ × ℕ). p.0) (sym e.agrees.3) ∙ charged_ticks call)
@@ -99,18 +90,18 @@ counts s c n t by = counted_due s t c n (record (t.core c) { counted = (t.core c
 
 decided_due : (s : State) (c : ℕ) (call : Call) (r : Reply) → MayReply s c call r
     → Counts s c (ticks_counted call r) (state_by s c call r).core
-decided_due s c call (reply.Ok v) may =
+decided_due s c call (Reply.Ok v) may =
     counts s c (ticks_of call) (changed s (change_of s c call))
     (changed_due s c call v may)
-decided_due s c call reply.CallsSpent may = same s c
-decided_due s c call reply.Raced may = counts s c (ticks_of call) (owed_by s c call) (owed_due s c call)
-decided_due s c call (reply.Busy e) may = counts s c (ticks_of call) (owed_by s c call) (owed_due s c call)
-decided_due s c call reply.Dead may = dead_due may.1
+decided_due s c call Reply.CallsSpent may = same s c
+decided_due s c call Reply.Raced may = counts s c (ticks_of call) (owed_by s c call) (owed_due s c call)
+decided_due s c call (Reply.Busy e) may = counts s c (ticks_of call) (owed_by s c call) (owed_due s c call)
+decided_due s c call Reply.Dead may = dead_due may.1
   where
     -- no `tick` asks for life
-    dead_due : MayBeDead s c call ⊎ RuleMay s c (rule_of s c call) reply.Dead → Counts s c (ticks_of call) (counted s c).core
+    dead_due : MayBeDead s c call ⊎ RuleMay s c (rule_of s c call) Reply.Dead → Counts s c (ticks_of call) (counted s c).core
     dead_due (inl h) = counts s c (ticks_of call) s (subst (λ n. Counts s c n s.core) (sym (no_life call h.0)) (same s c))
-    dead_due (inr h) = counts s c (ticks_of call) s (subst (λ n. Counts s c n s.core) (sym (no_ticks s c reply.Dead call h)) (same s c))
+    dead_due (inr h) = counts s c (ticks_of call) s (subst (λ n. Counts s c n s.core) (sym (no_ticks s c Reply.Dead call h)) (same s c))
 decided_due s c call r may =
     counts s c (ticks_of call) s (subst (λ n. Counts s c n s.core) (sym (no_ticks s c r call may.1)) (same s c))
 

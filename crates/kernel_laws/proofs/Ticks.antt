@@ -1,19 +1,12 @@
 -- Every edit keeps the sum of budgets and of the ticks that are spent and were not given back.
-use Rattle.std.proofs.Common.{◌≡◌, ◌≢◌, ℕ, ◌+◌, ◌-◌, ◌<◌, ◌≤◌, min, true, refl, sym, ◌∙◌, ap, subst, arith, IsTrue}
-use Rattle.std.proofs.Common.{List, [], ◌∷◌, Some, None}
-use Rattle.std.proofs.lemmas.Bool.{false≢true, eqb-true}
-use Rattle.spk_nums.specs.declared.kinds.Kind.TheVariants as kind
-use Rattle.kernel_rules.specs.State.{TcapFields, ThreadFields, Blank, Comp, Thread, Tcap, Frame, Untyped, Kernel, outstanding}
-use Rattle.kernel_rules.specs.State.{Core, State, put, with_frame, with_core, tcap_in}
-use Rattle.kernel_rules.specs.Fitting.{fits}
-use Rattle.kernel_rules.specs.Laws.{ticks}
-use Rattle.kernel_rules.specs.MemoryCalls.{is_empty}
-use Rattle.kernel_rules.specs.Edits.{with_thread, running, tcap_at, with_tcap, with_budget, charge, moved, Edit, Node, Become, Untype}
-use Rattle.kernel_rules.specs.Edits.{Component, Push, Pop, Switch, Cache, Flush, Charge, Move, Merge, Give, edited, after_edits}
-use Rattle.kernel_rules.proofs.Within.{put_same, put_other}
-use Rattle.kernel_invariant.proofs.Sums.{sum_same, sum_one}
-use Rattle.kernel_invariant.proofs.Sound.{put_all}
-use Rattle.kernel_invariant.proofs.Edited.{is_bare, Known, Each, HasTcap, Moves}
+use Rattle.found_stays.specs.kernel_rules.proofs as low
+use low.{◌≡◌, ◌≢◌, ℕ, ◌+◌, ◌-◌, ◌<◌, ◌≤◌, min, true, refl, sym, ◌∙◌, ap, subst, arith, IsTrue, List, [], ◌∷◌, Some, None, false≢true}
+use low.{eqb-true, TcapFields, ThreadFields, Blank, Comp, Thread, Tcap, Frame, Untyped, Kernel, outstanding, Core, put, with_frame}
+use low.{with_core, tcap_in, fits, ticks, is_empty, with_thread, running, tcap_at, with_tcap, with_budget, charge, moved, Edit, Node}
+use low.{Become, Untype, Component, Push, Pop, Cache, Charge, Move, Merge, Give, edited, after_edits, put_same, put_other, Kind}
+use Rattle.found_stays.specs.kernel_invariant.proofs.{sum_same, sum_one, put_all, is_bare, Known, Each}
+use Rattle.found_stays.specs.kernel_rules.specs.{State.State, Edits.Switch, Edits.Flush}
+use Rattle.found_stays.specs.kernel_invariant.proofs.Edited.{HasTcap, Moves}
 use Rattle.kernel_laws.proofs.Back.{edit_back}
 
 abbrev budget : Frame → ℕ
@@ -62,7 +55,7 @@ thread_budget (Kernel (Thread u)) t = refl
 thread_budget _ t = refl
 
 -- The budget of a frame with a temporal capability is the one that is put there.
-put_budget : (x : Frame) (q : TcapFields) → IsTrue (fits kind.Tcap x) → budget (with_tcap x q) ≡ q.budget
+put_budget : (x : Frame) (q : TcapFields) → IsTrue (fits Kind.Tcap x) → budget (with_tcap x q) ≡ q.budget
 put_budget (Kernel (Tcap p)) q h = refl
 put_budget _ q h = absurd (false≢true h)
 
@@ -80,7 +73,7 @@ moved_ticks s a b m h =
     let p = budget_ticks s a ((tcap_at s a).budget - m) h.from in
     let q = frame_ticks first b (with_tcap (first.frame b) (record (tcap_at first b) { budget = (tcap_at s b).budget + m })) h.to.below in
     let r = put_budget (first.frame b) (record (tcap_at first b) { budget = (tcap_at s b).budget + m })
-    (subst (λ x. IsTrue (fits kind.Tcap x)) (sym same) h.to.fit) in
+    (subst (λ x. IsTrue (fits Kind.Tcap x)) (sym same) h.to.fit) in
     let t : budget (first.frame b) ≡ budget (s.frame b) = ap budget same in
     let enough = h.enough in
     omega (arith, p, q, r, t, enough)

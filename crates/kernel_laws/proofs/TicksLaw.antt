@@ -1,27 +1,13 @@
 -- In every state that a run reaches, budgets and the ticks that are spent and were not given back sum to the grants.
-use Rattle.std.proofs.Common.{◌≡◌, ℕ, zero, suc, ◌+◌, ◌-◌, ◌*◌, ◌<◌, ◌≤◌, Bool, refl, sym, ◌∙◌, ap}
-use Rattle.std.proofs.Common.{arith, ◌==◌, nat_lt, List, [], ◌∷◌, length, slice_get, fold, sum_by}
-use Rattle.std.proofs.lemmas.Bool.{false≢true, lt-ltb}
-use Rattle.spk_nums.specs.Setting.{Setting, IsSetting}
-use Rattle.spk_nums.specs.declared.grants.Grant.{Grant}
-use Rattle.spk_nums.specs.declared.calls.Call.{Call}
-use Rattle.spk_nums.specs.declared.calls.Call.TheVariants.{Tick}
-use Rattle.spk_nums.specs.declared.replies.Reply.{Reply}
-use Rattle.spk_nums.specs.declared.replies.Reply.TheVariants as reply
-use Rattle.kernel_rules.specs.State.{Frame, Limits, State, outstanding, tcap_in}
-use Rattle.kernel_rules.specs.Start.{start, start_frame, granted}
-use Rattle.kernel_rules.specs.References.{sum_below}
-use Rattle.kernel_rules.specs.CallRelation.{change_of, changed, owed_by, state_by, MayReply}
-use Rattle.kernel_rules.specs.Runs.{Enters, Decides, Returns, after, is_open}
-use Rattle.kernel_rules.specs.Laws.{ticks}
+use Rattle.found_stays.specs.kernel_rules.proofs as low
+use low.{◌≡◌, ℕ, zero, suc, ◌+◌, ◌-◌, ◌*◌, ◌<◌, ◌≤◌, Bool, refl, sym, ◌∙◌, ap, arith, ◌==◌, ltb as nat_lt, List, [], ◌∷◌, length, slice_get}
+use low.{fold, sum_by, false≢true, lt-ltb, Setting, IsSetting, Grant, Call, Tick, Reply, Frame, Limits, outstanding, tcap_in, start}
+use low.{start_frame, granted, sum_below, change_of, changed, owed_by, state_by, MayReply, Enters, Decides, Returns, after, is_open, ticks}
+use Rattle.found_stays.specs.kernel_invariant.proofs.{sum_same, after_ok, IsOpen, choose, past_three, opened, open_is, limits_stay}
+use Rattle.found_stays.specs.kernel_rules.specs.State.{State}
+use Rattle.found_stays.specs.kernel_invariant.proofs.SoundStart.{if_not, not_below}
 use Rattle.kernel_laws.specs.Laws.{grants_sum, TicksKept, NoneGivenBack}
-use Rattle.kernel_invariant.proofs.Sums.{sum_same}
-use Rattle.kernel_invariant.proofs.Edited.{after_ok}
-use Rattle.kernel_invariant.proofs.SoundCalls.{IsOpen}
-use Rattle.kernel_invariant.proofs.SoundStart.{choose, if_not, not_below, past_three}
-use Rattle.kernel_invariant.proofs.SoundRuns.{opened, open_is, limits_stay}
-use Rattle.kernel_laws.proofs.Back.{back_sums, within_spent}
-use Rattle.kernel_laws.proofs.Ticks.{same_spent, edits_ticks}
+use Rattle.kernel_laws.proofs.{Back.back_sums, Back.within_spent, Ticks.same_spent, Ticks.edits_ticks}
 
 -- A sum over two stretches.
 sum_split : (f : ℕ → ℕ) (a b : ℕ) → sum_below f (a + b) ≡ sum_below f a + sum_below (λ i. f (a + i)) b
@@ -126,11 +112,11 @@ owed_ticks s c _ = refl
 
 decided_ticks : (s : State) (o : ℕ → Bool) (c : ℕ) (call : Call) (r : Reply)
     → IsOpen s o c → (s.core c).back ≤ (s.core c).spent → MayReply s c call r → ticks (state_by s c call r) ≡ ticks s
-decided_ticks s o c call (reply.Ok v) h within may = same_spent (changed s (change_of s c call)) c _ refl
+decided_ticks s o c call (Reply.Ok v) h within may = same_spent (changed s (change_of s c call)) c _ refl
     ∙ after_ok s c call v (λ t. ticks t ≡ ticks s) may (λ es e. edits_ticks c s es (e.known o h) within)
-decided_ticks s o c call reply.CallsSpent h within may = refl
-decided_ticks s o c call reply.Raced h within may = same_spent (owed_by s c call) c _ refl ∙ owed_ticks s c call
-decided_ticks s o c call (reply.Busy e) h within may = same_spent (owed_by s c call) c _ refl ∙ owed_ticks s c call
+decided_ticks s o c call Reply.CallsSpent h within may = refl
+decided_ticks s o c call Reply.Raced h within may = same_spent (owed_by s c call) c _ refl ∙ owed_ticks s c call
+decided_ticks s o c call (Reply.Busy e) h within may = same_spent (owed_by s c call) c _ refl ∙ owed_ticks s c call
 decided_ticks s o c call _ h within may = same_spent s c _ refl
 
 pub ticks_kept : TicksKept

@@ -1,22 +1,8 @@
 -- Worked examples of two cores: what the relation permits while both are in a call.
-use Rattle.std.proofs.Common.{◌≡◌, inl, inr, refl, ℕ, arith}
-use Rattle.std.specs.Prelude.{true, false, List, [], ◌∷◌}
-use Rattle.spk_nums.specs.Rights.{whole_copy}
-use Rattle.spk_nums.specs.Setting.{Setting}
-use Rattle.spk_nums.specs.Capability.{Capability, cap_of}
-use Rattle.spk_nums.specs.declared.kinds.Kind.TheVariants as kind
-use Rattle.spk_nums.specs.declared.kinds.FrameKind.TheVariants as frame_kind
-use Rattle.spk_nums.specs.declared.calls.Make.TheVariants as make
-use Rattle.spk_nums.specs.declared.calls.Call.{Call}
-use Rattle.spk_nums.specs.declared.calls.Call.TheVariants as call
-use Rattle.spk_nums.specs.declared.replies.Value.TheVariants.{Nothing, Cap}
-use Rattle.spk_nums.specs.declared.replies.Reply.{Reply}
-use Rattle.spk_nums.specs.declared.replies.Reply.TheVariants as reply
-use Rattle.kernel_rules.specs.State.{Holds, PlaceOf, FrameOf}
-use Rattle.kernel_rules.specs.References.{sum_below, node_refs, refs}
-use Rattle.kernel_rules.specs.MemoryCalls.{holds_nothing}
-use Rattle.kernel_rules.specs.CallRelation.{MayReply}
-use Rattle.kernel_rules.specs.Runs.{Event, Enters, Decides, Returns, after}
+use Rattle.found_stays.specs.kernel_rules.proofs.{◌≡◌, inl, inr, refl, ℕ, arith, true, false, List, [], ◌∷◌, whole_copy, Setting}
+use Rattle.found_stays.specs.kernel_rules.proofs.{Capability, cap_of, Call, Nothing, Cap, Reply, Holds, PlaceOf, FrameOf, sum_below}
+use Rattle.found_stays.specs.kernel_rules.proofs.{node_refs, refs, holds_nothing, MayReply, Event, Enters, Decides, Returns, after, Kind}
+use Rattle.found_stays.specs.kernel_rules.proofs.{FrameKind, Make}
 
 two_cores : Setting
 two_cores = record {
@@ -28,10 +14,10 @@ two_cores = record {
 }
 
 done : Reply
-done = reply.Ok Nothing
+done = Reply.Ok Nothing
 
 range : Capability
-range = cap_of kind.Range 8 24
+range = cap_of Kind.Range 8 24
 
 -- A whole call of core c after these events.
 whole : ℕ → Call → Reply → List Event → List Event
@@ -47,7 +33,7 @@ copies = whole_copy 20 1 21
 
 -- Core 0 fills place 20; core 1 enters a call; core 0 removes the place.
 removed_meanwhile : List Event
-removed_meanwhile = whole 0 (call.Remove 1 20) done (Enters 1 copies ∷ whole 0 (whole_copy 0 1 20) done [])
+removed_meanwhile = whole 0 (Call.Remove 1 20) done (Enters 1 copies ∷ whole 0 (whole_copy 0 1 20) done [])
 
 -- A call that was in progress when the place was removed may still copy what it held,
 still_serves : MayReply (after two_cores removed_meanwhile) 1 copies done
@@ -60,7 +46,7 @@ unfolding two_cores done range whole removed_meanwhile
 holds_it = refl
 
 -- but it may also find the place empty.
-or_empty : MayReply (after two_cores removed_meanwhile) 1 copies reply.Empty
+or_empty : MayReply (after two_cores removed_meanwhile) 1 copies Reply.Empty
 unfolding two_cores done whole removed_meanwhile
 or_empty = (refl, inl refl)
 
@@ -70,7 +56,7 @@ unfolding two_cores done whole removed_meanwhile
 not_yet may = may.1.1
 
 -- and is told that it waits for core 1.
-waits_for_one : Permits removed_meanwhile 0 (whole_copy 0 1 20) (reply.Quiescing 1)
+waits_for_one : Permits removed_meanwhile 0 (whole_copy 0 1 20) (Reply.Quiescing 1)
 unfolding two_cores done whole removed_meanwhile
 waits_for_one = (
   refl,
@@ -84,7 +70,7 @@ free_then = (refl, (refl, refl))
 
 -- Core 0 fills and removes place 20, then core 1 enters a call.
 entered_later : List Event
-entered_later = Enters 1 copies ∷ whole 0 (call.Remove 1 20) done (whole 0 (whole_copy 0 1 20) done [])
+entered_later = Enters 1 copies ∷ whole 0 (Call.Remove 1 20) done (whole 0 (whole_copy 0 1 20) done [])
 
 -- A core that entered after the removal does not keep the place from being filled,
 later_free : Permits entered_later 0 (whole_copy 0 1 20) done
@@ -92,7 +78,7 @@ unfolding two_cores done whole entered_later
 later_free = (refl, (refl, refl))
 
 -- but as none of its calls has returned since, the refusal is permitted too.
-later_refused : Permits entered_later 0 (whole_copy 0 1 20) (reply.Quiescing 1)
+later_refused : Permits entered_later 0 (whole_copy 0 1 20) (Reply.Quiescing 1)
 unfolding two_cores done whole entered_later
 later_refused = (
   refl,
@@ -107,24 +93,24 @@ gone may = may.1.1
 -- Core 0 makes a component of liveness number 1, and kills it while core 1 is in a call.
 killed_meanwhile : List Event
 killed_meanwhile =
-    whole 0 (call.Kill 20) done
-    (Enters 1 (call.Look 20)
-    ∷ whole 0 (call.Retype 0 9 frame_kind.Kernel) done
-    (whole 0 (call.Make (make.Comp 1 2 1) 0 8 1 20) done
-    (whole 0 (call.Retype 0 8 frame_kind.Kernel) done [])))
+    whole 0 (Call.Kill 20) done
+    (Enters 1 (Call.Look 20)
+    ∷ whole 0 (Call.Retype 0 9 FrameKind.Kernel) done
+    (whole 0 (Call.Make (Make.Comp 1 2 1) 0 8 1 20) done
+    (whole 0 (Call.Retype 0 8 FrameKind.Kernel) done [])))
 
 -- The number is not taken again while core 1 is still in that call,
-number_not_yet : Permits killed_meanwhile 0 (call.Make (make.Comp 1 2 1) 0 9 1 21) done → ⊥
+number_not_yet : Permits killed_meanwhile 0 (Call.Make (Make.Comp 1 2 1) 0 9 1 21) done → ⊥
 unfolding two_cores done whole killed_meanwhile
 number_not_yet may = may.1.1
 
 -- and is once core 1 has returned.
-number_then : Permits (Returns 1 ∷ Decides 1 (call.Look 20) reply.Empty ∷ killed_meanwhile) 0 (call.Make (make.Comp 1 2 1) 0 9 1 21) done
+number_then : Permits (Returns 1 ∷ Decides 1 (Call.Look 20) Reply.Empty ∷ killed_meanwhile) 0 (Call.Make (Make.Comp 1 2 1) 0 9 1 21) done
 unfolding two_cores done whole killed_meanwhile
 number_then = (refl, (refl, refl))
 
 -- A refusal stands by its own cause: a target that is held may be `occupied`, also where a name before it leads to nothing.
-own_cause : Permits (whole 0 (whole_copy 0 1 20) done []) 0 (whole_copy 63 1 20) reply.Occupied
+own_cause : Permits (whole 0 (whole_copy 0 1 20) done []) 0 (whole_copy 63 1 20) Reply.Occupied
 unfolding two_cores done whole
 own_cause = (refl, inr (inr (inl refl)))
 
@@ -136,7 +122,7 @@ again_free : Permits entered_again 0 (whole_copy 0 1 20) done
 unfolding two_cores done range whole removed_meanwhile entered_again
 again_free = (refl, (refl, refl))
 
-again_refused : Permits entered_again 0 (whole_copy 0 1 20) (reply.Quiescing 1)
+again_refused : Permits entered_again 0 (whole_copy 0 1 20) (Reply.Quiescing 1)
 unfolding two_cores done range whole removed_meanwhile entered_again
 again_refused = (
   refl,
@@ -145,7 +131,7 @@ again_refused = (
 
 -- Once such a call has returned, the refusal is not permitted any more.
 passed_by : List Event
-passed_by = Enters 1 copies ∷ whole 1 (call.Look 0) (reply.Ok (Cap range)) (Returns 1 ∷ Decides 1 copies done ∷ removed_meanwhile)
+passed_by = Enters 1 copies ∷ whole 1 (Call.Look 0) (Reply.Ok (Cap range)) (Returns 1 ∷ Decides 1 copies done ∷ removed_meanwhile)
 
 not_refused : ((after two_cores passed_by).grace (PlaceOf 1 20)).not_passed 1 ≡ false
 unfolding two_cores done range whole removed_meanwhile passed_by
@@ -154,18 +140,18 @@ not_refused = refl
 -- Core 0 maps a page and unmaps it, and flushes; core 1 decides a flush that has not returned.
 flushed_just_now : List Event
 flushed_just_now =
-    Decides 1 call.Flush done
-    ∷ Enters 1 call.Flush
-    ∷ whole 0 call.Flush done
-    (whole 0 (call.Unmap 2 0) done
-    (whole 0 (call.Map 2 0 0 9 (record { 0 = 0 })) done
-    (whole 0 (call.Retype 0 9 frame_kind.User) done
-    (whole 0 (call.Grow 2 0 20) done
-    (whole 0 (call.Make make.Pleaf 0 8 1 20) done
-    (whole 0 (call.Retype 0 8 frame_kind.Kernel) done []))))))
+    Decides 1 Call.Flush done
+    ∷ Enters 1 Call.Flush
+    ∷ whole 0 Call.Flush done
+    (whole 0 (Call.Unmap 2 0) done
+    (whole 0 (Call.Map 2 0 0 9 (record { 0 = 0 })) done
+    (whole 0 (Call.Retype 0 9 FrameKind.User) done
+    (whole 0 (Call.Grow 2 0 20) done
+    (whole 0 (Call.Make Make.Pleaf 0 8 1 20) done
+    (whole 0 (Call.Retype 0 8 FrameKind.Kernel) done []))))))
 
 -- The frame may be retyped, for both have flushed; but core 1 may also be found not to have,
-retype_free : Permits flushed_just_now 0 (call.Retype 0 9 frame_kind.Untyped) done
+retype_free : Permits flushed_just_now 0 (Call.Retype 0 9 FrameKind.Untyped) done
 unfolding two_cores done whole flushed_just_now sum_below node_refs refs holds_nothing
 retype_free = (refl, (refl, refl))
 
@@ -179,6 +165,6 @@ unfolding two_cores done whole flushed_just_now
 flush_known = refl
 
 -- A table that is not there does not keep the target's number from being too large.
-own_number : Permits [] 0 (whole_copy 0 63 4096) reply.NoSlot
+own_number : Permits [] 0 (whole_copy 0 63 4096) Reply.NoSlot
 unfolding two_cores
 own_number = (refl, inr (inr (inl refl)))

@@ -1,29 +1,13 @@
 -- The cause of each refusal, by its reply: what must be so where a call is refused with it. Said apart from the rules of calls.
-use Rattle.std.specs.Prelude.{◌≡◌, ◌≢◌, ◌⊎◌, ℕ, ◌+◌, ◌<◌, ◌≤◌, Bool, ◌&&◌, if◌then◌else◌, List, [], ◌∷◌}
-use Rattle.std.specs.Prelude.{length, Option, Some, None, is_some, IsTrue, IsFalse, IsSomeAnd}
-use Rattle.spk_nums.specs.Capability.{Capability}
-use Rattle.spk_nums.specs.Rights.{has_rights}
-use Rattle.spk_nums.specs.Merging.{covers, merged}
-use Rattle.spk_nums.specs.declared.kinds.Kind.{Kind}
-use Rattle.spk_nums.specs.declared.kinds.Kind.TheVariants as kind
-use Rattle.spk_nums.specs.declared.kinds.FrameKind.TheVariants as frame_kind
-use Rattle.spk_nums.specs.declared.calls.Make.{Make}
-use Rattle.spk_nums.specs.declared.calls.Make.TheVariants as make
-use Rattle.spk_nums.specs.declared.calls.Call.{Call}
-use Rattle.spk_nums.specs.declared.calls.Call.TheVariants.{Look, Copy, Remove, Grow, Shrink, Retype, Make as make_call, Map, Unmap}
-use Rattle.spk_nums.specs.declared.calls.Call.TheVariants.{Touch, Flush, Gate, Kill, Call as call_gate, Ret, Switch, Tick, Transfer}
-use Rattle.spk_nums.specs.declared.calls.Call.TheVariants.{Delegate, Test, Part, Replenish}
-use Rattle.spk_nums.specs.declared.replies.Reply.{Reply}
-use Rattle.spk_nums.specs.declared.replies.Reply.TheVariants as reply
-use Rattle.kernel_rules.specs.State.{TcapFields, Blank, Untyped, User, Kernel, Live, Thing, PlaceOf, FrameOf}
-use Rattle.kernel_rules.specs.State.{NumberOf, State, comp_in, thread_in, tcap_in, thread_of, comp_of, outstanding}
-use Rattle.kernel_rules.specs.References.{refs}
-use Rattle.kernel_rules.specs.Access.{Slot, Named, found, not_found, root_at, Want, to_look, to_copy, to_part, to_use}
-use Rattle.kernel_rules.specs.Access.{Target, Under, InRoot, place_at, held_in}
-use Rattle.kernel_rules.specs.Access.{usable, reached, has_no_slot, root_slot, holds_link, any, only, root, own}
-use Rattle.kernel_rules.specs.GracePeriods.{MayWait, MayBeUnflushed}
-use Rattle.kernel_rules.specs.CapabilityCalls.{leaf_for, is_live, epoch_of}
-use Rattle.kernel_rules.specs.MemoryCalls.{translation_of}
+use Rattle.found_stays.specs.kernel_rules.specs as low
+use low.{◌≡◌, ◌≢◌, ◌⊎◌, ℕ, ◌+◌, ◌<◌, ◌≤◌, Bool, ◌&&◌, if◌then◌else◌, List, [], ◌∷◌, length, Option, Some, None, is_some, IsTrue, IsFalse}
+use low.{IsSomeAnd, Capability, has_rights, covers, merged, Kind, Make, Call, Look, Copy, Remove, Grow, Shrink, Retype, Map, Unmap, Touch}
+use low.{Flush, Gate, Kill, Ret, Switch, Tick, Transfer, Delegate, Test, Part, Replenish, Reply, TcapFields, Blank, Untyped, User, Kernel}
+use low.{Live, Thing, PlaceOf, FrameOf, NumberOf, comp_in, thread_in, tcap_in, thread_of, comp_of, outstanding, refs, Slot, Named, found}
+use low.{not_found, root_at, Want, to_look, to_copy, to_part, to_use, Target, Under, InRoot, place_at, held_in, usable, reached}
+use low.{has_no_slot, root_slot, holds_link, any, only, root, own, MayWait, MayBeUnflushed, leaf_for, is_live, epoch_of, translation_of}
+use Rattle.found_stays.specs.spk_nums.specs.declared.calls.Call.TheVariants.{Make as make_call, Call as call_gate}
+use low.{FrameKind, State.State}
 
 -- One of a list is P.
 abbrev pub OneIs : {A : Type 0} → (A → Type 0) → List A → Type 0
@@ -59,46 +43,46 @@ name n kinds = record { number = n; want = to_use kinds }
 
 -- The numbers that a call names.
 abbrev pub names_made : Make → List Name
-names_made (make.Thread comp) = name comp (only kind.Comp) ∷ []
-names_made (make.Comp table pages live) = name table (only kind.Table) ∷ name pages (only kind.Pages) ∷ []
+names_made (Make.Thread comp) = name comp (only Kind.Comp) ∷ []
+names_made (Make.Comp table pages live) = name table (only Kind.Table) ∷ name pages (only Kind.Pages) ∷ []
 names_made _ = []
 
 abbrev pub names_of : State → ℕ → Call → List Name
 names_of s c (Look a) = record { number = a; want = to_look any } ∷ []
-names_of s c (Copy a t b rights) = record { number = a; want = to_copy any } ∷ name t (only kind.Table) ∷ []
-names_of s c (Remove t b) = name t (only kind.Table) ∷ []
+names_of s c (Copy a t b rights) = record { number = a; want = to_copy any } ∷ name t (only Kind.Table) ∷ []
+names_of s c (Remove t b) = name t (only Kind.Table) ∷ []
 names_of s c (Grow t i l) = name t root ∷ name l (leaf_for (leads_as s c t root)) ∷ []
 names_of s c (Shrink t i) = name t root ∷ []
-names_of s c (Retype r f k) = name r (only kind.Range) ∷ []
-names_of s c (make_call what r f t b) = name r (only kind.Range) ∷ name t (only kind.Table) ∷ names_made what
-names_of s c (Map p v r f w) = name p (only kind.Pages) ∷ name r (only kind.Range) ∷ []
-names_of s c (Unmap p v) = name p (only kind.Pages) ∷ []
-names_of s c (Gate k t b) = name k (only kind.Comp) ∷ name t (only kind.Table) ∷ []
-names_of s c (Kill k) = name k (only kind.Comp) ∷ []
-names_of s c (call_gate g) = name g (only kind.Gate) ∷ []
-names_of s c (Switch h q) = name h (only kind.Thread) ∷ name q (only kind.Tcap) ∷ []
-names_of s c (Transfer a b m) = name a (only kind.Tcap) ∷ name b (only kind.Tcap) ∷ []
-names_of s c (Delegate a b m) = name a (only kind.Tcap) ∷ name b (only kind.Tcap) ∷ []
-names_of s c (Test a b) = name a (only kind.Tcap) ∷ name b (only kind.Tcap) ∷ []
-names_of s c (Part r f n t b) = record { number = r; want = to_part (only kind.Range) } ∷ name t (only kind.Table) ∷ []
-names_of s c (Replenish a m) = name a (only kind.Tcap) ∷ []
+names_of s c (Retype r f k) = name r (only Kind.Range) ∷ []
+names_of s c (make_call what r f t b) = name r (only Kind.Range) ∷ name t (only Kind.Table) ∷ names_made what
+names_of s c (Map p v r f w) = name p (only Kind.Pages) ∷ name r (only Kind.Range) ∷ []
+names_of s c (Unmap p v) = name p (only Kind.Pages) ∷ []
+names_of s c (Gate k t b) = name k (only Kind.Comp) ∷ name t (only Kind.Table) ∷ []
+names_of s c (Kill k) = name k (only Kind.Comp) ∷ []
+names_of s c (call_gate g) = name g (only Kind.Gate) ∷ []
+names_of s c (Switch h q) = name h (only Kind.Thread) ∷ name q (only Kind.Tcap) ∷ []
+names_of s c (Transfer a b m) = name a (only Kind.Tcap) ∷ name b (only Kind.Tcap) ∷ []
+names_of s c (Delegate a b m) = name a (only Kind.Tcap) ∷ name b (only Kind.Tcap) ∷ []
+names_of s c (Test a b) = name a (only Kind.Tcap) ∷ name b (only Kind.Tcap) ∷ []
+names_of s c (Part r f n t b) = record { number = r; want = to_part (only Kind.Range) } ∷ name t (only Kind.Table) ∷ []
+names_of s c (Replenish a m) = name a (only Kind.Tcap) ∷ []
 names_of s c _ = []
 
 -- The place that a call fills, in the table or pages that it names.
 abbrev pub fills_at : State → ℕ → Call → Option Target
-fills_at s c (Copy a t b rights) = Some (Under (leads_as s c t (only kind.Table)) b)
+fills_at s c (Copy a t b rights) = Some (Under (leads_as s c t (only Kind.Table)) b)
 fills_at s c (Grow t i l) = Some (InRoot (leads_as s c t root) i)
-fills_at s c (make_call what r f t b) = Some (Under (leads_as s c t (only kind.Table)) b)
-fills_at s c (Map p v r f w) = Some (Under (leads_as s c p (only kind.Pages)) v)
-fills_at s c (Gate k t b) = Some (Under (leads_as s c t (only kind.Table)) b)
-fills_at s c (Part r f n t b) = Some (Under (leads_as s c t (only kind.Table)) b)
+fills_at s c (make_call what r f t b) = Some (Under (leads_as s c t (only Kind.Table)) b)
+fills_at s c (Map p v r f w) = Some (Under (leads_as s c p (only Kind.Pages)) v)
+fills_at s c (Gate k t b) = Some (Under (leads_as s c t (only Kind.Table)) b)
+fills_at s c (Part r f n t b) = Some (Under (leads_as s c t (only Kind.Table)) b)
 fills_at s c _ = None
 
 -- The place that a call empties.
 abbrev pub empties_at : State → ℕ → Call → Option Target
-empties_at s c (Remove t b) = Some (Under (leads_as s c t (only kind.Table)) b)
+empties_at s c (Remove t b) = Some (Under (leads_as s c t (only Kind.Table)) b)
 empties_at s c (Shrink t i) = Some (InRoot (leads_as s c t root) i)
-empties_at s c (Unmap p v) = Some (Under (leads_as s c p (only kind.Pages)) v)
+empties_at s c (Unmap p v) = Some (Under (leads_as s c p (only Kind.Pages)) v)
 empties_at s c _ = None
 
 -- Core c reaches the place, and it holds nothing; or it holds something.
@@ -138,7 +122,7 @@ HasNoRight s c call =
 
 -- `occupied`: the place to be filled is reached and holds something; or the liveness number of a new component is live.
 abbrev pub NumberIs : (ℕ → Type 0) → Call → Type 0
-NumberIs P (make_call (make.Comp table pages live) r f t b) = P live
+NumberIs P (make_call (Make.Comp table pages live) r f t b) = P live
 NumberIs P _ = ⊥
 
 abbrev pub IsOccupied : State → ℕ → Call → Type 0
@@ -147,7 +131,7 @@ IsOccupied s c call = IsSomeAnd (fills_at s c call) (HoldsSomething s c) ⊎ Num
 -- `quiescing e` and `unflushed e`: core e may still be in a call that may use what is to be taken again, or may not have flushed
 -- it: the place to be filled, the frame to be untyped; and for `quiescing` the liveness number of a new component.
 abbrev pub UntypedIs : (ℕ → Type 0) → Call → Type 0
-UntypedIs P (Retype r f frame_kind.Untyped) = P f
+UntypedIs P (Retype r f FrameKind.Untyped) = P f
 UntypedIs P _ = ⊥
 
 abbrev pub PlaceIs : State → ℕ → Call → (Thing → Type 0) → Type 0
@@ -168,22 +152,22 @@ pub record LiesOutside (range : Named) (f : ℕ) : Type 0 where
 
 -- Or the frames of a part are none, begin below the range's first, or end past its last.
 abbrev pub part_named : State → ℕ → ℕ → Named
-part_named s c r = as_wanted (to_part (only kind.Range)) (leads s c r)
+part_named s c r = as_wanted (to_part (only Kind.Range)) (leads s c r)
 
 pub record LiesBeyond (range : Named) (f n : ℕ) : Type 0 where
   pub found : IsTrue range.found
   pub beyond : (n ≡ 0) ⊎ ((f < range.frame) ⊎ (range.frame + range.arg < f + n))
 
 abbrev pub IsOutside : State → ℕ → Call → Type 0
-IsOutside s c (Retype r f k) = LiesOutside (leads_as s c r (only kind.Range)) f
-IsOutside s c (make_call what r f t b) = LiesOutside (leads_as s c r (only kind.Range)) f
-IsOutside s c (Map p v r f w) = LiesOutside (leads_as s c r (only kind.Range)) f
+IsOutside s c (Retype r f k) = LiesOutside (leads_as s c r (only Kind.Range)) f
+IsOutside s c (make_call what r f t b) = LiesOutside (leads_as s c r (only Kind.Range)) f
+IsOutside s c (Map p v r f w) = LiesOutside (leads_as s c r (only Kind.Range)) f
 IsOutside s c (Part r f n t b) = LiesBeyond (part_named s c r) f n
 IsOutside s c _ = ⊥
 
 -- `frame-kind`: the frame is one of the machine's, and not what the call makes use of; or already untyped.
 abbrev pub IsOtherKind : State → Call → Type 0
-IsOtherKind s (Retype r f frame_kind.Untyped) = (f < s.limits.frames) × (s.frame f ≡ Untyped)
+IsOtherKind s (Retype r f FrameKind.Untyped) = (f < s.limits.frames) × (s.frame f ≡ Untyped)
 IsOtherKind s (Retype r f k) = (f < s.limits.frames) × (s.frame f ≢ Untyped)
 IsOtherKind s (make_call what r f t b) = (f < s.limits.frames) × (s.frame f ≢ Kernel Blank)
 IsOtherKind s (Map p v r f w) = (f < s.limits.frames) × (s.frame f ≢ User)
@@ -210,8 +194,8 @@ pub record IsDeadIn (s : State) (name : Named) (epoch : ℕ) : Type 0 where
   pub dead : (f : ℕ) → s.number (comp_in (s.frame name.frame)).number ≢ Live epoch f
 
 abbrev pub NamesDead : State → ℕ → Call → Type 0
-NamesDead s c (Kill k) = IsDeadIn s (leads_as s c k (only kind.Comp)) (comp_in (s.frame (leads_as s c k (only kind.Comp)).frame)).epoch
-NamesDead s c (call_gate g) = IsDeadIn s (leads_as s c g (only kind.Gate)) (leads_as s c g (only kind.Gate)).arg
+NamesDead s c (Kill k) = IsDeadIn s (leads_as s c k (only Kind.Comp)) (comp_in (s.frame (leads_as s c k (only Kind.Comp)).frame)).epoch
+NamesDead s c (call_gate g) = IsDeadIn s (leads_as s c g (only Kind.Gate)) (leads_as s c g (only Kind.Gate)).arg
 NamesDead s c _ = ⊥
 
 -- Or the component in which the core works does not live, and the call is one that asks for that: neither `ret`, nor `flush` or `tick`.
@@ -240,7 +224,7 @@ IsAtBottom s c _ = ⊥
 -- `running e`: the thread to be switched to is found, and runs on core e.
 abbrev pub IsRunning : State → ℕ → Call → ℕ → Type 0
 IsRunning s c (Switch h q) e =
-    IsTrue (leads_as s c h (only kind.Thread)).found × ((thread_in (s.frame (leads_as s c h (only kind.Thread)).frame)).runs_on ≡ Some e)
+    IsTrue (leads_as s c h (only Kind.Thread)).found × ((thread_in (s.frame (leads_as s c h (only Kind.Thread)).frame)).runs_on ≡ Some e)
 IsRunning s c _ e = ⊥
 
 -- Both temporal capabilities are found, and P holds of their frames.
@@ -251,7 +235,7 @@ pub record BothAre (a b : Named) (P : ℕ → ℕ → Type 0) : Type 0 where
 
 -- The temporal capability that number n leads to, and the one of a frame.
 abbrev pub tcap_named : State → ℕ → ℕ → Named
-tcap_named s c n = leads_as s c n (only kind.Tcap)
+tcap_named s c n = leads_as s c n (only Kind.Tcap)
 
 abbrev pub tcap_of : State → ℕ → TcapFields
 tcap_of s f = tcap_in (s.frame f)
@@ -310,28 +294,28 @@ AreEpochsSpent s call = NumberIs (λ l. epoch_of (s.number l) ≡ s.limits.epoch
 
 -- The cause of a refusal. Of `raced` and `busy` the steps of the call tell; an `ok` has none.
 abbrev pub HasCause : State → ℕ → Call → Reply → Type 0
-HasCause s c call reply.NoSlot = HasNoSlot s c call
-HasCause s c call reply.Empty = IsEmpty s c call
-HasCause s c call reply.WrongCap = IsWrong s c call
-HasCause s c call reply.NoRight = HasNoRight s c call
-HasCause s c call reply.Occupied = IsOccupied s c call
-HasCause s c call (reply.Quiescing e) = IsQuiescing s c call e
-HasCause s c call (reply.Unflushed e) = IsUnflushed s c call e
-HasCause s c call reply.FrameKind = IsOtherKind s call
-HasCause s c call reply.OutOfRange = IsOutside s c call
-HasCause s c call (reply.Referenced n) = IsReferenced s call n
-HasCause s c call reply.NotEmpty = IsNotEmpty s call
-HasCause s c call reply.Dead = IsDead s c call
-HasCause s c call reply.Deep = IsDeep s c call
-HasCause s c call reply.Bottom = IsAtBottom s c call
-HasCause s c call (reply.Running e) = IsRunning s c call e
-HasCause s c call (reply.Short n) = IsShort s c call n
-HasCause s c call reply.Unlike = AreUnlike s c call
-HasCause s c call reply.TooMany = AreTooMany s c call
-HasCause s c call reply.Same = AreSame s c call
-HasCause s c call reply.EpochsSpent = AreEpochsSpent s call
-HasCause s c call reply.Fault = IsFault s c call
-HasCause s c call reply.CallsSpent = s.limits.calls ≤ (s.core c).counted
-HasCause s c call reply.Raced = Unit {0}
-HasCause s c call (reply.Busy e) = Unit {0}
-HasCause s c call (reply.Ok v) = Unit {0}
+HasCause s c call Reply.NoSlot = HasNoSlot s c call
+HasCause s c call Reply.Empty = IsEmpty s c call
+HasCause s c call Reply.WrongCap = IsWrong s c call
+HasCause s c call Reply.NoRight = HasNoRight s c call
+HasCause s c call Reply.Occupied = IsOccupied s c call
+HasCause s c call (Reply.Quiescing e) = IsQuiescing s c call e
+HasCause s c call (Reply.Unflushed e) = IsUnflushed s c call e
+HasCause s c call Reply.FrameKind = IsOtherKind s call
+HasCause s c call Reply.OutOfRange = IsOutside s c call
+HasCause s c call (Reply.Referenced n) = IsReferenced s call n
+HasCause s c call Reply.NotEmpty = IsNotEmpty s call
+HasCause s c call Reply.Dead = IsDead s c call
+HasCause s c call Reply.Deep = IsDeep s c call
+HasCause s c call Reply.Bottom = IsAtBottom s c call
+HasCause s c call (Reply.Running e) = IsRunning s c call e
+HasCause s c call (Reply.Short n) = IsShort s c call n
+HasCause s c call Reply.Unlike = AreUnlike s c call
+HasCause s c call Reply.TooMany = AreTooMany s c call
+HasCause s c call Reply.Same = AreSame s c call
+HasCause s c call Reply.EpochsSpent = AreEpochsSpent s call
+HasCause s c call Reply.Fault = IsFault s c call
+HasCause s c call Reply.CallsSpent = s.limits.calls ≤ (s.core c).counted
+HasCause s c call Reply.Raced = Unit {0}
+HasCause s c call (Reply.Busy e) = Unit {0}
+HasCause s c call (Reply.Ok v) = Unit {0}

@@ -1,17 +1,8 @@
 -- Laws of the sequential kernel, each the contract of a function of this crate.
-use Rattle.std.specs.Prelude.{ℕ, ◌≡◌, ◌<◌, ◌≤◌, ◌+◌, ◌==◌, if◌then◌else◌, List, [], ◌∷◌, sum_by, IsFalse}
-use Rattle.spk_nums.specs.Setting.{Setting, IsSetting}
-use Rattle.spk_nums.specs.declared.calls.Call.{Call}
-use Rattle.spk_nums.specs.declared.calls.Call.TheVariants.{Tick, Replenish}
-use Rattle.spk_nums.specs.declared.replies.Reply.{Reply}
-use Rattle.spk_nums.specs.declared.replies.Reply.TheVariants as reply
-use Rattle.kernel_rules.specs.State.{State, tcap_in}
-use Rattle.kernel_rules.specs.CallRelation.{are_calls_spent, MayReply}
-use Rattle.kernel_laws.specs.Causes.{HasCause, HasNoRight}
-use Rattle.kernel_rules.specs.Runs.{Event, Enters, Decides, Returns, after, IsRun}
-use Rattle.kernel_rules.specs.Laws.{ticks}
-use Rattle.kernel_rules.specs.Ranges.{InRanges}
-use Rattle.kernel_rules.specs.References.{refs, sum_below}
+use Rattle.found_stays.specs.kernel_rules.specs.{ℕ, ◌≡◌, ◌<◌, ◌≤◌, ◌+◌, ◌==◌, if◌then◌else◌, List, [], ◌∷◌, sum_by, IsFalse, Setting}
+use Rattle.found_stays.specs.kernel_rules.specs.{IsSetting, Call, Tick, Replenish, Reply, tcap_in, are_calls_spent, MayReply, Event, Enters}
+use Rattle.found_stays.specs.kernel_rules.specs.{Decides, Returns, after, IsRun, ticks, InRanges, refs, sum_below}
+use Rattle.{found_stays.specs.kernel_rules.specs.State.State, kernel_laws.specs.Causes.HasCause, kernel_laws.specs.Causes.HasNoRight}
 
 -- The sum of the grants.
 abbrev pub grants_sum : Setting → ℕ
@@ -37,7 +28,7 @@ CausesStand = (s : State) (c : ℕ) (call : Call) (r : Reply) → MayReply s c c
 
 -- A call of which a name lacks a right that it needs may be refused with `no-right`, where its calls are not spent.
 abbrev pub LackIsRefused : Type 0
-LackIsRefused = (s : State) (c : ℕ) (call : Call) → IsFalse (are_calls_spent s c) → HasNoRight s c call → MayReply s c call reply.NoRight
+LackIsRefused = (s : State) (c : ℕ) (call : Call) → IsFalse (are_calls_spent s c) → HasNoRight s c call → MayReply s c call Reply.NoRight
 
 -- The ticks that a call charges, and those that its decision counts: none where it is answered `calls-spent`.
 abbrev pub ticks_of : Call → ℕ
@@ -45,7 +36,7 @@ ticks_of (Tick n) = n
 ticks_of _ = 0
 
 abbrev pub ticks_counted : Call → Reply → ℕ
-ticks_counted call reply.CallsSpent = 0
+ticks_counted call Reply.CallsSpent = 0
 ticks_counted call _ = ticks_of call
 
 -- The ticks that an event counts of core c.
@@ -70,7 +61,7 @@ given_of (Replenish a m) = m
 given_of _ = 0
 
 abbrev pub given_by : Call → Reply → ℕ
-given_by call (reply.Ok v) = given_of call
+given_by call (Reply.Ok v) = given_of call
 given_by call _ = 0
 
 abbrev pub back_by : Event → ℕ → ℕ

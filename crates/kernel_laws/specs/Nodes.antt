@@ -1,22 +1,15 @@
 -- What nodes hold: roots of capability tables links to leaves, leaves no links and no pages, roots of page tables links to leaves
 -- of pages, and these pages alone.
-use Rattle.std.specs.Prelude.{◌≡◌, ℕ, Bool, true, false, not, ◌||◌, List, Some, IsTrue}
-use Rattle.spk_nums.specs.Setting.{Setting, IsSetting}
-use Rattle.spk_nums.specs.Capability.{Capability}
-use Rattle.spk_nums.specs.declared.kinds.Kind.{Kind}
-use Rattle.spk_nums.specs.declared.kinds.Kind.TheVariants as kind
-use Rattle.kernel_rules.specs.State.{Holds, Table, Leaf, Pages, Pleaf, Frame, Kernel, comp_of}
-use Rattle.kernel_rules.specs.Access.{Slot, only, usable}
-use Rattle.kernel_rules.specs.Rules.{Found, mapped}
-use Rattle.kernel_rules.specs.Relies.{is_node}
-use Rattle.kernel_rules.specs.Runs.{Event, after, is_open, phase_of, IsRun}
+use Rattle.found_stays.specs.kernel_rules.specs.{◌≡◌, ℕ, Bool, true, false, not, ◌||◌, List, Some, IsTrue, Setting, IsSetting, Capability}
+use Rattle.found_stays.specs.kernel_rules.specs.{Kind, Holds, Table, Leaf, Pages, Pleaf, Frame, Kernel, comp_of, Slot, only, usable, Found}
+use Rattle.found_stays.specs.kernel_rules.specs.{mapped, is_node, Event, after, is_open, phase_of, IsRun}
 
 -- Whether a node may hold a capability of a kind.
 abbrev pub takes : Frame → Kind → Bool
-takes (Kernel Table) k = only kind.Link k
-takes (Kernel Leaf) k = not (only kind.Link k || only kind.Page k)
-takes (Kernel Pages) k = only kind.Link k
-takes (Kernel Pleaf) k = only kind.Page k
+takes (Kernel Table) k = only Kind.Link k
+takes (Kernel Leaf) k = not (only Kind.Link k || only Kind.Page k)
+takes (Kernel Pages) k = only Kind.Link k
+takes (Kernel Pleaf) k = only Kind.Page k
 takes _ k = false
 
 -- Whether what a node holds may name a frame: a root's links name leaves of its kind.
@@ -41,7 +34,7 @@ pub record NodesFit (setting : Setting) (events : List Event) : Type 0 where
       → usable (after setting events) c at ≡ Some k
       → FitsNode ((after setting events).frame at.node) k.kind ((after setting events).frame k.frame)
   pub pages : (c v : ℕ) (k : Capability) → IsTrue (is_open (phase_of events c))
-      → mapped (after setting events) c (comp_of (after setting events) c).pages v ≡ Found k → k.kind ≡ kind.Page
+      → mapped (after setting events) c (comp_of (after setting events) c).pages v ≡ Found k → k.kind ≡ Kind.Page
 
 -- In every state that a run reaches, nodes hold what fits them.
 abbrev pub NodesHoldWhatFits : Type 0

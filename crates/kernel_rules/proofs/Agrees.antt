@@ -1,23 +1,16 @@
 -- The first refusal in order is one that the relation permits, where those who wait are in calls.
-use Rattle.std.proofs.Common.{◌≡◌, ◌≢◌, ◌⊎◌, inl, inr, ℕ, zero, suc, ◌+◌, ◌<◌, Bool, true, false, not, ◌&&◌}
-use Rattle.std.proofs.Common.{◌||◌, refl, sym, ◌∙◌, ap, subst, arith, cond, ◌==◌, nat_lt, nat_le, if◌then◌else◌}
-use Rattle.std.proofs.Common.{IsTrue, IsFalse, IsSomeAnd, is_some, List, [], ◌∷◌, Option, Some, None, find, ◌%◌}
-use Rattle.std.proofs.lemmas.Bool.{false≢true, true≢false, eqb-false, ltb-false, leb-false}
-use Rattle.std.proofs.lemmas.Bool.{le-leb, lt-ltb, or_left, or_right, not_from_false}
-use Rattle.std.specs.List.{range_with_len}
-use Rattle.spk_nums.specs.Capability.{Capability}
-use Rattle.spk_nums.specs.Rights.{has_rights}
-use Rattle.spk_nums.specs.declared.kinds.Kind.TheVariants as kind
-use Rattle.spk_nums.specs.declared.replies.Reply.{Reply}
-use Rattle.spk_nums.specs.declared.replies.Reply.TheVariants as reply
-use Rattle.kernel_rules.specs.State.{Place, Free, Holds, Quiescing, Thing, PlaceOf, State}
-use Rattle.kernel_rules.specs.Access.{Slot, found, root_at, Want, Target, Under, InRoot, place_at, held_in, usable_in}
-use Rattle.kernel_rules.specs.Access.{usable, linked, slot_in, reached, root_slot, only, holds_link, has_no_slot, own}
-use Rattle.kernel_rules.specs.GracePeriods.{lowest, other_waiting, quiescing_by, unflushed_by, MayWait, MayBeUnflushed}
-use Rattle.kernel_rules.specs.Rules.{name_of, slot_of, Cause, When, WaitedFor, Unflushed, Rule, Name, Vacant, Held, Mapped}
-use Rattle.kernel_rules.specs.Rules.{Does, does, Judged, Refused, Found, and_then, unless, or_refuse, with_rights, of_kind, named, first_of}
-use Rattle.kernel_rules.specs.Rules.{waits_of, flushes_of, not_vacant, vacant, held, mapped, first_cause, outcome, IsFoundAnd}
-use Rattle.kernel_rules.specs.Rules.{Lacks, NameMay, VacantMay, HeldMay, MappedMay, WaitedMay, UnflushedMay, OneMay, RuleMay}
+use Rattle.kernel_rules.specs.{◌≡◌, ◌≢◌, ◌⊎◌, ℕ, zero, suc, ◌+◌, ◌<◌, Bool, true, false, not, ◌&&◌, ◌||◌, refl, cond, ◌==◌, ltb as nat_lt}
+use Rattle.kernel_rules.specs.{leb as nat_le, if◌then◌else◌, IsTrue, IsFalse, IsSomeAnd, is_some, List, [], ◌∷◌, Option, Some, None, find}
+use Rattle.kernel_rules.specs.{◌%◌, Capability, has_rights, Reply, Kind, Place, Free, Holds, Quiescing, Thing, PlaceOf, Slot, found}
+use Rattle.kernel_rules.specs.{root_at, Want, Target, Under, InRoot, place_at, held_in, usable_in, usable, linked, slot_in, reached}
+use Rattle.kernel_rules.specs.{root_slot, only, holds_link, has_no_slot, own, lowest, other_waiting, quiescing_by, unflushed_by, MayWait}
+use Rattle.kernel_rules.specs.{MayBeUnflushed, name_of, slot_of, Cause, When, WaitedFor, Unflushed, Rule, Name, Vacant, Held, Mapped, Does}
+use Rattle.kernel_rules.specs.{does, Judged, Refused, Found, and_then, unless, or_refuse, with_rights, of_kind, named, first_of, waits_of}
+use Rattle.kernel_rules.specs.{flushes_of, not_vacant, vacant, held, mapped, first_cause, outcome, IsFoundAnd, Lacks, NameMay, VacantMay}
+use Rattle.kernel_rules.specs.{HeldMay, MappedMay, WaitedMay, UnflushedMay, OneMay, RuleMay}
+use Rattle.std.proofs.Common.{inl, inr, sym, ◌∙◌, ap, subst, arith, true≢false, ltb-false, leb-false, le-leb, lt-ltb}
+use Rattle.std.proofs.lemmas.Bool.{false≢true, eqb-false, or_left, or_right, not_from_false}
+use Rattle.{std.specs.List.range_with_len, kernel_rules.specs.State.State}
 
 -- Who waits is in a call and has not passed, and what is unflushed is unknown.
 pub record IsBounded (s : State) : Type 0 where
@@ -27,10 +20,10 @@ pub record IsBounded (s : State) : Type 0 where
 
 -- A refusal that is no loss of a race, no mark and no want of calls.
 abbrev pub IsPlain : Reply → Type 0
-IsPlain (reply.Ok v) = ⊥
-IsPlain reply.Raced = ⊥
-IsPlain (reply.Busy d) = ⊥
-IsPlain reply.CallsSpent = ⊥
+IsPlain (Reply.Ok v) = ⊥
+IsPlain Reply.Raced = ⊥
+IsPlain (Reply.Busy d) = ⊥
+IsPlain Reply.CallsSpent = ⊥
 IsPlain _ = Unit {0}
 
 -- P holds of the refusal.
@@ -82,7 +75,7 @@ not_held (Quiescing k) b h = refl
 
 no_link : (p : Place) (b : Bool) → linked (usable_in p b) ≡ None → IsFalse (holds_link p)
 no_link Free b h = refl
-no_link (Holds k) b h = tested (only kind.Link k.kind) h
+no_link (Holds k) b h = tested (only Kind.Link k.kind) h
   where
     tested : (t : Bool) → (if t then Some k.frame else None) ≡ None → IsFalse t
     tested false e = refl
@@ -125,18 +118,18 @@ no_slot s c (InRoot table i) is h = tested (nat_le i 63) refl (sym (ap (λ t. if
 name_refused : (s : State) (c n : ℕ) (want : Want)
     → IfRefused (named s c n want) (λ r. NameMay s c n want r × IsPlain r)
 name_refused s c n want =
-    then_refused (or_refuse (reached s c (own s c n)) reply.NoSlot) rest P
-    (or_refused (reached s c (own s c n)) reply.NoSlot P (λ e. (no_slot s c (own s c n) refl e, tt)))
+    then_refused (or_refuse (reached s c (own s c n)) Reply.NoSlot) rest P
+    (or_refused (reached s c (own s c n)) Reply.NoSlot P (λ e. (no_slot s c (own s c n) refl e, tt)))
     reaches
   where
     P : Reply → Type 0
     P r = NameMay s c n want r × IsPlain r
 
     rest : Slot → Judged Capability
-    rest at = and_then (or_refuse (usable s c at) reply.Empty) λ k. of_kind want k
+    rest at = and_then (or_refuse (usable s c at) Reply.Empty) λ k. of_kind want k
 
     has_right : (at : Slot) (k : Capability) → reached s c (own s c n) ≡ Some at → usable s c at ≡ Some k → IsTrue (want.kinds k.kind)
-        → (t : Bool) → has_rights k.rights want.needs ≡ t → IfRefused {A = Capability} (if t then Found k else Refused reply.NoRight) P
+        → (t : Bool) → has_rights k.rights want.needs ≡ t → IfRefused {A = Capability} (if t then Found k else Refused Reply.NoRight) P
     has_right at k e u w true h = tt
     has_right at k e u w false h = (
       some_and (reached s c (own s c n)) at (λ at. IsSomeAnd (usable s c at) (Lacks want)) e
@@ -145,7 +138,7 @@ name_refused s c n want =
     )
 
     is_kind : (at : Slot) (k : Capability) → reached s c (own s c n) ≡ Some at → usable s c at ≡ Some k
-        → (t : Bool) → want.kinds k.kind ≡ t → IfRefused {A = Capability} (if t then with_rights want.needs k else Refused reply.WrongCap) P
+        → (t : Bool) → want.kinds k.kind ≡ t → IfRefused {A = Capability} (if t then with_rights want.needs k else Refused Reply.WrongCap) P
     is_kind at k e u true w = has_right at k e u w (has_rights k.rights want.needs) refl
     is_kind at k e u false w = (
       some_and (reached s c (own s c n)) at (λ at. IsSomeAnd (usable s c at) λ k. IsFalse (want.kinds k.kind)) e
@@ -153,16 +146,16 @@ name_refused s c n want =
       tt,
     )
 
-    reaches : (at : Slot) → or_refuse (reached s c (own s c n)) reply.NoSlot ≡ Found at → IfRefused (rest at) P
+    reaches : (at : Slot) → or_refuse (reached s c (own s c n)) Reply.NoSlot ≡ Found at → IfRefused (rest at) P
     reaches at e =
-        let is_at : reached s c (own s c n) ≡ Some at = or_found (reached s c (own s c n)) reply.NoSlot at e in
-        then_refused (or_refuse (usable s c at) reply.Empty) (λ k. of_kind want k) P
-        (or_refused (usable s c at) reply.Empty P λ u. (
+        let is_at : reached s c (own s c n) ≡ Some at = or_found (reached s c (own s c n)) Reply.NoSlot at e in
+        then_refused (or_refuse (usable s c at) Reply.Empty) (λ k. of_kind want k) P
+        (or_refused (usable s c at) Reply.Empty P λ u. (
           some_and (reached s c (own s c n)) at (λ at. IsFalse (is_some (held_in (place_at s at)))) is_at
               (not_held (place_at s at) ((s.grace (PlaceOf at.node at.index)).waits c) u),
           tt,
         ))
-        λ k u. is_kind at k is_at (or_found (usable s c at) reply.Empty k u) (want.kinds k.kind) refl
+        λ k u. is_kind at k is_at (or_found (usable s c at) Reply.Empty k u) (want.kinds k.kind) refl
 
 -- What is found in a range of numbers passes the test, and is below the range's end.
 find_in : (p : ℕ → Bool) (a n e : ℕ) → find p (range_with_len a n) ≡ Some e → (p e ≡ true) × (e < a + n)
@@ -201,10 +194,10 @@ wait_found s c x e calm h =
     }
 
 wait_refused : (s : State) (c : ℕ) (x : Thing) (P : Reply → Type 0) → IsBounded s
-    → ((e : ℕ) → MayWait s c x e → P (reply.Quiescing e)) → (r : Reply) → waits_of s c x ≡ Some r → P r
+    → ((e : ℕ) → MayWait s c x e → P (Reply.Quiescing e)) → (r : Reply) → waits_of s c x ≡ Some r → P r
 wait_refused s c x P calm h r e = tested (other_waiting s c x) refl e
   where
-    is : (d : ℕ) → Some (reply.Quiescing d) ≡ Some r → reply.Quiescing d ≡ r
+    is : (d : ℕ) → Some (Reply.Quiescing d) ≡ Some r → Reply.Quiescing d ≡ r
     is d q = cc
 
     tested : (o : Option ℕ) → other_waiting s c x ≡ o → quiescing_by o ≡ Some r → P r
@@ -223,10 +216,10 @@ flush_found s x e calm h =
     record { is_core = (let q = at.1 in omega (arith, q)); flush_unknown = calm.flushes x e at.0 }
 
 flush_refused : (s : State) (x : Thing) (P : Reply → Type 0) → IsBounded s
-    → ((e : ℕ) → MayBeUnflushed s x e → P (reply.Unflushed e)) → (r : Reply) → flushes_of s x ≡ Some r → P r
+    → ((e : ℕ) → MayBeUnflushed s x e → P (Reply.Unflushed e)) → (r : Reply) → flushes_of s x ≡ Some r → P r
 flush_refused s x P calm h r e = tested (lowest s (s.grace x).unflushed) refl e
   where
-    is : (d : ℕ) → Some (reply.Unflushed d) ≡ Some r → reply.Unflushed d ≡ r
+    is : (d : ℕ) → Some (Reply.Unflushed d) ≡ Some r → Reply.Unflushed d ≡ r
     is d q = cc
 
     tested : (o : Option ℕ) → lowest s (s.grace x).unflushed ≡ o → unflushed_by o ≡ Some r → P r
@@ -236,16 +229,16 @@ flush_refused s x P calm h r e = tested (lowest s (s.grace x).unflushed) refl e
 vacant_refused : (s : State) (c : ℕ) (target : Target) → IsTrue (has_root target) → IsBounded s
     → IfRefused (vacant s c target) (λ r. VacantMay s c target r × IsPlain r)
 vacant_refused s c target named calm =
-    then_refused (or_refuse (reached s c target) reply.NoSlot)
+    then_refused (or_refuse (reached s c target) Reply.NoSlot)
     (λ at. unless (not_vacant s c (PlaceOf at.node at.index) (place_at s at)) at) P
-    (or_refused (reached s c target) reply.NoSlot P (λ e. (no_slot s c target named e, tt)))
+    (or_refused (reached s c target) Reply.NoSlot P (λ e. (no_slot s c target named e, tt)))
     λ at e. unless_refused (not_vacant s c (PlaceOf at.node at.index) (place_at s at)) at P
-    (place_refused at (or_found (reached s c target) reply.NoSlot at e) (place_at s at) refl)
+    (place_refused at (or_found (reached s c target) Reply.NoSlot at e) (place_at s at) refl)
   where
     P : Reply → Type 0
     P r = VacantMay s c target r × IsPlain r
 
-    occupied : (r : Reply) → Some reply.Occupied ≡ Some r → reply.Occupied ≡ r
+    occupied : (r : Reply) → Some Reply.Occupied ≡ Some r → Reply.Occupied ≡ r
     occupied r q = cc
 
     place_refused : (at : Slot) → reached s c target ≡ Some at → (p : Place) → place_at s at ≡ p
@@ -267,12 +260,12 @@ none_held o e = ap is_some e
 held_refused : (s : State) (c : ℕ) (target : Target) → IsTrue (has_root target)
     → IfRefused (held s c target) (λ r. HeldMay s c target r × IsPlain r)
 held_refused s c target named =
-    then_refused (or_refuse (reached s c target) reply.NoSlot) rest P
-    (or_refused (reached s c target) reply.NoSlot P (λ e. (no_slot s c target named e, tt)))
-    λ at e. then_refused (or_refuse (held_in (place_at s at)) reply.Empty) (λ k. Found (at, k)) P
-    (or_refused (held_in (place_at s at)) reply.Empty P λ u. (
+    then_refused (or_refuse (reached s c target) Reply.NoSlot) rest P
+    (or_refused (reached s c target) Reply.NoSlot P (λ e. (no_slot s c target named e, tt)))
+    λ at e. then_refused (or_refuse (held_in (place_at s at)) Reply.Empty) (λ k. Found (at, k)) P
+    (or_refused (held_in (place_at s at)) Reply.Empty P λ u. (
       some_and (reached s c target) at (λ at. IsFalse (is_some (held_in (place_at s at))))
-          (or_found (reached s c target) reply.NoSlot at e) (none_held (held_in (place_at s at)) u),
+          (or_found (reached s c target) Reply.NoSlot at e) (none_held (held_in (place_at s at)) u),
       tt,
     ))
     λ k u. tt
@@ -281,7 +274,7 @@ held_refused s c target named =
     P r = HeldMay s c target r × IsPlain r
 
     rest : Slot → Judged (Slot × Capability)
-    rest at = and_then (or_refuse (held_in (place_at s at)) reply.Empty) λ k. Found (at, k)
+    rest at = and_then (or_refuse (held_in (place_at s at)) Reply.Empty) λ k. Found (at, k)
 
 mapped_refused : (s : State) (c table v : ℕ) → IfRefused (mapped s c table v) (λ r. MappedMay s c table v r × IsPlain r)
 mapped_refused s c table v = tested (nat_lt 4095 v) refl
@@ -290,7 +283,7 @@ mapped_refused s c table v = tested (nat_lt 4095 v) refl
     P r = MappedMay s c table v r × IsPlain r
 
     rest : Slot → Judged Capability
-    rest at = or_refuse (held_in (place_at s at)) reply.Fault
+    rest at = or_refuse (held_in (place_at s at)) Reply.Fault
 
     no : (x y : Bool) → (x || not y) ≡ true → x ≡ false → IsFalse y
     no true y h e = absurd (true≢false e)
@@ -298,21 +291,21 @@ mapped_refused s c table v = tested (nat_lt 4095 v) refl
     no false false h e = refl
 
     tested : (t : Bool) → nat_lt 4095 v ≡ t
-        → IfRefused (and_then (unless (if t then Some reply.NoSlot else None) v)
-        λ v. and_then (or_refuse (reached s c (Under (root_at table) v)) reply.Fault) λ at. rest at) P
+        → IfRefused (and_then (unless (if t then Some Reply.NoSlot else None) v)
+        λ v. and_then (or_refuse (reached s c (Under (root_at table) v)) Reply.Fault) λ at. rest at) P
     tested true e = (e, tt)
     tested false e =
         let small : nat_le v 4095 ≡ true = le-leb v 4095 (ltb-false 4095 v e) in
-        then_refused (or_refuse (reached s c (Under (root_at table) v)) reply.Fault) rest P
-        (or_refused (reached s c (Under (root_at table) v)) reply.Fault P λ q. (
+        then_refused (or_refuse (reached s c (Under (root_at table) v)) Reply.Fault) rest P
+        (or_refused (reached s c (Under (root_at table) v)) Reply.Fault P λ q. (
           (small, inl (no (nat_lt 4095 v) (holds_link (place_at s (root_slot table v))) (no_slot s c (Under (root_at table) v) refl q) e)),
           tt,
         ))
-        λ at q. or_refused (held_in (place_at s at)) reply.Fault P λ u. (
+        λ at q. or_refused (held_in (place_at s at)) Reply.Fault P λ u. (
           (
             small,
             inr (some_and (reached s c (Under (root_at table) v)) at (λ at. IsFalse (is_some (held_in (place_at s at))))
-                (or_found (reached s c (Under (root_at table) v)) reply.Fault at q) (none_held (held_in (place_at s at)) u)),
+                (or_found (reached s c (Under (root_at table) v)) Reply.Fault at q) (none_held (held_in (place_at s at)) u)),
           ),
           tt,
         )
@@ -332,9 +325,9 @@ vacant_found s c target at h = tested (reached s c target) h
     kept (Some r) b e = absurd (refused_found r at e)
 
     tested : (o : Option Slot)
-        → and_then (or_refuse o reply.NoSlot) (λ at. unless (not_vacant s c (PlaceOf at.node at.index) (place_at s at)) at) ≡ Found at
+        → and_then (or_refuse o Reply.NoSlot) (λ at. unless (not_vacant s c (PlaceOf at.node at.index) (place_at s at)) at) ≡ Found at
         → o ≡ Some at
-    tested None e = absurd (refused_found reply.NoSlot at e)
+    tested None e = absurd (refused_found Reply.NoSlot at e)
     tested (Some b) e = ap Some (kept (not_vacant s c (PlaceOf b.node b.index) (place_at s b)) b e)
 
 -- Each own cause of a rule has a plain refusal, and the root of its target is found where the names before it are.

@@ -1,39 +1,19 @@
 -- Who waits is in a call; so in every reached state the relation and the first reply in order agree.
-use Rattle.std.proofs.Common.{◌≡◌, inl, inr, ℕ, Bool, true, false, not, ◌||◌, refl, sym, ◌∙◌, ap, subst}
-use Rattle.std.proofs.Common.{if◌then◌else◌, IsTrue, IsFalse, List, [], ◌∷◌, Option, Some, None}
-use Rattle.std.proofs.lemmas.Bool.{cases_eq, false≢true, true≢false}
-use Rattle.std.specs.List.{list_any}
-use Rattle.spk_nums.specs.Setting.{Setting}
-use Rattle.spk_nums.specs.declared.kinds.FrameKind.{FrameKind}
-use Rattle.spk_nums.specs.declared.kinds.FrameKind.TheVariants as frame_kind
-use Rattle.spk_nums.specs.declared.calls.Make.{Make}
-use Rattle.spk_nums.specs.declared.calls.Make.TheVariants as make
-use Rattle.spk_nums.specs.declared.translations.Translation.{Translation}
-use Rattle.spk_nums.specs.declared.calls.Call.{Call}
-use Rattle.spk_nums.specs.declared.calls.Call.TheVariants.{Look, Copy, Remove, Grow, Shrink, Retype, Make as make_call}
-use Rattle.spk_nums.specs.declared.calls.Call.TheVariants.{Map, Unmap, Touch, Flush, Gate, Kill, Call as call_gate}
-use Rattle.spk_nums.specs.declared.calls.Call.TheVariants.{Ret, Switch, Tick, Transfer, Delegate, Test, Part, Replenish}
-use Rattle.spk_nums.specs.declared.replies.Value.{Value}
-use Rattle.spk_nums.specs.declared.replies.Reply.{Reply}
-use Rattle.spk_nums.specs.declared.replies.Reply.TheVariants as reply
-use Rattle.kernel_rules.specs.State.{Core, Thing, FrameOf, State, put, comp_of, thread_in}
-use Rattle.kernel_rules.specs.Start.{no_grace}
-use Rattle.kernel_rules.specs.GracePeriods.{same_thing, new_grace, entered, returned}
-use Rattle.kernel_rules.specs.Life.{lives, outlives, asks_life, acts}
-use Rattle.kernel_rules.specs.Access.{Named, found}
-use Rattle.kernel_rules.specs.Edits.{Edit, Node, Untype, Cache, Charge, Give, is_place_of, edited, Switch as switch_edit}
-use Rattle.kernel_rules.specs.Edits.{Flush as flush_edit}
-use Rattle.kernel_rules.specs.Rules.{Change, Judged, Refused, Found, IsFoundAnd, RuleMay}
-use Rattle.kernel_rules.specs.CapabilityCalls.{make_rule}
-use Rattle.kernel_rules.specs.MemoryCalls.{retype_rule, touch_by, translation_of}
-use Rattle.kernel_rules.specs.InvocationCalls.{switch_to}
-use Rattle.kernel_rules.specs.CallRelation.{rule_of, change_of, changed, counted, owed_by, state_by, are_calls_spent, MayBeDead, MayReply}
-use Rattle.kernel_rules.specs.Alone.{reply_in, first_reply, alone}
-use Rattle.kernel_rules.specs.Runs.{Event, Enters, Decides, Returns, after}
-use Rattle.kernel_rules.specs.Laws.{FirstPermitted}
-use Rattle.kernel_rules.proofs.Changes.{IfFound, outcome_all, all_edits, each_edit}
-use Rattle.kernel_rules.proofs.Within.{put_same, put_other, waits_within}
+use Rattle.kernel_rules.specs as low
+use low.{◌≡◌, ℕ, Bool, true, false, not, ◌||◌, refl, if◌then◌else◌, IsTrue, IsFalse, List, [], ◌∷◌, Option, Some, None, Setting, FrameKind}
+use low.{Make, Translation, Call, Look, Copy, Remove, Grow, Shrink, Retype, Map, Unmap, Touch, Flush, Gate, Kill, Ret, Switch, Tick}
+use low.{Transfer, Delegate, Test, Part, Replenish, Value, Reply, Core, Thing, FrameOf, put, comp_of, thread_in, no_grace, same_thing}
+use low.{new_grace, entered, returned, lives, outlives, asks_life, acts, Named, found, Edit, Node, Untype, Cache, Charge, Give, is_place_of}
+use low.{edited, Change, Judged, Refused, Found, IsFoundAnd, RuleMay, make_rule, retype_rule, touch_by, translation_of, switch_to, rule_of}
+use low.{change_of, changed, counted, owed_by, state_by, are_calls_spent, MayBeDead, MayReply, reply_in, first_reply, alone, Event, Enters}
+use Rattle.std.proofs.Common.{inl, inr, sym, ◌∙◌, ap, subst, true≢false}
 use Rattle.kernel_rules.proofs.Agrees.{IsBounded, IsPlain, IfRefused, HasPlain, rule_refused}
+use low.{Decides, Returns, after, State.State, Edits.Switch as switch_edit, Edits.Flush as flush_edit, Laws.FirstPermitted}
+use Rattle.{std.proofs.lemmas.Bool.cases_eq, std.proofs.lemmas.Bool.false≢true, std.specs.List.list_any}
+use Rattle.{spk_nums.specs.declared.calls.Call.TheVariants.Make as make_call}
+use Rattle.{spk_nums.specs.declared.calls.Call.TheVariants.Call as call_gate, kernel_rules.proofs.Changes.IfFound}
+use Rattle.{kernel_rules.proofs.Changes.outcome_all, kernel_rules.proofs.Changes.all_edits, kernel_rules.proofs.Changes.each_edit}
+use Rattle.{kernel_rules.proofs.Within.put_same, kernel_rules.proofs.Within.put_other, kernel_rules.proofs.Within.waits_within}
 
 -- A core that replaces core c and is in a call where c was: every core is in a call where it was.
 pub core_inside : (s : State) (c d : ℕ) (k : Core) → k.inside ≡ (s.core c).inside → (put s.core c k d).inside ≡ (s.core d).inside
@@ -99,11 +79,11 @@ owed_inside s c (Tick n) h x d w = core_inside s c d _ refl ∙ h x d w
 owed_inside s c _ h x d w = h x d w
 
 decided_inside : (s : State) (c : ℕ) (call : Call) (r : Reply) → AreInside s → AreInside (state_by s c call r)
-decided_inside s c call (reply.Ok v) h = counted_inside (changed s (change_of s c call)) c
+decided_inside s c call (Reply.Ok v) h = counted_inside (changed s (change_of s c call)) c
     (changed_inside s (change_of s c call) (found_waits s c call) h)
-decided_inside s c call reply.CallsSpent h = h
-decided_inside s c call reply.Raced h = counted_inside (owed_by s c call) c (owed_inside s c call h)
-decided_inside s c call (reply.Busy e) h = counted_inside (owed_by s c call) c (owed_inside s c call h)
+decided_inside s c call Reply.CallsSpent h = h
+decided_inside s c call Reply.Raced h = counted_inside (owed_by s c call) c (owed_inside s c call h)
+decided_inside s c call (Reply.Busy e) h = counted_inside (owed_by s c call) c (owed_inside s c call h)
 decided_inside s c call _ h = counted_inside s c h
 
 -- A decision leaves each core in a call where it was, and the limits.
@@ -123,11 +103,11 @@ owed_stays s c (Tick n) = record { inside = λ d. core_inside s c d _ refl; limi
 owed_stays s c _ = record { inside = λ d. refl; limits = refl }
 
 pub decided_stays : (s : State) (c : ℕ) (call : Call) (r : Reply) → Stays s (state_by s c call r)
-decided_stays s c call (reply.Ok v) = counted_stays s (changed s (change_of s c call)) c
+decided_stays s c call (Reply.Ok v) = counted_stays s (changed s (change_of s c call)) c
     (changed_stays s (change_of s c call) (found_waits s c call))
-decided_stays s c call reply.CallsSpent = record { inside = λ d. refl; limits = refl }
-decided_stays s c call reply.Raced = counted_stays s (owed_by s c call) c (owed_stays s c call)
-decided_stays s c call (reply.Busy e) = counted_stays s (owed_by s c call) c (owed_stays s c call)
+decided_stays s c call Reply.CallsSpent = record { inside = λ d. refl; limits = refl }
+decided_stays s c call Reply.Raced = counted_stays s (owed_by s c call) c (owed_stays s c call)
+decided_stays s c call (Reply.Busy e) = counted_stays s (owed_by s c call) c (owed_stays s c call)
 decided_stays s c call _ = counted_stays s s c (record { inside = λ d. refl; limits = refl })
 
 entered_inside : (s : State) (c : ℕ) → AreInside s → AreInside (entered s c)
@@ -150,18 +130,18 @@ waits_inside setting (Returns c ∷ events) = returned_inside (after setting eve
 waits_inside setting (Decides c call r ∷ events) = decided_inside (after setting events) c call r (waits_inside setting events)
 
 make_plain : (s : State) (what : Make) (r f t b : ℕ) → HasPlain (make_rule s what r f t b)
-make_plain s make.Table r f t b = λ range table. (refl, λ at. (tt, (tt, tt)))
-make_plain s make.Leaf r f t b = λ range table. (refl, λ at. (tt, (tt, tt)))
-make_plain s make.Pages r f t b = λ range table. (refl, λ at. (tt, (tt, tt)))
-make_plain s make.Pleaf r f t b = λ range table. (refl, λ at. (tt, (tt, tt)))
-make_plain s (make.Thread comp) r f t b = λ range table k. (refl, λ at. (tt, (tt, tt)))
-make_plain s (make.Tcap sched quality) r f t b = λ range table. (refl, λ at. (tt, (tt, tt)))
-make_plain s (make.Comp x p live) r f t b = λ range table k j. (refl, λ at. (tt, (tt, (tt, (tt, tt)))))
+make_plain s Make.Table r f t b = λ range table. (refl, λ at. (tt, (tt, tt)))
+make_plain s Make.Leaf r f t b = λ range table. (refl, λ at. (tt, (tt, tt)))
+make_plain s Make.Pages r f t b = λ range table. (refl, λ at. (tt, (tt, tt)))
+make_plain s Make.Pleaf r f t b = λ range table. (refl, λ at. (tt, (tt, tt)))
+make_plain s (Make.Thread comp) r f t b = λ range table k. (refl, λ at. (tt, (tt, tt)))
+make_plain s (Make.Tcap sched quality) r f t b = λ range table. (refl, λ at. (tt, (tt, tt)))
+make_plain s (Make.Comp x p live) r f t b = λ range table k j. (refl, λ at. (tt, (tt, (tt, (tt, tt)))))
 
 retype_plain : (s : State) (r f : ℕ) (k : FrameKind) → HasPlain (retype_rule s r f k)
-retype_plain s r f frame_kind.Untyped = λ range. (tt, (tt, (tt, (tt, tt))))
-retype_plain s r f frame_kind.User = λ range. (tt, (tt, tt))
-retype_plain s r f frame_kind.Kernel = λ range. (tt, (tt, tt))
+retype_plain s r f FrameKind.Untyped = λ range. (tt, (tt, (tt, (tt, tt))))
+retype_plain s r f FrameKind.User = λ range. (tt, (tt, tt))
+retype_plain s r f FrameKind.Kernel = λ range. (tt, (tt, tt))
 
 touch_plain : (s : State) (c pages v : ℕ) (t : Option Translation) → HasPlain (touch_by pages v t)
 touch_plain s c pages v None = λ mapping. tt
@@ -198,14 +178,14 @@ rule_plain s c (Part r f n t b) = λ range table. (refl, λ at. (tt, tt))
 -- A plain refusal of a call's rule is a reply that the relation permits.
 may_plain : (s : State) (c : ℕ) (call : Call) (r : Reply) → IsPlain r → IsFalse (are_calls_spent s c)
     → RuleMay s c (rule_of s c call) r → MayReply s c call r
-may_plain s c call (reply.Ok v) plain some may = absurd plain
-may_plain s c call reply.Raced plain some may = absurd plain
-may_plain s c call (reply.Busy d) plain some may = absurd plain
-may_plain s c call reply.CallsSpent plain some may = absurd plain
-may_plain s c call reply.Dead plain some may = (some, inr may)
+may_plain s c call (Reply.Ok v) plain some may = absurd plain
+may_plain s c call Reply.Raced plain some may = absurd plain
+may_plain s c call (Reply.Busy d) plain some may = absurd plain
+may_plain s c call Reply.CallsSpent plain some may = absurd plain
+may_plain s c call Reply.Dead plain some may = (some, inr may)
 may_plain s c call _ plain some may = (some, may)
 
-ok_inj : (v w : Value) → reply.Ok v ≡ reply.Ok w → v ≡ w
+ok_inj : (v w : Value) → Reply.Ok v ≡ Reply.Ok w → v ≡ w
 ok_inj v w e = cc
 
 -- A call that a core may not make asks for life, and the core's component does not live.
@@ -226,24 +206,24 @@ permitted s c call calm = tested (are_calls_spent s c) refl
     found (Found change) e h some may = (some, (may, subst (λ j. IsFoundAnd j (λ k. k.value ≡ change.value)) (sym e) refl))
 
     judged : (t : Bool) → acts s c call ≡ t → IsFalse (are_calls_spent s c)
-        → MayReply s c call (if t then reply_in (change_of s c call) else reply.Dead)
+        → MayReply s c call (if t then reply_in (change_of s c call) else Reply.Dead)
     judged true may some =
         found (change_of s c call) refl (rule_refused s c (rule_of s c call) calm (rule_plain s c call)) some may
     judged false dead some = (some, inl (not_acting s c call dead))
 
-    tested : (t : Bool) → are_calls_spent s c ≡ t → MayReply s c call (if t then reply.CallsSpent else first_reply s c call)
+    tested : (t : Bool) → are_calls_spent s c ≡ t → MayReply s c call (if t then Reply.CallsSpent else first_reply s c call)
     tested true e = e
     tested false e = judged (acts s c call) refl e
 
-only_ok : (s : State) (c : ℕ) (call : Call) (v : Value) → MayReply s c call (reply.Ok v) → alone s c call ≡ reply.Ok v
+only_ok : (s : State) (c : ℕ) (call : Call) (v : Value) → MayReply s c call (Reply.Ok v) → alone s c call ≡ Reply.Ok v
 only_ok s c call v may =
-    ap (λ t. if t then reply.CallsSpent else first_reply s c call) may.0
-    ∙ ap (λ t. if t then reply_in (change_of s c call) else reply.Dead) may.1.0
+    ap (λ t. if t then Reply.CallsSpent else first_reply s c call) may.0
+    ∙ ap (λ t. if t then reply_in (change_of s c call) else Reply.Dead) may.1.0
     ∙ found (change_of s c call) may.1.1
   where
-    found : (j : Judged Change) → IsFoundAnd j (λ k. k.value ≡ v) → reply_in j ≡ reply.Ok v
+    found : (j : Judged Change) → IsFoundAnd j (λ k. k.value ≡ v) → reply_in j ≡ Reply.Ok v
     found (Refused r) h = absurd h
-    found (Found change) h = ap reply.Ok h
+    found (Found change) h = ap Reply.Ok h
 
 pub first_permitted : FirstPermitted
 first_permitted setting events c call = record {

@@ -1,14 +1,8 @@
 -- What holds of every change that a rule can make holds of its outcome; what every list of edits makes is such a change.
-use Rattle.std.proofs.Common.{ℕ}
-use Rattle.spk_nums.specs.Capability.{Capability}
-use Rattle.spk_nums.specs.declared.replies.Value.{Value}
-use Rattle.spk_nums.specs.declared.replies.Reply.{Reply}
+use Rattle.kernel_rules.specs.{ℕ, Capability, Value, Reply, Option, Some, None, List, [], ◌∷◌, Slot, found, Edit, edited, after_edits}
+use Rattle.kernel_rules.specs.{Change, does, Rule, Name, Vacant, Held, Mapped, Does, Judged, Refused, Found, and_then, unless, named}
+use Rattle.kernel_rules.specs.{vacant, held, mapped, first_cause, outcome}
 use Rattle.kernel_rules.specs.State.{State}
-use Rattle.kernel_rules.specs.Access.{Slot, found}
-use Rattle.kernel_rules.specs.Edits.{Edit, edited, after_edits}
-use Rattle.kernel_rules.specs.Rules.{Change, does, Rule, Name, Vacant, Held, Mapped, Does, Judged, Refused, Found}
-use Rattle.kernel_rules.specs.Rules.{and_then, unless, named, vacant, held, mapped, first_cause, outcome}
-use Rattle.std.specs.Prelude.{Option, Some, None, List, [], ◌∷◌}
 
 -- P holds of every change that the rule can make.
 abbrev pub AllChanges : State → ℕ → (Change → Type 0) → Rule → Type 0

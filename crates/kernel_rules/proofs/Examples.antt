@@ -1,24 +1,10 @@
 -- Worked examples, which the checker computes, of what is easily forgotten: what an invocation may be refused with where its name
 -- leads to no gate, what waits for flushes, and what a core does whose component was killed.
-use Rattle.std.proofs.Common.{◌≡◌, ◌⊎◌, inl, inr, refl, Bool, true, false, IsTrue}
-use Rattle.std.proofs.lemmas.Bool.{false≢true, true≢false}
-use Rattle.std.specs.Prelude.{List, [], ◌∷◌, None}
-use Rattle.spk_nums.specs.declared.kinds.Kind.TheVariants as kind
-use Rattle.spk_nums.specs.declared.kinds.FrameKind.TheVariants as frame_kind
-use Rattle.spk_nums.specs.declared.calls.Make.TheVariants as make
-use Rattle.spk_nums.specs.declared.calls.Call.{Call}
-use Rattle.spk_nums.specs.declared.calls.Call.TheVariants as call
-use Rattle.spk_nums.specs.declared.replies.Value.{Value}
-use Rattle.spk_nums.specs.declared.replies.Value.TheVariants.{Nothing, Cap, Amount}
-use Rattle.spk_nums.specs.declared.replies.Reply.{Reply}
-use Rattle.spk_nums.specs.declared.replies.Reply.TheVariants as reply
-use Rattle.kernel_rules.specs.State.{Pages, Thread, Kernel, State}
-use Rattle.kernel_rules.specs.Start.{plain_cap, start}
-use Rattle.kernel_rules.specs.References.{sum_below, node_refs, refs}
-use Rattle.kernel_rules.specs.GracePeriods.{entered, returned}
-use Rattle.kernel_rules.specs.MemoryCalls.{holds_nothing}
-use Rattle.kernel_rules.specs.CallRelation.{MayReply, state_by}
-use Rattle.kernel_rules.specs.Alone.{plain_reply, plain_replies, plain_steps}
+use Rattle.kernel_rules.specs.{◌≡◌, ◌⊎◌, refl, Bool, true, false, IsTrue, List, [], ◌∷◌, None, Call, Value, Nothing, Cap, Amount, Reply}
+use Rattle.kernel_rules.specs.{Kind, FrameKind, Make, Pages, Thread, Kernel, plain_cap, start, sum_below, node_refs, refs, entered}
+use Rattle.kernel_rules.specs.{returned, holds_nothing, MayReply, state_by, plain_reply, plain_replies, plain_steps}
+use Rattle.std.proofs.Common.{inl, inr, true≢false}
+use Rattle.{std.proofs.lemmas.Bool.false≢true, kernel_rules.specs.State.State}
 
 -- One core with 100 ticks, and 32 frames, of which 6 is the first that is untyped.
 abbrev one_core : State
@@ -32,7 +18,7 @@ one_core =
     })
 
 abbrev done : Reply
-done = reply.Ok Nothing
+done = Reply.Ok Nothing
 
 -- Core 0's call may be decided with this reply at the start.
 abbrev Permits : Call → Reply → Type 0
@@ -50,44 +36,44 @@ neither_dead rule (inl x) = true≢false x.1
 neither_dead rule (inr y) = rule y
 
 -- Where nothing is held, an invocation may find that, and nothing else: neither a dead component nor a deep thread.
-nothing_to_call : Permits (call.Call 63) reply.Empty
+nothing_to_call : Permits (Call.Call 63) Reply.Empty
 nothing_to_call = (refl, inl refl)
 
-nothing_is_not_dead : Permits (call.Call 63) reply.Dead → ⊥
+nothing_is_not_dead : Permits (Call.Call 63) Reply.Dead → ⊥
 nothing_is_not_dead may = neither_dead (neither (λ n. n) (λ deep. false≢true deep.0) (λ dead. false≢true dead.0)) may.1
 
-nothing_is_not_wrong : Permits (call.Call 63) reply.WrongCap → ⊥
+nothing_is_not_wrong : Permits (Call.Call 63) Reply.WrongCap → ⊥
 nothing_is_not_wrong may = neither (λ n. n) (λ deep. false≢true deep.0) (λ dead. false≢true dead.0) may.1
 
-nothing_is_not_called : Permits (call.Call 63) done → ⊥
+nothing_is_not_called : Permits (Call.Call 63) done → ⊥
 nothing_is_not_called may = may.1.1
 
 -- A range is no gate, so it is the wrong capability, and not dead.
-range_is_wrong : Permits (call.Call 0) reply.WrongCap
+range_is_wrong : Permits (Call.Call 0) Reply.WrongCap
 range_is_wrong = (refl, inl refl)
 
-range_is_not_dead : Permits (call.Call 0) reply.Dead → ⊥
+range_is_not_dead : Permits (Call.Call 0) Reply.Dead → ⊥
 range_is_not_dead may = neither_dead (neither (λ n. n) (λ deep. false≢true deep.0) (λ dead. false≢true dead.0)) may.1
 
-range_is_not_empty : Permits (call.Call 0) reply.Empty → ⊥
+range_is_not_empty : Permits (Call.Call 0) Reply.Empty → ⊥
 range_is_not_empty may = neither (λ held. false≢true (sym held)) (λ deep. false≢true deep.0) (λ dead. false≢true dead.0) may.1
   where
     sym : {b c : Bool} → b ≡ c → c ≡ b
     sym e = cc
 
 -- A frame beyond the machine's is out of the range, and of no kind.
-beyond_the_machine : Permits (call.Retype 0 32 frame_kind.Untyped) reply.OutOfRange
+beyond_the_machine : Permits (Call.Retype 0 32 FrameKind.Untyped) Reply.OutOfRange
 beyond_the_machine = (refl, inr (inl (refl, refl)))
 
-beyond_no_kind : Permits (call.Retype 0 32 frame_kind.Untyped) reply.FrameKind → ⊥
+beyond_no_kind : Permits (Call.Retype 0 32 FrameKind.Untyped) Reply.FrameKind → ⊥
 unfolding sum_below node_refs refs holds_nothing
 beyond_no_kind may = by_cause may.1
   where
-    by_range : reply.FrameKind ≡ reply.OutOfRange → ⊥
+    by_range : Reply.FrameKind ≡ Reply.OutOfRange → ⊥
     by_range e = cc
 
     by_cause : {A B C D : Type 0}
-        → ⊥ ⊎ ((A × (reply.FrameKind ≡ reply.OutOfRange))
+        → ⊥ ⊎ ((A × (Reply.FrameKind ≡ Reply.OutOfRange))
         ⊎ ((IsTrue false × B) ⊎ ((IsTrue false × C) ⊎ (⊥ ⊎ (⊥ ⊎ ((IsTrue false × D) ⊎ ⊥)))))) → ⊥
     by_cause (inl x) = x
     by_cause (inr (inl x)) = by_range x.1
@@ -100,37 +86,37 @@ beyond_no_kind may = by_cause may.1
 
 -- An entry of a root of pages is filled again only after a flush.
 unlinked : plain_replies one_core 0 (
-    call.Retype 0 6 frame_kind.Kernel
-    ∷ call.Make make.Pleaf 0 6 1 20
-    ∷ call.Grow 2 0 20
-    ∷ call.Shrink 2 0
-    ∷ call.Grow 2 0 20
-    ∷ call.Flush
-    ∷ call.Grow 2 0 20
+    Call.Retype 0 6 FrameKind.Kernel
+    ∷ Call.Make Make.Pleaf 0 6 1 20
+    ∷ Call.Grow 2 0 20
+    ∷ Call.Shrink 2 0
+    ∷ Call.Grow 2 0 20
+    ∷ Call.Flush
+    ∷ Call.Grow 2 0 20
     ∷ [])
-    ≡ done ∷ done ∷ done ∷ done ∷ reply.Unflushed 0 ∷ done ∷ done ∷ []
+    ≡ done ∷ done ∷ done ∷ done ∷ Reply.Unflushed 0 ∷ done ∷ done ∷ []
 unlinked = refl
 
 -- The frame of a leaf of pages is retyped only after a flush, also where it was never linked.
 never_linked : plain_replies one_core 0 (
-    call.Retype 0 6 frame_kind.Kernel
-    ∷ call.Make make.Pleaf 0 6 1 20
-    ∷ call.Remove 1 20
-    ∷ call.Retype 0 6 frame_kind.Untyped
-    ∷ call.Flush
-    ∷ call.Retype 0 6 frame_kind.Untyped
+    Call.Retype 0 6 FrameKind.Kernel
+    ∷ Call.Make Make.Pleaf 0 6 1 20
+    ∷ Call.Remove 1 20
+    ∷ Call.Retype 0 6 FrameKind.Untyped
+    ∷ Call.Flush
+    ∷ Call.Retype 0 6 FrameKind.Untyped
     ∷ [])
-    ≡ done ∷ done ∷ done ∷ reply.Unflushed 0 ∷ done ∷ done ∷ []
+    ≡ done ∷ done ∷ done ∷ Reply.Unflushed 0 ∷ done ∷ done ∷ []
 unfolding sum_below node_refs refs holds_nothing
 never_linked = refl
 
 -- A root of pages and a thread are made of blank frames.
 makes : List Call
 makes =
-    call.Retype 0 6 frame_kind.Kernel
-    ∷ call.Make make.Pages 0 6 1 20
-    ∷ call.Retype 0 7 frame_kind.Kernel
-    ∷ call.Make (make.Thread 3) 0 7 1 21
+    Call.Retype 0 6 FrameKind.Kernel
+    ∷ Call.Make Make.Pages 0 6 1 20
+    ∷ Call.Retype 0 7 FrameKind.Kernel
+    ∷ Call.Make (Make.Thread 3) 0 7 1 21
     ∷ []
 
 made : plain_replies one_core 0 makes ≡ done ∷ done ∷ done ∷ done ∷ []
@@ -149,17 +135,17 @@ thread_made = refl
 -- call is dead before its names are judged.
 killed : List Call
 killed =
-    call.Kill 3
-    ∷ call.Look 0
-    ∷ call.Look 63
-    ∷ call.Touch 0
-    ∷ call.Flush
-    ∷ call.Ret
-    ∷ call.Tick 5
+    Call.Kill 3
+    ∷ Call.Look 0
+    ∷ Call.Look 63
+    ∷ Call.Touch 0
+    ∷ Call.Flush
+    ∷ Call.Ret
+    ∷ Call.Tick 5
     ∷ []
 
 locked_out : plain_replies one_core 0 killed
-    ≡ done ∷ reply.Dead ∷ reply.Dead ∷ reply.Dead ∷ done ∷ reply.Bottom ∷ reply.Ok (Amount 5) ∷ []
+    ≡ done ∷ Reply.Dead ∷ Reply.Dead ∷ Reply.Dead ∷ done ∷ Reply.Bottom ∷ Reply.Ok (Amount 5) ∷ []
 unfolding killed
 locked_out = refl
 
@@ -176,13 +162,13 @@ two_cores =
 
 -- A core gives back what it has spent, and no more; core 1 gives back nothing of it.
 spends : List Call
-spends = call.Tick 10 ∷ call.Replenish 12 11 ∷ call.Replenish 12 4 ∷ call.Replenish 13 7 ∷ call.Replenish 13 6 ∷ []
+spends = Call.Tick 10 ∷ Call.Replenish 12 11 ∷ Call.Replenish 12 4 ∷ Call.Replenish 13 7 ∷ Call.Replenish 13 6 ∷ []
 
-given : plain_replies two_cores 0 spends ≡ reply.Ok (Amount 10) ∷ reply.Short 10 ∷ done ∷ reply.Short 6 ∷ done ∷ []
+given : plain_replies two_cores 0 spends ≡ Reply.Ok (Amount 10) ∷ Reply.Short 10 ∷ done ∷ Reply.Short 6 ∷ done ∷ []
 unfolding spends
 given = refl
 
-none_of_others : plain_reply (plain_steps two_cores 0 spends) 1 (call.Replenish 12 1) ≡ reply.Short 0
+none_of_others : plain_reply (plain_steps two_cores 0 spends) 1 (Call.Replenish 12 1) ≡ Reply.Short 0
 unfolding spends
 none_of_others = refl
 
@@ -197,23 +183,23 @@ two_kinds =
       epochs = 65535;
     })
 
-no_better : plain_replies two_kinds 0 (call.Replenish 13 0 ∷ call.Delegate 12 13 0 ∷ call.Replenish 13 0 ∷ [])
-    ≡ reply.Unlike ∷ done ∷ done ∷ []
+no_better : plain_replies two_kinds 0 (Call.Replenish 13 0 ∷ Call.Delegate 12 13 0 ∷ Call.Replenish 13 0 ∷ [])
+    ≡ Reply.Unlike ∷ done ∷ done ∷ []
 no_better = refl
 
 -- The state after core 1 has entered a call, and core 0 one that kills the component of both.
 abbrev kill_decided : State
-kill_decided = state_by (entered (entered two_cores 1) 0) 0 (call.Kill 3) done
+kill_decided = state_by (entered (entered two_cores 1) 0) 0 (Call.Kill 3) done
 
 -- A call in progress when the component is killed may end, and may be refused as dead; the next one is refused.
-in_progress_may_end : MayReply kill_decided 1 (call.Look 3) (reply.Ok (Cap (plain_cap kind.Comp 3)))
+in_progress_may_end : MayReply kill_decided 1 (Call.Look 3) (Reply.Ok (Cap (plain_cap Kind.Comp 3)))
 in_progress_may_end = (refl, (refl, refl))
 
-in_progress_may_be_dead : MayReply kill_decided 1 (call.Look 3) reply.Dead
+in_progress_may_be_dead : MayReply kill_decided 1 (Call.Look 3) Reply.Dead
 in_progress_may_be_dead = (refl, inl (refl, refl))
 
-next_is_dead : plain_reply (returned kill_decided 1) 1 (call.Look 3) ≡ reply.Dead
+next_is_dead : plain_reply (returned kill_decided 1) 1 (Call.Look 3) ≡ Reply.Dead
 next_is_dead = refl
 
-next_does_not_end : (v : Value) → MayReply (entered (returned kill_decided 1) 1) 1 (call.Look 3) (reply.Ok v) → ⊥
+next_does_not_end : (v : Value) → MayReply (entered (returned kill_decided 1) 1) 1 (Call.Look 3) (Reply.Ok v) → ⊥
 next_does_not_end v may = false≢true may.1.0

@@ -1,8 +1,7 @@
 -- What it means that a range has the frames of a part.
-use Rattle.std.proofs.Common.{◌≡◌, ℕ, ◌+◌, ◌-◌, ◌<◌, ◌≤◌, Bool, true, false, ◌&&◌, nat_le, nat_lt, refl, ap, ◌∙◌, arith}
-use Rattle.std.proofs.lemmas.Bool.{leb-true, ltb-true, le-leb, lt-ltb, and_parts}
-use Rattle.kernel_rules.specs.Access.{Named}
-use Rattle.kernel_rules.specs.CapabilityCalls.{has_frame, has_frames}
+use Rattle.std.proofs.Common.{◌≡◌, ℕ, ◌+◌, ◌-◌, ◌<◌, ◌≤◌, Bool, true, false, ◌&&◌, nat_le, nat_lt, refl, ap, ◌∙◌, arith, leb-true, ltb-true}
+use Rattle.kernel_rules.specs.{Named, has_frame, has_frames}
+use Rattle.{std.proofs.Common.le-leb, std.proofs.Common.lt-ltb, std.proofs.lemmas.Bool.and_parts}
 
 -- The frames are some, begin at the range's first or after it, and end by its last.
 pub record HasFrames (range : Named) (f n : ℕ) : Type 0 where

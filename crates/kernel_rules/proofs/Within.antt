@@ -1,20 +1,11 @@
 -- The sets of each grace period lie within the wider ones, and the cores that wait are in a call.
-use Rattle.std.proofs.Common.{◌≡◌, ◌≢◌, inl, inr, ℕ, Bool, true, false, refl, sym, ◌∙◌, ap, subst, if◌then◌else◌, IsTrue, [], ◌∷◌}
-use Rattle.std.proofs.lemmas.Bool.{eq-eqb, ne_eqb, cases_eq, false≢true}
-use Rattle.std.specs.List.{list_any}
-use Rattle.spk_nums.specs.declared.calls.Call.{Call}
-use Rattle.spk_nums.specs.declared.calls.Call.TheVariants.{Tick}
-use Rattle.spk_nums.specs.declared.replies.Reply.{Reply}
-use Rattle.spk_nums.specs.declared.replies.Reply.TheVariants as reply
-use Rattle.kernel_rules.specs.State.{Grace, Thing, FrameOf, State, put}
-use Rattle.kernel_rules.specs.Start.{no_grace}
-use Rattle.kernel_rules.specs.GracePeriods.{same_thing, new_grace, passed}
-use Rattle.kernel_rules.specs.Edits.{Edit, Node, Untype, Flush, is_place_of, edited}
-use Rattle.kernel_rules.specs.Rules.{Change, Judged, Refused, Found}
-use Rattle.kernel_rules.specs.CallRelation.{rule_of, change_of, changed, owed_by, state_by}
-use Rattle.kernel_rules.specs.Runs.{Enters, Decides, Returns, after}
-use Rattle.kernel_rules.specs.Laws.{IsWithin, WaitsWithin}
+use Rattle.kernel_rules.specs.{◌≡◌, ◌≢◌, ℕ, Bool, true, false, refl, if◌then◌else◌, IsTrue, [], ◌∷◌, Call, Tick, Reply, Grace, Thing}
+use Rattle.kernel_rules.specs.{FrameOf, put, no_grace, same_thing, new_grace, passed, Edit, Node, Untype, is_place_of, edited, Change}
+use Rattle.kernel_rules.specs.{Judged, Refused, Found, rule_of, change_of, changed, owed_by, state_by, Enters, Decides, Returns, after}
+use Rattle.std.proofs.Common.{inl, inr, sym, ◌∙◌, ap, subst, eq-eqb, ne_eqb}
+use Rattle.kernel_rules.specs.{State.State, Edits.Flush, Laws.IsWithin, Laws.WaitsWithin}
 use Rattle.kernel_rules.proofs.Changes.{IfFound, outcome_all, all_edits, each_edit}
+use Rattle.{std.proofs.lemmas.Bool.cases_eq, std.proofs.lemmas.Bool.false≢true, std.specs.List.list_any}
 
 -- A value of `put`, by whether the number is the one put.
 pub put_same : {A : Type 0} (f : ℕ → A) (i : ℕ) (x : A) (j : ℕ) → j ≡ i → put f i x j ≡ x
@@ -98,10 +89,10 @@ owed_within s c call x d h = subst (λ g. IsWithin (g x) d) (sym (owed_grace s c
 
 decided_within : (s : State) (c : ℕ) (call : Call) (r : Reply) → ((x : Thing) (d : ℕ) → IsWithin (s.grace x) d)
     → (x : Thing) (d : ℕ) → IsWithin ((state_by s c call r).grace x) d
-decided_within s c call (reply.Ok v) within x d =
+decided_within s c call (Reply.Ok v) within x d =
     changed_within s (change_of s c call) (found_keeps s c call) within x d
-decided_within s c call reply.Raced within x d = owed_within s c call x d (within x d)
-decided_within s c call (reply.Busy e) within x d = owed_within s c call x d (within x d)
+decided_within s c call Reply.Raced within x d = owed_within s c call x d (within x d)
+decided_within s c call (Reply.Busy e) within x d = owed_within s c call x d (within x d)
 decided_within s c call _ within x d = within x d
 
 pub waits_within : WaitsWithin

@@ -1,9 +1,7 @@
 -- Resolving a name, and the access of calls in progress: what was removed still serves the calls that wait for it.
 use Rattle.std.specs.Prelude.{ℕ, ◌/◌, ◌%◌, Bool, true, false, not, ◌&&◌, ◌||◌, ◌==◌, nat_lt, nat_le, if◌then◌else◌, Option, Some, None}
-use Rattle.spk_nums.specs.Capability.{Capability}
-use Rattle.spk_nums.specs.Rights.{both, neither, right_to_copy, right_to_use}
-use Rattle.spk_nums.specs.declared.kinds.Kind.{Kind}
-use Rattle.spk_nums.specs.declared.kinds.Kind.TheVariants as kind
+use Rattle.spk_nums.specs.{Capability.Capability, Rights.both, Rights.neither, Rights.right_to_copy, Rights.right_to_use}
+use Rattle.spk_nums.specs.{declared.kinds.Kind.Kind}
 use Rattle.kernel_rules.specs.State.{Place, Free, Holds, Quiescing, PlaceOf, State, comp_of}
 
 -- A place in a node: the node's frame, and the index in it.
@@ -26,7 +24,7 @@ found k = record { found = true; kind = k.kind; frame = k.frame; arg = k.arg; ri
 
 -- The name led to no capability such as was wanted.
 abbrev pub not_found : Named
-not_found = record { found = false; kind = kind.Range; frame = 0; arg = 0; rights = both }
+not_found = record { found = false; kind = Kind.Range; frame = 0; arg = 0; rights = both }
 
 -- The capability that was found.
 abbrev pub capability : Named → Capability
@@ -34,7 +32,7 @@ capability k = record { kind = k.kind; frame = k.frame; arg = k.arg; rights = k.
 
 -- A root that is known by its frame.
 abbrev pub root_at : ℕ → Named
-root_at f = record { found = true; kind = kind.Table; frame = f; arg = 0; rights = both }
+root_at f = record { found = true; kind = Kind.Table; frame = f; arg = 0; rights = both }
 
 -- Where a place is asked for: under a number of a radix table, by the name of the table's root, or at an entry of that root.
 pub data Target : Type 0 where
@@ -47,17 +45,17 @@ place_at s at = s.place at.node at.index
 
 -- The number of a kind, in their order.
 abbrev pub kind_number : Kind → ℕ
-kind_number kind.Range = 0
-kind_number kind.Table = 1
-kind_number kind.Leaf = 2
-kind_number kind.Pages = 3
-kind_number kind.Pleaf = 4
-kind_number kind.Comp = 5
-kind_number kind.Gate = 6
-kind_number kind.Thread = 7
-kind_number kind.Tcap = 8
-kind_number kind.Link = 9
-kind_number kind.Page = 10
+kind_number Kind.Range = 0
+kind_number Kind.Table = 1
+kind_number Kind.Leaf = 2
+kind_number Kind.Pages = 3
+kind_number Kind.Pleaf = 4
+kind_number Kind.Comp = 5
+kind_number Kind.Gate = 6
+kind_number Kind.Thread = 7
+kind_number Kind.Tcap = 8
+kind_number Kind.Link = 9
+kind_number Kind.Page = 10
 
 -- Any kind is wanted.
 abbrev pub any : Kind → Bool
@@ -69,7 +67,7 @@ only wanted k = kind_number k == kind_number wanted
 
 -- The root of a table of capabilities or of pages is wanted.
 abbrev pub root : Kind → Bool
-root k = only kind.Table k || only kind.Pages k
+root k = only Kind.Table k || only Kind.Pages k
 
 -- What a name wants: the kinds of capability of which it is to lead to one, and the rights that it needs of that one.
 pub record Want : Type 0 where
@@ -110,7 +108,7 @@ usable s c at = usable_in (place_at s at) ((s.grace (PlaceOf at.node at.index)).
 -- The leaf to which a capability links.
 abbrev pub linked : Option Capability → Option ℕ
 linked None = None
-linked (Some k) = if only kind.Link k.kind then Some k.frame else None
+linked (Some k) = if only Kind.Link k.kind then Some k.frame else None
 
 -- The slot of an index in a leaf, if there is a leaf.
 abbrev pub slot_in : Option ℕ → ℕ → Option Slot
@@ -131,7 +129,7 @@ reached s c (InRoot table i) = if table.found && nat_le i 63 then Some record { 
 -- Whether a place holds a link.
 abbrev pub holds_link : Place → Bool
 holds_link Free = false
-holds_link (Holds k) = only kind.Link k.kind
+holds_link (Holds k) = only Kind.Link k.kind
 holds_link (Quiescing k) = false
 
 -- Whether a target has no slot: its number is too large, or the root entry holds no link.

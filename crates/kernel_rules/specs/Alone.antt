@@ -1,26 +1,21 @@
 -- Calls that are made alone: no other core is in a call from the entry to the return.
 use Rattle.std.specs.Prelude.{ℕ, if◌then◌else◌, List, [], ◌∷◌}
-use Rattle.spk_nums.specs.declared.calls.Call.{Call}
-use Rattle.spk_nums.specs.declared.replies.Reply.{Reply}
-use Rattle.spk_nums.specs.declared.replies.Reply.TheVariants as reply
-use Rattle.kernel_rules.specs.State.{State}
-use Rattle.kernel_rules.specs.GracePeriods.{entered, returned}
-use Rattle.kernel_rules.specs.Life.{acts}
-use Rattle.kernel_rules.specs.Rules.{Change, Judged, Refused, Found}
-use Rattle.kernel_rules.specs.CallRelation.{are_calls_spent, change_of, state_by}
+use Rattle.spk_nums.specs.{declared.calls.Call.Call, declared.replies.Reply.Reply}
+use Rattle.kernel_rules.specs.{State.State, GracePeriods.entered, GracePeriods.returned, Life.acts, Rules.Change, Rules.Judged}
+use Rattle.kernel_rules.specs.{Rules.Refused, Rules.Found, CallRelation.are_calls_spent, CallRelation.change_of, CallRelation.state_by}
 
 -- The reply of a judged change: the first refusal in order, or else `ok` with its value.
 abbrev pub reply_in : Judged Change → Reply
 reply_in (Refused r) = r
-reply_in (Found change) = reply.Ok change.value
+reply_in (Found change) = Reply.Ok change.value
 
 -- The first reply in order to core c's call, where its calls are not spent: `dead` where it may not make the call.
 abbrev pub first_reply : State → ℕ → Call → Reply
-first_reply s c call = if acts s c call then reply_in (change_of s c call) else reply.Dead
+first_reply s c call = if acts s c call then reply_in (change_of s c call) else Reply.Dead
 
 -- The first reply in order to core c's call: the reply where no other core is in a call.
 abbrev pub alone : State → ℕ → Call → Reply
-alone s c call = if are_calls_spent s c then reply.CallsSpent else first_reply s c call
+alone s c call = if are_calls_spent s c then Reply.CallsSpent else first_reply s c call
 
 -- The reply to a call that core c enters, and makes alone.
 abbrev pub plain_reply : State → ℕ → Call → Reply

@@ -1,23 +1,18 @@
 -- The call relation: the replies that a call may be decided with, and the state that the decision leaves.
 use Rattle.std.specs.Prelude.{◌⊎◌, ℕ, ◌+◌, Bool, true, false, nat_le, IsTrue, IsFalse}
-use Rattle.std.specs.List.{list_any}
-use Rattle.spk_nums.specs.declared.calls.Call.{Call}
-use Rattle.spk_nums.specs.declared.calls.Call.TheVariants.{Look, Copy, Remove, Grow, Shrink, Retype, Make as make_call}
-use Rattle.spk_nums.specs.declared.calls.Call.TheVariants.{Map, Unmap, Touch, Flush, Gate, Kill, Call as call_gate}
-use Rattle.spk_nums.specs.declared.calls.Call.TheVariants.{Ret, Switch, Tick, Transfer, Delegate, Test, Part, Replenish}
-use Rattle.spk_nums.specs.declared.calls.Make.TheVariants as make
-use Rattle.spk_nums.specs.declared.kinds.FrameKind.TheVariants as frame_kind
-use Rattle.spk_nums.specs.declared.replies.Reply.{Reply}
-use Rattle.spk_nums.specs.declared.replies.Reply.TheVariants as reply
+use Rattle.spk_nums.specs.declared.calls.Call.TheVariants.{Look, Copy, Remove, Grow, Shrink, Retype, Make as make_call, Map, Unmap, Touch}
+use Rattle.spk_nums.specs.declared.calls.Call.TheVariants.{Flush, Gate, Kill, Call as call_gate, Ret, Switch, Tick, Transfer, Delegate}
+use Rattle.spk_nums.specs.declared.calls.Call.TheVariants.{Test, Part, Replenish}
 use Rattle.kernel_rules.specs.State.{Thing, FrameOf, State, with_core}
-use Rattle.kernel_rules.specs.GracePeriods.{same_thing, begun}
 use Rattle.kernel_rules.specs.Life.{lives, asks_life, acts}
-use Rattle.kernel_rules.specs.Edits.{is_place_of}
 use Rattle.kernel_rules.specs.Rules.{Change, Rule, Judged, Refused, Found, outcome, RuleMay, RuleAnswers}
 use Rattle.kernel_rules.specs.CapabilityCalls.{look_rule, copy_rule, part_rule, remove_rule, grow_rule, shrink_rule, make_rule}
 use Rattle.kernel_rules.specs.MemoryCalls.{retype_rule, map_rule, unmap_rule, touch_rule, flush_rule}
 use Rattle.kernel_rules.specs.InvocationCalls.{gate_rule, kill_rule, call_rule, ret_rule, switch_rule}
 use Rattle.kernel_rules.specs.TimeCalls.{tick_rule, transfer_rule, delegate_rule, test_rule, replenish_rule}
+use Rattle.{std.specs.List.list_any, spk_nums.specs.declared.calls.Call.Call, spk_nums.specs.declared.replies.Reply.Reply}
+use Rattle.{spk_nums.specs.declared.calls.Make.Make, spk_nums.specs.declared.kinds.FrameKind.FrameKind}
+use Rattle.{kernel_rules.specs.GracePeriods.same_thing, kernel_rules.specs.GracePeriods.begun, kernel_rules.specs.Edits.is_place_of}
 
 -- The rule of a call of core c.
 abbrev pub rule_of : State → ℕ → Call → Rule
@@ -56,15 +51,15 @@ MayBeDead s c call = IsTrue (asks_life call) × IsFalse (lives s c)
 -- A call that is carried out is one that its core may make, and answers its value; `raced` and `busy` are permitted here, and justified
 -- elsewhere; `dead` is for want of the core's component or its rule's, and any other refusal is its rule's.
 abbrev pub MayAnswer : State → ℕ → Call → Reply → Type 0
-MayAnswer s c call (reply.Ok v) = IsTrue (acts s c call) × RuleAnswers s c (rule_of s c call) v
-MayAnswer s c call reply.Raced = Unit {0}
-MayAnswer s c call (reply.Busy d) = Unit {0}
-MayAnswer s c call reply.Dead = MayBeDead s c call ⊎ RuleMay s c (rule_of s c call) reply.Dead
+MayAnswer s c call (Reply.Ok v) = IsTrue (acts s c call) × RuleAnswers s c (rule_of s c call) v
+MayAnswer s c call Reply.Raced = Unit {0}
+MayAnswer s c call (Reply.Busy d) = Unit {0}
+MayAnswer s c call Reply.Dead = MayBeDead s c call ⊎ RuleMay s c (rule_of s c call) Reply.Dead
 MayAnswer s c call r = RuleMay s c (rule_of s c call) r
 
 -- In state s, the call of core c may be decided with this reply: `calls-spent` exactly where its calls are spent.
 abbrev pub MayReply : State → ℕ → Call → Reply → Type 0
-MayReply s c call reply.CallsSpent = IsTrue (are_calls_spent s c)
+MayReply s c call Reply.CallsSpent = IsTrue (are_calls_spent s c)
 MayReply s c call r = IsFalse (are_calls_spent s c) × MayAnswer s c call r
 
 -- The change of a call of core c, or its first refusal, as if the core may make the call.
@@ -78,22 +73,22 @@ begins_in (Found change) x = list_any (same_thing x) change.begins
 
 -- Whether the decision begins the grace period of this thing.
 abbrev pub begins : State → ℕ → Call → Reply → Thing → Bool
-begins s c call (reply.Ok v) x = begins_in (change_of s c call) x
+begins s c call (Reply.Ok v) x = begins_in (change_of s c call) x
 begins s c call _ x = false
 
 -- Whether a call that is carried out ends the grace period of this thing: a retype to untyped that of its frame, and a `make` of
 -- a node those of the node's places.
 abbrev pub ends_by : Call → Thing → Bool
-ends_by (Retype r f frame_kind.Untyped) x = same_thing x (FrameOf f)
-ends_by (make_call make.Table r f t b) x = is_place_of f x
-ends_by (make_call make.Leaf r f t b) x = is_place_of f x
-ends_by (make_call make.Pages r f t b) x = is_place_of f x
-ends_by (make_call make.Pleaf r f t b) x = is_place_of f x
+ends_by (Retype r f FrameKind.Untyped) x = same_thing x (FrameOf f)
+ends_by (make_call Make.Table r f t b) x = is_place_of f x
+ends_by (make_call Make.Leaf r f t b) x = is_place_of f x
+ends_by (make_call Make.Pages r f t b) x = is_place_of f x
+ends_by (make_call Make.Pleaf r f t b) x = is_place_of f x
 ends_by call x = false
 
 -- Whether the decision ends the grace period of this thing.
 abbrev pub ends : Call → Reply → Thing → Bool
-ends call (reply.Ok v) x = ends_by call x
+ends call (Reply.Ok v) x = ends_by call x
 ends call _ x = false
 
 -- Whether the decision empties the translations of its core, so that no grace period is unflushed by it.
@@ -102,7 +97,7 @@ flushes_by Flush = true
 flushes_by call = false
 
 abbrev pub flushes : Call → Reply → Bool
-flushes call (reply.Ok v) = flushes_by call
+flushes call (Reply.Ok v) = flushes_by call
 flushes call _ = false
 
 -- The state after a call that is carried out: its change, with the grace periods that it begins.
@@ -126,8 +121,8 @@ counted s c = with_core s c (record (s.core c) { counted = (s.core c).counted + 
 -- The state that the decision leaves: a call that is carried out makes its change, a refused one leaves all as it was but for
 -- the ticks owed; every call is counted but one answered `calls-spent`.
 abbrev pub state_by : State → ℕ → Call → Reply → State
-state_by s c call (reply.Ok v) = counted (changed s (change_of s c call)) c
-state_by s c call reply.CallsSpent = s
-state_by s c call reply.Raced = counted (owed_by s c call) c
-state_by s c call (reply.Busy d) = counted (owed_by s c call) c
+state_by s c call (Reply.Ok v) = counted (changed s (change_of s c call)) c
+state_by s c call Reply.CallsSpent = s
+state_by s c call Reply.Raced = counted (owed_by s c call) c
+state_by s c call (Reply.Busy d) = counted (owed_by s c call) c
 state_by s c call _ = counted s c

@@ -1,19 +1,13 @@
 -- The calls on capabilities. Each rule reads: what the call names, in order; its target; its own causes, the value that it
 -- answers, and its edits.
 use Rattle.std.specs.Prelude.{ℕ, ◌+◌, Bool, true, false, not, ◌&&◌, ◌==◌, nat_lt, nat_le, if◌then◌else◌, List, [], ◌∷◌, None}
-use Rattle.spk_nums.specs.Rights.{kept, part_of}
-use Rattle.spk_nums.specs.declared.kinds.Kind.{Kind}
-use Rattle.spk_nums.specs.declared.kinds.Kind.TheVariants as kind
-use Rattle.spk_nums.specs.declared.calls.Make.{Make}
-use Rattle.spk_nums.specs.declared.calls.Make.TheVariants as make
-use Rattle.spk_nums.specs.declared.replies.Value.TheVariants.{Nothing, Cap}
-use Rattle.spk_nums.specs.declared.replies.Reply.TheVariants as reply
-use Rattle.kernel_rules.specs.State.{Object, Blank, Table, Leaf, Pages, Pleaf, Thread, Tcap, Frame, Kernel}
-use Rattle.kernel_rules.specs.State.{Liveness, Unused, Live, Dead, NumberOf, State}
-use Rattle.kernel_rules.specs.Start.{plain_cap}
+use Rattle.spk_nums.specs.{Rights.kept, Rights.part_of, declared.kinds.Kind.Kind, declared.calls.Make.Make}
+use Rattle.spk_nums.specs.{declared.replies.Value.TheVariants.Nothing, declared.replies.Value.TheVariants.Cap, declared.replies.Reply.Reply}
+use Rattle.kernel_rules.specs.State.{Object, Blank, Table, Leaf, Pages, Pleaf, Thread, Tcap, Frame, Kernel, Liveness, Unused, Live, Dead}
 use Rattle.kernel_rules.specs.Access.{Named, capability, Under, InRoot, any, only, root, to_look, to_copy, to_part, to_use}
 use Rattle.kernel_rules.specs.Edits.{Fill, Remove, Node, Become, Component}
 use Rattle.kernel_rules.specs.Rules.{Cause, When, WaitedFor, Rule, Name, Vacant, Held, Does}
+use Rattle.{kernel_rules.specs.State.NumberOf, kernel_rules.specs.State.State, kernel_rules.specs.Start.plain_cap}
 
 -- `look A` names any capability A, and answers it, whatever its rights.
 abbrev pub look_rule : ℕ → Rule
@@ -26,21 +20,21 @@ look_rule a =
 abbrev pub copy_rule : ℕ → ℕ → ℕ → ℕ → Rule
 copy_rule a t b rights =
     Name a (to_copy any) λ cap.
-    Name t (to_use (only kind.Table)) λ table.
+    Name t (to_use (only Kind.Table)) λ table.
     Vacant (Under table b) λ at.
     Does [] Nothing (Fill at (kept (capability cap) rights) ∷ [])
 
 -- `remove T B` names a table T; what its place B holds is removed.
 abbrev pub remove_rule : ℕ → ℕ → Rule
 remove_rule t b =
-    Name t (to_use (only kind.Table)) λ table.
+    Name t (to_use (only Kind.Table)) λ table.
     Held (Under table b) λ at cap.
     Does [] Nothing (Remove at cap ∷ [])
 
 -- The kind of the leaf that a root takes.
 abbrev pub leaf_of : Kind → Kind
-leaf_of kind.Table = kind.Leaf
-leaf_of _ = kind.Pleaf
+leaf_of Kind.Table = Kind.Leaf
+leaf_of _ = Kind.Pleaf
 
 -- The leaf that a named root takes; any, where no root was found.
 abbrev pub leaf_for : Named → Kind → Bool
@@ -52,7 +46,7 @@ grow_rule t i l =
     Name t (to_use root) λ table.
     Name l (to_use (leaf_for table)) λ leaf.
     Vacant (InRoot table i) λ at.
-    Does [] Nothing (Fill at (plain_cap kind.Link leaf.frame) ∷ [])
+    Does [] Nothing (Fill at (plain_cap Kind.Link leaf.frame) ∷ [])
 
 -- `shrink T I` names a root T; the link in its root entry I is removed, and the leaf keeps its entries.
 abbrev pub shrink_rule : ℕ → ℕ → Rule
@@ -67,7 +61,7 @@ has_frame range f = nat_le range.frame f && nat_lt f (range.frame + range.arg)
 
 -- `out-of-range`: the frame is not in the range.
 abbrev pub outside : Named → ℕ → Cause
-outside range f = When (range.found && not (has_frame range f)) reply.OutOfRange
+outside range f = When (range.found && not (has_frame range f)) Reply.OutOfRange
 
 -- Whether a range has the n frames from f on, and these are some.
 abbrev pub has_frames : Named → ℕ → ℕ → Bool
@@ -75,14 +69,14 @@ has_frames range f n = nat_le 1 n && nat_le range.frame f && nat_le (f + n) (ran
 
 -- `out-of-range` of a part: it is empty, or not within the range.
 abbrev pub beyond : Named → ℕ → ℕ → Cause
-beyond range f n = When (range.found && not (has_frames range f n)) reply.OutOfRange
+beyond range f n = When (range.found && not (has_frames range f n)) Reply.OutOfRange
 
 -- `part R F N T B` names a range R that may be copied and used, and a table T; the free place B of T then holds the range of the N
 -- frames from F on, which are within R, with R's rights.
 abbrev pub part_rule : ℕ → ℕ → ℕ → ℕ → ℕ → Rule
 part_rule r f n t b =
-    Name r (to_part (only kind.Range)) λ range.
-    Name t (to_use (only kind.Table)) λ table.
+    Name r (to_part (only Kind.Range)) λ range.
+    Name t (to_use (only Kind.Table)) λ table.
     Vacant (Under table b) λ at.
     Does (beyond range f n ∷ []) Nothing (Fill at (part_of (capability range) f n) ∷ [])
 
@@ -97,34 +91,34 @@ is_blank _ = false
 
 -- `frame-kind` of a `make`: the frame is one of the machine's, and no blank kernel frame.
 abbrev pub not_blank : State → ℕ → Cause
-not_blank s f = When (is_frame s f && not (is_blank (s.frame f))) reply.FrameKind
+not_blank s f = When (is_frame s f && not (is_blank (s.frame f))) Reply.FrameKind
 
 -- `make` of an empty node: every place of it is free.
 abbrev pub make_node : State → Object → Kind → ℕ → ℕ → ℕ → ℕ → Rule
 make_node s object k r f t b =
-    Name r (to_use (only kind.Range)) λ range.
-    Name t (to_use (only kind.Table)) λ table.
+    Name r (to_use (only Kind.Range)) λ range.
+    Name t (to_use (only Kind.Table)) λ table.
     Vacant (Under table b) λ at.
     Does (outside range f ∷ not_blank s f ∷ []) Nothing (Node f object ∷ Fill at (plain_cap k f) ∷ [])
 
 -- `make thread R F T B C`: F is an idle thread whose stack holds C's frame.
 abbrev pub make_thread : State → ℕ → ℕ → ℕ → ℕ → ℕ → Rule
 make_thread s r f t b c =
-    Name r (to_use (only kind.Range)) λ range.
-    Name t (to_use (only kind.Table)) λ table.
-    Name c (to_use (only kind.Comp)) λ comp.
+    Name r (to_use (only Kind.Range)) λ range.
+    Name t (to_use (only Kind.Table)) λ table.
+    Name c (to_use (only Kind.Comp)) λ comp.
     Vacant (Under table b) λ at.
     Does (outside range f ∷ not_blank s f ∷ []) Nothing
-    (Become f (Kernel (Thread (record { stack = comp.frame ∷ []; runs_on = None }))) ∷ Fill at (plain_cap kind.Thread f) ∷ [])
+    (Become f (Kernel (Thread (record { stack = comp.frame ∷ []; runs_on = None }))) ∷ Fill at (plain_cap Kind.Thread f) ∷ [])
 
 -- `make tcap R F T B S W`: F is a temporal capability without budget, with the list of the one pair (S, W).
 abbrev pub make_tcap : State → ℕ → ℕ → ℕ → ℕ → ℕ → ℕ → Rule
 make_tcap s r f t b sched quality =
-    Name r (to_use (only kind.Range)) λ range.
-    Name t (to_use (only kind.Table)) λ table.
+    Name r (to_use (only Kind.Range)) λ range.
+    Name t (to_use (only Kind.Table)) λ table.
     Vacant (Under table b) λ at.
     Does (outside range f ∷ not_blank s f ∷ []) Nothing
-    (Become f (Kernel (Tcap (record { budget = 0; qualities = (sched, quality) ∷ [] }))) ∷ Fill at (plain_cap kind.Tcap f) ∷ [])
+    (Become f (Kernel (Tcap (record { budget = 0; qualities = (sched, quality) ∷ [] }))) ∷ Fill at (plain_cap Kind.Tcap f) ∷ [])
 
 -- Whether a liveness number is live.
 abbrev pub is_live : Liveness → Bool
@@ -141,30 +135,30 @@ epoch_of (Dead epoch) = epoch
 -- The causes for which a liveness number is not taken: it is live, another core still waits for it, or its epochs are spent.
 abbrev pub not_taken : State → ℕ → List Cause
 not_taken s l =
-    When (is_live (s.number l)) reply.Occupied
+    When (is_live (s.number l)) Reply.Occupied
     ∷ WaitedFor (NumberOf l)
-    ∷ When (epoch_of (s.number l) == s.limits.epochs) reply.EpochsSpent
+    ∷ When (epoch_of (s.number l) == s.limits.epochs) Reply.EpochsSpent
     ∷ []
 
 -- `make comp R F T B X P L`: F is a component with the table X, the pages P and the liveness number L, whose epoch rises by 1.
 abbrev pub make_comp : State → ℕ → ℕ → ℕ → ℕ → ℕ → ℕ → ℕ → Rule
 make_comp s r f t b x p l =
-    Name r (to_use (only kind.Range)) λ range.
-    Name t (to_use (only kind.Table)) λ table.
-    Name x (to_use (only kind.Table)) λ own_table.
-    Name p (to_use (only kind.Pages)) λ own_pages.
+    Name r (to_use (only Kind.Range)) λ range.
+    Name t (to_use (only Kind.Table)) λ table.
+    Name x (to_use (only Kind.Table)) λ own_table.
+    Name p (to_use (only Kind.Pages)) λ own_pages.
     Vacant (Under table b) λ at.
     Does (outside range f ∷ not_blank s f ∷ not_taken s l) Nothing
     (Component f (record { table = own_table.frame; pages = own_pages.frame; number = l; epoch = epoch_of (s.number l) + 1 })
-    ∷ Fill at (plain_cap kind.Comp f) ∷ [])
+    ∷ Fill at (plain_cap Kind.Comp f) ∷ [])
 
 -- `make O R F T B ..` names a range R and a table T; the blank kernel frame F of R becomes an O, and the free place B of T
 -- holds its capability.
 abbrev pub make_rule : State → Make → ℕ → ℕ → ℕ → ℕ → Rule
-make_rule s make.Table r f t b = make_node s Table kind.Table r f t b
-make_rule s make.Leaf r f t b = make_node s Leaf kind.Leaf r f t b
-make_rule s make.Pages r f t b = make_node s Pages kind.Pages r f t b
-make_rule s make.Pleaf r f t b = make_node s Pleaf kind.Pleaf r f t b
-make_rule s (make.Thread comp) r f t b = make_thread s r f t b comp
-make_rule s (make.Tcap sched quality) r f t b = make_tcap s r f t b sched quality
-make_rule s (make.Comp table pages live) r f t b = make_comp s r f t b table pages live
+make_rule s Make.Table r f t b = make_node s Table Kind.Table r f t b
+make_rule s Make.Leaf r f t b = make_node s Leaf Kind.Leaf r f t b
+make_rule s Make.Pages r f t b = make_node s Pages Kind.Pages r f t b
+make_rule s Make.Pleaf r f t b = make_node s Pleaf Kind.Pleaf r f t b
+make_rule s (Make.Thread comp) r f t b = make_thread s r f t b comp
+make_rule s (Make.Tcap sched quality) r f t b = make_tcap s r f t b sched quality
+make_rule s (Make.Comp table pages live) r f t b = make_comp s r f t b table pages live

@@ -1,16 +1,14 @@
 -- What a call does, as a list of edits of the state: the state after, the references taken, and the grace periods begun, each
 -- said once an edit.
-use Rattle.std.specs.Prelude.{ℕ, ◌+◌, ◌-◌, ◌==◌, nat_lt, min, if◌then◌else◌, Bool, false}
-use Rattle.std.specs.Prelude.{List, [], ◌∷◌, ◌++◌, length, take, drop, Option, Some, None}
-use Rattle.spk_nums.specs.Capability.{Capability}
-use Rattle.spk_nums.specs.declared.translations.Translation.{Translation}
-use Rattle.kernel_rules.specs.State.{CompFields, ThreadFields, TcapFields, Object, Comp, Thread, Tcap, Frame, Untyped, Kernel}
-use Rattle.kernel_rules.specs.State.{Free, Holds, Quiescing, Live, Dead, Thing, PlaceOf, FrameOf, NumberOf, State, put}
-use Rattle.kernel_rules.specs.State.{with_place, with_frame, with_number, with_core, with_grace, thread_in, tcap_in, thread_of}
-use Rattle.kernel_rules.specs.Start.{no_grace}
-use Rattle.kernel_rules.specs.References.{place_names, frame_names, number_names}
-use Rattle.kernel_rules.specs.GracePeriods.{same_thing, flushed}
-use Rattle.kernel_rules.specs.Access.{Slot}
+use Rattle.std.specs.Prelude.{ℕ, ◌+◌, ◌-◌, ◌==◌, nat_lt, min, if◌then◌else◌, Bool, false, List, [], ◌∷◌, ◌++◌, length, take, drop, Option}
+use Rattle.std.specs.Prelude.{Some, None}
+use Rattle.spk_nums.specs.{Capability.Capability, declared.translations.Translation.Translation}
+use Rattle.kernel_rules.specs.{State.CompFields, State.ThreadFields, State.TcapFields, State.Object, State.Comp, State.Thread, State.Tcap}
+use Rattle.kernel_rules.specs.{State.Frame, State.Untyped, State.Kernel, State.Free, State.Holds, State.Quiescing, State.Live, State.Dead}
+use Rattle.kernel_rules.specs.{State.Thing, State.PlaceOf, State.FrameOf, State.NumberOf, State.State, State.put, State.with_place}
+use Rattle.kernel_rules.specs.{State.with_frame, State.with_number, State.with_core, State.with_grace, State.thread_in, State.tcap_in}
+use Rattle.kernel_rules.specs.{State.thread_of, Start.no_grace, References.place_names, References.frame_names, References.number_names}
+use Rattle.kernel_rules.specs.{GracePeriods.same_thing, GracePeriods.flushed, Access.Slot}
 
 -- Whether a thing is a place of this node.
 abbrev pub is_place_of : ℕ → Thing → Bool

@@ -1,10 +1,8 @@
 -- Grace periods: what begins one, how a core passes it, and when what was removed may be used again.
 use Rattle.std.specs.Prelude.{◌≢◌, ◌<◌, ℕ, Bool, true, false, not, ◌&&◌, ◌==◌, if◌then◌else◌, List, [], Option, Some, None, find, IsTrue}
 use Rattle.std.specs.List.{list_any, range_with_len}
-use Rattle.spk_nums.specs.declared.replies.Reply.{Reply}
-use Rattle.spk_nums.specs.declared.replies.Reply.TheVariants as reply
-use Rattle.kernel_rules.specs.State.{Frame, User, Kernel, Pages, Pleaf, Grace, Thing, PlaceOf}
-use Rattle.kernel_rules.specs.State.{FrameOf, NumberOf, State, put, with_core, with_grace}
+use Rattle.kernel_rules.specs.State.{Frame, User, Kernel, Pages, Pleaf, Grace, Thing, PlaceOf, FrameOf, NumberOf, State, put, with_core}
+use Rattle.{spk_nums.specs.declared.replies.Reply.Reply, kernel_rules.specs.State.with_grace}
 
 -- Whether two things are one.
 abbrev pub same_thing : Thing → Thing → Bool
@@ -79,12 +77,12 @@ other_waiting s c x = lowest s (λ e. (s.grace x).waits e && not (e == c))
 -- The refusal of core c where another core waits in the grace period of a thing.
 abbrev pub quiescing_by : Option ℕ → Option Reply
 quiescing_by None = None
-quiescing_by (Some e) = Some (reply.Quiescing e)
+quiescing_by (Some e) = Some (Reply.Quiescing e)
 
 -- The refusal where a core has not flushed in the grace period of a thing.
 abbrev pub unflushed_by : Option ℕ → Option Reply
 unflushed_by None = None
-unflushed_by (Some e) = Some (reply.Unflushed e)
+unflushed_by (Some e) = Some (Reply.Unflushed e)
 
 -- Core e, not c, is in a call, and may still be in the grace period of a thing.
 pub record MayWait (s : State) (c : ℕ) (x : Thing) (e : ℕ) : Type 0 where

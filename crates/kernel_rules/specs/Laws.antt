@@ -1,35 +1,27 @@
 -- Laws of the definitions, each the contract of a function of this crate.
 use Rattle.std.specs.Prelude.{ℕ, ◌+◌, ◌≡◌, List, [], ◌∷◌, Some, IsTrue}
-use Rattle.spk_nums.specs.Setting.{Setting, IsSetting}
-use Rattle.spk_nums.specs.Capability.{Capability}
-use Rattle.spk_nums.specs.declared.calls.Call.{Call}
-use Rattle.spk_nums.specs.declared.calls.Call.TheVariants.{Tick}
-use Rattle.spk_nums.specs.declared.replies.Value.{Value}
-use Rattle.spk_nums.specs.declared.replies.Reply.{Reply}
-use Rattle.spk_nums.specs.declared.replies.Reply.TheVariants as reply
-use Rattle.kernel_rules.specs.State.{Holds, Grace, Thing, PlaceOf, FrameOf, NumberOf, State, put, tcap_in, outstanding}
-use Rattle.kernel_rules.specs.References.{sum_below, times, refs}
-use Rattle.kernel_rules.specs.Rules.{IsFoundAnd}
-use Rattle.kernel_rules.specs.CallRelation.{MayReply, change_of, state_by}
-use Rattle.kernel_rules.specs.Alone.{alone}
-use Rattle.kernel_rules.specs.Access.{Slot, usable}
-use Rattle.kernel_rules.specs.Fitting.{IsGood}
-use Rattle.kernel_rules.specs.Runs.{Event, after, is_open, phase_of, MayDecide, IsRun}
+use Rattle.spk_nums.specs.{Setting.Setting, Setting.IsSetting, Capability.Capability, declared.calls.Call.Call}
+use Rattle.spk_nums.specs.{declared.calls.Call.TheVariants.Tick, declared.replies.Value.Value, declared.replies.Reply.Reply}
+use Rattle.kernel_rules.specs.{State.Holds, State.Grace, State.Thing, State.PlaceOf, State.FrameOf, State.NumberOf, State.State, State.put}
+use Rattle.kernel_rules.specs.{State.tcap_in, State.outstanding, References.sum_below, References.times, References.refs, Rules.IsFoundAnd}
+use Rattle.kernel_rules.specs.{CallRelation.MayReply, CallRelation.change_of, CallRelation.state_by, Alone.alone, Access.Slot}
+use Rattle.kernel_rules.specs.{Access.usable, Fitting.IsGood, Runs.Event, Runs.after, Runs.is_open, Runs.phase_of, Runs.MayDecide}
+use Rattle.kernel_rules.specs.{Runs.IsRun}
 
 -- The reply is a refusal.
 abbrev pub IsRefusal : Reply → Type 0
-IsRefusal (reply.Ok v) = ⊥
+IsRefusal (Reply.Ok v) = ⊥
 IsRefusal _ = Unit {0}
 
 -- The ticks that a refused call adds to those owed: a `tick` answered `raced` or `busy` adds its own.
 abbrev pub ticks_kept : Call → Reply → ℕ
-ticks_kept (Tick n) reply.Raced = n
-ticks_kept (Tick n) (reply.Busy d) = n
+ticks_kept (Tick n) Reply.Raced = n
+ticks_kept (Tick n) (Reply.Busy d) = n
 ticks_kept _ _ = 0
 
 -- How many calls a reply counts: `calls-spent` counts none.
 abbrev pub calls_counted : Reply → ℕ
-calls_counted reply.CallsSpent = 0
+calls_counted Reply.CallsSpent = 0
 calls_counted _ = 1
 
 -- The new state is the old one, but for the ticks that core c owes and the calls that it has counted.
@@ -62,7 +54,7 @@ WaitersInside = (setting : Setting) (events : List Event) (x : Thing) (c : ℕ) 
 
 -- The relation permits `ok` with a value only where the first reply in order is that `ok`, and it permits the first reply in order.
 pub record AgreesFirst (s : State) (c : ℕ) (call : Call) : Type 0 where
-  pub only_ok : (v : Value) → MayReply s c call (reply.Ok v) → alone s c call ≡ reply.Ok v
+  pub only_ok : (v : Value) → MayReply s c call (Reply.Ok v) → alone s c call ≡ Reply.Ok v
   pub permitted : MayReply s c call (alone s c call)
 
 -- In every state reached from the start, whoever is in a call, the relation and the first reply in order agree.
@@ -84,9 +76,9 @@ released (NumberOf l ∷ things) = released things
 -- less those that it releases, each of which begins the frame's grace period.
 abbrev pub RefsChange : Type 0
 RefsChange = (setting : Setting) → IsSetting setting → (events : List Event) → IsRun setting events
-    → (c : ℕ) (call : Call) (v : Value) → MayDecide setting events c call (reply.Ok v)
+    → (c : ℕ) (call : Call) (v : Value) → MayDecide setting events c call (Reply.Ok v)
     → IsFoundAnd (change_of (after setting events) c call) λ change. (f : ℕ) →
-    refs (state_by (after setting events) c call (reply.Ok v)) f + times f (released change.begins)
+    refs (state_by (after setting events) c call (Reply.Ok v)) f + times f (released change.begins)
     ≡ refs (after setting events) f + times f change.takes
 
 -- Capabilities name frames with an object of their kind: each that a place holds, and each that a core may use in an open call.

@@ -1,7 +1,6 @@
 -- Whether a core may act: the component in which it works lives, or was killed while the core was in its call.
 use Rattle.std.specs.Prelude.{ℕ, Bool, true, false, not, ◌&&◌, ◌||◌, ◌==◌}
 use Rattle.spk_nums.specs.declared.calls.Call.{Call}
-use Rattle.spk_nums.specs.declared.calls.Call.TheVariants as call
 use Rattle.kernel_rules.specs.State.{Liveness, Unused, Live, Dead, NumberOf, State, comp_of}
 
 -- Whether a liveness number is live in an epoch.
@@ -31,9 +30,9 @@ may_act s c = lives s c || outlives s c
 -- Whether a call asks first that its core may act: every call but `ret`, `flush` and `tick`, which are about the thread or the core,
 -- and use no table of the component.
 abbrev pub asks_life : Call → Bool
-asks_life call.Flush = false
-asks_life call.Ret = false
-asks_life (call.Tick n) = false
+asks_life Call.Flush = false
+asks_life Call.Ret = false
+asks_life (Call.Tick n) = false
 asks_life _ = true
 
 -- Whether core c may make a call: it may act, or the call does not ask for it.

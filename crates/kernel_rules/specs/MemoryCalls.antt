@@ -1,22 +1,14 @@
 -- The calls on memory: retyping frames, and mapping, touching and flushing pages.
-use Rattle.std.specs.Prelude.{ℕ, Bool, true, false, not, ◌&&◌, ◌==◌, nat_lt, nat_le}
-use Rattle.std.specs.Prelude.{List, [], ◌∷◌, length, Option, Some, None, is_some, find}
-use Rattle.std.specs.List.{list_any, range_with_len}
-use Rattle.spk_nums.specs.Capability.{cap_of}
-use Rattle.spk_nums.specs.declared.kinds.Kind.TheVariants as kind
-use Rattle.spk_nums.specs.declared.kinds.FrameKind.{FrameKind}
-use Rattle.spk_nums.specs.declared.kinds.FrameKind.TheVariants as frame_kind
-use Rattle.spk_nums.specs.declared.kinds.PageFlags.{PageFlags}
-use Rattle.spk_nums.specs.declared.translations.Translation.{Translation}
-use Rattle.spk_nums.specs.declared.replies.Value.{Value}
-use Rattle.spk_nums.specs.declared.replies.Value.TheVariants.{Nothing, Page}
-use Rattle.spk_nums.specs.declared.replies.Reply.TheVariants as reply
-use Rattle.kernel_rules.specs.State.{Object, Blank, Comp, Thread, Tcap, Frame, Untyped, User, Kernel, FrameOf, State, comp_of}
-use Rattle.kernel_rules.specs.References.{refs}
-use Rattle.kernel_rules.specs.Access.{Under, only, to_use, held_in}
-use Rattle.kernel_rules.specs.Edits.{Edit, Fill, Remove, Become, Untype, Cache, Flush}
-use Rattle.kernel_rules.specs.Rules.{Cause, When, WaitedFor, Unflushed, Rule, Name, Vacant, Held, Mapped, Does}
-use Rattle.kernel_rules.specs.CapabilityCalls.{outside, is_frame}
+use Rattle.std.specs.Prelude.{ℕ, Bool, true, false, not, ◌&&◌, ◌==◌, nat_lt, nat_le, List, [], ◌∷◌, length, Option, Some, None, is_some}
+use Rattle.spk_nums.specs.{Capability.cap_of, declared.kinds.FrameKind.FrameKind, declared.kinds.PageFlags.PageFlags}
+use Rattle.spk_nums.specs.{declared.translations.Translation.Translation, declared.replies.Value.Value}
+use Rattle.spk_nums.specs.{declared.replies.Value.TheVariants.Nothing, declared.replies.Value.TheVariants.Page, declared.kinds.Kind.Kind}
+use Rattle.kernel_rules.specs.{State.Object, State.Blank, State.Comp, State.Thread, State.Tcap, State.Frame, State.Untyped, State.User}
+use Rattle.kernel_rules.specs.{State.Kernel, State.FrameOf, State.State, State.comp_of, References.refs, Access.Under, Access.only}
+use Rattle.kernel_rules.specs.{Access.to_use, Access.held_in, Edits.Edit, Edits.Fill, Edits.Remove, Edits.Become, Edits.Untype, Edits.Cache}
+use Rattle.kernel_rules.specs.{Edits.Flush, Rules.Cause, Rules.When, Rules.WaitedFor, Rules.Unflushed, Rules.Rule, Rules.Name, Rules.Vacant}
+use Rattle.kernel_rules.specs.{Rules.Held, Rules.Mapped, Rules.Does, CapabilityCalls.outside, CapabilityCalls.is_frame}
+use Rattle.{std.specs.Prelude.find, std.specs.List.list_any, std.specs.List.range_with_len, spk_nums.specs.declared.replies.Reply.Reply}
 
 -- Whether a frame is untyped.
 abbrev pub is_untyped : Frame → Bool
@@ -49,52 +41,52 @@ is_empty s f _ = true
 
 -- `frame-kind` of a retype to untyped: the frame is one of the machine's, and untyped.
 abbrev pub is_untyped_now : State → ℕ → Cause
-is_untyped_now s f = When (is_frame s f && is_untyped (s.frame f)) reply.FrameKind
+is_untyped_now s f = When (is_frame s f && is_untyped (s.frame f)) Reply.FrameKind
 
 -- `frame-kind` of a retype to user or kernel: the frame is one of the machine's, and not untyped.
 abbrev pub not_untyped : State → ℕ → Cause
-not_untyped s f = When (is_frame s f && not (is_untyped (s.frame f))) reply.FrameKind
+not_untyped s f = When (is_frame s f && not (is_untyped (s.frame f))) Reply.FrameKind
 
 -- The causes against a retype of a frame: to untyped it is none from untyped, and the frame must have no reference, no core
 -- that waits for it or has not flushed, and an empty object; to user or kernel it must be untyped.
 abbrev pub not_retyped : State → ℕ → FrameKind → List Cause
-not_retyped s f frame_kind.Untyped =
+not_retyped s f FrameKind.Untyped =
     is_untyped_now s f
-    ∷ When (nat_lt 0 (refs s f)) (reply.Referenced (refs s f))
+    ∷ When (nat_lt 0 (refs s f)) (Reply.Referenced (refs s f))
     ∷ WaitedFor (FrameOf f)
     ∷ Unflushed (FrameOf f)
-    ∷ When (not (is_empty s f (s.frame f))) reply.NotEmpty
+    ∷ When (not (is_empty s f (s.frame f))) Reply.NotEmpty
     ∷ []
 not_retyped s f _ = not_untyped s f ∷ []
 
 -- The edit of a retype: to untyped it ends the frame's grace period and releases the references of its object.
 abbrev pub retypes : ℕ → FrameKind → Edit
-retypes f frame_kind.Untyped = Untype f
-retypes f frame_kind.User = Become f User
-retypes f frame_kind.Kernel = Become f (Kernel Blank)
+retypes f FrameKind.Untyped = Untype f
+retypes f FrameKind.User = Become f User
+retypes f FrameKind.Kernel = Become f (Kernel Blank)
 
 -- `retype R F K` names a range R; its frame F becomes one of the kind K.
 abbrev pub retype_rule : State → ℕ → ℕ → FrameKind → Rule
 retype_rule s r f k =
-    Name r (to_use (only kind.Range)) λ range.
+    Name r (to_use (only Kind.Range)) λ range.
     Does (outside range f ∷ not_retyped s f k) Nothing (retypes f k ∷ [])
 
 -- `frame-kind` of a `map`: the frame is one of the machine's, and no user frame.
 abbrev pub not_user : State → ℕ → Cause
-not_user s f = When (is_frame s f && not (is_user (s.frame f))) reply.FrameKind
+not_user s f = When (is_frame s f && not (is_user (s.frame f))) Reply.FrameKind
 
 -- `map P V R F W` names pages P and a range R; the free page V of P then maps the user frame F of R with the flags W.
 abbrev pub map_rule : State → ℕ → ℕ → ℕ → ℕ → PageFlags → Rule
 map_rule s p v r f w =
-    Name p (to_use (only kind.Pages)) λ pages.
-    Name r (to_use (only kind.Range)) λ range.
+    Name p (to_use (only Kind.Pages)) λ pages.
+    Name r (to_use (only Kind.Range)) λ range.
     Vacant (Under pages v) λ at.
-    Does (outside range f ∷ not_user s f ∷ []) Nothing (Fill at (cap_of kind.Page f w.0) ∷ [])
+    Does (outside range f ∷ not_user s f ∷ []) Nothing (Fill at (cap_of Kind.Page f w.0) ∷ [])
 
 -- `unmap P V` names pages P; the mapping of its page V is removed.
 abbrev pub unmap_rule : ℕ → ℕ → Rule
 unmap_rule p v =
-    Name p (to_use (only kind.Pages)) λ pages.
+    Name p (to_use (only Kind.Pages)) λ pages.
     Held (Under pages v) λ at mapping.
     Does [] Nothing (Remove at mapping ∷ [])
 
@@ -112,7 +104,7 @@ caches t = Does [] (translated t) (Cache t ∷ [])
 
 -- A `touch` answers the cached translation, or else the mapping found in the table.
 abbrev pub touch_by : ℕ → ℕ → Option Translation → Rule
-touch_by pages v (Some t) = Does (When (nat_lt 4095 v) reply.NoSlot ∷ []) (translated t) []
+touch_by pages v (Some t) = Does (When (nat_lt 4095 v) Reply.NoSlot ∷ []) (translated t) []
 touch_by pages v None =
     Mapped pages v λ mapping.
     caches (record { pages = pages; page = v; frame = mapping.frame; flags = record { 0 = mapping.arg } })

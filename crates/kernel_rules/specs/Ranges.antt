@@ -1,8 +1,8 @@
 -- The ranges of a state's numbers, which every state that a run reaches keeps (`kernel_laws`), in a form that code can ask for.
 use Rattle.std.specs.Prelude.{◌≢◌, ℕ, ◌+◌, ◌*◌, ◌<◌, ◌≤◌, ◌^◌, length}
 use Rattle.spk_nums.specs.Qualities.{IsQualityList}
-use Rattle.kernel_rules.specs.State.{CompFields, ThreadFields, TcapFields, Comp, Thread, Tcap, Frame}
-use Rattle.kernel_rules.specs.State.{Kernel, Liveness, Unused, Live, Dead, Core, State, tcap_in, outstanding}
+use Rattle.kernel_rules.specs.State.{CompFields, ThreadFields, TcapFields, Comp, Thread, Tcap, Frame, Kernel, Liveness, Unused, Live, Dead}
+use Rattle.kernel_rules.specs.State.{Core, State, tcap_in, outstanding}
 
 -- An epoch is from 1 to the limit.
 pub record EpochInRange (epochs e : ℕ) : Type 0 where

@@ -1,12 +1,11 @@
 -- The references to a frame, by counting afresh. A range names frames without a reference to them.
 use Rattle.std.specs.Prelude.{ℕ, zero, suc, ◌+◌, ◌==◌, List, [], ◌∷◌, count_by}
 use Rattle.spk_nums.specs.declared.kinds.Kind.{Kind}
-use Rattle.spk_nums.specs.declared.kinds.Kind.TheVariants as kind
 use Rattle.kernel_rules.specs.State.{Place, Free, Holds, Quiescing, Frame, Kernel, Comp, Thread, Liveness, Unused, Live, Dead, Core, State}
 
 -- The frame to which a capability of a kind has a reference, if it has one.
 abbrev pub named_by : Kind → ℕ → List ℕ
-named_by kind.Range f = []
+named_by Kind.Range f = []
 named_by _ f = f ∷ []
 
 -- The frame to which a place has a reference: what it holds.

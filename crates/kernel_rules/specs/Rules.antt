@@ -1,16 +1,12 @@
 -- The rule of a call: the capabilities that it names, its target, its own causes of refusal in order, and what it does.
 -- A rule is judged once in the order written, for what is carried out: no cause stands, in the exact sets. It is judged once
 -- more widely, for what may be refused: a refusal may come where its own cause stands, whatever else does.
-use Rattle.std.specs.Prelude.{◌≡◌, ◌⊎◌, ℕ, Bool, nat_lt, nat_le, if◌then◌else◌, List, []}
-use Rattle.std.specs.Prelude.{◌∷◌, Option, Some, None, IsSomeAnd, is_some, IsTrue, IsFalse}
-use Rattle.spk_nums.specs.Capability.{Capability}
-use Rattle.spk_nums.specs.Rights.{has_rights}
-use Rattle.spk_nums.specs.declared.replies.Value.{Value}
-use Rattle.spk_nums.specs.declared.replies.Reply.{Reply}
-use Rattle.spk_nums.specs.declared.replies.Reply.TheVariants as reply
+use Rattle.std.specs.Prelude.{◌≡◌, ◌⊎◌, ℕ, Bool, nat_lt, nat_le, if◌then◌else◌, List, [], ◌∷◌, Option, Some, None, IsSomeAnd, is_some}
+use Rattle.std.specs.Prelude.{IsTrue, IsFalse}
+use Rattle.spk_nums.specs.{Capability.Capability, Rights.has_rights, declared.replies.Value.Value, declared.replies.Reply.Reply}
 use Rattle.kernel_rules.specs.State.{Place, Free, Holds, Quiescing, Thing, PlaceOf, State}
-use Rattle.kernel_rules.specs.Access.{Slot, Named, found, not_found, root_at, Want, Target, Under, place_at}
-use Rattle.kernel_rules.specs.Access.{held_in, usable, reached, has_no_slot, root_slot, holds_link, own}
+use Rattle.kernel_rules.specs.Access.{Slot, Named, found, not_found, root_at, Want, Target, Under, place_at, held_in, usable, reached}
+use Rattle.kernel_rules.specs.Access.{has_no_slot, root_slot, holds_link, own}
 use Rattle.kernel_rules.specs.GracePeriods.{lowest, other_waiting, quiescing_by, unflushed_by, MayWait, MayBeUnflushed}
 use Rattle.kernel_rules.specs.Edits.{Edit, after_edits, takes_all, begins_all}
 
@@ -64,17 +60,17 @@ or_refuse (Some x) r = Found x
 
 -- A capability with the rights that are needed, or `no-right`.
 abbrev pub with_rights : ℕ → Capability → Judged Capability
-with_rights needs k = if has_rights k.rights needs then Found k else Refused reply.NoRight
+with_rights needs k = if has_rights k.rights needs then Found k else Refused Reply.NoRight
 
 -- A capability of a wanted kind with the rights that are needed; or `wrong-cap`, or else `no-right`.
 abbrev pub of_kind : Want → Capability → Judged Capability
-of_kind want k = if want.kinds k.kind then with_rights want.needs k else Refused reply.WrongCap
+of_kind want k = if want.kinds k.kind then with_rights want.needs k else Refused Reply.WrongCap
 
 -- The capability that core c names: it reaches a slot, may use what is there, and that is such as is wanted.
 abbrev pub named : State → ℕ → ℕ → Want → Judged Capability
 named s c n want =
-    and_then (or_refuse (reached s c (own s c n)) reply.NoSlot) λ at.
-    and_then (or_refuse (usable s c at) reply.Empty) λ k.
+    and_then (or_refuse (reached s c (own s c n)) Reply.NoSlot) λ at.
+    and_then (or_refuse (usable s c at) Reply.Empty) λ k.
     of_kind want k
 
 -- The first of two refusals.
@@ -93,28 +89,28 @@ flushes_of s x = unflushed_by (lowest s (s.grace x).unflushed)
 -- Why core c may not fill a place: it is held, or it is quiescing and its grace period is not over for c.
 abbrev pub not_vacant : State → ℕ → Thing → Place → Option Reply
 not_vacant s c x Free = None
-not_vacant s c x (Holds k) = Some reply.Occupied
+not_vacant s c x (Holds k) = Some Reply.Occupied
 not_vacant s c x (Quiescing k) = first_of (waits_of s c x) (flushes_of s x)
 
 -- The target that core c may fill.
 abbrev pub vacant : State → ℕ → Target → Judged Slot
 vacant s c target =
-    and_then (or_refuse (reached s c target) reply.NoSlot) λ at.
+    and_then (or_refuse (reached s c target) Reply.NoSlot) λ at.
     unless (not_vacant s c (PlaceOf at.node at.index) (place_at s at)) at
 
 -- What the target that core c reaches holds.
 abbrev pub held : State → ℕ → Target → Judged (Slot × Capability)
 held s c target =
-    and_then (or_refuse (reached s c target) reply.NoSlot) λ at.
-    and_then (or_refuse (held_in (place_at s at)) reply.Empty) λ k.
+    and_then (or_refuse (reached s c target) Reply.NoSlot) λ at.
+    and_then (or_refuse (held_in (place_at s at)) Reply.Empty) λ k.
     Found (at, k)
 
 -- The mapping of a page, by the root of its page table: what its place holds.
 abbrev pub mapped : State → ℕ → ℕ → ℕ → Judged Capability
 mapped s c table v =
-    and_then (unless (if nat_lt 4095 v then Some reply.NoSlot else None) v) λ v.
-    and_then (or_refuse (reached s c (Under (root_at table) v)) reply.Fault) λ at.
-    or_refuse (held_in (place_at s at)) reply.Fault
+    and_then (unless (if nat_lt 4095 v then Some Reply.NoSlot else None) v) λ v.
+    and_then (or_refuse (reached s c (Under (root_at table) v)) Reply.Fault) λ at.
+    or_refuse (held_in (place_at s at)) Reply.Fault
 
 -- The refusal of a cause that stands.
 abbrev pub refusal_of : State → ℕ → Cause → Option Reply
@@ -163,41 +159,41 @@ ReachesLacking s c target want = IsSomeAnd (reached s c target) λ at. IsSomeAnd
 
 -- A name may be refused: it has no slot, its place holds nothing, its capability is of another kind, or lacks a right that is needed.
 abbrev pub NameMay : State → ℕ → ℕ → Want → Reply → Type 0
-NameMay s c n want reply.NoSlot = IsTrue (has_no_slot s (own s c n))
-NameMay s c n want reply.Empty = ReachesNone s c (own s c n)
-NameMay s c n want reply.WrongCap = ReachesOther s c (own s c n) want
-NameMay s c n want reply.NoRight = ReachesLacking s c (own s c n) want
+NameMay s c n want Reply.NoSlot = IsTrue (has_no_slot s (own s c n))
+NameMay s c n want Reply.Empty = ReachesNone s c (own s c n)
+NameMay s c n want Reply.WrongCap = ReachesOther s c (own s c n) want
+NameMay s c n want Reply.NoRight = ReachesLacking s c (own s c n) want
 NameMay s c n want _ = ⊥
 
 -- A target that is to be free may be refused: it has no slot, its place holds something, or its grace period may not be over.
 abbrev pub VacantMay : State → ℕ → Target → Reply → Type 0
-VacantMay s c target reply.NoSlot = IsTrue (has_no_slot s target)
-VacantMay s c target reply.Occupied = ReachesHeld s c target
-VacantMay s c target (reply.Quiescing e) = IsSomeAnd (reached s c target) λ at. MayWait s c (PlaceOf at.node at.index) e
-VacantMay s c target (reply.Unflushed e) = IsSomeAnd (reached s c target) λ at. MayBeUnflushed s (PlaceOf at.node at.index) e
+VacantMay s c target Reply.NoSlot = IsTrue (has_no_slot s target)
+VacantMay s c target Reply.Occupied = ReachesHeld s c target
+VacantMay s c target (Reply.Quiescing e) = IsSomeAnd (reached s c target) λ at. MayWait s c (PlaceOf at.node at.index) e
+VacantMay s c target (Reply.Unflushed e) = IsSomeAnd (reached s c target) λ at. MayBeUnflushed s (PlaceOf at.node at.index) e
 VacantMay s c target _ = ⊥
 
 -- A target that is to be held may be refused: it has no slot, or its place holds nothing.
 abbrev pub HeldMay : State → ℕ → Target → Reply → Type 0
-HeldMay s c target reply.NoSlot = IsTrue (has_no_slot s target)
-HeldMay s c target reply.Empty = ReachesNone s c target
+HeldMay s c target Reply.NoSlot = IsTrue (has_no_slot s target)
+HeldMay s c target Reply.Empty = ReachesNone s c target
 HeldMay s c target _ = ⊥
 
 -- A page may be refused: its number is past 4,095; or its root entry holds no link, or its place holds no mapping.
 abbrev pub MappedMay : State → ℕ → ℕ → ℕ → Reply → Type 0
-MappedMay s c table v reply.NoSlot = IsTrue (nat_lt 4095 v)
-MappedMay s c table v reply.Fault =
+MappedMay s c table v Reply.NoSlot = IsTrue (nat_lt 4095 v)
+MappedMay s c table v Reply.Fault =
     IsTrue (nat_le v 4095) × (IsFalse (holds_link (place_at s (root_slot table v))) ⊎ ReachesNone s c (Under (root_at table) v))
 MappedMay s c table v _ = ⊥
 
 -- Another core may still be in the grace period of a thing.
 abbrev pub WaitedMay : State → ℕ → Thing → Reply → Type 0
-WaitedMay s c x (reply.Quiescing e) = MayWait s c x e
+WaitedMay s c x (Reply.Quiescing e) = MayWait s c x e
 WaitedMay s c x _ = ⊥
 
 -- A core may not have flushed in the grace period of a thing.
 abbrev pub UnflushedMay : State → Thing → Reply → Type 0
-UnflushedMay s x (reply.Unflushed e) = MayBeUnflushed s x e
+UnflushedMay s x (Reply.Unflushed e) = MayBeUnflushed s x e
 UnflushedMay s x _ = ⊥
 
 -- A cause may stand with this reply.

@@ -1,13 +1,8 @@
 -- Runs of the kernel: which states are reached from the start.
 use Rattle.std.specs.Prelude.{ℕ, ◌≡◌, ◌<◌, Bool, true, false, ◌==◌, if◌then◌else◌, List, [], ◌∷◌, IsTrue}
-use Rattle.spk_nums.specs.Setting.{Setting}
-use Rattle.spk_nums.specs.CallLimits.{InLimits}
-use Rattle.spk_nums.specs.declared.calls.Call.{Call}
-use Rattle.spk_nums.specs.declared.replies.Reply.{Reply}
-use Rattle.kernel_rules.specs.State.{State}
-use Rattle.kernel_rules.specs.Start.{start}
-use Rattle.kernel_rules.specs.GracePeriods.{entered, returned}
-use Rattle.kernel_rules.specs.CallRelation.{MayReply, state_by}
+use Rattle.spk_nums.specs.{Setting.Setting, CallLimits.InLimits, declared.calls.Call.Call, declared.replies.Reply.Reply}
+use Rattle.kernel_rules.specs.{State.State, Start.start, GracePeriods.entered, GracePeriods.returned, CallRelation.MayReply}
+use Rattle.kernel_rules.specs.{CallRelation.state_by}
 
 -- An event of a core: it enters a call, its call is decided with a reply, or it returns.
 pub data Event : Type 0 where

@@ -1,12 +1,8 @@
 -- The start state, as a function of the setting.
 use Rattle.std.specs.Prelude.{ℕ, ◌+◌, ◌-◌, ◌*◌, false, ◌==◌, nat_lt, if◌then◌else◌, [], ◌∷◌, Option, Some, None, slice_get}
-use Rattle.spk_nums.specs.Capability.{Capability, cap_of}
-use Rattle.spk_nums.specs.Setting.{Setting}
-use Rattle.spk_nums.specs.declared.grants.Grant.{Grant}
-use Rattle.spk_nums.specs.declared.kinds.Kind.{Kind}
-use Rattle.spk_nums.specs.declared.kinds.Kind.TheVariants as kind
-use Rattle.kernel_rules.specs.State.{Place, Free, Holds, CompFields, TcapFields, Frame, Untyped, Kernel, Table}
-use Rattle.kernel_rules.specs.State.{Leaf, Pages, Comp, Thread, Tcap, Liveness, Unused, Live, Core, Grace, State}
+use Rattle.spk_nums.specs.{Capability.Capability, Capability.cap_of, Setting.Setting, declared.grants.Grant.Grant, declared.kinds.Kind.Kind}
+use Rattle.kernel_rules.specs.State.{Place, Free, Holds, CompFields, TcapFields, Frame, Untyped, Kernel, Table, Leaf, Pages, Comp, Thread}
+use Rattle.kernel_rules.specs.State.{Tcap, Liveness, Unused, Live, Core, Grace, State}
 
 -- A capability to a frame, without a number of its own.
 abbrev pub plain_cap : Kind → ℕ → Capability
@@ -14,24 +10,24 @@ plain_cap k f = cap_of k f 0
 
 -- The range of the frames that are untyped at the start.
 abbrev pub start_range : Setting → Capability
-start_range setting = cap_of kind.Range (4 + 2 * setting.cores) (setting.frames - 4 - 2 * setting.cores)
+start_range setting = cap_of Kind.Range (4 + 2 * setting.cores) (setting.frames - 4 - 2 * setting.cores)
 
 -- The capabilities that each core c is given: 4 + c to its thread, and 12 + c to its temporal capability.
 abbrev pub core_cap : Setting → ℕ → Option Capability
 core_cap setting i =
     if nat_lt i 4 then None
-    else (if nat_lt i (4 + setting.cores) then Some (plain_cap kind.Thread i)
+    else (if nat_lt i (4 + setting.cores) then Some (plain_cap Kind.Thread i)
     else (if nat_lt i 12 then None
-    else (if nat_lt i (12 + setting.cores) then Some (plain_cap kind.Tcap (4 + setting.cores + (i - 12)))
+    else (if nat_lt i (12 + setting.cores) then Some (plain_cap Kind.Tcap (4 + setting.cores + (i - 12)))
     else None)))
 
 -- The capabilities of the start: 0 to the range, 1 to the table, 2 to the pages, 3 to the component, then those of the cores.
 abbrev pub start_cap : Setting → ℕ → Option Capability
 start_cap setting i =
     if i == 0 then Some (start_range setting)
-    else (if i == 1 then Some (plain_cap kind.Table 0)
-    else (if i == 2 then Some (plain_cap kind.Pages 2)
-    else (if i == 3 then Some (plain_cap kind.Comp 3)
+    else (if i == 1 then Some (plain_cap Kind.Table 0)
+    else (if i == 2 then Some (plain_cap Kind.Pages 2)
+    else (if i == 3 then Some (plain_cap Kind.Comp 3)
     else core_cap setting i)))
 
 -- A place that holds this capability, or is free.
@@ -42,7 +38,7 @@ place_with (Some k) = Holds k
 -- The places of the start: entry 0 of the table's root links its leaf, frame 1, which has the capabilities of the start.
 abbrev pub start_place : Setting → ℕ → ℕ → Place
 start_place setting f i =
-    if f == 0 then (if i == 0 then Holds (plain_cap kind.Link 1) else Free)
+    if f == 0 then (if i == 0 then Holds (plain_cap Kind.Link 1) else Free)
     else (if f == 1 then place_with (start_cap setting i) else Free)
 
 -- The component of the start: table 0, pages 2, liveness number 0 in epoch 1.

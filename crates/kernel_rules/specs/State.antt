@@ -1,7 +1,6 @@
 -- The state of the sequential kernel. Its parts are functions of numbers, so no bounds stand here.
 use Rattle.std.specs.Prelude.{ℕ, ◌-◌, Bool, List, [], ◌∷◌, Option, None, ◌==◌, if◌then◌else◌}
-use Rattle.spk_nums.specs.Capability.{Capability}
-use Rattle.spk_nums.specs.declared.translations.Translation.{Translation}
+use Rattle.spk_nums.specs.{Capability.Capability, declared.translations.Translation.Translation}
 
 -- A place of a node is free, holds a capability, or is quiescing: what it held is removed, but calls in progress may still use it.
 pub data Place : Type 0 where

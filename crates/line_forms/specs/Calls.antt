@@ -1,14 +1,10 @@
 -- What may stand at each place of a call. Places are counted from its word on, and the words are those of the line from there on.
 use Rattle.std.specs.Prelude.{ℕ, ◌==◌, ◌&&◌, nat_le, List, Bool, false, Option, Some, None, slice_get, codes, if◌then◌else◌}
-use Rattle.line_reader.specs.Arguments.{is_word}
-use Rattle.call_reader.specs.declared.first_words.Verb.{Verb}
-use Rattle.call_reader.specs.declared.first_words.Verb.TheVariants as verb
-use Rattle.call_reader.specs.declared.first_words.FirstWord.{FirstWord}
-use Rattle.call_reader.specs.declared.first_words.FirstWord.TheVariants.{Call}
-use Rattle.call_reader.specs.FirstWords.{first_word}
-use Rattle.line_forms.specs.declared.slots.Slot.{Slot}
+use Rattle.call_reader.specs.{declared.first_words.Verb.Verb, declared.first_words.FirstWord.FirstWord}
+use Rattle.call_reader.specs.{declared.first_words.FirstWord.TheVariants.Call, FirstWords.first_word}
 use Rattle.line_forms.specs.declared.slots.Slot.TheVariants.{Number, MayNumber, FrameKind, Object, Verb as verb_slot_of, End}
 use Rattle.line_forms.specs.Slots.{name, names, number_then}
+use Rattle.{line_reader.specs.Arguments.is_word, line_forms.specs.declared.slots.Slot.Slot}
 
 abbrev pub is_name : List ℕ → Option (List ℕ) → Bool
 is_name text None = false
@@ -71,28 +67,28 @@ make_slot words place =
 
 -- the arguments of a call, from place 1 on
 abbrev pub verb_slot : ℕ → Verb → List (List ℕ) → ℕ → Slot
-verb_slot version verb.Flush words place = End
-verb_slot version verb.Ret words place = End
-verb_slot version verb.Look words place = names place 1
-verb_slot version verb.Touch words place = names place 1
-verb_slot version verb.Kill words place = names place 1
-verb_slot version verb.Call words place = names place 1
-verb_slot version verb.Remove words place = names place 2
-verb_slot version verb.Shrink words place = names place 2
-verb_slot version verb.Unmap words place = names place 2
-verb_slot version verb.Switch words place = names place 2
-verb_slot version verb.Test words place = names place 2
-verb_slot version verb.Grow words place = names place 3
-verb_slot version verb.Gate words place = names place 3
-verb_slot version verb.Part words place = names place 5
-verb_slot version verb.Copy words place = copy_slot version place
-verb_slot version verb.Retype words place = retype_slot place
-verb_slot version verb.Make words place = make_slot words place
-verb_slot version verb.Map words place = map_slot place
-verb_slot version verb.Tick words place = number_then place 1 0 1000000
-verb_slot version verb.Transfer words place = moved_slot place
-verb_slot version verb.Delegate words place = moved_slot place
-verb_slot version verb.Replenish words place = given_slot place
+verb_slot version Verb.Flush words place = End
+verb_slot version Verb.Ret words place = End
+verb_slot version Verb.Look words place = names place 1
+verb_slot version Verb.Touch words place = names place 1
+verb_slot version Verb.Kill words place = names place 1
+verb_slot version Verb.Call words place = names place 1
+verb_slot version Verb.Remove words place = names place 2
+verb_slot version Verb.Shrink words place = names place 2
+verb_slot version Verb.Unmap words place = names place 2
+verb_slot version Verb.Switch words place = names place 2
+verb_slot version Verb.Test words place = names place 2
+verb_slot version Verb.Grow words place = names place 3
+verb_slot version Verb.Gate words place = names place 3
+verb_slot version Verb.Part words place = names place 5
+verb_slot version Verb.Copy words place = copy_slot version place
+verb_slot version Verb.Retype words place = retype_slot place
+verb_slot version Verb.Make words place = make_slot words place
+verb_slot version Verb.Map words place = map_slot place
+verb_slot version Verb.Tick words place = number_then place 1 0 1000000
+verb_slot version Verb.Transfer words place = moved_slot place
+verb_slot version Verb.Delegate words place = moved_slot place
+verb_slot version Verb.Replenish words place = given_slot place
 
 abbrev pub slot_by : ℕ → Option Verb → List (List ℕ) → ℕ → Slot
 slot_by version None words place = End

@@ -1,19 +1,12 @@
 -- What the lines before a line have come to.
 use Rattle.std.specs.Prelude.{ℕ, ◌-◌, ◌==◌, nat_le, List, length, Option, Some, None, slice_get, if◌then◌else◌}
-use Rattle.line_reader.specs.Numerals.{number_of}
-use Rattle.call_reader.specs.declared.first_words.FirstWord.{FirstWord}
-use Rattle.call_reader.specs.declared.first_words.FirstWord.TheVariants as first
-use Rattle.line_forms.specs.declared.context.Reading.{Reading}
-use Rattle.line_forms.specs.declared.context.Stage.{Stage}
-use Rattle.line_forms.specs.declared.context.Stage.TheVariants as stage
-use Rattle.line_forms.specs.declared.context.Context.{Context}
-use Rattle.line_forms.specs.declared.starts.Start.{Start}
-use Rattle.line_forms.specs.declared.starts.Start.TheVariants as start
-use Rattle.line_forms.specs.Starts.{start_of}
+use Rattle.line_forms.specs.{declared.context.Reading.Reading, declared.context.Stage.Stage, declared.context.Context.Context}
+use Rattle.line_forms.specs.{declared.starts.Start.Start, Starts.start_of}
+use Rattle.{line_reader.specs.Numerals.number_of, call_reader.specs.declared.first_words.FirstWord.FirstWord}
 
 -- what no lines have come to
 abbrev pub no_context : Reading → Context
-no_context reading = record { reading = reading; stage = stage.Version; version = 1; cores = 1; due = 1; items = 200000 }
+no_context reading = record { reading = reading; stage = Stage.Version; version = 1; cores = 1; due = 1; items = 200000 }
 
 abbrev pub small_of : Option ℕ → ℕ
 small_of None = 1
@@ -36,42 +29,42 @@ at_stage context s = record context { stage = s }
 
 -- what may stand after a `core` line
 abbrev pub core_stage : Stage → Stage
-core_stage stage.Asks = stage.AskList
-core_stage stage.AskList = stage.AskList
-core_stage _ = stage.List
+core_stage Stage.Asks = Stage.AskList
+core_stage Stage.AskList = Stage.AskList
+core_stage _ = Stage.List
 
 -- after one grant more
 abbrev pub granted : Context → Context
 granted context =
     record context {
-      stage = (if context.due - 1 == 0 then stage.Calls else stage.Grants);
+      stage = (if context.due - 1 == 0 then Stage.Calls else Stage.Grants);
       due = context.due - 1;
     }
 
 -- after a line of a script
 abbrev pub after_head : Context → FirstWord → List (List ℕ) → Context
-after_head context first.Speck words = record context { stage = stage.Cores; version = small_at words }
-after_head context first.Cores words = record context { stage = stage.Frames; cores = small_at words; due = small_at words }
-after_head context first.Frames words = at_stage context stage.Grants
-after_head context first.Grant words = granted context
-after_head context first.Calls words = at_stage context stage.Epochs
-after_head context first.Epochs words = at_stage context stage.Lists
-after_head context first.Core words = at_stage context (core_stage context.stage)
-after_head context first.Order words = at_stage context stage.Order
-after_head context (first.Call verb) words = context
+after_head context FirstWord.Speck words = record context { stage = Stage.Cores; version = small_at words }
+after_head context FirstWord.Cores words = record context { stage = Stage.Frames; cores = small_at words; due = small_at words }
+after_head context FirstWord.Frames words = at_stage context Stage.Grants
+after_head context FirstWord.Grant words = granted context
+after_head context FirstWord.Calls words = at_stage context Stage.Epochs
+after_head context FirstWord.Epochs words = at_stage context Stage.Lists
+after_head context FirstWord.Core words = at_stage context (core_stage context.stage)
+after_head context FirstWord.Order words = at_stage context Stage.Order
+after_head context (FirstWord.Call verb) words = context
 
 -- after a line that begins so
 abbrev pub after_start : Context → Start → List (List ℕ) → Context
-after_start context (start.Head f) words = after_head context f words
-after_start context start.Ends words = at_stage context stage.Asks
-after_start context start.Sched words = at_stage context stage.Tasks
-after_start context start.Enter words = at_stage context stage.Marks
-after_start context start.Decide words = at_stage context stage.Marks
-after_start context start.Return words = at_stage context stage.Marks
-after_start context start.Whole words = at_stage context stage.Marks
-after_start context start.Send words = context
-after_start context start.Recv words = context
-after_start context start.Task words = context
+after_start context (Start.Head f) words = after_head context f words
+after_start context Start.Ends words = at_stage context Stage.Asks
+after_start context Start.Sched words = at_stage context Stage.Tasks
+after_start context Start.Enter words = at_stage context Stage.Marks
+after_start context Start.Decide words = at_stage context Stage.Marks
+after_start context Start.Return words = at_stage context Stage.Marks
+after_start context Start.Whole words = at_stage context Stage.Marks
+after_start context Start.Send words = context
+after_start context Start.Recv words = context
+after_start context Start.Task words = context
 
 abbrev pub after_by : Context → Option Start → List (List ℕ) → Context
 after_by context (Some s) words = after_start context s words

@@ -1,15 +1,8 @@
 -- Whether a word fits its place.
-use Rattle.std.specs.Prelude.{ℕ, ◌-◌, ◌==◌, ◌||◌, List, length, take, slice_get, Bool, false, is_some, Option, Some, None}
-use Rattle.std.specs.Prelude.{codes, if◌then◌else◌}
-use Rattle.line_reader.specs.Arguments.{is_word}
-use Rattle.line_forms.specs.declared.context.Context.{Context}
-use Rattle.line_forms.specs.declared.slots.Slot.{Slot}
-use Rattle.line_forms.specs.declared.slots.Slot.TheVariants as slot
-use Rattle.line_forms.specs.Slots.{is_between, is_below, fits_end}
-use Rattle.line_forms.specs.Calls.{verb_of}
-use Rattle.line_forms.specs.Replies.{is_reply_name, is_value}
-use Rattle.line_forms.specs.Firsts.{first_fits}
-use Rattle.line_forms.specs.Lines.{slot_at}
+use Rattle.std.specs.Prelude.{ℕ, ◌-◌, ◌==◌, ◌||◌, List, length, take, slice_get, Bool, false, is_some, Option, Some, None, codes}
+use Rattle.line_forms.specs.{declared.context.Context.Context, declared.slots.Slot.Slot, Slots.is_between, Slots.is_below, Slots.fits_end}
+use Rattle.line_forms.specs.{Calls.verb_of, Replies.is_reply_name, Replies.is_value, Firsts.first_fits, Lines.slot_at}
+use Rattle.{std.specs.Prelude.if◌then◌else◌, line_reader.specs.Arguments.is_word}
 
 -- a sign of an item: `<`, `!` or `.`
 abbrev pub is_sign : ℕ → Bool
@@ -39,19 +32,19 @@ is_object word = is_word word (codes "table") || (is_word word (codes "leaf") ||
 
 -- the word fits
 abbrev pub fits_word : Context → List (List ℕ) → Slot → List ℕ → Bool
-fits_word context words slot.First word = first_fits context words word
-fits_word context words (slot.Number least most) word = is_between word least most
-fits_word context words (slot.MayNumber least most) word = is_between word least most
-fits_word context words (slot.Core cores) word = is_below word cores
-fits_word context words slot.FrameKind word = is_frame_kind word
-fits_word context words slot.Object word = is_object word
-fits_word context words slot.Verb word = is_some (verb_of context.version word)
-fits_word context words (slot.Item cores) word = is_item word cores
-fits_word context words slot.ReplyName word = is_reply_name word
-fits_word context words slot.Value word = is_value word
-fits_word context words slot.Rights word = is_word word (codes "rights")
-fits_word context words slot.Equals word = is_word word (codes "=")
-fits_word context words slot.End word = false
+fits_word context words Slot.First word = first_fits context words word
+fits_word context words (Slot.Number least most) word = is_between word least most
+fits_word context words (Slot.MayNumber least most) word = is_between word least most
+fits_word context words (Slot.Core cores) word = is_below word cores
+fits_word context words Slot.FrameKind word = is_frame_kind word
+fits_word context words Slot.Object word = is_object word
+fits_word context words Slot.Verb word = is_some (verb_of context.version word)
+fits_word context words (Slot.Item cores) word = is_item word cores
+fits_word context words Slot.ReplyName word = is_reply_name word
+fits_word context words Slot.Value word = is_value word
+fits_word context words Slot.Rights word = is_word word (codes "rights")
+fits_word context words Slot.Equals word = is_word word (codes "=")
+fits_word context words Slot.End word = false
 
 abbrev pub fits_by : Context → List (List ℕ) → Slot → Option (List ℕ) → Bool
 fits_by context words slot None = fits_end slot

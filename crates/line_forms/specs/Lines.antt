@@ -1,23 +1,14 @@
 -- What may stand at each place of a line.
-use Rattle.std.specs.Prelude.{ℕ, ◌+◌, ◌*◌, ◌-◌, ◌==◌, ◌&&◌, not, nat_le, nat_lt, List, [], ◌∷◌, length, drop, Bool, true, false}
-use Rattle.std.specs.Prelude.{Option, Some, None, codes, if◌then◌else◌}
+use Rattle.std.specs.Prelude.{ℕ, ◌+◌, ◌*◌, ◌-◌, ◌==◌, ◌&&◌, not, nat_le, nat_lt, List, [], ◌∷◌, length, drop, Bool, true, false, Option}
+use Rattle.std.specs.Prelude.{Some, None, codes, if◌then◌else◌}
 use Rattle.line_reader.specs.Arguments.{is_word}
-use Rattle.call_reader.specs.declared.first_words.FirstWord.{FirstWord}
-use Rattle.call_reader.specs.declared.first_words.FirstWord.TheVariants as first
-use Rattle.call_reader.specs.Versions.{most_calls}
-use Rattle.line_forms.specs.declared.context.Reading.{Reading}
-use Rattle.line_forms.specs.declared.context.Reading.TheVariants as reading
-use Rattle.line_forms.specs.declared.context.Stage.{Stage}
-use Rattle.line_forms.specs.declared.context.Stage.TheVariants as stage
-use Rattle.line_forms.specs.declared.context.Context.{Context}
-use Rattle.line_forms.specs.declared.starts.Start.{Start}
-use Rattle.line_forms.specs.declared.starts.Start.TheVariants as start
-use Rattle.line_forms.specs.declared.slots.Slot.{Slot}
-use Rattle.line_forms.specs.declared.slots.Slot.TheVariants.{First, Number, MayNumber, Core, Item, Equals, End}
-use Rattle.line_forms.specs.Slots.{name, names, number_then, core_then, fits_end}
-use Rattle.line_forms.specs.Starts.{start_of}
-use Rattle.line_forms.specs.Calls.{call_slot}
-use Rattle.line_forms.specs.Replies.{reply_slot}
+use Rattle.call_reader.specs.{declared.first_words.FirstWord.FirstWord, Versions.most_calls}
+use Rattle.line_forms.specs.{declared.context.Reading.Reading, declared.context.Stage.Stage, declared.context.Context.Context}
+use Rattle.line_forms.specs.{declared.starts.Start.Start, declared.slots.Slot.Slot, declared.slots.Slot.TheVariants.First}
+use Rattle.line_forms.specs.{declared.slots.Slot.TheVariants.Number, declared.slots.Slot.TheVariants.MayNumber}
+use Rattle.line_forms.specs.{declared.slots.Slot.TheVariants.Core, declared.slots.Slot.TheVariants.Item}
+use Rattle.line_forms.specs.{declared.slots.Slot.TheVariants.Equals, declared.slots.Slot.TheVariants.End, Slots.name, Slots.names}
+use Rattle.line_forms.specs.{Slots.number_then, Slots.core_then, Slots.fits_end, Starts.start_of, Calls.call_slot, Replies.reply_slot}
 
 -- `sched S U`
 abbrev pub sched_slot : ℕ → Slot
@@ -44,7 +35,7 @@ grant_slot place =
 
 -- the most cores of a script; that one with tasks has one core is judged last, after a word too many
 abbrev pub cores_most : Reading → List (List ℕ) → ℕ
-cores_most reading.Sched words = if nat_le (length words) 2 then 1 else 8
+cores_most Reading.Sched words = if nat_le (length words) 2 then 1 else 8
 cores_most _ words = 8
 
 -- the least frames of a script
@@ -53,15 +44,15 @@ least_frames cores = 4 + 2 * cores
 
 -- a line of a script, from place 1 on
 abbrev pub head_slot : Context → FirstWord → List (List ℕ) → ℕ → Slot
-head_slot context first.Speck words place = number_then place 1 1 3
-head_slot context first.Cores words place = number_then place 1 1 (cores_most context.reading words)
-head_slot context first.Frames words place = number_then place 1 (least_frames context.cores) 512
-head_slot context first.Grant words place = grant_slot place
-head_slot context first.Calls words place = number_then place 1 0 (most_calls context.version)
-head_slot context first.Epochs words place = number_then place 1 1 65535
-head_slot context first.Core words place = core_then place 1 context.cores
-head_slot context first.Order words place = End
-head_slot context (first.Call v) words place = call_slot context.version words place
+head_slot context FirstWord.Speck words place = number_then place 1 1 3
+head_slot context FirstWord.Cores words place = number_then place 1 1 (cores_most context.reading words)
+head_slot context FirstWord.Frames words place = number_then place 1 (least_frames context.cores) 512
+head_slot context FirstWord.Grant words place = grant_slot place
+head_slot context FirstWord.Calls words place = number_then place 1 0 (most_calls context.version)
+head_slot context FirstWord.Epochs words place = number_then place 1 1 65535
+head_slot context FirstWord.Core words place = core_then place 1 context.cores
+head_slot context FirstWord.Order words place = End
+head_slot context (FirstWord.Call v) words place = call_slot context.version words place
 
 -- how many words stand before the first `=`
 abbrev pub before_equals : List (List ℕ) → ℕ
@@ -91,26 +82,26 @@ decide_slot context words place =
 
 -- a line that begins so, from place 1 on
 abbrev pub slot_after : Context → Start → List (List ℕ) → ℕ → Slot
-slot_after context (start.Head f) words place = head_slot context f words place
-slot_after context start.Ends words place = End
-slot_after context start.Send words place = names place 1
-slot_after context start.Recv words place = names place 1
-slot_after context start.Sched words place = sched_slot place
-slot_after context start.Task words place = task_slot context.version place
-slot_after context start.Enter words place = enter_slot context words place
-slot_after context start.Decide words place = decide_slot context words place
-slot_after context start.Return words place = core_then place 1 context.cores
-slot_after context start.Whole words place = whole_slot context words (before_equals words) place
+slot_after context (Start.Head f) words place = head_slot context f words place
+slot_after context Start.Ends words place = End
+slot_after context Start.Send words place = names place 1
+slot_after context Start.Recv words place = names place 1
+slot_after context Start.Sched words place = sched_slot place
+slot_after context Start.Task words place = task_slot context.version place
+slot_after context Start.Enter words place = enter_slot context words place
+slot_after context Start.Decide words place = decide_slot context words place
+slot_after context Start.Return words place = core_then place 1 context.cores
+slot_after context Start.Whole words place = whole_slot context words (before_equals words) place
 
 -- a line that ends the order items begins so
 abbrev pub ends_order : Option Start → Bool
-ends_order (Some start.Ends) = true
-ends_order (Some start.Sched) = true
+ends_order (Some Start.Ends) = true
+ends_order (Some Start.Sched) = true
 ends_order _ = false
 
 -- the line is one of order items
 abbrev pub is_items : Stage → Option Start → Bool
-is_items stage.Order s = not (ends_order s)
+is_items Stage.Order s = not (ends_order s)
 is_items _ s = false
 
 abbrev pub slot_by : Context → Option Start → List (List ℕ) → ℕ → Slot

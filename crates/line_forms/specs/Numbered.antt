@@ -1,7 +1,6 @@
 -- `C.I`, with which the line of a call made whole begins.
 use Rattle.std.specs.Prelude.{ℕ, ◌+◌, ◌==◌, ◌&&◌, List, [], ◌∷◌, take, drop, Bool, is_some, if◌then◌else◌}
-use Rattle.line_reader.specs.Numerals.{is_digits, number_of}
-use Rattle.line_forms.specs.Slots.{is_below}
+use Rattle.{line_reader.specs.Numerals.is_digits, line_reader.specs.Numerals.number_of, line_forms.specs.Slots.is_below}
 
 -- where the first dot of a word stands; its end where it has none
 abbrev pub dot_at : List ℕ → ℕ

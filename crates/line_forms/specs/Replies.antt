@@ -1,11 +1,9 @@
 -- What may stand at each place of a reply. Places are counted from its name on, and the words are those of the line from there on.
 use Rattle.std.specs.Prelude.{ℕ, ◌==◌, ◌||◌, not, nat_le, List, length, Bool, Option, Some, None, slice_get, codes, if◌then◌else◌}
-use Rattle.line_reader.specs.Numerals.{is_digits}
-use Rattle.line_reader.specs.Arguments.{is_word}
-use Rattle.line_forms.specs.declared.slots.Slot.{Slot}
-use Rattle.line_forms.specs.declared.slots.Slot.TheVariants.{Number, ReplyName, Value, Rights, End}
-use Rattle.line_forms.specs.Slots.{core_then, number_then}
-use Rattle.line_forms.specs.Calls.{is_at}
+use Rattle.line_reader.specs.{Numerals.is_digits, Arguments.is_word}
+use Rattle.line_forms.specs.{declared.slots.Slot.Slot, declared.slots.Slot.TheVariants.Number, declared.slots.Slot.TheVariants.ReplyName}
+use Rattle.line_forms.specs.{declared.slots.Slot.TheVariants.Value, declared.slots.Slot.TheVariants.Rights}
+use Rattle.line_forms.specs.{declared.slots.Slot.TheVariants.End, Slots.core_then, Slots.number_then, Calls.is_at}
 
 -- a reply that names a core
 unfoldable pub is_held : List ℕ → Bool

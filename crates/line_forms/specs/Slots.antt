@@ -1,8 +1,7 @@
 -- What may stand at a place.
 use Rattle.std.specs.Prelude.{ℕ, List, Bool, true, false, Option, Some, None, ◌&&◌, ◌==◌, nat_le, nat_lt, if◌then◌else◌}
-use Rattle.line_reader.specs.Numerals.{number_of}
-use Rattle.line_forms.specs.declared.slots.Slot.{Slot}
 use Rattle.line_forms.specs.declared.slots.Slot.TheVariants.{Number, MayNumber, Core, Value, Rights, End}
+use Rattle.{line_reader.specs.Numerals.number_of, line_forms.specs.declared.slots.Slot.Slot}
 
 -- the number of a capability, a page, a root entry or a frame
 abbrev pub name : Slot

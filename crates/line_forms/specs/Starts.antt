@@ -1,17 +1,10 @@
 -- The words with which a line may begin.
-use Rattle.std.specs.Prelude.{ℕ, List, Option, Some, None, slice_get, codes, if◌then◌else◌}
-use Rattle.std.specs.Option.{option_and_then}
-use Rattle.line_reader.specs.Arguments.{is_word}
-use Rattle.call_reader.specs.declared.first_words.FirstWord.{FirstWord}
-use Rattle.call_reader.specs.declared.first_words.FirstWord.TheVariants as first
-use Rattle.call_reader.specs.FirstWords.{first_word}
-use Rattle.line_forms.specs.declared.context.Reading.{Reading}
-use Rattle.line_forms.specs.declared.context.Reading.TheVariants as reading
-use Rattle.line_forms.specs.declared.context.Stage.{Stage}
-use Rattle.line_forms.specs.declared.context.Stage.TheVariants as stage
-use Rattle.line_forms.specs.declared.starts.Start.{Start}
+use Rattle.std.specs.Prelude.{ℕ, List, Option, Some, None, slice_get, codes, if◌then◌else◌, option_and_then}
+use Rattle.call_reader.specs.{declared.first_words.FirstWord.FirstWord, FirstWords.first_word}
 use Rattle.line_forms.specs.declared.starts.Start.TheVariants.{Head, Ends, Send, Recv, Sched, Task, Enter, Decide, Return, Whole}
-use Rattle.line_forms.specs.Numbered.{is_numbered}
+use Rattle.{line_reader.specs.Arguments.is_word, line_forms.specs.declared.context.Reading.Reading}
+use Rattle.{line_forms.specs.declared.context.Stage.Stage, line_forms.specs.declared.starts.Start.Start}
+use Rattle.{line_forms.specs.Numbered.is_numbered}
 
 abbrev pub head_start : Option FirstWord → Option Start
 head_start None = None
@@ -20,28 +13,28 @@ head_start (Some f) = Some (Head f)
 -- after the line `ends`
 unfoldable pub ask_start : List ℕ → Option Start
 ask_start word =
-    if is_word word (codes "core") then Some (Head first.Core)
+    if is_word word (codes "core") then Some (Head FirstWord.Core)
     else (if is_word word (codes "send") then Some Send
     else (if is_word word (codes "recv") then Some Recv
     else None))
 
 -- what `ends` reads
 unfoldable pub ends_start : ℕ → Stage → List ℕ → Option Start
-ends_start version stage.Asks word = ask_start word
-ends_start version stage.AskList word = ask_start word
+ends_start version Stage.Asks word = ask_start word
+ends_start version Stage.AskList word = ask_start word
 ends_start version _ word = if is_word word (codes "ends") then Some Ends else head_start (first_word version word)
 
 -- what `sched` reads
 unfoldable pub sched_start : ℕ → Stage → List ℕ → Option Start
-sched_start version stage.Tasks word = if is_word word (codes "task") then Some Task else None
+sched_start version Stage.Tasks word = if is_word word (codes "task") then Some Task else None
 sched_start version _ word = if is_word word (codes "sched") then Some Sched else head_start (first_word version word)
 
 -- the words of the head of a given history
 abbrev pub given_head : Option FirstWord → Option Start
 given_head None = None
-given_head (Some first.Core) = None
-given_head (Some first.Order) = None
-given_head (Some (first.Call verb)) = None
+given_head (Some FirstWord.Core) = None
+given_head (Some FirstWord.Order) = None
+given_head (Some (FirstWord.Call verb)) = None
 given_head (Some f) = Some (Head f)
 
 -- what `check` reads
@@ -55,10 +48,10 @@ history_start word =
 
 -- the known first word that a word is in a script of this version
 abbrev pub start_in : ℕ → Reading → Stage → List ℕ → Option Start
-start_in version reading.Script s word = head_start (first_word version word)
-start_in version reading.Ends s word = ends_start version s word
-start_in version reading.Sched s word = sched_start version s word
-start_in version reading.History s word = history_start word
+start_in version Reading.Script s word = head_start (first_word version word)
+start_in version Reading.Ends s word = ends_start version s word
+start_in version Reading.Sched s word = sched_start version s word
+start_in version Reading.History s word = history_start word
 
 -- the known first word of a line, if it has one
 abbrev pub start_of : ℕ → Reading → Stage → List (List ℕ) → Option Start

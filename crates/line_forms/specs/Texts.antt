@@ -1,10 +1,8 @@
 -- What may stand at a place, as it is told.
 use Rattle.std.specs.Prelude.{ℕ, nat_le, List, ◌++◌, codes, decimal, if◌then◌else◌}
-use Rattle.line_forms.specs.declared.context.Reading.{Reading}
+use Rattle.line_forms.specs.{declared.context.Reading.Reading, declared.context.Stage.Stage, declared.slots.Slot.Slot}
 use Rattle.line_forms.specs.declared.context.Reading.TheVariants as reading
-use Rattle.line_forms.specs.declared.context.Stage.{Stage}
 use Rattle.line_forms.specs.declared.context.Stage.TheVariants as stage
-use Rattle.line_forms.specs.declared.slots.Slot.{Slot}
 use Rattle.line_forms.specs.declared.slots.Slot.TheVariants as slot
 
 -- the words with which a line of a script may begin, and those of a given history after its head

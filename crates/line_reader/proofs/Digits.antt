@@ -1,10 +1,10 @@
 -- Reading digits one by one.
-use Rattle.std.proofs.Common.{◌≡◌, ℕ, ◌+◌, ◌-◌, ◌*◌, ◌^◌, ◌<◌, ◌≤◌, Bool, true, false, cond, ltb, List, []}
-use Rattle.std.proofs.Common.{◌∷◌, length, get_or, drop, Some, None, refl, sym, ap, ◌∙◌, arith, inl, inr}
-use Rattle.std.specs.Prelude.{◌&&◌}
-use Rattle.std.proofs.lemmas.Bool.{cases_Bool, le-ltb, lt-ltb, ltb-false, and_left, and_right, and_from}
+use Rattle.std.proofs.Common.{◌≡◌, ℕ, ◌+◌, ◌-◌, ◌*◌, ◌^◌, ◌<◌, ◌≤◌, Bool, true, false, cond, ltb, List, [], ◌∷◌, length, get_or, drop, Some}
+use Rattle.std.proofs.Common.{None, refl, sym, ap, ◌∙◌, arith, inl, inr, ◌&&◌, le-ltb, lt-ltb, ltb-false}
+use Rattle.line_reader.specs.{all_digits, is_digits, value_of, number_of}
+use Rattle.std.proofs.lemmas.Bool.{cases_Bool, and_left, and_right, and_from}
 use Rattle.std.proofs.lemmas.List.{drop_more, drop_all}
-use Rattle.line_reader.specs.Numerals.{is_digit, all_digits, is_digits, value_from, value_of, number_of}
+use Rattle.line_reader.specs.Numerals.{is_digit, value_from}
 
 pub digits_no : (word : List ℕ) (i b : ℕ) → i < length word → b ≡ get_or word i 0
     → is_digit b ≡ false → all_digits (drop i word) ≡ all_digits word → all_digits word ≡ false

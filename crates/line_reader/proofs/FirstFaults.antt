@@ -1,6 +1,7 @@
 -- A first fault is that of the first line that is not taken.
 use Rattle.std.proofs.Common.{◌≡◌, List, [], ◌∷◌, ◌++◌, Result, Ok, Err, refl, ap, ◌∙◌}
-use Rattle.line_reader.specs.Lines.{Row, First_fault, and_then, Step, lines_from, IsFoundAt, FindsFirst}
+use Rattle.line_reader.specs.{Row, First_fault, and_then, Step, lines_from}
+use Rattle.line_reader.specs.Lines.{IsFoundAt, FindsFirst}
 
 module _ (A : Type 0) (step : Step A) where
   abbrev said : A → Result A First_fault

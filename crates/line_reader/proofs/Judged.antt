@@ -1,8 +1,7 @@
 -- Judgements that did not fail, one after another.
 use Rattle.std.proofs.Common.{◌≡◌, ℕ, Result, Ok, Err, refl}
+use Rattle.line_reader.specs.{◌>>=◌, First_fault, at_line, and_then}
 use Rattle.line_reader.specs.declared.cause.Cause.{Cause}
-use Rattle.line_reader.specs.Causes.{◌>>=◌}
-use Rattle.line_reader.specs.Lines.{First_fault, at_line, and_then}
 
 abbrev judged : {A : Type 0} → A → Result A Cause
 judged x = Ok x

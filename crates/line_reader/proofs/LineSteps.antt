@@ -1,14 +1,9 @@
 -- What lines say, line by line.
-use Rattle.std.proofs.Common.{◌≡◌, ℕ, suc, ◌+◌, ◌<◌, ◌≤◌, List, [], ◌∷◌, length, get_or, take, drop, Result, Ok, Err}
-use Rattle.std.proofs.Common.{refl, sym, ap, subst, ◌∙◌, arith}
-use Rattle.std.proofs.lemmas.List.{drop_all}
-use Rattle.script_tokens.specs.declared.token.Token.{Token}
-use Rattle.script_tokens.specs.Words.{views}
-use Rattle.line_reader.specs.declared.cause.ReadFault.{ReadFault}
-use Rattle.line_reader.specs.declared.cause.ReadFault.TheVariants as read_fault
-use Rattle.line_reader.specs.Arguments.{texts}
-use Rattle.line_reader.specs.Lines.{Row, rows_of, First_fault, and_then, Step, lines_from, Fails}
+use Rattle.std.proofs.Common.{◌≡◌, ℕ, suc, ◌+◌, ◌<◌, ◌≤◌, List, [], ◌∷◌, length, get_or, take, drop, Result, Ok, Err, refl, sym, ap, subst}
+use Rattle.line_reader.specs.{texts, Row, rows_of, First_fault, and_then, Step, lines_from, Fails}
 use Rattle.line_reader.proofs.Rows.{rows_cut, stands, line_words, line_words_are, Stands}
+use Rattle.{std.proofs.Common.◌∙◌, std.proofs.Common.arith, std.proofs.lemmas.List.drop_all, script_tokens.specs.declared.token.Token.Token}
+use Rattle.{script_tokens.specs.Words.views, line_reader.specs.declared.cause.ReadFault.ReadFault}
 
 -- what the lines so far say, and what the lines that follow still make of it
 pub record Goes {A : Type 0} (step : Step A) (Kept : A → Type 0) (old : A) (tokens : List Token) (at : ℕ) (d : A) : Type 0 where
@@ -20,8 +15,8 @@ module _ (A : Type 0) (step : Step A) (Kept : A → Type 0) (old d : A) (tokens 
   -- a line that is refused
   pub goes_fault : (n : ℕ) (t : Token) (e : ReadFault) → Goes step Kept old tokens at d → at < length tokens → Stands tokens at n t
       → Fails e (step d (get_or tokens at t).line (line_words tokens at n)) → Fails e (lines_from step old (rows_of (views tokens)))
-  goes_fault n t read_fault.Memory g lt s taken = tt
-  goes_fault n t (read_fault.Script line c) g lt s taken =
+  goes_fault n t ReadFault.Memory g lt s taken = tt
+  goes_fault n t (ReadFault.Script line c) g lt s taken =
       let refused : step d (get_or tokens at t).line (texts (take n (drop at tokens))) ≡ Err (record { line = line; cause = c }) =
       ap (step d (get_or tokens at t).line) (sym (line_words_are tokens at n)) ∙ taken in
       sym g.value ∙ ap (lines_from step d) (rows_cut tokens at n t lt (stands tokens at n t s)) ∙ rw refused refl

@@ -1,12 +1,10 @@
 -- Lines, from the words that they have.
-use Rattle.std.proofs.Common.{◌≡◌, ℕ, zero, suc, ◌+◌, ◌-◌, ◌<◌, ◌≤◌, true, false, eqb, List, [], ◌∷◌, length}
-use Rattle.std.proofs.Common.{get_or, take, drop, map, refl, sym, ap, ◌∙◌, arith, add-one, inl, inr}
-use Rattle.std.proofs.lemmas.Bool.{cases_Bool, eqb-true, eqb-false, eq-eqb, ne_eqb}
-use Rattle.std.proofs.lemmas.List.{drop_more, drop_all, drop-drop, take_rest, length-drop}
-use Rattle.script_tokens.specs.declared.token.Token.{Token}
-use Rattle.script_tokens.specs.Words.{Word, view, views}
-use Rattle.line_reader.specs.Arguments.{texts}
-use Rattle.line_reader.specs.Lines.{Row, with_word, rows_of, words_in}
+use Rattle.std.proofs.Common.{◌≡◌, ℕ, zero, suc, ◌+◌, ◌-◌, ◌<◌, ◌≤◌, true, false, eqb, List, [], ◌∷◌, length, get_or, take, drop, map, refl}
+use Rattle.std.proofs.Common.{sym, ap, ◌∙◌, arith, add-one, inl, inr, eqb-true, eq-eqb, ne_eqb, drop-drop, length-drop}
+use Rattle.line_reader.specs.{texts, Row, with_word, rows_of}
+use Rattle.std.proofs.lemmas.List.{drop_more, drop_all, take_rest}
+use Rattle.script_tokens.specs.{Word, views, declared.token.Token.Token, Words.view}
+use Rattle.{std.proofs.lemmas.Bool.cases_Bool, std.proofs.lemmas.Bool.eqb-false, line_reader.specs.Lines.words_in}
 
 -- the texts of words
 abbrev texts_of : List Word → List (List ℕ)

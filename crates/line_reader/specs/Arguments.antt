@@ -1,13 +1,8 @@
 -- The arguments of a line. A line is the list of its words; the first word is at 0, and its arguments stand after it.
-use Rattle.std.specs.Prelude.{ℕ, List, Bool, Result, Ok, Err, length}
-use Rattle.std.specs.Prelude.{map, slice_get, ◌&&◌, nat_le, nat_lt, if◌then◌else◌}
-use Rattle.std.specs.Option.{ok_or}
-use Rattle.std.specs.Str.{bytes_eq}
-use Rattle.script_tokens.specs.declared.token.Token.{Token}
-use Rattle.line_reader.specs.declared.cause.Cause.{Cause}
-use Rattle.line_reader.specs.declared.cause.Cause.TheVariants.{S1, S3, S4, S5, S6}
-use Rattle.line_reader.specs.Causes.{◌>>=◌}
-use Rattle.line_reader.specs.Numerals.{number_of}
+use Rattle.std.specs.Prelude.{ℕ, List, Bool, Result, Ok, Err, length, map, slice_get, ◌&&◌, nat_le, nat_lt, if◌then◌else◌, ok_or, bytes_eq}
+use Rattle.line_reader.specs.{declared.cause.Cause.Cause, declared.cause.Cause.TheVariants.S1, declared.cause.Cause.TheVariants.S3}
+use Rattle.line_reader.specs.{declared.cause.Cause.TheVariants.S4, declared.cause.Cause.TheVariants.S5, declared.cause.Cause.TheVariants.S6}
+use Rattle.{script_tokens.specs.declared.token.Token.Token, line_reader.specs.Causes.◌>>=◌, line_reader.specs.Numerals.number_of}
 
 -- the texts of a line's tokens
 abbrev pub texts : List Token → List (List ℕ)

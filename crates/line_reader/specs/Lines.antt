@@ -1,15 +1,10 @@
 -- The lines of a text, taken one after another up to the first fault.
 use Rattle.std.specs.Prelude.{◌≡◌, ℕ, List, [], ◌∷◌, ◌++◌, Result, Ok, Err, ◌+◌, ◌==◌, ◌↔◌, if◌then◌else◌}
-use Rattle.script_tokens.specs.declared.scanning.ByteFault.TheVariants.{NotAscii, TooManyLines}
-use Rattle.script_tokens.specs.declared.scanning.Ending.{Ending}
-use Rattle.script_tokens.specs.declared.scanning.Ending.TheVariants.{Whole, Fault as Faulty}
-use Rattle.script_tokens.specs.Words.{Word}
-use Rattle.line_reader.specs.declared.cause.Cause.{Cause}
-use Rattle.line_reader.specs.declared.cause.Cause.TheVariants.{S8, S9}
-use Rattle.line_reader.specs.declared.cause.LineFault.{LineFault}
-use Rattle.line_reader.specs.declared.cause.LineFault.TheVariants as line_fault
-use Rattle.line_reader.specs.declared.cause.ReadFault.{ReadFault}
-use Rattle.line_reader.specs.declared.cause.ReadFault.TheVariants as read_fault
+use Rattle.script_tokens.specs.{declared.scanning.ByteFault.TheVariants.NotAscii, declared.scanning.ByteFault.TheVariants.TooManyLines}
+use Rattle.script_tokens.specs.{declared.scanning.Ending.Ending, declared.scanning.Ending.TheVariants.Whole}
+use Rattle.script_tokens.specs.{declared.scanning.Ending.TheVariants.Fault as Faulty, Words.Word}
+use Rattle.line_reader.specs.{declared.cause.Cause.Cause, declared.cause.Cause.TheVariants.S8, declared.cause.Cause.TheVariants.S9}
+use Rattle.line_reader.specs.{declared.cause.LineFault.LineFault, declared.cause.ReadFault.ReadFault}
 
 -- ---- lines
 
@@ -88,18 +83,18 @@ FindsFirst {A} step = (d : A) (rows : List Row) (f : First_fault) → (lines_fro
 -- a line that was taken leaves that value, unless memory has run out
 abbrev pub Takes : {A : Type 0} → Result Unit LineFault → A → Result A Cause → Type 0
 Takes (Ok done) new read = read ≡ Ok new
-Takes (Err (line_fault.Cause c)) new read = read ≡ Err c
-Takes (Err line_fault.Memory) new read = Unit {0}
+Takes (Err (LineFault.Cause c)) new read = read ≡ Err c
+Takes (Err LineFault.Memory) new read = Unit {0}
 
 -- an answer that is none tells the first fault, unless memory has run out
 abbrev pub Fails : {A : Type 0} → ReadFault → Result A First_fault → Type 0
-Fails (read_fault.Script number c) read = read ≡ Err (record { line = number; cause = c })
-Fails read_fault.Memory read = Unit {0}
+Fails (ReadFault.Script number c) read = read ≡ Err (record { line = number; cause = c })
+Fails ReadFault.Memory read = Unit {0}
 
 -- the fault of a line
 abbrev pub fault_at : ℕ → LineFault → ReadFault
-fault_at number (line_fault.Cause c) = read_fault.Script number c
-fault_at number line_fault.Memory = read_fault.Memory
+fault_at number (LineFault.Cause c) = ReadFault.Script number c
+fault_at number LineFault.Memory = ReadFault.Memory
 
 -- lines that were taken leave that draft, unless memory has run out
 abbrev pub Leads : {A : Type 0} → Result Unit ReadFault → A → Result A First_fault → Type 0

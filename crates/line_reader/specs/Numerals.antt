@@ -1,6 +1,6 @@
 -- Numbers as they are written.
-use Rattle.std.specs.Prelude.{ℕ, List, [], ◌∷◌, Bool, true, Option, Some, None, ◌+◌, ◌-◌}
-use Rattle.std.specs.Prelude.{◌*◌, ◌^◌, ◌&&◌, length, nat_le, nat_lt, if◌then◌else◌}
+use Rattle.std.specs.Prelude.{ℕ, List, [], ◌∷◌, Bool, true, Option, Some, None, ◌+◌, ◌-◌, ◌*◌, ◌^◌, ◌&&◌, length, nat_le, nat_lt}
+use Rattle.std.specs.Prelude.{if◌then◌else◌}
 
 -- a decimal digit
 abbrev pub is_digit : ℕ → Bool

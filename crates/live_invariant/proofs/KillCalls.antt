@@ -1,26 +1,17 @@
 -- What a call that kills a component knows of its rule: what is left of it after its name, and what refuses it.
-use Rattle.count_invariant.proofs.Common.{◌≡◌, inl, ℕ, ◌<◌, ◌==◌, ◌&&◌, ◌||◌, not, Bool, true, false, if◌then◌else◌, List, [], ◌∷◌}
-use Rattle.count_invariant.proofs.Common.{Some, None, refl, sym, ◌∙◌, ap, subst, eq-eqb, Setting, IsSetting, Kill}
-use Rattle.count_invariant.proofs.Common.{CompFields, Comp, Kernel, State, comp_in, found, Cause, Does, RuleMay, outcome, unless}
-use Rattle.count_invariant.proofs.Common.{first_of, is_live_in, rule_of, change_of, is_one_of, footprint_frames, Trace, Open, phase}
-use Rattle.count_invariant.proofs.Common.{state_after, GoesBy, own_pages, rule_after, Leads, LeadsIn, outcome_left, left_may}
-use Rattle.count_invariant.proofs.Common.{KillingAt, Act, Undecided, ActiveCall, StageFits, HasRoom, Core, KnowsUndecided, phase_at}
-use Rattle.count_invariant.proofs.Common.{Invariant}
-use Rattle.state_laws.specs.spk_nums.specs.declared.replies.Reply.TheVariants as reply
-use Rattle.state_laws.specs.kernel_rules.specs.InvocationCalls.{not_live, kill_comp}
-use Rattle.count_invariant.specs.kernel_history.specs.Footprint.{footprint_numbers, number_argument, number_in}
-use Rattle.count_invariant.specs.act_states.specs.declared.kills.Killing.{Killing}
-use Rattle.count_invariant.specs.act_states.specs.Kills.{KillingFits}
-use Rattle.count_invariant.specs.act_states.specs.declared.work.Act.TheVariants.{Kill as kill_act}
-use Rattle.count_invariant.specs.step_ways.proofs.Loads.{call_is, is_active}
-use Rattle.count_invariant.proofs.Acquiring.{plan_leads, goes_by}
+use Rattle.count_invariant.specs.step_ways.proofs as low
+use low.{◌≡◌, inl, ℕ, ◌<◌, ◌==◌, ◌&&◌, ◌||◌, not, Bool, true, false, if◌then◌else◌, List, [], ◌∷◌, Some, None, refl, sym, ◌∙◌, ap, subst}
+use low.{eq-eqb, Setting, IsSetting, CompFields, Comp, Kernel, State, comp_in, found, Cause, Does, RuleMay, outcome, unless, first_of}
+use low.{is_live_in, rule_of, change_of, is_one_of, footprint_frames, Trace, Open, phase, state_after, GoesBy, own_pages, rule_after, Leads}
+use low.{LeadsIn, outcome_left, left_may, KillingAt, Act, Undecided, ActiveCall, StageFits, HasRoom, Core, KnowsUndecided, phase_at}
+use low.{Invariant, Kill as kill_act, call_is, is_active, does, plan_for, Reply}
+use Rattle.count_invariant.specs.kernel_history.specs.{Kill, footprint_numbers, number_argument, number_in, Nothing as no_value}
+use Rattle.state_laws.specs.kernel_rules.specs.{not_live, Deaden as deaden_edit}
+use Rattle.count_invariant.proofs.{plan_leads, goes_by}
+use Rattle.count_invariant.specs.act_states.specs.{declared.kills.Killing.Killing, Kills.KillingFits}
 use Rattle.count_invariant.proofs.KillingCounts.{IsKill, kill_of, kill_footprint}
 use Rattle.live_invariant.proofs.Numbers.{one_of_many, comp_is}
-use Rattle.count_invariant.specs.plan_ways.proofs.InFootprint.{one_right}
-use Rattle.state_laws.specs.kernel_rules.specs.Edits.{Deaden as deaden_edit}
-use Rattle.state_laws.specs.kernel_rules.specs.Rules.{does}
-use Rattle.state_laws.specs.spk_nums.specs.declared.replies.Value.TheVariants.{Nothing as no_value}
-use Rattle.count_invariant.specs.act_states.specs.call_plans.specs.PlanOf.{plan_for}
+use Rattle.{state_laws.specs.kernel_rules.specs.InvocationCalls.kill_comp, count_invariant.specs.plan_ways.proofs.InFootprint.one_right}
 
 module _ (setup : Setting) (setting : IsSetting setup) (cores : ℕ → Core) (t : Trace) (stands : Invariant setup cores t) (c : ℕ)
     (here : c < setup.cores)
@@ -71,23 +62,23 @@ module _ (setup : Setting) (setting : IsSetting setup) (cores : ℕ → Core) (t
       ∙ ap (λ (g : ℕ). kill_comp s (found is.comp) (comp_in (s.frame g))) (sym is.frame)
 
   pub by_life : (lives : Bool) → is_live_in (s.number fields.number) fields.epoch ≡ lives
-      → change_of s c a.call ≡ unless (if not lives then Some reply.Dead else None)
+      → change_of s c a.call ≡ unless (if not lives then Some Reply.Dead else None)
       (does c s no_value (deaden_edit fields.number fields.epoch ∷ []))
   by_life lives so =
       outcome_left s c (own_pages s c) (plan_for a.call) (rule_of s c a.call) a.found by_plan leads ∙ ap (outcome s c) left
-      ∙ ap (λ b. unless (first_of (if not b then Some reply.Dead else None) None)
+      ∙ ap (λ b. unless (first_of (if not b then Some Reply.Dead else None) None)
       (does c s no_value (deaden_edit fields.number fields.epoch ∷ []))) so
       ∙ last lives
     where
-      last : (b : Bool) → unless (first_of (if not b then Some reply.Dead else None) None)
+      last : (b : Bool) → unless (first_of (if not b then Some Reply.Dead else None) None)
           (does c s no_value (deaden_edit fields.number fields.epoch ∷ []))
-          ≡ unless (if not b then Some reply.Dead else None) (does c s no_value (deaden_edit fields.number fields.epoch ∷ []))
+          ≡ unless (if not b then Some Reply.Dead else None) (does c s no_value (deaden_edit fields.number fields.epoch ∷ []))
       last true = refl
       last false = refl
 
-  pub may_be_dead : is_live_in (s.number fields.number) fields.epoch ≡ false → RuleMay s c (rule_of s c a.call) reply.Dead
-  may_be_dead none = left_may s c (own_pages s c) (plan_for a.call) (rule_of s c a.call) a.found by_plan leads reply.Dead
-      (subst (λ x. RuleMay s c x reply.Dead) (sym left) (inl (ap (λ b. not b) none, refl)))
+  pub may_be_dead : is_live_in (s.number fields.number) fields.epoch ≡ false → RuleMay s c (rule_of s c a.call) Reply.Dead
+  may_be_dead none = left_may s c (own_pages s c) (plan_for a.call) (rule_of s c a.call) a.found by_plan leads Reply.Dead
+      (subst (λ x. RuleMay s c x Reply.Dead) (sym left) (inl (ap (λ b. not b) none, refl)))
 
   -- the component and its number are in the footprint
   pub footprint : is_one_of f (footprint_frames s c a.call) ≡ true

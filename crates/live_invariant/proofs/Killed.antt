@@ -1,56 +1,44 @@
 -- A killing draws its stamp and is decided: the number is dead, its reference to the component's frame is released, and the grace periods
 -- of both begin at the stamp. And the store of the dead number's word is good.
-use Rattle.count_invariant.proofs.Common.{Want, as_none, counts_bare, exclusive_elsewhere, IsSome, list_any}
-use Rattle.count_invariant.proofs.Common.{◌≡◌, ◌≢◌, inl, inr, ℕ, pos, negsuc}
-use Rattle.count_invariant.proofs.Common.{◌+ℤ◌, max, length, ◌+◌, ◌^◌, ◌<◌, ◌≤◌, ◌==◌, ◌||◌, true, false, if◌then◌else◌, List, []}
-use Rattle.count_invariant.proofs.Common.{◌∷◌, Option, Some, None, arith, refl, sym, ◌∙◌, ap, subst, cases_eq, eq-eqb, ne_eqb}
-use Rattle.count_invariant.proofs.Common.{All-nil, Capability, Setting, IsSetting, Call, Kill, Reply, LiveFits}
-use Rattle.count_invariant.proofs.Common.{word_of_live, live_of_word, CompWord, Word, EntryAt, FrameAt, CountAt, CoreAt, FlushAt, LiveAt}
-use Rattle.count_invariant.proofs.Common.{ClockAt, same_word, Move, AddOf, StoreOf, word_of, told_of, same_same, Liveness, Live, Dead}
-use Rattle.count_invariant.proofs.Common.{Thing, PlaceOf, FrameOf, NumberOf, Grace, State, put, comp_in, thread_in, with_grace, Slot, own}
-use Rattle.count_invariant.proofs.Common.{Change, Found, IsFoundAnd, frames_of, times, refs, is_live_in, MayReply, rule_of, ends_by}
-use Rattle.count_invariant.proofs.Common.{flushes_by, changed, change_of, counted, begins_in, same_thing, new_grace, calls_counted}
-use Rattle.count_invariant.proofs.Common.{grace_refs, put_same, put_other, IsInFootprint, HasReached, marked_by, ends_in, flushes_in}
-use Rattle.count_invariant.proofs.Common.{begins_at, ends_at, flushes_at, stamp, clock, flush_stored, Step, Trace, Out, Open, WasAt}
-use Rattle.count_invariant.proofs.Common.{phase, state_after, state_decided_in, last_left, own_left, way_to, ways, ok_first, was_now}
-use Rattle.count_invariant.proofs.Common.{was_stays, decided-inside, cases_word, same_word-other, stamp-begins, stamp-kept}
-use Rattle.count_invariant.proofs.Common.{flush_stored-own, flush_stored-other, drawn_stamp, later, own_pages, LeadsIn, leads_by}
-use Rattle.count_invariant.proofs.Common.{KillingAt, LoadComp, LoadLive, Act, Nothing, StoreDead, Stage, Undecided, Decided, ActiveCall}
-use Rattle.count_invariant.proofs.Common.{GoesOn, landed, went_with, Core, Holding, holds_counts, settled_by, settled, NumberIs}
-use Rattle.count_invariant.proofs.Common.{WordIs, HasFound, KnowsUndecided, WorksIn, own_in, phase_at, done_by, holds_at}
-use Rattle.count_invariant.proofs.Common.{holds_in, holds, held_by, times_of, counted_in, Invariant, counts, calm_counted, plain_exit}
-use Rattle.count_invariant.proofs.Common.{own_kept, counts_on, counted_refs, limits_of, SameFor, ReadsAlike, reads_alike}
-use Rattle.count_invariant.proofs.Common.{StaysSaid, word_stays}
-use Rattle.std.proofs.Math.IntN.{pos-+ℤ-pos, +ℤ_assoc, +ℤ_invr, +ℤ_idr}
-use Rattle.state_laws.specs.spk_nums.specs.declared.replies.Reply.TheVariants as reply
-use Rattle.state_laws.specs.spk_nums.specs.declared.replies.Value.TheVariants as value
-use Rattle.count_invariant.specs.frame_words.specs.declared.live_word.LiveWord.TheVariants as live_word
+use Rattle.count_invariant.specs.step_ways.proofs.{Want, as_none, counts_bare, exclusive_elsewhere, IsSome, ◌≡◌, ◌≢◌, inl, inr, ℕ, pos}
+use Rattle.count_invariant.specs.step_ways.proofs.{negsuc, ◌+ℤ◌, max, length, ◌+◌, ◌^◌, ◌<◌, ◌≤◌, ◌==◌, ◌||◌, true, false, if◌then◌else◌}
+use Rattle.count_invariant.specs.step_ways.proofs.{List, [], ◌∷◌, Option, Some, None, arith, refl, sym, ◌∙◌, ap, subst, eq-eqb, ne_eqb}
+use Rattle.count_invariant.specs.step_ways.proofs.{Capability, Setting, IsSetting, Call, Reply, word_of_live, live_of_word, CompWord, Word}
+use Rattle.count_invariant.specs.step_ways.proofs.{EntryAt, FrameAt, CountAt, CoreAt, FlushAt, LiveAt, ClockAt, same_word, Move, AddOf}
+use Rattle.count_invariant.specs.step_ways.proofs.{StoreOf, word_of, told_of, same_same, Liveness, Live, Dead, Thing, PlaceOf, FrameOf}
+use Rattle.count_invariant.specs.step_ways.proofs.{NumberOf, Grace, State, put, comp_in, thread_in, Slot, own, Change, Found, IsFoundAnd}
+use Rattle.count_invariant.specs.step_ways.proofs.{frames_of, times, refs, is_live_in, MayReply, rule_of, ends_by, flushes_by, changed}
+use Rattle.count_invariant.specs.step_ways.proofs.{change_of, counted, same_thing, new_grace, calls_counted, grace_refs, put_same}
+use Rattle.count_invariant.specs.step_ways.proofs.{put_other, IsInFootprint, HasReached, marked_by, ends_in, flushes_in, begins_at, ends_at}
+use Rattle.count_invariant.specs.step_ways.proofs.{flushes_at, stamp, clock, flush_stored, Step, Trace, Out, Open, WasAt, phase}
+use Rattle.count_invariant.specs.step_ways.proofs.{state_after, state_decided_in, last_left, own_left, way_to, ways, ok_first, was_now}
+use Rattle.count_invariant.specs.step_ways.proofs.{was_stays, decided-inside, cases_word, same_word-other, stamp-begins, stamp-kept}
+use Rattle.count_invariant.specs.step_ways.proofs.{flush_stored-own, flush_stored-other, drawn_stamp, later, own_pages, LeadsIn, leads_by}
+use Rattle.count_invariant.specs.step_ways.proofs.{KillingAt, LoadComp, LoadLive, Act, Nothing, StoreDead, Stage, Undecided, Decided}
+use Rattle.count_invariant.specs.step_ways.proofs.{ActiveCall, GoesOn, landed, went_with, Core, Holding, holds_counts, settled_by, settled}
+use Rattle.count_invariant.specs.step_ways.proofs.{NumberIs, WordIs, HasFound, KnowsUndecided, WorksIn, own_in, phase_at, done_by, holds_at}
+use Rattle.count_invariant.specs.step_ways.proofs.{holds_in, holds, held_by, times_of, counted_in, Invariant, counts, calm_counted}
+use Rattle.count_invariant.specs.step_ways.proofs.{plain_exit, own_kept, counts_on, counted_refs, limits_of, SameFor, ReadsAlike, StaysSaid}
+use Rattle.count_invariant.specs.step_ways.proofs.{word_stays, begins_in as begins_then, Close, Draw, Kill as kill_act, spares_other}
+use Rattle.count_invariant.specs.step_ways.proofs.{call_is, core_in_call, inner, GoodTook, not_spent, clock_small, same_marks, plan_for}
+use Rattle.count_invariant.specs.step_ways.proofs.{Value, LiveWord}
+use Rattle.count_invariant.proofs.{counts_commit, counts_sum, dues_of, own_is, found_named, way_gone}
+use Rattle.state_laws.specs.kernel_rules.specs.{Kill, with_grace, begins_in, with_number, number_names}
+use Rattle.count_invariant.specs.act_states.specs.{killing_at, took_killing_at}
+use Rattle.count_invariant.specs.kept_facts.proofs.{reads_alike, counted_grows}
+use Rattle.std.proofs.{lemmas.Bool.cases_eq, lemmas.List.Elements.All-nil, Math.IntN.pos-+ℤ-pos, Math.IntN.+ℤ_assoc, Math.IntN.+ℤ_invr}
+use Rattle.count_invariant.proofs.KillingCounts.{kill_numbers, kill_raises, kill_types}
+use Rattle.live_invariant.proofs.Numbers.{IsSpelled, spelled, no_number, number_is, lives_for}
+use Rattle.live_invariant.proofs.Kills.{load_comp_good, load_live_good, close_good}
+use Rattle.{std.specs.List.list_any, std.proofs.Math.IntN.+ℤ_idr, count_invariant.specs.frame_words.specs.Live.LiveFits}
+use Rattle.{state_laws.specs.kernel_invariant.proofs.Refs.number_refs, count_invariant.specs.plan_ways.proofs.Ways.all_ways}
+use Rattle.{count_invariant.specs.act_states.specs.Taking.drawn_dead, count_invariant.specs.core_invariant.specs.Knows.KnowsDead}
+use Rattle.{count_invariant.specs.kept_facts.proofs.Calm.own_works}
 use Rattle.count_invariant.specs.frame_words.proofs.LiveLemmas as lives
-use Rattle.state_laws.specs.kernel_rules.specs.State.{with_number}
-use Rattle.state_laws.specs.kernel_rules.specs.References.{number_names}
-use Rattle.state_laws.specs.kernel_invariant.proofs.Refs.{number_refs}
 use Rattle.state_laws.specs.kernel_invariant.proofs.Sums as sums
-use Rattle.count_invariant.specs.kernel_history.specs.Stamps.{begins_in as begins_then}
-use Rattle.count_invariant.specs.plan_ways.proofs.Ways.{all_ways}
-use Rattle.count_invariant.specs.act_states.specs.declared.kills.KillingAt.TheVariants.{Close, Draw}
-use Rattle.count_invariant.specs.act_states.specs.Kills.{killing_at}
-use Rattle.count_invariant.specs.act_states.specs.declared.work.Act.TheVariants.{Kill as kill_act}
-use Rattle.count_invariant.specs.act_states.specs.Acts.{drawn_dead, took_killing_at}
-use Rattle.count_invariant.specs.core_invariant.specs.Knows.{KnowsDead}
-use Rattle.count_invariant.specs.kept_facts.proofs.Calm.{own_works, counted_grows}
 use Rattle.count_invariant.specs.step_ways.proofs.Counting as counters
 use Rattle.count_invariant.specs.step_ways.proofs.Draws as drawing
-use Rattle.count_invariant.specs.step_ways.proofs.Good.{spares_other}
-use Rattle.count_invariant.specs.step_ways.proofs.Loads.{call_is, core_in_call, inner}
-use Rattle.count_invariant.specs.step_ways.proofs.Refusals.{GoodTook, not_spent}
-use Rattle.count_invariant.specs.step_ways.proofs.Writes.{clock_small, same_marks}
-use Rattle.count_invariant.proofs.CapChanges.{counts_commit, counts_sum, dues_of}
-use Rattle.count_invariant.proofs.KillingCounts.{kill_numbers, kill_raises, kill_types}
-use Rattle.count_invariant.proofs.Findings.{own_is, found_named, way_gone}
-use Rattle.live_invariant.proofs.Numbers.{IsSpelled, spelled, no_number, number_is, lives_for}
 use Rattle.live_invariant.proofs.KillCalls as calls
-use Rattle.live_invariant.proofs.Kills.{load_comp_good, load_live_good, close_good}
-use Rattle.count_invariant.specs.act_states.specs.call_plans.specs.PlanOf.{plan_for}
 
 -- A count that falls by one.
 one_less : (m n : ℕ) → n + 1 ≡ m → pos n ≡ pos m +ℤ negsuc 0
@@ -83,7 +71,7 @@ kill_flushes call name is = ap flushes_by is
 -- The change of a kill of this component.
 abbrev kills_in : State → ℕ → ℕ → Liveness → Change
 kills_in s l e live = record {
-  value = value.Nothing;
+  value = Value.Nothing;
   next = with_number s l (Dead e);
   takes = [];
   begins = NumberOf l ∷ frames_of (number_names live);
@@ -104,7 +92,7 @@ module _ (setup : Setting) (setting : IsSetting setup) (cores : ℕ → Core) (t
   x = clock setup t
 
   abbrev r : Reply
-  r = reply.Ok value.Nothing
+  r = Reply.Ok Value.Nothing
 
   abbrev fs : List ℕ
   fs = f ∷ []
@@ -190,7 +178,7 @@ module _ (setup : Setting) (setting : IsSetting setup) (cores : ℕ → Core) (t
     s' = state_after setup (e ∷ t)
 
     abbrev stored : ℕ
-    stored = word_of_live (live_word.Dead life.epoch now_at)
+    stored = word_of_live (LiveWord.Dead life.epoch now_at)
 
     now : s' ≡ killed
     now = ap (λ p. state_decided_in p r s c) is_open ∙ ap (λ y. counted (changed s y) c) change
@@ -296,7 +284,7 @@ module _ (setup : Setting) (setting : IsSetting setup) (cores : ℕ → Core) (t
     small : x < 2 ^ 43
     small = clock_small setup setting cores t stands
 
-    stored_fits : LiveFits (live_word.Dead life.epoch now_at)
+    stored_fits : LiveFits (LiveWord.Dead life.epoch now_at)
     stored_fits =
         let fits = (calls.fits setup setting cores t stands c here a active f by (Draw life word) stage_is has).at in
         let some = stands.some_time in
@@ -307,7 +295,7 @@ module _ (setup : Setting) (setting : IsSetting setup) (cores : ℕ → Core) (t
     number_now = subst (λ y. NumberIs y (stamp setup (e ∷ t) (NumberOf life.number)) (live_of_word stored)) (sym dead_here)
         (record {
           drawn = (let some = stands.some_time in let is = stamp_begins (NumberOf life.number) itself in omega arith);
-          says = lives.spelling.reads (live_word.Dead life.epoch now_at) stored_fits ∙ ap (λ (n : ℕ). Some (live_word.Dead life.epoch n))
+          says = lives.spelling.reads (LiveWord.Dead life.epoch now_at) stored_fits ∙ ap (λ (n : ℕ). Some (LiveWord.Dead life.epoch n))
               (drawn_is ∙ sym (stamp_begins (NumberOf life.number) itself));
         })
 
@@ -402,7 +390,7 @@ module _ (setup : Setting) (setting : IsSetting setup) (cores : ℕ → Core) (t
     permitted = (
       not_spent setup (cores c) t c (stands.each c here)
           (calls.room setup setting cores t stands c here a active f by (Draw life word) stage_is has),
-      (has.acts, subst (λ y. IsFoundAnd y (λ z. z.value ≡ value.Nothing)) (sym change) refl),
+      (has.acts, subst (λ y. IsFoundAnd y (λ z. z.value ≡ Value.Nothing)) (sym change) refl),
     )
 
     draw_at : GoodTook setup cores t c (AddOf ClockAt 1) (landed a (drawn_dead life now_at))
@@ -416,7 +404,7 @@ module _ (setup : Setting) (setting : IsSetting setup) (cores : ℕ → Core) (t
         (AddOf ClockAt 1) r after still
         (λ g d. before (CountAt g d)) (λ g d. refl) alike refl refl no_count (ap (λ l. l.cores) limits) kept changes)
         (record { call = a.call; is_open = is_open; permitted = permitted; justified = gone })
-        (λ is_alone. ok_first s c a.call value.Nothing permitted)
+        (λ is_alone. ok_first s c a.call Value.Nothing permitted)
         (record {
           numbers = kill_numbers a.call a.found f has.knows.knows.kills;
           footprint = was_stays (IsInFootprint c a.call at) setup t e c (λ own. refl)
@@ -458,7 +446,7 @@ module _ (setup : Setting) (setting : IsSetting setup) (cores : ℕ → Core) (t
   dead_at = LiveAt life.number
 
   abbrev dead_word : ℕ
-  dead_word = word_of_live (live_word.Dead life.epoch x)
+  dead_word = word_of_live (LiveWord.Dead life.epoch x)
 
   abbrev store : Move
   store = StoreOf dead_at dead_word

@@ -1,34 +1,25 @@
 -- The steps of a killing before its draw are good: the loads of the component's word and of its number's word, and the compare that marks
 -- the number, which is lost to another core or holds it for the call.
-use Rattle.count_invariant.proofs.Common.{as_none, counts_bare, may_keep, not_exclusive_value, exclusive_elsewhere, ◌≡◌}
-use Rattle.count_invariant.proofs.Common.{◌≢◌, inl, ℕ, ◌+◌, ◌++◌, ◌^◌}
-use Rattle.count_invariant.proofs.Common.{◌<◌, ◌==◌, map, length, Bool, true, false, if◌then◌else◌, List, [], ◌∷◌, Option, Some, None}
-use Rattle.count_invariant.proofs.Common.{IsTrue, arith, refl, sym, ◌∙◌, ap, subst, eqb-true, eqb-false, eq-eqb, Setting}
-use Rattle.count_invariant.proofs.Common.{IsSetting, left_if, comp_of_word, LiveFits, word_of_live, live_of_word, CompWord, LiveWord}
-use Rattle.count_invariant.proofs.Common.{Word, EntryAt, LiveAt, Move, LoadOf, CompareOf, left_of, same_same, State, NumberOf, PlaceOf}
-use Rattle.count_invariant.proofs.Common.{put, comp_in, is_live_in, put_same, changes_numbers, mark_in_frame, live_mark, marked_by, stamp}
-use Rattle.count_invariant.proofs.Common.{Step, Trace, state_after, last_left, same_word-other, own_read-here, Acquired, LoadComp}
-use Rattle.count_invariant.proofs.Common.{LoadLive, Act, Goes, refuse, dues, next_work, Undecided, ActiveCall, GoesOn, landed, went, Core}
-use Rattle.count_invariant.proofs.Common.{holds_counts, settled_by, IsFrameWord, NumberIs, due_of, KnowsUndecided, holds_at}
-use Rattle.count_invariant.proofs.Common.{holds_in, holds, held_by, Invariant, names_on, counts_on}
-use Rattle.count_invariant.specs.frame_words.specs.declared.live_word.LiveWord.TheVariants as live_word
-use Rattle.count_invariant.specs.frame_words.proofs.LiveLemmas as lives
-use Rattle.count_invariant.specs.kernel_history.specs.Discipline.{looks_at_numbers}
-use Rattle.count_invariant.specs.act_states.specs.declared.refusals.Refusal.TheVariants as refusal
-use Rattle.count_invariant.specs.act_states.specs.declared.kills.Killing.{Killing}
-use Rattle.count_invariant.specs.act_states.specs.declared.kills.KillingAt.TheVariants.{Close, Draw}
-use Rattle.count_invariant.specs.act_states.specs.declared.work.Act.{Act as ActOf}
-use Rattle.count_invariant.specs.act_states.specs.declared.work.Act.TheVariants.{Kill as kill_act}
-use Rattle.count_invariant.specs.act_states.specs.Acts.{meets_comp, meets_live, meets_number, meets_life, closes_if}
-use Rattle.count_invariant.specs.kept_facts.proofs.Carries.{has_comp_on, life_on}
-use Rattle.count_invariant.specs.step_ways.proofs.Counting as counters
-use Rattle.count_invariant.specs.step_ways.proofs.Good.{spares_other}
-use Rattle.count_invariant.specs.step_ways.proofs.Loads.{IsOfCall, OnlyLooks, step_to, next_at, core_in_call, inner, call_is, loads_on}
-use Rattle.count_invariant.specs.step_ways.proofs.Refusals.{GoodTook, refuses_raced, refuses_busy, refuses_dead, ticks_at}
-use Rattle.count_invariant.proofs.Acquiring.{knows_next, next_holds, one_apart}
+use Rattle.count_invariant.specs.step_ways.proofs as low
+use low.{as_none, counts_bare, may_keep, not_exclusive_value, exclusive_elsewhere, ◌≡◌, ◌≢◌, inl, ℕ, ◌+◌, ◌++◌, ◌^◌, ◌<◌, ◌==◌, map, length}
+use low.{Bool, true, false, if◌then◌else◌, List, [], ◌∷◌, Option, Some, None, IsTrue, arith, refl, sym, ◌∙◌, ap, subst, eqb-true, eqb-false}
+use low.{eq-eqb, Setting, IsSetting, left_if, comp_of_word, word_of_live, live_of_word, CompWord, LiveWord, Word, EntryAt, LiveAt, Move}
+use low.{LoadOf, CompareOf, left_of, same_same, State, NumberOf, PlaceOf, put, comp_in, is_live_in, put_same, mark_in_frame, live_mark}
+use low.{marked_by, stamp, Step, Trace, state_after, last_left, same_word-other, own_read-here, Acquired, LoadComp, LoadLive, Act, Goes}
+use low.{refuse, dues, next_work, Undecided, ActiveCall, GoesOn, landed, went, Core, holds_counts, settled_by, IsFrameWord, NumberIs}
+use low.{due_of, KnowsUndecided, holds_at, holds_in, holds, held_by, Invariant, names_on, counts_on, Close, Draw, Kill as kill_act}
+use low.{spares_other, IsOfCall, OnlyLooks, step_to, next_at, core_in_call, inner, call_is, loads_on, GoodTook, refuses_raced, refuses_busy}
+use Rattle.count_invariant.specs.act_states.specs.{meets_comp, meets_live, meets_number, meets_life, closes_if}
 use Rattle.live_invariant.proofs.Numbers.{no_number, shows_live, lives_as_shown, shows_some}
+use low.{ticks_at, plan_for, Refusal, Refusals.refuses_dead}
+use Rattle.{count_invariant.proofs.knows_next, count_invariant.proofs.next_holds, count_invariant.proofs.one_apart}
+use Rattle.{count_invariant.specs.kernel_history.specs.changes_numbers, count_invariant.specs.kernel_history.specs.looks_at_numbers}
+use Rattle.{count_invariant.specs.frame_words.specs.Live.LiveFits, count_invariant.specs.act_states.specs.declared.kills.Killing.Killing}
+use Rattle.{count_invariant.specs.act_states.specs.declared.work.Act.Act as ActOf}
+use Rattle.{count_invariant.specs.kept_facts.proofs.Carries.has_comp_on, count_invariant.specs.kept_facts.proofs.Carries.life_on}
+use Rattle.count_invariant.specs.frame_words.proofs.LiveLemmas as lives
+use Rattle.count_invariant.specs.step_ways.proofs.Counting as counters
 use Rattle.live_invariant.proofs.KillCalls as calls
-use Rattle.count_invariant.specs.act_states.specs.call_plans.specs.PlanOf.{plan_for}
 
 none_some : (d : ℕ) → None ≡ Some d → ⊥
 none_some d h = cc
@@ -155,7 +146,7 @@ module _ (setup : Setting) (setting : IsSetting setup) (cores : ℕ → Core) (t
       (subst (NumberIs (now.number life.number) (stamp setup t (NumberOf life.number))) shown (says (ap live_mark shown ∙ bare)))
 
   dead_good : (o : Option LiveWord) → live_of_word found ≡ o → live_mark o ≡ None → shows_live o life.epoch ≡ false
-      → GoodTook setup cores t c (LoadOf at) (landed a (refuse refusal.Dead))
+      → GoodTook setup cores t c (LoadOf at) (landed a (refuse Refusal.Dead))
   dead_good o shown bare none =
       refuses_dead setup setting cores t stands c here a active
       (calls.opens setup setting cores t stands c here a active f by (LoadLive life) stage_is has) held_is
@@ -164,7 +155,7 @@ module _ (setup : Setting) (setting : IsSetting setup) (cores : ℕ → Core) (t
       (λ nobody. calls.by_life setup setting cores t stands c here a active f by (LoadLive life) stage_is has false
       (lives_so o shown bare ∙ none))
 
-  closing_good : (d : ℕ) → marked_by setup t at ≡ Some d → GoodTook setup cores t c (LoadOf at) (landed a (refuse (refusal.Busy d)))
+  closing_good : (d : ℕ) → marked_by setup t at ≡ Some d → GoodTook setup cores t c (LoadOf at) (landed a (refuse (Refusal.Busy d)))
   closing_good d mark =
       refuses_busy setup setting cores t stands c here a active
       (calls.opens setup setting cores t stands c here a active f by (LoadLive life) stage_is has) held_is
@@ -176,7 +167,7 @@ module _ (setup : Setting) (setting : IsSetting setup) (cores : ℕ → Core) (t
   abbrev act : ActOf
   act = kill_act (record { comp = f; core = by; at = Close life found })
 
-  live_good : (g : ℕ) → live_of_word found ≡ Some (live_word.Live life.epoch g)
+  live_good : (g : ℕ) → live_of_word found ≡ Some (LiveWord.Live life.epoch g)
       → GoodTook setup cores t c (LoadOf at) (landed a (Goes (next_work by 0 act)))
   live_good g shown lands =
       let e : Step = step_to c None (LoadOf at) found None None in
@@ -203,18 +194,18 @@ module _ (setup : Setting) (setting : IsSetting setup) (cores : ℕ → Core) (t
             (ap (λ (xs : List Acquired). length xs) (sym no_counts)) refl refl;
       })
 
-  by_epoch : (epoch g : ℕ) → live_of_word found ≡ Some (live_word.Live epoch g) → (same : Bool) → (epoch == life.epoch) ≡ same
+  by_epoch : (epoch g : ℕ) → live_of_word found ≡ Some (LiveWord.Live epoch g) → (same : Bool) → (epoch == life.epoch) ≡ same
       → GoodTook setup cores t c (LoadOf at) (landed a (meets_life killing life found same))
   by_epoch epoch g shown true same =
-      live_good g (shown ∙ ap (λ (n : ℕ). Some (live_word.Live n g)) (eqb-true epoch life.epoch same))
-  by_epoch epoch g shown false other = dead_good (Some (live_word.Live epoch g)) shown refl other
+      live_good g (shown ∙ ap (λ (n : ℕ). Some (LiveWord.Live n g)) (eqb-true epoch life.epoch same))
+  by_epoch epoch g shown false other = dead_good (Some (LiveWord.Live epoch g)) shown refl other
 
   by_number : (v : LiveWord) → live_of_word found ≡ Some v
       → GoodTook setup cores t c (LoadOf at) (landed a (meets_number killing life found v))
-  by_number live_word.Free shown = dead_good (Some live_word.Free) shown refl refl
-  by_number (live_word.Live epoch g) shown = by_epoch epoch g shown (epoch == life.epoch) refl
-  by_number (live_word.Closing epoch d) shown = closing_good d (ap live_mark shown)
-  by_number (live_word.Dead epoch x) shown = dead_good (Some (live_word.Dead epoch x)) shown refl refl
+  by_number LiveWord.Free shown = dead_good (Some LiveWord.Free) shown refl refl
+  by_number (LiveWord.Live epoch g) shown = by_epoch epoch g shown (epoch == life.epoch) refl
+  by_number (LiveWord.Closing epoch d) shown = closing_good d (ap live_mark shown)
+  by_number (LiveWord.Dead epoch x) shown = dead_good (Some (LiveWord.Dead epoch x)) shown refl refl
 
   by_word : (o : Option LiveWord) → live_of_word found ≡ o
       → GoodTook setup cores t c (LoadOf at) (landed a (meets_live killing life found o))
@@ -244,7 +235,7 @@ module _ (setup : Setting) (setting : IsSetting setup) (cores : ℕ → Core) (t
   left_there = last_left setup t live_at
 
   abbrev closing : ℕ
-  closing = word_of_live (live_word.Closing life.epoch by)
+  closing = word_of_live (LiveWord.Closing life.epoch by)
 
   abbrev compare : Move
   compare = CompareOf live_at word closing
@@ -287,7 +278,7 @@ module _ (setup : Setting) (setting : IsSetting setup) (cores : ℕ → Core) (t
     bare : marked_by setup t live_at ≡ None
     bare = ap (λ (n : ℕ). live_mark (live_of_word n)) same ∙ ap live_mark has.knows.knows.at.live.says
 
-    by_fits : LiveFits (live_word.Closing life.epoch by)
+    by_fits : LiveFits (LiveWord.Closing life.epoch by)
     by_fits = (
       (calls.fits setup setting cores t stands c here a active f by (Close life word) stage_is has).at.2,
       (let below : c < setup.cores = here in let most = setting.most_cores in let own = has.knows.knows.core in omega arith),
@@ -310,7 +301,7 @@ module _ (setup : Setting) (setting : IsSetting setup) (cores : ℕ → Core) (t
         let e : Step = inner setup setting cores t stands c here a active compare None None in
         let is_open = calls.is_open setup setting cores t stands c here a active f by (Close life word) stage_is has in
         counters.holds_on setup setting cores t stands c here a active compare next (λ b. refl) (λ h. cc) refl of_call lands
-        (subst (λ (n : ℕ). n < 2 ^ 64) (sym leaves) (lives.spelling.small (live_word.Closing life.epoch by) by_fits))
+        (subst (λ (n : ℕ). n < 2 ^ 64) (sym leaves) (lives.spelling.small (LiveWord.Closing life.epoch by) by_fits))
         (λ w there. (
           ap (λ b. if b then true else (holds_counts None a.counts).marks w) (same_word-other w live_at there) ∙ sym
               (ap (λ h. h.marks w) held_before),
@@ -319,7 +310,7 @@ module _ (setup : Setting) (setting : IsSetting setup) (cores : ℕ → Core) (t
         ))
         (as_none (holds (cores c)) (holds after) live_at (λ g i. ap (λ h. h.bare g i) held_before ∙ counts_bare None a.counts g i)
         (counts_bare None a.counts))
-        (ap (λ (n : ℕ). live_mark (live_of_word n)) leaves ∙ ap live_mark (lives.spelling.reads (live_word.Closing life.epoch by) by_fits)
+        (ap (λ (n : ℕ). live_mark (live_of_word n)) leaves ∙ ap live_mark (lives.spelling.reads (LiveWord.Closing life.epoch by) by_fits)
         ∙ ap (λ (n : ℕ). Some n) has.knows.knows.core ∙ sym (ap (λ b. if b then Some c else None) marks_it))
         (λ b other is. none_some b (sym bare ∙ is))
         (ap (λ b. settled_by (if b then Some c else None) (held_by (put cores c after)) live_at (left_of compare left_there)) marks_it

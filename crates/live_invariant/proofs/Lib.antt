@@ -1,7 +1,7 @@
--- The names that most proofs use.
-pub use Rattle.count_invariant.proofs.Common
 pub mod Numbers
 pub mod KillCalls
 pub mod Kills
 pub mod Killed
 pub mod KillStarts
+-- The names that are used most outside of this library.
+pub use Rattle.live_invariant.proofs.Numbers.{comp_is, one_of_many}

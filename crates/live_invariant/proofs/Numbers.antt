@@ -1,16 +1,12 @@
 -- Liveness numbers: what their words show, which are in the footprint of a call, and whose component lives under one.
-use Rattle.count_invariant.proofs.Common.{◌≡◌, ℕ, ◌^◌, ◌<◌, ◌==◌, ◌||◌, Bool, true, false, List, [], ◌∷◌, ◌++◌, Option, Some, None}
-use Rattle.count_invariant.proofs.Common.{IsTrue, refl, sym, ◌∙◌, ap, subst, flat_map, eqb-true, false≢true, Setting, IsSetting}
-use Rattle.count_invariant.proofs.Common.{live_of_word, LiveWord, Comp, Frame, Kernel, Liveness, Unused, Live, Dead, State, comp_in, fits}
-use Rattle.count_invariant.proofs.Common.{is_live_in, is_one_of, live_mark, IsLegal, Trace, state_after, state_is, run_of, after}
-use Rattle.count_invariant.proofs.Common.{events_of, Acquired, LiveAt, holds_counts, NumberIs}
-use Rattle.state_laws.specs.spk_nums.specs.declared.kinds.Kind.TheVariants as kind
-use Rattle.count_invariant.specs.frame_words.specs.declared.live_word.LiveWord.TheVariants as live_word
+use Rattle.count_invariant.specs.step_ways.proofs.{◌≡◌, ℕ, ◌^◌, ◌<◌, ◌==◌, ◌||◌, Bool, true, false, List, [], ◌∷◌, ◌++◌, Option, Some, None}
+use Rattle.count_invariant.specs.step_ways.proofs.{IsTrue, refl, sym, ◌∙◌, ap, subst, flat_map, eqb-true, false≢true, Setting, IsSetting}
+use Rattle.count_invariant.specs.step_ways.proofs.{live_of_word, LiveWord, Comp, Frame, Kernel, Liveness, Unused, Live, Dead, State}
+use Rattle.count_invariant.specs.step_ways.proofs.{comp_in, fits, is_live_in, is_one_of, live_mark, IsLegal, Trace, state_after, state_is}
+use Rattle.count_invariant.specs.step_ways.proofs.{run_of, after, events_of, Acquired, LiveAt, holds_counts, NumberIs, Kind}
+use Rattle.{count_invariant.specs.plan_ways.proofs.one_left, count_invariant.specs.plan_ways.proofs.one_right}
+use Rattle.{state_laws.specs.Lives.IsCompOf, state_laws.proofs.Lives.live_numbers_fit, state_laws.proofs.CompsApart.comps_apart}
 use Rattle.count_invariant.specs.frame_words.proofs.LiveLemmas as lives
-use Rattle.count_invariant.specs.plan_ways.proofs.InFootprint.{one_left, one_right}
-use Rattle.state_laws.specs.Lives.{IsCompOf}
-use Rattle.state_laws.proofs.Lives.{live_numbers_fit}
-use Rattle.state_laws.proofs.CompsApart.{comps_apart}
 
 -- No count is the word of a liveness number.
 pub no_number : (fate : Option (Option ℕ)) (xs : List Acquired) (l : ℕ) → (holds_counts fate xs).marks (LiveAt l) ≡ false
@@ -29,17 +25,17 @@ by_value v x is bare = let spells = lives.spelling.spells x v is in record {
 }
 
 pub spelled : (p : Liveness) (r x : ℕ) → NumberIs p r (live_of_word x) → IsSpelled x
-spelled Unused r x is = by_value live_word.Free x is refl
-spelled (Live e f) r x is = by_value (live_word.Live e f) x is refl
-spelled (Dead e) r x is = by_value (live_word.Dead e r) x is.says refl
+spelled Unused r x is = by_value LiveWord.Free x is refl
+spelled (Live e f) r x is = by_value (LiveWord.Live e f) x is refl
+spelled (Dead e) r x is = by_value (LiveWord.Dead e r) x is.says refl
 
 -- Whether a word shows a number live in an epoch.
 abbrev pub shows_live : Option LiveWord → ℕ → Bool
 shows_live None e = false
-shows_live (Some live_word.Free) e = false
-shows_live (Some (live_word.Live d f)) e = d == e
-shows_live (Some (live_word.Closing d by)) e = false
-shows_live (Some (live_word.Dead d stamp)) e = false
+shows_live (Some LiveWord.Free) e = false
+shows_live (Some (LiveWord.Live d f)) e = d == e
+shows_live (Some (LiveWord.Closing d by)) e = false
+shows_live (Some (LiveWord.Dead d stamp)) e = false
 
 pub lives_as_shown : (p : Liveness) (r e : ℕ) (o : Option LiveWord) → NumberIs p r o → is_live_in p e ≡ shows_live o e
 lives_as_shown Unused r e o is = ap (λ x. shows_live x e) (sym is)
@@ -56,18 +52,18 @@ shows_some (Dead d) r o is none = absurd (not_none _ (sym none ∙ is.says))
     not_none v h = cc
 
 -- One that shows it live is that of a number that lives.
-pub number_is : (p : Liveness) (r e f : ℕ) (o : Option LiveWord) → NumberIs p r o → o ≡ Some (live_word.Live e f) → p ≡ Live e f
+pub number_is : (p : Liveness) (r e f : ℕ) (o : Option LiveWord) → NumberIs p r o → o ≡ Some (LiveWord.Live e f) → p ≡ Live e f
 number_is Unused r e f o is shows = absurd (not_live (sym is ∙ shows))
   where
-    not_live : Some live_word.Free ≡ Some (live_word.Live e f) → ⊥
+    not_live : Some LiveWord.Free ≡ Some (LiveWord.Live e f) → ⊥
     not_live h = cc
 number_is (Live d g) r e f o is shows = same (sym is ∙ shows)
   where
-    same : Some (live_word.Live d g) ≡ Some (live_word.Live e f) → Live d g ≡ Live e f
+    same : Some (LiveWord.Live d g) ≡ Some (LiveWord.Live e f) → Live d g ≡ Live e f
     same h = cc
 number_is (Dead d) r e f o is shows = absurd (not_live (sym is.says ∙ shows))
   where
-    not_live : Some (live_word.Dead d r) ≡ Some (live_word.Live e f) → ⊥
+    not_live : Some (LiveWord.Dead d r) ≡ Some (LiveWord.Live e f) → ⊥
     not_live h = cc
 
 -- A number of a frame in the footprint is in it.
@@ -82,18 +78,18 @@ one_of_many g l f (x ∷ xs) is here = by (x == f) refl is (λ h. one_of_many g 
     by false same h rest = one_right l (g x) (flat_map g xs) (rest h)
 
 -- The component of a frame, and its number.
-pub comp_is : (x : Frame) → IsTrue (fits kind.Comp x) → x ≡ Kernel (Comp (comp_in x))
+pub comp_is : (x : Frame) → IsTrue (fits Kind.Comp x) → x ≡ Kernel (Comp (comp_in x))
 comp_is (Kernel (Comp k)) fit = refl
 comp_is _ fit = absurd (false≢true fit)
 
 -- Where a number lives in the epoch of a component that has it, it lives for this component.
 pub lives_for : (setup : Setting) → IsSetting setup → (t : Trace) → IsLegal setup t → (f l e g : ℕ)
-    → IsTrue (fits kind.Comp ((state_after setup t).frame f)) → (comp_in ((state_after setup t).frame f)).number ≡ l
+    → IsTrue (fits Kind.Comp ((state_after setup t).frame f)) → (comp_in ((state_after setup t).frame f)).number ≡ l
     → (comp_in ((state_after setup t).frame f)).epoch ≡ e → (state_after setup t).number l ≡ Live e g → g ≡ f
 lives_for setup setting t legal f l e g = subst Said (sym (state_is setup t)) said
   where
     Said : State → Type 0
-    Said s = IsTrue (fits kind.Comp (s.frame f)) → (comp_in (s.frame f)).number ≡ l → (comp_in (s.frame f)).epoch ≡ e
+    Said s = IsTrue (fits Kind.Comp (s.frame f)) → (comp_in (s.frame f)).number ≡ l → (comp_in (s.frame f)).epoch ≡ e
         → s.number l ≡ Live e g → g ≡ f
 
     said : Said (after setup (events_of t))

@@ -1,11 +1,8 @@
 -- Numbers that are drawn, and things drawn one after another.
-use Rattle.std.proofs.Common.{◌≡◌, ℕ, zero, suc, ◌+◌, ◌*◌, ◌/◌, ◌%◌, ◌^◌, ◌<◌, List, [], ◌∷◌}
-use Rattle.std.proofs.Common.{◌++◌, length, All, refl, sym, ap, ◌∙◌, arith, append_assoc}
-use Rattle.std.proofs.Math.Nat.{add-mul-mod_self_left, div-add-mod}
-use Rattle.std.proofs.lemmas.Nat.{mod_below}
-use Rattle.std.proofs.lemmas.List.{append-nil}
-use Rattle.std.proofs.lemmas.List.Elements.{All-nil, All-cons}
-use Rattle.load_maker.specs.Draws.{Draw, behind, below, repeated}
+use Rattle.std.proofs.Common.{◌≡◌, ℕ, zero, suc, ◌+◌, ◌*◌, ◌/◌, ◌%◌, ◌^◌, ◌<◌, List, [], ◌∷◌, ◌++◌, length, All, refl, sym, ap, ◌∙◌, arith}
+use Rattle.std.proofs.{Math.Nat.add-mul-mod_self_left, Math.Nat.div-add-mod, lemmas.Nat.mod_below, lemmas.List.Elements.All-nil}
+use Rattle.{std.proofs.Common.append_assoc, std.proofs.Common.append-nil, load_maker.specs.below, load_maker.specs.repeated}
+use Rattle.{std.proofs.lemmas.List.Elements.All-cons, load_maker.specs.Draws.Draw, load_maker.specs.Draws.behind}
 
 -- what is left of a sum is what is left of it where a part was cut before
 pub cut_before : (p q m : ℕ) → (p % m + q) % m ≡ (p + q) % m

@@ -1,27 +1,22 @@
 -- The script of every number is within the limits, and its text says it.
 use Rattle.std.proofs.Common.{◌≡◌, ℕ, ◌<◌, ◌≤◌, List, [], ◌∷◌, ◌++◌, length, All, Ok, refl, sym, subst, arith, inl, inr, length-append}
-use Rattle.std.proofs.lemmas.Bool.{cases_lt}
-use Rattle.std.proofs.lemmas.List.{get_or_past}
-use Rattle.std.proofs.lemmas.List.Elements.{All-append, All-from_recursion, All-get_or}
-use Rattle.spk_nums.specs.declared.calls.Make.{Make}
-use Rattle.spk_nums.specs.declared.calls.Make.TheVariants.{Tcap, Comp}
-use Rattle.spk_nums.specs.declared.calls.Call.{Call}
-use Rattle.spk_nums.specs.declared.calls.Call.TheVariants.{Copy, Make as make_call, Map, Flush, Tick}
-use Rattle.spk_nums.specs.declared.steps.Item.{Item}
-use Rattle.spk_nums.specs.CallLimits.{MakeInLimits, InLimits}
-use Rattle.spk_nums.specs.Setting.{GrantFits, IsSetting}
-use Rattle.script_tokens.specs.Words.{line_count}
-use Rattle.script_reader.specs.Readings.{Meaning, AtMost, BelowCores, script_of}
-use Rattle.script_printer.specs.Printing.{printed}
-use Rattle.script_printer.specs.Law.{IsMakeWithin, IsCallWithin, IsWithin, most_lines}
-use Rattle.script_printer.proofs.LineCounts.{few_lines}
-use Rattle.script_printer.proofs.PrintedLines.{printed_read}
-use Rattle.load_maker.specs.Draws.{Draw, below, done}
-use Rattle.load_maker.specs.Loads.{a_slot, a_frame, a_tcap, a_look, a_copy, a_remove, a_retype, a_make, a_map, an_unmap, a_touch}
-use Rattle.load_maker.specs.Loads.{a_tick, a_transfer, a_test, a_call, call_numbered, the_grant, the_setup, first_calls}
-use Rattle.load_maker.specs.Loads.{drawn_calls, drawn_lists, an_item, first_items, drawn_items, script_made, load_text}
-use Rattle.load_maker.specs.Accepted.{IsAccepted}
+use Rattle.load_maker.specs.{below, a_call, an_item, load_text}
+use Rattle.script_printer.specs.{printed, IsMakeWithin, IsCallWithin, IsWithin}
+use Rattle.script_reader.specs.{Meaning, AtMost, BelowCores, script_of}
+use Rattle.std.proofs.{lemmas.Bool.cases_lt, lemmas.List.get_or_past, lemmas.List.Elements.All-append}
+use Rattle.std.proofs.{lemmas.List.Elements.All-from_recursion, lemmas.List.Elements.All-get_or}
+use Rattle.spk_nums.specs.{declared.calls.Make.Make, declared.calls.Make.TheVariants.Tcap, declared.calls.Make.TheVariants.Comp}
+use Rattle.spk_nums.specs.{declared.calls.Call.Call, declared.calls.Call.TheVariants.Copy}
+use Rattle.spk_nums.specs.{declared.calls.Call.TheVariants.Make as make_call, declared.calls.Call.TheVariants.Map}
+use Rattle.spk_nums.specs.{declared.calls.Call.TheVariants.Flush, declared.calls.Call.TheVariants.Tick, declared.steps.Item.Item}
+use Rattle.spk_nums.specs.{CallLimits.MakeInLimits, CallLimits.InLimits, Setting.GrantFits, Setting.IsSetting}
+use Rattle.script_printer.proofs.{LineCounts.few_lines, PrintedLines.printed_read}
+use Rattle.load_maker.specs.{Draws.Draw, Draws.done, Loads.a_slot, Loads.a_frame, Loads.a_tcap, Loads.a_look, Loads.a_copy, Loads.a_remove}
+use Rattle.load_maker.specs.{Loads.a_retype, Loads.a_make, Loads.a_map, Loads.an_unmap, Loads.a_touch, Loads.a_tick, Loads.a_transfer}
+use Rattle.load_maker.specs.{Loads.a_test, Loads.call_numbered, Loads.the_grant, Loads.the_setup, Loads.first_calls, Loads.drawn_calls}
+use Rattle.load_maker.specs.{Loads.drawn_lists, Loads.first_items, Loads.drawn_items, Loads.script_made, Accepted.IsAccepted}
 use Rattle.load_maker.proofs.Repeats.{below_range, repeated_all, repeated_length}
+use Rattle.{script_reader.specs.script_tokens.specs.Words.line_count, script_printer.specs.Law.most_lines}
 
 -- ---- calls
 

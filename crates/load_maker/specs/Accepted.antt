@@ -1,9 +1,7 @@
 -- What holds of the script of every number.
 use Rattle.std.specs.Prelude.{◌≡◌, ℕ, All, Ok}
-use Rattle.spk_nums.specs.CallLimits.{InLimits}
-use Rattle.script_reader.specs.Readings.{AtMost, script_of}
-use Rattle.script_printer.specs.Law.{IsWithin}
-use Rattle.load_maker.specs.Loads.{script_made, load_text}
+use Rattle.{script_reader.specs.AtMost, script_reader.specs.script_of, spk_nums.specs.CallLimits.InLimits}
+use Rattle.{script_printer.specs.Law.IsWithin, load_maker.specs.Loads.script_made, load_maker.specs.Loads.load_text}
 
 -- the script of a number is within the limits, so is each of its calls, no list has more than 503 of them, and its text says it
 pub record IsAccepted (n : ℕ) : Type 0 where

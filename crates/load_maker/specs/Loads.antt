@@ -1,20 +1,14 @@
 -- The script of a number: four cores, 500 drawn calls of each, and an order of 6,000 drawn items.
 use Rattle.std.specs.Prelude.{ℕ, List, [], ◌∷◌, ◌++◌, ◌+◌, slice_index_or}
-use Rattle.spk_nums.specs.Rights.{both}
-use Rattle.spk_nums.specs.declared.kinds.FrameKind.{FrameKind}
 use Rattle.spk_nums.specs.declared.kinds.FrameKind.TheVariants.{Untyped, User, Kernel}
 use Rattle.spk_nums.specs.declared.calls.Make.TheVariants.{Leaf, Pleaf}
-use Rattle.spk_nums.specs.declared.calls.Call.{Call}
-use Rattle.spk_nums.specs.declared.calls.Call.TheVariants.{Look, Copy, Remove, Grow, Retype, Make as make_call}
-use Rattle.spk_nums.specs.declared.calls.Call.TheVariants.{Map, Unmap, Touch, Flush, Tick, Transfer, Test}
-use Rattle.spk_nums.specs.declared.grants.Grant.{Grant}
-use Rattle.spk_nums.specs.declared.steps.How.{How}
+use Rattle.spk_nums.specs.declared.calls.Call.TheVariants.{Look, Copy, Remove, Grow, Retype, Make as make_call, Map, Unmap, Touch, Flush}
+use Rattle.spk_nums.specs.declared.calls.Call.TheVariants.{Tick, Transfer, Test}
 use Rattle.spk_nums.specs.declared.steps.How.TheVariants.{One, Ready, Decide, Return}
-use Rattle.spk_nums.specs.declared.steps.Item.{Item}
-use Rattle.spk_nums.specs.Setting.{Setting}
-use Rattle.script_reader.specs.Readings.{Meaning}
-use Rattle.script_printer.specs.Printing.{printed}
 use Rattle.load_maker.specs.Draws.{Draw, below, done, ◌>>=◌, repeated}
+use Rattle.{spk_nums.specs.Rights.both, spk_nums.specs.declared.kinds.FrameKind.FrameKind, spk_nums.specs.declared.calls.Call.Call}
+use Rattle.{spk_nums.specs.declared.grants.Grant.Grant, spk_nums.specs.declared.steps.How.How, spk_nums.specs.declared.steps.Item.Item}
+use Rattle.{spk_nums.specs.Setting.Setting, script_reader.specs.Readings.Meaning, script_printer.specs.Printing.printed}
 
 -- ---- a call
 

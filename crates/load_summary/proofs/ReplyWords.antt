@@ -1,14 +1,12 @@
 -- Each reply has its number below 25, and the word of that number.
-use Rattle.std.proofs.Common.{◌≡◌, ℕ, suc, ◌<◌, cond, eqb, List, [], ◌∷◌, refl, sym, ap, ◌∙◌, arith, slice_index_or}
-use Rattle.std.specs.Prelude.{codes}
-use lib.Pointwise.{pointwise}
-use Rattle.spk_nums.specs.declared.replies.Reply.{Reply}
-use Rattle.spk_nums.specs.declared.replies.Reply.TheVariants.{Ok as ok_reply, NoSlot, Empty, WrongCap, Occupied, Quiescing}
-use Rattle.spk_nums.specs.declared.replies.Reply.TheVariants.{Unflushed, FrameKind as wrong_frame, OutOfRange, Referenced}
-use Rattle.spk_nums.specs.declared.replies.Reply.TheVariants.{NotEmpty, Dead, Deep, Bottom, Running, Short, Unlike}
-use Rattle.spk_nums.specs.declared.replies.Reply.TheVariants.{TooMany, Same, EpochsSpent, Raced, Busy, Fault, CallsSpent, NoRight}
+use Rattle.std.proofs.Common.{◌≡◌, ℕ, suc, ◌<◌, cond, eqb, List, [], ◌∷◌, refl, sym, ap, ◌∙◌, arith, slice_index_or, codes}
+use Rattle.spk_nums.specs.declared.replies.Reply.TheVariants.{Ok as ok_reply, NoSlot, Empty, WrongCap, Occupied, Quiescing, Unflushed}
+use Rattle.spk_nums.specs.declared.replies.Reply.TheVariants.{FrameKind as wrong_frame, OutOfRange, Referenced, NotEmpty, Dead, Deep}
+use Rattle.spk_nums.specs.declared.replies.Reply.TheVariants.{Bottom, Running, Short, Unlike, TooMany, Same, EpochsSpent, Raced, Busy}
+use Rattle.spk_nums.specs.declared.replies.Reply.TheVariants.{Fault, CallsSpent, NoRight}
 use Rattle.spk_nums.specs.Names.{reply_code, reply_word}
-use Rattle.load_summary.specs.Laws.{IsCounted}
+use Rattle.{spk_nums.specs.declared.replies.Reply.Reply, load_summary.specs.Laws.IsCounted}
+use lib.Pointwise.{pointwise}
 
 -- the words of the numbers, from 0 on
 unfoldable the_words : List (List ℕ)

@@ -1,12 +1,8 @@
 -- Decisions of one number, counted one after another.
-use Rattle.std.proofs.Common.{◌≡◌, ℕ, ◌+◌, ◌<◌, ◌≤◌, Bool, true, false, cond, eqb, List, [], ◌∷◌}
-use Rattle.std.proofs.Common.{◌++◌, length, get_or, take, sym, ap, subst, ◌∙◌, arith, length-append}
-use Rattle.std.proofs.lemmas.Bool.{eq-eqb, ne_eqb}
-use Rattle.std.proofs.lemmas.List.{append-nil}
-use Rattle.std.proofs.lemmas.List.Elements.{filter_more}
-use Rattle.spk_nums.specs.declared.replies.Decision.{Decision}
-use Rattle.spk_nums.specs.Names.{reply_code, reply_word}
-use Rattle.load_summary.specs.Summaries.{with_number}
+use Rattle.std.proofs.Common.{◌≡◌, ℕ, ◌+◌, ◌<◌, ◌≤◌, Bool, true, false, cond, eqb, List, [], ◌∷◌, ◌++◌, length, get_or, take, sym, ap}
+use Rattle.std.proofs.Common.{subst, ◌∙◌, arith, length-append, eq-eqb, ne_eqb, append-nil}
+use Rattle.spk_nums.specs.{declared.replies.Decision.Decision, Names.reply_code, Names.reply_word}
+use Rattle.{std.proofs.lemmas.List.Elements.filter_more, load_summary.specs.Summaries.with_number}
 
 -- so many decisions, the first with that word
 abbrev pub Tally : List ℕ → ℕ → List Decision → Type 0

@@ -1,21 +1,13 @@
 -- The counts of decisions, as a list of words and numbers.
-use Rattle.std.proofs.Common.{◌≡◌, ℕ, zero, suc, ◌+◌, ◌<◌, ◌≤◌, Bool, true, false, cond, eqb, List, [], ◌∷◌, ◌++◌, length}
-use Rattle.std.proofs.Common.{◌⊎◌, inl, inr, refl, sym, ap, subst, ◌∙◌, arith, append_assoc, All, Contains}
-use Rattle.std.specs.Prelude.{codes}
-use Rattle.std.specs.List.{sum_by}
-use Rattle.std.proofs.lemmas.Bool.{eq-eqb, ne_eqb, eqb-true, eqb-false}
-use Rattle.std.proofs.lemmas.List.{append-nil}
-use Rattle.std.proofs.lemmas.List.Elements.{All-nil, All-cons, All-append, All-head, Contains-append_left, Contains-append_right}
-use Rattle.std.proofs.lemmas.List.Elements.{filter_passes}
-use Rattle.std.proofs.lemmas.List.Sums.{sum_by-append}
-use Rattle.spk_nums.specs.declared.replies.Reply.{Reply}
-use Rattle.spk_nums.specs.declared.replies.Decision.{Decision}
-use Rattle.spk_nums.specs.Names.{reply_code, reply_word}
-use Rattle.spk_nums.specs.Texts.{with_one}
-use Rattle.script_printer.specs.Printing.{line}
+use Rattle.std.proofs.Common.{◌≡◌, ℕ, zero, suc, ◌+◌, ◌<◌, ◌≤◌, Bool, true, false, cond, eqb, List, [], ◌∷◌, ◌++◌, length, ◌⊎◌, inl, inr}
+use Rattle.std.proofs.Common.{refl, sym, ap, subst, ◌∙◌, arith, append_assoc, All, Contains, codes, sum_by, eq-eqb, ne_eqb, eqb-true}
+use Rattle.std.proofs.{lemmas.Bool.eqb-false, lemmas.List.Elements.All-nil, lemmas.List.Elements.All-cons, lemmas.List.Elements.All-append}
+use Rattle.std.proofs.{lemmas.List.Elements.All-head, lemmas.List.Elements.Contains-append_left, lemmas.List.Elements.Contains-append_right}
+use Rattle.spk_nums.specs.{declared.replies.Reply.Reply, declared.replies.Decision.Decision, Names.reply_code, Names.reply_word}
 use Rattle.load_summary.specs.Laws.{Count, IsCount, TellsEach, count_of, count_lines, how_often}
 use Rattle.load_summary.specs.Summaries.{counted, counts_below, counts_text, with_number}
-use Rattle.load_summary.proofs.ReplyWords.{counted_once}
+use Rattle.{std.proofs.Common.append-nil, std.proofs.lemmas.List.Elements.filter_passes, std.proofs.lemmas.List.Sums.sum_by-append}
+use Rattle.{spk_nums.specs.Texts.with_one, script_printer.specs.Printing.line, load_summary.proofs.ReplyWords.counted_once}
 
 same_or_not : (m n : ℕ) → (m ≡ n) ⊎ (m ≡ n → ⊥)
 same_or_not m n = by (eqb m n) refl where

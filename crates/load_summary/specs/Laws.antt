@@ -1,12 +1,7 @@
 -- What the text of counts tells, line by line.
-use Rattle.std.specs.Prelude.{◌≡◌, ℕ, ◌<◌, List, [], ◌∷◌, ◌++◌, codes, length, All, Contains}
-use Rattle.std.specs.List.{sum_by}
-use Rattle.spk_nums.specs.declared.replies.Reply.{Reply}
-use Rattle.spk_nums.specs.declared.replies.Decision.{Decision}
-use Rattle.spk_nums.specs.Names.{reply_code, reply_word}
-use Rattle.spk_nums.specs.Texts.{with_one}
-use Rattle.script_printer.specs.Printing.{line}
-use Rattle.load_summary.specs.Summaries.{with_number}
+use Rattle.std.specs.Prelude.{◌≡◌, ℕ, ◌<◌, List, [], ◌∷◌, ◌++◌, codes, length, All, Contains, sum_by}
+use Rattle.spk_nums.specs.{declared.replies.Reply.Reply, declared.replies.Decision.Decision, Names.reply_code, Names.reply_word}
+use Rattle.{spk_nums.specs.Texts.with_one, script_printer.specs.Printing.line, load_summary.specs.Summaries.with_number}
 
 -- how often a reply was decided that has the number of this one
 abbrev pub how_often : List Decision → Reply → ℕ

@@ -1,9 +1,6 @@
 -- The summary of calls: how often each reply came.
-use Rattle.std.specs.Prelude.{ℕ, zero, suc, ◌+◌, ◌==◌, List, [], ◌∷◌, ◌++◌, codes, length}
-use Rattle.std.specs.List.{filter}
-use Rattle.spk_nums.specs.declared.replies.Decision.{Decision}
-use Rattle.spk_nums.specs.Names.{reply_code, reply_word}
-use Rattle.spk_nums.specs.Texts.{with_one}
+use Rattle.std.specs.Prelude.{ℕ, zero, suc, ◌+◌, ◌==◌, List, [], ◌∷◌, ◌++◌, codes, length, filter}
+use Rattle.spk_nums.specs.{declared.replies.Decision.Decision, Names.reply_code, Names.reply_word, Texts.with_one}
 use Rattle.script_printer.specs.Printing.{line}
 
 -- the decisions whose reply has that number

@@ -1,38 +1,19 @@
 -- A machine that stands for a trace stands, after a step, for the trace with that step.
-use Rattle.std.proofs.Common.{◌≡◌, inl, inr, ℕ, ◌+◌, ◌<◌, ◌≤◌, ◌++◌, List, [], ◌∷◌, length, take, get_or, Option}
-use Rattle.std.proofs.Common.{Some, None, arith, refl, sym, ◌∙◌, ap, subst, get_or-set_same, get_or-set_other}
-use Rattle.std.specs.Prelude.{option_to_list, option_map}
-use Rattle.std.proofs.lemmas.Bool.{cases_eq}
-use Rattle.std.proofs.lemmas.List.{append-nil, length-take-le, take_more, take_all}
-use Rattle.std.proofs.lemmas.Option.{slice_get_cases}
-use Rattle.spk_nums.specs.declared.calls.Call.{Call}
-use Rattle.spk_nums.specs.Setting.{IsSetting}
-use Rattle.word_map.specs.Word.{Word}
-use Rattle.word_map.specs.Places.{Shape, IsShape, IsIn, place_of}
-use Rattle.word_map.specs.Moves.{word_of}
-use Rattle.word_map.proofs.PlaceLemmas.{has_places}
-use Rattle.boot_words.specs.kernel_rules.proofs.Within.{put_same, put_other}
-use Rattle.boot_words.specs.kernel_history.specs.Trace.{Step, Trace, phase, last_left, calls_of, decision_at, decisions_of}
-use Rattle.boot_words.specs.kernel_history.specs.Order.{IsIdle, MakesOne}
-use Rattle.boot_words.specs.kernel_history.proofs.Names.{cases_word}
-use Rattle.boot_words.specs.kernel_history.proofs.Steps.{calls_of-own, calls_of-other, last_left-here, last_left-there}
-use Rattle.boot_words.specs.kernel_history.specs.BootWords.{shape_of}
-use Rattle.call_steps.specs.call_stages.specs.View.{Core}
-use Rattle.call_steps.specs.call_stages.specs.Fits.{IsCore}
-use Rattle.call_steps.specs.call_stages.specs.Cores.{move_of}
-use Rattle.flight_laws.specs.flight.specs.Made.{turned, MayStep, core_after, cores_after, stepping_core, IsMadeStep}
-use Rattle.flight_laws.specs.flight.specs.Phases.{IsInPhase}
-use Rattle.flight_laws.specs.flight.proofs.Phases.{made_phases}
-use Rattle.flight_laws.specs.flight.proofs.Spelling.{moves_are_words}
-use Rattle.call_steps.specs.call_stages.specs.declared.stages.ActiveCall.{ActiveCall}
-use Rattle.lone_kernel.specs.declared.seats.Turn.{Turn}
-use Rattle.lone_kernel.specs.declared.seats.Turn.TheVariants.{Begins, GoesOn}
-use Rattle.lone_kernel.specs.Machine.{Machine, seat_at, core_at, list_at, turn_if, turn_at, IsFinished, IsFit}
-use Rattle.lone_kernel.specs.Machine.{CanTake, enters_as, core_in, begun_by, place_next, found_by, stepped, step_in}
-use Rattle.lone_kernel.specs.Stands.{StandsFor}
-use Rattle.lone_kernel.specs.Moves.{calls_begun, GoesFurther, MovesTo, StaysIdle, StepsOnce}
+use Rattle.flight_laws.specs.flight.proofs.{◌≡◌, inl, inr, ℕ, ◌+◌, ◌<◌, ◌≤◌, ◌++◌, List, [], ◌∷◌, length, take, get_or, Option, Some, None}
+use Rattle.flight_laws.specs.flight.proofs.{arith, refl, sym, ◌∙◌, ap, subst, option_to_list, option_map, append-nil, length-take-le}
+use Rattle.flight_laws.specs.flight.proofs.{take_more, take_all, Call, IsSetting, Word, Shape, IsIn, place_of, word_of, put_same, put_other}
+use Rattle.flight_laws.specs.flight.proofs.{Step, Trace, phase, last_left, calls_of, decision_at, IsIdle, cases_word, calls_of-own}
+use Rattle.flight_laws.specs.flight.proofs.{last_left-here, last_left-there, shape_of, Core, IsCore, move_of, turned, MayStep, cores_after}
+use Rattle.flight_laws.specs.flight.proofs.{stepping_core, made_phases, moves_are_words}
+use Rattle.lone_kernel.specs.{seat_at, core_at, list_at, turn_if, turn_at, IsFinished, IsFit, CanTake, core_in, begun_by, place_next}
+use Rattle.lone_kernel.specs.{found_by, stepped, StandsFor, calls_begun, GoesFurther, StepsOnce}
+use Rattle.boot_words.specs.kernel_history.proofs.{get_or-set_same, get_or-set_other, IsShape, has_places, decisions_of, calls_of-other}
+use Rattle.flight_laws.specs.flight.specs.{core_after, IsMadeStep, step_of}
+use Rattle.lone_kernel.specs.{declared.seats.Turn.Turn, declared.seats.Turn.TheVariants.Begins, declared.seats.Turn.TheVariants.GoesOn}
+use Rattle.lone_kernel.specs.{Machine.Machine, Machine.enters_as, Machine.step_in, Moves.MovesTo, Moves.StaysIdle}
 use Rattle.lone_kernel.proofs.Fits.{IsOf, is_of, seat_same, seat_there}
-use Rattle.flight_laws.specs.flight.specs.Made.{step_of}
+use Rattle.{std.proofs.lemmas.Bool.cases_eq, std.proofs.lemmas.Option.slice_get_cases, boot_words.specs.kernel_history.specs.Order.MakesOne}
+use Rattle.{flight_laws.specs.flight.specs.Phases.IsInPhase, call_steps.specs.call_stages.specs.declared.stages.ActiveCall.ActiveCall}
 
 may_step : (core : Core) (f : Turn) → CanTake f core → MayStep (enters_as f) core
 may_step core (Begins call) can = record { between = can.between; limits = can.limits }

@@ -1,24 +1,13 @@
 -- A machine that has just booted is fit, and stands for the empty trace.
-use Rattle.std.proofs.Common.{◌≡◌, inl, inr, ℕ, ◌+◌, ◌*◌, ◌<◌, ◌≤◌, ◌^◌, ◌++◌, List, [], ◌∷◌, length, get_or}
-use Rattle.std.proofs.Common.{map, suc, take, fold, arith, refl, sym, ◌∙◌, ap, subst, sum_by, Bool, true, false}
-use Rattle.std.specs.Prelude.{Some, None, Option}
-use Rattle.std.proofs.lemmas.Bool.{cases_eq, cases_lt}
-use Rattle.std.proofs.lemmas.List.{length-map, length-append, get_or-map, get_or_push, get_or_past, get_or_append_left}
-use Rattle.spk_nums.specs.declared.calls.Call.{Call}
-use Rattle.spk_nums.specs.declared.replies.Decision.{Decision}
-use Rattle.spk_nums.specs.Setting.{Setting}
-use Rattle.word_map.specs.Word.{Word}
-use Rattle.word_map.specs.Places.{IsIn, size_of}
-use Rattle.boot_words.specs.kernel_history.specs.BootWords.{boot_word, shape_of}
-use Rattle.boot_words.specs.kernel_history.specs.FinalWords.{word_in}
-use Rattle.call_steps.specs.call_stages.specs.View.{Core}
-use Rattle.call_steps.specs.call_stages.specs.Fits.{IsCore}
-use Rattle.call_steps.specs.call_stages.specs.Cores.{started}
-use Rattle.call_steps.specs.call_stages.specs.declared.stages.ActiveCall.{ActiveCall}
-use Rattle.lone_kernel.specs.declared.seats.Seat.{Seat}
-use Rattle.flight_laws.specs.flight.specs.Decided.{is_decided_at}
-use Rattle.lone_kernel.specs.Machine.{Machine, seat_at, core_at, list_at, fresh_seat, due_at, due_in, IsFit, IsFitSeat, AreLists, AreFresh}
-use Rattle.lone_kernel.specs.Stands.{StandsFor}
+use Rattle.flight_laws.specs.flight.specs.step_ways.proofs.{◌≡◌, inl, inr, ℕ, ◌+◌, ◌*◌, ◌<◌, ◌≤◌, ◌^◌, ◌++◌, List, [], ◌∷◌, length, get_or}
+use Rattle.flight_laws.specs.flight.specs.step_ways.proofs.{map, suc, take, arith, refl, sym, ◌∙◌, ap, subst, sum_by, Bool, true, false}
+use Rattle.flight_laws.specs.flight.specs.step_ways.proofs.{Some, None, Option, length-map, length-append, get_or-map, get_or_past, Call}
+use Rattle.flight_laws.specs.flight.specs.step_ways.proofs.{Decision, Setting, Word, IsIn, shape_of, word_in, Core, IsCore, started}
+use Rattle.lone_kernel.specs.{seat_at, core_at, list_at, fresh_seat, due_at, due_in, IsFit, IsFitSeat, AreLists, StandsFor}
+use Rattle.lone_kernel.specs.{declared.seats.Seat.Seat, Machine.Machine, Machine.AreFresh}
+use Rattle.{flight_laws.specs.flight.specs.step_ways.proofs.ActiveCall, std.proofs.lemmas.Bool.cases_eq, std.proofs.lemmas.Bool.cases_lt}
+use Rattle.{std.proofs.lemmas.List.get_or_push, std.proofs.lemmas.List.get_or_append_left, flight_laws.specs.core_invariant.specs.size_of}
+use Rattle.{flight_laws.specs.core_invariant.specs.boot_word, std.proofs.Common.fold, flight_laws.specs.flight.specs.Decided.is_decided_at}
 
 -- the seats so far, of the first n lists
 pub record AreFreshBelow (setup : Setting) (lists : List (List Call)) (n : ℕ) (seats : List Seat) : Type 0 where

@@ -1,19 +1,10 @@
 -- The words and ends that a machine leaves represent the state that its traces leave, and its count words the references.
-use Rattle.std.proofs.Common.{◌≡◌, ℕ, ◌<◌, List, [], ◌∷◌, length, get_or, map, None, arith, refl, sym, ◌∙◌, ap, zero, suc}
-use Rattle.spk_nums.specs.Setting.{Setting, IsSetting}
-use Rattle.boot_words.specs.kernel_history.specs.BootWords.{shape_of}
-use Rattle.boot_words.specs.kernel_history.specs.Counts.{RepresentCounts}
-use Rattle.boot_words.specs.kernel_history.specs.FinalWords.{Represent, word_in, end_in}
-use Rattle.boot_words.specs.kernel_history.specs.Trace.{Trace, state_after, last_left}
-use Rattle.call_steps.specs.call_stages.specs.Cores.{end_of}
-use Rattle.flight_laws.specs.core_invariant.proofs.Sounds.{limits_of}
-use Rattle.flight_laws.specs.flight.specs.Made.{cores_after}
-use Rattle.flight_laws.specs.flight.proofs.Final.{represents, represents_counts}
-use Rattle.flight_laws.specs.flight.proofs.Made.{made_stands}
-use Rattle.flight_laws.specs.flight.proofs.Alike.{like, like_counts}
-use Rattle.lone_kernel.specs.declared.seats.Seat.{Seat}
-use Rattle.lone_kernel.specs.Machine.{Machine, core_at, fresh_seat}
-use Rattle.lone_kernel.specs.Stands.{StandsFor}
+use Rattle.flight_laws.specs.flight.proofs.{◌≡◌, ℕ, ◌<◌, List, [], ◌∷◌, length, get_or, map, None, arith, refl, sym, ◌∙◌, ap, zero, suc}
+use Rattle.flight_laws.specs.flight.proofs.{Setting, IsSetting, shape_of, RepresentCounts, Represent, word_in, end_in, Trace, state_after}
+use Rattle.flight_laws.specs.flight.proofs.{last_left, end_of, limits_of, cores_after}
+use Rattle.lone_kernel.specs.{core_at, fresh_seat, StandsFor}
+use Rattle.flight_laws.specs.flight.proofs.{Final.represents, Final.represents_counts, Made.made_stands, Alike.like, Alike.like_counts}
+use Rattle.lone_kernel.specs.{declared.seats.Seat.Seat, Machine.Machine}
 
 -- the end of core c in the list of all
 end_at : (setup : Setting) (seats : List Seat) (c : ℕ) → c < length seats

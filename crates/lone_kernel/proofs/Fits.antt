@@ -1,34 +1,21 @@
 -- A machine that fits still does after a step, and has less to do.
-use Rattle.std.proofs.Common.{◌≡◌, ◌≢◌, inl, inr, ℕ, ◌+◌, ◌<◌, ◌≤◌, List, [], length, get_or, Option, Some}
-use Rattle.std.proofs.Common.{None, arith, refl, sym, ◌∙◌, ap, subst, false, get_or-set_same, get_or-set_other}
-use Rattle.std.specs.Prelude.{slice_set, sum_by, All, option_map, IsSome}
-use Rattle.std.proofs.lemmas.Bool.{cases_eq}
-use Rattle.std.proofs.lemmas.List.{length-set}
-use Rattle.std.proofs.lemmas.List.Sums.{sum_by-set}
-use Rattle.std.proofs.lemmas.Option.{slice_get_cases}
-use Rattle.spk_nums.specs.CallLimits.{InLimits}
-use Rattle.spk_nums.specs.declared.calls.Call.{Call}
-use Rattle.spk_nums.specs.Setting.{Setting}
-use Rattle.boot_words.specs.kernel_history.specs.Trace.{decision_at}
-use Rattle.call_steps.specs.call_stages.specs.View.{Core}
-use Rattle.call_steps.specs.call_stages.specs.Fits.{IsCore, steps_left}
-use Rattle.call_steps.specs.act_states.specs.declared.own.Own.{Own}
-use Rattle.call_steps.specs.act_states.specs.declared.own.OwnChange.TheVariants.{Ticks, GivesBack, Empties, Works, Caches, Switches}
-use Rattle.call_steps.specs.call_stages.specs.Cores.{core_after, told_by, absorbed, told_of_step, absorbed_in, told_in}
-use Rattle.flight_laws.specs.core_invariant.specs.Events.{decided_in}
-use Rattle.call_steps.specs.call_stages.specs.declared.stages.Absorbed.{Absorbed}
+use Rattle.flight_laws.specs.flight.specs.step_ways.proofs.{◌≡◌, ◌≢◌, inl, inr, ℕ, ◌+◌, ◌<◌, ◌≤◌, List, [], length, get_or, Option, Some}
+use Rattle.flight_laws.specs.flight.specs.step_ways.proofs.{None, arith, refl, sym, ◌∙◌, ap, subst, false, set as slice_set, sum_by, All}
+use Rattle.flight_laws.specs.flight.specs.step_ways.proofs.{option_map, IsSome, InLimits, Call, Setting, decision_at, Core, IsCore}
+use Rattle.flight_laws.specs.flight.specs.step_ways.proofs.{steps_left, Own, Works, core_after, told_by, absorbed, told_of_step}
+use Rattle.flight_laws.specs.flight.specs.step_ways.proofs.{absorbed_in, told_in, decided_in, Absorbed, ActiveCall, Took, GoesOn as TookOn}
+use Rattle.flight_laws.specs.flight.specs.step_ways.proofs.{Decides, Returns, Changes, took}
+use Rattle.lone_kernel.specs.{seat_at, core_at, list_at, fresh_seat, turn_if, turn_of, turn_at, due_at, due_in, IsFitSeat, IsFit, CanTake}
+use Rattle.lone_kernel.specs.{core_in, begun_by, decisions_in, said_by, seat_after, found_by, stepped, calls_begun, GoesFurther}
+use Rattle.std.proofs.Common.{get_or-set_same, get_or-set_other, length-set}
+use Rattle.flight_laws.specs.flight.specs.{is_decided_at, is_decided_in}
+use Rattle.std.proofs.{lemmas.Bool.cases_eq, lemmas.List.Sums.sum_by-set, lemmas.Option.slice_get_cases}
+use Rattle.call_steps.specs.act_states.specs.declared.own.OwnChange.TheVariants.{Ticks, GivesBack, Empties, Caches, Switches}
 use Rattle.call_steps.specs.call_stages.specs.declared.stages.Absorbed.TheVariants.{Going, Decided, Returned}
-use Rattle.call_steps.specs.call_stages.specs.declared.stages.ActiveCall.{ActiveCall}
-use Rattle.call_steps.specs.call_stages.specs.Steps.{Took, GoesOn as TookOn, Decides, Returns, Changes, took}
-use Rattle.lone_kernel.specs.declared.seats.Seat.{Seat}
-use Rattle.lone_kernel.specs.declared.seats.Turn.{Turn}
-use Rattle.lone_kernel.specs.declared.seats.Turn.TheVariants.{Begins, GoesOn}
-use Rattle.flight_laws.specs.flight.specs.Decided.{is_decided_at, is_decided_in, Turns}
-use Rattle.lone_kernel.specs.Machine.{Machine, seat_at, core_at, list_at, fresh_seat, turn_if, turn_of, turn_at, due_at, due_in}
-use Rattle.lone_kernel.specs.Machine.{IsFitSeat, IsFit, CanTake, core_in, begun_by, decisions_in, said_by, seat_after, found_by, stepped}
-use Rattle.lone_kernel.specs.Moves.{calls_begun, GoesFurther}
-use Rattle.flight_laws.specs.flight.proofs.Phases.{took_turns}
-use Rattle.lone_kernel.proofs.Small.{steps_small}
+use Rattle.lone_kernel.specs.{declared.seats.Seat.Seat, declared.seats.Turn.Turn, declared.seats.Turn.TheVariants.Begins}
+use Rattle.lone_kernel.specs.{declared.seats.Turn.TheVariants.GoesOn, Machine.Machine}
+use Rattle.{flight_laws.specs.flight.specs.Decided.Turns, flight_laws.specs.flight.proofs.Phases.took_turns}
+use Rattle.{lone_kernel.proofs.Small.steps_small}
 
 some_inj : {A : Type 0} (x y : A) → Some x ≡ Some y → x ≡ y
 some_inj x y h = cc

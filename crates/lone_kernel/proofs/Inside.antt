@@ -1,19 +1,11 @@
 -- How many steps a machine says that a core has made of its call: those of each trace for which it stands, and fewer than the bound.
-use Rattle.std.proofs.Common.{◌≡◌, ℕ, ◌<◌, Option, Some, None, IfSome, ◌↔◌, refl, sym, ap, subst, arith}
-use Rattle.spk_nums.specs.Setting.{Setting, IsSetting}
-use Rattle.boot_words.specs.kernel_history.specs.Trace.{Trace, steps_in_call}
-use Rattle.call_steps.specs.call_stages.specs.declared.stages.ActiveCall.{ActiveCall}
-use Rattle.call_steps.specs.call_stages.specs.declared.stages.Stage.{Stage}
-use Rattle.call_steps.specs.call_stages.specs.declared.stages.Stage.TheVariants.{Enter, Living, Undecided, Decided, Leave}
-use Rattle.call_steps.specs.call_stages.specs.Fits.{CallFits, left_at}
-use Rattle.call_steps.specs.call_stages.specs.act_states.specs.declared.own.Own.{Own}
-use Rattle.call_steps.specs.Stepping.{steps_made}
-use Rattle.flight_laws.specs.core_invariant.specs.Knows.{CallIs}
-use Rattle.flight_laws.specs.flight.specs.Made.{cores_after}
-use Rattle.flight_laws.specs.flight.proofs.Made.{made_stands}
-use Rattle.lone_kernel.specs.Machine.{Machine, core_at, IsFit}
-use Rattle.lone_kernel.specs.Stands.{StandsFor}
-use Rattle.lone_kernel.specs.Inside.{IsBelowBound}
+use Rattle.flight_laws.specs.flight.specs.kept_facts.proofs as low
+use low.{◌≡◌, ℕ, ◌<◌, Option, Some, None, IfSome, refl, sym, ap, subst, arith, Setting, IsSetting, Trace, ActiveCall, Stage, Enter, Living}
+use low.{Undecided, Decided, Leave, CallFits, Own, CallIs}
+use Rattle.{lone_kernel.specs.core_at, lone_kernel.specs.IsFit, lone_kernel.specs.StandsFor, std.proofs.Common.◌↔◌}
+use Rattle.{boot_words.specs.kernel_history.specs.Trace.steps_in_call, call_steps.specs.call_stages.specs.Fits.left_at}
+use Rattle.{call_steps.specs.Stepping.steps_made, flight_laws.specs.flight.specs.Made.cores_after}
+use Rattle.{flight_laws.specs.flight.proofs.Made.made_stands, lone_kernel.specs.Machine.Machine, lone_kernel.specs.Inside.IsBelowBound}
 
 -- none is said exactly of a core between calls
 pub between_only : (o : Option ActiveCall) → (steps_made o ≡ None) ↔ (o ≡ None)

@@ -1,43 +1,22 @@
 -- The steps by which a core takes an item, one after another: what is so far is said of each machine in which they are made.
-use Rattle.std.proofs.Common.{◌≡◌, ◌≢◌, inl, ℕ, ◌+◌, ◌<◌, ◌≤◌, ◌++◌, List, length, Option, Some, None, true, false}
-use Rattle.std.proofs.Common.{arith, refl, sym, ◌∙◌, ap, subst, get_or, Bool, set-set}
-use Rattle.std.specs.Prelude.{slice_set, sum_by, IsSome}
-use Rattle.std.proofs.lemmas.Bool.{false≢true}
-use Rattle.std.proofs.lemmas.List.{length-append}
-use Rattle.spk_nums.specs.Setting.{IsSetting}
-use Rattle.spk_nums.specs.declared.replies.Decision.{Decision}
-use Rattle.spk_nums.specs.declared.calls.Call.{Call}
-use Rattle.spk_nums.specs.declared.steps.How.{How}
-use Rattle.spk_nums.specs.declared.steps.How.TheVariants.{One, Ready, Decide, Return}
-use Rattle.word_map.specs.Places.{Shape}
-use Rattle.word_map.specs.Moves.{told_of}
-use Rattle.boot_words.specs.kernel_history.specs.Trace.{decision_at}
-use Rattle.boot_words.specs.kernel_history.specs.BootWords.{shape_of}
-use Rattle.call_steps.specs.act_states.specs.declared.own.Own.{Own}
-use Rattle.call_steps.specs.call_stages.specs.View.{Core}
-use Rattle.call_steps.specs.call_stages.specs.Fits.{IsCore, steps_left}
-use Rattle.call_steps.specs.call_stages.specs.Cores.{core_after, told_by, absorbed_in, told_in, ready_of, move_of, told_of_step}
-use Rattle.call_steps.specs.call_stages.specs.Steps.{Took, GoesOn as TookOn, Decides, Returns, Changes, took}
-use Rattle.call_steps.specs.call_stages.specs.declared.stages.ActiveCall.{ActiveCall}
-use Rattle.call_steps.specs.call_stages.specs.declared.stages.Absorbed.{Absorbed}
+use Rattle.flight_laws.specs.flight.specs.step_ways.proofs as low
+use low.{◌≡◌, ◌≢◌, inl, ℕ, ◌+◌, ◌<◌, ◌≤◌, ◌++◌, List, length, Option, Some, None, true, false, arith, refl, sym, ◌∙◌, ap, subst, get_or}
+use low.{Bool, set as slice_set, sum_by, IsSome, false≢true, length-append, IsSetting, Decision, Call, Shape, told_of, decision_at}
+use low.{shape_of, Own, Core, IsCore, steps_left, core_after, told_by, absorbed_in, told_in, move_of, told_of_step, Took, GoesOn as TookOn}
+use low.{Decides, Returns, Changes, took, ActiveCall, Absorbed, decided_in}
+use Rattle.lone_kernel.specs.{IsFit, seat_at, core_at, list_at, turn_at, turn_if, due_at, due_in, said_by, core_in, begun_by, seat_after}
+use Rattle.lone_kernel.specs.{found_by, stepped, IsFinished, IsInCall, IsThere, IsDone, place_next, GoesFurther, StepsOnce, IsAt}
+use Rattle.boot_words.specs.kernel_rules.specs.{How, One, Ready, Decide, Return}
 use Rattle.call_steps.specs.call_stages.specs.declared.stages.Absorbed.TheVariants.{Going, Decided, Returned}
-use Rattle.flight_laws.specs.core_invariant.specs.Events.{decided_in}
-use Rattle.flight_laws.specs.flight.specs.Decided.{is_decided_at, is_decided_in}
-use Rattle.flight_laws.specs.flight.proofs.Phases.{decided_is_ready}
-use Rattle.lone_kernel.specs.declared.seats.Seat.{Seat}
-use Rattle.lone_kernel.specs.declared.seats.Turn.{Turn}
-use Rattle.lone_kernel.specs.declared.seats.Turn.TheVariants.{Begins, GoesOn}
-use Rattle.lone_kernel.specs.Machine.{Machine, IsFit, seat_at, core_at, list_at, turn_at, turn_if, due_at, due_in, said_by}
-use Rattle.lone_kernel.specs.Machine.{core_in, begun_by, seat_after, found_by, stepped, IsFinished, IsInCall, IsThere, IsDone}
-use Rattle.lone_kernel.specs.Machine.{MakesTurn, TakesTurn, place_next}
-use Rattle.lone_kernel.specs.Moves.{GoesFurther, StepsOnce}
-use Rattle.lone_kernel.specs.Items.{is_over, placed, IsAt, TakesItem}
-use Rattle.lone_kernel.proofs.Advance.{one_step}
-use Rattle.lone_kernel.proofs.Fits.{Counts, counts_absorbed, same_in, turned_shape, undecided_turn, seat_same, fits_on, due_on, further}
-use Rattle.lone_kernel.proofs.Fits.{count_decided}
-use Rattle.lone_kernel.proofs.OneStep.{takes_turn}
-use Rattle.lone_kernel.proofs.Runs.{GoesShort, StaysOpen, Counted, short_none, short_more, open_first, open_after, there_at_last}
-use Rattle.lone_kernel.proofs.Runs.{counted_more, counted_last, undecided_false}
+use Rattle.lone_kernel.specs.{declared.seats.Seat.Seat, declared.seats.Turn.Turn, declared.seats.Turn.TheVariants.Begins}
+use Rattle.lone_kernel.specs.{declared.seats.Turn.TheVariants.GoesOn, Machine.Machine, Machine.MakesTurn, Machine.TakesTurn, Items.is_over}
+use Rattle.lone_kernel.proofs.{Advance.one_step, Fits.Counts, Fits.counts_absorbed, Fits.same_in, Fits.turned_shape, Fits.undecided_turn}
+use Rattle.lone_kernel.proofs.{Fits.seat_same, Fits.fits_on, Fits.due_on, Fits.further, Fits.count_decided, OneStep.takes_turn}
+use Rattle.lone_kernel.proofs.{Runs.GoesShort, Runs.StaysOpen, Runs.Counted, Runs.short_none, Runs.short_more, Runs.open_first}
+use Rattle.lone_kernel.proofs.{Runs.open_after, Runs.there_at_last, Runs.counted_more, Runs.counted_last, Runs.undecided_false}
+use Rattle.{flight_laws.specs.flight.specs.is_decided_at, flight_laws.specs.flight.specs.is_decided_in, std.proofs.Common.set-set}
+use Rattle.{call_steps.specs.call_stages.specs.Cores.ready_of, flight_laws.specs.flight.proofs.Phases.decided_is_ready}
+use Rattle.{lone_kernel.specs.Items.placed, lone_kernel.specs.Items.TakesItem}
 
 -- ---- a step of a core, and what it tells
 

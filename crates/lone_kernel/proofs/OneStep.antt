@@ -1,27 +1,14 @@
 -- One step of a core over a list of words.
-use Rattle.std.proofs.Common.{◌≡◌, ℕ, ◌-◌, ◌<◌, ◌++◌, List, [], length, map, Some, sym, ◌∙◌, ap, subst, arith, get_or}
-use Rattle.std.specs.Prelude.{slice_set, All}
-use Rattle.std.proofs.lemmas.List.{length-map, get_or-map, get_or_read}
-use Rattle.spk_nums.specs.Setting.{Setting}
-use Rattle.spk_nums.specs.CallLimits.{InLimits}
-use Rattle.spk_nums.specs.declared.calls.Call.{Call}
-use Rattle.spk_nums.specs.declared.replies.Decision.{Decision}
-use Rattle.spk_nums.specs.declared.steps.WordOp.{WordOp}
-use Rattle.word_map.specs.Places.{Shape}
-use Rattle.word_map.specs.Moves.{op_of, left_of, told_of}
-use Rattle.spk_nums.specs.WordSteps.{place_in, left_by, told_by}
-use Rattle.boot_words.specs.kernel_history.specs.Trace.{decision_at}
-use Rattle.call_steps.specs.call_stages.specs.View.{Core}
-use Rattle.flight_laws.specs.flight.proofs.ByPlace.{place_is, left_is, told_is}
-use Rattle.call_steps.specs.call_stages.specs.Fits.{IsCore, steps_left}
-use Rattle.call_steps.specs.call_stages.specs.Cores.{move_of, absorbed, told_of_step}
-use Rattle.boot_words.specs.kernel_history.specs.BootWords.{shape_of}
-use Rattle.flight_laws.specs.core_invariant.specs.Events.{decided_in}
-use Rattle.call_steps.specs.call_stages.specs.declared.stages.Absorbed.{Absorbed}
-use Rattle.lone_kernel.specs.declared.seats.Seat.{Seat}
-use Rattle.lone_kernel.specs.declared.seats.Turn.{Turn}
-use Rattle.lone_kernel.specs.Machine.{Machine, fresh_seat, seat_at, core_at, list_at, turn_of, turn_at, IsFit, IsFitSeat, core_in, begun_by}
-use Rattle.lone_kernel.specs.Machine.{decisions_in, place_next, words_after, said_by, seat_after, found_by, stepped, MakesTurn, TakesTurn}
+use Rattle.flight_laws.specs.flight.specs.step_ways.proofs.{◌≡◌, ℕ, ◌-◌, ◌<◌, ◌++◌, List, [], length, map, Some, sym, ◌∙◌, ap, subst, arith}
+use Rattle.flight_laws.specs.flight.specs.step_ways.proofs.{get_or, set as slice_set, All, length-map, get_or-map, Setting, InLimits, Call}
+use Rattle.flight_laws.specs.flight.specs.step_ways.proofs.{Decision, Shape, op_of, left_of, told_of, place_in, decision_at, Core, IsCore}
+use Rattle.flight_laws.specs.flight.specs.step_ways.proofs.{steps_left, move_of, absorbed, told_of_step, shape_of, decided_in, Absorbed}
+use Rattle.lone_kernel.specs.{fresh_seat, seat_at, core_at, list_at, turn_of, turn_at, IsFit, IsFitSeat, core_in, begun_by, decisions_in}
+use Rattle.lone_kernel.specs.{place_next, said_by, seat_after, found_by, stepped}
+use Rattle.flight_laws.specs.flight.proofs.{place_is, left_is}
+use Rattle.spk_nums.specs.{declared.steps.WordOp.WordOp, WordSteps.left_by, WordSteps.told_by}
+use Rattle.lone_kernel.specs.{declared.seats.Seat.Seat, declared.seats.Turn.Turn, Machine.Machine, Machine.words_after, Machine.MakesTurn}
+use Rattle.{std.proofs.lemmas.List.get_or_read, flight_laws.specs.flight.proofs.ByPlace.told_is, lone_kernel.specs.Machine.TakesTurn}
 
 pub makes_turn : (shape : Shape) (seat seat' : Seat) (before after : List ℕ) (said : Absorbed) (op : WordOp) (found told due : ℕ) →
     op ≡ op_of shape (move_of seat.state) → found ≡ get_or before (place_in op) 0

@@ -1,30 +1,19 @@
 -- Moves: steps of one core, one after another, until it is there.
-use Rattle.std.proofs.Common.{◌≡◌, ◌≢◌, ◌⊎◌, inl, inr, ℕ, ◌-◌, ◌<◌, ◌≤◌, ◌++◌, [], ◌∷◌, length}
-use Rattle.std.proofs.Common.{get_or, arith, refl, sym, ◌∙◌, ap, subst, true, false, Bool}
-use Rattle.std.specs.Prelude.{Option, Some, None, IsSome, IsFalse, option_map}
-use Rattle.std.proofs.lemmas.List.{length-take-le}
-use Rattle.std.proofs.lemmas.List.Elements.{All-cons, All-nil}
-use Rattle.std.proofs.lemmas.Option.{slice_get_cases}
-use Rattle.spk_nums.specs.declared.calls.Call.{Call}
-use Rattle.spk_nums.specs.declared.steps.How.{How}
-use Rattle.spk_nums.specs.declared.steps.How.TheVariants.{One, Ready, Decide, Return}
-use Rattle.spk_nums.specs.Setting.{Setting, IsSetting}
-use Rattle.boot_words.specs.kernel_rules.proofs.Within.{put_same}
-use Rattle.boot_words.specs.kernel_history.specs.Trace.{Step, Trace, calls_of}
-use Rattle.boot_words.specs.kernel_history.specs.Order.{IsIdle, AreOf, HaveNone, StaysUnready, Stretch}
-use Rattle.call_steps.specs.call_stages.specs.Fits.{left_for}
-use Rattle.call_steps.specs.call_stages.specs.View.{Core}
-use Rattle.call_steps.specs.call_stages.specs.Cores.{ready_of}
-use Rattle.flight_laws.specs.flight.specs.Decided.{is_decided_in}
-use Rattle.flight_laws.specs.flight.specs.Made.{turned, core_after, cores_after, stepping_core, ready_after}
-use Rattle.flight_laws.specs.flight.specs.Phases.{AreEvents}
-use Rattle.flight_laws.specs.flight.proofs.Phases.{made_events, decided_is_ready}
-use Rattle.call_steps.specs.call_stages.specs.declared.stages.ActiveCall.{ActiveCall}
-use Rattle.lone_kernel.specs.Machine.{Machine, seat_at, core_at, list_at, IsFinished, IsInCall, HasDecided, IsThere, IsDone, turn_if}
-use Rattle.lone_kernel.specs.Stands.{StandsFor}
-use Rattle.lone_kernel.specs.Moves.{StepsOnce, GoesBy, GoesFurther, work_in, work_at, calls_in, calls_left, calls_begun}
-use Rattle.lone_kernel.proofs.Advance.{phase_is}
-use Rattle.lone_kernel.specs.declared.seats.Turn.TheVariants.{Begins}
+use Rattle.flight_laws.specs.flight.proofs as low
+use low.{◌≡◌, ◌≢◌, ◌⊎◌, inl, inr, ℕ, ◌-◌, ◌<◌, ◌≤◌, ◌++◌, [], ◌∷◌, length, get_or, arith, refl, sym, ◌∙◌, ap, subst, true, false, Bool}
+use low.{Option, Some, None, IsSome, option_map, length-take-le, Call, Setting, IsSetting, put_same, Step, Trace, calls_of, IsIdle, Core}
+use Rattle.lone_kernel.specs.{seat_at, core_at, list_at, IsFinished, IsInCall, IsThere, IsDone, turn_if, StandsFor, StepsOnce, GoesBy}
+use Rattle.boot_words.specs.kernel_rules.specs.{IsFalse, How, One, Ready, Decide, Return}
+use Rattle.lone_kernel.specs.{Machine.Machine, Machine.HasDecided, Moves.work_in, Moves.work_at, Moves.calls_in}
+use low.{turned, cores_after, stepping_core, ready_after, Phases.made_events, Phases.decided_is_ready}
+use Rattle.{lone_kernel.specs.GoesFurther, lone_kernel.specs.calls_left, lone_kernel.specs.calls_begun}
+use Rattle.{flight_laws.specs.flight.specs.is_decided_in, flight_laws.specs.flight.specs.core_after}
+use Rattle.{flight_laws.specs.core_invariant.specs.ready_of, flight_laws.specs.core_invariant.specs.ActiveCall}
+use Rattle.{boot_words.specs.kernel_history.specs.AreOf, boot_words.specs.kernel_history.specs.Stretch}
+use Rattle.{std.proofs.lemmas.List.Elements.All-cons, std.proofs.lemmas.List.Elements.All-nil, std.proofs.lemmas.Option.slice_get_cases}
+use Rattle.{boot_words.specs.kernel_history.specs.Order.HaveNone, boot_words.specs.kernel_history.specs.Order.StaysUnready}
+use Rattle.{call_steps.specs.call_stages.specs.Fits.left_for, flight_laws.specs.flight.specs.Phases.AreEvents}
+use Rattle.{lone_kernel.specs.declared.seats.Turn.TheVariants.Begins, lone_kernel.proofs.Advance.phase_is}
 
 pub begins_in_call : (m : Machine) (c : ℕ) → IsInCall m c → IsFinished m c → ⊥
 begins_in_call m c inside none = of_call (core_at m c).active inside none where

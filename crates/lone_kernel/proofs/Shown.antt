@@ -1,34 +1,16 @@
 -- What a machine shows and tells of its steps is what its traces have.
-use Rattle.std.proofs.Common.{◌≡◌, ℕ, ◌<◌, List, ◌∷◌, get_or, Option, Some, map, sym, ◌∙◌, ap, subst, refl}
-use Rattle.spk_nums.specs.Setting.{Setting, IsSetting}
-use Rattle.spk_nums.specs.declared.calls.Call.{Call}
-use Rattle.spk_nums.specs.declared.replies.Decision.{Decision}
-use Rattle.spk_nums.specs.declared.steps.WordOp.{WordOp}
-use Rattle.spk_nums.specs.WordSteps.{place_in, left_by}
-use Rattle.word_map.specs.Places.{Shape, IsIn, place_of}
-use Rattle.word_map.specs.Moves.{Move, word_of, op_of, left_of}
-use Rattle.boot_words.specs.kernel_history.specs.Trace.{Trace}
-use Rattle.boot_words.specs.kernel_history.specs.BootWords.{shape_of}
-use Rattle.call_steps.specs.call_stages.specs.declared.stages.Absorbed.{Absorbed}
-use Rattle.flight_laws.specs.core_invariant.specs.Events.{decided_in, returned_in}
-use Rattle.flight_laws.specs.flight.specs.Made.{step_of}
-use Rattle.flight_laws.specs.flight.proofs.ByPlace.{place_is, left_is}
-use Rattle.step_views.specs.declared.names.WordName.{WordName}
-use Rattle.step_views.specs.declared.views.StepView.{StepView}
-use Rattle.step_views.specs.Names.{named}
-use Rattle.step_views.specs.Views.{IsShown}
-use Rattle.lone_kernel.specs.declared.seats.Seat.{Seat}
-use Rattle.lone_kernel.specs.declared.seats.Turn.{Turn}
-use Rattle.call_steps.specs.call_stages.specs.View.{Core}
-use Rattle.call_steps.specs.call_stages.specs.Fits.{IsCore}
-use Rattle.call_steps.specs.call_stages.specs.Cores.{move_of}
-use Rattle.lone_kernel.specs.Machine.{Machine, CanTake, core_in, seat_at, core_at, enters_as, turn_of, turn_at, found_by}
-use Rattle.lone_kernel.specs.Machine.{IsFit, step_in}
-use Rattle.lone_kernel.specs.Stands.{StandsFor}
-use Rattle.lone_kernel.specs.Shown.{IsNextView, ShowsNext, Steps, TellsStep}
-use Rattle.lone_kernel.proofs.OneStep.{seat_is, fit_here, calls_here, turn_here}
-use Rattle.lone_kernel.proofs.Fits.{turn_is}
-use Rattle.lone_kernel.proofs.Advance.{word_next, step_made, stands_on, not_idle}
+use Rattle.flight_laws.specs.flight.specs.step_ways.proofs as low
+use low.{◌≡◌, ℕ, ◌<◌, List, ◌∷◌, get_or, Option, Some, map, sym, ◌∙◌, ap, subst, refl, Setting, IsSetting, Call, Decision, place_in, Shape}
+use low.{IsIn, place_of, Move, word_of, op_of, left_of, Trace, shape_of, Absorbed, decided_in, returned_in, Core, IsCore, move_of}
+use Rattle.lone_kernel.specs.{CanTake, core_in, seat_at, core_at, turn_of, turn_at, found_by, IsFit, StandsFor}
+use Rattle.lone_kernel.specs.{declared.seats.Seat.Seat, declared.seats.Turn.Turn, Machine.Machine, Machine.enters_as, Machine.step_in}
+use Rattle.lone_kernel.specs.{Shown.IsNextView, Shown.ShowsNext, Shown.Steps, Shown.TellsStep}
+use Rattle.lone_kernel.proofs.{OneStep.seat_is, OneStep.fit_here, OneStep.calls_here, OneStep.turn_here, Fits.turn_is, Advance.word_next}
+use Rattle.lone_kernel.proofs.{Advance.step_made, Advance.stands_on, Advance.not_idle}
+use Rattle.{step_views.specs.named, step_views.specs.IsShown, flight_laws.specs.flight.proofs.place_is}
+use Rattle.{flight_laws.specs.flight.proofs.left_is, spk_nums.specs.declared.steps.WordOp.WordOp, spk_nums.specs.WordSteps.left_by}
+use Rattle.{flight_laws.specs.flight.specs.Made.step_of, step_views.specs.declared.names.WordName.WordName}
+use Rattle.{step_views.specs.declared.views.StepView.StepView}
 
 some_inj : {A : Type 0} (x y : A) → Some x ≡ Some y → x ≡ y
 some_inj x y h = cc

@@ -1,13 +1,7 @@
 -- The theorem on given steps.
-use Rattle.std.specs.Prelude.{◌≡◌, ℕ, List}
-use Rattle.spk_nums.specs.declared.calls.Call.{Call}
-use Rattle.spk_nums.specs.declared.steps.Item.{Item}
-use Rattle.spk_nums.specs.Setting.{Setting}
-use Rattle.boot_words.specs.kernel_history.specs.Trace.{Trace}
-use Rattle.boot_words.specs.kernel_history.specs.Order.{HasCalls, Follows}
-use Rattle.boot_words.specs.kernel_history.specs.Text.{text_of}
-use Rattle.flight_laws.specs.flight.specs.Made.{ready_after}
-use Rattle.flight_laws.specs.Histories.{IsHistory}
+use Rattle.flight_laws.specs.core_invariant.specs.{◌≡◌, ℕ, List, Call, Item, Setting, Trace, HasCalls, Follows}
+use Rattle.{boot_words.specs.kernel_history.specs.Text.text_of, flight_laws.specs.flight.specs.Made.ready_after}
+use Rattle.{flight_laws.specs.Histories.IsHistory}
 
 -- There is one trace that is a history of the machine, has the calls of the lists once and in order, follows the order, and whose
 -- text this is.

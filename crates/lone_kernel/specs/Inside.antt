@@ -1,7 +1,6 @@
 -- How far a core is inside its call.
-use Rattle.std.specs.Prelude.{ℕ, ◌<◌, Option, Some, None}
+use Rattle.flight_laws.specs.core_invariant.specs.{ℕ, ◌<◌, Option, Some, None, ActiveCall}
 use Rattle.spk_nums.specs.Bounds.{bound_of}
-use Rattle.call_steps.specs.call_stages.specs.declared.stages.ActiveCall.{ActiveCall}
 
 -- So many steps are fewer than the bound of the call in which a core is, on so many cores.
 abbrev pub IsBelowBound : ℕ → Option ActiveCall → ℕ → Type 0

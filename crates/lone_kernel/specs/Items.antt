@@ -1,17 +1,10 @@
 -- How a core takes an item of an order, by what its steps change: its seat, the words and the decisions.
-use Rattle.std.specs.Prelude.{◌≡◌, Bool, true, false, ℕ, ◌+◌, ◌<◌, List, length, slice_set, sum_by, Some}
-use Rattle.spk_nums.specs.Setting.{IsSetting}
-use Rattle.spk_nums.specs.declared.replies.Decision.{Decision}
-use Rattle.spk_nums.specs.declared.steps.How.{How}
-use Rattle.spk_nums.specs.declared.steps.How.TheVariants.{One, Ready, Decide, Return}
-use Rattle.call_steps.specs.call_stages.specs.View.{Core}
-use Rattle.call_steps.specs.call_stages.specs.Cores.{ready_of}
-use Rattle.call_steps.specs.call_stages.specs.declared.stages.Absorbed.{Absorbed}
+use Rattle.boot_words.specs.kernel_rules.specs.{◌≡◌, Bool, true, false, ℕ, ◌+◌, ◌<◌, List, length, set as slice_set, sum_by, Some}
+use Rattle.boot_words.specs.kernel_rules.specs.{IsSetting, Decision, How, One, Ready, Decide, Return}
+use Rattle.flight_laws.specs.core_invariant.specs.{Core, ready_of, Absorbed}
 use Rattle.call_steps.specs.call_stages.specs.declared.stages.Absorbed.TheVariants.{Going, Decided, Returned}
-use Rattle.lone_kernel.specs.declared.seats.Seat.{Seat}
-use Rattle.lone_kernel.specs.declared.seats.Turn.{Turn}
-use Rattle.lone_kernel.specs.Machine.{Machine, IsFit, seat_at, turn_at}
-use Rattle.lone_kernel.specs.Moves.{GoesBy, calls_left}
+use Rattle.lone_kernel.specs.{declared.seats.Seat.Seat, declared.seats.Turn.Turn, Machine.Machine, Machine.IsFit, Machine.seat_at}
+use Rattle.lone_kernel.specs.{Machine.turn_at, Moves.GoesBy, Moves.calls_left}
 
 -- Whether an item that takes a core this far is done with a step that has told this and left the core so.
 abbrev pub is_over : How → Absorbed → Core → Bool

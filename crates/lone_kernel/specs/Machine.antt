@@ -1,28 +1,14 @@
 -- What a machine for given orders is, and one step of a core.
-use Rattle.std.specs.Prelude.{◌≡◌, ◌≢◌, Bool, true, false, ℕ, ◌+◌, ◌-◌, ◌<◌, ◌≤◌, ◌^◌, List, [], ◌++◌, length, slice_get}
-use Rattle.std.specs.Prelude.{slice_index, slice_index_or, slice_set, Option, Some, None, option_map, All, IsSome}
-use Rattle.spk_nums.specs.CallLimits.{InLimits}
-use Rattle.spk_nums.specs.declared.calls.Call.{Call}
-use Rattle.spk_nums.specs.declared.replies.Decision.{Decision}
-use Rattle.spk_nums.specs.declared.steps.How.{How}
-use Rattle.spk_nums.specs.declared.steps.How.TheVariants.{One, Ready, Decide, Return}
-use Rattle.spk_nums.specs.Setting.{Setting}
-use Rattle.word_map.specs.Places.{Shape, place_of, size_of}
-use Rattle.word_map.specs.Moves.{word_of, left_of, told_of}
-use Rattle.boot_words.specs.kernel_history.specs.Trace.{Step, decision_at}
-use Rattle.call_steps.specs.call_stages.specs.View.{Core}
-use Rattle.call_steps.specs.call_stages.specs.Fits.{IsCore}
-use Rattle.call_steps.specs.call_stages.specs.Cores.{started, move_of, ready_of, absorbed, told_of_step}
-use Rattle.boot_words.specs.kernel_history.specs.BootWords.{shape_of}
-use Rattle.flight_laws.specs.flight.specs.Decided.{is_decided_at, is_decided_in}
-use Rattle.flight_laws.specs.flight.specs.Made.{turned, step_of}
-use Rattle.flight_laws.specs.core_invariant.specs.Events.{decided_in}
-use Rattle.call_steps.specs.call_stages.specs.declared.stages.Absorbed.{Absorbed}
+use Rattle.flight_laws.specs.core_invariant.specs.{◌≡◌, ◌≢◌, Bool, true, false, ℕ, ◌+◌, ◌-◌, ◌<◌, ◌≤◌, ◌^◌, List, [], ◌++◌, length}
+use Rattle.flight_laws.specs.core_invariant.specs.{slice_get, slice_index, get_or as slice_index_or, set as slice_set, Option, Some, None}
+use Rattle.flight_laws.specs.core_invariant.specs.{option_map, All, IsSome, InLimits, Call, Decision, How, Setting, Shape, place_of}
+use Rattle.flight_laws.specs.core_invariant.specs.{size_of, word_of, left_of, told_of, Step, decision_at, Core, IsCore, started, move_of}
+use Rattle.flight_laws.specs.core_invariant.specs.{ready_of, absorbed, told_of_step, shape_of, decided_in, Absorbed, ActiveCall}
+use Rattle.flight_laws.specs.flight.specs.{is_decided_at, is_decided_in, turned, step_of}
+use Rattle.boot_words.specs.kernel_rules.specs.{One, Ready, Decide, Return}
 use Rattle.call_steps.specs.call_stages.specs.declared.stages.Absorbed.TheVariants.{Going, Decided, Returned}
-use Rattle.call_steps.specs.call_stages.specs.declared.stages.ActiveCall.{ActiveCall}
-use Rattle.lone_kernel.specs.declared.seats.Seat.{Seat}
-use Rattle.lone_kernel.specs.declared.seats.Turn.{Turn}
-use Rattle.lone_kernel.specs.declared.seats.Turn.TheVariants.{Begins, GoesOn}
+use Rattle.lone_kernel.specs.{declared.seats.Seat.Seat, declared.seats.Turn.Turn, declared.seats.Turn.TheVariants.Begins}
+use Rattle.lone_kernel.specs.{declared.seats.Turn.TheVariants.GoesOn}
 
 -- A machine: its setup, its words, each core's list of calls, where each core stands, and the decisions in order.
 pub record Machine : Type 0 where

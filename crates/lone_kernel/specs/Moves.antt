@@ -1,16 +1,11 @@
 -- How the moves of a machine extend each trace for which it stood.
-use Rattle.std.specs.Prelude.{◌≡◌, ◌≢◌, false, ℕ, ◌+◌, ◌-◌, ◌*◌, ◌<◌, ◌≤◌, length, Option, Some, None}
-use Rattle.spk_nums.specs.declared.steps.How.{How}
-use Rattle.boot_words.specs.kernel_history.specs.Trace.{Trace}
-use Rattle.boot_words.specs.kernel_history.specs.Order.{IsIdle, MakesOne, Stretch}
-use Rattle.lone_kernel.specs.declared.lone.Moved.{Moved}
-use Rattle.lone_kernel.specs.declared.lone.Moved.TheVariants.{Idle, Went}
-use Rattle.flight_laws.specs.flight.specs.Decided.{is_decided_in}
-use Rattle.call_steps.specs.call_stages.specs.Fits.{steps_left, left_of}
-use Rattle.flight_laws.specs.flight.specs.Made.{ready_after}
-use Rattle.call_steps.specs.call_stages.specs.declared.stages.ActiveCall.{ActiveCall}
-use Rattle.lone_kernel.specs.Machine.{Machine, core_at, seat_at, list_at}
-use Rattle.lone_kernel.specs.Stands.{StandsFor}
+use Rattle.flight_laws.specs.core_invariant.specs.{◌≡◌, ◌≢◌, false, ℕ, ◌+◌, ◌-◌, ◌*◌, ◌<◌, ◌≤◌, length, Option, Some, None, How, Trace}
+use Rattle.flight_laws.specs.core_invariant.specs.{IsIdle, steps_left, ActiveCall}
+use Rattle.flight_laws.specs.flight.specs.{is_decided_in, ready_after}
+use Rattle.boot_words.specs.kernel_history.specs.{MakesOne, Stretch}
+use Rattle.call_steps.specs.call_stages.specs.Fits.{left_of}
+use Rattle.lone_kernel.specs.{declared.lone.Moved.Moved, declared.lone.Moved.TheVariants.Idle, declared.lone.Moved.TheVariants.Went}
+use Rattle.lone_kernel.specs.{Machine.Machine, Machine.core_at, Machine.seat_at, Machine.list_at, Stands.StandsFor}
 
 -- Core c was not idle after t, and the machine goes on to a trace that is as said.
 pub record MovesTo (m m' : Machine) (c : ℕ) (t : Trace) (Is : Trace → Type 0) : Type 0 where

@@ -1,19 +1,11 @@
 -- What a machine shows of the step that a core makes next, and tells of one that it has made.
-use Rattle.std.specs.Prelude.{◌≡◌, ℕ, List, ◌∷◌, slice_index, Option, Some, None}
-use Rattle.word_map.specs.Places.{Shape}
-use Rattle.boot_words.specs.kernel_history.specs.Trace.{Step, Trace}
-use Rattle.boot_words.specs.kernel_history.specs.Order.{IsIdle}
-use Rattle.boot_words.specs.kernel_history.specs.BootWords.{shape_of}
-use Rattle.call_steps.specs.call_stages.specs.declared.stages.Absorbed.{Absorbed}
-use Rattle.flight_laws.specs.flight.specs.Made.{IsMadeStep, step_of}
-use Rattle.step_views.specs.declared.views.StepMade.{StepMade}
-use Rattle.step_views.specs.declared.views.StepView.{StepView}
-use Rattle.step_views.specs.Views.{IsShown, IsTold}
-use Rattle.lone_kernel.specs.declared.seats.Seat.{Seat}
-use Rattle.lone_kernel.specs.declared.seats.Turn.{Turn}
-use Rattle.lone_kernel.specs.Machine.{Machine, core_at, turn_at, core_in, enters_as, place_next, said_by, found_by, stepped, step_in}
-use Rattle.lone_kernel.specs.Stands.{StandsFor}
-use Rattle.lone_kernel.specs.Moves.{StaysIdle}
+use Rattle.flight_laws.specs.core_invariant.specs.{◌≡◌, ℕ, List, ◌∷◌, slice_index, Option, Some, None, Shape, Step, Trace, IsIdle, shape_of}
+use Rattle.flight_laws.specs.core_invariant.specs.{Absorbed}
+use Rattle.flight_laws.specs.flight.specs.{IsMadeStep, step_of}
+use Rattle.step_views.specs.{IsShown, IsTold, declared.views.StepMade.StepMade, declared.views.StepView.StepView}
+use Rattle.lone_kernel.specs.{declared.seats.Seat.Seat, declared.seats.Turn.Turn, Machine.Machine, Machine.core_at, Machine.turn_at}
+use Rattle.lone_kernel.specs.{Machine.core_in, Machine.enters_as, Machine.place_next, Machine.said_by, Machine.found_by, Machine.stepped}
+use Rattle.lone_kernel.specs.{Machine.step_in, Stands.StandsFor, Moves.StaysIdle}
 
 -- The view shows the step of a seat's core at this turn, over these words.
 abbrev pub IsNextView : Shape → Seat → Turn → List ℕ → StepView → Type 0

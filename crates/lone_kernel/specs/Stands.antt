@@ -1,10 +1,7 @@
 -- When a machine stands for a trace.
-use Rattle.std.specs.Prelude.{◌≡◌, ℕ, ◌<◌, take, slice_index}
-use Rattle.word_map.specs.Word.{Word}
-use Rattle.word_map.specs.Places.{IsIn, place_of}
-use Rattle.boot_words.specs.kernel_history.specs.Trace.{Trace, last_left, calls_of, decisions_of}
-use Rattle.boot_words.specs.kernel_history.specs.BootWords.{shape_of}
-use Rattle.flight_laws.specs.flight.specs.Made.{cores_after, IsMade}
+use Rattle.flight_laws.specs.core_invariant.specs.{◌≡◌, ℕ, ◌<◌, take, slice_index, Word, IsIn, place_of, Trace, last_left, calls_of}
+use Rattle.flight_laws.specs.core_invariant.specs.{decisions_of, shape_of}
+use Rattle.flight_laws.specs.flight.specs.{cores_after, IsMade}
 use Rattle.lone_kernel.specs.Machine.{Machine, core_at, seat_at, list_at}
 
 -- The machine stands for the trace: each step of it is the step machine's, its cores are where the trace brings them, its words are

@@ -1,6 +1,6 @@
 -- What a function gives of the numbers that are left.
-use Rattle.std.proofs.Common.{◌≡◌, ℕ, suc, ◌+◌, ◌-◌, ◌<◌, ap, ◌∙◌, arith, [], ◌∷◌, Option, Some, None}
-use Rattle.std.specs.List.{filter_map, range_with_len, cons_option}
+use Rattle.std.proofs.Common.{◌≡◌, ℕ, suc, ◌+◌, ◌-◌, ◌<◌, ap, ◌∙◌, arith, [], ◌∷◌, Option, Some, None, filter_map}
+use Rattle.std.specs.List.{range_with_len, cons_option}
 
 module _ {X : Type 0} (h : ℕ → Option X) where
   -- nothing is left at the end

@@ -1,14 +1,10 @@
 -- What is left of each list of an image, after its first number.
 use Rattle.std.proofs.Common.{◌≡◌, ℕ, ◌+◌, ◌<◌, ap, sym, subst, List, [], ◌∷◌, Option, Some, None}
-use Rattle.spk_nums.specs.Capability.{Capability}
-use Rattle.frame_words.specs.Count.{count_of_word}
-use Rattle.frame_words.specs.declared.count_word.CountWord.{CountWord}
-use Rattle.tcap_words.specs.Quality.{quality_of_word}
-use Rattle.tcap_words.specs.Stack.{stack_of_word}
-use Rattle.word_map.specs.Word.{EntryAt, CountAt}
-use Rattle.word_map.specs.Places.{Shape}
+use Rattle.word_map.specs.{EntryAt, CountAt, Shape}
 use Rattle.machine_image.specs.Views.{word_at, under, numbered, held_from, counts_from, stacked, stack_from, listed, pairs_from}
 use Rattle.machine_image.proofs.Left.{none_left, passes, gives}
+use Rattle.{tcap_words.specs.quality_of_word, tcap_words.specs.stack_of_word, spk_nums.specs.Capability.Capability}
+use Rattle.{frame_words.specs.Count.count_of_word, frame_words.specs.declared.count_word.CountWord.CountWord}
 
 module _ (shape : Shape) (words : List ℕ) (f : ℕ) where
   pub held_ends : (n : ℕ) → n ≡ 4096 → held_from shape words f n ≡ []

@@ -1,25 +1,14 @@
 -- What the words of a machine and the ends of its cores say, part by part.
-use Rattle.std.specs.Prelude.{ℕ, ◌≡◌, ◌+◌, ◌-◌, ◌*◌, ◌/◌, ◌%◌, Bool, true, false, nat_lt, ◌&&◌, if◌then◌else◌}
-use Rattle.std.specs.Prelude.{List, length, take, drop, Option, Some, None, slice_index}
-use Rattle.std.specs.List.{filter_map, range_with_len}
-use Rattle.spk_nums.specs.Capability.{Capability}
-use Rattle.spk_nums.specs.declared.kinds.Kind.{Kind}
-use Rattle.spk_nums.specs.declared.kinds.Kind.TheVariants as kind
-use Rattle.spk_nums.specs.declared.translations.CoreEnd.{CoreEnd}
-use Rattle.entry_words.specs.EntryWord.{entry_of_word}
-use Rattle.entry_words.specs.declared.entry.Entry.{Entry}
-use Rattle.entry_words.specs.declared.entry.Entry.TheVariants as entry
-use Rattle.frame_words.specs.Comp.{comp_of_word}
-use Rattle.frame_words.specs.Count.{count_of_word}
-use Rattle.frame_words.specs.declared.comp_word.CompWord.{CompWord}
-use Rattle.frame_words.specs.declared.count_word.CountWord.{CountWord}
-use Rattle.tcap_words.specs.Quality.{quality_of_word}
-use Rattle.tcap_words.specs.Stack.{stack_of_word}
-use Rattle.tcap_words.specs.declared.quality_word.QualityWord.{QualityWord}
-use Rattle.tcap_words.specs.declared.stack_word.StackWord.{StackWord}
-use Rattle.machine_image.specs.declared.image.Component.{Component}
-use Rattle.word_map.specs.Word.{Word, EntryAt, CountAt}
-use Rattle.word_map.specs.Places.{Shape, IsShape, place_of, size_of}
+use Rattle.std.specs.Prelude.{ℕ, ◌≡◌, ◌+◌, ◌-◌, ◌*◌, ◌/◌, ◌%◌, Bool, true, false, nat_lt, ◌&&◌, if◌then◌else◌, List, length, take, drop}
+use Rattle.std.specs.Prelude.{Option, Some, None, slice_index, filter_map}
+use Rattle.word_map.specs.{EntryAt, CountAt, Shape, IsShape, place_of, size_of}
+use Rattle.tcap_words.specs.{quality_of_word, stack_of_word}
+use Rattle.frame_words.specs.{comp_of_word, count_of_word}
+use Rattle.spk_nums.specs.{Capability.Capability, declared.kinds.Kind.Kind, declared.translations.CoreEnd.CoreEnd}
+use Rattle.entry_words.specs.{EntryWord.entry_of_word, declared.entry.Entry.Entry}
+use Rattle.frame_words.specs.{declared.comp_word.CompWord.CompWord, declared.count_word.CountWord.CountWord}
+use Rattle.tcap_words.specs.{declared.quality_word.QualityWord.QualityWord, declared.stack_word.StackWord.StackWord}
+use Rattle.{std.specs.List.range_with_len, word_map.specs.Word.Word, machine_image.specs.declared.image.Component.Component}
 
 -- The machine's layout, its words by their places, and the ends of its cores.
 pub record ImageOf : Type 0 where
@@ -44,10 +33,10 @@ node_words words f = take 64 (drop (64 * f) words)
 -- The capability that an entry holds; none where it is free, closing or quiescing, or no entry at all.
 abbrev pub held_by : Option Entry → Option Capability
 held_by None = None
-held_by (Some entry.Free) = None
-held_by (Some (entry.Held k)) = Some k
-held_by (Some (entry.Closing by)) = None
-held_by (Some (entry.Quiescing stamp)) = None
+held_by (Some Entry.Free) = None
+held_by (Some (Entry.Held k)) = Some k
+held_by (Some (Entry.Closing by)) = None
+held_by (Some (Entry.Quiescing stamp)) = None
 
 -- The capability that the entry i of the node in frame f holds.
 abbrev pub held_at : Shape → List ℕ → ℕ → ℕ → Option Capability
@@ -55,17 +44,17 @@ held_at shape words f i = held_by (entry_of_word (word_at shape words (EntryAt f
 
 -- Whether this is the kind of a root's entry.
 abbrev pub is_link : Kind → Bool
-is_link kind.Range = false
-is_link kind.Table = false
-is_link kind.Leaf = false
-is_link kind.Pages = false
-is_link kind.Pleaf = false
-is_link kind.Comp = false
-is_link kind.Gate = false
-is_link kind.Thread = false
-is_link kind.Tcap = false
-is_link kind.Link = true
-is_link kind.Page = false
+is_link Kind.Range = false
+is_link Kind.Table = false
+is_link Kind.Leaf = false
+is_link Kind.Pages = false
+is_link Kind.Pleaf = false
+is_link Kind.Comp = false
+is_link Kind.Gate = false
+is_link Kind.Thread = false
+is_link Kind.Tcap = false
+is_link Kind.Link = true
+is_link Kind.Page = false
 
 -- The frame of the leaf to which a root's entry links, where it links to a frame of the machine.
 abbrev pub leaf_of : ℕ → Option Capability → Option ℕ

@@ -1,32 +1,14 @@
 -- Few calls change how the words of frames are read for marks.
-use Rattle.std.proofs.Common.{◌≡◌, ◌≢◌, ◌⊎◌, inl, inr, ℕ, ◌-◌, ◌+◌, true, false, List, ◌∷◌, drop, Option, Some, None, IsTrue, refl, sym}
-use Rattle.std.proofs.Common.{◌∙◌, ap}
-use Rattle.std.proofs.lemmas.Bool.{cases_eq, true≢false, false≢true}
-use Rattle.spk_nums.specs.Capability.{Capability}
-use Rattle.spk_nums.specs.declared.calls.Make.{Make}
-use Rattle.spk_nums.specs.declared.calls.Make.TheVariants as make
-use Rattle.spk_nums.specs.declared.calls.Call.{Call}
-use Rattle.spk_nums.specs.declared.calls.Call.TheVariants as call
-use Rattle.spk_nums.specs.declared.replies.Reply.{Reply}
-use Rattle.spk_nums.specs.declared.replies.Reply.TheVariants as reply
-use Rattle.spk_nums.specs.declared.translations.Translation.{Translation}
-use Rattle.kernel_rules.specs.State.{Place, Free, Holds, Quiescing, ThreadFields, TcapFields, Object, Table, Leaf, Pages, Pleaf, Thread}
-use Rattle.kernel_rules.specs.State.{Tcap, Frame, Kernel, State, put, comp_of, thread_in, thread_of}
-use Rattle.kernel_rules.specs.Relies.{is_node}
-use Rattle.kernel_rules.specs.Rules.{Change, Rule, Judged, Refused, Found}
-use Rattle.kernel_rules.specs.Access.{Named, found}
-use Rattle.kernel_rules.specs.CapabilityCalls.{make_rule}
-use Rattle.kernel_rules.specs.Edits.{with_thread, with_stack, running, tcap_at, with_tcap, with_budget, with_qualities, moved}
-use Rattle.kernel_rules.specs.MemoryCalls.{touch_by, translation_of}
-use Rattle.kernel_rules.specs.InvocationCalls.{switch_to}
-use Rattle.kernel_rules.specs.TimeCalls.{merged_list}
-use Rattle.kernel_rules.specs.CallRelation.{rule_of, change_of, changed, owed_by, state_by}
-use Rattle.kernel_rules.proofs.Changes.{AllChanges, IfFound, outcome_all}
-use Rattle.kernel_rules.proofs.Within.{put_same, put_other}
-use Rattle.kernel_invariant.proofs.Sound.{put_all}
-use Rattle.kernel_history.specs.Marks.{mark_in_frame}
-use Rattle.kernel_history.specs.Discipline.{changes_frames}
+use Rattle.kernel_invariant.specs.kernel_rules.proofs as low
+use low.{◌≡◌, ◌≢◌, ◌⊎◌, inl, inr, ℕ, ◌-◌, ◌+◌, true, false, List, ◌∷◌, drop, Option, Some, None, IsTrue, refl, sym, ◌∙◌, ap, true≢false}
+use low.{false≢true, Capability, Make, Call, Reply, Translation, Place, Free, Holds, Quiescing, ThreadFields, TcapFields, Object, Table}
+use low.{Leaf, Pages, Pleaf, Thread, Tcap, Frame, Kernel, put, comp_of, thread_in, thread_of, is_node, Change, Rule, Judged, Refused, Found}
+use low.{Named, found, make_rule, with_thread, with_stack, running, tcap_at, with_tcap, with_budget, with_qualities, moved, touch_by}
+use low.{translation_of, switch_to, merged_list, rule_of, change_of, changed, owed_by, state_by, AllChanges, IfFound, outcome_all, put_same}
+use Rattle.kernel_history.specs.{State, mark_in_frame, changes_frames}
 use Rattle.mark_kinds.specs.Reads.{ReadAlike, KindsStay, NodesStay}
+use low.{put_other}
+use Rattle.{std.proofs.lemmas.Bool.cases_eq, kernel_invariant.proofs.Sound.put_all}
 
 -- A frame with another thread in place of its own, or another temporal capability, is read as before.
 thread_alike : (x : Frame) (u : ThreadFields) (i v : ℕ) → mark_in_frame (with_thread x u) i v ≡ mark_in_frame x i v
@@ -75,33 +57,33 @@ switch_all s c h q (Some e) = λ f i v.
     running_alike (running s (s.core c).thread None) h.frame (Some c) f i v ∙ running_alike s (s.core c).thread None f i v
 
 all_alike : (s : State) (c : ℕ) (what : Call) → changes_frames what ≡ false → AllAlike s c (rule_of s c what)
-all_alike s c (call.Look a) stays = λ k f i v. refl
-all_alike s c (call.Copy a t b rights) stays = λ k table at f i v. refl
-all_alike s c (call.Remove t b) stays = λ table at k f i v. refl
-all_alike s c (call.Grow t j l) stays = λ table leaf at f i v. refl
-all_alike s c (call.Shrink t j) stays = λ table at k f i v. refl
-all_alike s c (call.Retype r g k) stays = absurd (true≢false stays)
-all_alike s c (call.Make what r g t b) stays = absurd (true≢false stays)
-all_alike s c (call.Map p u r g w) stays = λ pages range at f i v. refl
-all_alike s c (call.Unmap p u) stays = λ pages at k f i v. refl
-all_alike s c (call.Touch u) stays = touch_all s c (comp_of s c).pages u (translation_of (s.core c).cached (comp_of s c).pages u)
-all_alike s c call.Flush stays = λ f i v. refl
-all_alike s c (call.Gate k t b) stays = λ comp table at f i v. refl
-all_alike s c (call.Kill k) stays = λ comp f i v. refl
-all_alike s c (call.Call g) stays = λ gate. stack_alike s c (gate.frame ∷ (thread_of s c).stack)
-all_alike s c call.Ret stays = stack_alike s c (drop 1 (thread_of s c).stack)
-all_alike s c (call.Switch h q) stays = λ thread tcap. switch_all s c (found thread) tcap.frame (thread_in (s.frame thread.frame)).runs_on
-all_alike s c (call.Tick n) stays = budget_alike s (s.core c).tcap _
-all_alike s c (call.Transfer a b m) stays = λ j k. moved_alike s j.frame k.frame m
-all_alike s c (call.Delegate a b m) stays = λ j k f i v.
+all_alike s c (Call.Look a) stays = λ k f i v. refl
+all_alike s c (Call.Copy a t b rights) stays = λ k table at f i v. refl
+all_alike s c (Call.Remove t b) stays = λ table at k f i v. refl
+all_alike s c (Call.Grow t j l) stays = λ table leaf at f i v. refl
+all_alike s c (Call.Shrink t j) stays = λ table at k f i v. refl
+all_alike s c (Call.Retype r g k) stays = absurd (true≢false stays)
+all_alike s c (Call.Make what r g t b) stays = absurd (true≢false stays)
+all_alike s c (Call.Map p u r g w) stays = λ pages range at f i v. refl
+all_alike s c (Call.Unmap p u) stays = λ pages at k f i v. refl
+all_alike s c (Call.Touch u) stays = touch_all s c (comp_of s c).pages u (translation_of (s.core c).cached (comp_of s c).pages u)
+all_alike s c Call.Flush stays = λ f i v. refl
+all_alike s c (Call.Gate k t b) stays = λ comp table at f i v. refl
+all_alike s c (Call.Kill k) stays = λ comp f i v. refl
+all_alike s c (Call.Call g) stays = λ gate. stack_alike s c (gate.frame ∷ (thread_of s c).stack)
+all_alike s c Call.Ret stays = stack_alike s c (drop 1 (thread_of s c).stack)
+all_alike s c (Call.Switch h q) stays = λ thread tcap. switch_all s c (found thread) tcap.frame (thread_in (s.frame thread.frame)).runs_on
+all_alike s c (Call.Tick n) stays = budget_alike s (s.core c).tcap _
+all_alike s c (Call.Transfer a b m) stays = λ j k. moved_alike s j.frame k.frame m
+all_alike s c (Call.Delegate a b m) stays = λ j k f i v.
     list_alike (moved s j.frame k.frame m) k.frame (merged_list s j.frame k.frame) f i v ∙ moved_alike s j.frame k.frame m f i v
-all_alike s c (call.Test a b) stays = λ j k f i v. refl
-all_alike s c (call.Replenish a m) stays = λ j. budget_alike s j.frame _
-all_alike s c (call.Part r f n t b) stays = λ k table at g i v. refl
+all_alike s c (Call.Test a b) stays = λ j k f i v. refl
+all_alike s c (Call.Replenish a m) stays = λ j. budget_alike s j.frame _
+all_alike s c (Call.Part r f n t b) stays = λ k table at g i v. refl
 
 -- What is owed changes no frame.
 owed_alike : (s : State) (c : ℕ) (what : Call) → ReadAlike s (owed_by s c what)
-owed_alike s c (call.Tick n) f i v = refl
+owed_alike s c (Call.Tick n) f i v = refl
 owed_alike s c _ f i v = refl
 
 changed_alike : (s : State) (x : Judged Change) → IfFound x (λ change. ReadAlike s change.next) → ReadAlike s (changed s x)
@@ -109,10 +91,10 @@ changed_alike s (Refused r) h f i v = refl
 changed_alike s (Found change) h f i v = h f i v
 
 pub kinds_stay : KindsStay
-kinds_stay s c what (reply.Ok x) stays f i v = changed_alike s (change_of s c what)
+kinds_stay s c what (Reply.Ok x) stays f i v = changed_alike s (change_of s c what)
     (outcome_all (λ change. ReadAlike s change.next) s c (rule_of s c what) (all_alike s c what stays)) f i v
-kinds_stay s c what reply.Raced stays f i v = owed_alike s c what f i v
-kinds_stay s c what (reply.Busy d) stays f i v = owed_alike s c what f i v
+kinds_stay s c what Reply.Raced stays f i v = owed_alike s c what f i v
+kinds_stay s c what (Reply.Busy d) stays f i v = owed_alike s c what f i v
 kinds_stay s c what _ stays f i v = refl
 
 -- A place of a node that is made anew holds nothing removed.
@@ -160,13 +142,13 @@ abbrev AllNodes : State → ℕ → Rule → Type 0
 AllNodes s c rule = AllChanges s c (λ change. NodesAlike s.frame change.next.frame change.next.place) rule
 
 make_nodes : (s : State) (c : ℕ) (what : Make) (r g t b : ℕ) → AllNodes s c (make_rule s what r g t b)
-make_nodes s c make.Table r g t b = λ range table at. node_made s.frame s.place Table g at.node at.index _
-make_nodes s c make.Leaf r g t b = λ range table at. node_made s.frame s.place Leaf g at.node at.index _
-make_nodes s c make.Pages r g t b = λ range table at. node_made s.frame s.place Pages g at.node at.index _
-make_nodes s c make.Pleaf r g t b = λ range table at. node_made s.frame s.place Pleaf g at.node at.index _
-make_nodes s c (make.Thread comp) r g t b = λ range table own at. object_made s.frame _ _ g refl
-make_nodes s c (make.Tcap sched quality) r g t b = λ range table at. object_made s.frame _ _ g refl
-make_nodes s c (make.Comp x p l) r g t b = λ range table own pages at. object_made s.frame _ _ g refl
+make_nodes s c Make.Table r g t b = λ range table at. node_made s.frame s.place Table g at.node at.index _
+make_nodes s c Make.Leaf r g t b = λ range table at. node_made s.frame s.place Leaf g at.node at.index _
+make_nodes s c Make.Pages r g t b = λ range table at. node_made s.frame s.place Pages g at.node at.index _
+make_nodes s c Make.Pleaf r g t b = λ range table at. node_made s.frame s.place Pleaf g at.node at.index _
+make_nodes s c (Make.Thread comp) r g t b = λ range table own at. object_made s.frame _ _ g refl
+make_nodes s c (Make.Tcap sched quality) r g t b = λ range table at. object_made s.frame _ _ g refl
+make_nodes s c (Make.Comp x p l) r g t b = λ range table own pages at. object_made s.frame _ _ g refl
 
 changed_nodes : (s : State) (x : Judged Change) → IfFound x (λ change. NodesAlike s.frame change.next.frame change.next.place)
     → NodesAlike s.frame (changed s x).frame (changed s x).place
@@ -174,22 +156,22 @@ changed_nodes s (Refused r) h f i k node removed v = refl
 changed_nodes s (Found change) h f i k node removed v = h f i k node removed v
 
 made_nodes : (s : State) (c : ℕ) (what : Make) (r g t b : ℕ) (q : Reply)
-    → NodesAlike s.frame (state_by s c (call.Make what r g t b) q).frame (state_by s c (call.Make what r g t b) q).place
-made_nodes s c what r g t b (reply.Ok x) = changed_nodes s (change_of s c (call.Make what r g t b))
+    → NodesAlike s.frame (state_by s c (Call.Make what r g t b) q).frame (state_by s c (Call.Make what r g t b) q).place
+made_nodes s c what r g t b (Reply.Ok x) = changed_nodes s (change_of s c (Call.Make what r g t b))
     (outcome_all (λ change. NodesAlike s.frame change.next.frame change.next.place) s c (make_rule s what r g t b)
     (make_nodes s c what r g t b))
 made_nodes s c what r g t b _ = λ f i k node removed v. refl
 
 pub nodes_stay : NodesStay
-nodes_stay s c (call.Make what r g t b) q places f i k node removed v = made_nodes s c what r g t b q f i k node removed v
-nodes_stay s c (call.Retype r g k) q places f i m node removed v = absurd (true≢false (sym places))
-nodes_stay s c (call.Look a) q places f i k node removed v = kinds_stay s c (call.Look a) q refl f i v
-nodes_stay s c (call.Copy a t b rights) q places f i k node removed v = kinds_stay s c (call.Copy a t b rights) q refl f i v
-nodes_stay s c (call.Remove t b) q places f i k node removed v = kinds_stay s c (call.Remove t b) q refl f i v
-nodes_stay s c (call.Grow t j l) q places f i k node removed v = kinds_stay s c (call.Grow t j l) q refl f i v
-nodes_stay s c (call.Shrink t j) q places f i k node removed v = kinds_stay s c (call.Shrink t j) q refl f i v
-nodes_stay s c (call.Map p u r g w) q places f i k node removed v = kinds_stay s c (call.Map p u r g w) q refl f i v
-nodes_stay s c (call.Unmap p u) q places f i k node removed v = kinds_stay s c (call.Unmap p u) q refl f i v
-nodes_stay s c (call.Gate m t b) q places f i k node removed v = kinds_stay s c (call.Gate m t b) q refl f i v
-nodes_stay s c (call.Part r g n t b) q places f i k node removed v = kinds_stay s c (call.Part r g n t b) q refl f i v
+nodes_stay s c (Call.Make what r g t b) q places f i k node removed v = made_nodes s c what r g t b q f i k node removed v
+nodes_stay s c (Call.Retype r g k) q places f i m node removed v = absurd (true≢false (sym places))
+nodes_stay s c (Call.Look a) q places f i k node removed v = kinds_stay s c (Call.Look a) q refl f i v
+nodes_stay s c (Call.Copy a t b rights) q places f i k node removed v = kinds_stay s c (Call.Copy a t b rights) q refl f i v
+nodes_stay s c (Call.Remove t b) q places f i k node removed v = kinds_stay s c (Call.Remove t b) q refl f i v
+nodes_stay s c (Call.Grow t j l) q places f i k node removed v = kinds_stay s c (Call.Grow t j l) q refl f i v
+nodes_stay s c (Call.Shrink t j) q places f i k node removed v = kinds_stay s c (Call.Shrink t j) q refl f i v
+nodes_stay s c (Call.Map p u r g w) q places f i k node removed v = kinds_stay s c (Call.Map p u r g w) q refl f i v
+nodes_stay s c (Call.Unmap p u) q places f i k node removed v = kinds_stay s c (Call.Unmap p u) q refl f i v
+nodes_stay s c (Call.Gate m t b) q places f i k node removed v = kinds_stay s c (Call.Gate m t b) q refl f i v
+nodes_stay s c (Call.Part r g n t b) q places f i k node removed v = kinds_stay s c (Call.Part r g n t b) q refl f i v
 nodes_stay s c _ q places f i k node removed v = absurd (true≢false (sym places))

@@ -1,13 +1,6 @@
 -- What a decision leaves of how the words of frames are read.
-use Rattle.std.specs.Prelude.{◌≡◌, ℕ, true, false, IsTrue}
-use Rattle.spk_nums.specs.Capability.{Capability}
-use Rattle.spk_nums.specs.declared.calls.Call.{Call}
-use Rattle.spk_nums.specs.declared.replies.Reply.{Reply}
-use Rattle.kernel_rules.specs.State.{Quiescing, State}
-use Rattle.kernel_rules.specs.Relies.{is_node}
-use Rattle.kernel_rules.specs.CallRelation.{state_by}
-use Rattle.kernel_history.specs.Marks.{mark_in_frame}
-use Rattle.kernel_history.specs.Discipline.{changes_frames, changes_places}
+use Rattle.kernel_history.specs.{◌≡◌, ℕ, true, false, IsTrue, Capability, Call, Reply, Quiescing, State, is_node, state_by, mark_in_frame}
+use Rattle.kernel_history.specs.{changes_frames, changes_places}
 
 -- The words of all frames are read for marks as before.
 abbrev pub ReadAlike : State → State → Type 0

@@ -1,32 +1,24 @@
 -- Each call is judged word by word.
-use Rattle.std.proofs.Common.{◌≡◌, ℕ, ◌≤◌, ◌==◌, Bool, true, false, ◌&&◌, List, ◌∷◌, length, Some, None, Result, Ok, Err}
-use Rattle.std.proofs.Common.{refl, ◌∙◌, ap, arith, if◌then◌else◌}
-use Rattle.std.specs.Prelude.{nat_lt, slice_get, codes, nat_le}
-use Rattle.std.proofs.lemmas.Bool.{ltb-false}
-use Rattle.spk_nums.specs.declared.calls.Make.{Make}
-use Rattle.spk_nums.specs.declared.calls.Make.TheVariants as make
-use Rattle.line_reader.specs.declared.cause.Cause.{Cause}
-use Rattle.line_reader.specs.Causes.{◌>>=◌}
-use Rattle.line_reader.specs.Arguments.{is_word, word_at}
-use Rattle.call_reader.specs.declared.first_words.Verb.{Verb}
-use Rattle.call_reader.specs.declared.first_words.Verb.TheVariants as verb
-use Rattle.call_reader.specs.CallLines.{call_line, look_line, copy_line, rights_at, fourth_at, both_at, remove_line, grow_line, shrink_line}
-use Rattle.call_reader.specs.CallLines.{retype_line, map_line, unmap_line, touch_line, flush_line, gate_line, kill_line, enter_line}
-use Rattle.call_reader.specs.CallLines.{ret_line}
-use Rattle.call_reader.specs.CallLines.{switch_line, tick_line, transfer_line, delegate_line, test_line, object_of}
-use Rattle.call_reader.specs.CallLines.{make_line, object_at, made_at, plain_at, thread_at, tcap_at, comp_at, part_line, replenish_line}
-use Rattle.line_forms.specs.declared.context.Context.{Context}
-use Rattle.line_forms.specs.declared.slots.Slot.{Slot}
-use Rattle.line_forms.specs.declared.slots.Slot.TheVariants.{MayNumber, Object as Object_slot, End}
-use Rattle.line_forms.specs.Slots.{names}
-use Rattle.line_forms.specs.Calls.{verb_slot, object_slot, tcap_slot, comp_slot}
-use Rattle.line_forms.specs.Lines.{slot_at}
-use Rattle.line_forms.specs.Fitting.{fits_by, fits}
-use Rattle.fault_texts.specs.Places.{misfit_from}
+use Rattle.fault_texts.specs.call_reader.specs.{look_line, copy_line, rights_at, fourth_at, both_at, remove_line, grow_line, shrink_line}
+use Rattle.fault_texts.specs.call_reader.specs.{retype_line, map_line, unmap_line, touch_line, flush_line, gate_line, kill_line, enter_line}
+use Rattle.fault_texts.specs.call_reader.specs.{ret_line, switch_line, tick_line, transfer_line, delegate_line, test_line, object_of}
+use Rattle.fault_texts.specs.call_reader.specs.{make_line, object_at, made_at, plain_at, thread_at, tcap_at, comp_at, part_line}
+use Rattle.std.proofs.Common.{◌≡◌, ℕ, ◌≤◌, ◌==◌, Bool, true, false, ◌&&◌, List, ◌∷◌, length, Some, None, Result, Ok, Err, refl, ◌∙◌, ap}
+use Rattle.std.proofs.Common.{arith, if◌then◌else◌, nat_lt, slice_get, codes, nat_le, ltb-false}
+use Rattle.fault_texts.specs.line_reader.specs.{declared.cause.Cause.Cause, Causes.◌>>=◌, Arguments.is_word, Arguments.word_at}
+use Rattle.fault_texts.specs.call_reader.specs.{declared.first_words.Verb.Verb, CallLines.call_line}
+use Rattle.fault_texts.specs.line_forms.specs.{declared.context.Context.Context, declared.slots.Slot.Slot}
+use Rattle.fault_texts.specs.line_forms.specs.{declared.slots.Slot.TheVariants.MayNumber}
+use Rattle.fault_texts.specs.line_forms.specs.{declared.slots.Slot.TheVariants.Object as Object_slot, declared.slots.Slot.TheVariants.End}
+use Rattle.fault_texts.specs.line_forms.specs.{Slots.names, Calls.verb_slot, Calls.object_slot, Calls.tcap_slot, Calls.comp_slot}
+use Rattle.fault_texts.specs.line_forms.specs.{Lines.slot_at, Fitting.fits_by, Fitting.fits}
 use Rattle.mark_laws.specs.Marked.{GoesByMark, in_list, IsCallLine, cause_at}
-use Rattle.mark_laws.proofs.Gets.{cond_true}
 use Rattle.mark_laws.proofs.Words.{objects_same, word_same, Whenever, whenever_if, whenever_none}
 use Rattle.mark_laws.proofs.Chains.{Judged, judge_number, judge_range, may_ranges, judge_name, judge_kind, judge_end, judge_last}
+use Rattle.{fault_texts.specs.call_reader.specs.replenish_line, fault_texts.specs.spk_nums.specs.declared.calls.Make.Make}
+use Rattle.{fault_texts.specs.Places.misfit_from, mark_laws.proofs.Gets.cond_true}
+use Rattle.fault_texts.specs.spk_nums.specs.declared.calls.Make.TheVariants as make
+use Rattle.fault_texts.specs.call_reader.specs.declared.first_words.Verb.TheVariants as verb
 
 module _ (context : Context) (word : List ℕ) (rest : List (List ℕ)) where
   abbrev here : Context

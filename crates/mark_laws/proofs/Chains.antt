@@ -1,26 +1,19 @@
 -- A line is judged word by word, and so is its first word found that does not fit.
-use Rattle.std.proofs.Common.{◌≡◌, ℕ, ◌+◌, ◌<◌, ◌≤◌, Bool, true, false, ◌&&◌, List, length, drop, Option, Some, None, Result, Ok, Err}
-use Rattle.std.proofs.Common.{refl, sym, ◌∙◌, ap, arith, if◌then◌else◌}
-use Rattle.std.specs.Prelude.{nat_le, slice_get, is_some}
-use Rattle.std.specs.Option.{ok_or}
-use Rattle.std.proofs.lemmas.Bool.{leb-true, leb-false, le-leb}
-use Rattle.spk_nums.specs.declared.kinds.FrameKind.{FrameKind}
-use Rattle.line_reader.specs.declared.cause.Cause.{Cause}
-use Rattle.line_reader.specs.declared.cause.Cause.TheVariants.{S1, S2, S3, S4, S5}
-use Rattle.line_reader.specs.Causes.{◌>>=◌}
-use Rattle.line_reader.specs.Numerals.{number_of}
-use Rattle.line_reader.specs.Arguments.{word_at, number_at, end_at}
-use Rattle.call_reader.specs.CallLines.{frame_kind_of, frame_kind_at}
-use Rattle.line_forms.specs.declared.context.Context.{Context}
-use Rattle.line_forms.specs.declared.slots.Slot.{Slot}
-use Rattle.line_forms.specs.declared.slots.Slot.TheVariants.{Number, MayNumber, FrameKind as Frame_kind, End}
-use Rattle.line_forms.specs.Slots.{is_number_between}
-use Rattle.line_forms.specs.Lines.{slot_at}
-use Rattle.line_forms.specs.Fitting.{fits_by, fits}
-use Rattle.fault_texts.specs.Places.{misfit_from}
+use Rattle.std.proofs.Common.{◌≡◌, ℕ, ◌+◌, ◌<◌, ◌≤◌, Bool, true, false, ◌&&◌, List, length, drop, Option, Some, None, Result, Ok, Err, refl}
+use Rattle.std.proofs.Common.{sym, ◌∙◌, ap, arith, if◌then◌else◌, nat_le, slice_get, is_some, ok_or, leb-true, leb-false, le-leb}
+use Rattle.fault_texts.specs.call_reader.specs.{frame_kind_of, frame_kind_at}
+use Rattle.fault_texts.specs.line_reader.specs.{◌>>=◌, number_of}
+use Rattle.fault_texts.specs.line_reader.specs.declared.cause.Cause.TheVariants.{S1, S2, S3, S4, S5}
+use Rattle.fault_texts.specs.line_reader.specs.Arguments.{word_at, number_at, end_at}
+use Rattle.fault_texts.specs.line_forms.specs.{declared.context.Context.Context, declared.slots.Slot.Slot}
+use Rattle.fault_texts.specs.line_forms.specs.{declared.slots.Slot.TheVariants.Number, declared.slots.Slot.TheVariants.MayNumber}
+use Rattle.fault_texts.specs.line_forms.specs.{declared.slots.Slot.TheVariants.FrameKind as Frame_kind, declared.slots.Slot.TheVariants.End}
+use Rattle.fault_texts.specs.line_forms.specs.{Slots.is_number_between, Lines.slot_at, Fitting.fits_by, Fitting.fits}
 use Rattle.mark_laws.specs.Marked.{number_cause, cause_by, cause_at}
 use Rattle.mark_laws.proofs.Gets.{cond_true, cond_false, get_drop, get_end, get_low, get_none, get_some}
-use Rattle.mark_laws.proofs.Words.{kinds_same}
+use Rattle.{fault_texts.specs.spk_nums.specs.declared.kinds.FrameKind.FrameKind}
+use Rattle.{fault_texts.specs.line_reader.specs.declared.cause.Cause.Cause, fault_texts.specs.Places.misfit_from}
+use Rattle.{mark_laws.proofs.Words.kinds_same}
 
 module _ (here : Context) (ws : List (List ℕ)) where
   -- the first place from this one on whose word does not fit

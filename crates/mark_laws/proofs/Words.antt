@@ -1,12 +1,10 @@
 -- Words by which kinds of frames and objects are named.
-use Rattle.std.proofs.Common.{◌≡◌, ℕ, Bool, true, false, ◌||◌, List, [], ◌∷◌, Option, Some, None, refl, ◌∙◌, ap, subst, eqb}
-use Rattle.std.proofs.Common.{if◌then◌else◌}
-use Rattle.std.specs.Prelude.{codes, is_some}
+use Rattle.std.proofs.Common.{◌≡◌, ℕ, Bool, true, false, ◌||◌, List, [], ◌∷◌, Option, Some, None, refl, ◌∙◌, ap, subst, eqb, if◌then◌else◌}
+use Rattle.std.proofs.Common.{codes, is_some, eqb-true}
+use Rattle.{std.proofs.lemmas.Bool.and_parts, std.proofs.lemmas.Bool.false≢true, fault_texts.specs.call_reader.specs.frame_kind_of}
+use Rattle.{fault_texts.specs.call_reader.specs.object_of, fault_texts.specs.line_reader.specs.Arguments.is_word}
+use Rattle.{fault_texts.specs.line_forms.specs.Fitting.is_frame_kind, fault_texts.specs.line_forms.specs.Fitting.is_object}
 use lib.Pointwise.{pointwise}
-use Rattle.std.proofs.lemmas.Bool.{and_parts, eqb-true, false≢true}
-use Rattle.line_reader.specs.Arguments.{is_word}
-use Rattle.call_reader.specs.CallLines.{frame_kind_of, object_of}
-use Rattle.line_forms.specs.Fitting.{is_frame_kind, is_object}
 
 bytes_same : (xs ys : List ℕ) → pointwise eqb xs ys ≡ true → xs ≡ ys
 bytes_same [] [] h = refl

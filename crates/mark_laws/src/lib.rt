@@ -4,9 +4,9 @@
 #![tactic(auto)]
 
 ghost use Rattle.std.specs.Prelude.{ℕ, List, ◌∷◌};
-ghost use Rattle.call_reader.specs.declared.first_words.Verb.{Verb};
-ghost use Rattle.call_reader.specs.CallLines.{call_line};
-ghost use Rattle.line_forms.specs.declared.context.Context.{Context};
+ghost use Rattle.fault_texts.specs.call_reader.specs.declared.first_words.Verb.{Verb};
+ghost use Rattle.fault_texts.specs.call_reader.specs.CallLines.{call_line};
+ghost use Rattle.fault_texts.specs.line_forms.specs.declared.context.Context.{Context};
 ghost use Rattle.mark_laws.specs.Marked.{GoesByMark, in_list, IsCallLine};
 
 /// A law: a call in a list is refused exactly where a word of it does not fit its place, or its end does not, and for the cause for which

@@ -1,13 +1,8 @@
 -- The events of a history are a run of the sequential kernel.
-use Rattle.std.specs.Prelude.{◌≡◌, ℕ, List, [], ◌∷◌}
-use Rattle.std.proofs.Common.{refl}
-use Rattle.spk_nums.specs.Setting.{Setting}
-use Rattle.spk_nums.specs.declared.replies.Reply.{Reply}
-use Rattle.kernel_rules.specs.Runs.{Event, after, Phase, Out, Open, Decided, phase_of, IsRun}
-use Rattle.marked_history.specs.declared.marks.Mark.{Mark}
-use Rattle.marked_history.specs.declared.marks.Mark.TheVariants.{Enter, Decide, Return}
-use Rattle.marked_history.specs.Histories.{with_decision, events_of, MayDecideIn, IsHistory}
-use Rattle.marked_history.specs.Laws.{HistoriesRun}
+use Rattle.kernel_rules.specs.{◌≡◌, ℕ, List, [], ◌∷◌, refl, Setting, Reply, Event, after, Phase, Out, Open, Decided, phase_of, IsRun}
+use Rattle.marked_history.specs.{with_decision, events_of, MayDecideIn, IsHistory, declared.marks.Mark.Mark}
+use Rattle.marked_history.specs.{declared.marks.Mark.TheVariants.Enter, declared.marks.Mark.TheVariants.Decide}
+use Rattle.marked_history.specs.{declared.marks.Mark.TheVariants.Return, Laws.HistoriesRun}
 
 -- A decision that the call relation permits goes on with a run.
 decided : (setting : Setting) (events : List Event) (c : ℕ) (r : Reply) (p : Phase) → phase_of events c ≡ p

@@ -1,18 +1,11 @@
 -- Lines have one verdict at most.
-use Rattle.std.proofs.Common.{◌≡◌, inl, inr, ℕ, List, [], ◌∷◌, ◌++◌, reverse, refl, sym, ◌∙◌, ap, subst, append_assoc}
-use Rattle.std.proofs.lemmas.List.{reverse-append}
-use Rattle.spk_nums.specs.Setting.{Setting}
-use Rattle.marked_history.specs.declared.marks.Mark.{Mark}
-use Rattle.marked_history.specs.declared.marks.Said.{Said}
-use Rattle.marked_history.specs.declared.marks.Line.{Line}
-use Rattle.marked_history.specs.declared.marks.Why.{Why}
+use Rattle.kernel_rules.proofs.{◌≡◌, inl, inr, ℕ, List, [], ◌∷◌, ◌++◌, reverse, refl, sym, ◌∙◌, ap, subst, append_assoc, reverse-append}
+use Rattle.marked_history.specs.{MayFollow, said_marks, marks_of, AllFollow, LineFollows, AreHistory, MarkBreaks, FirstBreaks, LineBreaks}
+use Rattle.marked_history.specs.{Misnumbered, Numbered, AreLegal, IsVerdict, declared.marks.Mark.Mark, declared.marks.Said.Said}
+use Rattle.marked_history.specs.{declared.marks.Line.Line, declared.marks.Why.Why, declared.marks.Verdict.Verdict}
+use Rattle.marked_history.specs.{declared.marks.Verdict.TheVariants.Legal, declared.marks.Verdict.TheVariants.Illegal, Verdicts.BreakAt}
+use Rattle.{kernel_rules.proofs.Setting, marked_history.specs.Laws.OneVerdict}
 use Rattle.marked_history.specs.declared.marks.Why.TheVariants as why
-use Rattle.marked_history.specs.declared.marks.Verdict.{Verdict}
-use Rattle.marked_history.specs.declared.marks.Verdict.TheVariants.{Legal, Illegal}
-use Rattle.marked_history.specs.Histories.{MayFollow}
-use Rattle.marked_history.specs.Verdicts.{said_marks, marks_of, AllFollow, LineFollows, AreHistory, MarkBreaks, FirstBreaks}
-use Rattle.marked_history.specs.Verdicts.{LineBreaks, Misnumbered, Numbered, AreLegal, BreakAt, IsVerdict}
-use Rattle.marked_history.specs.Laws.{OneVerdict}
 
 -- ---- one mark, one line
 

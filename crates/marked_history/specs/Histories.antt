@@ -1,15 +1,8 @@
 -- When marks are a history. Marks are listed with the newest first.
-use Rattle.std.specs.Prelude.{◌≡◌, ◌≢◌, ◌<◌, ◌⊎◌, ◌==◌, ℕ, Bool, true, false, List, [], ◌∷◌, IsTrue}
-use Rattle.spk_nums.specs.Setting.{Setting}
-use Rattle.spk_nums.specs.CallLimits.{InLimits}
-use Rattle.spk_nums.specs.declared.calls.Call.{Call}
-use Rattle.spk_nums.specs.declared.replies.Reply.{Reply}
-use Rattle.spk_nums.specs.declared.replies.Reply.TheVariants as reply
-use Rattle.kernel_rules.specs.State.{State}
-use Rattle.kernel_rules.specs.CallRelation.{MayReply}
-use Rattle.kernel_rules.specs.Runs.{Event, Enters, Decides, Returns, after, Phase, Out, Open, Decided, is_in, is_decided, phase_of}
-use Rattle.marked_history.specs.declared.marks.Mark.{Mark}
+use Rattle.kernel_rules.specs.{◌≡◌, ◌≢◌, ◌<◌, ◌⊎◌, ◌==◌, ℕ, Bool, true, false, List, [], ◌∷◌, IsTrue, Setting, InLimits, Call, Reply}
+use Rattle.kernel_rules.specs.{MayReply, Event, Enters, Decides, Returns, after, Phase, Out, Open, Decided, is_in, is_decided, phase_of}
 use Rattle.marked_history.specs.declared.marks.Mark.TheVariants.{Enter, Decide, Return}
+use Rattle.{kernel_rules.specs.State.State, marked_history.specs.declared.marks.Mark.Mark}
 
 -- ---- what marks leave
 
@@ -82,8 +75,8 @@ HasMet (m ∷ marks) c = IsAnotherIn (m ∷ marks) c ⊎ Unless (enters m c) (Ha
 
 -- A call of core c may be held up by another core so: it loses a race to one that it has met, and is held up by one in a call now.
 abbrev pub MayBeHeldUp : List Mark → ℕ → Reply → Type 0
-MayBeHeldUp marks c reply.Raced = HasMet marks c
-MayBeHeldUp marks c (reply.Busy d) = IsOther marks c d
+MayBeHeldUp marks c Reply.Raced = HasMet marks c
+MayBeHeldUp marks c (Reply.Busy d) = IsOther marks c d
 MayBeHeldUp marks c r = Unit {0}
 
 -- A decision is held up so, if it says that it is.

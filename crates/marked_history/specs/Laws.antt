@@ -1,12 +1,7 @@
 -- Laws of histories, each the contract of a function of this crate.
-use Rattle.std.specs.Prelude.{◌≡◌, List}
-use Rattle.spk_nums.specs.Setting.{Setting}
-use Rattle.kernel_rules.specs.Runs.{IsRun}
-use Rattle.marked_history.specs.declared.marks.Mark.{Mark}
-use Rattle.marked_history.specs.declared.marks.Line.{Line}
-use Rattle.marked_history.specs.declared.marks.Verdict.{Verdict}
-use Rattle.marked_history.specs.Histories.{events_of, IsHistory}
-use Rattle.marked_history.specs.Verdicts.{IsVerdict}
+use Rattle.kernel_rules.specs.{◌≡◌, List, Setting, IsRun}
+use Rattle.marked_history.specs.{declared.marks.Mark.Mark, declared.marks.Line.Line, declared.marks.Verdict.Verdict, Histories.events_of}
+use Rattle.marked_history.specs.{Histories.IsHistory, Verdicts.IsVerdict}
 
 -- The events of a history are a run.
 abbrev pub HistoriesRun : Type 0

@@ -1,17 +1,11 @@
 -- What is found of the lines of a text. Lines that came before are listed with the newest first, as marks are.
-use Rattle.std.specs.Prelude.{◌≡◌, ◌<◌, ◌⊎◌, ◌==◌, ℕ, ◌+◌, All, List, [], ◌∷◌, ◌++◌, reverse, if◌then◌else◌}
-use Rattle.spk_nums.specs.Setting.{Setting}
-use Rattle.spk_nums.specs.CallLimits.{InLimits}
-use Rattle.marked_history.specs.declared.marks.Mark.{Mark}
-use Rattle.marked_history.specs.declared.marks.Mark.TheVariants.{Enter, Decide, Return}
-use Rattle.marked_history.specs.declared.marks.Said.{Said}
-use Rattle.marked_history.specs.declared.marks.Said.TheVariants.{One, Whole}
-use Rattle.marked_history.specs.declared.marks.Line.{Line}
-use Rattle.marked_history.specs.declared.marks.Why.{Why}
-use Rattle.marked_history.specs.declared.marks.Why.TheVariants as why
-use Rattle.marked_history.specs.declared.marks.Verdict.{Verdict}
-use Rattle.marked_history.specs.declared.marks.Verdict.TheVariants.{Legal, Illegal}
-use Rattle.marked_history.specs.Histories.{IsOfMachine, IsInOrder, IsHeldUp, IsPermitted, MayFollow, IsHistory}
+use Rattle.kernel_rules.specs.{◌≡◌, ◌<◌, ◌⊎◌, ◌==◌, ℕ, ◌+◌, All, List, [], ◌∷◌, ◌++◌, reverse, if◌then◌else◌, Setting, InLimits}
+use Rattle.marked_history.specs.{declared.marks.Mark.Mark, declared.marks.Mark.TheVariants.Enter, declared.marks.Mark.TheVariants.Decide}
+use Rattle.marked_history.specs.{declared.marks.Mark.TheVariants.Return, declared.marks.Said.Said, declared.marks.Said.TheVariants.One}
+use Rattle.marked_history.specs.{declared.marks.Said.TheVariants.Whole, declared.marks.Line.Line, declared.marks.Why.Why}
+use Rattle.marked_history.specs.{declared.marks.Verdict.Verdict, declared.marks.Verdict.TheVariants.Legal}
+use Rattle.marked_history.specs.{declared.marks.Verdict.TheVariants.Illegal, Histories.IsOfMachine, Histories.IsInOrder, Histories.IsHeldUp}
+use Rattle.marked_history.specs.{Histories.IsPermitted, Histories.MayFollow, Histories.IsHistory}
 
 -- ---- the marks of lines
 
@@ -76,9 +70,9 @@ AreHistory setting (l ∷ lines) = AreHistory setting lines × LineFollows setti
 
 -- Why a mark may not follow: its core's order comes first, then who holds it up, then the call relation.
 abbrev pub MarkBreaks : Setting → List Mark → Mark → Why → Type 0
-MarkBreaks setting before m why.Marks = IsInOrder before m → ⊥
-MarkBreaks setting before m why.Race = IsInOrder before m × (IsHeldUp before m → ⊥)
-MarkBreaks setting before m why.Reply = IsInOrder before m × IsHeldUp before m × (IsPermitted setting before m → ⊥)
+MarkBreaks setting before m Why.Marks = IsInOrder before m → ⊥
+MarkBreaks setting before m Why.Race = IsInOrder before m × (IsHeldUp before m → ⊥)
+MarkBreaks setting before m Why.Reply = IsInOrder before m × IsHeldUp before m × (IsPermitted setting before m → ⊥)
 
 -- The first of the marks, in order, that may not follow, and why.
 abbrev pub FirstBreaks : Setting → List Mark → List Mark → Why → Type 0
@@ -88,7 +82,7 @@ FirstBreaks setting before (m ∷ marks) w = MarkBreaks setting before m w
 
 -- Why a line may not follow: a wrong number is one of its core's marks.
 pub data LineBreaks (setting : Setting) (before : List Mark) (said : Said) : Why → Type 0 where
-  Misnumbered : (IsNumbered before said → ⊥) → LineBreaks setting before said why.Marks
+  Misnumbered : (IsNumbered before said → ⊥) → LineBreaks setting before said Why.Marks
   Numbered : {w : Why} → IsNumbered before said → FirstBreaks setting before (said_marks said) w → LineBreaks setting before said w
 
 -- ---- the verdict

@@ -1,14 +1,11 @@
 -- The events of a trace's marks are the trace's events.
-use Rattle.std.proofs.Common.{◌≡◌, ℕ, List, [], ◌∷◌, Option, Some, None, refl, ◌∙◌, ap}
-use Rattle.spk_nums.specs.declared.calls.Call.{Call}
-use Rattle.spk_nums.specs.declared.replies.Reply.{Reply}
-use Rattle.kernel_rules.specs.Runs.{Event, Enters, Returns, phase_of}
-use Rattle.kernel_history.specs.Trace.{Step, Trace, Phase, Out, Open, Decided, phase, after_enter, after_decide}
-use Rattle.kernel_history.specs.Events.{with_entry, with_decision, with_return, events_of, plain_phase}
-use Rattle.kernel_history.proofs.Events.{entered_events, decided_events, entered_phase, decided_phase, phase_is}
-use Rattle.marked_history.specs.declared.marks.Mark.{Mark}
-use Rattle.marked_history.specs.Histories.{with_decision as decided_mark, events_of as events_of_marks, phase as phase_of_marks}
-use Rattle.marked_laws.specs.Marks.{with_enter, with_decide, with_return as marks_return, marks_of}
+use Rattle.kernel_history.proofs.{◌≡◌, ℕ, List, [], ◌∷◌, Option, Some, None, refl, ◌∙◌, ap, Call, Reply, Event, Enters, Returns, phase_of}
+use Rattle.kernel_history.proofs.{Step, Phase, Out, Decided, phase, after_enter, after_decide, with_entry, with_decision, with_return}
+use Rattle.kernel_history.proofs.{events_of, plain_phase, entered_events, decided_events, entered_phase, phase_is}
+use Rattle.marked_laws.specs.{with_enter, with_decide, with_return as marks_return, marks_of}
+use Rattle.marked_history.specs.{with_decision as decided_mark, events_of as events_of_marks, phase as phase_of_marks}
+use Rattle.kernel_history.specs.Trace.{Trace, Open}
+use Rattle.{kernel_history.proofs.Events.decided_phase, marked_history.specs.declared.marks.Mark.Mark}
 
 -- The marks of the steps before e, and e's own but its return; those but its decision.
 abbrev pub entered_marks : Trace → Step → List Mark

@@ -1,32 +1,16 @@
 -- The marks of a legal trace are a history.
-use Rattle.std.proofs.Common.{◌≡◌, ◌≢◌, ℕ, ◌+◌, ◌<◌, cond, List, [], ◌∷◌, length, Option, Some, None}
-use Rattle.std.proofs.Common.{refl, sym, ◌∙◌, ap, subst, IsTrue, arith}
-use Rattle.std.specs.Prelude.{is_some}
-use Rattle.std.proofs.lemmas.List.{length-append}
-use Rattle.spk_nums.specs.Setting.{Setting}
-use Rattle.spk_nums.specs.declared.calls.Call.{Call}
-use Rattle.spk_nums.specs.declared.replies.Reply.{Reply}
-use Rattle.spk_nums.specs.declared.replies.Reply.TheVariants as reply
-use Rattle.word_map.specs.Moves.{word_of}
-use Rattle.kernel_rules.specs.State.{State}
-use Rattle.kernel_rules.specs.CallRelation.{rule_of, MayReply}
-use Rattle.kernel_rules.specs.Runs.{Event, after, is_in, is_decided, Phase as plain, phase_of}
-use Rattle.kernel_history.specs.Trace.{Step, Trace, Phase, Out, Open, Decided, phase, after_enter, after_decide}
-use Rattle.kernel_history.specs.Trace.{state_after, state_before, own_read, calls_of, decision_at, decisions_of}
-use Rattle.kernel_history.specs.Stamps.{is_in as phase_in}
-use Rattle.kernel_history.specs.Events.{events_of, plain_phase}
-use Rattle.kernel_history.specs.Justified.{IsJustifiedIn}
-use Rattle.kernel_history.specs.Legal.{MayEnter, MayDecide, MayReturn, IsLegal}
-use Rattle.kernel_history.proofs.Events.{entry_apart, phase_is, before_is}
-use Rattle.kernel_history.proofs.Inside.{inside_is, entered-inside}
-use Rattle.kernel_history.proofs.Races.{raced_by_another}
-use Rattle.marked_history.specs.declared.marks.Mark.{Mark}
-use Rattle.marked_history.specs.Histories.{phase as phase_of_marks, state, CanBeDecided, HasMet, MayBeHeldUp, MayDecideIn, IsHistory}
-use Rattle.marked_history.specs.Verdicts.{decisions}
-use Rattle.marked_laws.specs.Marks.{with_enter, with_decide, with_return, marks_of}
-use Rattle.marked_laws.specs.Laws.{LegalMarks}
+use Rattle.kernel_history.proofs.{◌≡◌, ◌≢◌, ℕ, ◌+◌, ◌<◌, cond, List, [], ◌∷◌, length, Option, Some, None, refl, sym, ◌∙◌, ap, subst, IsTrue}
+use Rattle.kernel_history.proofs.{arith, is_some, length-append, Setting, Call, Reply, word_of, State, rule_of, MayReply, Event, after}
+use Rattle.kernel_history.proofs.{phase_of, Step, Phase, Out, Decided, phase, after_enter, after_decide, state_after, state_before}
+use Rattle.kernel_history.proofs.{own_read, calls_of, decision_at, decisions_of, is_in as phase_in, events_of, plain_phase, MayEnter}
+use Rattle.kernel_history.proofs.{MayDecide, IsLegal, entry_apart, phase_is, before_is, inside_is, entered-inside}
+use Rattle.marked_history.specs.{phase as phase_of_marks, state, CanBeDecided, HasMet, MayBeHeldUp, MayDecideIn, IsHistory, decisions}
+use Rattle.marked_laws.specs.{with_enter, with_decide, with_return, marks_of}
+use Rattle.kernel_history.specs.kernel_rules.specs.{is_in, is_decided, Phase as plain}
+use Rattle.kernel_history.specs.{Trace.Trace, Trace.Open, Justified.IsJustifiedIn, Legal.MayReturn}
 use Rattle.marked_laws.proofs.Events.{entered_marks, decided_marks, events_are, entered_are, entered_in, decided_in, marks_in}
-use Rattle.marked_laws.proofs.Races.{changed_met}
+use Rattle.{kernel_history.proofs.Races.raced_by_another, marked_history.specs.declared.marks.Mark.Mark, marked_laws.specs.Laws.LegalMarks}
+use Rattle.{marked_laws.proofs.Races.changed_met}
 
 entry_history : (setup : Setting) (o : Option Call) (c : ℕ) (p : Phase) (marks : List Mark) → c < setup.cores → MayEnter o p
     → phase_of_marks marks c ≡ plain_phase p → IsHistory setup marks → IsHistory setup (with_enter o c marks)
@@ -86,10 +70,10 @@ module _ (setup : Setting) (t : Trace) (e : Step) (legal : IsLegal setup (e ∷ 
   may_be : (call : Call) (r : Reply) → e.decides ≡ Some r
       → IsJustifiedIn setup t e (state_before setup t e) (rule_of (state_before setup t e) e.core call) r
       → MayBeHeldUp (entered_marks t e) e.core r
-  may_be call reply.Raced is lost =
+  may_be call Reply.Raced is lost =
       subst (λ (o : Option Call). HasMet (with_enter o e.core (marks_of t)) e.core) (sym (not_entered e.enters lost.own refl lost.has_read))
       (changed_met setup t legal.0 e.core (word_of e.move) (raced_by_another setup t e legal is))
-  may_be call (reply.Busy d) is held = record { other = held.other; inside = inside_now d held.other held.is_inside }
+  may_be call (Reply.Busy d) is held = record { other = held.other; inside = inside_now d held.other held.is_inside }
   may_be call _ is justified = tt
 
   can_be : (call : Call) → after_enter e.enters (phase t e.core) ≡ Open call → CanBeDecided (phase_of_marks (entered_marks t e) e.core)

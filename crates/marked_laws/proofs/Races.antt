@@ -1,23 +1,13 @@
 -- Who lost a race has met another core: one that changed a word was in a call.
-use Rattle.std.proofs.Common.{◌≡◌, ◌≢◌, inl, inr, ℕ, ◌==◌, ◌&&◌, ◌||◌, Bool, true, false, List, [], ◌∷◌}
-use Rattle.std.proofs.Common.{Option, Some, None, refl, sym, ◌∙◌, ap, subst, IsTrue}
-use Rattle.std.specs.Prelude.{is_some}
-use Rattle.std.proofs.lemmas.Bool.{cases_eq, eq-eqb, ne_eqb, false≢true}
-use Rattle.spk_nums.specs.Setting.{Setting}
-use Rattle.spk_nums.specs.declared.calls.Call.{Call}
-use Rattle.spk_nums.specs.declared.replies.Reply.{Reply}
-use Rattle.word_map.specs.Word.{Word, same_word}
-use Rattle.word_map.specs.Moves.{word_of}
-use Rattle.kernel_rules.specs.Runs.{is_in}
-use Rattle.kernel_history.specs.Trace.{Step, Trace, Phase, Out, Open, Decided, phase, after_enter, IfNot}
-use Rattle.kernel_history.specs.Events.{plain_phase}
-use Rattle.kernel_history.specs.Legal.{IsLegal, MayFollow}
-use Rattle.kernel_history.specs.Laws.{WasChanged}
-use Rattle.marked_history.specs.declared.marks.Mark.{Mark}
+use Rattle.kernel_history.proofs.{◌≡◌, ◌≢◌, inl, inr, ℕ, ◌==◌, ◌&&◌, ◌||◌, Bool, true, false, List, [], ◌∷◌, Option, Some, None, refl, sym}
+use Rattle.kernel_history.proofs.{◌∙◌, ap, subst, IsTrue, is_some, eq-eqb, ne_eqb, false≢true, Setting, Call, Reply, Word, same_word}
+use Rattle.kernel_history.proofs.{word_of, Step, Phase, Out, Decided, phase, after_enter, IfNot, plain_phase, IsLegal, MayFollow}
+use Rattle.marked_laws.specs.{with_enter, with_decide, with_return, marks_of}
+use Rattle.kernel_history.specs.{Trace.Trace, Trace.Open, Laws.WasChanged}
 use Rattle.marked_history.specs.declared.marks.Mark.TheVariants.{Enter, Decide, Return}
 use Rattle.marked_history.specs.Histories.{IsAnotherIn, enters, Unless, HasMet}
-use Rattle.marked_laws.specs.Marks.{with_enter, with_decide, with_return, marks_of}
-use Rattle.marked_laws.proofs.Events.{entered_marks, entered_in}
+use Rattle.{std.proofs.lemmas.Bool.cases_eq, kernel_history.specs.kernel_rules.specs.Runs.is_in}
+use Rattle.{marked_history.specs.declared.marks.Mark.Mark, marked_laws.proofs.Events.entered_marks, marked_laws.proofs.Events.entered_in}
 
 -- Who meets another core now has met one: before all marks no core is in a call.
 met_now : (marks : List Mark) (c : ℕ) → IsAnotherIn marks c → HasMet marks c

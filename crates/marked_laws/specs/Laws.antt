@@ -1,12 +1,7 @@
 -- The law of the marks of legal traces.
-use Rattle.std.specs.Prelude.{◌≡◌, length}
-use Rattle.spk_nums.specs.Setting.{Setting}
-use Rattle.kernel_history.specs.Trace.{Trace, decisions_of}
-use Rattle.kernel_history.specs.Events.{events_of}
-use Rattle.kernel_history.specs.Legal.{IsLegal}
-use Rattle.marked_history.specs.Histories.{IsHistory, events_of as events_of_marks}
-use Rattle.marked_history.specs.Verdicts.{decisions}
-use Rattle.marked_laws.specs.Marks.{marks_of}
+use Rattle.kernel_history.specs.{◌≡◌, length, Setting, decisions_of, events_of, IsLegal}
+use Rattle.marked_history.specs.{IsHistory, events_of as events_of_marks, decisions}
+use Rattle.{kernel_history.specs.Trace.Trace, marked_laws.specs.Marks.marks_of}
 
 -- The marks of the trace are a history, with as many decisions as the trace has, and their events are those of the trace.
 pub record MarksAreHistory (setup : Setting) (t : Trace) : Type 0 where

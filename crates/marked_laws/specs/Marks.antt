@@ -1,10 +1,7 @@
 -- The marks of a trace: the entries, decisions and returns of its steps, the newest first.
-use Rattle.std.specs.Prelude.{ℕ, List, [], ◌∷◌, Option, Some, None}
-use Rattle.spk_nums.specs.declared.calls.Call.{Call}
-use Rattle.spk_nums.specs.declared.replies.Reply.{Reply}
-use Rattle.kernel_history.specs.Trace.{Trace}
-use Rattle.marked_history.specs.declared.marks.Mark.{Mark}
+use Rattle.kernel_history.specs.{ℕ, List, [], ◌∷◌, Option, Some, None, Call, Reply}
 use Rattle.marked_history.specs.declared.marks.Mark.TheVariants.{Enter, Decide, Return}
+use Rattle.{kernel_history.specs.Trace.Trace, marked_history.specs.declared.marks.Mark.Mark}
 
 -- The marks with that of a step that may enter a call, that may decide, and that may return.
 abbrev pub with_enter : Option Call → ℕ → List Mark → List Mark

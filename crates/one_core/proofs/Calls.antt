@@ -1,17 +1,10 @@
 -- A call of a seat whose kernel has one core is answered as the sequential kernel does after the calls before it.
-use Rattle.std.proofs.Common.{◌≡◌, ℕ, List, [], ◌∷◌, ◌++◌, Some, refl, sym, ◌∙◌, ap, subst}
-use Rattle.spk_nums.specs.Setting.{Setting}
-use Rattle.spk_nums.specs.declared.calls.Call.{Call}
-use Rattle.spk_nums.specs.declared.replies.Reply.{Reply}
-use Rattle.core_kernel.specs.kernel_history.specs.Trace.{Step, Trace, calls_of}
-use Rattle.core_kernel.specs.kernel_history.specs.Legal.{IsLegal}
-use Rattle.core_kernel.specs.kernel_history.specs.Alone.{KeepsFirst}
-use Rattle.core_kernel.specs.Kernel.{KernelValue, CoreSeatValue}
-use Rattle.core_kernel.specs.Calls.{HasSeen, MakesCall}
-use Rattle.core_kernel.proofs.Lists.{calls_of-append}
-use Rattle.one_core_laws.proofs.Plain.{returns_plainly}
-use Rattle.sched_rules.specs.Schedule.{reply_to}
-use Rattle.sched_run.specs.fixed_prio.specs.Machines.{after_calls}
+use Rattle.core_kernel.specs.flight_laws.specs.flight.proofs.{◌≡◌, ℕ, List, [], ◌∷◌, ◌++◌, Some, refl, sym, ◌∙◌, ap, subst, Setting, Call}
+use Rattle.core_kernel.specs.flight_laws.specs.flight.proofs.{Reply, Step, Trace, calls_of, IsLegal}
+use Rattle.core_kernel.specs.{KernelValue, CoreSeatValue, HasSeen, MakesCall}
+use Rattle.{core_kernel.specs.kernel_history.specs.Alone.KeepsFirst, core_kernel.proofs.Lists.calls_of-append}
+use Rattle.{one_core_laws.proofs.Plain.returns_plainly, sched_start.specs.sched_rules.specs.Schedule.reply_to}
+use Rattle.{sched_run.specs.fixed_prio.specs.Machines.after_calls}
 
 -- One call more is made.
 pub made_more : (s made : CoreSeatValue) (call : Call) (r : Reply) → s.core ≡ 0 → MakesCall s call r made

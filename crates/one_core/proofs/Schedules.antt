@@ -1,29 +1,17 @@
 -- The schedule of an input as one history.
-use Rattle.std.proofs.Common.{◌≡◌, ◌≢◌, ℕ, zero, suc, ◌+◌, ◌<◌, List, [], ◌∷◌, ◌++◌, Ok, All, length, refl, sym, ◌∙◌, ap, subst, arith, inl, inr}
-use Rattle.std.specs.Prelude.{slice_index_or}
-use Rattle.std.proofs.lemmas.Bool.{cases_lt}
-use Rattle.std.proofs.lemmas.List.{get_or_past}
+use Rattle.core_kernel.specs.flight_laws.specs.flight.proofs.{◌≡◌, ◌≢◌, ℕ, zero, suc, ◌+◌, ◌<◌, List, [], ◌∷◌, ◌++◌, Ok, All, length, refl}
+use Rattle.core_kernel.specs.flight_laws.specs.flight.proofs.{sym, ◌∙◌, ap, subst, arith, inl, inr, get_or as slice_index_or, get_or_past}
+use Rattle.core_kernel.specs.flight_laws.specs.flight.proofs.{Setting, InLimits, Call, Trace, Out, phase, calls_of, IsIdle, HasCalls}
 use Rattle.std.proofs.lemmas.List.Elements.{All-nil, All-cons, All-head, All-tail, All-get_or}
-use Rattle.spk_nums.specs.Setting.{Setting}
-use Rattle.spk_nums.specs.CallLimits.{InLimits}
-use Rattle.spk_nums.specs.declared.calls.Call.{Call}
-use Rattle.core_kernel.specs.kernel_history.specs.Trace.{Trace, Out, phase, calls_of}
-use Rattle.core_kernel.specs.kernel_history.specs.Order.{IsIdle, HasCalls}
-use Rattle.core_kernel.specs.flight_laws.specs.Histories.{IsHistory}
-use Rattle.core_kernel.specs.Kernel.{CoreSeatValue}
-use Rattle.core_kernel.specs.Calls.{HasSeen}
-use Rattle.one_core_laws.specs.Plainly.{IsPlain}
-use Rattle.one_core_laws.proofs.Plain.{one_core_is_plain}
-use Rattle.sched_rules.specs.Schedule.{Step, calls_of as calls_of_turns}
-use Rattle.sched_laws.specs.Charging.{TurnsCharge}
-use Rattle.sched_laws.proofs.Exactly.{exact_ticks}
-use Rattle.sched_run.specs.fixed_prio.specs.Machines.{after_calls}
-use Rattle.sched_reader.specs.Inputs.{Input, input_of}
-use Rattle.sched_start.specs.Owing.{IsNoTick}
-use Rattle.sched_start.proofs.Owed.{owes_nothing}
-use Rattle.sched_start.proofs.Taken.{takes_no_tick}
-use Rattle.sched_run.specs.Made.{calls_in, IsSchedMade}
 use Rattle.one_core.specs.Scheduled.{begins_at, SchedTrace, IsSchedText}
+use Rattle.{core_kernel.specs.CoreSeatValue, core_kernel.specs.HasSeen, sched_run.specs.sched_reader.specs.Input}
+use Rattle.{sched_run.specs.sched_reader.specs.input_of, sched_start.specs.sched_rules.specs.Step}
+use Rattle.{sched_start.specs.sched_rules.specs.calls_of as calls_of_turns, std.proofs.lemmas.Bool.cases_lt}
+use Rattle.{core_kernel.specs.flight_laws.specs.Histories.IsHistory, one_core_laws.specs.Plainly.IsPlain}
+use Rattle.{one_core_laws.proofs.Plain.one_core_is_plain, sched_run.specs.sched_laws.specs.Charging.TurnsCharge}
+use Rattle.{sched_run.specs.sched_laws.proofs.Exactly.exact_ticks, sched_run.specs.fixed_prio.specs.Machines.after_calls}
+use Rattle.{sched_start.specs.Owing.IsNoTick, sched_start.proofs.Owed.owes_nothing, sched_start.proofs.Taken.takes_no_tick}
+use Rattle.{sched_run.specs.Made.calls_in, sched_run.specs.Made.IsSchedMade}
 
 -- What holds of all calls holds of the first.
 front : {A : Type 0} (P : A → Type 0) (xs ys : List A) → All P (xs ++ ys) → All P xs

@@ -1,8 +1,6 @@
 -- The one seat of a kernel of one core.
-use Rattle.std.proofs.Common.{◌≡◌, ℕ, ◌+◌, List, [], ◌∷◌, ◌++◌, length, refl, sym, ◌∙◌, ap, arith}
-use Rattle.std.specs.Prelude.{slice_get}
-use Rattle.std.proofs.lemmas.List.{length-append}
-use Rattle.core_kernel.specs.Kernel.{KernelValue, CoreSeatValue, AreAllSeats, AreFresh}
+use Rattle.std.proofs.Common.{◌≡◌, ℕ, ◌+◌, List, [], ◌∷◌, ◌++◌, length, refl, sym, ◌∙◌, ap, arith, slice_get, length-append}
+use Rattle.core_kernel.specs.{KernelValue, CoreSeatValue, AreAllSeats, AreFresh}
 
 -- The seat is of the kernel and of core 0, and has seen the empty trace.
 pub record IsOnlySeat (of : KernelValue) (s : CoreSeatValue) : Type 0 where

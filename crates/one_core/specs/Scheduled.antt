@@ -1,15 +1,10 @@
 -- What a script with tasks after it comes to on a machine of one core.
-use Rattle.std.specs.Prelude.{◌≡◌, ℕ, List, [], ◌∷◌, ◌++◌, Ok}
-use Rattle.core_kernel.specs.kernel_history.specs.Order.{HasCalls}
-use Rattle.core_kernel.specs.kernel_history.specs.Trace.{Trace}
-use Rattle.core_kernel.specs.flight_laws.specs.Histories.{IsHistory}
-use Rattle.one_core_laws.specs.Plainly.{IsPlain}
-use Rattle.sched_rules.specs.Schedule.{Progress, Step, at_first, turns_of, calls_of, IsSchedule}
-use Rattle.sched_rules.specs.Texts.{schedule_text}
-use Rattle.sched_laws.specs.Charging.{TurnsCharge}
-use Rattle.sched_run.specs.fixed_prio.specs.Machines.{after_calls}
-use Rattle.sched_reader.specs.Inputs.{Input, input_of}
-use Rattle.sched_run.specs.Made.{calls_in}
+use Rattle.core_kernel.specs.flight_laws.specs.core_invariant.specs.{◌≡◌, ℕ, List, [], ◌∷◌, ◌++◌, Ok, HasCalls, Trace}
+use Rattle.sched_start.specs.sched_rules.specs.{Progress, Step, at_first, turns_of, calls_of, IsSchedule}
+use Rattle.sched_run.specs.sched_reader.specs.{Input, input_of}
+use Rattle.{core_kernel.specs.flight_laws.specs.Histories.IsHistory, one_core_laws.specs.Plainly.IsPlain}
+use Rattle.{sched_start.specs.sched_rules.specs.Texts.schedule_text, sched_run.specs.sched_laws.specs.Charging.TurnsCharge}
+use Rattle.{sched_run.specs.fixed_prio.specs.Machines.after_calls, sched_run.specs.Made.calls_in}
 
 -- Where the schedule of an input begins: in the state after the script's calls.
 abbrev pub begins_at : Input → Progress

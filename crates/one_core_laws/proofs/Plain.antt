@@ -1,25 +1,14 @@
 -- Along a history of one core: where the core is between calls, in an open one and in a decided one, what the sequential kernel has come to.
-use Rattle.std.proofs.Common.{◌≡◌, ◌≢◌, inl, inr, ℕ, ◌<◌, List, [], ◌∷◌, ◌++◌, map, length, append-nil, Option, Some, None, All, refl, sym, ◌∙◌}
-use Rattle.std.proofs.Common.{ap, subst, arith}
-use Rattle.std.specs.Prelude.{option_to_list}
-use Rattle.std.proofs.lemmas.List.{map-append}
+use Rattle.kernel_history.proofs.{◌≡◌, ◌≢◌, inl, inr, ℕ, ◌<◌, List, [], ◌∷◌, ◌++◌, map, length, append-nil, Option, Some, None, All, refl}
+use Rattle.kernel_history.proofs.{sym, ◌∙◌, ap, subst, arith, option_to_list, map-append, Setting, InLimits, Call, Reply, Decision, State}
+use Rattle.kernel_history.proofs.{start, state_by, alone, Step, Phase, Out, Decided, phase, after_enter, after_decide, after_return}
+use Rattle.kernel_history.proofs.{state_entered, state_decided, state_returned, state_after, state_before, calls_of, decision_at}
+use Rattle.kernel_history.proofs.{decisions_of, MayEnter, MayDecide, MayFollow, IsLegal, IsAlone, IsFirst, phase-own, phase-other}
+use Rattle.kernel_history.proofs.{calls_of-own, calls_of-other}
+use Rattle.kernel_history.specs.kernel_rules.specs.{entered, returned, plain_reply, plain_replies, plain_step, plain_steps}
+use Rattle.kernel_history.specs.{MayReturn, UnlessEnters, IsUndisturbed, KeepsFirst}
 use Rattle.std.proofs.lemmas.List.Elements.{All-nil, All-push}
-use Rattle.spk_nums.specs.Setting.{Setting}
-use Rattle.spk_nums.specs.CallLimits.{InLimits}
-use Rattle.spk_nums.specs.declared.calls.Call.{Call}
-use Rattle.spk_nums.specs.declared.replies.Reply.{Reply}
-use Rattle.spk_nums.specs.declared.replies.Decision.{Decision}
-use Rattle.kernel_rules.specs.State.{State}
-use Rattle.kernel_rules.specs.Start.{start}
-use Rattle.kernel_rules.specs.GracePeriods.{entered, returned}
-use Rattle.kernel_rules.specs.CallRelation.{state_by}
-use Rattle.kernel_rules.specs.Alone.{alone, plain_reply, plain_replies, plain_step, plain_steps}
-use Rattle.kernel_history.specs.Trace.{Step, Trace, Phase, Out, Open, Decided, phase, after_enter, after_decide, after_return}
-use Rattle.kernel_history.specs.Trace.{state_entered, state_decided, state_returned, state_after, state_before, calls_of}
-use Rattle.kernel_history.specs.Trace.{decision_at, decisions_of}
-use Rattle.kernel_history.specs.Legal.{MayEnter, MayDecide, MayReturn, MayFollow, IsLegal}
-use Rattle.kernel_history.specs.Alone.{UnlessEnters, IsUndisturbed, IsAlone, IsFirst, AnswersAlone, KeepsFirst}
-use Rattle.kernel_history.proofs.Steps.{phase-own, phase-other, calls_of-own, calls_of-other}
+use Rattle.kernel_history.specs.{Trace.Trace, Trace.Open, Alone.AnswersAlone}
 use Rattle.one_core_laws.specs.Plainly.{replies_in, IsPlain, OneCoreIsPlain, ReturnsPlainly}
 
 -- ---- one call more

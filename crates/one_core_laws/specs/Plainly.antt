@@ -1,14 +1,8 @@
 -- A history of one core is the sequential kernel's run of its calls.
-use Rattle.std.specs.Prelude.{◌≡◌, ◌≢◌, ℕ, List, [], ◌∷◌, ◌++◌, All, map, Some}
-use Rattle.spk_nums.specs.Setting.{Setting}
-use Rattle.spk_nums.specs.CallLimits.{InLimits}
-use Rattle.spk_nums.specs.declared.calls.Call.{Call}
-use Rattle.spk_nums.specs.declared.replies.Reply.{Reply}
-use Rattle.kernel_rules.specs.Start.{start}
-use Rattle.kernel_rules.specs.Alone.{plain_reply, plain_replies, plain_steps}
-use Rattle.kernel_history.specs.Trace.{Step, Trace, Out, phase, calls_of, decisions_of, state_after}
-use Rattle.kernel_history.specs.Legal.{IsLegal}
-use Rattle.kernel_history.specs.Alone.{KeepsFirst}
+use Rattle.kernel_history.specs.{◌≡◌, ◌≢◌, ℕ, List, [], ◌∷◌, ◌++◌, All, map, Some, Setting, InLimits, Call, Reply, start, Step, Out, phase}
+use Rattle.kernel_history.specs.{calls_of, decisions_of, state_after, IsLegal, KeepsFirst}
+use Rattle.kernel_history.specs.kernel_rules.specs.{plain_reply, plain_replies, plain_steps}
+use Rattle.kernel_history.specs.Trace.{Trace}
 
 -- The replies decided in the trace, in order.
 abbrev pub replies_in : Trace → List Reply

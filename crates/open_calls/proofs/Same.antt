@@ -1,38 +1,21 @@
 -- What is found of an open call is the same in two states that are one for the machine, one of them reached.
-use Rattle.std.proofs.Common.{◌≡◌, ℕ, ◌<◌, ◌++◌, nat_le, nat_lt, min, if◌then◌else◌, refl, sym, ◌∙◌, ap, List, Option, Some, None}
-use Rattle.std.specs.Prelude.{string_bytes}
-use Rattle.spk_nums.specs.Setting.{Setting, IsSetting}
-use Rattle.spk_nums.specs.Capability.{Capability}
+use Rattle.plain_kernel.specs.kernel_laws.proofs.{◌≡◌, ℕ, ◌<◌, ◌++◌, leb as nat_le, ltb as nat_lt, min, if◌then◌else◌, refl, sym, ◌∙◌, ap}
+use Rattle.plain_kernel.specs.kernel_laws.proofs.{List, Option, Some, None, string_bytes, Setting, IsSetting, Capability, Call, Retype}
+use Rattle.plain_kernel.specs.kernel_laws.proofs.{Transfer, Delegate, Replenish, Reply, Core, State, tcap_in, outstanding, any, only}
+use Rattle.plain_kernel.specs.kernel_laws.proofs.{to_look, to_use, Change, Judged, Refused, Found, named, acts, change_of, are_calls_spent}
+use Rattle.plain_kernel.specs.kernel_laws.proofs.{reply_in, alone, Event, after, Open, phase_of, IsRun, opened}
+use Rattle.plain_kernel.specs.same_changes.proofs.{Twins, core_below, named_same, changes_same, twins}
+use Rattle.seq_state.proofs.{state_of, Represents, same_refs}
+use Rattle.call_plans.specs.{at_place, plan_for}
+use Rattle.plain_kernel.specs.same_changes.proofs.{Reaching.core_same, TimeRules.named_frame, EveryCall.same_acts, EveryCall.stays_in_range}
+use Rattle.call_plans.specs.declared.plans.Nth.TheVariants.{First, Second, Third, Fourth}
+use Rattle.open_calls.specs.{declared.outlooks.Outlook.Outlook, Leads.lead_line, Leads.some_name, Leads.names_text, Told.left}
+use Rattle.open_calls.specs.{Told.short_of, Told.short, Told.told, Outlooks.IsOutlook}
+use Rattle.{seq_state.specs.kernel_rules.specs.Alone.first_reply, seq_state.specs.Maps.Maps, seq_lookups.specs.Ranges.IsInRange}
+use Rattle.{plain_kernel.specs.same_changes.specs.Same.SameOutcome, call_plans.specs.declared.plans.Name.Name}
 use Rattle.spk_nums.specs.declared.kinds.Kind.TheVariants as kind
 use Rattle.spk_nums.specs.declared.kinds.FrameKind.TheVariants as frame_kind
-use Rattle.spk_nums.specs.declared.calls.Call.{Call}
-use Rattle.spk_nums.specs.declared.calls.Call.TheVariants.{Retype, Transfer, Delegate, Replenish}
-use Rattle.spk_nums.specs.declared.replies.Reply.{Reply}
 use Rattle.spk_nums.specs.declared.replies.Reply.TheVariants as reply
-use Rattle.kernel_rules.specs.State.{Core, State, tcap_in, outstanding}
-use Rattle.kernel_rules.specs.Access.{any, only, to_look, to_use}
-use Rattle.kernel_rules.specs.Rules.{Change, Judged, Refused, Found, named}
-use Rattle.kernel_rules.specs.Life.{acts}
-use Rattle.kernel_rules.specs.CallRelation.{change_of, are_calls_spent}
-use Rattle.kernel_rules.specs.Alone.{reply_in, first_reply, alone}
-use Rattle.kernel_rules.specs.Runs.{Event, after, Open, phase_of, IsRun}
-use Rattle.kernel_invariant.proofs.SoundRuns.{opened}
-use Rattle.seq_state.specs.Maps.{Maps, state_of}
-use Rattle.seq_state.specs.Representation.{Represents}
-use Rattle.seq_state.proofs.Same.{same_refs}
-use Rattle.seq_lookups.specs.Ranges.{IsInRange}
-use Rattle.plain_kernel.specs.same_changes.specs.Same.{SameOutcome}
-use Rattle.plain_kernel.specs.same_changes.proofs.Reaching.{Twins, core_below, core_same, named_same}
-use Rattle.plain_kernel.specs.same_changes.proofs.TimeRules.{named_frame}
-use Rattle.plain_kernel.specs.same_changes.proofs.EveryCall.{changes_same, same_acts, stays_in_range, twins}
-use Rattle.call_plans.specs.declared.plans.Nth.TheVariants.{First, Second, Third, Fourth}
-use Rattle.call_plans.specs.declared.plans.Name.{Name}
-use Rattle.call_plans.specs.Plans.{at_place}
-use Rattle.call_plans.specs.PlanOf.{plan_for}
-use Rattle.open_calls.specs.declared.outlooks.Outlook.{Outlook}
-use Rattle.open_calls.specs.Leads.{lead_line, some_name, names_text}
-use Rattle.open_calls.specs.Told.{left, short_of, short, told}
-use Rattle.open_calls.specs.Outlooks.{IsOutlook}
 
 module _ {t s : State} {o : ℕ → _} {c : ℕ} (w : Twins t s o c) where
   name_same : (name : Option Name) → some_name t c name ≡ some_name s c name

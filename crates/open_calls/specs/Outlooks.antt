@@ -1,15 +1,7 @@
 -- All that is found of an open call.
-use Rattle.std.specs.Prelude.{◌≡◌, ℕ, List, string_bytes}
-use Rattle.spk_nums.specs.Setting.{Setting, IsSetting}
-use Rattle.spk_nums.specs.declared.calls.Call.{Call}
-use Rattle.kernel_rules.specs.State.{State}
-use Rattle.kernel_rules.specs.Alone.{alone}
-use Rattle.kernel_rules.specs.Runs.{Event, after, Open, phase_of, IsRun}
-use Rattle.seq_state.specs.Maps.{Maps}
-use Rattle.seq_state.specs.Representation.{Represents}
-use Rattle.open_calls.specs.declared.outlooks.Outlook.{Outlook}
-use Rattle.open_calls.specs.Leads.{names_text}
-use Rattle.open_calls.specs.Told.{told}
+use Rattle.seq_state.specs.{◌≡◌, ℕ, List, string_bytes, Setting, IsSetting, Call, State, alone, Event, after, Open, phase_of, IsRun}
+use Rattle.open_calls.specs.{declared.outlooks.Outlook.Outlook, Leads.names_text, Told.told}
+use Rattle.{seq_state.specs.Represents, seq_state.specs.Maps.Maps}
 
 -- what is found of a call of core c that is open in state s
 pub record IsOutlook (s : State) (c : ℕ) (call : Call) (found : Outlook) : Type 0 where

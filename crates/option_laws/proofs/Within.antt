@@ -1,18 +1,11 @@
 -- What a run's states name is of the machine: cores that are in a call, and frames with references.
-use Rattle.std.proofs.Common.{◌≡◌, ◌≢◌, ◌<◌, ◌≤◌, ◌==◌, ℕ, Bool, false, IsTrue, List, [], ◌∷◌, refl, sym, ◌∙◌, ap, subst, arith}
-use Rattle.std.proofs.Common.{inl, inr, cond, suc, zero}
-use Rattle.std.proofs.lemmas.Bool.{false≢true, cases_eq, ne_eqb}
-use Rattle.spk_nums.specs.Setting.{Setting}
-use Rattle.spk_nums.specs.declared.kinds.Kind.{Kind}
-use Rattle.spk_nums.specs.declared.kinds.Kind.TheVariants as kind
-use Rattle.kernel_rules.specs.State.{Place, Free, Holds, Quiescing, Frame, Untyped, Kernel, Comp, Thread, State}
-use Rattle.kernel_rules.specs.State.{Liveness, Unused, Live, Dead}
-use Rattle.kernel_rules.specs.References.{named_by, place_names, frame_names, number_names, core_names, sum_below, times, node_refs, refs}
-use Rattle.kernel_rules.specs.Fitting.{fits}
-use Rattle.kernel_rules.specs.Runs.{Event, Enters, Decides, Returns, is_in, phase_of, IsRun}
-use Rattle.kernel_invariant.proofs.Sums.{times_cons}
-use Rattle.kernel_invariant.proofs.Sound.{AreComps, IsStack, IsSound, IsObjectGood}
-use Rattle.kernel_invariant.proofs.SoundRuns.{phase_own, phase_other}
+use Rattle.reply_ranges.specs.kernel_laws.proofs.{◌≡◌, ◌≢◌, ◌<◌, ◌≤◌, ◌==◌, ℕ, Bool, false, IsTrue, List, [], ◌∷◌, refl, sym, ◌∙◌, ap}
+use Rattle.reply_ranges.specs.kernel_laws.proofs.{subst, arith, inl, inr, cond, suc, zero, false≢true, ne_eqb, Setting, Kind, Place, Free}
+use Rattle.reply_ranges.specs.kernel_laws.proofs.{Holds, Quiescing, Frame, Untyped, Kernel, Comp, Thread, State, Liveness, Unused, Live}
+use Rattle.reply_ranges.specs.kernel_laws.proofs.{Dead, named_by, place_names, frame_names, number_names, core_names, sum_below, times}
+use Rattle.reply_ranges.specs.kernel_laws.proofs.{node_refs, refs, fits, Event, Enters, Decides, Returns, is_in, phase_of, IsRun}
+use Rattle.reply_ranges.specs.kernel_laws.proofs.{times_cons, IsStack, IsSound, IsObjectGood, phase_own, phase_other}
+use Rattle.{std.proofs.lemmas.Bool.cases_eq, reply_ranges.specs.kernel_invariant.proofs.Sound.AreComps}
 
 -- ---- cores
 
@@ -52,17 +45,17 @@ module _ (s : State) (o : ℕ → Bool) (sound : IsSound s o) (f : ℕ) (past : 
       omega (arith, first, nothing, none)
 
   by_kind : (k : Kind) (g : ℕ) → IsTrue (fits k (s.frame g)) → times f (named_by k g) ≡ 0
-  by_kind kind.Range g fit = refl
-  by_kind kind.Table g fit = more g [] (other kind.Table g refl fit) refl
-  by_kind kind.Leaf g fit = more g [] (other kind.Leaf g refl fit) refl
-  by_kind kind.Pages g fit = more g [] (other kind.Pages g refl fit) refl
-  by_kind kind.Pleaf g fit = more g [] (other kind.Pleaf g refl fit) refl
-  by_kind kind.Comp g fit = more g [] (other kind.Comp g refl fit) refl
-  by_kind kind.Gate g fit = more g [] (other kind.Gate g refl fit) refl
-  by_kind kind.Thread g fit = more g [] (other kind.Thread g refl fit) refl
-  by_kind kind.Tcap g fit = more g [] (other kind.Tcap g refl fit) refl
-  by_kind kind.Link g fit = more g [] (other kind.Link g refl fit) refl
-  by_kind kind.Page g fit = more g [] (other kind.Page g refl fit) refl
+  by_kind Kind.Range g fit = refl
+  by_kind Kind.Table g fit = more g [] (other Kind.Table g refl fit) refl
+  by_kind Kind.Leaf g fit = more g [] (other Kind.Leaf g refl fit) refl
+  by_kind Kind.Pages g fit = more g [] (other Kind.Pages g refl fit) refl
+  by_kind Kind.Pleaf g fit = more g [] (other Kind.Pleaf g refl fit) refl
+  by_kind Kind.Comp g fit = more g [] (other Kind.Comp g refl fit) refl
+  by_kind Kind.Gate g fit = more g [] (other Kind.Gate g refl fit) refl
+  by_kind Kind.Thread g fit = more g [] (other Kind.Thread g refl fit) refl
+  by_kind Kind.Tcap g fit = more g [] (other Kind.Tcap g refl fit) refl
+  by_kind Kind.Link g fit = more g [] (other Kind.Link g refl fit) refl
+  by_kind Kind.Page g fit = more g [] (other Kind.Page g refl fit) refl
 
   by_place : (p : Place) (g i : ℕ) → s.place g i ≡ p → times f (place_names p) ≡ 0
   by_place Free g i is = refl
@@ -71,28 +64,28 @@ module _ (s : State) (o : ℕ → Bool) (sound : IsSound s o) (f : ℕ) (past : 
 
   by_comps : (fs : List ℕ) → AreComps s fs → times f fs ≡ 0
   by_comps [] are = refl
-  by_comps (g ∷ fs) are = more g fs (other kind.Comp g refl are.0) (by_comps fs are.1)
+  by_comps (g ∷ fs) are = more g fs (other Kind.Comp g refl are.0) (by_comps fs are.1)
 
   by_stack : (fs : List ℕ) → IsStack s fs → times f fs ≡ 0
   by_stack [] is = absurd is
-  by_stack (g ∷ fs) is = more g fs (other kind.Comp g refl is.0) (by_comps fs is.1)
+  by_stack (g ∷ fs) is = more g fs (other Kind.Comp g refl is.0) (by_comps fs is.1)
 
   by_object : (x : Frame) → IsObjectGood s x → times f (frame_names x) ≡ 0
   by_object (Kernel (Comp k)) good =
-      more k.table (k.pages ∷ []) (other kind.Table k.table refl good.0) (more k.pages [] (other kind.Pages k.pages refl good.1) refl)
+      more k.table (k.pages ∷ []) (other Kind.Table k.table refl good.0) (more k.pages [] (other Kind.Pages k.pages refl good.1) refl)
   by_object (Kernel (Thread t)) good = by_stack t.stack good
   by_object _ good = refl
 
   by_number : (x : Liveness) (l : ℕ) → s.number l ≡ x → times f (number_names x) ≡ 0
   by_number Unused l is = refl
-  by_number (Live e g) l is = more g [] (other kind.Comp g refl (sound.numbers l e g is).0) refl
+  by_number (Live e g) l is = more g [] (other Kind.Comp g refl (sound.numbers l e g is).0) refl
   by_number (Dead e) l is = refl
 
   by_core : (c : ℕ) → c < s.limits.cores → times f (core_names (s.core c)) ≡ 0
   by_core c low =
       let fit = sound.cores c low in
-      more (s.core c).thread ((s.core c).tcap ∷ []) (other kind.Thread (s.core c).thread refl fit.0)
-      (more (s.core c).tcap [] (other kind.Tcap (s.core c).tcap refl fit.1) refl)
+      more (s.core c).thread ((s.core c).tcap ∷ []) (other Kind.Thread (s.core c).thread refl fit.0)
+      (more (s.core c).tcap [] (other Kind.Tcap (s.core c).tcap refl fit.1) refl)
 
   by_node : (g : ℕ) → node_refs s f g ≡ 0
   unfolding node_refs

@@ -1,32 +1,16 @@
 -- What a core puts in a part of a run is covered by what it reached there.
-use Rattle.std.proofs.Common.{◌≡◌, ◌≢◌, ◌⊎◌, inl, inr, ℕ, ◌+◌, ◌<◌, ◌≤◌, true, IsTrue, refl, sym, ◌∙◌, ap, subst, arith}
-use Rattle.std.proofs.Common.{List, [], ◌∷◌, ◌++◌, append_assoc}
-use Rattle.std.proofs.lemmas.Bool.{cases_eq, cases_lt}
-use Rattle.spk_nums.specs.Capability.{Capability}
-use Rattle.spk_nums.specs.Rights.{has_rights, right_to_use}
-use Rattle.spk_nums.specs.Setting.{Setting}
-use Rattle.spk_nums.specs.declared.kinds.Kind.TheVariants as kind
-use Rattle.spk_nums.specs.declared.calls.Make.{Make}
-use Rattle.spk_nums.specs.declared.calls.Make.TheVariants as make
-use Rattle.spk_nums.specs.declared.calls.Call.{Call}
-use Rattle.spk_nums.specs.declared.calls.Call.TheVariants as call
-use Rattle.spk_nums.specs.declared.replies.Reply.TheVariants as reply
-use Rattle.kernel_rules.specs.State.{State}
-use Rattle.kernel_rules.specs.Access.{Want, found, any, only, to_copy, to_use, to_part}
-use Rattle.kernel_rules.specs.Rules.{Found, named}
-use Rattle.kernel_rules.specs.CapabilityCalls.{has_frame, make_rule}
-use Rattle.kernel_rules.specs.CallRelation.{rule_of}
-use Rattle.kernel_rules.specs.Runs.{Event, Enters, Decides, Returns, after}
-use Rattle.call_names.specs.Names.{IsName}
-use Rattle.origin_rules.specs.declared.chains.Step.{Step}
-use Rattle.origin_rules.specs.declared.chains.Step.TheVariants.{Copied, Made, Gated, Parted}
-use Rattle.origin_rules.specs.declared.chains.ChainLink.{ChainLink}
-use Rattle.origin_rules.specs.Chains.{decided, origin_of}
-use Rattle.origin_rules.specs.Derived.{kind_of, Gives, HasChain}
-use Rattle.origin_rules.proofs.EachChain.{chains_are_real}
-use Rattle.origin_rules.proofs.Falling.{rights_only_fall}
-use Rattle.origin_laws.specs.Confined.{IsWithin, Covers, IsForeign, HasReached, IsCovered, CoresAreConfined}
-use Rattle.kernel_rules.proofs.PartFrames.{frame_in}
+use Rattle.call_names.specs.kernel_rules.proofs.{◌≡◌, ◌≢◌, ◌⊎◌, inl, inr, ℕ, ◌+◌, ◌<◌, ◌≤◌, true, IsTrue, refl, sym, ◌∙◌, ap, subst, arith}
+use Rattle.call_names.specs.kernel_rules.proofs.{List, [], ◌∷◌, ◌++◌, append_assoc, Capability, has_rights, right_to_use, Setting, Make}
+use Rattle.call_names.specs.kernel_rules.proofs.{Call, Want, found, any, only, to_copy, to_use, to_part, Found, named, has_frame, make_rule}
+use Rattle.call_names.specs.kernel_rules.proofs.{rule_of, Event, Enters, Decides, Returns, after, frame_in, Kind, Reply}
+use Rattle.origin_rules.specs.{decided, origin_of, Gives, HasChain}
+use Rattle.origin_rules.specs.{declared.chains.Step.Step, declared.chains.Step.TheVariants.Copied, declared.chains.Step.TheVariants.Made}
+use Rattle.origin_rules.specs.{declared.chains.Step.TheVariants.Gated, declared.chains.Step.TheVariants.Parted}
+use Rattle.origin_laws.specs.Confined.{IsWithin, Covers, HasReached, CoresAreConfined}
+use Rattle.{origin_laws.specs.IsForeign, origin_laws.specs.IsCovered, std.proofs.lemmas.Bool.cases_eq, std.proofs.lemmas.Bool.cases_lt}
+use Rattle.{call_names.specs.kernel_rules.specs.State.State, call_names.specs.Names.IsName}
+use Rattle.{origin_rules.specs.declared.chains.ChainLink.ChainLink, origin_rules.specs.Derived.kind_of}
+use Rattle.{origin_rules.proofs.EachChain.chains_are_real, origin_rules.proofs.Falling.rights_only_fall}
 
 -- ---- two ends of one run
 
@@ -52,38 +36,38 @@ fewer (Returns c ∷ more) part = fewer more part
 
 -- ---- covering
 
-made_kind : (what : Make) → kind_of what ≢ kind.Range
-made_kind make.Table e = cc
-made_kind make.Leaf e = cc
-made_kind make.Pages e = cc
-made_kind make.Pleaf e = cc
-made_kind (make.Thread comp) e = cc
-made_kind (make.Tcap sched quality) e = cc
-made_kind (make.Comp table pages live) e = cc
+made_kind : (what : Make) → kind_of what ≢ Kind.Range
+made_kind Make.Table e = cc
+made_kind Make.Leaf e = cc
+made_kind Make.Pages e = cc
+made_kind Make.Pleaf e = cc
+made_kind (Make.Thread comp) e = cc
+made_kind (Make.Tcap sched quality) e = cc
+made_kind (Make.Comp table pages live) e = cc
 
 -- A parent covers what a call puts from it.
 step_covers : (s : State) (c : ℕ) (call : Call) (what : Step) (parent k : Capability) → Gives s c call what parent k → Covers parent k
-step_covers s c (call.Copy a t b rights) Copied parent k g =
-    let falls = rights_only_fall s c (call.Copy a t b rights) Copied parent k g in
+step_covers s c (Call.Copy a t b rights) Copied parent k g =
+    let falls = rights_only_fall s c (Call.Copy a t b rights) Copied parent k g in
     inl (record { kind = falls.kind; frame = falls.frame; arg = falls.arg; rights = falls.rights })
-step_covers s c (call.Make what r f t b) Made parent k g =
-    let falls = rights_only_fall s c (call.Make what r f t b) Made parent k g in
+step_covers s c (Call.Make what r f t b) Made parent k g =
+    let falls = rights_only_fall s c (Call.Make what r f t b) Made parent k g in
     inr (inr (inl (record {
       is_range = falls.kind;
       may_use = falls.may_use;
       other = λ e. made_kind what (sym (ap (λ (j : Capability). j.kind) g.is) ∙ e);
       frame = subst (λ (j : Capability). has_frame (found parent) j.frame ≡ true) (sym g.is) g.frame;
     })))
-step_covers s c (call.Gate comp t b) Gated parent k g =
-    let falls = rights_only_fall s c (call.Gate comp t b) Gated parent k g in
+step_covers s c (Call.Gate comp t b) Gated parent k g =
+    let falls = rights_only_fall s c (Call.Gate comp t b) Gated parent k g in
     inr (inl (record {
       is_comp = falls.kind;
       may_use = falls.may_use;
       is_gate = ap (λ (j : Capability). j.kind) g.is;
       frame = falls.frame;
     }))
-step_covers s c (call.Part r f n t b) Parted parent k g =
-    let falls = rights_only_fall s c (call.Part r f n t b) Parted parent k g in
+step_covers s c (Call.Part r f n t b) Parted parent k g =
+    let falls = rights_only_fall s c (Call.Part r f n t b) Parted parent k g in
     inr (inr (inr (record {
       is_range = falls.parent_kind;
       kind = falls.kind;
@@ -175,37 +159,37 @@ pub record Names (s : State) (c : ℕ) (call : Call) (r : Capability) : Type 0 w
   pub is_name : IsName s c (rule_of s c call) number want
   pub is : named s c number want ≡ Found r
 
-range_name : (s : State) (c : ℕ) (what : Make) (r f t b : ℕ) → IsName s c (make_rule s what r f t b) r (to_use (only kind.Range))
-range_name s c make.Table r f t b = inl (refl, refl)
-range_name s c make.Leaf r f t b = inl (refl, refl)
-range_name s c make.Pages r f t b = inl (refl, refl)
-range_name s c make.Pleaf r f t b = inl (refl, refl)
-range_name s c (make.Thread comp) r f t b = inl (refl, refl)
-range_name s c (make.Tcap sched quality) r f t b = inl (refl, refl)
-range_name s c (make.Comp table pages live) r f t b = inl (refl, refl)
+range_name : (s : State) (c : ℕ) (what : Make) (r f t b : ℕ) → IsName s c (make_rule s what r f t b) r (to_use (only Kind.Range))
+range_name s c Make.Table r f t b = inl (refl, refl)
+range_name s c Make.Leaf r f t b = inl (refl, refl)
+range_name s c Make.Pages r f t b = inl (refl, refl)
+range_name s c Make.Pleaf r f t b = inl (refl, refl)
+range_name s c (Make.Thread comp) r f t b = inl (refl, refl)
+range_name s c (Make.Tcap sched quality) r f t b = inl (refl, refl)
+range_name s c (Make.Comp table pages live) r f t b = inl (refl, refl)
 
 named_by : (s : State) (c : ℕ) (call : Call) (what : Step) (parent k : Capability) → Gives s c call what parent k → Names s c call parent
-named_by s c (call.Copy a t b rights) Copied parent k g = record {
+named_by s c (Call.Copy a t b rights) Copied parent k g = record {
   number = a;
   want = to_copy any;
   is_name = inl (refl, refl);
   is = g.names;
 }
-named_by s c (call.Make what r f t b) Made parent k g = record {
+named_by s c (Call.Make what r f t b) Made parent k g = record {
   number = r;
-  want = to_use (only kind.Range);
+  want = to_use (only Kind.Range);
   is_name = range_name s c what r f t b;
   is = g.names;
 }
-named_by s c (call.Gate comp t b) Gated parent k g = record {
+named_by s c (Call.Gate comp t b) Gated parent k g = record {
   number = comp;
-  want = to_use (only kind.Comp);
+  want = to_use (only Kind.Comp);
   is_name = inl (refl, refl);
   is = g.names;
 }
-named_by s c (call.Part r f n t b) Parted parent k g = record {
+named_by s c (Call.Part r f n t b) Parted parent k g = record {
   number = r;
-  want = to_part (only kind.Range);
+  want = to_part (only Kind.Range);
   is_name = inl (refl, refl);
   is = g.names;
 }
@@ -221,7 +205,7 @@ reached_later setting before c events more whole r is h = record {
   call = h.call;
   value = h.value;
   is_part = is ∙ ap (λ es. more ++ es) h.is_part
-      ∙ sym (append_assoc more h.later (Decides c h.call (reply.Ok h.value) ∷ h.moment));
+      ∙ sym (append_assoc more h.later (Decides c h.call (Reply.Ok h.value) ∷ h.moment));
   is_since = h.is_since;
   number = h.number;
   want = h.want;
@@ -250,14 +234,14 @@ confined setting before c (x ∷ xs) start later events k is h = elim (cases_lt 
       number = h.number;
       other = other;
     }))
-    | inl own ↦ inr (by_end own (ends later before h.later (Decides h.core h.call (reply.Ok h.value) ∷ h.before) (sym is ∙ h.is_part)) new
+    | inl own ↦ inr (by_end own (ends later before h.later (Decides h.core h.call (Reply.Ok h.value) ∷ h.before) (sym is ∙ h.is_part)) new
         (λ more rest. confined setting before c xs start more h.before h.parent rest h.chain))
   ]
 ]
   where
-    part_is : h.core ≡ c → events ≡ (h.later ++ (Decides c h.call (reply.Ok h.value) ∷ [])) ++ h.before
-    part_is own = h.is_part ∙ ap (λ d. h.later ++ (Decides d h.call (reply.Ok h.value) ∷ h.before)) own
-        ∙ sym (append_assoc h.later (Decides c h.call (reply.Ok h.value) ∷ []) h.before)
+    part_is : h.core ≡ c → events ≡ (h.later ++ (Decides c h.call (Reply.Ok h.value) ∷ [])) ++ h.before
+    part_is own = h.is_part ∙ ap (λ d. h.later ++ (Decides d h.call (Reply.Ok h.value) ∷ h.before)) own
+        ∙ sym (append_assoc h.later (Decides c h.call (Reply.Ok h.value) ∷ []) h.before)
 
     by_parent : h.core ≡ c → (since : List Event) → h.before ≡ since ++ before
         → IsForeign before c h.before xs ⊎ IsCovered setting before c h.before h.parent → IsCovered setting before c events k
@@ -271,7 +255,7 @@ confined setting before c (x ∷ xs) start later events k is h = elim (cases_lt 
             later = h.later;
             call = h.call;
             value = h.value;
-            is_part = h.is_part ∙ ap (λ d. h.later ++ (Decides d h.call (reply.Ok h.value) ∷ h.before)) own;
+            is_part = h.is_part ∙ ap (λ d. h.later ++ (Decides d h.call (Reply.Ok h.value) ∷ h.before)) own;
             is_since = is_since;
             number = n.number;
             want = n.want;
@@ -287,19 +271,19 @@ confined setting before c (x ∷ xs) start later events k is h = elim (cases_lt 
         }
     by_parent own since is_since (inr covered) = record {
       root = covered.root;
-      reached = reached_later setting before c h.before (h.later ++ (Decides c h.call (reply.Ok h.value) ∷ [])) events covered.root
+      reached = reached_later setting before c h.before (h.later ++ (Decides c h.call (Reply.Ok h.value) ∷ [])) events covered.root
           (part_is own) covered.reached;
       covers = covers_on covered.root h.parent k covered.covers
           (step_covers (after setting h.before) h.core h.call x.what h.parent k h.gives);
     }
 
-    by_end : h.core ≡ c → IsEnd (Decides h.core h.call (reply.Ok h.value) ∷ h.before) before
-        ⊎ IsEnd before (Decides h.core h.call (reply.Ok h.value) ∷ h.before) → decided before < x.decision
+    by_end : h.core ≡ c → IsEnd (Decides h.core h.call (Reply.Ok h.value) ∷ h.before) before
+        ⊎ IsEnd before (Decides h.core h.call (Reply.Ok h.value) ∷ h.before) → decided before < x.decision
         → ((more : List Event) → h.before ≡ more ++ before
         → IsForeign before c h.before xs ⊎ IsCovered setting before c h.before h.parent) → IsCovered setting before c events k
     by_end own (inl after_it) new parent = by_more own after_it.more after_it.is
       where
-        by_more : h.core ≡ c → (more : List Event) → Decides h.core h.call (reply.Ok h.value) ∷ h.before ≡ more ++ before
+        by_more : h.core ≡ c → (more : List Event) → Decides h.core h.call (Reply.Ok h.value) ∷ h.before ≡ more ++ before
             → IsCovered setting before c events k
         by_more own [] e =
             let same : decided h.before + 1 ≡ decided before = ap decided e in
@@ -309,9 +293,9 @@ confined setting before c (x ∷ xs) start later events k is h = elim (cases_lt 
             let rest : h.before ≡ more ++ before = cc in
             by_parent own more rest (parent more rest)
     by_end own (inr before_it) new parent =
-        let most : decided h.before + 1 ≤ decided (before_it.more ++ (Decides h.core h.call (reply.Ok h.value) ∷ h.before)) =
-        fewer before_it.more (Decides h.core h.call (reply.Ok h.value) ∷ h.before) in
-        let same : decided before ≡ decided (before_it.more ++ (Decides h.core h.call (reply.Ok h.value) ∷ h.before)) =
+        let most : decided h.before + 1 ≤ decided (before_it.more ++ (Decides h.core h.call (Reply.Ok h.value) ∷ h.before)) =
+        fewer before_it.more (Decides h.core h.call (Reply.Ok h.value) ∷ h.before) in
+        let same : decided before ≡ decided (before_it.more ++ (Decides h.core h.call (Reply.Ok h.value) ∷ h.before)) =
         ap decided before_it.is in
         let number = h.number in
         absurd (omega (arith, most, same, number, new))

@@ -1,22 +1,9 @@
 -- Confinement: what a core puts in a part of a run is covered by what it reached there and had not put itself.
-use Rattle.std.specs.Prelude.{◌≡◌, ◌≢◌, ◌⊎◌, ℕ, ◌+◌, ◌≤◌, true, List, [], ◌∷◌, ◌++◌, IsTrue}
-use Rattle.spk_nums.specs.Capability.{Capability}
-use Rattle.spk_nums.specs.Rights.{has_rights, right_to_use}
-use Rattle.spk_nums.specs.Setting.{Setting, IsSetting}
-use Rattle.spk_nums.specs.declared.kinds.Kind.TheVariants as kind
-use Rattle.spk_nums.specs.declared.calls.Call.{Call}
-use Rattle.spk_nums.specs.declared.replies.Value.{Value}
-use Rattle.spk_nums.specs.declared.replies.Reply.TheVariants as reply
-use Rattle.kernel_rules.specs.State.{Holds}
-use Rattle.kernel_rules.specs.Access.{Want, found}
-use Rattle.kernel_rules.specs.Rules.{Found, named}
-use Rattle.kernel_rules.specs.CapabilityCalls.{has_frame}
-use Rattle.kernel_rules.specs.CallRelation.{rule_of}
-use Rattle.kernel_rules.specs.Runs.{Event, Decides, after, IsRun}
-use Rattle.call_names.specs.Names.{IsName}
-use Rattle.origin_rules.specs.declared.chains.ChainLink.{ChainLink}
-use Rattle.origin_rules.specs.Chains.{decided, origin_of, is_own}
-use Rattle.origin_rules.specs.Derived.{HasChain}
+use Rattle.call_names.specs.kernel_rules.specs.{◌≡◌, ◌≢◌, ◌⊎◌, ℕ, ◌+◌, ◌≤◌, true, List, [], ◌∷◌, ◌++◌, IsTrue, Capability, has_rights}
+use Rattle.call_names.specs.kernel_rules.specs.{right_to_use, Setting, IsSetting, Call, Value, Holds, Want, found, Found, named, has_frame}
+use Rattle.call_names.specs.kernel_rules.specs.{rule_of, Event, Decides, after, IsRun, Kind, Reply}
+use Rattle.origin_rules.specs.{decided, origin_of, is_own, HasChain}
+use Rattle.{call_names.specs.Names.IsName, origin_rules.specs.declared.chains.ChainLink.ChainLink}
 
 -- A copy of r, or a copy of a copy and so on: the same but for rights, of which it has none that r lacks.
 pub record IsWithin (r k : Capability) : Type 0 where
@@ -27,22 +14,22 @@ pub record IsWithin (r k : Capability) : Type 0 where
 
 -- A gate to the component of r, which may be used.
 pub record IsGateOf (r k : Capability) : Type 0 where
-  pub is_comp : r.kind ≡ kind.Comp
+  pub is_comp : r.kind ≡ Kind.Comp
   pub may_use : IsTrue (has_rights r.rights right_to_use)
-  pub is_gate : k.kind ≡ kind.Gate
+  pub is_gate : k.kind ≡ Kind.Gate
   pub frame : k.frame ≡ r.frame
 
 -- A capability to what was made in a frame of the range r, which may be used; and no range.
 pub record IsMadeIn (r k : Capability) : Type 0 where
-  pub is_range : r.kind ≡ kind.Range
+  pub is_range : r.kind ≡ Kind.Range
   pub may_use : IsTrue (has_rights r.rights right_to_use)
-  pub other : k.kind ≢ kind.Range
+  pub other : k.kind ≢ Kind.Range
   pub frame : has_frame (found r) k.frame ≡ true
 
 -- A range whose frames the range r has, with no right that r lacks.
 pub record IsPartOf (r k : Capability) : Type 0 where
-  pub is_range : r.kind ≡ kind.Range
-  pub kind : k.kind ≡ kind.Range
+  pub is_range : r.kind ≡ Kind.Range
+  pub kind : k.kind ≡ Kind.Range
   pub frames : (f : ℕ) → has_frame (found k) f ≡ true → has_frame (found r) f ≡ true
   pub rights : (needs : ℕ) → IsTrue (has_rights k.rights needs) → IsTrue (has_rights r.rights needs)
 
@@ -57,7 +44,7 @@ pub record IsOfOther (c : ℕ) (events : List Event) (x : ChainLink) : Type 0 wh
   pub core : ℕ
   pub call : Call
   pub value : Value
-  pub is_part : events ≡ later ++ (Decides core call (reply.Ok value) ∷ before)
+  pub is_part : events ≡ later ++ (Decides core call (Reply.Ok value) ∷ before)
   pub number : x.decision ≡ decided before + 1
   pub other : core ≢ c
 
@@ -74,7 +61,7 @@ pub record HasReached (setting : Setting) (before : List Event) (c : ℕ) (event
   pub later : List Event
   pub call : Call
   pub value : Value
-  pub is_part : events ≡ later ++ (Decides c call (reply.Ok value) ∷ moment)
+  pub is_part : events ≡ later ++ (Decides c call (Reply.Ok value) ∷ moment)
   pub is_since : moment ≡ since ++ before
   pub number : ℕ
   pub want : Want

@@ -1,13 +1,8 @@
 -- The lines of what is known are those of the definitions.
-use Rattle.std.proofs.Common.{◌≡◌, ℕ, ◌++◌, List, ◌∙◌, ap}
-use Rattle.kernel_rules.specs.State.{Limits}
-use Rattle.kernel_invariant.proofs.SoundRuns.{limits_stay}
-use Rattle.seq_state.specs.Maps.{state_of}
-use Rattle.table_lines.proofs.Lines.{lines_same}
-use Rattle.origin_rules.specs.Chains.{chain_of}
-use Rattle.confinement.specs.Known.{Known, chain_known}
-use Rattle.confinement.proofs.Standing.{known_chain}
+use Rattle.confinement.specs.seq_state.proofs.{◌≡◌, ℕ, ◌++◌, List, ◌∙◌, ap, Limits, limits_stay, state_of}
 use Rattle.origin_lines.specs.Lines.{chain_line, node_lines, lines_known, TellsOrigins}
+use Rattle.{table_lines.proofs.Lines.lines_same, confinement.specs.origin_rules.specs.Chains.chain_of, confinement.specs.Known.Known}
+use Rattle.{confinement.specs.Known.chain_known, confinement.proofs.Standing.known_chain}
 
 pub tells : (o : Known) (old new : List ℕ) → new ≡ old ++ lines_known (chain_known o) (state_of o.kernel).limits.frames
     → TellsOrigins o old new

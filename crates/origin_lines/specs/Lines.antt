@@ -1,16 +1,10 @@
 -- The lines that tell where each capability came from.
-use Rattle.std.specs.Prelude.{◌≡◌, ℕ, List, [], ◌++◌, codes, decimal, Option, Some, None}
-use Rattle.std.specs.List.{flat_map}
-use Rattle.spk_nums.specs.Capability.{Capability}
-use Rattle.spk_nums.specs.Setting.{Setting, IsSetting}
-use Rattle.spk_nums.specs.Texts.{cap_text}
-use Rattle.kernel_rules.specs.Runs.{Event, IsRun}
-use Rattle.kernel_history.specs.Tables.{lines_below}
-use Rattle.origin_rules.specs.declared.chains.Step.{Step}
-use Rattle.origin_rules.specs.declared.chains.Step.TheVariants.{Copied, Made, Gated, Parted}
-use Rattle.origin_rules.specs.declared.chains.ChainLink.{ChainLink}
-use Rattle.origin_rules.specs.Chains.{ChainValue, chain_of}
-use Rattle.confinement.specs.Known.{Known, StandsFor}
+use Rattle.confinement.specs.origin_rules.specs as low
+use Rattle.table_lines.specs.kernel_history.specs.{◌≡◌, ℕ, List, [], ◌++◌, codes, decimal, Option, Some, None, flat_map, Capability}
+use Rattle.table_lines.specs.kernel_history.specs.{Setting, IsSetting, Event, IsRun, lines_below}
+use low.declared.chains.Step.TheVariants.{Copied, Made, Gated, Parted}
+use low.{ChainValue, chain_of, declared.chains.Step.Step, declared.chains.ChainLink.ChainLink}
+use Rattle.{spk_nums.specs.Texts.cap_text, confinement.specs.Known.Known, confinement.specs.Known.StandsFor}
 
 -- How a capability was put.
 abbrev pub step_word : Step → List ℕ

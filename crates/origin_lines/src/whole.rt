@@ -1,7 +1,7 @@
 //! The lines of all places.
 
 ghost use Rattle.std.specs.Prelude.{◌≡◌, ◌<◌, ◌++◌, OnOk, string_bytes};
-ghost use Rattle.seq_state.specs.Maps.{state_of};
+ghost use Rattle.confinement.specs.seq_state.specs.Maps.{state_of};
 ghost use Rattle.origin_lines.specs.Lines.{node_lines, lines_known, TellsOrigins};
 
 use crate::lines::push_line;

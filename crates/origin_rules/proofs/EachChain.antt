@@ -1,31 +1,16 @@
 -- Each capability that a place holds after a run has the chain of that place.
-use Rattle.std.proofs.Common.{◌≡◌, ◌⊎◌, inl, inr, ℕ, ◌+◌, Bool, true, false, ◌&&◌, ◌==◌, refl, sym, ◌∙◌, ap, subst, List, [], ◌∷◌}
-use Rattle.std.proofs.Common.{Option, Some, None, if◌then◌else◌}
-use Rattle.std.proofs.lemmas.Bool.{false≢true, eqb-true, eq-eqb, and_parts}
-use Rattle.spk_nums.specs.Capability.{Capability}
-use Rattle.spk_nums.specs.Setting.{Setting}
-use Rattle.spk_nums.specs.declared.kinds.Kind.TheVariants as kind
-use Rattle.spk_nums.specs.declared.calls.Call.{Call}
-use Rattle.spk_nums.specs.declared.calls.Call.TheVariants as call
-use Rattle.spk_nums.specs.declared.replies.Value.{Value}
-use Rattle.spk_nums.specs.declared.replies.Reply.{Reply}
-use Rattle.spk_nums.specs.declared.replies.Reply.TheVariants as reply
-use Rattle.kernel_rules.specs.State.{Place, Free, Holds, Quiescing, State}
-use Rattle.kernel_rules.specs.Start.{start_cap, start_place, place_with}
-use Rattle.kernel_rules.specs.Access.{Slot, usable, usable_in, place_at}
-use Rattle.kernel_rules.specs.Rules.{Change, Judged, Refused, Found, IsFoundAnd}
-use Rattle.kernel_rules.specs.CallRelation.{MayReply, change_of, changed, owed_by, state_by, rule_of}
-use Rattle.kernel_rules.specs.Runs.{Event, Enters, Decides, Returns, after, IsRun}
-use Rattle.kernel_rules.proofs.Changes.{IfFound}
-use Rattle.kernel_rules.specs.State.{PlaceOf}
-use Rattle.kernel_invariant.proofs.Facts.{outcome_from, none_some, some_inj}
-use Rattle.origin_rules.specs.declared.chains.Step.{Step}
-use Rattle.origin_rules.specs.declared.chains.Step.TheVariants.{Copied, Made, Gated, Parted}
-use Rattle.origin_rules.specs.declared.chains.ChainLink.{ChainLink}
-use Rattle.origin_rules.specs.Chains.{Origin, Put, puts, puts_by, with_put, decided, origin_of, is_own}
-use Rattle.origin_rules.specs.Derived.{Falls, HasChain, ChainsAreReal}
-use Rattle.origin_rules.proofs.Placed.{shown, Placed, IsNew, IsKept, call_placed}
-use Rattle.origin_rules.proofs.Falling.{rights_only_fall}
+use Rattle.kernel_invariant.specs.kernel_rules.proofs as low
+use low.{◌≡◌, ◌⊎◌, inl, inr, ℕ, ◌+◌, Bool, true, false, ◌&&◌, ◌==◌, refl, sym, ◌∙◌, ap, subst, List, [], ◌∷◌, Option, Some, None}
+use low.{if◌then◌else◌, false≢true, eqb-true, eq-eqb, Capability, Setting, Call, Value, Reply, Place, Free, Holds, Quiescing, start_cap}
+use low.{start_place, place_with, Slot, usable, usable_in, place_at, Change, Judged, Refused, Found, IsFoundAnd, MayReply, change_of}
+use low.{changed, owed_by, state_by, rule_of, Event, Enters, Decides, Returns, after, IsRun, IfFound, PlaceOf, Kind}
+use Rattle.origin_rules.specs.{Origin, Put, puts, puts_by, decided, origin_of, is_own, HasChain}
+use Rattle.kernel_invariant.proofs.{outcome_from, none_some, some_inj}
+use Rattle.origin_rules.specs.{declared.chains.Step.Step, declared.chains.Step.TheVariants.Copied, declared.chains.Step.TheVariants.Made}
+use Rattle.origin_rules.specs.{declared.chains.Step.TheVariants.Gated, declared.chains.Step.TheVariants.Parted}
+use Rattle.origin_rules.specs.{declared.chains.ChainLink.ChainLink, Chains.with_put, Derived.Falls, Derived.ChainsAreReal}
+use Rattle.origin_rules.proofs.{Placed.shown, Placed.Placed, Placed.IsNew, Placed.IsKept, Placed.call_placed, Falling.rights_only_fall}
+use Rattle.{std.proofs.lemmas.Bool.and_parts, kernel_invariant.specs.kernel_rules.specs.State.State}
 
 -- ---- a chain stays while the run goes on
 
@@ -48,7 +33,7 @@ chain_stays setting (x ∷ xs) start e events k h = record {
 -- ---- the places after a decision
 
 owed_place : (s : State) (c : ℕ) (call : Call) → (owed_by s c call).place ≡ s.place
-owed_place s c (call.Tick n) = refl
+owed_place s c (Call.Tick n) = refl
 owed_place s c call = refl
 
 -- After a call that is carried out, what each place shows was put or kept.
@@ -126,7 +111,7 @@ start_has setting f i k = by_node (f == 0) (i == 0) (f == 1)
     with_cap (Some j) e = e
 
     by_node : (a b d : Bool)
-        → shown (if a then (if b then Holds (Rattle.kernel_rules.specs.Start.plain_cap kind.Link 1) else Free)
+        → shown (if a then (if b then Holds (Rattle.kernel_invariant.specs.kernel_rules.specs.Start.plain_cap Kind.Link 1) else Free)
         else (if d then place_with (start_cap setting i) else Free)) ≡ Some k
         → is_own k.kind ≡ true → start_cap setting i ≡ Some k
     by_node true true d e own = absurd (false≢true (ap (λ (j : Capability). is_own j.kind) (some_inj _ _ e) ∙ own))
@@ -147,17 +132,17 @@ module _ (setting : Setting) (c : ℕ) (call : Call) (events : List Event) (each
       subst (λ (o : Origin). HasChain setting o.links o.start (Decides c call r ∷ events) k) (sym one)
       (chain_stays setting _ _ (Decides c call r) events k (each f i k was own))
 
-  ok_has : (v : Value) → MayReply (after setting events) c call (reply.Ok v) → EachHas setting (Decides c call (reply.Ok v) ∷ events)
+  ok_has : (v : Value) → MayReply (after setting events) c call (Reply.Ok v) → EachHas setting (Decides c call (Reply.Ok v) ∷ events)
   ok_has v may f i k is own = elim (ok_placed (after setting events) c call v may.1.1 f i k is own) [
     | inl new ↦
         let p = new.put in
         let falls = rights_only_fall (after setting events) c call p.what new.parent k new.gives in
         let own_parent = parent_own p.what new.parent k own falls in
         let shows = usable_shown (after setting events) c p.parent new.parent new.from in
-        let one : origin_of setting (Decides c call (reply.Ok v) ∷ events) f i ≡ _ =
+        let one : origin_of setting (Decides c call (Reply.Ok v) ∷ events) f i ≡ _ =
         ap (λ o. with_put (decided events + 1) o (origin_of setting events) f i) new.is
         ∙ put_origin (decided events + 1) p (origin_of setting events) f i new.node new.index in
-        subst (λ (o : Origin). HasChain setting o.links o.start (Decides c call (reply.Ok v) ∷ events) k) (sym one)
+        subst (λ (o : Origin). HasChain setting o.links o.start (Decides c call (Reply.Ok v) ∷ events) k) (sym one)
         (record {
           before = events;
           later = [];
@@ -171,17 +156,17 @@ module _ (setting : Setting) (c : ℕ) (call : Call) (events : List Event) (each
           chain = each p.parent.node p.parent.index new.parent shows own_parent;
         })
     | inr old ↦
-        let one : origin_of setting (Decides c call (reply.Ok v) ∷ events) f i ≡ origin_of setting events f i =
+        let one : origin_of setting (Decides c call (Reply.Ok v) ∷ events) f i ≡ origin_of setting events f i =
         kept_origin (decided events + 1) (puts (after setting events) c call) (origin_of setting events) f i old.apart in
-        subst (λ (o : Origin). HasChain setting o.links o.start (Decides c call (reply.Ok v) ∷ events) k) (sym one)
-        (chain_stays setting _ _ (Decides c call (reply.Ok v)) events k (each f i k old.was own))
+        subst (λ (o : Origin). HasChain setting o.links o.start (Decides c call (Reply.Ok v) ∷ events) k) (sym one)
+        (chain_stays setting _ _ (Decides c call (Reply.Ok v)) events k (each f i k old.was own))
   ]
 
   decides_has : (r : Reply) → MayReply (after setting events) c call r → EachHas setting (Decides c call r ∷ events)
-  decides_has (reply.Ok v) may = ok_has v may
-  decides_has reply.CallsSpent may = kept_has reply.CallsSpent refl refl
-  decides_has reply.Raced may = kept_has reply.Raced refl (owed_place (after setting events) c call)
-  decides_has (reply.Busy d) may = kept_has (reply.Busy d) refl (owed_place (after setting events) c call)
+  decides_has (Reply.Ok v) may = ok_has v may
+  decides_has Reply.CallsSpent may = kept_has Reply.CallsSpent refl refl
+  decides_has Reply.Raced may = kept_has Reply.Raced refl (owed_place (after setting events) c call)
+  decides_has (Reply.Busy d) may = kept_has (Reply.Busy d) refl (owed_place (after setting events) c call)
   decides_has r may = kept_has r refl refl
 
 pub each_has : (setting : Setting) (events : List Event) → IsRun setting events → EachHas setting events

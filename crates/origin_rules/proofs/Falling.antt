@@ -1,19 +1,13 @@
 -- Rights only fall along a chain of copies.
-use Rattle.std.proofs.Common.{◌≡◌, ℕ, true, refl, sym, ◌∙◌, ap, subst, IsTrue}
-use Rattle.std.proofs.lemmas.Bool.{eqb-true, eq-eqb}
+use Rattle.kernel_invariant.specs.kernel_rules.proofs.{◌≡◌, ℕ, true, refl, sym, ◌∙◌, ap, subst, IsTrue, eqb-true, eq-eqb, Capability, both}
+use Rattle.kernel_invariant.specs.kernel_rules.proofs.{right_to_use, has_rights, Kind, any, only, to_copy, to_part, to_use, found}
 use Rattle.std.specs.Int.Bits.{bit_and, and_self}
-use Rattle.std.proofs.lemmas.Nat.{and_assoc}
-use Rattle.spk_nums.specs.Capability.{Capability}
-use Rattle.spk_nums.specs.Rights.{both, right_to_copy, right_to_use, kept_rights, has_rights}
-use Rattle.spk_nums.specs.declared.kinds.Kind.{Kind}
-use Rattle.spk_nums.specs.declared.kinds.Kind.TheVariants as kind
-use Rattle.spk_nums.specs.declared.calls.Call.TheVariants as call
-use Rattle.kernel_rules.specs.Access.{any, only, to_copy, to_part, to_use, found}
-use Rattle.kernel_rules.specs.CapabilityCalls.{has_frames}
-use Rattle.kernel_invariant.proofs.Sound.{only_is}
+use Rattle.kernel_invariant.specs.spk_nums.specs.Rights.{right_to_copy, kept_rights}
 use Rattle.origin_rules.specs.declared.chains.Step.TheVariants.{Copied, Made, Gated, Parted}
-use Rattle.origin_rules.specs.Derived.{RightsOnlyFall}
-use Rattle.origin_rules.proofs.Placed.{named_at}
+use Rattle.{kernel_invariant.specs.kernel_rules.proofs.has_frames, std.proofs.lemmas.Nat.and_assoc, kernel_invariant.proofs.Sound.only_is}
+use Rattle.{origin_rules.specs.Derived.RightsOnlyFall, origin_rules.proofs.Placed.named_at}
+use Rattle.kernel_invariant.specs.spk_nums.specs.declared.kinds.Kind.TheVariants as kind
+use Rattle.kernel_invariant.specs.spk_nums.specs.declared.calls.Call.TheVariants as call
 
 -- What has rights after some are withheld had them before.
 fewer : (own these needs : ℕ) → bit_and (bit_and own these) needs ≡ needs → bit_and own needs ≡ needs

@@ -1,38 +1,19 @@
 -- What the places show after a call that is carried out: what it puts, or what they showed before.
-use Rattle.std.proofs.Common.{◌≡◌, ◌⊎◌, inl, inr, ℕ, true, false, not, ◌==◌, refl, sym, ◌∙◌, ap, subst, IsTrue, List, []}
-use Rattle.std.proofs.Common.{◌∷◌, Option, Some, None}
-use Rattle.std.proofs.lemmas.Bool.{cases_eq, false≢true}
-use Rattle.spk_nums.specs.Capability.{Capability, cap_of}
-use Rattle.spk_nums.specs.Rights.{kept, has_rights, part_of}
-use Rattle.spk_nums.specs.declared.kinds.Kind.{Kind}
-use Rattle.spk_nums.specs.declared.kinds.Kind.TheVariants as kind
-use Rattle.spk_nums.specs.declared.kinds.FrameKind.{FrameKind}
-use Rattle.spk_nums.specs.declared.kinds.FrameKind.TheVariants as frame_kind
-use Rattle.spk_nums.specs.declared.calls.Make.{Make}
-use Rattle.spk_nums.specs.declared.calls.Make.TheVariants as make
-use Rattle.spk_nums.specs.declared.calls.Call.{Call}
-use Rattle.spk_nums.specs.declared.calls.Call.TheVariants as call
-use Rattle.spk_nums.specs.declared.translations.Translation.{Translation}
-use Rattle.spk_nums.specs.declared.replies.Value.TheVariants.{Nothing}
-use Rattle.spk_nums.specs.declared.replies.Reply.TheVariants as reply
-use Rattle.kernel_rules.specs.State.{Place, Free, Holds, Quiescing, Object, Table, Leaf, Pages, Pleaf, State, put, comp_of, comp_in}
-use Rattle.kernel_rules.specs.State.{thread_in}
-use Rattle.kernel_rules.specs.Start.{plain_cap}
-use Rattle.kernel_rules.specs.Access.{Want, Slot, found, any, only, to_copy, to_use, Target, Under, InRoot, own, reached, usable, to_part}
-use Rattle.kernel_rules.specs.Rules.{Change, does, Cause, Found, or_refuse, and_then, of_kind, named, name_of, vacant, held, first_cause}
-use Rattle.kernel_rules.specs.CapabilityCalls.{has_frame, outside, not_blank, make_node, make_rule, not_taken}
-use Rattle.kernel_rules.specs.Edits.{Fill, Remove, cleared}
-use Rattle.kernel_rules.specs.MemoryCalls.{touch_by, translation_of, retype_rule}
-use Rattle.kernel_rules.specs.InvocationCalls.{switch_to}
-use Rattle.kernel_rules.specs.CallRelation.{rule_of}
-use Rattle.kernel_rules.proofs.Within.{put_same, put_other, either}
-use Rattle.kernel_invariant.proofs.Facts.{ChangesFrom, none_some, some_inj, then_parts, or_found, Suits, suits, vacant_facts, held_facts}
-use Rattle.kernel_invariant.proofs.Facts.{none_parts, when_not, not_not}
-use Rattle.kernel_invariant.proofs.SoundCalls.{within_by}
-use Rattle.origin_rules.specs.declared.chains.Step.{Step}
-use Rattle.origin_rules.specs.declared.chains.Step.TheVariants.{Copied, Made, Gated, Parted}
-use Rattle.origin_rules.specs.Chains.{Put, put_from, slot_named, slot_under, puts, is_own}
-use Rattle.origin_rules.specs.Derived.{kind_of, Gives}
+use Rattle.kernel_invariant.specs.kernel_rules.proofs as low
+use low.{◌≡◌, ◌⊎◌, inl, inr, ℕ, true, false, not, ◌==◌, refl, sym, ◌∙◌, ap, subst, IsTrue, List, [], ◌∷◌, Option, Some, None, false≢true}
+use low.{Capability, cap_of, kept, has_rights, part_of, Kind, FrameKind, Make, Call, Translation, Nothing, Place, Free, Holds, Quiescing}
+use low.{Object, Table, Leaf, Pages, Pleaf, put, comp_of, comp_in, thread_in, plain_cap, Want, Slot, found, any, only, to_copy, to_use}
+use low.{Target, Under, InRoot, own, reached, usable, to_part, Change, does, Cause, Found, or_refuse, and_then, of_kind, named, name_of}
+use low.{vacant, held, first_cause, has_frame, outside, not_blank, make_node, make_rule, not_taken, Fill, cleared, touch_by, translation_of}
+use Rattle.kernel_invariant.proofs.{ChangesFrom, none_some, some_inj, then_parts, or_found, Suits, suits, vacant_facts, held_facts}
+use Rattle.origin_rules.specs.{declared.chains.Step.Step, declared.chains.Step.TheVariants.Copied, declared.chains.Step.TheVariants.Made}
+use Rattle.origin_rules.specs.{declared.chains.Step.TheVariants.Gated, declared.chains.Step.TheVariants.Parted, Chains.put_from}
+use low.{retype_rule, switch_to, rule_of, put_same, put_other, Reply, Within.either}
+use Rattle.{kernel_invariant.proofs.none_parts, kernel_invariant.proofs.when_not, kernel_invariant.proofs.not_not}
+use Rattle.{kernel_invariant.proofs.within_by, origin_rules.specs.Put, origin_rules.specs.puts, origin_rules.specs.is_own}
+use Rattle.{origin_rules.specs.Gives, std.proofs.lemmas.Bool.cases_eq, kernel_invariant.specs.kernel_rules.specs.State.State}
+use Rattle.{kernel_invariant.specs.kernel_rules.specs.Edits.Remove, origin_rules.specs.Chains.slot_named}
+use Rattle.{origin_rules.specs.Chains.slot_under, origin_rules.specs.Derived.kind_of}
 
 -- What a place shows.
 abbrev pub shown : Place → Option Capability
@@ -85,14 +66,14 @@ pub record NamedAt (s : State) (c n : ℕ) (want : Want) (k : Capability) : Type
 
 pub named_at : (s : State) (c n : ℕ) (want : Want) (k : Capability) → named s c n want ≡ Found k → NamedAt s c n want k
 named_at s c n want k e =
-    let a = then_parts (or_refuse (reached s c (own s c n)) reply.NoSlot)
-    (λ at. and_then (or_refuse (usable s c at) reply.Empty) λ k. of_kind want k) k e in
-    let b = then_parts (or_refuse (usable s c a.0) reply.Empty) (λ k. of_kind want k) k a.2 in
+    let a = then_parts (or_refuse (reached s c (own s c n)) Reply.NoSlot)
+    (λ at. and_then (or_refuse (usable s c at) Reply.Empty) λ k. of_kind want k) k e in
+    let b = then_parts (or_refuse (usable s c a.0) Reply.Empty) (λ k. of_kind want k) k a.2 in
     let w : Suits want b.0 k = suits want b.0 k b.2 in
     record {
       at = a.0;
-      reaches = or_found (reached s c (own s c n)) reply.NoSlot a.0 a.1;
-      from = or_found (usable s c a.0) reply.Empty b.0 b.1 ∙ ap Some w.is;
+      reaches = or_found (reached s c (own s c n)) Reply.NoSlot a.0 a.1;
+      from = or_found (usable s c a.0) Reply.Empty b.0 b.1 ∙ ap Some w.is;
       kind = subst (λ j. IsTrue (want.kinds j.kind)) w.is w.kind;
       rights = subst (λ j. IsTrue (has_rights j.rights want.needs)) w.is w.rights;
     }
@@ -130,7 +111,7 @@ module _ (s : State) (c : ℕ) where
 
   -- what a call puts from a capability that it names, at a place of a table that it names
   pub named_put : (what : Step) (n t b : ℕ) (want : Want) (parent table : Capability) (at : Slot) (x : NamedAt s c n want parent)
-      → named s c t (to_use (only kind.Table)) ≡ Found table → vacant s c (Under (found table) b) ≡ Found at
+      → named s c t (to_use (only Kind.Table)) ≡ Found table → vacant s c (Under (found table) b) ≡ Found at
       → put_from what (slot_named s c n) (slot_under s c t b) ≡ Some record { at = at; what = what; parent = x.at }
   named_put what n t b want parent table at x is_table g = λ i. put_from what (x.reaches i) ((
       ap (λ j. reached s c (Under (name_of j) b)) is_table ∙ (vacant_facts s c (Under (found table) b) at g).0
@@ -169,99 +150,99 @@ module _ (s : State) (c : ℕ) where
   in_its_range : (range : Capability) (f : ℕ) (causes : List Cause) → first_cause s c (outside (found range) f ∷ causes) ≡ None
       → has_frame (found range) f ≡ true
   in_its_range range f causes calm =
-      not_not (has_frame (found range) f) (when_not (not (has_frame (found range) f)) reply.OutOfRange (none_parts _ _ calm).0)
+      not_not (has_frame (found range) f) (when_not (not (has_frame (found range) f)) Reply.OutOfRange (none_parts _ _ calm).0)
 
   node_placed : (what : Make) (object : Object) (k : Kind) (r f t b : ℕ) → k ≡ kind_of what
-      → ChangesFrom (Placed s c (call.Make what r f t b)) s c (make_node s object k r f t b)
+      → ChangesFrom (Placed s c (Call.Make what r f t b)) s c (make_node s object k r f t b)
   node_placed what object k r f t b same = λ range e table g at h calm.
-      let x = named_at s c r (to_use (only kind.Range)) range e in
+      let x = named_at s c r (to_use (only Kind.Range)) range e in
       record {
-        shows = put_at (call.Make what r f t b) Made r (to_use (only kind.Range)) range (plain_cap k f) at x
-            (named_put Made r t b (to_use (only kind.Range)) range table at x g h)
+        shows = put_at (Call.Make what r f t b) Made r (to_use (only Kind.Range)) range (plain_cap k f) at x
+            (named_put Made r t b (to_use (only Kind.Range)) range table at x g h)
             (record { names = e; frame = in_its_range range f (not_blank s f ∷ []) calm; is = ap (λ j. plain_cap j f) same })
             (cleared s f).place (cleared_fewer f);
       }
 
-  made_placed : (what : Make) (r f t b : ℕ) → ChangesFrom (Placed s c (call.Make what r f t b)) s c (make_rule s what r f t b)
-  made_placed make.Table r f t b = node_placed make.Table Table kind.Table r f t b refl
-  made_placed make.Leaf r f t b = node_placed make.Leaf Leaf kind.Leaf r f t b refl
-  made_placed make.Pages r f t b = node_placed make.Pages Pages kind.Pages r f t b refl
-  made_placed make.Pleaf r f t b = node_placed make.Pleaf Pleaf kind.Pleaf r f t b refl
-  made_placed (make.Thread comp) r f t b = λ range e table g comp_cap is_comp at h calm.
-      let x = named_at s c r (to_use (only kind.Range)) range e in
+  made_placed : (what : Make) (r f t b : ℕ) → ChangesFrom (Placed s c (Call.Make what r f t b)) s c (make_rule s what r f t b)
+  made_placed Make.Table r f t b = node_placed Make.Table Table Kind.Table r f t b refl
+  made_placed Make.Leaf r f t b = node_placed Make.Leaf Leaf Kind.Leaf r f t b refl
+  made_placed Make.Pages r f t b = node_placed Make.Pages Pages Kind.Pages r f t b refl
+  made_placed Make.Pleaf r f t b = node_placed Make.Pleaf Pleaf Kind.Pleaf r f t b refl
+  made_placed (Make.Thread comp) r f t b = λ range e table g comp_cap is_comp at h calm.
+      let x = named_at s c r (to_use (only Kind.Range)) range e in
       record {
-        shows = put_at (call.Make (make.Thread comp) r f t b) Made r (to_use (only kind.Range)) range (plain_cap kind.Thread f) at x
-            (named_put Made r t b (to_use (only kind.Range)) range table at x g h)
+        shows = put_at (Call.Make (Make.Thread comp) r f t b) Made r (to_use (only Kind.Range)) range (plain_cap Kind.Thread f) at x
+            (named_put Made r t b (to_use (only Kind.Range)) range table at x g h)
             (record { names = e; frame = in_its_range range f (not_blank s f ∷ []) calm; is = refl }) s.place (λ f i j e. e);
       }
-  made_placed (make.Tcap sched quality) r f t b = λ range e table g at h calm.
-      let x = named_at s c r (to_use (only kind.Range)) range e in
+  made_placed (Make.Tcap sched quality) r f t b = λ range e table g at h calm.
+      let x = named_at s c r (to_use (only Kind.Range)) range e in
       record {
-        shows = put_at (call.Make (make.Tcap sched quality) r f t b) Made r (to_use (only kind.Range)) range (plain_cap kind.Tcap f) at x
-            (named_put Made r t b (to_use (only kind.Range)) range table at x g h)
+        shows = put_at (Call.Make (Make.Tcap sched quality) r f t b) Made r (to_use (only Kind.Range)) range (plain_cap Kind.Tcap f) at x
+            (named_put Made r t b (to_use (only Kind.Range)) range table at x g h)
             (record { names = e; frame = in_its_range range f (not_blank s f ∷ []) calm; is = refl }) s.place (λ f i j e. e);
       }
-  made_placed (make.Comp own_table pages live) r f t b = λ range e table g x_cap is_x p_cap is_p at h calm.
-      let x = named_at s c r (to_use (only kind.Range)) range e in
+  made_placed (Make.Comp own_table pages live) r f t b = λ range e table g x_cap is_x p_cap is_p at h calm.
+      let x = named_at s c r (to_use (only Kind.Range)) range e in
       record {
-        shows = put_at (call.Make (make.Comp own_table pages live) r f t b) Made r (to_use (only kind.Range)) range
-            (plain_cap kind.Comp f) at x (named_put Made r t b (to_use (only kind.Range)) range table at x g h)
+        shows = put_at (Call.Make (Make.Comp own_table pages live) r f t b) Made r (to_use (only Kind.Range)) range
+            (plain_cap Kind.Comp f) at x (named_put Made r t b (to_use (only Kind.Range)) range table at x g h)
             (record { names = e; frame = in_its_range range f (not_blank s f ∷ not_taken s live) calm; is = refl }) s.place (λ f i j e. e);
       }
 
-  retype_placed : (r f : ℕ) (k : FrameKind) → ChangesFrom (Placed s c (call.Retype r f k)) s c (retype_rule s r f k)
-  retype_placed r f frame_kind.Untyped = λ range e calm. kept_places (call.Retype r f frame_kind.Untyped) _ refl refl
-  retype_placed r f frame_kind.User = λ range e calm. kept_places (call.Retype r f frame_kind.User) _ refl refl
-  retype_placed r f frame_kind.Kernel = λ range e calm. kept_places (call.Retype r f frame_kind.Kernel) _ refl refl
+  retype_placed : (r f : ℕ) (k : FrameKind) → ChangesFrom (Placed s c (Call.Retype r f k)) s c (retype_rule s r f k)
+  retype_placed r f FrameKind.Untyped = λ range e calm. kept_places (Call.Retype r f FrameKind.Untyped) _ refl refl
+  retype_placed r f FrameKind.User = λ range e calm. kept_places (Call.Retype r f FrameKind.User) _ refl refl
+  retype_placed r f FrameKind.Kernel = λ range e calm. kept_places (Call.Retype r f FrameKind.Kernel) _ refl refl
 
-  touch_placed : (v pages : ℕ) (t : Option Translation) → ChangesFrom (Placed s c (call.Touch v)) s c (touch_by pages v t)
-  touch_placed v pages (Some t) = λ calm. kept_places (call.Touch v) _ refl refl
-  touch_placed v pages None = λ mapping e calm. kept_places (call.Touch v) _ refl refl
+  touch_placed : (v pages : ℕ) (t : Option Translation) → ChangesFrom (Placed s c (Call.Touch v)) s c (touch_by pages v t)
+  touch_placed v pages (Some t) = λ calm. kept_places (Call.Touch v) _ refl refl
+  touch_placed v pages None = λ mapping e calm. kept_places (Call.Touch v) _ refl refl
 
   switch_placed : (h q : ℕ) (thread tcap : Capability) (on : Option ℕ)
-      → ChangesFrom (Placed s c (call.Switch h q)) s c (switch_to (found thread) tcap.frame on)
-  switch_placed h q thread tcap None = λ calm. kept_places (call.Switch h q) _ refl refl
-  switch_placed h q thread tcap (Some e) = λ calm. kept_places (call.Switch h q) _ refl refl
+      → ChangesFrom (Placed s c (Call.Switch h q)) s c (switch_to (found thread) tcap.frame on)
+  switch_placed h q thread tcap None = λ calm. kept_places (Call.Switch h q) _ refl refl
+  switch_placed h q thread tcap (Some e) = λ calm. kept_places (Call.Switch h q) _ refl refl
 
   pub call_placed : (call : Call) → ChangesFrom (Placed s c call) s c (rule_of s c call)
-  call_placed (call.Look a) = λ cap e calm. kept_places (call.Look a) _ refl refl
-  call_placed (call.Copy a t b rights) = λ cap e table g at h calm.
+  call_placed (Call.Look a) = λ cap e calm. kept_places (Call.Look a) _ refl refl
+  call_placed (Call.Copy a t b rights) = λ cap e table g at h calm.
       let x = named_at s c a (to_copy any) cap e in
       record {
-        shows = put_at (call.Copy a t b rights) Copied a (to_copy any) cap (kept cap rights.0) at x
+        shows = put_at (Call.Copy a t b rights) Copied a (to_copy any) cap (kept cap rights.0) at x
             (named_put Copied a t b (to_copy any) cap table at x g h) (record { names = e; is = refl }) s.place (λ f i j e. e);
       }
-  call_placed (call.Remove t b) = λ table e at k g calm. removed_from (call.Remove t b) (Under (found table) b) at k refl g
-  call_placed (call.Grow t i l) = λ table e leaf f at g calm.
-      filled_with_other (call.Grow t i l) at (plain_cap kind.Link leaf.frame) refl refl
-  call_placed (call.Shrink t i) = λ table e at k g calm. removed_from (call.Shrink t i) (InRoot (found table) i) at k refl g
-  call_placed (call.Retype r f k) = retype_placed r f k
-  call_placed (call.Make what r f t b) = made_placed what r f t b
-  call_placed (call.Map p v r f w) = λ pages e range g at u calm.
-      filled_with_other (call.Map p v r f w) at (cap_of kind.Page f w.0) refl refl
-  call_placed (call.Unmap p v) = λ pages e at k g calm. removed_from (call.Unmap p v) (Under (found pages) v) at k refl g
-  call_placed (call.Touch v) = touch_placed v (comp_of s c).pages (translation_of (s.core c).cached (comp_of s c).pages v)
-  call_placed call.Flush = λ calm. kept_places call.Flush _ refl refl
-  call_placed (call.Gate k t b) = λ comp e table g at h calm.
-      let x = named_at s c k (to_use (only kind.Comp)) comp e in
+  call_placed (Call.Remove t b) = λ table e at k g calm. removed_from (Call.Remove t b) (Under (found table) b) at k refl g
+  call_placed (Call.Grow t i l) = λ table e leaf f at g calm.
+      filled_with_other (Call.Grow t i l) at (plain_cap Kind.Link leaf.frame) refl refl
+  call_placed (Call.Shrink t i) = λ table e at k g calm. removed_from (Call.Shrink t i) (InRoot (found table) i) at k refl g
+  call_placed (Call.Retype r f k) = retype_placed r f k
+  call_placed (Call.Make what r f t b) = made_placed what r f t b
+  call_placed (Call.Map p v r f w) = λ pages e range g at u calm.
+      filled_with_other (Call.Map p v r f w) at (cap_of Kind.Page f w.0) refl refl
+  call_placed (Call.Unmap p v) = λ pages e at k g calm. removed_from (Call.Unmap p v) (Under (found pages) v) at k refl g
+  call_placed (Call.Touch v) = touch_placed v (comp_of s c).pages (translation_of (s.core c).cached (comp_of s c).pages v)
+  call_placed Call.Flush = λ calm. kept_places Call.Flush _ refl refl
+  call_placed (Call.Gate k t b) = λ comp e table g at h calm.
+      let x = named_at s c k (to_use (only Kind.Comp)) comp e in
       record {
-        shows = put_at (call.Gate k t b) Gated k (to_use (only kind.Comp)) comp
-            (cap_of kind.Gate comp.frame (comp_in (s.frame comp.frame)).epoch) at x
-            (named_put Gated k t b (to_use (only kind.Comp)) comp table at x g h) (record { names = e; is = refl }) s.place (λ f i j e. e);
+        shows = put_at (Call.Gate k t b) Gated k (to_use (only Kind.Comp)) comp
+            (cap_of Kind.Gate comp.frame (comp_in (s.frame comp.frame)).epoch) at x
+            (named_put Gated k t b (to_use (only Kind.Comp)) comp table at x g h) (record { names = e; is = refl }) s.place (λ f i j e. e);
       }
-  call_placed (call.Kill k) = λ comp e calm. kept_places (call.Kill k) _ refl refl
-  call_placed (call.Call g) = λ gate e calm. kept_places (call.Call g) _ refl refl
-  call_placed call.Ret = λ calm. kept_places call.Ret _ refl refl
-  call_placed (call.Switch h q) = λ thread e tcap g. switch_placed h q thread tcap (thread_in (s.frame thread.frame)).runs_on
-  call_placed (call.Tick n) = λ calm. kept_places (call.Tick n) _ refl refl
-  call_placed (call.Transfer a b m) = λ j e k f calm. kept_places (call.Transfer a b m) _ refl refl
-  call_placed (call.Delegate a b m) = λ j e k f calm. kept_places (call.Delegate a b m) _ refl refl
-  call_placed (call.Test a b) = λ j e k f calm. kept_places (call.Test a b) _ refl refl
-  call_placed (call.Replenish a m) = λ j e calm. kept_places (call.Replenish a m) _ refl refl
-  call_placed (call.Part r f n t b) = λ cap e table g at h calm.
-      let x = named_at s c r (to_part (only kind.Range)) cap e in
+  call_placed (Call.Kill k) = λ comp e calm. kept_places (Call.Kill k) _ refl refl
+  call_placed (Call.Call g) = λ gate e calm. kept_places (Call.Call g) _ refl refl
+  call_placed Call.Ret = λ calm. kept_places Call.Ret _ refl refl
+  call_placed (Call.Switch h q) = λ thread e tcap g. switch_placed h q thread tcap (thread_in (s.frame thread.frame)).runs_on
+  call_placed (Call.Tick n) = λ calm. kept_places (Call.Tick n) _ refl refl
+  call_placed (Call.Transfer a b m) = λ j e k f calm. kept_places (Call.Transfer a b m) _ refl refl
+  call_placed (Call.Delegate a b m) = λ j e k f calm. kept_places (Call.Delegate a b m) _ refl refl
+  call_placed (Call.Test a b) = λ j e k f calm. kept_places (Call.Test a b) _ refl refl
+  call_placed (Call.Replenish a m) = λ j e calm. kept_places (Call.Replenish a m) _ refl refl
+  call_placed (Call.Part r f n t b) = λ cap e table g at h calm.
+      let x = named_at s c r (to_part (only Kind.Range)) cap e in
       record {
-        shows = put_at (call.Part r f n t b) Parted r (to_part (only kind.Range)) cap (part_of cap f n) at x
-            (named_put Parted r t b (to_part (only kind.Range)) cap table at x g h)
+        shows = put_at (Call.Part r f n t b) Parted r (to_part (only Kind.Range)) cap (part_of cap f n) at x
+            (named_put Parted r t b (to_part (only Kind.Range)) cap table at x g h)
             (record { names = e; frames = within_by s c cap f n calm; is = refl }) s.place (λ f i j e. e);
       }

@@ -1,20 +1,11 @@
 -- Where capabilities come from: what each decision puts, and the chain of what a place holds.
-use Rattle.std.specs.Prelude.{ℕ, ◌+◌, Bool, true, false, ◌&&◌, ◌==◌, nat_lt, if◌then◌else◌, List, [], ◌∷◌, Option, Some, None, option_map}
-use Rattle.spk_nums.specs.Capability.{Capability}
-use Rattle.spk_nums.specs.Setting.{Setting}
-use Rattle.spk_nums.specs.declared.kinds.Kind.{Kind}
-use Rattle.spk_nums.specs.declared.kinds.Kind.TheVariants as kind
-use Rattle.spk_nums.specs.declared.calls.Call.{Call}
-use Rattle.spk_nums.specs.declared.calls.Call.TheVariants.{Copy, Make as make_call, Gate, Part}
-use Rattle.spk_nums.specs.declared.replies.Reply.{Reply}
-use Rattle.spk_nums.specs.declared.replies.Reply.TheVariants as reply
-use Rattle.kernel_rules.specs.State.{Place, Free, Holds, Quiescing, State}
-use Rattle.kernel_rules.specs.Access.{Slot, Under, only, to_use, own, reached}
-use Rattle.kernel_rules.specs.Rules.{named, name_of}
-use Rattle.kernel_rules.specs.Runs.{Event, Enters, Decides, Returns, after}
-use Rattle.origin_rules.specs.declared.chains.Step.{Step}
+use Rattle.kernel_invariant.specs as low
+use low.kernel_rules.specs.{ℕ, ◌+◌, Bool, true, false, ◌&&◌, ◌==◌, ltb as nat_lt, if◌then◌else◌, List, [], ◌∷◌, Option, Some, None}
+use low.kernel_rules.specs.{option_map, Capability, Setting, Kind, Call, Copy, Gate, Part, Reply, Place, Free, Holds, Quiescing, Slot}
+use low.kernel_rules.specs.{Under, only, to_use, own, reached, named, name_of, Event, Enters, Decides, Returns, after}
 use Rattle.origin_rules.specs.declared.chains.Step.TheVariants.{Copied, Made, Gated, Parted}
-use Rattle.origin_rules.specs.declared.chains.ChainLink.{ChainLink}
+use low.{spk_nums.specs.declared.calls.Call.TheVariants.Make as make_call, kernel_rules.specs.State.State}
+use Rattle.{origin_rules.specs.declared.chains.Step.Step, origin_rules.specs.declared.chains.ChainLink.ChainLink}
 
 -- Where the capability of a place came from: the decisions that put it, its parent, the parent of that and so on, the newest first, and
 -- the index of the capability of the start at which they begin.
@@ -39,7 +30,7 @@ abbrev pub slot_named : State → ℕ → ℕ → Option Slot
 slot_named s c n = reached s c (own s c n)
 
 abbrev pub slot_under : State → ℕ → ℕ → ℕ → Option Slot
-slot_under s c t n = reached s c (Under (name_of (named s c t (to_use (only kind.Table)))) n)
+slot_under s c t n = reached s c (Under (name_of (named s c t (to_use (only Kind.Table)))) n)
 
 -- A capability is put at a slot, from a parent.
 abbrev pub put_from : Step → Option Slot → Option Slot → Option Put
@@ -58,7 +49,7 @@ puts s c call = None
 
 -- A refused call puts nothing.
 abbrev pub puts_by : State → ℕ → Call → Reply → Option Put
-puts_by s c call (reply.Ok v) = puts s c call
+puts_by s c call (Reply.Ok v) = puts s c call
 puts_by s c call _ = None
 
 -- Decision d puts a capability: its origin is the decision, and after it that of its parent as this stood before. All other places keep
@@ -88,8 +79,8 @@ origin_of setting (Returns c ∷ events) f i = origin_of setting events f i
 
 -- Whether a kind is that of a capability that cores can name: links and pages are none.
 abbrev pub is_own : Kind → Bool
-is_own kind.Link = false
-is_own kind.Page = false
+is_own Kind.Link = false
+is_own Kind.Page = false
 is_own _ = true
 
 -- The capability that a place holds, if it holds one.

@@ -1,27 +1,17 @@
 -- Chains said a second time, by what each call named: a capability has a chain if it is one of the start, or was put by a call that
 -- named a capability which has the rest of the chain.
-use Rattle.std.specs.Prelude.{◌≡◌, ℕ, ◌+◌, true, List, [], ◌∷◌, ◌++◌, Some, IsTrue}
-use Rattle.spk_nums.specs.Capability.{Capability, cap_of}
-use Rattle.spk_nums.specs.Rights.{kept, part_of, has_rights, right_to_use, right_to_copy}
-use Rattle.spk_nums.specs.Setting.{Setting, IsSetting}
-use Rattle.spk_nums.specs.declared.kinds.Kind.{Kind}
-use Rattle.spk_nums.specs.declared.kinds.Kind.TheVariants as kind
-use Rattle.spk_nums.specs.declared.calls.Make.{Make}
-use Rattle.spk_nums.specs.declared.calls.Make.TheVariants as make
-use Rattle.spk_nums.specs.declared.calls.Call.{Call}
-use Rattle.spk_nums.specs.declared.calls.Call.TheVariants.{Copy, Make as make_call, Gate, Part}
-use Rattle.spk_nums.specs.declared.replies.Value.{Value}
-use Rattle.spk_nums.specs.declared.replies.Reply.TheVariants as reply
-use Rattle.kernel_rules.specs.State.{Holds, State, comp_in}
-use Rattle.kernel_rules.specs.Start.{plain_cap, start_cap}
-use Rattle.kernel_rules.specs.Access.{any, only, to_copy, to_part, to_use, found}
-use Rattle.kernel_rules.specs.Rules.{Found, named}
-use Rattle.kernel_rules.specs.CapabilityCalls.{has_frame, has_frames}
-use Rattle.kernel_rules.specs.Runs.{Event, Decides, after, IsRun}
-use Rattle.origin_rules.specs.declared.chains.Step.{Step}
-use Rattle.origin_rules.specs.declared.chains.Step.TheVariants.{Copied, Made, Gated, Parted}
-use Rattle.origin_rules.specs.declared.chains.ChainLink.{ChainLink}
-use Rattle.origin_rules.specs.Chains.{decided, origin_of, is_own}
+use Rattle.kernel_invariant.specs.kernel_rules.specs as low
+use low.{◌≡◌, ℕ, ◌+◌, true, List, [], ◌∷◌, ◌++◌, Some, IsTrue, Capability, cap_of, kept, part_of, has_rights, right_to_use, right_to_copy}
+use low.{Setting, IsSetting, Kind, Make, Call, Copy, Gate, Part, Value, Holds, comp_in, plain_cap, start_cap, any, only, to_copy, to_part}
+use low.{to_use, found, Found, named, has_frame, has_frames, Event, Decides, after, IsRun}
+use Rattle.kernel_invariant.specs.spk_nums.specs.declared.calls.Call.TheVariants.{Make as make_call}
+use low.State.{State}
+use Rattle.origin_rules.specs.{declared.chains.Step.Step, declared.chains.Step.TheVariants.Copied, declared.chains.Step.TheVariants.Made}
+use Rattle.origin_rules.specs.{declared.chains.Step.TheVariants.Gated, declared.chains.Step.TheVariants.Parted}
+use Rattle.origin_rules.specs.{declared.chains.ChainLink.ChainLink, Chains.decided, Chains.origin_of, Chains.is_own}
+use Rattle.kernel_invariant.specs.spk_nums.specs.declared.kinds.Kind.TheVariants as kind
+use Rattle.kernel_invariant.specs.spk_nums.specs.declared.calls.Make.TheVariants as make
+use Rattle.kernel_invariant.specs.spk_nums.specs.declared.replies.Reply.TheVariants as reply
 
 -- The kind of capability to what a `make` makes.
 abbrev pub kind_of : Make → Kind

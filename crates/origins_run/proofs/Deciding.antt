@@ -1,25 +1,15 @@
 -- A trace that has the calls of lists decides no more calls than these are.
-use Rattle.std.proofs.Common.{◌≡◌, ◌≢◌, inl, inr, ℕ, zero, suc, ◌+◌, ◌*◌, ◌<◌, ◌≤◌, ◌++◌, ◌==◌, Bool, true, false, refl, sym, ◌∙◌, ap, subst}
-use Rattle.std.proofs.Common.{arith, List, [], ◌∷◌, length, length-append, Option, Some, None, All, if◌then◌else◌}
-use Rattle.std.specs.Prelude.{option_to_list}
-use Rattle.std.proofs.lemmas.Bool.{cases_lt, eqb-true, eq-eqb, ne_eqb, false≢true}
-use Rattle.std.proofs.lemmas.List.{get_or_past}
-use Rattle.std.proofs.lemmas.List.Elements.{All-get_or}
-use Rattle.spk_nums.specs.Setting.{Setting, IsSetting}
-use Rattle.spk_nums.specs.declared.calls.Call.{Call}
-use Rattle.spk_nums.specs.declared.replies.Reply.{Reply}
-use Rattle.told_run.specs.lone_kernel.specs.kernel_rules.specs.State.{Limits}
-use Rattle.told_run.specs.lone_kernel.specs.kernel_rules.specs.References.{sum_below}
-use Rattle.told_run.specs.lone_kernel.specs.kernel_rules.specs.Runs.{Event, Enters, Decides, Returns, phase_of, is_open, IsRun}
-use Rattle.told_run.specs.lone_kernel.specs.kernel_rules.specs.Runs.{Phase as EventPhase, Out as is_out, Open as opens, Decided as is_decided_as}
-use Rattle.told_run.specs.lone_kernel.specs.kernel_rules.specs.Runs.{is_decided}
-use Rattle.kernel_invariant.proofs.SoundRuns.{limits_stay, runs_sound}
-use Rattle.kernel_invariant.proofs.Sums.{sum_one}
-use Rattle.told_run.specs.lone_kernel.specs.kernel_history.specs.Trace.{Trace, Phase, Out, Open, Decided, phase, calls_of, after_enter}
-use Rattle.told_run.specs.lone_kernel.specs.kernel_history.specs.Events.{with_entry, with_decision, with_return, events_of}
-use Rattle.told_run.specs.lone_kernel.specs.kernel_history.specs.Order.{HasCalls, list_of}
-use Rattle.told_run.specs.lone_kernel.specs.kernel_history.proofs.Sums.{sum_zero}
-use Rattle.origin_rules.specs.Chains.{decided}
+use Rattle.told_run.specs.lone_kernel.specs.kernel_history.proofs as low
+use low.{◌≡◌, ◌≢◌, inl, inr, ℕ, zero, suc, ◌+◌, ◌*◌, ◌<◌, ◌≤◌, ◌++◌, ◌==◌, Bool, true, false, refl, sym, ◌∙◌, ap, subst, arith, List, []}
+use low.{◌∷◌, length, length-append, Option, Some, None, All, if◌then◌else◌, option_to_list, eqb-true, eq-eqb, ne_eqb, false≢true}
+use low.{get_or_past, Setting, IsSetting, Call, Reply, Limits, sum_below, Event, Enters, Decides, Returns, phase_of, IsRun, Phase, Out}
+use low.{Decided, phase, calls_of, after_enter, with_entry, with_decision, with_return, events_of, HasCalls, list_of}
+use Rattle.told_run.specs.lone_kernel.specs.flight.specs.kernel_laws.proofs.{is_open, Phase as EventPhase, Out as is_out, Open as opens}
+use Rattle.told_run.specs.lone_kernel.specs.flight.specs.kernel_laws.proofs.{Decided as is_decided_as, is_decided, limits_stay, runs_sound}
+use Rattle.told_run.specs.lone_kernel.specs.core_invariant.specs.{Trace, Open}
+use Rattle.std.proofs.{lemmas.Bool.cases_lt, lemmas.List.Elements.All-get_or}
+use Rattle.{told_run.specs.lone_kernel.specs.flight.specs.kernel_laws.proofs.sum_one, origin_lines.specs.origin_rules.specs.Chains.decided}
+use low.{Sums.sum_zero}
 
 -- How many calls of core c were decided, and how many it has entered.
 abbrev decided_by : ℕ → List Event → ℕ

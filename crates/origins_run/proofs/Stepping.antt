@@ -1,29 +1,17 @@
 -- The origins stand for a trace with one step more.
-use Rattle.std.proofs.Common.{◌≡◌, ◌≢◌, inl, inr, ℕ, ◌<◌, ◌≤◌, refl, sym, ◌∙◌, ap, subst, arith}
-use Rattle.std.proofs.Common.{List, [], ◌∷◌, length, All, Option, Some, None, is_some, slice_get, if◌then◌else◌}
-use Rattle.std.proofs.lemmas.Bool.{cases_eq, eq-eqb, ne_eqb}
-use Rattle.spk_nums.specs.Setting.{Setting, IsSetting}
-use Rattle.spk_nums.specs.declared.calls.Call.{Call}
-use Rattle.spk_nums.specs.declared.replies.Reply.{Reply}
-use Rattle.spk_nums.specs.declared.steps.Item.{Item}
-use Rattle.told_run.specs.lone_kernel.specs.kernel_rules.specs.Runs.{Event, IsRun}
-use Rattle.kernel_invariant.proofs.SoundRuns.{open_limits}
-use Rattle.seq_state.proofs.Lists.{stands_within, set_here, set_apart}
-use Rattle.told_run.specs.lone_kernel.specs.kernel_history.specs.Trace.{Step, Trace, Phase, Out, Open, Decided, phase}
-use Rattle.told_run.specs.lone_kernel.specs.kernel_history.specs.Trace.{after_enter, after_decide, after_return}
-use Rattle.told_run.specs.lone_kernel.specs.kernel_history.specs.Events.{with_entry, with_decision, with_return, events_of}
-use Rattle.told_run.specs.lone_kernel.specs.kernel_history.proofs.Laws.{legal_runs}
-use Rattle.told_run.specs.lone_kernel.specs.flight.specs.Made.{IsMade}
-use Rattle.told_run.specs.lone_kernel.specs.flight_laws.proofs.Histories.{made_histories}
-use Rattle.told_run.specs.lone_kernel.specs.step_views.specs.declared.views.StepMade.{StepMade}
-use Rattle.told_run.specs.Watching.{IsNext}
-use Rattle.told_run.specs.GivenWatched.{GivenWatched}
-use Rattle.origin_rules.specs.Chains.{decided}
-use Rattle.origin_lines.specs.confinement.specs.Known.{StandsFor}
-use Rattle.origin_lines.specs.Lines.{TellsOrigins}
+use Rattle.told_run.specs.lone_kernel.specs as low
+use low.kernel_history.proofs.{◌≡◌, ◌≢◌, inl, inr, ℕ, ◌<◌, ◌≤◌, refl, sym, ◌∙◌, ap, subst, arith, List, [], ◌∷◌, length, All, Option, Some}
+use low.kernel_history.proofs.{None, is_some, slice_get, if◌then◌else◌, eq-eqb, ne_eqb, Setting, IsSetting, Call, Reply, Item, Event, IsRun}
+use low.kernel_history.proofs.{Step, Phase, Out, Decided, phase, after_enter, after_decide, after_return, with_entry, with_decision}
+use low.flight.proofs.{Trace, Open, IsMade}
+use Rattle.origin_lines.specs.seq_state.proofs.Lists.{stands_within, set_here, set_apart}
 use Rattle.origins_run.specs.Tracked.{Tracked, EntersBy, DecidesOpen, DecidesIn, DecidesBy, LeavesBy, open_call, Tracks, has_tracked}
-use Rattle.origins_run.specs.GivenOrigins.{GivenOrigins}
-use Rattle.origins_run.proofs.Deciding.{few_decided}
+use low.{kernel_history.proofs.with_return, kernel_history.proofs.events_of, kernel_history.proofs.Laws.legal_runs}
+use low.{flight_laws.proofs.Histories.made_histories, step_views.specs.declared.views.StepMade.StepMade}
+use Rattle.{std.proofs.lemmas.Bool.cases_eq, origin_lines.specs.kernel_invariant.proofs.SoundRuns.open_limits}
+use Rattle.{told_run.specs.Watching.IsNext, told_run.specs.GivenWatched.GivenWatched, origin_lines.specs.origin_rules.specs.Chains.decided}
+use Rattle.{origin_lines.specs.confinement.specs.Known.StandsFor, origin_lines.specs.Lines.TellsOrigins}
+use Rattle.{origins_run.specs.GivenOrigins.GivenOrigins, origins_run.proofs.Deciding.few_decided}
 
 -- ---- parts of a run
 

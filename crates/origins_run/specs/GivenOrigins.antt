@@ -1,14 +1,7 @@
 -- The theorem on the origins after given steps.
-use Rattle.std.specs.Prelude.{◌≡◌, ℕ, List}
-use Rattle.spk_nums.specs.Setting.{Setting}
-use Rattle.spk_nums.specs.declared.calls.Call.{Call}
-use Rattle.spk_nums.specs.declared.steps.Item.{Item}
-use Rattle.told_run.specs.lone_kernel.specs.kernel_history.specs.Trace.{Trace}
-use Rattle.told_run.specs.lone_kernel.specs.kernel_history.specs.Events.{events_of}
-use Rattle.told_run.specs.lone_kernel.specs.kernel_history.specs.Order.{HasCalls, Follows}
-use Rattle.told_run.specs.lone_kernel.specs.flight.specs.Made.{ready_after}
-use Rattle.told_run.specs.lone_kernel.specs.flight_laws.specs.Histories.{IsHistory}
-use Rattle.origin_lines.specs.Lines.{origins_text}
+use Rattle.told_run.specs.lone_kernel.specs.core_invariant.specs.{◌≡◌, ℕ, List, Setting, Call, Item, Trace, events_of, HasCalls, Follows}
+use Rattle.{told_run.specs.lone_kernel.specs.flight.specs.Made.ready_after}
+use Rattle.{told_run.specs.lone_kernel.specs.flight_laws.specs.Histories.IsHistory, origin_lines.specs.Lines.origins_text}
 
 -- There is one trace that is a history of the machine, has the calls of the lists once and in order, follows the order, and at whose end
 -- the capabilities that are held have the origins that the text tells.

@@ -1,14 +1,10 @@
 -- Origins that go on with the steps of a trace.
-use Rattle.std.specs.Prelude.{◌≡◌, ◌<◌, ◌^◌, ℕ, List, [], Option, Some, None, slice_get, slice_set}
-use Rattle.spk_nums.specs.Setting.{Setting}
-use Rattle.spk_nums.specs.CallLimits.{InLimits}
-use Rattle.spk_nums.specs.declared.calls.Call.{Call}
-use Rattle.spk_nums.specs.declared.replies.Reply.{Reply}
-use Rattle.told_run.specs.lone_kernel.specs.kernel_rules.specs.Runs.{Enters, Decides, Returns}
-use Rattle.told_run.specs.lone_kernel.specs.kernel_history.specs.Trace.{Trace, Phase, Out, Open, Decided, phase}
-use Rattle.told_run.specs.lone_kernel.specs.kernel_history.specs.Events.{events_of}
-use Rattle.origin_lines.specs.confinement.specs.Known.{Known, StandsFor, Takes}
-use Rattle.origin_rules.specs.Chains.{decided}
+use Rattle.told_run.specs.lone_kernel.specs.kernel_history.specs.{◌≡◌, ◌<◌, ◌^◌, ℕ, List, [], Option, Some, None, slice_get}
+use Rattle.told_run.specs.lone_kernel.specs.kernel_history.specs.{set as slice_set, Setting, InLimits, Call, Reply, Enters, Decides}
+use Rattle.told_run.specs.lone_kernel.specs.kernel_history.specs.{Returns, Phase, Out, Decided, phase, events_of}
+use Rattle.told_run.specs.lone_kernel.specs.core_invariant.specs.{Trace, Open}
+use Rattle.origin_lines.specs.confinement.specs.{StandsFor, Takes}
+use Rattle.{origin_lines.specs.confinement.specs.Known.Known, origin_lines.specs.origin_rules.specs.Chains.decided}
 
 -- The origins, and each core's open call.
 pub record Tracked : Type 0 where

@@ -1,7 +1,5 @@
 -- No more calls stand below a page than cores are finished.
-use Rattle.std.proofs.Common.{◌≡◌, ◌≤◌, ℕ, ◌+◌, Option, Some, None, refl, arith}
-use Rattle.spk_nums.specs.declared.calls.Call.{Call}
-use Rattle.spk_nums.specs.declared.replies.Reply.{Reply}
+use Rattle.step_views.specs.kernel_history.proofs.{◌≡◌, ◌≤◌, ℕ, ◌+◌, Option, Some, None, refl, arith, Call, Reply}
 use Rattle.page_layers.specs.Layers.{Layers, with_core, with_progress, with_open, with_ground}
 use Rattle.page_layers.specs.declared.lanes.Lane.{Lane}
 

@@ -1,14 +1,10 @@
 -- The numbers of a page have their room.
-use Rattle.std.proofs.Common.{◌≡◌, ℕ, ◌+◌, ◌^◌, ◌<◌, ◌≤◌, List, [], ◌∷◌, length, All, Option, Some, None, arith}
-use Rattle.std.specs.Prelude.{slice_index_or, slice_set, replicate}
+use Rattle.step_views.specs.kernel_rules.proofs.{◌≡◌, ℕ, ◌+◌, ◌^◌, ◌<◌, ◌≤◌, List, [], ◌∷◌, length, All, Option, Some, None, arith}
+use Rattle.step_views.specs.kernel_rules.proofs.{get_or as slice_index_or, set as slice_set, replicate, Call, Reply}
+use Rattle.page_layers.specs.{no_call, lane_entered, lane_decided, lane_topped}
 use Rattle.std.proofs.lemmas.List.Elements.{All-from_recursion, All-set, All-weaker, All-replicate}
-use Rattle.spk_nums.specs.declared.calls.Call.{Call}
-use Rattle.spk_nums.specs.declared.replies.Reply.{Reply}
-use Rattle.picture_rows.specs.Rows.{IsWithin, no_rows}
-use Rattle.picture_rows.specs.declared.rows.Rows.{Rows}
-use Rattle.page_layers.specs.Lanes.{no_call, lane_entered, lane_decided, lane_topped}
-use Rattle.page_layers.specs.declared.lanes.Lane.{Lane}
-use Rattle.page_drawing.specs.Pages.{IsSound}
+use Rattle.picture_rows.specs.{Rows.IsWithin, Rows.no_rows, declared.rows.Rows.Rows}
+use Rattle.{page_layers.specs.declared.lanes.Lane.Lane, page_drawing.specs.Pages.IsSound}
 
 -- What is due of eight cores.
 pub dues_most : (a b c d e f g h : ℕ) → a ≤ 178 → b ≤ 178 → c ≤ 178 → d ≤ 178 → e ≤ 178 → f ≤ 178 → g ≤ 178 → h ≤ 178

@@ -1,12 +1,8 @@
 -- What is shown of a step by its view is what is shown of the step.
-use Rattle.std.proofs.Common.{◌≡◌, refl, ◌∙◌, ap}
-use Rattle.step_views.specs.word_map.specs.Places.{Shape, place_of}
-use Rattle.step_views.specs.word_map.specs.Moves.{Move, LoadOf, CompareOf, StoreOf, AddOf, word_of, op_of}
-use Rattle.spk_nums.specs.WordSteps.{place_in}
-use Rattle.kernel_history.specs.Trace.{Step}
-use Rattle.step_views.specs.declared.views.StepMade.{StepMade}
-use Rattle.step_views.specs.Views.{IsTold}
-use Rattle.page_layers.specs.Seen.{seen, seen_made}
+use Rattle.step_views.specs.kernel_history.proofs.{◌≡◌, refl, ◌∙◌, ap, Shape, place_of, Move, LoadOf, CompareOf, StoreOf, AddOf, word_of}
+use Rattle.step_views.specs.kernel_history.proofs.{op_of, place_in, Step}
+use Rattle.page_layers.specs.{seen, seen_made}
+use Rattle.step_views.specs.{declared.views.StepMade.StepMade, Views.IsTold}
 
 place_there : (s : Shape) (m : Move) → place_in (op_of s m) ≡ place_of s (word_of m)
 place_there s (LoadOf w) = refl

@@ -1,23 +1,16 @@
 -- The pages of a trace. A page has at most 60 calls and 2,000 steps: it ends before the step at which a 61st call would be entered, or
 -- before the 2,001st step, and the next begins there. One of them is drawn.
-use Rattle.std.specs.Prelude.{ℕ, ◌+◌, ◌*◌, ◌≤◌, All, nat_lt, ◌==◌, ◌&&◌, not, Bool, true, false, if◌then◌else◌, is_some}
-use Rattle.std.specs.Prelude.{List, [], ◌∷◌, replicate, slice_index_or, slice_set, Option, Some, None}
-use Rattle.spk_nums.specs.Setting.{Setting}
-use Rattle.step_views.specs.word_map.specs.Places.{size_of}
-use Rattle.kernel_history.specs.Trace.{Trace}
-use Rattle.kernel_history.specs.BootWords.{shape_of}
-use Rattle.picture_rows.specs.declared.rows.Placed.{Placed}
-use Rattle.picture_rows.specs.declared.rows.Rows.{Rows}
-use Rattle.picture_rows.specs.Rows.{IsWithin, is_full, no_rows, rows_after}
-use Rattle.page_layers.specs.Seen.{Seen, seen}
-use Rattle.page_layers.specs.Lanes.{no_call, lane_entered, lane_decided, lane_topped, lane_returned}
-use Rattle.page_layers.specs.Layers.{Layers, no_layers, with_step, with_edge, with_return}
-use Rattle.page_layers.specs.declared.lanes.Lane.{Lane}
-use Rattle.page_layers.specs.declared.lanes.Change.{Change}
-use Rattle.page_layers.specs.declared.sheet.Moment.{Moment}
-use Rattle.page_touches.specs.declared.touches.Touch.{Touch}
+use Rattle.step_views.specs.kernel_history.specs.{ℕ, ◌+◌, ◌*◌, ◌≤◌, All, ltb as nat_lt, ◌==◌, ◌&&◌, not, Bool, true, false, if◌then◌else◌}
+use Rattle.step_views.specs.kernel_history.specs.{is_some, List, [], ◌∷◌, replicate, get_or as slice_index_or, set as slice_set, Option}
+use Rattle.step_views.specs.kernel_history.specs.{Some, None, Setting, size_of, shape_of}
+use Rattle.page_layers.specs.{seen, no_call, lane_entered, lane_decided, lane_topped}
+use Rattle.picture_rows.specs.{is_full, no_rows, rows_after}
+use Rattle.picture_rows.specs.{declared.rows.Placed.Placed, declared.rows.Rows.Rows, Rows.IsWithin}
+use Rattle.page_layers.specs.{Seen.Seen, Lanes.lane_returned, Layers.Layers, Layers.no_layers, Layers.with_step, Layers.with_edge}
+use Rattle.page_layers.specs.{Layers.with_return, declared.lanes.Lane.Lane, declared.lanes.Change.Change, declared.sheet.Moment.Moment}
 use Rattle.page_touches.specs.Touches.{untouched, touched, tail_of, start_words, frames_after, frame_of}
-use Rattle.page_drawing.specs.declared.page.Run.{Run}
+use Rattle.{step_views.specs.kernel_history.specs.Trace.Trace, page_touches.specs.declared.touches.Touch.Touch}
+use Rattle.{page_drawing.specs.declared.page.Run.Run}
 
 -- What is known after some steps: the page that is asked for and the page so far; whether there are more steps after the page that is
 -- asked for; how many steps lie before the page, and how many calls are decided up to now; the cores' calls; the words of the table, by

@@ -4,7 +4,7 @@ ghost use Rattle.std.specs.Prelude.{◌≡◌, ◌==◌, ◌+◌, ◌*◌, ◌<�
 ghost use Rattle.word_map.specs.Places.{size_of};
 ghost use Rattle.picture_rows.specs.Rows.{IsWithin, is_full};
 ghost use Rattle.page_layers.specs.Lanes.{lane_entered, lane_decided, lane_topped, lane_returned};
-ghost use Rattle.kernel_history.specs.BootWords.{shape_of};
+ghost use Rattle.step_views.specs.kernel_history.specs.BootWords.{shape_of};
 ghost use Rattle.page_layers.specs.Seen.{seen_made};
 ghost use Rattle.page_drawing.specs.Pages.{blank, lane_of, first_due, first_dues, returns_of, turned, follows, run_after};
 ghost use Rattle.page_drawing.specs.Pages.{run_ended, run_left, placed, next_step, lane_at, tail_at, decisions_after, moment};

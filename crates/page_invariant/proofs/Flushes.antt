@@ -1,47 +1,34 @@
 -- The two steps of a flush: the load of the clock, which decides it, and the store of the core's flush word.
-use Rattle.count_invariant.proofs.Common.{Own, Nothing, StoreFlush, Act, own_changed, own_decided, ActiveCall, Stage, Undecided, Decided}
-use Rattle.count_invariant.proofs.Common.{HasRoom, GoesOn, went_with, landed, Core, plain_exit, counts_on, counted_refs, limits_of}
-use Rattle.count_invariant.proofs.Common.{SameFor, marks_own, word_stays, reads_alike, carry_marks, carry_words, others_settled}
-use Rattle.count_invariant.proofs.Common.{own_settled, counts_bare, exclusive_none}
-use Rattle.count_invariant.proofs.Common.{exclusive_kept, exclusive_elsewhere, Holding, holds_counts}
-use Rattle.count_invariant.proofs.Common.{settled_by, settled, due_of, KnowsUndecided, WorksIn, CoreIs, phase_at, untypes, is_done}
-use Rattle.count_invariant.proofs.Common.{holds_at, holds_in, holds, held_by, times_of, counted_in, Invariant, WordIs}
-use Rattle.count_invariant.proofs.Common.{decided-inside, same_word-other, last_small, phase-own, steps_in_call-own, stamp-kept}
-use Rattle.count_invariant.proofs.Common.{flush_of-own, flush_stored-own, flush_stored-other, IsJustified, HasReached, marked_by, ends_in}
-use Rattle.count_invariant.proofs.Common.{flushes_in, begins_at, ends_at, flushes_at, stamp, clock, flush_of, flush_stored, Step, Trace}
-use Rattle.count_invariant.proofs.Common.{Open, phase, state_after, state_decided_in, last_left, own_left, ways, core_same_refs, sum_one}
-use Rattle.count_invariant.proofs.Common.{put_same, put_other, Slot, alone, rule_of, counted, state_by, begins, ends, flushes, MayReply}
-use Rattle.count_invariant.proofs.Common.{refs, sum_below, Thing, PlaceOf, FrameOf, NumberOf, State, put, thread_in, comp_in}
-use Rattle.count_invariant.proofs.Common.{first_of_stack, thread_of, comp_of, Flush, Reply, Setting, IsSetting, Acquired, ◌≡◌, ◌≢◌, inl}
-use Rattle.count_invariant.proofs.Common.{inr, ℕ, ◌+◌, ◌*◌, ◌<◌, ◌≤◌, ◌&&◌, true, false, if◌then◌else◌, cond, List, [], ◌∷◌, map, length}
-use Rattle.count_invariant.proofs.Common.{Option, Some, None, arith, refl, sym, ◌∙◌, ap, subst, cases_eq, false≢true, eq-eqb, All-nil}
-use Rattle.count_invariant.proofs.Common.{same_same, Move, LoadOf, StoreOf, Word, EntryAt, FrameAt, CountAt, CoreAt, FlushAt, LiveAt}
-use Rattle.count_invariant.proofs.Common.{ClockAt, same_word}
-use Rattle.count_invariant.specs.act_states.specs.declared.own.OwnChange.TheVariants.{Empties}
-use Rattle.count_invariant.specs.act_states.specs.declared.work.Act.TheVariants.{Flush as flush_act}
-use Rattle.count_invariant.specs.act_states.specs.declared.work.WorkStep.TheVariants.{Changes as work_changes}
-use Rattle.count_invariant.specs.act_states.specs.Flushes.{took_flush}
-use Rattle.count_invariant.specs.kept_facts.proofs.CountSums.{calm_refs}
-use Rattle.count_invariant.specs.step_ways.proofs.Good.{spares_kept, spares_other}
-use Rattle.count_invariant.specs.step_ways.proofs.Loads.{IsOfCall, next_at, core_in_call, core_is, call_is, in_call}
-use Rattle.count_invariant.specs.step_ways.proofs.Loads.{inner, inner_within, inner_disciplined, inner_footprint, is_active}
-use Rattle.count_invariant.specs.step_ways.proofs.OwnChanges.{decides_owning}
-use Rattle.count_invariant.specs.step_ways.proofs.Refusals.{GoodTook, not_spent}
-use Rattle.count_invariant.specs.kept_facts.proofs.Sums.{sums_since}
-use Rattle.count_invariant.specs.step_ways.proofs.Users.{spares_none}
-use Rattle.count_invariant.specs.step_ways.proofs.Writes.{clock_small}
-use Rattle.count_invariant.specs.core_invariant.specs.Knows.{KnowsFlush}
-use Rattle.count_invariant.specs.frame_words.proofs.FlushLemmas.{spelling}
-use Rattle.count_invariant.specs.frame_words.specs.Flush.{word_of_flush}
-use Rattle.count_invariant.specs.kernel_history.specs.Discipline.{stores_flush}
-use Rattle.count_invariant.specs.kernel_history.specs.Stamps.{begins_in}
-use Rattle.kernel_laws.specs.kernel_rules.specs.GracePeriods.{flushed}
-use Rattle.kernel_laws.specs.kernel_rules.specs.State.{Core as CoreFields}
-use Rattle.kernel_laws.specs.kernel_rules.specs.State.{with_core}
-use Rattle.kernel_laws.specs.spk_nums.specs.declared.replies.Reply.TheVariants as reply
-use Rattle.kernel_laws.specs.spk_nums.specs.declared.replies.Value.TheVariants as value
-use Rattle.count_invariant.specs.stage_quiet.specs.Clocks.{stamp_of_clock}
-use Rattle.std.proofs.Common.{IsSome}
+use Rattle.count_invariant.specs.step_ways.proofs.{Own, Nothing, StoreFlush, Act, own_changed, own_decided, ActiveCall, Stage, Undecided}
+use Rattle.count_invariant.specs.step_ways.proofs.{Decided, HasRoom, GoesOn, went_with, landed, Core, plain_exit, counts_on, counted_refs}
+use Rattle.count_invariant.specs.step_ways.proofs.{limits_of, SameFor, marks_own, word_stays, carry_marks, others_settled, counts_bare}
+use Rattle.count_invariant.specs.step_ways.proofs.{exclusive_none, exclusive_elsewhere, Holding, holds_counts, settled_by, settled, due_of}
+use Rattle.count_invariant.specs.step_ways.proofs.{KnowsUndecided, WorksIn, phase_at, untypes, is_done, holds_at, holds_in, holds, held_by}
+use Rattle.count_invariant.specs.step_ways.proofs.{times_of, counted_in, Invariant, WordIs, decided-inside, same_word-other, phase-own}
+use Rattle.count_invariant.specs.step_ways.proofs.{stamp-kept, flush_stored-own, flush_stored-other, IsJustified, HasReached, marked_by}
+use Rattle.count_invariant.specs.step_ways.proofs.{ends_in, flushes_in, begins_at, ends_at, flushes_at, stamp, clock, flush_of}
+use Rattle.count_invariant.specs.step_ways.proofs.{flush_stored, Step, Trace, Open, phase, state_after, state_decided_in, last_left}
+use Rattle.count_invariant.specs.step_ways.proofs.{own_left, ways, core_same_refs, sum_one, put_same, put_other, Slot, alone, rule_of}
+use Rattle.count_invariant.specs.step_ways.proofs.{counted, state_by, begins, ends, flushes, MayReply, refs, Thing, PlaceOf, FrameOf}
+use Rattle.count_invariant.specs.step_ways.proofs.{NumberOf, State, put, thread_in, comp_in, first_of_stack, thread_of, comp_of, Reply}
+use Rattle.count_invariant.specs.step_ways.proofs.{Setting, IsSetting, Acquired, ◌≡◌, ◌≢◌, inl, inr, ℕ, ◌+◌, ◌*◌, ◌<◌, ◌≤◌, ◌&&◌, true}
+use Rattle.count_invariant.specs.step_ways.proofs.{false, if◌then◌else◌, cond, List, [], ◌∷◌, map, length, Option, Some, None, arith, refl}
+use Rattle.count_invariant.specs.step_ways.proofs.{sym, ◌∙◌, ap, subst, false≢true, eq-eqb, same_same, Move, LoadOf, StoreOf, Word, EntryAt}
+use Rattle.count_invariant.specs.step_ways.proofs.{FrameAt, CountAt, CoreAt, FlushAt, LiveAt, ClockAt, same_word, Flush as flush_act}
+use Rattle.count_invariant.specs.step_ways.proofs.{spares_kept, spares_other, IsOfCall, next_at, core_in_call, core_is, call_is, inner}
+use Rattle.count_invariant.specs.step_ways.proofs.{is_active, GoodTook, not_spent, spares_none, clock_small, begins_in, IsSome, Value}
+use Rattle.count_invariant.specs.kept_facts.proofs.{reads_alike, carry_words, own_settled, exclusive_kept, CoreIs, last_small}
+use Rattle.count_invariant.specs.kernel_history.specs.{sum_below, Flush, stores_flush, Core as CoreFields, with_core}
+use Rattle.std.proofs.{lemmas.Bool.cases_eq, lemmas.List.Elements.All-nil}
+use Rattle.count_invariant.specs.act_states.specs.{declared.own.OwnChange.TheVariants.Empties}
+use Rattle.count_invariant.specs.act_states.specs.{declared.work.WorkStep.TheVariants.Changes as work_changes, Flushes.took_flush}
+use Rattle.count_invariant.specs.kept_facts.proofs.{CountSums.calm_refs, Sums.sums_since}
+use Rattle.count_invariant.specs.step_ways.proofs.Loads.{in_call, inner_within, inner_disciplined, inner_footprint}
+use Rattle.{count_invariant.specs.kept_facts.proofs.steps_in_call-own, count_invariant.specs.kernel_history.proofs.Steps.flush_of-own}
+use Rattle.{count_invariant.specs.step_ways.proofs.OwnChanges.decides_owning, count_invariant.specs.core_invariant.specs.Knows.KnowsFlush}
+use Rattle.{count_invariant.specs.frame_words.proofs.FlushLemmas.spelling, count_invariant.specs.frame_words.specs.Flush.word_of_flush}
+use Rattle.{count_invariant.specs.boot_words.specs.kernel_rules.specs.GracePeriods.flushed}
+use Rattle.{count_invariant.specs.stage_quiet.specs.Clocks.stamp_of_clock}
 
 none_some : (d : ℕ) → None ≡ Some d → ⊥
 none_some d h = cc
@@ -63,7 +50,7 @@ module _ (setup : Setting) (setting : IsSetting setup) (cores : ℕ → Core) (t
   now_at = clock setup t
 
   abbrev r : Reply
-  r = reply.Ok value.Nothing
+  r = Reply.Ok Value.Nothing
 
   abbrev load : Move
   load = LoadOf ClockAt
@@ -268,7 +255,7 @@ module _ (setup : Setting) (setting : IsSetting setup) (cores : ℕ → Core) (t
     where
       first : r ≡ alone s c a.call
       first = subst (λ x. r ≡ alone s c x) (sym call_is_flush)
-          (sym (ap (λ b. if b then reply.CallsSpent else r) (not_spent setup (cores c) t c (stands.each c here) unspent_room)))
+          (sym (ap (λ b. if b then Reply.CallsSpent else r) (not_spent setup (cores c) t c (stands.each c here) unspent_room)))
 
   pub flush_good : GoodTook setup cores t c load (landed a (took_flush by now_at))
   flush_good = subst (λ (x : ℕ). GoodTook setup cores t c load (landed a (work_changes r Empties None (StoreFlush by x))))

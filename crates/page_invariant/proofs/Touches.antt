@@ -1,65 +1,49 @@
 -- The two steps of a touch: the load of the root entry of its page, which answers a translation that is cached, and the load of the page's
 -- entry.
-use Rattle.count_invariant.proofs.Common.{◌≡◌, ◌≢◌, ◌⊎◌, inl, inr, ℕ, ◌+◌, ◌*◌, ◌/◌, ◌%◌, ◌^◌, ◌<◌, ◌≤◌, ◌||◌, ◌++◌, ◌==◌, nat_le, nat_lt}
-use Rattle.count_invariant.proofs.Common.{Bool, true, false, List, [], ◌∷◌, map, length, Option, Some, None, arith, refl, sym, ◌∙◌, ap}
-use Rattle.count_invariant.proofs.Common.{subst, if◌then◌else◌, IsSome, is_some, option_to_list, false≢true, eq-eqb, le-leb}
-use Rattle.count_invariant.proofs.Common.{le-ltb, All-nil, Capability, Setting, IsSetting, Call, Reply, Translation, Entry}
-use Rattle.count_invariant.proofs.Common.{Held, Closing, EntryFits, Word, EntryAt, FrameAt, CountAt, CoreAt, FlushAt, LiveAt, ClockAt}
-use Rattle.count_invariant.proofs.Common.{Move, LoadOf, word_of, told_of, PlaceOf, NumberOf, State, Holds, put, thread_in}
-use Rattle.count_invariant.proofs.Common.{comp_in, first_of_stack, thread_of, comp_of, Slot, root_at, Target, Under, place_at, usable_in}
-use Rattle.count_invariant.proofs.Common.{usable, linked, slot_in, root_slot, reached, holds_link, held_in, refs, Relies}
-use Rattle.count_invariant.proofs.Common.{Refused, Found, IsFoundAnd, outcome, RuleMay, translation_of, rule_of, change_of}
-use Rattle.count_invariant.proofs.Common.{changed, counted, begins, ends, flushes, MayReply, opened, core_same_refs, sum_one}
-use Rattle.count_invariant.proofs.Common.{put_same, put_other, events_of, is_one_of, frames_own, footprint_frames, is_slot_in, HasReached}
-use Rattle.count_invariant.proofs.Common.{IsJustified, marked_by, ends_in, flushes_in, stamp, Step, Trace, Open, phase, state_after}
-use Rattle.count_invariant.proofs.Common.{state_decided_in, last_left, own_left, root_passed, wide_way_to, ways, wide_ways, ok_first}
-use Rattle.count_invariant.proofs.Common.{Carries, state_is, run_of, decided-inside, last_small, sound_of, opened_is, shown_in, look_move}
-use Rattle.count_invariant.proofs.Common.{Look, AtRoot, AtLeaf, AtEntry, Acquired, Own, Nothing, Act, WorkStep, Goes, own_changed, refuse}
-use Rattle.count_invariant.proofs.Common.{own_decided, ActiveCall, Undecided, Decided, HasRoom, landed, Core, holds_counts}
-use Rattle.count_invariant.proofs.Common.{due_of, LooksUp, KnowsUndecided, WorksIn, phase_at, untypes, holds_at, holds_in, holds, held_by}
-use Rattle.count_invariant.proofs.Common.{times_of, counted_in, Invariant, counts_bare, exclusive_none, exclusive_kept}
-use Rattle.count_invariant.proofs.Common.{IsUntimed, plain_begins, plain_stamp, plain_flush, plain_exit, names_on, counted_refs}
-use Rattle.count_invariant.proofs.Common.{sums_keep, SameFor, marks_own, settled_on, capability_in}
-use Rattle.kernel_laws.specs.spk_nums.specs.declared.kinds.Kind.TheVariants as kind
-use Rattle.kernel_laws.specs.spk_nums.specs.declared.replies.Reply.TheVariants as reply
+use Rattle.count_invariant.specs.step_ways.proofs.{◌≡◌, ◌≢◌, ◌⊎◌, inl, inr, ℕ, ◌+◌, ◌*◌, ◌/◌, ◌^◌, ◌<◌, ◌≤◌, ◌||◌, ◌++◌, ◌==◌}
+use Rattle.count_invariant.specs.step_ways.proofs.{leb as nat_le, ltb as nat_lt, Bool, true, false, List, [], ◌∷◌, map, length, Option}
+use Rattle.count_invariant.specs.step_ways.proofs.{Some, None, arith, refl, sym, ◌∙◌, ap, subst, if◌then◌else◌, IsSome, is_some}
+use Rattle.count_invariant.specs.step_ways.proofs.{option_to_list, false≢true, eq-eqb, le-leb, le-ltb, Capability, Setting, IsSetting, Call}
+use Rattle.count_invariant.specs.step_ways.proofs.{Reply, Translation, Entry, Held, EntryFits, Word, EntryAt, FrameAt, CountAt, CoreAt}
+use Rattle.count_invariant.specs.step_ways.proofs.{FlushAt, LiveAt, ClockAt, Move, LoadOf, word_of, told_of, PlaceOf, NumberOf, State}
+use Rattle.count_invariant.specs.step_ways.proofs.{Holds, put, thread_in, comp_in, first_of_stack, thread_of, comp_of, Slot, Target, Under}
+use Rattle.count_invariant.specs.step_ways.proofs.{place_at, usable_in, usable, root_slot, reached, held_in, refs, Relies, Refused, Found}
+use Rattle.count_invariant.specs.step_ways.proofs.{IsFoundAnd, outcome, RuleMay, rule_of, change_of, changed, counted, begins, ends}
+use Rattle.count_invariant.specs.step_ways.proofs.{flushes, MayReply, opened, core_same_refs, sum_one, put_same, put_other, events_of}
+use Rattle.count_invariant.specs.step_ways.proofs.{is_one_of, frames_own, footprint_frames, is_slot_in, HasReached, IsJustified, marked_by}
+use Rattle.count_invariant.specs.step_ways.proofs.{ends_in, flushes_in, stamp, Step, Trace, Open, phase, state_after, state_decided_in}
+use Rattle.count_invariant.specs.step_ways.proofs.{last_left, own_left, ways, wide_ways, ok_first, Carries, state_is, run_of}
+use Rattle.count_invariant.specs.step_ways.proofs.{decided-inside, sound_of, opened_is, shown_in, look_move, Look, AtRoot, AtLeaf, AtEntry}
+use Rattle.count_invariant.specs.step_ways.proofs.{Acquired, Own, Nothing, Act, WorkStep, Goes, own_changed, refuse, own_decided}
+use Rattle.count_invariant.specs.step_ways.proofs.{ActiveCall, Undecided, Decided, HasRoom, landed, Core, holds_counts, due_of, LooksUp}
+use Rattle.count_invariant.specs.step_ways.proofs.{KnowsUndecided, WorksIn, phase_at, untypes, holds_at, holds_in, holds, held_by, times_of}
+use Rattle.count_invariant.specs.step_ways.proofs.{counted_in, Invariant, counts_bare, exclusive_none, IsUntimed, plain_begins, plain_stamp}
+use Rattle.count_invariant.specs.step_ways.proofs.{plain_flush, plain_exit, names_on, counted_refs, sums_keep, SameFor, marks_own, does}
+use Rattle.count_invariant.specs.step_ways.proofs.{begins_in, Touch as touch_act, Answers, spares_kept, OnlyLooks, step_to, next_at, inner}
+use Rattle.count_invariant.specs.step_ways.proofs.{call_is, core_is, is_active, loads_on, decides_on, decides_changing, IsMarked}
+use Rattle.count_invariant.specs.step_ways.proofs.{IsUnmarked, place_reads, GoodTook, NobodyWaits, ticks_at, not_spent, refuses_busy}
+use Rattle.count_invariant.specs.step_ways.proofs.{plan_for, Kind, Refusal}
+use Rattle.count_invariant.specs.kernel_laws.proofs.{◌%◌, root_at, linked, slot_in, holds_link, translation_of, Core as CoreFields}
+use Rattle.count_invariant.specs.kernel_laws.proofs.{with_core, mapped, touch_by, caching, Cache as cache_edit, IsOpen, IsFitted, runs_fit}
+use Rattle.count_invariant.specs.kernel_laws.proofs.{mapped_page, begins_in as begins_in_of_callrelation}
+use Rattle.count_invariant.specs.act_states.specs.{Closing, is_link, look_end, look_after, place_end, end_by_link, meets_page, touch_end}
+use Rattle.count_invariant.specs.act_states.specs.{is_at_page, touched}
+use Rattle.count_invariant.specs.kept_facts.proofs.{last_small, exclusive_kept, settled_on, load_keeps, load_marks, load_words}
+use Rattle.count_invariant.specs.kernel_history.specs.{root_passed, wide_way_to, capability_in, led_to}
+use Rattle.count_invariant.specs.stage_look.specs.{entry_within, root_end, after_link}
+use Rattle.count_invariant.proofs.{Shows, footprint_way}
+use Rattle.count_invariant.specs.plan_ways.proofs.{one_left, one_right}
 use Rattle.count_invariant.specs.entry_words.specs.declared.entry.Entry.TheVariants.{Free, Quiescing}
-use Rattle.kernel_laws.specs.kernel_rules.specs.State.{Core as CoreFields, with_core}
-use Rattle.kernel_laws.specs.kernel_rules.specs.Rules.{mapped, does}
-use Rattle.kernel_laws.specs.kernel_rules.specs.MemoryCalls.{translated, touch_by}
-use Rattle.kernel_laws.specs.kernel_rules.specs.Edits.{caching, Cache as cache_edit}
-use Rattle.kernel_laws.specs.kernel_invariant.proofs.SoundCalls.{IsOpen}
-use Rattle.kernel_laws.proofs.NodeSteps.{IsFitted}
-use Rattle.kernel_laws.proofs.NodesLaw.{runs_fit, mapped_page}
-use Rattle.count_invariant.specs.kernel_history.specs.Stamps.{begins_in}
-use Rattle.count_invariant.specs.kernel_history.specs.Ways.{led_to}
-use Rattle.count_invariant.specs.trace_laws.proofs.Stays.{relies_reached}
-use Rattle.count_invariant.specs.kernel_history.proofs.Steps.{own_left-here}
-use Rattle.count_invariant.specs.plan_ways.proofs.InFootprint.{one_left, one_right}
-use Rattle.count_invariant.specs.stage_look.specs.Shown.{entry_within, is_link}
-use Rattle.count_invariant.specs.stage_look.specs.Lookup.{look_end, look_after, root_end, root_after, place_end, end_by_link}
-use Rattle.count_invariant.specs.stage_look.specs.Lookup.{after_link}
-use Rattle.count_invariant.specs.act_states.specs.declared.own.OwnChange.TheVariants.{Caches}
-use Rattle.count_invariant.specs.act_states.specs.declared.refusals.Refusal.TheVariants as refusal
-use Rattle.count_invariant.specs.act_states.specs.declared.touches.Touching.{Touching}
-use Rattle.count_invariant.specs.act_states.specs.declared.work.Act.TheVariants.{Touch as touch_act}
-use Rattle.count_invariant.specs.act_states.specs.declared.work.WorkStep.TheVariants.{Answers, Changes as work_changes}
-use Rattle.count_invariant.specs.act_states.specs.Touches.{mapping_of, meets_page, touch_end, took_touch, is_at_page}
-use Rattle.count_invariant.specs.core_invariant.specs.Knows.{KnowsTouch}
-use Rattle.count_invariant.specs.step_ways.proofs.Good.{spares_kept}
-use Rattle.count_invariant.specs.step_ways.proofs.Loads.{OnlyLooks, step_to, next_at, inner, call_is, core_is, is_active, loads_on}
-use Rattle.count_invariant.specs.step_ways.proofs.Loads.{decides_on}
-use Rattle.count_invariant.specs.step_ways.proofs.OwnChanges.{decides_changing}
-use Rattle.count_invariant.specs.step_ways.proofs.Places.{IsMarked, IsUnmarked, place_reads}
-use Rattle.count_invariant.specs.step_ways.proofs.Refusals.{GoodTook, NobodyWaits, ticks_at, not_spent, refuses_fault, refuses_busy}
-use Rattle.count_invariant.specs.kept_facts.proofs.WordFrames.{load_keeps, load_marks, load_words}
-use Rattle.count_invariant.proofs.Lookups.{Shows, ShowsHeld, shown_of, link_kind, link_none, link_shown, passes, root_slots}
-use Rattle.count_invariant.proofs.Lookups.{slot_left, slot_right, slot_one, footprint_way, use_removed, leaf_reached}
-use Rattle.page_invariant.proofs.TouchCalls.{told_by, unlinked_may, empty_may, unreached_first}
-use Rattle.page_invariant.proofs.TouchCalls.{empty_first, cached_first, mapped_is, mapped_first}
-use Rattle.count_invariant.specs.act_states.specs.Touches.{touched}
-use Rattle.kernel_laws.specs.kernel_rules.specs.CallRelation.{begins_in as begins_in_of_callrelation}
-use Rattle.kernel_laws.specs.spk_nums.specs.Limits.{end_of_arg}
-use Rattle.count_invariant.specs.act_states.specs.call_plans.specs.PlanOf.{plan_for}
+use Rattle.count_invariant.specs.act_states.specs.{declared.own.OwnChange.TheVariants.Caches, declared.touches.Touching.Touching}
+use Rattle.count_invariant.specs.act_states.specs.{declared.work.WorkStep.TheVariants.Changes as work_changes, Touches.mapping_of}
+use Rattle.count_invariant.proofs.Lookups.{ShowsHeld, shown_of, link_kind, link_none, link_shown, passes, root_slots, slot_left, slot_right}
+use Rattle.count_invariant.proofs.Lookups.{slot_one, use_removed, leaf_reached}
+use Rattle.page_invariant.proofs.TouchCalls.{told_by, unlinked_may, empty_may, unreached_first, empty_first, cached_first, mapped_is}
+use Rattle.{std.proofs.lemmas.List.Elements.All-nil, count_invariant.specs.boot_words.specs.kernel_rules.specs.MemoryCalls.translated}
+use Rattle.{count_invariant.specs.trace_laws.proofs.Stays.relies_reached, count_invariant.specs.kernel_history.proofs.Steps.own_left-here}
+use Rattle.{count_invariant.specs.stage_look.specs.Lookup.root_after, count_invariant.specs.act_states.specs.Touches.took_touch}
+use Rattle.{count_invariant.specs.core_invariant.specs.Acting.KnowsTouch, count_invariant.specs.step_ways.proofs.Refusals.refuses_fault}
+use Rattle.{count_invariant.specs.quality_lists.specs.spk_nums.specs.Limits.end_of_arg, page_invariant.proofs.TouchCalls.mapped_first}
 
 -- What a touch takes from the load of its look-up, where this translation is cached or none.
 abbrev touched_at : Touching → Look → Option Translation → ℕ → WorkStep
@@ -86,7 +70,7 @@ abbrev one_more : CoreFields → CoreFields
 one_more k = record k { counted = k.counted + 1 }
 
 -- The flags of a mapping are those of its page.
-flags_of : (m : Touching) (k : Capability) → k.kind ≡ kind.Page → EntryFits (Held k) → mapping_of m k ≡ told_by m.pages m.page k
+flags_of : (m : Touching) (k : Capability) → k.kind ≡ Kind.Page → EntryFits (Held k) → mapping_of m k ≡ told_by m.pages m.page k
 flags_of m k page fits =
     ap (λ (n : ℕ). record { pages = m.pages; page = m.page; frame = k.frame; flags = record { 0 = n } })
     (small (subst (λ j. k.arg < end_of_arg j) page fits.2))
@@ -161,7 +145,7 @@ module _ (setup : Setting) (setting : IsSetting setup) (cores : ℕ → Core) (t
     answers_it : change_of s c a.call ≡ Found (does c s (translated item) [])
     answers_it = ap (outcome s c) (rule_is (Some item) cached) ∙ cached_first s c m.pages m.page item (le-ltb 4095 m.page within)
 
-    answered_may : MayReply s c a.call (reply.Ok (translated item))
+    answered_may : MayReply s c a.call (Reply.Ok (translated item))
     answered_may = (
       not_spent setup (cores c) t c (core_is setup setting cores t stands c here a active) room,
       (has.acts, subst (λ j. IsFoundAnd j (λ x. x.value ≡ translated item)) (sym answers_it) refl),
@@ -169,17 +153,17 @@ module _ (setup : Setting) (setting : IsSetting setup) (cores : ℕ → Core) (t
 
     answered : (i : ℕ) → GoodTook setup cores t c (LoadOf (EntryAt m.pages i)) (landed a (Answers (translated item) None Nothing))
     answered i lands =
-        decides_on setup setting cores t stands c here a active (LoadOf (EntryAt m.pages i)) (reply.Ok (translated item)) a.found
+        decides_on setup setting cores t stands c here a active (LoadOf (EntryAt m.pages i)) (Reply.Ok (translated item)) a.found
         (looks_at m.pages i root_footprint) lands (still (Some None)) opens
         (ap (λ j. counted (changed s j) c) answers_it) refl
         (λ x. ap (λ j. begins_in_of_callrelation j x) answers_it)
-        (λ x. ap (λ y. ends y (reply.Ok (translated item)) x) knows.call_is)
-        (ap (λ y. flushes y (reply.Ok (translated item))) knows.call_is)
+        (λ x. ap (λ y. ends y (Reply.Ok (translated item)) x) knows.call_is)
+        (ap (λ y. flushes y (Reply.Ok (translated item))) knows.call_is)
         answered_may
         (subst (λ rule. HasReached (step_to c None (LoadOf (EntryAt m.pages i)) (last_left setup t (EntryAt m.pages i))
-        (Some (reply.Ok (translated item))) None ∷ t) c (ways s c rule)) (sym (rule_is (Some item) cached))
+        (Some (Reply.Ok (translated item))) None ∷ t) c (ways s c rule)) (sym (rule_is (Some item) cached))
         (All-nil (λ (x : Slot). IsSome (own_left (step_to c None (LoadOf (EntryAt m.pages i)) (last_left setup t (EntryAt m.pages i))
-        (Some (reply.Ok (translated item))) None ∷ t) c (EntryAt x.node x.index)))))
+        (Some (Reply.Ok (translated item))) None ∷ t) c (EntryAt x.node x.index)))))
         (λ is_alone. ok_first s c a.call (translated item) answered_may)
 
   -- No translation is cached: its entries are loaded.
@@ -187,18 +171,18 @@ module _ (setup : Setting) (setting : IsSetting setup) (cores : ℕ → Core) (t
     way_is : wide_ways s c (rule_of s c a.call) ≡ wide_way_to s target
     way_is = ap (wide_ways s c) (rule_is None none)
 
-    faults : (g i : ℕ) → is_one_of g (footprint_frames s c a.call) ≡ true → RuleMay s c (touch_by m.pages m.page None) reply.Fault
-        → (NobodyWaits s → outcome s c (touch_by m.pages m.page None) ≡ Refused reply.Fault)
-        → GoodTook setup cores t c (LoadOf (EntryAt g i)) (landed a (refuse refusal.Fault))
+    faults : (g i : ℕ) → is_one_of g (footprint_frames s c a.call) ≡ true → RuleMay s c (touch_by m.pages m.page None) Reply.Fault
+        → (NobodyWaits s → outcome s c (touch_by m.pages m.page None) ≡ Refused Reply.Fault)
+        → GoodTook setup cores t c (LoadOf (EntryAt g i)) (landed a (refuse Refusal.Fault))
     faults g i footprint may first =
         refuses_fault setup setting cores t stands c here a active opens held_is room (LoadOf (EntryAt g i))
         (looks_at g i footprint) has.acts
-        (subst (λ rule. RuleMay s c rule reply.Fault) (sym (rule_is None none)) may)
+        (subst (λ rule. RuleMay s c rule Reply.Fault) (sym (rule_is None none)) may)
         (λ nobody. ap (outcome s c) (rule_is None none) ∙ first nobody)
 
     busy : (g i : ℕ) → is_one_of g (footprint_frames s c a.call) ≡ true → is_slot_in (wide_way_to s target) g i ≡ true
         → (d : ℕ) → marked_by setup t (EntryAt g i) ≡ Some d
-        → GoodTook setup cores t c (LoadOf (EntryAt g i)) (landed a (refuse (refusal.Busy d)))
+        → GoodTook setup cores t c (LoadOf (EntryAt g i)) (landed a (refuse (Refusal.Busy d)))
     busy g i footprint way d mark =
         refuses_busy setup setting cores t stands c here a active opens held_is room (LoadOf (EntryAt g i)) (looks_at g i footprint)
         (ap ticks_at stage_is) d (ap (λ xs. (holds_counts None xs).marks (EntryAt g i)) no_counts) mark
@@ -233,7 +217,7 @@ module _ (setup : Setting) (setting : IsSetting setup) (cores : ℕ → Core) (t
 
       no_page : holds_link (place_at s (root_slot m.pages m.page)) ≡ false
           → (NobodyWaits s → linked (usable s c (root_slot m.pages m.page)) ≡ None)
-          → GoodTook setup cores t c root_load (landed a (refuse refusal.Fault))
+          → GoodTook setup cores t c root_load (landed a (refuse Refusal.Fault))
       no_page free unlinked = faults m.pages top root_footprint (unlinked_may s c m.pages m.page small free)
           (λ nobody. unreached_first s c m.pages m.page past (unreached (unlinked nobody)))
 
@@ -326,7 +310,7 @@ module _ (setup : Setting) (setting : IsSetting setup) (cores : ℕ → Core) (t
       relies_leaf : Relies s c leaf
       relies_leaf = relies_reached setup setting t stands.legal c a.call is_open (root_at m.pages) m.page slot reaches
 
-      no_mapping : held_in (place_at s slot) ≡ None → GoodTook setup cores t c page_load (landed a (refuse refusal.Fault))
+      no_mapping : held_in (place_at s slot) ≡ None → GoodTook setup cores t c page_load (landed a (refuse Refusal.Fault))
       no_mapping free = faults leaf index page_footprint (empty_may s c m.pages m.page slot small reaches free)
           (λ nobody. empty_first s c m.pages m.page slot past reaches free)
 
@@ -336,7 +320,7 @@ module _ (setup : Setting) (setting : IsSetting setup) (cores : ℕ → Core) (t
         item = told_by m.pages m.page k
 
         abbrev r : Reply
-        r = reply.Ok (translated item)
+        r = Reply.Ok (translated item)
 
         abbrev e : Step
         e = inner setup setting cores t stands c here a active page_load (Some r) None
@@ -487,13 +471,13 @@ module _ (setup : Setting) (setting : IsSetting setup) (cores : ℕ → Core) (t
             (runs_fit setup setting (events_of t) (run_of setup t stands.legal))
 
         -- what a page of the core's own holds is a mapping
-        is_page : k.kind ≡ kind.Page
+        is_page : k.kind ≡ Kind.Page
         is_page = mapped_page s opens_now c open_now fitted m.page k
             (subst (λ (p : ℕ). mapped s c p m.page ≡ Found k) knows.root found_it)
 
         page_good : GoodTook setup cores t c page_load (landed a (meets_page m (Held k)))
         page_good = subst (λ x. GoodTook setup cores t c page_load
-            (landed a (work_changes (reply.Ok (translated x)) (Caches x) None Nothing)))
+            (landed a (work_changes (Reply.Ok (translated x)) (Caches x) None Nothing)))
             (sym (flags_of m k is_page fits)) cached_now
 
       abbrev FromPage : Option Entry → Type 0

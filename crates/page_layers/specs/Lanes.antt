@@ -1,12 +1,9 @@
 -- What is known of a core's calls, and of the newest change of a word.
-use Rattle.std.specs.Prelude.{ℕ, ◌+◌, nat_lt, nat_le, ◌==◌, Bool, if◌then◌else◌, List, replicate, slice_index_or, Option, Some, None}
-use Rattle.spk_nums.specs.declared.calls.Call.{Call}
-use Rattle.spk_nums.specs.declared.replies.Reply.{Reply}
-use Rattle.spk_nums.specs.declared.replies.Reply.TheVariants as reply
+use Rattle.step_views.specs.kernel_history.specs.{ℕ, ◌+◌, ltb as nat_lt, leb as nat_le, ◌==◌, Bool, if◌then◌else◌, List, replicate}
+use Rattle.step_views.specs.kernel_history.specs.{get_or as slice_index_or, Option, Some, None, Call, Reply}
 use Rattle.picture_shapes.specs.declared.lines.Outcome.{Outcome}
 use Rattle.picture_shapes.specs.declared.lines.Outcome.TheVariants.{Done, Refused, InTheWay}
-use Rattle.page_layers.specs.declared.lanes.Lane.{Lane}
-use Rattle.page_layers.specs.declared.lanes.Change.{Change}
+use Rattle.page_layers.specs.{declared.lanes.Lane.Lane, declared.lanes.Change.Change}
 
 -- A core that has entered no call.
 abbrev pub no_call : Lane
@@ -55,13 +52,13 @@ overlaps l c = nat_lt (slice_index_or l.others c.core 0) c.step
 -- How a call ends by its reply. Another is in the way where the core has lost a race, or waits for another's mark, grace period, flush,
 -- thread or references.
 abbrev pub outcome : Reply → Outcome
-outcome (reply.Ok v) = Done
-outcome reply.Raced = InTheWay
-outcome (reply.Busy d) = InTheWay
-outcome (reply.Quiescing e) = InTheWay
-outcome (reply.Unflushed e) = InTheWay
-outcome (reply.Running e) = InTheWay
-outcome (reply.Referenced k) = InTheWay
+outcome (Reply.Ok v) = Done
+outcome Reply.Raced = InTheWay
+outcome (Reply.Busy d) = InTheWay
+outcome (Reply.Quiescing e) = InTheWay
+outcome (Reply.Unflushed e) = InTheWay
+outcome (Reply.Running e) = InTheWay
+outcome (Reply.Referenced k) = InTheWay
 outcome r = Refused
 
 -- The height at which the bar of a call begins, that of its name, and that of a change, where so many steps lie before the page.

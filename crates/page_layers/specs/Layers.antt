@@ -1,22 +1,15 @@
 -- The layers of a page, the lower ones first, and what a step and a call add to them.
-use Rattle.std.specs.Prelude.{ℕ, ◌+◌, ◌*◌, max, nat_lt, nat_le, Bool, true, false, ◌||◌, if◌then◌else◌, List, [], ◌++◌, codes, Option}
-use Rattle.std.specs.Prelude.{Some, None, is_some}
-use Rattle.spk_nums.specs.Texts.{reply_text}
-use Rattle.spk_nums.specs.declared.calls.Call.{Call}
-use Rattle.spk_nums.specs.declared.replies.Reply.{Reply}
-use Rattle.picture_shapes.specs.declared.lines.Outcome.{Outcome}
-use Rattle.picture_shapes.specs.declared.lines.Outcome.TheVariants.{Done, Refused, InTheWay}
-use Rattle.picture_shapes.specs.Frame.{lane, core_names}
-use Rattle.picture_shapes.specs.Bars.{bar_begin, bar_end, bar_name_begin, edge, upper_teeth, lower_teeth}
-use Rattle.picture_shapes.specs.Arrows.{arrow_begin, line_arrow, short_arrow}
-use Rattle.picture_shapes.specs.Lines.{lead, step_number, decision_number, line_begin, text_end, span_begin, aside_begin, span_end}
-use Rattle.picture_shapes.specs.Lines.{reply_style, mark}
-use Rattle.page_layers.specs.Seen.{Seen}
-use Rattle.page_layers.specs.Lanes.{outcome, overlaps, top_y, name_y, change_y}
-use Rattle.page_layers.specs.Words.{letters, call_name, lane_words, found_words, finder_words, arrow_words, bar_words}
-use Rattle.page_layers.specs.declared.lanes.Lane.{Lane}
-use Rattle.page_layers.specs.declared.lanes.Change.{Change}
-use Rattle.page_layers.specs.declared.sheet.Moment.{Moment}
+use Rattle.step_views.specs.kernel_history.specs.{ℕ, ◌+◌, ◌*◌, max, ltb as nat_lt, leb as nat_le, Bool, true, false, ◌||◌, if◌then◌else◌}
+use Rattle.step_views.specs.kernel_history.specs.{List, [], ◌++◌, codes, Option, Some, None, is_some, reply_text, Call, Reply}
+use Rattle.picture_shapes.specs.{declared.lines.Outcome.Outcome, declared.lines.Outcome.TheVariants.Done}
+use Rattle.picture_shapes.specs.{declared.lines.Outcome.TheVariants.Refused, declared.lines.Outcome.TheVariants.InTheWay, Frame.lane}
+use Rattle.picture_shapes.specs.{Frame.core_names, Bars.bar_begin, Bars.bar_end, Bars.bar_name_begin, Bars.edge, Bars.upper_teeth}
+use Rattle.picture_shapes.specs.{Bars.lower_teeth, Arrows.arrow_begin, Arrows.line_arrow, Arrows.short_arrow, Lines.lead, Lines.step_number}
+use Rattle.picture_shapes.specs.{Lines.decision_number, Lines.line_begin, Lines.text_end, Lines.span_begin, Lines.aside_begin}
+use Rattle.picture_shapes.specs.{Lines.span_end, Lines.reply_style, Lines.mark}
+use Rattle.page_layers.specs.{Seen.Seen, Lanes.outcome, Lanes.overlaps, Lanes.top_y, Lanes.name_y, Lanes.change_y, Words.letters}
+use Rattle.page_layers.specs.{Words.call_name, Words.lane_words, Words.found_words, Words.finder_words, Words.arrow_words, Words.bar_words}
+use Rattle.page_layers.specs.{declared.lanes.Lane.Lane, declared.lanes.Change.Change, declared.sheet.Moment.Moment}
 
 -- The lanes; the dotted lines; arrows; bars; their edges; their teeth; the marks of decisions and the names of bars; the texts of the
 -- history; the names of the cores. Beside them the letters of the longest text, and how many calls stand below as in progress.

@@ -1,14 +1,6 @@
 -- What a picture shows of a step.
-use Rattle.std.specs.Prelude.{ℕ, Option}
-use Rattle.spk_nums.specs.WordSteps.{place_in}
-use Rattle.spk_nums.specs.declared.calls.Call.{Call}
-use Rattle.spk_nums.specs.declared.replies.Reply.{Reply}
-use Rattle.step_views.specs.word_map.specs.Word.{Word}
-use Rattle.step_views.specs.word_map.specs.Places.{Shape, place_of}
-use Rattle.step_views.specs.word_map.specs.Moves.{word_of, left_of}
-use Rattle.step_views.specs.Names.{named}
-use Rattle.step_views.specs.declared.views.StepMade.{StepMade}
-use Rattle.kernel_history.specs.Trace.{Step}
+use Rattle.step_views.specs.kernel_history.specs.{ℕ, Option, place_in, Call, Reply, Word, Shape, place_of, word_of, left_of, Step}
+use Rattle.step_views.specs.{Names.named, declared.views.StepMade.StepMade}
 
 -- Its core; its word, by its place and its name; what it finds there and leaves; and its events.
 pub record Seen : Type 0 where

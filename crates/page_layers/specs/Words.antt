@@ -1,14 +1,8 @@
 -- The words of a page: of calls, of what a step finds, of titles.
-use Rattle.std.specs.Prelude.{ℕ, ◌+◌, nat_lt, if◌then◌else◌, Bool, true, false, List, [], ◌++◌, length, codes, decimal, Option, Some, None}
-use Rattle.spk_nums.specs.Texts.{call_text, reply_text}
-use Rattle.spk_nums.specs.declared.calls.Call.{Call}
-use Rattle.spk_nums.specs.declared.replies.Reply.{Reply}
-use Rattle.word_texts.specs.Names.{word_name}
-use Rattle.word_texts.specs.Values.{value_text}
-use Rattle.page_layers.specs.Seen.{Seen}
-use Rattle.page_layers.specs.Lanes.{overlaps}
-use Rattle.page_layers.specs.declared.lanes.Lane.{Lane}
-use Rattle.page_layers.specs.declared.lanes.Change.{Change}
+use Rattle.step_views.specs.kernel_rules.specs.{ℕ, ◌+◌, ltb as nat_lt, if◌then◌else◌, Bool, true, false, List, [], ◌++◌, length, codes}
+use Rattle.step_views.specs.kernel_rules.specs.{decimal, Option, Some, None, call_text, reply_text, Call, Reply}
+use Rattle.word_texts.specs.{Names.word_name, Values.value_text}
+use Rattle.page_layers.specs.{Seen.Seen, Lanes.overlaps, declared.lanes.Lane.Lane, declared.lanes.Change.Change}
 
 -- How many letters a text counts for, at most 1,000.
 abbrev pub letters : List ℕ → ℕ

@@ -1,12 +1,8 @@
 -- A step that is blamed is met by the change of another core.
-use Rattle.std.proofs.Common.{◌≡◌, ◌==◌, ◌&&◌, ◌||◌, not, cond, Bool, true, false, Option, Some, None, refl, ◌∙◌, ap}
-use Rattle.std.proofs.lemmas.Bool.{ne_eqb}
-use Rattle.page_layers.specs.Seen.{Seen}
-use Rattle.page_layers.specs.Layers.{is_blamed}
-use Rattle.page_layers.specs.declared.lanes.Change.{Change}
-use Rattle.page_touches.specs.declared.touches.Touch.{Touch}
-use Rattle.page_touches.specs.Touches.{is_clock, is_first, is_told_of, met_by}
-use Rattle.page_touches.specs.Blamed.{BlamedAreMet}
+use Rattle.std.proofs.Common.{◌≡◌, ◌==◌, ◌&&◌, ◌||◌, not, cond, Bool, true, false, Option, Some, None, refl, ◌∙◌, ap, ne_eqb}
+use Rattle.page_layers.specs.{Seen.Seen, Layers.is_blamed, declared.lanes.Change.Change}
+use Rattle.page_touches.specs.{declared.touches.Touch.Touch, Touches.is_clock, Touches.is_first, Touches.is_told_of, Touches.met_by}
+use Rattle.page_touches.specs.{Blamed.BlamedAreMet}
 
 or_true : (b : Bool) → (b || true) ≡ true
 or_true true = refl

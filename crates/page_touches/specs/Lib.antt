@@ -4,3 +4,5 @@ pub use Rattle.page_layers
 -- Its own.
 pub mod Touches
 pub mod Blamed
+-- The names that are used most outside of this library.
+pub use Rattle.page_touches.specs.Touches.{is_clock}

@@ -1,14 +1,11 @@
 -- What is known of the words of the table: the newest change of each, and which cores have come to it since; and what each frame is.
-use Rattle.std.specs.Prelude.{ℕ, zero, suc, ◌+◌, ◌*◌, nat_lt, ◌==◌, ◌&&◌, ◌||◌, not, Bool, true, false, if◌then◌else◌}
-use Rattle.std.specs.Prelude.{List, [], ◌∷◌, ◌++◌, replicate, slice_index_or, slice_set, Option, Some, None}
+use Rattle.step_views.specs.kernel_history.specs.{ℕ, zero, suc, ◌+◌, ◌*◌, ltb as nat_lt, ◌==◌, ◌&&◌, ◌||◌, not, Bool, true, false}
+use Rattle.step_views.specs.kernel_history.specs.{if◌then◌else◌, List, [], ◌∷◌, ◌++◌, replicate, get_or as slice_index_or, set as slice_set}
+use Rattle.step_views.specs.kernel_history.specs.{Option, Some, None, Obj, word_of_frame, Word, EntryAt, FrameAt, CountAt, CoreAt, FlushAt}
+use Rattle.step_views.specs.kernel_history.specs.{LiveAt, ClockAt}
 use Rattle.spk_nums.specs.declared.kinds.FrameKind.TheVariants.{Kernel, Untyped}
-use Rattle.spk_nums.specs.declared.kinds.Obj.{Obj}
 use Rattle.spk_nums.specs.declared.kinds.Obj.TheVariants.{Blank, Table, Leaf, Pages, Comp, Thread, Tcap}
-use Rattle.frame_words.specs.Frame.{word_of_frame}
-use Rattle.step_views.specs.word_map.specs.Word.{Word, EntryAt, FrameAt, CountAt, CoreAt, FlushAt, LiveAt, ClockAt}
-use Rattle.page_layers.specs.Seen.{Seen}
-use Rattle.page_layers.specs.Layers.{is_blamed}
-use Rattle.page_layers.specs.declared.lanes.Change.{Change}
+use Rattle.page_layers.specs.{Seen.Seen, Layers.is_blamed, declared.lanes.Change.Change}
 use Rattle.page_touches.specs.declared.touches.Touch.{Touch}
 
 -- A word that no step has changed.

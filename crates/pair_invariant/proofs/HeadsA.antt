@@ -1,23 +1,18 @@
 -- The load of the head of the first of two temporal capabilities, and the loads of its list.
-use Rattle.count_invariant.proofs.Common.{◌≡◌, ℕ, suc, ◌+◌, ◌<◌, nat_lt, Bool, true, false, if◌then◌else◌, List, ◌∷◌, Option, Some, None}
-use Rattle.count_invariant.proofs.Common.{arith, refl, sym, ◌∙◌, ap, subst, eq-eqb, ltb-false, false≢true, Setting, IsSetting}
-use Rattle.count_invariant.proofs.Common.{head_of_word, quality_of_word, HeadWord, spelling, Word, EntryAt, LoadOf, head_mark, marked_by}
-use Rattle.count_invariant.proofs.Common.{holds_node, Step, Trace, state_after, last_left, own_read-here, head_end, head, Pair, PairAt}
-use Rattle.count_invariant.proofs.Common.{LoadA, MarkA, ListA, LoadB, Act, Goes, refuse, took_shared, took_share, Undecided, ActiveCall}
-use Rattle.count_invariant.proofs.Common.{landed, Core, holds_counts, KnowsUndecided, read_up, HasMarkedA, KnowsPairAt, Invariant}
-use Rattle.count_invariant.proofs.Common.{marked_on, holds_share, TcapOf, footprint_frames, is_one_of}
-use Rattle.count_invariant.specs.tcap_words.specs.declared.quality_word.QualityWord.{QualityWord}
-use Rattle.count_invariant.specs.stage_tcap.specs.Charging.{end_by_mark}
-use Rattle.count_invariant.specs.stage_tcap.specs.Lists.{read_word}
-use Rattle.count_invariant.specs.stage_tcap.specs.Pairs.{at_by_mark, at_by_head, at_read, a_next, noted, list_end}
-use Rattle.count_invariant.specs.act_states.specs.declared.refusals.Refusal.TheVariants as refusal
-use Rattle.count_invariant.specs.act_states.specs.declared.work.Act.TheVariants.{Share as share_act}
-use Rattle.count_invariant.specs.core_invariant.specs.Shares.{list_word}
-use Rattle.count_invariant.specs.step_ways.proofs.Loads.{step_to}
-use Rattle.count_invariant.specs.step_ways.proofs.Refusals.{GoodTook, ticks_at, refuses_busy}
-use Rattle.pair_invariant.proofs.ShareCalls as calls
+use Rattle.count_invariant.specs.step_ways.proofs.{◌≡◌, ℕ, suc, ◌+◌, ◌<◌, ltb as nat_lt, Bool, true, false, if◌then◌else◌, List, ◌∷◌}
+use Rattle.count_invariant.specs.step_ways.proofs.{Option, Some, None, arith, refl, sym, ◌∙◌, ap, subst, eq-eqb, ltb-false, false≢true}
+use Rattle.count_invariant.specs.step_ways.proofs.{Setting, IsSetting, head_of_word, quality_of_word, HeadWord, spelling, Word, EntryAt}
+use Rattle.count_invariant.specs.step_ways.proofs.{LoadOf, head_mark, marked_by, holds_node, Step, Trace, state_after, last_left}
+use Rattle.count_invariant.specs.step_ways.proofs.{own_read-here, head_end, head, Pair, PairAt, LoadA, MarkA, ListA, LoadB, Act, Goes}
+use Rattle.count_invariant.specs.step_ways.proofs.{refuse, took_shared, took_share, Undecided, ActiveCall, landed, Core, holds_counts}
+use Rattle.count_invariant.specs.step_ways.proofs.{KnowsUndecided, read_up, KnowsPairAt, Invariant, holds_share, TcapOf, footprint_frames}
+use Rattle.count_invariant.specs.step_ways.proofs.{is_one_of, Share as share_act, list_word, step_to, GoodTook, ticks_at, refuses_busy}
+use Rattle.count_invariant.specs.stage_tcap.specs.{QualityWord, end_by_mark, read_word, at_by_mark, at_by_head, at_read, a_next, noted}
+use Rattle.count_invariant.specs.kept_facts.proofs.{marked_on, left_same}
 use Rattle.pair_invariant.proofs.ShareSteps.{mark_is, head_says, a_list, loading, load_goes}
-use Rattle.count_invariant.specs.kept_facts.proofs.Pairs.{left_same}
+use Rattle.{count_invariant.specs.step_ways.proofs.Refusal, count_invariant.specs.stage_tcap.specs.list_end}
+use Rattle.{count_invariant.specs.core_invariant.specs.Shares.HasMarkedA}
+use Rattle.pair_invariant.proofs.ShareCalls as calls
 
 -- The load of head A.
 module _ (setup : Setting) (setting : IsSetting setup) (cores : ℕ → Core) (t : Trace) (stands : Invariant setup cores t) (c : ℕ)
@@ -63,7 +58,7 @@ module _ (setup : Setting) (setting : IsSetting setup) (cores : ℕ → Core) (t
         has.knows.knows.at.1,
       )
 
-  busy_good : (d : ℕ) → marked_by setup t at ≡ Some d → GoodTook setup cores t c (LoadOf at) (landed a (refuse (refusal.Busy d)))
+  busy_good : (d : ℕ) → marked_by setup t at ≡ Some d → GoodTook setup cores t c (LoadOf at) (landed a (refuse (Refusal.Busy d)))
   busy_good d mark =
       refuses_busy setup setting cores t stands c here a active
       (calls.opens setup setting cores t stands c here a active now_p stage_is has)

@@ -1,41 +1,34 @@
 -- The load of the head of the second of two temporal capabilities, and the loads of its list.
-use Rattle.count_invariant.proofs.Common.{◌≡◌, ◌≢◌, ◌⊎◌, inl, inr, ℕ, zero, suc, ◌+◌, ◌<◌, nat_lt, Bool, true, false, if◌then◌else◌, List}
-use Rattle.count_invariant.proofs.Common.{◌∷◌, Option, Some, None, arith, refl, sym, ◌∙◌, ap, subst, eq-eqb, ltb-false, false≢true}
-use Rattle.count_invariant.proofs.Common.{Setting, IsSetting, Capability, Call, head_of_word, quality_of_word, HeadWord, spelling, Word}
-use Rattle.count_invariant.proofs.Common.{EntryAt, LoadOf, State, counted, rule_of, head_mark, marked_by, holds_node, Step, Trace}
-use Rattle.count_invariant.proofs.Common.{state_after, last_left, not_inside, same_word-other, own_read-here, own_read-there}
-use Rattle.count_invariant.proofs.Common.{last_left-here, head, in_order, same_list, judged, by_alike, by_room, giving_back, Pair, PairAt}
-use Rattle.count_invariant.proofs.Common.{LoadB, ListB, PairWork, Act, Goes, took_shared, took_share, Undecided, ActiveCall, landed, Core}
-use Rattle.count_invariant.proofs.Common.{Holding, holds_counts, KnowsUndecided, read_up, SparesTcap, HasMarkedA, HasBoth, SharesBy}
-use Rattle.count_invariant.proofs.Common.{KnowsPairAt, holds_in, holds_head, holds_share, held_by, Invariant, marker_inside, marked_on}
-use Rattle.count_invariant.proofs.Common.{TcapOf, list_changed}
-use Rattle.std.proofs.Common.{IsSome, is_some}
-use Rattle.quality_lists.specs.spk_nums.specs.declared.calls.Call.TheVariants as call_as
-use Rattle.quality_lists.specs.spk_nums.specs.declared.replies.Reply.TheVariants as reply
-use Rattle.quality_lists.specs.spk_nums.specs.declared.replies.Value.TheVariants as value
-use Rattle.count_invariant.specs.tcap_words.specs.declared.quality_word.QualityWord.{QualityWord}
-use Rattle.kernel_laws.specs.kernel_rules.specs.CallRelation.{owed_by}
-use Rattle.count_invariant.specs.kernel_history.specs.Justified.{IsHeldUp}
-use Rattle.count_invariant.specs.stage_tcap.specs.Lists.{read_word}
-use Rattle.count_invariant.specs.stage_tcap.specs.Pairs.{at_by_mark, at_by_head, at_read, b_next, b_end, decided_by_mark, noted}
-use Rattle.count_invariant.specs.stage_tcap.specs.Pairs.{list_end, whole_b, read_b, grows_to, read_grows}
+use Rattle.count_invariant.specs.step_ways.proofs.{◌≡◌, ◌≢◌, ◌⊎◌, inl, inr, ℕ, zero, suc, ◌+◌, ◌<◌, ltb as nat_lt, Bool, true, false}
+use Rattle.count_invariant.specs.step_ways.proofs.{if◌then◌else◌, List, ◌∷◌, Option, Some, None, arith, refl, sym, ◌∙◌, ap, subst, eq-eqb}
+use Rattle.count_invariant.specs.step_ways.proofs.{ltb-false, false≢true, Setting, IsSetting, Capability, Call, head_of_word}
+use Rattle.count_invariant.specs.step_ways.proofs.{quality_of_word, HeadWord, spelling, Word, EntryAt, LoadOf, State, counted, rule_of}
+use Rattle.count_invariant.specs.step_ways.proofs.{head_mark, marked_by, holds_node, Step, Trace, state_after, last_left, not_inside}
+use Rattle.count_invariant.specs.step_ways.proofs.{same_word-other, own_read-here, own_read-there, last_left-here, head, in_order}
+use Rattle.count_invariant.specs.step_ways.proofs.{same_list, judged, by_alike, by_room, Pair, PairAt, LoadB, ListB, PairWork, Act, Goes}
+use Rattle.count_invariant.specs.step_ways.proofs.{took_shared, took_share, Undecided, ActiveCall, landed, Core, Holding, holds_counts}
+use Rattle.count_invariant.specs.step_ways.proofs.{KnowsUndecided, read_up, SparesTcap, HasBoth, SharesBy, KnowsPairAt, holds_in}
+use Rattle.count_invariant.specs.step_ways.proofs.{holds_head, holds_share, held_by, Invariant, marker_inside, TcapOf, list_changed, IsSome}
+use Rattle.count_invariant.specs.step_ways.proofs.{is_some, Share as share_act, list_word, step_to, inner, core_is, GoodTook, not_spent}
+use Rattle.count_invariant.specs.step_ways.proofs.{Reply, Value}
+use Rattle.count_invariant.specs.stage_tcap.specs.{giving_back, QualityWord, read_word, at_by_mark, at_by_head, at_read, b_next, b_end}
+use Rattle.count_invariant.specs.stage_tcap.specs.{decided_by_mark, noted, list_end, whole_b}
+use Rattle.count_invariant.specs.core_invariant.specs.{HasMarkedA, HasSeenB}
+use Rattle.count_invariant.specs.kernel_history.specs.{owed_by, IsHeldUp}
+use Rattle.count_invariant.specs.kept_facts.proofs.{marked_on, left_same}
+use Rattle.count_invariant.specs.stage_tcap.specs.Pairs.{read_b, grows_to, read_grows, by_preempting}
 use Rattle.count_invariant.specs.stage_tcap.specs.declared.pair.PairWork.TheVariants.{Transfer, Delegate, Test}
-use Rattle.count_invariant.specs.act_states.specs.declared.work.Act.TheVariants.{Share as share_act}
-use Rattle.count_invariant.specs.core_invariant.specs.Shares.{list_word, HasSeenB}
 use Rattle.count_invariant.specs.core_invariant.specs.Shares.{ReadsHead}
-use Rattle.count_invariant.specs.step_ways.proofs.Loads.{step_to, inner, core_is}
-use Rattle.count_invariant.specs.kept_facts.proofs.Pairs.{seen_on, tcap_mark, left_same}
-use Rattle.count_invariant.specs.step_ways.proofs.Refusals.{GoodTook, not_spent}
-use Rattle.pair_invariant.proofs.ShareCalls as calls
+use Rattle.count_invariant.specs.kept_facts.proofs.Pairs.{seen_on, tcap_mark}
+use Rattle.count_invariant.specs.quality_lists.specs.spk_nums.specs.Merging.{preempts_by}
 use Rattle.pair_invariant.proofs.ShareSteps.{mark_is, head_says, list_plain, loading, load_goes, load_decides}
-use Rattle.count_invariant.specs.stage_tcap.specs.Pairs.{by_preempting}
-use Rattle.quality_lists.specs.spk_nums.specs.Merging.{preempts_by}
+use Rattle.pair_invariant.proofs.ShareCalls as calls
 
 -- Such a call charges no ticks.
 pub owes_share : (s : State) (c : ℕ) (call : Call) (ks : List Capability) (p : Pair) → SharesBy call ks p → owed_by s c call ≡ s
-owes_share s c (call_as.Transfer x y m) ks p is = refl
-owes_share s c (call_as.Delegate x y m) ks p is = refl
-owes_share s c (call_as.Test x y) ks p is = refl
+owes_share s c (Call.Transfer x y m) ks p is = refl
+owes_share s c (Call.Delegate x y m) ks p is = refl
+owes_share s c (Call.Test x y) ks p is = refl
 owes_share s c call ks p is = absurd is
 
 -- What is known of A does not depend on what is known of B.
@@ -152,15 +145,15 @@ module _ (setup : Setting) (setting : IsSetting setup) (cores : ℕ → Core) (t
       let is = has.knows.knows.shares in
       load_decides setup setting cores t stands c here a active now_p stage_is has 8 has.knows.knows.at.0 held (LoadOf at)
       (loading setup setting cores t stands c here a active now_p stage_is has p.b 0
-      (calls.footprint_b setup setting cores t stands c here a active now_p stage_is has)) (reply.Busy d)
-      (record p { head_b = noted p.head_b (head_of_word was); at = giving_back }) value.Nothing refl refl refl refl (sym held)
+      (calls.footprint_b setup setting cores t stands c here a active now_p stage_is has)) (Reply.Busy d)
+      (record p { head_b = noted p.head_b (head_of_word was); at = giving_back }) Value.Nothing refl refl refl refl (sym held)
       (ap (λ x. counted x c) (owes_share s c a.call a.found now_p is)) refl (λ x. refl) (λ x. refl) refl (
         not_spent setup (cores c) t c (core_is setup setting cores t stands c here a active)
             (calls.room setup setting cores t stands c here a active now_p stage_is has),
         tt,
       ) blocked
       (λ is_alone. absurd (not_inside setup t
-      (inner setup setting cores t stands c here a active (LoadOf at) (Some (reply.Busy d)) None) refl
+      (inner setup setting cores t stands c here a active (LoadOf at) (Some (Reply.Busy d)) None) refl
       is_alone d blocked.other blocked.is_inside)) lands
     where
       apart : at ≢ EntryAt p.a 0
@@ -174,7 +167,7 @@ module _ (setup : Setting) (setting : IsSetting setup) (cores : ℕ → Core) (t
           ∙ ap (λ b. if b then true else (holds_counts None a.counts).marks at) (same_word-other at (EntryAt p.a 0) apart)
           ∙ ap (λ xs. (holds_counts None xs).marks at) (calls.no_counts setup setting cores t stands c here a active now_p stage_is has)
 
-      blocked : IsHeldUp setup t (inner setup setting cores t stands c here a active (LoadOf at) (Some (reply.Busy d)) None) s
+      blocked : IsHeldUp setup t (inner setup setting cores t stands c here a active (LoadOf at) (Some (Reply.Busy d)) None) s
           (rule_of s c a.call) d
       blocked = record {
         marked = mark;

@@ -1,5 +1,3 @@
--- The names that most proofs use.
-pub use Rattle.count_invariant.proofs.Common
 -- What the words and the rule of such a call say.
 pub mod ListsRead
 pub mod ShareCalls
@@ -21,3 +19,6 @@ pub mod RefillLoads
 pub mod RefillEnds
 pub mod RefillWins
 pub mod RefillStarts
+-- The names that are used most outside of this library.
+pub use Rattle.pair_invariant.proofs.{ListsKnown.AreRead, ListsKnown.all_gone, MarksA.spares_one, ShareCalls.causes_of, ShareCalls.change_by}
+pub use Rattle.pair_invariant.proofs.{ShareSteps.mark_is}

@@ -1,26 +1,21 @@
 -- What a call on two temporal capabilities knows of both, where the head of the second is as it was read: their budgets and their lists.
-use Rattle.count_invariant.proofs.Common.{Want, ◌≡◌, ◌⊎◌, inl, inr, ℕ, ◌+◌, ◌<◌, ◌≤◌, ◌^◌, ◌==◌, ◌&&◌, true, false, List, [], ◌∷◌, Option}
-use Rattle.count_invariant.proofs.Common.{Some, None, refl, sym, ◌∙◌, ap, subst, false≢true, All-nil, Setting, IsSetting, Capability}
-use Rattle.count_invariant.proofs.Common.{arith, word_of_head, head_of_word, HeadWord, spelling, EntryAt, Slot, own, Kernel, Tcap}
-use Rattle.count_invariant.proofs.Common.{TcapFields, State, tcap_in, comp_of, InRanges, rule_of, tcap_at, events_of, HasReached, IsLegal}
-use Rattle.count_invariant.proofs.Common.{head_mark, marked_by, Step, Trace, state_after, last_left, own_left, way_to, ways, state_is}
-use Rattle.count_invariant.proofs.Common.{run_of, leads_by, LeadsIn, own_pages, same_list, Pair, Act, Undecided, ActiveCall, Core}
-use Rattle.count_invariant.proofs.Common.{holds_counts, HasFound, own_in, KnowsUndecided, list_changed, read_up, HasBoth, holds_in}
-use Rattle.count_invariant.proofs.Common.{holds_head, Invariant, HeadIs, own_kept, TcapOf}
-use Rattle.std.proofs.Common.{IsSome, is_some}
-use Rattle.quality_lists.specs.Rank.{rank}
-use Rattle.quality_lists.proofs.Ranks.{rank_small}
-use Rattle.kernel_laws.specs.kernel_rules.specs.Ranges.{TcapInRange, FrameInRange}
-use Rattle.kernel_laws.specs.kernel_rules.specs.TimeCalls.{are_alike}
-use Rattle.kernel_laws.proofs.RangesLaw.{ranges_hold}
-use Rattle.count_invariant.specs.plan_ways.proofs.Ways.{all_ways}
-use Rattle.count_invariant.proofs.Findings.{found_named, own_is, way_gone}
-use Rattle.count_invariant.specs.act_states.specs.declared.work.Act.TheVariants.{Share as share_act}
-use Rattle.count_invariant.specs.core_invariant.specs.Shares.{list_word}
-use Rattle.pair_invariant.proofs.ListsRead.{reads_whole}
-use Rattle.pair_invariant.proofs.ShareCalls as calls
+use Rattle.count_invariant.specs.step_ways.proofs.{Want, ◌≡◌, ◌⊎◌, inl, inr, ℕ, ◌+◌, ◌<◌, ◌≤◌, ◌^◌, ◌==◌, ◌&&◌, true, false, List, [], ◌∷◌}
+use Rattle.count_invariant.specs.step_ways.proofs.{Option, Some, None, refl, sym, ◌∙◌, ap, subst, false≢true, Setting, IsSetting}
+use Rattle.count_invariant.specs.step_ways.proofs.{Capability, arith, word_of_head, head_of_word, HeadWord, spelling, EntryAt, Slot, own}
+use Rattle.count_invariant.specs.step_ways.proofs.{Kernel, Tcap, TcapFields, State, tcap_in, comp_of, rule_of, tcap_at, events_of}
+use Rattle.count_invariant.specs.step_ways.proofs.{HasReached, IsLegal, head_mark, marked_by, Step, Trace, state_after, last_left, own_left}
+use Rattle.count_invariant.specs.step_ways.proofs.{way_to, ways, state_is, run_of, leads_by, LeadsIn, own_pages, same_list, Pair, Act}
+use Rattle.count_invariant.specs.step_ways.proofs.{Undecided, ActiveCall, Core, holds_counts, HasFound, own_in, KnowsUndecided}
+use Rattle.count_invariant.specs.step_ways.proofs.{list_changed, read_up, HasBoth, holds_in, holds_head, Invariant, HeadIs, own_kept}
+use Rattle.count_invariant.specs.step_ways.proofs.{TcapOf, IsSome, is_some, rank, Share as share_act, list_word, plan_for}
+use Rattle.count_invariant.specs.boot_words.specs.kernel_rules.specs.{InRanges, FrameInRange, are_alike}
+use Rattle.count_invariant.proofs.{found_named, own_is, way_gone}
 use Rattle.pair_invariant.proofs.ShareSteps.{mark_is, head_says, list_plain, a_says, a_list}
-use Rattle.count_invariant.specs.act_states.specs.call_plans.specs.PlanOf.{plan_for}
+use Rattle.{std.proofs.lemmas.List.Elements.All-nil, count_invariant.specs.quality_lists.proofs.Ranks.rank_small}
+use Rattle.{count_invariant.specs.boot_words.specs.kernel_rules.specs.Ranges.TcapInRange}
+use Rattle.{count_invariant.specs.kernel_laws.proofs.RangesLaw.ranges_hold, count_invariant.specs.plan_ways.proofs.Ways.all_ways}
+use Rattle.{pair_invariant.proofs.ListsRead.reads_whole}
+use Rattle.pair_invariant.proofs.ShareCalls as calls
 
 -- The numbers of temporal capabilities after a legal trace.
 pub ranges_of : (setup : Setting) → IsSetting setup → (t : Trace) → IsLegal setup t → InRanges (state_after setup t)

@@ -1,10 +1,9 @@
 -- The list that is read from the words of a temporal capability is its list.
-use Rattle.count_invariant.proofs.Common.{◌≡◌, ℕ, zero, suc, ◌<◌, ◌≤◌, ◌++◌, List, [], ◌∷◌, length, Option, Some, None, arith, refl, sym}
-use Rattle.count_invariant.proofs.Common.{◌∙◌, ap, subst, if◌then◌else◌, lt-ltb, quality_of_word, read_up}
-use Rattle.std.specs.Prelude.{slice_get, take, drop}
-use Rattle.quality_lists.specs.spk_nums.specs.Qualities.{IsQualityList}
-use Rattle.quality_lists.proofs.Merges.{takes_next}
-use Rattle.count_invariant.specs.stage_tcap.specs.Lists.{read_pair, read_word}
+use Rattle.count_invariant.specs.core_invariant.proofs.{◌≡◌, ℕ, zero, suc, ◌<◌, ◌≤◌, ◌++◌, List, [], ◌∷◌, length, Option, Some, None, arith}
+use Rattle.count_invariant.specs.core_invariant.proofs.{refl, sym, ◌∙◌, ap, subst, if◌then◌else◌, lt-ltb, quality_of_word, read_up}
+use Rattle.count_invariant.specs.core_invariant.proofs.{slice_get, take, drop, read_word}
+use Rattle.{count_invariant.specs.quality_lists.specs.spk_nums.specs.Qualities.IsQualityList}
+use Rattle.{count_invariant.specs.quality_lists.proofs.Merges.takes_next, count_invariant.specs.stage_tcap.specs.Lists.read_pair}
 
 -- A list is its first pairs, the next one, and the others.
 record Split (qs : List (ℕ × ℕ)) (n : ℕ) (p : ℕ × ℕ) : Type 0 where

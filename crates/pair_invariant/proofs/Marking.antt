@@ -1,22 +1,16 @@
 -- The way in which a call is decided with a refusal by a step that marks its word, or gives it back.
-use Rattle.count_invariant.proofs.Common.{◌≡◌, ◌≢◌, ◌∷◌, ℕ, ◌+◌, ◌^◌, ◌<◌, false, if◌then◌else◌, Some, None, arith, refl, sym, ◌∙◌, ap}
-use Rattle.count_invariant.proofs.Common.{subst, Setting, IsSetting, Reply, Word, CountAt, FlushAt, ClockAt, same_word, Move, word_of}
-use Rattle.count_invariant.proofs.Common.{left_of, Thing, FrameOf, put, MayReply, state_by, counted, begins, ends, flushes, alone}
-use Rattle.count_invariant.proofs.Common.{calls_counted, put_same, IsAlone, IsFirst, IsJustified, mark_of, marked_by, ends_in, flushes_in}
-use Rattle.count_invariant.proofs.Common.{Step, Trace, Open, phase, after_decide, state_after, last_left, state_decided_in}
-use Rattle.count_invariant.proofs.Common.{decided-inside, last_left-there, Tail, Decided, ActiveCall, Core, settled_by, settled, phase_at}
-use Rattle.count_invariant.proofs.Common.{KnowsTail, holds, held_by, Invariant, AsBefore, IsCalm, calm_counted, calm_words, counted_rises}
-use Rattle.count_invariant.proofs.Common.{none_stored, IsUntimed, plain_time, plain_exit}
-use Rattle.count_invariant.proofs.Common.{plain_begins, SparesExclusive, exclusive_open, sums_stay}
-use Rattle.count_invariant.proofs.Common.{marks_own}
-use Rattle.count_invariant.specs.kernel_history.specs.Stamps.{begins_in}
-use Rattle.count_invariant.specs.step_ways.proofs.Flushing.{open_flushed}
-use Rattle.count_invariant.specs.step_ways.proofs.Good.{IsGood, SparesBlanks}
+use Rattle.count_invariant.specs.step_ways.proofs as low
+use low.{◌≡◌, ◌≢◌, ◌∷◌, ℕ, ◌+◌, ◌^◌, ◌<◌, false, if◌then◌else◌, Some, None, arith, refl, sym, ◌∙◌, ap, subst, Setting, IsSetting, Reply}
+use low.{Word, CountAt, FlushAt, ClockAt, same_word, Move, word_of, left_of, Thing, FrameOf, put, MayReply, state_by, counted, begins, ends}
+use low.{flushes, alone, calls_counted, put_same, IsAlone, IsJustified, mark_of, marked_by, ends_in, flushes_in, Step, Trace, Open, phase}
+use low.{after_decide, state_after, last_left, state_decided_in, decided-inside, last_left-there, Tail, Decided, ActiveCall, Core}
+use low.{settled_by, settled, phase_at, KnowsTail, holds, held_by, Invariant, AsBefore, calm_counted, counted_rises, IsUntimed, plain_exit}
+use low.{plain_begins, marks_own, begins_in, open_flushed, IsGood, SparesBlanks, Lands, IsOfCall, next_at, core_in_call, core_is, call_is}
+use low.{inner, inner_works, spares_none}
+use Rattle.count_invariant.specs.kept_facts.proofs.{IsFirst, IsCalm, calm_words, none_stored, plain_time, SparesExclusive, exclusive_open}
+use Rattle.count_invariant.specs.kept_facts.proofs.{sums_stay, hold_marks, hold_words, settled_stays}
 use Rattle.count_invariant.specs.kept_facts.proofs.Exclusive.{given_kept}
-use Rattle.count_invariant.specs.step_ways.proofs.Loads.{Lands, IsOfCall, next_at, core_in_call, core_is, call_is, in_call, inner}
-use Rattle.count_invariant.specs.step_ways.proofs.Loads.{inner_within, inner_disciplined, inner_footprint, inner_works, inner_own}
-use Rattle.count_invariant.specs.step_ways.proofs.Users.{spares_none}
-use Rattle.count_invariant.specs.kept_facts.proofs.WordFrames.{hold_marks, hold_words, settled_stays}
+use low.Loads.{in_call, inner_within, inner_disciplined, inner_footprint, inner_own}
 
 module _ (setup : Setting) (setting : IsSetting setup) (cores : ℕ → Core) (t : Trace) (stands : Invariant setup cores t) (c : ℕ)
     (here : c < setup.cores)

@@ -1,37 +1,28 @@
 -- The compare that marks the head of the first of two temporal capabilities.
-use Rattle.count_invariant.proofs.Common.{◌≡◌, inl, inr, ℕ, ◌+◌, ◌<◌, ◌^◌, ◌==◌, ◌&&◌, not, nat_lt, Bool, true, false, if◌then◌else◌}
-use Rattle.count_invariant.proofs.Common.{[], ◌∷◌, Some, None, arith, refl, sym, ◌∙◌, ap, subst, eq-eqb, ne_eqb, eqb-true, eqb-false}
-use Rattle.count_invariant.proofs.Common.{ltb-true, ltb-false, Setting, IsSetting, left_if, Reply, HeadFits, word_of_head, head_of_word}
-use Rattle.count_invariant.proofs.Common.{HeadWord, spelling, Word, EntryAt, Move, CompareOf, left_of, same_same, Kernel, Tcap}
-use Rattle.count_invariant.proofs.Common.{TcapFields, State, put, tcap_in, Refused, Does, RuleMay, unless, first_cause, tcap_at}
-use Rattle.count_invariant.proofs.Common.{put_same, changes_in_frame, HasRacedHead, mark_of, head_mark, marked_by, Step, Trace}
-use Rattle.count_invariant.proofs.Common.{state_after, last_left, state_decided_in, refused_first, same_word-other, last_left-here}
-use Rattle.count_invariant.proofs.Common.{was_stays, marked, amount_of, giving_back, Pair, MarkA, ListA, PairWork, Act, refuse}
-use Rattle.count_invariant.proofs.Common.{took_shared, took_share, Undecided, Decided, ActiveCall, landed, went, GoesOn, Core}
-use Rattle.count_invariant.proofs.Common.{holds_counts, settled_by, HeadIs, KnowsUndecided, list_changed, TurnsHead}
-use Rattle.count_invariant.proofs.Common.{SparesTcap, HasTcap, holds_in, holds, held_by, Invariant, as_none, counts_bare}
-use Rattle.count_invariant.proofs.Common.{names_on, counts_on, not_exclusive_head_value, not_exclusive_head_word}
-use Rattle.count_invariant.proofs.Common.{exclusive_free, TcapOf, settled, IsInFootprint}
-use Rattle.count_invariant.proofs.Common.{word_of, counted, first_of, are_many, are_unlike}
-use Rattle.quality_lists.specs.spk_nums.specs.declared.replies.Reply.TheVariants as reply
-use Rattle.kernel_laws.specs.kernel_rules.specs.Access.{found as named_by}
-use Rattle.count_invariant.specs.stage_tcap.specs.Pairs.{at_marked, marked_end}
+use Rattle.count_invariant.specs.step_ways.proofs.{◌≡◌, inl, inr, ℕ, ◌+◌, ◌<◌, ◌^◌, ◌==◌, ◌&&◌, not, ltb as nat_lt, Bool, true, false}
+use Rattle.count_invariant.specs.step_ways.proofs.{if◌then◌else◌, [], ◌∷◌, Some, None, arith, refl, sym, ◌∙◌, ap, subst, eq-eqb, ne_eqb}
+use Rattle.count_invariant.specs.step_ways.proofs.{eqb-true, eqb-false, ltb-true, ltb-false, Setting, IsSetting, left_if, Reply, HeadFits}
+use Rattle.count_invariant.specs.step_ways.proofs.{word_of_head, head_of_word, HeadWord, spelling, Word, EntryAt, Move, CompareOf, left_of}
+use Rattle.count_invariant.specs.step_ways.proofs.{same_same, Kernel, Tcap, TcapFields, State, put, tcap_in, Refused, Does, RuleMay, unless}
+use Rattle.count_invariant.specs.step_ways.proofs.{first_cause, tcap_at, put_same, changes_in_frame, HasRacedHead, mark_of, head_mark}
+use Rattle.count_invariant.specs.step_ways.proofs.{marked_by, Step, Trace, state_after, last_left, state_decided_in, refused_first}
+use Rattle.count_invariant.specs.step_ways.proofs.{same_word-other, last_left-here, was_stays, marked, amount_of, Pair, MarkA, ListA}
+use Rattle.count_invariant.specs.step_ways.proofs.{PairWork, Act, refuse, took_shared, took_share, Undecided, Decided, ActiveCall, landed}
+use Rattle.count_invariant.specs.step_ways.proofs.{went, GoesOn, Core, holds_counts, settled_by, HeadIs, KnowsUndecided, list_changed}
+use Rattle.count_invariant.specs.step_ways.proofs.{TurnsHead, SparesTcap, HasTcap, holds_in, holds, held_by, Invariant, as_none}
+use Rattle.count_invariant.specs.step_ways.proofs.{counts_bare, names_on, counts_on, not_exclusive_head_value, not_exclusive_head_word}
+use Rattle.count_invariant.specs.step_ways.proofs.{exclusive_free, TcapOf, settled, IsInFootprint, word_of, counted, first_of, are_many}
+use Rattle.count_invariant.specs.step_ways.proofs.{are_unlike, found as named_by, Share as share_act, Spared, SparesBlanks, IsOfCall}
+use Rattle.count_invariant.specs.step_ways.proofs.{core_in_call, core_is, call_is, inner, GoodTook, ticks_at, not_spent, refuses_raced}
+use Rattle.count_invariant.specs.step_ways.proofs.{next_at, is_short as is_short_of_timecalls, plan_for, Refusal}
+use Rattle.count_invariant.specs.stage_tcap.specs.{giving_back, at_marked, marked_end}
 use Rattle.count_invariant.specs.stage_tcap.specs.declared.pair.PairWork.TheVariants.{Transfer, Delegate, Test}
-use Rattle.count_invariant.specs.act_states.specs.declared.refusals.Refusal.TheVariants as refusal
-use Rattle.count_invariant.specs.act_states.specs.declared.work.Act.TheVariants.{Share as share_act}
-use Rattle.count_invariant.specs.act_states.specs.declared.work.Tail.TheVariants.{Share as share_tail}
-use Rattle.count_invariant.specs.step_ways.proofs.Counting as counters
-use Rattle.count_invariant.specs.step_ways.proofs.Good.{Spared, SparesBlanks}
-use Rattle.count_invariant.specs.step_ways.proofs.Loads.{IsOfCall, core_in_call, core_is, call_is, inner}
-use Rattle.count_invariant.specs.step_ways.proofs.Refusals.{GoodTook, ticks_at, not_spent, refuses_raced}
-use Rattle.pair_invariant.proofs.Marking.{decides_marking}
-use Rattle.pair_invariant.proofs.ShareCalls as calls
 use Rattle.pair_invariant.proofs.ShareCalls.{causes_of, value_by, edits_by, change_by}
 use Rattle.pair_invariant.proofs.ShareSteps.{mark_is, head_says, now_was, counted_tcap, shares_same}
-use Rattle.count_invariant.specs.core_invariant.specs.Shares.{turns_list}
-use Rattle.count_invariant.specs.step_ways.proofs.Loads.{next_at}
-use Rattle.kernel_laws.specs.kernel_rules.specs.TimeCalls.{is_short as is_short_of_timecalls}
-use Rattle.count_invariant.specs.act_states.specs.call_plans.specs.PlanOf.{plan_for}
+use Rattle.{count_invariant.specs.act_states.specs.declared.work.Tail.TheVariants.Share as share_tail}
+use Rattle.{count_invariant.specs.core_invariant.specs.Shares.turns_list, pair_invariant.proofs.Marking.decides_marking}
+use Rattle.count_invariant.specs.step_ways.proofs.Counting as counters
+use Rattle.pair_invariant.proofs.ShareCalls as calls
 
 -- A step on a word of a temporal capability alone spares the words that others rely on, where it does so of this word.
 pub spares_one : (setup : Setting) (t : Trace) (e : Step) (f i : ℕ) (q : TcapFields)
@@ -94,7 +85,7 @@ module _ (setup : Setting) (setting : IsSetting setup) (cores : ℕ → Core) (t
     footprint = inl (calls.footprint_a setup setting cores t stands c here a active mark_p stage_is has);
   }
 
-  lost_good : (was == old) ≡ false → GoodTook setup cores t c compare (landed a (refuse refusal.Raced))
+  lost_good : (was == old) ≡ false → GoodTook setup cores t c compare (landed a (refuse Refusal.Raced))
   lost_good other =
       refuses_raced setup setting cores t stands c here a active
       (calls.opens setup setting cores t stands c here a active mark_p stage_is has) held_counts room compare
@@ -190,43 +181,43 @@ module _ (setup : Setting) (setting : IsSetting setup) (cores : ℕ → Core) (t
     short_may : (what : PairWork) → nat_lt p.head_a.budget (amount_of what) ≡ true
         → RuleMay s c (Does (causes_of s what (named_by is.a) (named_by is.b)) (value_by s what is.a.frame is.b.frame)
         (edits_by s what is.a.frame is.b.frame))
-        (reply.Short p.head_a.budget)
-    short_may (Transfer m) less = inr (inl (ap (λ (n : ℕ). nat_lt n m) (sym budget_is) ∙ less, ap (λ (n : ℕ). reply.Short n) budget_is))
-    short_may (Delegate m) less = inr (inl (ap (λ (n : ℕ). nat_lt n m) (sym budget_is) ∙ less, ap (λ (n : ℕ). reply.Short n) budget_is))
+        (Reply.Short p.head_a.budget)
+    short_may (Transfer m) less = inr (inl (ap (λ (n : ℕ). nat_lt n m) (sym budget_is) ∙ less, ap (λ (n : ℕ). Reply.Short n) budget_is))
+    short_may (Delegate m) less = inr (inl (ap (λ (n : ℕ). nat_lt n m) (sym budget_is) ∙ less, ap (λ (n : ℕ). Reply.Short n) budget_is))
     short_may Test less = absurd (let low = ltb-true p.head_a.budget 0 less in omega (arith, low))
 
     short_first : (what : PairWork) → nat_lt p.head_a.budget (amount_of what) ≡ true
         → unless (first_cause s c (causes_of s what (named_by is.a) (named_by is.b))) (change_by c s what is.a.frame is.b.frame)
-        ≡ Refused (reply.Short p.head_a.budget)
+        ≡ Refused (Reply.Short p.head_a.budget)
     unfolding is
     short_first Test less = absurd (let low = ltb-true p.head_a.budget 0 less in omega (arith, low))
     short_first (Transfer m) less =
-        ap (λ b. unless (first_of (if b then Some reply.Same else None)
+        ap (λ b. unless (first_of (if b then Some Reply.Same else None)
         (first_cause s c (is_short_of_timecalls s (named_by is.a) m
         ∷ are_unlike s (named_by is.a) (named_by is.b) ∷ [])))
         (change_by c s (Transfer m) is.a.frame is.b.frame))
         (calls.not_same setup setting cores t stands c here a active mark_p stage_is has)
-        ∙ ap (λ b. unless (first_of (if b then Some (reply.Short (tcap_at s is.a.frame).budget) else None)
+        ∙ ap (λ b. unless (first_of (if b then Some (Reply.Short (tcap_at s is.a.frame).budget) else None)
         (first_cause s c (are_unlike s (named_by is.a) (named_by is.b) ∷ [])))
         (change_by c s (Transfer m) is.a.frame is.b.frame)) (ap (λ (n : ℕ). nat_lt n m) (sym budget_is) ∙ less)
-        ∙ ap (λ (n : ℕ). Refused (reply.Short n)) (sym budget_is)
+        ∙ ap (λ (n : ℕ). Refused (Reply.Short n)) (sym budget_is)
     short_first (Delegate m) less =
-        ap (λ b. unless (first_of (if b then Some reply.Same else None)
+        ap (λ b. unless (first_of (if b then Some Reply.Same else None)
         (first_cause s c (is_short_of_timecalls s (named_by is.a) m
         ∷ are_many s (named_by is.a) (named_by is.b) ∷ [])))
         (change_by c s (Delegate m) is.a.frame is.b.frame))
         (calls.not_same setup setting cores t stands c here a active mark_p stage_is has)
-        ∙ ap (λ b. unless (first_of (if b then Some (reply.Short (tcap_at s is.a.frame).budget) else None)
+        ∙ ap (λ b. unless (first_of (if b then Some (Reply.Short (tcap_at s is.a.frame).budget) else None)
         (first_cause s c (are_many s (named_by is.a) (named_by is.b) ∷ [])))
         (change_by c s (Delegate m) is.a.frame is.b.frame)) (ap (λ (n : ℕ). nat_lt n m) (sym budget_is) ∙ less)
-        ∙ ap (λ (n : ℕ). Refused (reply.Short n)) (sym budget_is)
+        ∙ ap (λ (n : ℕ). Refused (Reply.Short n)) (sym budget_is)
 
     -- its budget is less than the ticks
     short_good : nat_lt p.head_a.budget (amount_of p.what) ≡ true
         → GoodTook setup cores t c compare (landed a (took_shared (record p { at = giving_back }) (marked_end true true p.head_a.budget)))
     unfolding is
     short_good less lands =
-        let r : Reply = reply.Short p.head_a.budget in
+        let r : Reply = Reply.Short p.head_a.budget in
         let e : Step = inner setup setting cores t stands c here a active compare (Some r) None in
         let unspent = not_spent setup (cores c) t c (core_is setup setting cores t stands c here a active) room in
         let opens = calls.opens setup setting cores t stands c here a active mark_p stage_is has in

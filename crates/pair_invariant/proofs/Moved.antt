@@ -1,21 +1,18 @@
 -- A decision by which two temporal capabilities have other budgets, or another list: what else of the state it leaves, and what is said of
 -- the other words then.
-use Rattle.count_invariant.proofs.Common.{◌≡◌, ◌≢◌, ◌⊎◌, inl, inr, ℕ, zero, suc, ◌+◌, ◌-◌, ◌<◌, ◌≤◌, ◌==◌, Bool, true, false}
-use Rattle.count_invariant.proofs.Common.{if◌then◌else◌, List, ◌∷◌, length, slice_get, Some, None, IsTrue, arith, refl, sym, ◌∙◌, ap}
-use Rattle.count_invariant.proofs.Common.{subst, cases_eq, Setting, IsSetting, Word, EntryAt, FrameAt, CountAt, CoreAt, FlushAt, LiveAt}
-use Rattle.count_invariant.proofs.Common.{ClockAt, Move, Frame, Kernel, Tcap, TcapFields, PlaceOf, FrameOf, NumberOf, State, put, tcap_in}
-use Rattle.count_invariant.proofs.Common.{with_frame, thread_in, comp_in, thread_of, comp_of, first_of_stack, refs}
-use Rattle.count_invariant.proofs.Common.{frame_names, times, IsGuarded, tcap_at, moved, counted, frame_refs, sum_one, put_same}
-use Rattle.count_invariant.proofs.Common.{put_other, mark_in_frame, frame_value, stamp, Step, Trace, phase, state_after, last_left}
-use Rattle.count_invariant.proofs.Common.{decided-inside, ActiveCall, Core, settled, WorksIn, HasTcap, held_by, times_of, counted_in}
-use Rattle.count_invariant.proofs.Common.{Invariant, IsFrameWord, IsUntimed, plain_stamp, plain_flush, plain_exit}
-use Rattle.count_invariant.proofs.Common.{counted_refs, SameFor, ReadsAlike, StaysSaid, word_stays, fits}
-use Rattle.quality_lists.specs.spk_nums.specs.declared.replies.Reply.TheVariants as reply
-use Rattle.quality_lists.specs.spk_nums.specs.declared.replies.Value.TheVariants as value
-use Rattle.kernel_laws.specs.kernel_rules.specs.State.{Core as CoreFields}
-use Rattle.kernel_laws.specs.kernel_rules.specs.Edits.{with_tcap, with_budget, with_qualities}
-use Rattle.count_invariant.specs.step_ways.proofs.Loads.{inner}
-use Rattle.quality_lists.specs.spk_nums.specs.declared.kinds.Kind.TheVariants.{Tcap as KindTcap}
+use Rattle.count_invariant.specs.step_ways.proofs.{◌≡◌, ◌≢◌, ◌⊎◌, inl, inr, ℕ, zero, suc, ◌+◌, ◌-◌, ◌<◌, ◌≤◌, ◌==◌, Bool, true, false}
+use Rattle.count_invariant.specs.step_ways.proofs.{if◌then◌else◌, List, ◌∷◌, length, slice_get, Some, None, IsTrue, arith, refl, sym, ◌∙◌}
+use Rattle.count_invariant.specs.step_ways.proofs.{ap, subst, Setting, IsSetting, Word, EntryAt, FrameAt, CountAt, CoreAt, FlushAt, LiveAt}
+use Rattle.count_invariant.specs.step_ways.proofs.{ClockAt, Move, Frame, Kernel, Tcap, TcapFields, PlaceOf, FrameOf, NumberOf, State, put}
+use Rattle.count_invariant.specs.step_ways.proofs.{tcap_in, with_frame, thread_in, comp_in, thread_of, comp_of, first_of_stack, refs}
+use Rattle.count_invariant.specs.step_ways.proofs.{frame_names, times, IsGuarded, tcap_at, counted, frame_refs, sum_one, put_same}
+use Rattle.count_invariant.specs.step_ways.proofs.{put_other, mark_in_frame, frame_value, stamp, Step, Trace, phase, state_after, last_left}
+use Rattle.count_invariant.specs.step_ways.proofs.{decided-inside, ActiveCall, Core, settled, WorksIn, HasTcap, held_by, times_of}
+use Rattle.count_invariant.specs.step_ways.proofs.{counted_in, Invariant, IsFrameWord, IsUntimed, plain_stamp, plain_flush, plain_exit}
+use Rattle.count_invariant.specs.step_ways.proofs.{counted_refs, SameFor, ReadsAlike, StaysSaid, word_stays, fits, inner, Reply, Value}
+use Rattle.count_invariant.specs.boot_words.specs.kernel_rules.specs.{moved, Core as CoreFields, with_tcap, with_budget, with_qualities}
+use Rattle.std.proofs.lemmas.Bool.{cases_eq}
+use Rattle.count_invariant.specs.quality_lists.specs.spk_nums.specs.declared.kinds.Kind.TheVariants.{Tcap as KindTcap}
 
 -- A frame is the first, the second, or another.
 pub record Away (a b g : ℕ) : Type 0 where
@@ -87,10 +84,10 @@ pub record IsMoved (setup : Setting) (t : Trace) (e : Step) (f g : ℕ) (q r q' 
 module _ (setup : Setting) (setting : IsSetting setup) (cores : ℕ → Core) (t : Trace) (stands : Invariant setup cores t) (c : ℕ)
     (here : c < setup.cores)
     (a : ActiveCall) (active : (cores c).active ≡ Some a) (move : Move) (f g : ℕ) (q r q' r' : TcapFields)
-    (is : IsMoved setup t (inner setup setting cores t stands c here a active move (Some (reply.Ok value.Nothing)) None) f g q r q'
+    (is : IsMoved setup t (inner setup setting cores t stands c here a active move (Some (Reply.Ok Value.Nothing)) None) f g q r q'
     r') where
   abbrev e : Step
-  e = inner setup setting cores t stands c here a active move (Some (reply.Ok value.Nothing)) None
+  e = inner setup setting cores t stands c here a active move (Some (Reply.Ok Value.Nothing)) None
 
   abbrev s : State
   s = state_after setup t
@@ -230,7 +227,7 @@ module _ (setup : Setting) (setting : IsSetting setup) (cores : ℕ → Core) (t
   stays lists (FrameAt h) first second same = λ before. before ∙ sym (ap (λ v. Some v) (still_so _ frame_value (λ y z. refl) h))
   stays lists (CountAt h d) first second same = said (CountAt h d) tt
   stays lists (CoreAt d) first second same = said (CoreAt d) (record {
-    inside = decided-inside (Some (reply.Ok value.Nothing)) (phase t c) s c d;
+    inside = decided-inside (Some (Reply.Ok Value.Nothing)) (phase t c) s c d;
     exit = plain_exit t e refl d;
   })
   stays lists (FlushAt d) first second same = said (FlushAt d) (plain_flush setup t e is.plain d)

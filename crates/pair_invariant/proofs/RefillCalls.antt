@@ -1,47 +1,33 @@
 -- What a call that gives ticks back knows of itself: its name, its rule, its machine, and what refuses it.
-use Rattle.count_invariant.proofs.Common.{◌≡◌, inl, inr, ℕ, ◌+◌, ◌*◌, ◌^◌, ◌<◌, ◌≤◌, not, nat_lt, Bool, true, false, List, Option, [], ◌∷◌}
-use Rattle.count_invariant.proofs.Common.{Some, None, map, if◌then◌else◌, arith, refl, sym, ◌∙◌, ap, subst, le-ltb, Setting, IsSetting}
-use Rattle.count_invariant.proofs.Common.{Capability, Call, Reply, State, Change, Cause, Does, Judged, Found, Refused, RuleMay, tcap_in}
-use Rattle.count_invariant.proofs.Common.{outcome, unless, first_of, first_cause, tcap_at, rule_of, change_of, changes_budgets}
-use Rattle.count_invariant.proofs.Common.{is_one_of, footprint_frames, Trace, Open, phase, state_after, First, Plan, at_place, plan_for}
-use Rattle.count_invariant.proofs.Common.{GoesBy, own_pages, rule_after, Leads, LeadsIn, leads_by, outcome_left, left_may, calls_go}
-use Rattle.count_invariant.proofs.Common.{Acquired, Act, Undecided, ActiveCall, StageFits, HasRoom, Core, holds_counts, due_of}
-use Rattle.count_invariant.proofs.Common.{KnowsUndecided, phase_at, HasFound, own_in, holds_at, holds_in, Invariant, TcapOf, in_order}
-use Rattle.count_invariant.proofs.Common.{IsRefill, RefillsBy, EntryAt, LoadOf, limits_of}
-use Rattle.std.proofs.Common.{min}
-use Rattle.std.proofs.lemmas.Bool.{ltb-true}
-use Rattle.quality_lists.specs.spk_nums.specs.Merging.{covers}
-use Rattle.quality_lists.specs.spk_nums.specs.declared.calls.Call.TheVariants as call_as
-use Rattle.quality_lists.specs.spk_nums.specs.declared.replies.Reply.TheVariants as reply
-use Rattle.kernel_laws.specs.kernel_rules.specs.Access.{found}
-use Rattle.kernel_laws.specs.kernel_rules.specs.State.{outstanding}
-use Rattle.kernel_laws.specs.kernel_rules.specs.Ranges.{CoreInRange}
-use Rattle.kernel_laws.specs.kernel_rules.specs.TimeCalls.{is_finer, is_less}
-use Rattle.kernel_laws.specs.kernel_rules.specs.Edits.{Edit, Give}
-use Rattle.kernel_laws.specs.kernel_rules.specs.Rules.{does}
-use Rattle.kernel_laws.specs.spk_nums.specs.declared.replies.Value.TheVariants.{Nothing}
-use Rattle.count_invariant.proofs.Findings.{found_named}
-use Rattle.count_invariant.specs.act_states.specs.Refills.{left_among}
-use Rattle.count_invariant.specs.act_states.specs.declared.work.Act.TheVariants.{Refill as refill_act}
-use Rattle.count_invariant.specs.stage_tcap.specs.Refilling.{RefillFits}
-use Rattle.count_invariant.specs.stage_tcap.specs.declared.refill.Refill.{Refill}
-use Rattle.count_invariant.specs.step_ways.proofs.Loads.{OnlyLooks, call_is, is_active}
-use Rattle.count_invariant.specs.kept_facts.proofs.Tcaps.{tcap_of}
-use Rattle.pair_invariant.proofs.ListsKnown.{ranges_of}
-use Rattle.pair_invariant.proofs.ShareCalls.{name_footprint}
-use Rattle.count_invariant.specs.act_states.specs.call_plans.specs.PlanOf.{plan_for}
+use Rattle.count_invariant.specs.step_ways.proofs.{◌≡◌, inl, inr, ℕ, ◌+◌, ◌*◌, ◌^◌, ◌<◌, ◌≤◌, not, ltb as nat_lt, Bool, true, false, List}
+use Rattle.count_invariant.specs.step_ways.proofs.{Option, [], ◌∷◌, Some, None, map, if◌then◌else◌, arith, refl, sym, ◌∙◌, ap, subst}
+use Rattle.count_invariant.specs.step_ways.proofs.{le-ltb, Setting, IsSetting, Capability, Call, Reply, State, Change, Cause, Does, Judged}
+use Rattle.count_invariant.specs.step_ways.proofs.{Found, Refused, RuleMay, tcap_in, outcome, unless, first_of, first_cause, tcap_at}
+use Rattle.count_invariant.specs.step_ways.proofs.{rule_of, change_of, changes_budgets, is_one_of, footprint_frames, Trace, Open, phase}
+use Rattle.count_invariant.specs.step_ways.proofs.{state_after, First, Plan, at_place, plan_for, GoesBy, own_pages, rule_after, Leads}
+use Rattle.count_invariant.specs.step_ways.proofs.{LeadsIn, leads_by, outcome_left, left_may, calls_go, Acquired, Act, Undecided}
+use Rattle.count_invariant.specs.step_ways.proofs.{ActiveCall, StageFits, HasRoom, Core, holds_counts, due_of, KnowsUndecided, phase_at}
+use Rattle.count_invariant.specs.step_ways.proofs.{HasFound, own_in, holds_at, holds_in, Invariant, TcapOf, in_order, EntryAt, LoadOf}
+use Rattle.count_invariant.specs.step_ways.proofs.{limits_of, min, ltb-true, found, Edit, does, Refill as refill_act, OnlyLooks, call_is}
+use Rattle.count_invariant.specs.boot_words.specs.kernel_rules.specs.{covers, outstanding, is_finer, is_less, Give, Nothing}
+use Rattle.count_invariant.specs.act_states.specs.{left_among, Refill}
+use Rattle.count_invariant.specs.core_invariant.specs.Refills.{IsRefill, RefillsBy}
+use Rattle.pair_invariant.proofs.{ListsKnown.ranges_of, ShareCalls.name_footprint}
+use Rattle.{count_invariant.specs.step_ways.proofs.is_active, count_invariant.specs.boot_words.specs.kernel_rules.specs.Ranges.CoreInRange}
+use Rattle.{count_invariant.proofs.Findings.found_named, count_invariant.specs.stage_tcap.specs.Refilling.RefillFits}
+use Rattle.{count_invariant.specs.kept_facts.proofs.Tcaps.tcap_of}
 
 -- It is a replenishment of the temporal capability to which its name has led.
 pub record IsRefillCall (s : State) (c : ℕ) (call : Call) (ks : List Capability) (r : Refill) : Type 0 where
   pub cap : Capability
   pub name : ℕ
   pub amount : ℕ
-  pub call_is : call ≡ call_as.Replenish name amount
+  pub call_is : call ≡ Call.Replenish name amount
   pub found_is : ks ≡ cap ∷ []
   pub refill : IsRefill s c amount cap r
 
 refill_of : (s : State) (c : ℕ) (call : Call) (ks : List Capability) (r : Refill) → RefillsBy s c call ks r → IsRefillCall s c call ks r
-refill_of s c (call_as.Replenish x m) (k ∷ []) r is =
+refill_of s c (Call.Replenish x m) (k ∷ []) r is =
     record { cap = k; name = x; amount = m; call_is = refl; found_is = refl; refill = is }
 refill_of s c call ks r is = absurd is
 
@@ -112,7 +98,7 @@ module _ (setup : Setting) (setting : IsSetting setup) (cores : ℕ → Core) (t
 
   pub left : rule_after (rule_of s c a.call) a.found ≡ Does causes Nothing edits
   left = ap (λ x. rule_after (rule_of s c x) a.found) is.call_is
-      ∙ ap (λ xs. rule_after (rule_of s c (call_as.Replenish is.name is.amount)) xs) is.found_is
+      ∙ ap (λ xs. rule_after (rule_of s c (Call.Replenish is.name is.amount)) xs) is.found_is
 
   pub change_is : change_of s c a.call ≡ unless (first_cause s c causes) change
   change_is = outcome_left s c (own_pages s c) (plan_for a.call) (rule_of s c a.call) a.found by_plan leads ∙ ap (outcome s c) left
@@ -166,17 +152,17 @@ module _ (setup : Setting) (setting : IsSetting setup) (cores : ℕ → Core) (t
 
   -- what refuses it: first a list that does not cover the grant
   abbrev by_finer : Bool → Judged Change
-  by_finer b = unless (first_of (if not b then Some reply.Unlike else None) (first_cause s c (is_less s c is.amount ∷ []))) change
+  by_finer b = unless (first_of (if not b then Some Reply.Unlike else None) (first_cause s c (is_less s c is.amount ∷ []))) change
 
-  pub unlike_may : covered ≡ false → RuleMay s c (rule_of s c a.call) reply.Unlike
-  unlike_may other = may reply.Unlike (inl (ap not other, refl))
+  pub unlike_may : covered ≡ false → RuleMay s c (rule_of s c a.call) Reply.Unlike
+  unlike_may other = may Reply.Unlike (inl (ap not other, refl))
 
-  pub unlike_first : covered ≡ false → change_of s c a.call ≡ Refused reply.Unlike
+  pub unlike_first : covered ≡ false → change_of s c a.call ≡ Refused Reply.Unlike
   unlike_first other = change_is ∙ ap by_finer other
 
   -- and then too few ticks that are left
   abbrev by_less : Bool → Judged Change
-  by_less b = unless (first_of (if b then Some (reply.Short (min (outstanding (s.core c)) is.amount)) else None) None) change
+  by_less b = unless (first_of (if b then Some (Reply.Short (min (outstanding (s.core c)) is.amount)) else None) None) change
 
   has_less : nat_lt r.left r.ticks ≡ true → nat_lt (outstanding (s.core c)) is.amount ≡ true
   has_less less = ap (λ (n : ℕ). nat_lt n is.amount) (sym same_left) ∙ ap (λ (m : ℕ). nat_lt r.left m) (sym is.refill.ticks) ∙ less
@@ -187,12 +173,12 @@ module _ (setup : Setting) (setting : IsSetting setup) (cores : ℕ → Core) (t
       let low = ltb-true (outstanding (s.core c)) is.amount (has_less less) in
       omega (arith, same, low)
 
-  pub short_may : nat_lt r.left r.ticks ≡ true → RuleMay s c (rule_of s c a.call) (reply.Short r.left)
-  short_may less = may (reply.Short r.left) (inr (inl (has_less less, ap (λ (n : ℕ). reply.Short n) (sym (told less)))))
+  pub short_may : nat_lt r.left r.ticks ≡ true → RuleMay s c (rule_of s c a.call) (Reply.Short r.left)
+  short_may less = may (Reply.Short r.left) (inr (inl (has_less less, ap (λ (n : ℕ). Reply.Short n) (sym (told less)))))
 
-  pub short_first : covered ≡ true → nat_lt r.left r.ticks ≡ true → change_of s c a.call ≡ Refused (reply.Short r.left)
+  pub short_first : covered ≡ true → nat_lt r.left r.ticks ≡ true → change_of s c a.call ≡ Refused (Reply.Short r.left)
   short_first cover less =
-      change_is ∙ ap by_finer cover ∙ ap by_less (has_less less) ∙ ap (λ (n : ℕ). Refused (reply.Short n)) (told less)
+      change_is ∙ ap by_finer cover ∙ ap by_less (has_less less) ∙ ap (λ (n : ℕ). Refused (Reply.Short n)) (told less)
 
   -- nothing does
   pub goes : covered ≡ true → r.ticks ≤ r.left → change_of s c a.call ≡ Found change

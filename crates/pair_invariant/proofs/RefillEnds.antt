@@ -1,18 +1,12 @@
 -- A call that gives ticks back finds its head as it was read, with a list that does not cover the grant; or finds another head.
-use Rattle.count_invariant.proofs.Common.{◌≡◌, inl, inr, ℕ, ◌<◌, ◌==◌, Bool, true, false, Some, refl, sym, ◌∙◌, ap, subst, eq-eqb, eqb-true}
-use Rattle.count_invariant.proofs.Common.{eqb-false, left_if, Setting, IsSetting, word_of_head, Word, EntryAt, Move, LoadOf, CompareOf}
-use Rattle.count_invariant.proofs.Common.{left_of, State, HasRacedHead, changes_in_frame, Trace, state_after, last_left, Act, Undecided}
-use Rattle.count_invariant.proofs.Common.{ActiveCall, landed, Core, KnowsUndecided, Invariant, TcapOf}
-use Rattle.count_invariant.specs.stage_tcap.specs.Heads.{credited}
-use Rattle.count_invariant.specs.stage_tcap.specs.Refilling.{refill_after, again}
-use Rattle.count_invariant.specs.stage_tcap.specs.declared.refill.Refill.{Refill}
-use Rattle.count_invariant.specs.stage_tcap.specs.declared.refill.RefillAt.TheVariants.{Compare, Again}
-use Rattle.count_invariant.specs.act_states.specs.Refills.{took_refill, took_refilled}
-use Rattle.count_invariant.specs.act_states.specs.WorkSteps.{refuse}
-use Rattle.count_invariant.specs.act_states.specs.declared.refusals.Refusal.TheVariants as refusal
-use Rattle.count_invariant.specs.act_states.specs.declared.work.Act.TheVariants.{Refill as refill_act}
-use Rattle.count_invariant.specs.step_ways.proofs.Loads.{IsOfCall}
-use Rattle.count_invariant.specs.step_ways.proofs.Refusals.{GoodTook, ticks_at, refuses_unlike, refuses_raced}
+use Rattle.count_invariant.specs.step_ways.proofs as low
+use low.{◌≡◌, inl, inr, ℕ, ◌<◌, ◌==◌, Bool, true, false, Some, refl, sym, ◌∙◌, ap, subst, eq-eqb, eqb-true, eqb-false, left_if, Setting}
+use low.{IsSetting, word_of_head, Word, EntryAt, Move, LoadOf, CompareOf, left_of, State, HasRacedHead, changes_in_frame, Trace}
+use low.{state_after, last_left, Act, Undecided, ActiveCall, landed, Core, KnowsUndecided, Invariant, TcapOf, credited, took_refilled}
+use low.{refuse, Refill as refill_act, IsOfCall, GoodTook, ticks_at, refuses_raced, Refusal}
+use Rattle.count_invariant.specs.act_states.specs.{refill_after, Refill, Again, took_refill}
+use Rattle.count_invariant.specs.stage_tcap.specs.{Refilling.again, declared.refill.RefillAt.TheVariants.Compare}
+use low.Refusals.{refuses_unlike}
 use Rattle.pair_invariant.proofs.RefillCalls as calls
 use Rattle.pair_invariant.proofs.RefillLists as lists
 
@@ -41,7 +35,7 @@ module _ (setup : Setting) (setting : IsSetting setup) (cores : ℕ → Core) (t
   tcap = calls.tcap setup setting cores t stands c here a active now_r stage_is has
 
   -- it is as it was read, and so is the list
-  unlike_good : (was == old) ≡ true → GoodTook setup cores t c (LoadOf at) (landed a (refuse refusal.Unlike))
+  unlike_good : (was == old) ≡ true → GoodTook setup cores t c (LoadOf at) (landed a (refuse Refusal.Unlike))
   unlike_good same =
       refuses_unlike setup setting cores t stands c here a active
       (calls.opens setup setting cores t stands c here a active now_r stage_is has)
@@ -66,7 +60,7 @@ module _ (setup : Setting) (setting : IsSetting setup) (cores : ℕ → Core) (t
           ∙ has.knows.knows.at.is
 
   -- another one is found
-  lost_good : (was == old) ≡ false → GoodTook setup cores t c (LoadOf at) (landed a (refuse refusal.Raced))
+  lost_good : (was == old) ≡ false → GoodTook setup cores t c (LoadOf at) (landed a (refuse Refusal.Raced))
   lost_good other =
       refuses_raced setup setting cores t stands c here a active
       (calls.opens setup setting cores t stands c here a active now_r stage_is has)
@@ -122,7 +116,7 @@ module _ (setup : Setting) (setting : IsSetting setup) (cores : ℕ → Core) (t
     footprint = inl (calls.footprint setup setting cores t stands c here a active given_r stage_is has);
   }
 
-  pub compare_lost : (found == read) ≡ false → GoodTook setup cores t c compare (landed a (refuse refusal.Raced))
+  pub compare_lost : (found == read) ≡ false → GoodTook setup cores t c compare (landed a (refuse Refusal.Raced))
   compare_lost other =
       refuses_raced setup setting cores t stands c here a active
       (calls.opens setup setting cores t stands c here a active given_r stage_is has)

@@ -1,13 +1,10 @@
 -- Where the head of a temporal capability is found as it was read, without a mark, its list is the one that was read since.
-use Rattle.count_invariant.proofs.Common.{◌≡◌, ◌⊎◌, inl, inr, ℕ, true, List, Option, Some, None, sym, ◌∙◌, ap, subst, false≢true}
-use Rattle.count_invariant.proofs.Common.{Setting, IsSetting, HeadFits, word_of_head, head_of_word, HeadWord, spelling, EntryAt}
-use Rattle.count_invariant.proofs.Common.{Kernel, Tcap, TcapFields, head_mark, marked_by, Trace, state_after, last_left, Core}
-use Rattle.count_invariant.proofs.Common.{list_changed, read_up, Invariant, HeadIs}
-use Rattle.std.proofs.Common.{IsSome, is_some}
-use Rattle.count_invariant.specs.core_invariant.specs.Shares.{HasSeenB, list_word}
-use Rattle.pair_invariant.proofs.ListsKnown.{range_of}
-use Rattle.pair_invariant.proofs.ListsRead.{reads_whole}
-use Rattle.pair_invariant.proofs.ShareSteps.{mark_is, head_says, list_plain}
+use Rattle.count_invariant.specs.step_ways.proofs.{◌≡◌, ◌⊎◌, inl, inr, ℕ, true, List, Option, Some, None, sym, ◌∙◌, ap, subst, false≢true}
+use Rattle.count_invariant.specs.step_ways.proofs.{Setting, IsSetting, HeadFits, word_of_head, head_of_word, HeadWord, spelling, EntryAt}
+use Rattle.count_invariant.specs.step_ways.proofs.{Kernel, Tcap, TcapFields, head_mark, marked_by, Trace, state_after, last_left, Core}
+use Rattle.count_invariant.specs.step_ways.proofs.{list_changed, read_up, Invariant, HeadIs, IsSome, is_some, list_word}
+use Rattle.pair_invariant.proofs.{ListsKnown.range_of, ListsRead.reads_whole, ShareSteps.mark_is, ShareSteps.head_says}
+use Rattle.{count_invariant.specs.core_invariant.specs.Shares.HasSeenB, pair_invariant.proofs.ShareSteps.list_plain}
 
 module _ (setup : Setting) (setting : IsSetting setup) (cores : ℕ → Core) (t : Trace) (stands : Invariant setup cores t) (f : ℕ)
     (q : TcapFields) (is : (state_after setup t).frame f ≡ Kernel (Tcap q)) (h : HeadWord) (fits : HeadFits h) (bare : h.mark ≡ None)

@@ -1,42 +1,31 @@
 -- The loads of a call that gives ticks back: the head, which may be marked, and the words of its list.
-use Rattle.count_invariant.proofs.Common.{◌≡◌, ◌⊎◌, inl, inr, ℕ, zero, suc, map, ◌+◌, ◌<◌, ◌≤◌, ◌&&◌, nat_lt, Bool, true, false}
-use Rattle.count_invariant.proofs.Common.{if◌then◌else◌, List, [], ◌∷◌, Option, Some, None, arith, refl, sym, ◌∙◌, ap, subst, eq-eqb}
-use Rattle.count_invariant.proofs.Common.{ltb-false, false≢true, Setting, IsSetting, Capability, Call, HeadFits, word_of_head}
-use Rattle.count_invariant.proofs.Common.{head_of_word, quality_of_word, HeadWord, spelling, Word, EntryAt, LoadOf, State, head_mark}
-use Rattle.count_invariant.proofs.Common.{marked_by, holds_node, are_calls_spent, IsAlone, Step, Trace, state_after, last_left, own_read}
-use Rattle.count_invariant.proofs.Common.{own_read-here, own_read-there, last_left-here, refused_first, head, in_order, Act, Goes}
-use Rattle.count_invariant.proofs.Common.{Undecided, ActiveCall, landed, Core, Acquired, due_of, names_on, holds_counts, KnowsUndecided}
-use Rattle.count_invariant.proofs.Common.{read_up, Invariant, TcapOf, list_changed, SparesTcap, KnowsRefillAt, HasReadList, RefillsBy}
-use Rattle.std.proofs.Common.{IsSome, is_some}
-use Rattle.quality_lists.specs.spk_nums.specs.Merging.{covers}
-use Rattle.quality_lists.specs.spk_nums.specs.declared.calls.Call.TheVariants as call_as
-use Rattle.quality_lists.specs.spk_nums.specs.declared.replies.Reply.TheVariants as reply
-use Rattle.count_invariant.specs.tcap_words.specs.declared.quality_word.QualityWord.{QualityWord}
+use Rattle.count_invariant.specs.step_ways.proofs.{◌≡◌, ◌⊎◌, inl, inr, ℕ, zero, suc, map, ◌+◌, ◌<◌, ◌≤◌, ◌&&◌, ltb as nat_lt, Bool, true}
+use Rattle.count_invariant.specs.step_ways.proofs.{false, if◌then◌else◌, List, [], ◌∷◌, Option, Some, None, arith, refl, sym, ◌∙◌, ap}
+use Rattle.count_invariant.specs.step_ways.proofs.{subst, eq-eqb, ltb-false, false≢true, Setting, IsSetting, Capability, Call, HeadFits}
+use Rattle.count_invariant.specs.step_ways.proofs.{word_of_head, head_of_word, quality_of_word, HeadWord, spelling, Word, EntryAt, LoadOf}
+use Rattle.count_invariant.specs.step_ways.proofs.{State, head_mark, marked_by, holds_node, are_calls_spent, IsAlone, Step, Trace}
+use Rattle.count_invariant.specs.step_ways.proofs.{state_after, last_left, own_read, own_read-here, own_read-there, last_left-here}
+use Rattle.count_invariant.specs.step_ways.proofs.{refused_first, head, in_order, Act, Goes, Undecided, ActiveCall, landed, Core, Acquired}
+use Rattle.count_invariant.specs.step_ways.proofs.{due_of, names_on, holds_counts, KnowsUndecided, read_up, Invariant, TcapOf, list_changed}
+use Rattle.count_invariant.specs.step_ways.proofs.{SparesTcap, IsSome, is_some, head_end, took_refilled, refuse, Refill as refill_act}
+use Rattle.count_invariant.specs.step_ways.proofs.{HasTcap, list_word, step_to, inner, core_is, loads_on, decides_on, GoodTook, ticks_at}
+use Rattle.count_invariant.specs.step_ways.proofs.{not_spent, refuses_busy, plan_for, Reply, Refusal}
+use Rattle.count_invariant.specs.stage_tcap.specs.{covers, QualityWord, end_by_mark, read_word, noted, from_mark, from_head, from_word}
+use Rattle.count_invariant.specs.stage_tcap.specs.{next_in, weighed_at, weighed, at_word, word_end}
+use Rattle.count_invariant.specs.core_invariant.specs.{KnowsRefillAt, RefillsBy, HasSeenB}
+use Rattle.count_invariant.specs.act_states.specs.{Refill, Again, took_refill}
+use Rattle.count_invariant.specs.core_invariant.specs.Refills.{HasReadList}
 use Rattle.count_invariant.specs.kernel_history.proofs.Laws.{own_is_last, read_is_left}
-use Rattle.count_invariant.specs.stage_tcap.specs.Charging.{end_by_mark, head_end}
-use Rattle.count_invariant.specs.stage_tcap.specs.Lists.{read_word}
-use Rattle.count_invariant.specs.stage_tcap.specs.Pairs.{noted}
-use Rattle.count_invariant.specs.stage_tcap.specs.Refilling.{from_mark, from_head, from_word, next_in, weighed_at, weighed, at_word}
-use Rattle.count_invariant.specs.stage_tcap.specs.Refilling.{word_end}
-use Rattle.count_invariant.specs.stage_tcap.specs.declared.refill.Refill.{Refill}
-use Rattle.count_invariant.specs.stage_tcap.specs.declared.refill.RefillAt.TheVariants.{Load, List as at_list, Compare, Again}
-use Rattle.count_invariant.specs.act_states.specs.Refills.{took_refill, took_refilled}
-use Rattle.count_invariant.specs.act_states.specs.WorkSteps.{refuse}
-use Rattle.count_invariant.specs.act_states.specs.declared.refusals.Refusal.TheVariants as refusal
-use Rattle.count_invariant.specs.act_states.specs.declared.work.Act.TheVariants.{Refill as refill_act}
-use Rattle.count_invariant.specs.core_invariant.specs.Shares.{HasTcap, HasSeenB, list_word}
+use Rattle.count_invariant.specs.stage_tcap.specs.declared.refill.RefillAt.TheVariants.{Load, List as at_list, Compare}
 use Rattle.count_invariant.specs.kept_facts.proofs.Pairs.{left_same, seen_on, tcap_mark}
-use Rattle.count_invariant.specs.step_ways.proofs.Loads.{step_to, inner, core_is, loads_on, decides_on}
-use Rattle.count_invariant.specs.step_ways.proofs.Refusals.{GoodTook, ticks_at, not_spent, refuses_busy}
+use Rattle.pair_invariant.proofs.ShareSteps.{mark_is, head_says, list_plain}
 use Rattle.pair_invariant.proofs.RefillCalls as calls
 use Rattle.pair_invariant.proofs.RefillLists as lists
-use Rattle.pair_invariant.proofs.ShareSteps.{mark_is, head_says, list_plain}
-use Rattle.count_invariant.specs.act_states.specs.call_plans.specs.PlanOf.{plan_for}
 
 -- It goes on by a load of a word of its temporal capability.
 refills_same : (s : State) (c : ℕ) (call : Call) (ks : List Capability) (r q : Refill) → q.tcap ≡ r.tcap → q.ticks ≡ r.ticks
     → q.left ≡ r.left → q.grant ≡ r.grant → RefillsBy s c call ks r → RefillsBy s c call ks q
-refills_same s c (call_as.Replenish x m) (k ∷ []) r q tcap ticks left grant is = record {
+refills_same s c (Call.Replenish x m) (k ∷ []) r q tcap ticks left grant is = record {
   tcap = tcap ∙ is.tcap;
   kind = is.kind;
   ticks = ticks ∙ is.ticks;
@@ -134,7 +123,7 @@ module _ (setup : Setting) (setting : IsSetting setup) (cores : ℕ → Core) (t
         };
       })
 
-  busy_good : (d : ℕ) → marked_by setup t at ≡ Some d → GoodTook setup cores t c (LoadOf at) (landed a (refuse (refusal.Busy d)))
+  busy_good : (d : ℕ) → marked_by setup t at ≡ Some d → GoodTook setup cores t c (LoadOf at) (landed a (refuse (Refusal.Busy d)))
   busy_good d mark =
       refuses_busy setup setting cores t stands c here a active
       (calls.opens setup setting cores t stands c here a active now_r stage_is has)
@@ -268,14 +257,14 @@ module _ (setup : Setting) (setting : IsSetting setup) (cores : ℕ → Core) (t
 
   -- too few ticks are left: that is the core's own number, and where the call is alone no cause comes before it
   less_good : nat_lt r.left r.ticks ≡ true → covers (in_order next_list) r.grant ≡ true → suc n ≡ 8
-      → GoodTook setup cores t c (LoadOf word_at) (landed a (refuse (refusal.Short r.left)))
+      → GoodTook setup cores t c (LoadOf word_at) (landed a (refuse (Refusal.Short r.left)))
   less_good less covered all lands =
-      decides_on setup setting cores t stands c here a active (LoadOf word_at) (reply.Short r.left) a.found
+      decides_on setup setting cores t stands c here a active (LoadOf word_at) (Reply.Short r.left) a.found
       (calls.loading setup setting cores t stands c here a active list_r stage_is has (suc n)) lands
       (sym (calls.held_is setup setting cores t stands c here a active list_r stage_is has))
       (calls.opens setup setting cores t stands c here a active list_r stage_is has) refl refl (λ x. refl) (λ x. refl) refl
       (unspent, calls.short_may setup setting cores t stands c here a active list_r stage_is has less) tt
-      (λ is_alone. refused_first s_list c a.call (reply.Short r.left) has.acts unspent
+      (λ is_alone. refused_first s_list c a.call (Reply.Short r.left) has.acts unspent
       (calls.short_first setup setting cores t stands c here a active list_r stage_is has
       (sym (calls.covered_is setup setting cores t stands c here a active list_r stage_is has next_list (listed is_alone)) ∙ covered) less))
     where
@@ -284,7 +273,7 @@ module _ (setup : Setting) (setting : IsSetting setup) (cores : ℕ → Core) (t
           (calls.room setup setting cores t stands c here a active list_r stage_is has)
 
       -- the list that was read is the one that stands
-      listed : IsAlone t (inner setup setting cores t stands c here a active (LoadOf word_at) (Some (reply.Short r.left)) None)
+      listed : IsAlone t (inner setup setting cores t stands c here a active (LoadOf word_at) (Some (Reply.Short r.left)) None)
           → next_list ≡ Some tcap_here.fields.qualities
       listed is_alone =
           subst (λ (m : ℕ). next_list ≡ read_up (list_word setup t r.tcap) m) all

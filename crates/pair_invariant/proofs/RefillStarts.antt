@@ -1,35 +1,25 @@
 -- A call that gives ticks back begins where its name has led to a temporal capability; and each of its steps is good.
-use Rattle.count_invariant.proofs.Common.{acts, IsTrue, ◌≡◌, ℕ, zero, suc, ◌<◌, map, List, [], ◌∷◌, Some, None, refl, sym, ◌∙◌, ap}
-use Rattle.count_invariant.proofs.Common.{subst, Capability, Setting, IsSetting, Call, Move, word_of, told_of, State, only, Found, named}
-use Rattle.count_invariant.proofs.Common.{Step, Trace, Open, phase, state_after, last_left, Carries, Name, Plan, plan_for, Leads, LeadsIn}
-use Rattle.count_invariant.proofs.Common.{names_after, GoesBy, own_pages, rule_of, of_kind, Acquired, Act, Undecided, act_begun}
-use Rattle.count_invariant.proofs.Common.{ActiveCall, landed, found_more, Core, holds_counts, due_of, NamesAre, phase_at, holds_in}
-use Rattle.count_invariant.proofs.Common.{Invariant, KnowsUndecided, RefillsBy, WorksIn}
-use Rattle.quality_lists.specs.spk_nums.specs.declared.kinds.Kind.TheVariants as kind
-use Rattle.quality_lists.specs.spk_nums.specs.declared.calls.Call.TheVariants.{Replenish}
-use Rattle.kernel_laws.specs.kernel_rules.specs.Access.{to_use}
-use Rattle.count_invariant.specs.stage_tcap.specs.Refilling.{refill_move}
-use Rattle.count_invariant.specs.stage_tcap.specs.declared.refill.Refill.{Refill}
-use Rattle.count_invariant.specs.stage_tcap.specs.declared.refill.RefillAt.{RefillAt}
-use Rattle.count_invariant.specs.stage_tcap.specs.declared.refill.RefillAt.TheVariants.{Load, List as at_list, Compare, Again}
-use Rattle.count_invariant.specs.act_states.specs.Refills.{left_among, refilling, took_refill}
-use Rattle.count_invariant.specs.act_states.specs.declared.work.Act.TheVariants.{Refill as refill_act}
-use Rattle.count_invariant.specs.step_ways.proofs.Loads.{OnlyLooks, step_to, call_is, loads_on}
-use Rattle.count_invariant.specs.step_ways.proofs.Refusals.{GoodTook}
-use Rattle.pair_invariant.proofs.RefillEnds.{again_good}
-use Rattle.pair_invariant.proofs.RefillLoads.{load_good, list_good}
-use Rattle.pair_invariant.proofs.RefillWins.{compare_good}
-use Rattle.pair_invariant.proofs.ShareStarts.{IsNamed, tcap_named}
-use Rattle.count_invariant.specs.act_states.specs.call_plans.specs.PlanOf.{plan_for}
+use Rattle.count_invariant.specs.step_ways.proofs as low
+use low.{acts, IsTrue, ◌≡◌, ℕ, zero, suc, ◌<◌, map, List, [], ◌∷◌, Some, None, refl, sym, ◌∙◌, ap, subst, Capability, Setting, IsSetting}
+use low.{Call, Move, word_of, told_of, State, only, Found, named, Step, Trace, Open, phase, state_after, last_left, Carries, Name, Plan}
+use low.{plan_for, Leads, LeadsIn, names_after, GoesBy, own_pages, rule_of, of_kind, Acquired, Act, Undecided, act_begun, ActiveCall}
+use low.{landed, found_more, Core, holds_counts, due_of, NamesAre, phase_at, holds_in, Invariant, KnowsUndecided, WorksIn, Replenish}
+use low.{to_use, Refill as refill_act, OnlyLooks, step_to, call_is, loads_on, GoodTook, Kind}
+use Rattle.count_invariant.specs.act_states.specs.{Refill, RefillAt, Again, left_among, took_refill}
+use Rattle.count_invariant.specs.stage_tcap.specs.declared.refill.RefillAt.TheVariants.{Load, List as at_list, Compare}
+use Rattle.pair_invariant.proofs.{RefillEnds.again_good, RefillLoads.load_good, RefillLoads.list_good, RefillWins.compare_good}
+use Rattle.pair_invariant.proofs.{ShareStarts.IsNamed, ShareStarts.tcap_named}
+use Rattle.{count_invariant.specs.core_invariant.specs.Refills.RefillsBy, count_invariant.specs.stage_tcap.specs.Refilling.refill_move}
+use Rattle.{count_invariant.specs.act_states.specs.Refills.refilling}
 
 -- The name has led to this.
 record OneLed (s : State) (c x : ℕ) (ks : List Capability) : Type 0 where
   first : Capability
   only_it : ks ≡ first ∷ []
-  led : named s c x (to_use (only kind.Tcap)) ≡ Found first
+  led : named s c x (to_use (only Kind.Tcap)) ≡ Found first
 
-one_led : (s : State) (c x : ℕ) (ks : List Capability) → Leads (LeadsIn s c) (of_kind kind.Tcap x ∷ []) [] ks
-    → names_after (of_kind kind.Tcap x ∷ []) ks ≡ [] → OneLed s c x ks
+one_led : (s : State) (c x : ℕ) (ks : List Capability) → Leads (LeadsIn s c) (of_kind Kind.Tcap x ∷ []) [] ks
+    → names_after (of_kind Kind.Tcap x ∷ []) ks ≡ [] → OneLed s c x ks
 one_led s c x [] leads none = absurd (cc)
 one_led s c x (k ∷ []) leads none = record { first = k; only_it = refl; led = leads.0 }
 one_led s c x (k ∷ l ∷ ks) leads none = absurd (leads.1)
@@ -88,7 +78,7 @@ module _ (setup : Setting) (setting : IsSetting setup) (cores : ℕ → Core) (t
 
     pub refills_good : GoodTook setup cores t c move (landed (found_more a ks) (act_begun (cores c).own (Replenish x m) ks None None))
     refills_good =
-        let plan_names : (plan_for a.call).names ≡ of_kind kind.Tcap x ∷ [] =
+        let plan_names : (plan_for a.call).names ≡ of_kind Kind.Tcap x ∷ [] =
         ap (λ (p : Plan). p.names) (ap plan_for call_so) in
         let led = one_led s c x ks (subst (λ (ns : List Name). Leads (LeadsIn s c) ns [] ks) plan_names leads)
         (subst (λ (ns : List Name). names_after ns ks ≡ []) plan_names none) in

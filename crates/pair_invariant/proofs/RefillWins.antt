@@ -1,49 +1,38 @@
 -- The compare that finds the head as it was read, with a list that covers the grant: it puts the ticks into the budget, and the core has
 -- had so many more back.
-use Rattle.count_invariant.proofs.Common.{Want, ◌≡◌, ◌≢◌, inl, inr, ℕ, zero, suc, ◌+◌, ◌-◌, ◌^◌, ◌<◌, ◌≤◌, ◌==◌, Bool, true, false, List}
-use Rattle.count_invariant.proofs.Common.{[], ◌∷◌, length, Option, Some, None, arith, refl, sym, ◌∙◌, ap, subst, eqb-true, cases_eq}
-use Rattle.count_invariant.proofs.Common.{false≢true, All-nil, Setting, IsSetting, left_if, Capability, HeadFits, word_of_head}
-use Rattle.count_invariant.proofs.Common.{head_of_word, HeadWord, spelling, Word, EntryAt, FrameAt, CountAt, CoreAt, FlushAt, LiveAt}
-use Rattle.count_invariant.proofs.Common.{ClockAt, Move, left_of, Slot, own, Kernel, Tcap, TcapFields, PlaceOf, NumberOf, State, tcap_in}
-use Rattle.count_invariant.proofs.Common.{put, with_frame, thread_in, comp_in, thread_of, comp_of, first_of_stack, refs, frame_names, times}
-use Rattle.count_invariant.proofs.Common.{Found, IsFoundAnd, tcap_at, rule_of, change_of, changed, counted, MayReply, frame_refs, sum_one}
-use Rattle.count_invariant.proofs.Common.{core_same_refs, put_same, put_other, mark_of, mark_in_frame, head_mark, marked_by, frame_value}
-use Rattle.count_invariant.proofs.Common.{way_to, ways, HasReached, IsJustified, ends_in, flushes_in, stamp, Step, Trace, phase}
-use Rattle.count_invariant.proofs.Common.{state_after, last_left, state_decided_in, own_left, ok_first, decided-inside, leads_by, LeadsIn}
-use Rattle.count_invariant.proofs.Common.{own_pages, Own, own_changed, Act, Undecided, Decided, ActiveCall, landed, own_decided, Core}
-use Rattle.count_invariant.proofs.Common.{holds_counts, settled, IsFrameWord, WordIs, HasFound, own_in, KnowsUndecided, WorksIn, untypes}
-use Rattle.count_invariant.proofs.Common.{holds_in, holds, held_by, times_of, counted_in, Invariant, IsUntimed, plain_begins, plain_stamp}
-use Rattle.count_invariant.proofs.Common.{plain_flush, plain_exit, counted_refs, list_changed, TurnsHead, SparesTcap, limits_of, sums_keep}
-use Rattle.count_invariant.proofs.Common.{SameFor, ReadsAlike, StaysSaid, marks_own, word_stays, carry_marks, carry_words, others_settled}
-use Rattle.count_invariant.proofs.Common.{own_kept, TcapOf, counts_bare, not_exclusive_head_value, not_exclusive_head_word, exclusive_none}
-use Rattle.count_invariant.proofs.Common.{exclusive_free, Acquired, HeadIs, Open, Reply, phase_at, ends, flushes}
-use Rattle.std.proofs.Common.{IsSome, min}
-use Rattle.quality_lists.specs.Rank.{rank}
-use Rattle.quality_lists.specs.spk_nums.specs.declared.replies.Reply.TheVariants as reply
-use Rattle.quality_lists.specs.spk_nums.specs.declared.replies.Value.TheVariants as value
-use Rattle.kernel_laws.specs.kernel_rules.specs.State.{Core as CoreFields, with_core}
-use Rattle.kernel_laws.specs.kernel_rules.specs.CallRelation.{begins_in as begun_by}
-use Rattle.kernel_laws.specs.kernel_rules.specs.Edits.{given_back, with_tcap}
-use Rattle.count_invariant.proofs.Findings.{found_named, own_is, way_gone}
+use Rattle.count_invariant.specs.step_ways.proofs.{Want, ◌≡◌, ◌≢◌, inl, inr, ℕ, zero, suc, ◌+◌, ◌-◌, ◌^◌, ◌<◌, ◌≤◌, ◌==◌, Bool, true, false}
+use Rattle.count_invariant.specs.step_ways.proofs.{List, [], ◌∷◌, length, Option, Some, None, arith, refl, sym, ◌∙◌, ap, subst, eqb-true}
+use Rattle.count_invariant.specs.step_ways.proofs.{false≢true, Setting, IsSetting, left_if, Capability, HeadFits, word_of_head}
+use Rattle.count_invariant.specs.step_ways.proofs.{head_of_word, HeadWord, spelling, Word, EntryAt, FrameAt, CountAt, CoreAt, FlushAt}
+use Rattle.count_invariant.specs.step_ways.proofs.{LiveAt, ClockAt, Move, left_of, Slot, own, Kernel, Tcap, TcapFields, PlaceOf, NumberOf}
+use Rattle.count_invariant.specs.step_ways.proofs.{State, tcap_in, put, with_frame, thread_in, comp_in, thread_of, comp_of, first_of_stack}
+use Rattle.count_invariant.specs.step_ways.proofs.{refs, frame_names, times, Found, IsFoundAnd, tcap_at, rule_of, change_of, changed}
+use Rattle.count_invariant.specs.step_ways.proofs.{counted, MayReply, frame_refs, sum_one, core_same_refs, put_same, put_other, mark_of}
+use Rattle.count_invariant.specs.step_ways.proofs.{mark_in_frame, head_mark, marked_by, frame_value, way_to, ways, HasReached, IsJustified}
+use Rattle.count_invariant.specs.step_ways.proofs.{ends_in, flushes_in, stamp, Step, Trace, phase, state_after, last_left, state_decided_in}
+use Rattle.count_invariant.specs.step_ways.proofs.{own_left, ok_first, decided-inside, leads_by, LeadsIn, own_pages, Own, own_changed, Act}
+use Rattle.count_invariant.specs.step_ways.proofs.{Undecided, Decided, ActiveCall, landed, own_decided, Core, holds_counts, settled}
+use Rattle.count_invariant.specs.step_ways.proofs.{IsFrameWord, WordIs, HasFound, own_in, KnowsUndecided, WorksIn, untypes, holds_in, holds}
+use Rattle.count_invariant.specs.step_ways.proofs.{held_by, times_of, counted_in, Invariant, IsUntimed, plain_begins, plain_stamp}
+use Rattle.count_invariant.specs.step_ways.proofs.{plain_flush, plain_exit, counted_refs, list_changed, TurnsHead, SparesTcap, limits_of}
+use Rattle.count_invariant.specs.step_ways.proofs.{sums_keep, SameFor, ReadsAlike, StaysSaid, marks_own, word_stays, carry_marks}
+use Rattle.count_invariant.specs.step_ways.proofs.{others_settled, own_kept, TcapOf, counts_bare, not_exclusive_head_value}
+use Rattle.count_invariant.specs.step_ways.proofs.{not_exclusive_head_word, exclusive_none, exclusive_free, Acquired, HeadIs, Open, Reply}
+use Rattle.count_invariant.specs.step_ways.proofs.{phase_at, ends, flushes, IsSome, min, rank, begins_in, credited, took_refilled}
+use Rattle.count_invariant.specs.step_ways.proofs.{Refill as refill_act, Nothing as no_tail, Spared, SparesBlanks, next_at, inner}
+use Rattle.count_invariant.specs.step_ways.proofs.{decides_changing, GoodTook, not_spent, same_marks, plan_for, Value}
+use Rattle.count_invariant.specs.act_states.specs.{Core as CoreFields, begins_in as begun_by, refill_after, Refill, took_refill}
+use Rattle.count_invariant.proofs.{found_named, own_is, way_gone}
+use Rattle.count_invariant.specs.kernel_history.specs.{with_core, with_tcap}
+use Rattle.std.proofs.{lemmas.Bool.cases_eq, lemmas.List.Elements.All-nil}
+use Rattle.count_invariant.specs.kept_facts.proofs.WordFrames.{carry_words}
+use Rattle.count_invariant.specs.boot_words.specs.kernel_rules.specs.Edits.{given_back}
 use Rattle.count_invariant.specs.plan_ways.proofs.Ways.{all_ways}
-use Rattle.count_invariant.specs.kernel_history.specs.Stamps.{begins_in}
-use Rattle.count_invariant.specs.stage_tcap.specs.Heads.{credited}
-use Rattle.count_invariant.specs.stage_tcap.specs.Refilling.{refill_after, won}
-use Rattle.count_invariant.specs.stage_tcap.specs.declared.refill.Refill.{Refill}
-use Rattle.count_invariant.specs.stage_tcap.specs.declared.refill.RefillAt.TheVariants.{Compare}
-use Rattle.count_invariant.specs.act_states.specs.Refills.{took_refill, took_refilled}
+use Rattle.count_invariant.specs.stage_tcap.specs.{Refilling.won, declared.refill.RefillAt.TheVariants.Compare}
 use Rattle.count_invariant.specs.act_states.specs.declared.own.OwnChange.TheVariants.{GivesBack}
-use Rattle.count_invariant.specs.act_states.specs.declared.work.Act.TheVariants.{Refill as refill_act}
-use Rattle.count_invariant.specs.act_states.specs.declared.work.Tail.TheVariants.{Nothing as no_tail}
-use Rattle.count_invariant.specs.step_ways.proofs.Good.{Spared, SparesBlanks}
-use Rattle.count_invariant.specs.step_ways.proofs.Loads.{next_at, inner}
-use Rattle.count_invariant.specs.step_ways.proofs.OwnChanges.{decides_changing}
-use Rattle.count_invariant.specs.step_ways.proofs.Refusals.{GoodTook, not_spent}
-use Rattle.count_invariant.specs.step_ways.proofs.Writes.{same_marks}
-use Rattle.pair_invariant.proofs.RefillCalls as calls
 use Rattle.pair_invariant.proofs.RefillEnds.{compare, of_call, compare_lost}
+use Rattle.pair_invariant.proofs.RefillCalls as calls
 use Rattle.pair_invariant.proofs.RefillLists as lists
-use Rattle.count_invariant.specs.act_states.specs.call_plans.specs.PlanOf.{plan_for}
 
 -- A core that has counted one call more.
 abbrev one_more : CoreFields → CoreFields
@@ -106,7 +95,7 @@ module _ (setup : Setting) (setting : IsSetting setup) (cores : ℕ → Core) (t
     more = credited r.head r.ticks
 
     abbrev done : Reply
-    done = reply.Ok value.Nothing
+    done = Reply.Ok Value.Nothing
 
     abbrev e_won : Step
     e_won = inner setup setting cores t stands c here a active giving (Some done) None
@@ -407,7 +396,7 @@ module _ (setup : Setting) (setting : IsSetting setup) (cores : ℕ → Core) (t
     permitted_won : MayReply s c a.call done
     permitted_won = (
       not_spent setup (cores c) t c (stands.each c here) room,
-      (has.acts, subst (λ x. IsFoundAnd x (λ y. y.value ≡ value.Nothing)) (sym found_is) refl),
+      (has.acts, subst (λ x. IsFoundAnd x (λ y. y.value ≡ Value.Nothing)) (sym found_is) refl),
     )
 
     -- the call has stepped on each place through which its name is reached
@@ -455,7 +444,7 @@ module _ (setup : Setting) (setting : IsSetting setup) (cores : ℕ → Core) (t
         (free_of (CountAt g d)) refl)
         plain_won limits_won refs_won stands.sums)
         (record { call = a.call; is_open = is_open; permitted = permitted_won; justified = reached_all })
-        (λ is_alone. ok_first s c a.call value.Nothing permitted_won)
+        (λ is_alone. ok_first s c a.call Value.Nothing permitted_won)
         tt
 
   -- the compare, whatever it finds

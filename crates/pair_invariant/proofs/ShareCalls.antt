@@ -1,30 +1,17 @@
 -- What a call on two temporal capabilities knows of its rule: what is left of it after its names, and what refuses it.
-use Rattle.count_invariant.proofs.Common.{◌≡◌, ◌≢◌, ℕ, ◌<◌, ◌==◌, ◌&&◌, ◌||◌, true, false, List, [], ◌∷◌, Some, None, map, refl, sym, ◌∙◌}
-use Rattle.count_invariant.proofs.Common.{ap, subst, eq-eqb, ne_eqb, Setting, IsSetting, Capability, Call, Kind, Reply, Thing, State}
-use Rattle.count_invariant.proofs.Common.{Named, found, named_by, Change, Cause, Does, RuleMay, outcome, unless}
-use Rattle.count_invariant.proofs.Common.{first_cause, tcap_at, is_short, are_unlike, are_many, rule_of, change_of, ends_by}
-use Rattle.count_invariant.proofs.Common.{flushes_by, changes_budgets, is_one_of, footprint_frames, Trace, Open, phase, state_after, First}
-use Rattle.count_invariant.proofs.Common.{Second, at_place, plan_for, GoesBy, own_pages, rule_after, Leads, LeadsIn, leads_by}
-use Rattle.count_invariant.proofs.Common.{outcome_left, left_may, calls_go, Acquired, Pair, PairWork, Act, Undecided, ActiveCall}
-use Rattle.count_invariant.proofs.Common.{StageFits, HasRoom, Core, holds_counts, due_of, KnowsUndecided, phase_at, HasFound, own_in}
-use Rattle.count_invariant.proofs.Common.{SharesBy, holds_share, holds_at, holds_in, Invariant, TcapOf}
-use Rattle.quality_lists.specs.spk_nums.specs.declared.calls.Call.TheVariants as call_as
-use Rattle.quality_lists.specs.spk_nums.specs.declared.kinds.Kind.TheVariants as kind
-use Rattle.kernel_laws.specs.kernel_rules.specs.TimeCalls.{merged_list, are_same, preemption, preempts}
-use Rattle.kernel_laws.specs.kernel_rules.specs.Edits.{Edit, Move, Merge}
-use Rattle.count_invariant.specs.call_plans.specs.declared.plans.Nth.{Nth}
-use Rattle.count_invariant.proofs.Findings.{found_named}
-use Rattle.count_invariant.specs.plan_ways.proofs.InFootprint.{footprint_found}
-use Rattle.count_invariant.specs.stage_tcap.specs.Pairs.{PairFits}
+use Rattle.count_invariant.specs.step_ways.proofs as low
+use low.{◌≡◌, ◌≢◌, ℕ, ◌<◌, ◌==◌, ◌&&◌, ◌||◌, true, false, List, [], ◌∷◌, Some, None, map, refl, sym, ◌∙◌, ap, subst, eq-eqb, ne_eqb}
+use low.{Setting, IsSetting, Capability, Call, Kind, Reply, Thing, State, Named, found, named_by, Change, Cause, Does, RuleMay, outcome}
+use low.{unless, first_cause, tcap_at, is_short, are_unlike, are_many, rule_of, change_of, ends_by, flushes_by, changes_budgets, is_one_of}
+use low.{footprint_frames, Trace, Open, phase, state_after, First, Second, at_place, plan_for, GoesBy, own_pages, rule_after, Leads}
+use low.{LeadsIn, leads_by, outcome_left, left_may, calls_go, Acquired, Pair, PairWork, Act, Undecided, ActiveCall, StageFits, HasRoom}
+use low.{Core, holds_counts, due_of, KnowsUndecided, phase_at, HasFound, own_in, SharesBy, holds_share, holds_at, holds_in, Invariant}
+use low.{TcapOf, Edit, Share as share_act, call_is, is_active, Value, does}
+use Rattle.count_invariant.specs.boot_words.specs.kernel_rules.specs.{merged_list, are_same, preemption, preempts, Move, Merge, Nothing}
 use Rattle.count_invariant.specs.stage_tcap.specs.declared.pair.PairWork.TheVariants.{Transfer, Delegate, Test}
-use Rattle.count_invariant.specs.act_states.specs.declared.work.Act.TheVariants.{Share as share_act}
-use Rattle.count_invariant.specs.core_invariant.specs.Shares.{IsShared}
-use Rattle.count_invariant.specs.step_ways.proofs.Loads.{call_is, is_active}
-use Rattle.count_invariant.specs.kept_facts.proofs.Tcaps.{tcap_of}
-use Rattle.kernel_laws.specs.spk_nums.specs.declared.replies.Value.{Value}
-use Rattle.kernel_laws.specs.spk_nums.specs.declared.replies.Value.TheVariants.{Nothing}
-use Rattle.kernel_laws.specs.kernel_rules.specs.Rules.{does}
-use Rattle.count_invariant.specs.call_plans.specs.PlanOf.{plan_for}
+use Rattle.{count_invariant.specs.call_plans.specs.declared.plans.Nth.Nth, count_invariant.proofs.Findings.found_named}
+use Rattle.{count_invariant.specs.plan_ways.proofs.InFootprint.footprint_found, count_invariant.specs.stage_tcap.specs.Pairs.PairFits}
+use Rattle.{count_invariant.specs.core_invariant.specs.Shares.IsShared, count_invariant.specs.kept_facts.proofs.Tcaps.tcap_of}
 
 -- What refuses such a call after its names, in order, what it answers, and its edits.
 abbrev pub causes_of : State → PairWork → Named → Named → List Cause
@@ -57,7 +44,7 @@ pub record IsShare (s : State) (c : ℕ) (call : Call) (ks : List Capability) (p
   pub flush_none : flushes_by call ≡ false
 
 pub share_of : (s : State) (c : ℕ) (call : Call) (ks : List Capability) (p : Pair) → SharesBy call ks p → IsShare s c call ks p
-share_of s c (call_as.Transfer x y m) (a ∷ b ∷ []) p is = record {
+share_of s c (Call.Transfer x y m) (a ∷ b ∷ []) p is = record {
   a = a;
   b = b;
   found_is = refl;
@@ -75,7 +62,7 @@ share_of s c (call_as.Transfer x y m) (a ∷ b ∷ []) p is = record {
   ends_none = λ x. refl;
   flush_none = refl;
 }
-share_of s c (call_as.Delegate x y m) (a ∷ b ∷ []) p is = record {
+share_of s c (Call.Delegate x y m) (a ∷ b ∷ []) p is = record {
   a = a;
   b = b;
   found_is = refl;
@@ -93,7 +80,7 @@ share_of s c (call_as.Delegate x y m) (a ∷ b ∷ []) p is = record {
   ends_none = λ x. refl;
   flush_none = refl;
 }
-share_of s c (call_as.Test x y) (a ∷ b ∷ []) p is = record {
+share_of s c (Call.Test x y) (a ∷ b ∷ []) p is = record {
   a = a;
   b = b;
   found_is = refl;
@@ -115,7 +102,7 @@ share_of s c call ks p is = absurd is
 
 -- A frame to which a name has led is in the call's footprint.
 pub name_footprint : (s : State) (c : ℕ) (call : Call) (ks : List Capability) → Leads (LeadsIn s c) (plan_for call).names [] ks
-    → (at : Nth) (k : Capability) → at_place ks at ≡ Some k → k.kind ≡ kind.Tcap → (f : ℕ) → f ≡ k.frame
+    → (at : Nth) (k : Capability) → at_place ks at ≡ Some k → k.kind ≡ Kind.Tcap → (f : ℕ) → f ≡ k.frame
     → is_one_of f (footprint_frames s c call) ≡ true
 name_footprint s c call ks leads at k is kind_is f frame_is =
     footprint_found s c call ks leads at k is f

@@ -1,27 +1,17 @@
 -- A call on two temporal capabilities begins where its names have led to them.
-use Rattle.count_invariant.proofs.Common.{acts, IsTrue}
-use Rattle.count_invariant.proofs.Common.{◌≡◌, inl, ℕ, ◌<◌, ◌==◌, map, Bool, true, false, if◌then◌else◌, List, [], ◌∷◌, Some, None, refl}
-use Rattle.count_invariant.proofs.Common.{sym, ◌∙◌, ap, subst, eqb-false, Capability, Setting, IsSetting, Kind, Call, Transfer, Delegate}
-use Rattle.count_invariant.proofs.Common.{Test, Move, word_of, State, only, named_by, Found, Refused, Does, RuleMay, named, outcome}
-use Rattle.count_invariant.proofs.Common.{unless, first_of, first_cause, rule_of, named_fit, suits, only_is, opened, name_parts}
-use Rattle.count_invariant.proofs.Common.{events_of, IsLegal, Step, Trace, Open, phase, state_after, last_left, refused_first, Carries}
-use Rattle.count_invariant.proofs.Common.{sound_of, opened_is, guarded_usable, Name, Plan, rule_after, Leads, LeadsIn, names_after}
-use Rattle.count_invariant.proofs.Common.{GoesBy, own_pages, plan_for, of_kind, outcome_left, left_may, Acquired, Pair, PairWork, Act}
-use Rattle.count_invariant.proofs.Common.{act_begun, Undecided, ActiveCall, landed, found_more, Core, holds_counts, due_of, NamesAre}
-use Rattle.count_invariant.proofs.Common.{phase_at, HasTcap, SharesBy, holds_in, Invariant, are_calls_spent, are_many, are_unlike}
-use Rattle.count_invariant.proofs.Common.{is_short}
-use Rattle.quality_lists.specs.spk_nums.specs.declared.kinds.Kind.TheVariants as kind
-use Rattle.quality_lists.specs.spk_nums.specs.declared.replies.Reply.TheVariants as reply
-use Rattle.kernel_laws.specs.kernel_rules.specs.Access.{Want, to_use, found as named_by_found}
-use Rattle.kernel_laws.specs.kernel_rules.specs.Rules.{of_kind as has_kind}
-use Rattle.count_invariant.specs.stage_tcap.specs.declared.pair.PairWork.TheVariants as share
-use Rattle.count_invariant.specs.act_states.specs.declared.work.Act.TheVariants.{Share as share_act}
-use Rattle.count_invariant.specs.act_states.specs.Shares.{sharing, shares_if}
-use Rattle.count_invariant.specs.core_invariant.specs.Shares.{IsShared}
-use Rattle.count_invariant.specs.step_ways.proofs.Loads.{OnlyLooks, step_to, call_is, core_is, loads_on, decides_on}
-use Rattle.count_invariant.specs.step_ways.proofs.Refusals.{GoodTook, not_spent}
+use Rattle.count_invariant.specs as low
+use low.step_ways.proofs.{acts, IsTrue, ◌≡◌, inl, ℕ, ◌<◌, ◌==◌, map, Bool, true, false, if◌then◌else◌, List, [], ◌∷◌, Some, None, refl, sym}
+use low.step_ways.proofs.{◌∙◌, ap, subst, eqb-false, Capability, Setting, IsSetting, Kind, Call, Transfer, Delegate, Test, Move, word_of}
+use low.step_ways.proofs.{State, only, named_by, Found, Refused, Does, RuleMay, named, outcome, unless, first_of, first_cause, rule_of}
+use low.step_ways.proofs.{named_fit, suits, only_is, opened, name_parts, events_of, IsLegal, Step, Trace, Open, phase, state_after}
+use low.step_ways.proofs.{last_left, refused_first, Carries, sound_of, opened_is, Name, Plan, rule_after, Leads, LeadsIn, names_after}
+use low.step_ways.proofs.{GoesBy, own_pages, plan_for, of_kind, outcome_left, left_may, Acquired, Pair, PairWork, Act, act_begun, Undecided}
+use low.step_ways.proofs.{ActiveCall, landed, found_more, Core, holds_counts, due_of, NamesAre, phase_at, HasTcap, SharesBy, holds_in}
+use low.step_ways.proofs.{Invariant, are_calls_spent, are_many, are_unlike, is_short, Want, to_use, found as named_by_found}
+use low.step_ways.proofs.{Share as share_act, OnlyLooks, step_to, call_is, core_is, loads_on, decides_on, GoodTook, not_spent, Reply}
 use Rattle.pair_invariant.proofs.ShareCalls.{causes_of, value_by, edits_by, change_by}
-use Rattle.count_invariant.specs.act_states.specs.call_plans.specs.PlanOf.{plan_for}
+use low.{trace_laws.proofs.Stays.guarded_usable, boot_words.specs.kernel_rules.specs.Rules.of_kind as has_kind}
+use low.{act_states.specs.Shares.sharing, act_states.specs.Shares.shares_if, core_invariant.specs.Shares.IsShared}
 
 -- What a name leads to is of a wanted kind, and is what was found.
 same_found : (wanted : Want) (j k : Capability) → has_kind wanted j ≡ Found k → (j ≡ k) × (wanted.kinds k.kind ≡ true)
@@ -31,20 +21,20 @@ same_found wanted j k h =
 
 -- A temporal capability that an open call has named is there, and no other core may retype it.
 pub record IsNamed (s : State) (c : ℕ) (k : Capability) : Type 0 where
-  pub kind_is : k.kind ≡ kind.Tcap
+  pub kind_is : k.kind ≡ Kind.Tcap
   pub tcap : HasTcap s c k.frame
 
 pub tcap_named : (setup : Setting) → IsSetting setup → (t : Trace) → IsLegal setup t → (c : ℕ) (call : Call) → phase t c ≡ Open call
-    → (n : ℕ) (k : Capability) → named (state_after setup t) c n (to_use (only kind.Tcap)) ≡ Found k → IsNamed (state_after setup t) c k
+    → (n : ℕ) (k : Capability) → named (state_after setup t) c n (to_use (only Kind.Tcap)) ≡ Found k → IsNamed (state_after setup t) c k
 tcap_named setup setting t legal c call is n k found =
     let s : State = state_after setup t in
-    let parts = name_parts s c n (to_use (only kind.Tcap)) k found in
-    let same = same_found (to_use (only kind.Tcap)) parts.2 k parts.4 in
-    let kind_is : k.kind ≡ kind.Tcap = only_is kind.Tcap k.kind same.1 in
+    let parts = name_parts s c n (to_use (only Kind.Tcap)) k found in
+    let same = same_found (to_use (only Kind.Tcap)) parts.2 k parts.4 in
+    let kind_is : k.kind ≡ Kind.Tcap = only_is Kind.Tcap k.kind same.1 in
     record {
       kind_is = kind_is;
       tcap = record {
-        tcap = named_fit s (opened (events_of t)) c n kind.Tcap k (sound_of setup setting t legal) (opened_is t c call is) found;
+        tcap = named_fit s (opened (events_of t)) c n Kind.Tcap k (sound_of setup setting t legal) (opened_is t c call is) found;
         guarded = guarded_usable setup setting t legal c call is parts.0 k
             (ap (λ (j : Kind). named_by j k.frame) kind_is)
             (parts.3 ∙ ap (λ (j : Capability). Some j) same.0);
@@ -56,11 +46,11 @@ record TwoLed (s : State) (c x y : ℕ) (ks : List Capability) : Type 0 where
   first : Capability
   second : Capability
   both : ks ≡ first ∷ second ∷ []
-  first_led : named s c x (to_use (only kind.Tcap)) ≡ Found first
-  second_led : named s c y (to_use (only kind.Tcap)) ≡ Found second
+  first_led : named s c x (to_use (only Kind.Tcap)) ≡ Found first
+  second_led : named s c y (to_use (only Kind.Tcap)) ≡ Found second
 
 abbrev two_names : ℕ → ℕ → List Name
-two_names x y = of_kind kind.Tcap x ∷ of_kind kind.Tcap y ∷ []
+two_names x y = of_kind Kind.Tcap x ∷ of_kind Kind.Tcap y ∷ []
 
 two_led : (s : State) (c x y : ℕ) (ks : List Capability) → Leads (LeadsIn s c) (two_names x y) [] ks → names_after (two_names x y) ks ≡ []
     → TwoLed s c x y ks
@@ -95,24 +85,24 @@ module _ (setup : Setting) (setting : IsSetting setup) (cores : ℕ → Core) (t
     -- the causes of each begin with `same`
     same_may : (w : PairWork) → (j.frame == k.frame) ≡ true
         → RuleMay s c (Does (causes_of s w (named_by_found j) (named_by_found k)) (value_by s w j.frame k.frame)
-        (edits_by s w j.frame k.frame)) reply.Same
-    same_may (share.Transfer m) same = inl (same, refl)
-    same_may (share.Delegate m) same = inl (same, refl)
-    same_may share.Test same = inl (same, refl)
+        (edits_by s w j.frame k.frame)) Reply.Same
+    same_may (PairWork.Transfer m) same = inl (same, refl)
+    same_may (PairWork.Delegate m) same = inl (same, refl)
+    same_may PairWork.Test same = inl (same, refl)
 
     same_first : (w : PairWork) → (j.frame == k.frame) ≡ true
         → unless (first_cause s c (causes_of s w (named_by_found j) (named_by_found k))) (change_by c s w j.frame k.frame)
-        ≡ Refused reply.Same
-    same_first (share.Transfer m) same = ap (λ b. unless (first_of (if b then Some reply.Same else None)
+        ≡ Refused Reply.Same
+    same_first (PairWork.Transfer m) same = ap (λ b. unless (first_of (if b then Some Reply.Same else None)
         (first_cause s c (is_short s (named_by_found j) m
         ∷ are_unlike s (named_by_found j) (named_by_found k) ∷ [])))
-        (change_by c s (share.Transfer m) j.frame k.frame)) same
-    same_first (share.Delegate m) same = ap (λ b. unless (first_of (if b then Some reply.Same else None)
+        (change_by c s (PairWork.Transfer m) j.frame k.frame)) same
+    same_first (PairWork.Delegate m) same = ap (λ b. unless (first_of (if b then Some Reply.Same else None)
         (first_cause s c (is_short s (named_by_found j) m
         ∷ are_many s (named_by_found j) (named_by_found k) ∷ [])))
-        (change_by c s (share.Delegate m) j.frame k.frame)) same
-    same_first share.Test same =
-        ap (λ b. unless (first_of (if b then Some reply.Same else None) None) (change_by c s share.Test j.frame k.frame)) same
+        (change_by c s (PairWork.Delegate m) j.frame k.frame)) same
+    same_first PairWork.Test same =
+        ap (λ b. unless (first_of (if b then Some Reply.Same else None) None) (change_by c s PairWork.Test j.frame k.frame)) same
 
     abbrev Begins : Bool → Type 0
     Begins same = GoodTook setup cores t c move
@@ -123,13 +113,13 @@ module _ (setup : Setting) (setting : IsSetting setup) (cores : ℕ → Core) (t
 
     refused : (j.frame == k.frame) ≡ true → Begins true
     refused same lands =
-        decides_on setup setting cores t stands c here a active move reply.Same (j ∷ k ∷ []) looks lands
+        decides_on setup setting cores t stands c here a active move Reply.Same (j ∷ k ∷ []) looks lands
         (sym held_is) opens refl refl (λ x. refl) (λ x. refl) refl (
           unspent,
-          left_may s c (own_pages s c) (plan_for a.call) (rule_of s c a.call) (j ∷ k ∷ []) by_plan leads reply.Same
-              (subst (λ x. RuleMay s c x reply.Same) (sym left) (same_may what same)),
+          left_may s c (own_pages s c) (plan_for a.call) (rule_of s c a.call) (j ∷ k ∷ []) by_plan leads Reply.Same
+              (subst (λ x. RuleMay s c x Reply.Same) (sym left) (same_may what same)),
         ) tt
-        (λ is_alone. refused_first s c a.call reply.Same may_act unspent
+        (λ is_alone. refused_first s c a.call Reply.Same may_act unspent
         (outcome_left s c (own_pages s c) (plan_for a.call) (rule_of s c a.call) (j ∷ k ∷ []) by_plan leads
         ∙ ap (outcome s c) left ∙ same_first what same))
 
@@ -205,13 +195,13 @@ module _ (setup : Setting) (setting : IsSetting setup) (cores : ℕ → Core) (t
     pub transfers_good : (m : ℕ) → a.call ≡ Transfer x y m
         → GoodTook setup cores t c move (landed (found_more a ks) (act_begun (cores c).own (Transfer x y m) ks None None))
     transfers_good m is =
-        starts (Transfer x y m) is ks leads none names x y (share.Transfer m) refl (λ j k. refl) (λ j k. refl) (λ j k p h. h)
+        starts (Transfer x y m) is ks leads none names x y (PairWork.Transfer m) refl (λ j k. refl) (λ j k. refl) (λ j k p h. h)
 
     pub delegates_good : (m : ℕ) → a.call ≡ Delegate x y m
         → GoodTook setup cores t c move (landed (found_more a ks) (act_begun (cores c).own (Delegate x y m) ks None None))
     delegates_good m is =
-        starts (Delegate x y m) is ks leads none names x y (share.Delegate m) refl (λ j k. refl) (λ j k. refl) (λ j k p h. h)
+        starts (Delegate x y m) is ks leads none names x y (PairWork.Delegate m) refl (λ j k. refl) (λ j k. refl) (λ j k p h. h)
 
     pub tests_good : a.call ≡ Test x y
         → GoodTook setup cores t c move (landed (found_more a ks) (act_begun (cores c).own (Test x y) ks None None))
-    tests_good is = starts (Test x y) is ks leads none names x y share.Test refl (λ j k. refl) (λ j k. refl) (λ j k p h. h)
+    tests_good is = starts (Test x y) is ks leads none names x y PairWork.Test refl (λ j k. refl) (λ j k. refl) (λ j k p h. h)

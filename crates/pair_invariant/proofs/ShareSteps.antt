@@ -1,30 +1,23 @@
 -- What the words of two temporal capabilities say, and the ways in which a call on them goes on by a load, or is decided by one.
-use Rattle.count_invariant.proofs.Common.{◌≡◌, inl, inr, ℕ, suc, ◌+◌, ◌<◌, Bool, true, false, if◌then◌else◌, List, [], ◌∷◌}
-use Rattle.count_invariant.proofs.Common.{Some, None, IsTrue, map, slice_get, arith, refl, sym, ◌∙◌, ap, subst, ne_eqb, Setting}
-use Rattle.count_invariant.proofs.Common.{IsSetting, Capability, Call, Reply, Value, HeadFits, word_of_head, head_of_word}
-use Rattle.count_invariant.proofs.Common.{quality_of_word, HeadWord, spelling, Word, EntryAt, Move, LoadOf, word_of, left_of, same_same}
-use Rattle.count_invariant.proofs.Common.{Kernel, Tcap, TcapFields, PlaceOf, Thing, State, IsGuarded, state_by, begins, ends, flushes}
-use Rattle.count_invariant.proofs.Common.{counted, MayReply, calls_counted, alone}
-use Rattle.count_invariant.proofs.Common.{IsAlone, IsInFootprint, is_one_of, footprint_frames, IsJustified}
-use Rattle.count_invariant.proofs.Common.{mark_of, mark_in_frame, head_mark, marked_by, stamp, Step, Trace, Open, phase, state_after}
-use Rattle.count_invariant.proofs.Common.{last_left, state_decided_in, WasAt, was_stays, marked, Pair, StoreA, PairWork, Acquired, Act}
-use Rattle.count_invariant.proofs.Common.{Goes, Undecided, Decided, ActiveCall, landed, Core, holds_counts, settled_by, settled, HeadIs}
-use Rattle.count_invariant.proofs.Common.{IsFrameWord, due_of, KnowsUndecided, phase_at, HasTcap, HasMarkedA, SharesBy}
-use Rattle.count_invariant.proofs.Common.{KnowsPairAt, KnowsShared, holds_share, holds_in, held_by, Invariant}
-use Rattle.count_invariant.proofs.Common.{names_on, counted_refs, not_exclusive_head_value, marked_on, done_by, holds_head, holds_shared}
-use Rattle.count_invariant.proofs.Common.{KnowsStoresAt, list_changed}
-use Rattle.quality_lists.specs.spk_nums.specs.declared.calls.Call.TheVariants as call_as
-use Rattle.count_invariant.specs.stage_tcap.specs.declared.pair.PairWork.TheVariants as share
-use Rattle.count_invariant.specs.act_states.specs.declared.work.Act.TheVariants.{Share as share_act}
+use Rattle.count_invariant.specs.step_ways.proofs.{◌≡◌, inl, inr, ℕ, suc, ◌+◌, ◌<◌, Bool, true, false, if◌then◌else◌, List, [], ◌∷◌, Some}
+use Rattle.count_invariant.specs.step_ways.proofs.{None, IsTrue, map, slice_get, arith, refl, sym, ◌∙◌, ap, subst, ne_eqb, Setting}
+use Rattle.count_invariant.specs.step_ways.proofs.{IsSetting, Capability, Call, Reply, Value, HeadFits, word_of_head, head_of_word}
+use Rattle.count_invariant.specs.step_ways.proofs.{quality_of_word, HeadWord, spelling, Word, EntryAt, Move, LoadOf, word_of, left_of}
+use Rattle.count_invariant.specs.step_ways.proofs.{same_same, Kernel, Tcap, TcapFields, PlaceOf, Thing, State, IsGuarded, state_by, begins}
+use Rattle.count_invariant.specs.step_ways.proofs.{ends, flushes, counted, MayReply, calls_counted, alone, IsAlone, IsInFootprint}
+use Rattle.count_invariant.specs.step_ways.proofs.{is_one_of, footprint_frames, IsJustified, mark_of, mark_in_frame, head_mark, marked_by}
+use Rattle.count_invariant.specs.step_ways.proofs.{stamp, Step, Trace, Open, phase, state_after, last_left, state_decided_in, WasAt}
+use Rattle.count_invariant.specs.step_ways.proofs.{was_stays, marked, Pair, StoreA, PairWork, Acquired, Act, Goes, Undecided, Decided}
+use Rattle.count_invariant.specs.step_ways.proofs.{ActiveCall, landed, Core, holds_counts, settled_by, settled, HeadIs, IsFrameWord, due_of}
+use Rattle.count_invariant.specs.step_ways.proofs.{KnowsUndecided, phase_at, HasTcap, SharesBy, KnowsPairAt, holds_share, holds_in, held_by}
+use Rattle.count_invariant.specs.step_ways.proofs.{Invariant, names_on, counted_refs, not_exclusive_head_value, done_by, holds_head}
+use Rattle.count_invariant.specs.step_ways.proofs.{holds_shared, KnowsStoresAt, list_changed, Share as share_act, OnlyLooks, Lands, step_to}
+use Rattle.count_invariant.specs.step_ways.proofs.{next_at, core_in_call, inner, loads_on, decides_with, GoodTook, IsGood, plan_for}
+use Rattle.count_invariant.specs.core_invariant.specs.{HasMarkedA, KnowsShared, IsShared}
+use Rattle.count_invariant.specs.kept_facts.proofs.{Pairs.marked_on, Exclusive.not_exclusive_list_value}
 use Rattle.count_invariant.specs.act_states.specs.declared.work.Tail.TheVariants.{Share as share_tail}
-use Rattle.count_invariant.specs.core_invariant.specs.Shares.{IsShared}
 use Rattle.count_invariant.specs.core_invariant.proofs.ActBares.{open_bare}
-use Rattle.count_invariant.specs.kept_facts.proofs.Exclusive.{not_exclusive_list_value}
-use Rattle.count_invariant.specs.step_ways.proofs.Loads.{OnlyLooks, Lands, step_to, next_at, core_in_call, inner, loads_on, decides_with}
-use Rattle.count_invariant.specs.step_ways.proofs.Refusals.{GoodTook}
 use Rattle.pair_invariant.proofs.ShareCalls as calls
-use Rattle.count_invariant.specs.step_ways.proofs.Good.{IsGood}
-use Rattle.count_invariant.specs.act_states.specs.call_plans.specs.PlanOf.{plan_for}
 
 -- Which call it is does not depend on how far it has come.
 shared_same : (a b : Capability) (what : PairWork) (p q : Pair) → q.a ≡ p.a → q.b ≡ p.b → q.what ≡ p.what → IsShared a b what p
@@ -40,9 +33,9 @@ shared_same a b what p q first second work is = record {
 
 pub shares_same : (call : Call) (ks : List Capability) (p q : Pair) → q.a ≡ p.a → q.b ≡ p.b → q.what ≡ p.what → SharesBy call ks p
     → SharesBy call ks q
-shares_same (call_as.Transfer x y m) (a ∷ b ∷ []) p q first second work is = shared_same a b (share.Transfer m) p q first second work is
-shares_same (call_as.Delegate x y m) (a ∷ b ∷ []) p q first second work is = shared_same a b (share.Delegate m) p q first second work is
-shares_same (call_as.Test x y) (a ∷ b ∷ []) p q first second work is = shared_same a b share.Test p q first second work is
+shares_same (Call.Transfer x y m) (a ∷ b ∷ []) p q first second work is = shared_same a b (PairWork.Transfer m) p q first second work is
+shares_same (Call.Delegate x y m) (a ∷ b ∷ []) p q first second work is = shared_same a b (PairWork.Delegate m) p q first second work is
+shares_same (Call.Test x y) (a ∷ b ∷ []) p q first second work is = shared_same a b PairWork.Test p q first second work is
 shares_same call ks p q first second work is = absurd is
 
 -- What holds now is at a moment of an open call.

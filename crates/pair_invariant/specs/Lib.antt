@@ -1,9 +1,9 @@
 -- What the crates above name through this one.
-pub use Rattle.quality_lists.specs.spk_nums
+pub use Rattle.count_invariant.specs.quality_lists.specs.spk_nums
 pub use Rattle.count_invariant.specs.tcap_words
 pub use Rattle.count_invariant.specs.word_map
-pub use Rattle.kernel_laws.specs.kernel_rules
-pub use Rattle.kernel_laws
+pub use Rattle.count_invariant.specs.kernel_laws.specs.kernel_rules
+pub use Rattle.count_invariant.specs.kernel_laws
 pub use Rattle.count_invariant.specs.kernel_history
 pub use Rattle.count_invariant.specs.trace_laws
 pub use Rattle.count_invariant.specs.stage_pins

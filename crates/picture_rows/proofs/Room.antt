@@ -1,10 +1,6 @@
 -- A page that is not full has room for a step, and for the call that begins with it.
-use Rattle.std.proofs.Common.{◌≡◌, ◌+◌, ◌<◌, ◌≤◌, cond, Bool, true, false, ℕ, List, refl, arith}
-use Rattle.std.specs.Prelude.{◌||◌, ◌&&◌, nat_le}
-use Rattle.std.proofs.lemmas.Bool.{leb-false}
-use Rattle.picture_rows.specs.declared.rows.Placed.{Placed}
-use Rattle.picture_rows.specs.declared.rows.Rows.{Rows}
-use Rattle.picture_rows.specs.Rows.{is_full, calls_after, no_rows}
+use Rattle.std.proofs.Common.{◌≡◌, ◌+◌, ◌<◌, ◌≤◌, cond, Bool, true, false, ℕ, List, refl, arith, ◌||◌, ◌&&◌, nat_le, leb-false}
+use Rattle.picture_rows.specs.{is_full, no_rows, declared.rows.Placed.Placed, declared.rows.Rows.Rows, Rows.calls_after}
 
 left : (a b : Bool) → (a || b) ≡ false → a ≡ false
 left true b e = e

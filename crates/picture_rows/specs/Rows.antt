@@ -1,9 +1,7 @@
 -- The rows of a page: how many steps and calls it has room for, and the heights of its steps, in pixels: each is the greatest that a rule
 -- asks for.
-use Rattle.std.specs.Prelude.{ℕ, ◌+◌, ◌*◌, ◌≤◌, max, nat_lt, nat_le, ◌&&◌, ◌||◌, Bool, if◌then◌else◌, List}
-use Rattle.std.specs.Prelude.{slice_index_or, slice_set, All}
-use Rattle.picture_rows.specs.declared.rows.Placed.{Placed}
-use Rattle.picture_rows.specs.declared.rows.Rows.{Rows}
+use Rattle.std.specs.Prelude.{ℕ, ◌+◌, ◌*◌, ◌≤◌, max, nat_lt, nat_le, ◌&&◌, ◌||◌, Bool, if◌then◌else◌, List, slice_index_or, slice_set, All}
+use Rattle.picture_rows.specs.{declared.rows.Placed.Placed, declared.rows.Rows.Rows}
 
 -- A page has room for 2,000 steps, and for 60 calls: it is full for each step more, and for one that enters a 61st call.
 abbrev pub is_full : Rows → Bool → Bool

@@ -1,8 +1,7 @@
 -- The marks of decisions, and the lines of the history with what leads to them. The middle of a step at height y is 1 below that.
 use Rattle.std.specs.Prelude.{ℕ, ◌+◌, ◌-◌, List, ◌++◌, codes, decimal}
-use Rattle.picture_shapes.specs.declared.lines.Outcome.{Outcome}
 use Rattle.picture_shapes.specs.declared.lines.Outcome.TheVariants.{Done, Refused, InTheWay}
-use Rattle.picture_shapes.specs.Frame.{lane_x, right_x}
+use Rattle.{picture_shapes.specs.declared.lines.Outcome.Outcome, picture_shapes.specs.Frame.lane_x, picture_shapes.specs.Frame.right_x}
 
 -- The dotted line from the lanes to a text.
 unfoldable pub lead_to : ℕ → ℕ → List ℕ

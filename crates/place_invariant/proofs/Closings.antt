@@ -1,37 +1,26 @@
 -- The entry of a removal is closed and given back: the compare that marks it is lost to another core or holds it for the call, and the
 -- store of a decided removal leaves the quiescing entry for which it stood.
-use Rattle.count_invariant.proofs.Common.{as_none, counts_bare, not_exclusive_value, not_exclusive_word, node_keeps_none}
-use Rattle.count_invariant.proofs.Common.{exclusive_free, ◌≡◌, ◌≢◌, inl, inr}
-use Rattle.count_invariant.proofs.Common.{ℕ, ◌^◌, ◌<◌, ◌==◌, ◌∷◌, [], Bool, true, false, List, Option, Some, None, arith, refl, sym, ◌∙◌}
-use Rattle.count_invariant.proofs.Common.{ap, subst, IsTrue, if◌then◌else◌, eqb-true, eqb-false, eq-eqb, Capability, Setting, IsSetting}
-use Rattle.count_invariant.proofs.Common.{left_if, Reply, Entry, EntryFits, word_of_entry, entry_of_word, Word, EntryAt, ClockAt}
-use Rattle.count_invariant.proofs.Common.{same_word, same_same, Move, CompareOf, StoreOf, left_of, Place, Free, Holds, Quiescing, PlaceOf}
-use Rattle.count_invariant.proofs.Common.{State, put, Slot, rule_of, is_node, put_same, Step, Trace, Open, phase, state_after, last_left}
-use Rattle.count_invariant.proofs.Common.{wide_ways, target_of, is_slot_in, IsSlot, entry_mark, marked_by, stamp, same_word-other, GoesBy}
-use Rattle.count_invariant.proofs.Common.{own_pages, Leads, LeadsIn, AtCompare, AtDraw, AtStore, Acquired, Act, Nothing, Quiesce}
-use Rattle.count_invariant.proofs.Common.{Undecided, Decided, ActiveCall, StageFits, HasRoom, GoesOn, landed, went, went_with, Core}
-use Rattle.count_invariant.proofs.Common.{Holding, holds_counts, settled_by, settled, PlaceIs, KnowsUndecided, phase_at}
-use Rattle.count_invariant.proofs.Common.{done_by, holds_at, holds_in, holds, held_by, times_of, Invariant, names_on, slot_relies}
-use Rattle.count_invariant.proofs.Common.{counts_on, WordIs}
-use Rattle.count_invariant.specs.kept_facts.proofs.Exclusive.{not_exclusive_after}
-use Rattle.count_invariant.specs.step_ways.proofs.Good.{spares_node}
-use Rattle.count_invariant.specs.entry_words.specs.declared.entry.Entry.TheVariants as entry
-use Rattle.count_invariant.specs.entry_words.proofs.Spelling.{spelling}
-use Rattle.count_invariant.specs.plan_ways.specs.Laws.{NextPlace, IsTargetOf}
+use Rattle.count_invariant.specs.step_ways.proofs as low
+use low.{as_none, counts_bare, not_exclusive_value, not_exclusive_word, exclusive_free, ◌≡◌, ◌≢◌, inl, inr, ℕ, ◌^◌, ◌<◌, ◌==◌, ◌∷◌, []}
+use low.{Bool, true, false, List, Option, Some, None, arith, refl, sym, ◌∙◌, ap, subst, IsTrue, if◌then◌else◌, eqb-true, eqb-false, eq-eqb}
+use low.{Capability, Setting, IsSetting, left_if, Reply, Entry, EntryFits, word_of_entry, entry_of_word, Word, EntryAt, ClockAt, same_word}
+use low.{same_same, Move, CompareOf, StoreOf, left_of, Place, Free, Holds, Quiescing, PlaceOf, State, put, Slot, rule_of, is_node, put_same}
+use low.{Step, Trace, Open, phase, state_after, last_left, wide_ways, target_of, is_slot_in, entry_mark, marked_by, stamp, same_word-other}
+use low.{GoesBy, own_pages, Leads, LeadsIn, AtCompare, AtDraw, AtStore, Acquired, Act, Nothing, Quiesce, Undecided, Decided, ActiveCall}
+use low.{StageFits, HasRoom, GoesOn, landed, went, went_with, Core, Holding, holds_counts, settled_by, settled, PlaceIs, KnowsUndecided}
+use low.{phase_at, done_by, holds_at, holds_in, holds, held_by, times_of, Invariant, names_on, slot_relies, counts_on, WordIs, spares_node}
+use low.{Remove as remove_act, IsOfCall, core_in_call, inner, call_is, is_active, node_mark, GoodTook, ticks_at, refuses_raced, plan_for}
+use Rattle.count_invariant.proofs.{plan_leads, goes_by, footprint_way}
+use Rattle.count_invariant.specs.plan_ways.specs.{NextPlace, IsTargetOf}
+use Rattle.count_invariant.specs.stage_quiet.specs.{close_at, close_compared}
+use Rattle.count_invariant.specs.kept_facts.proofs.{Exclusive.node_keeps_none, Exclusive.not_exclusive_after, Carries.removal_on}
 use Rattle.count_invariant.specs.plan_ways.proofs.Ways.{next_on_way, target_is}
-use Rattle.count_invariant.specs.stage_quiet.specs.Removal.{close_at, close_compared}
-use Rattle.count_invariant.specs.act_states.specs.declared.work.Act.TheVariants.{Remove as remove_act}
-use Rattle.count_invariant.specs.act_states.specs.Acts.{took_close}
-use Rattle.count_invariant.specs.core_invariant.specs.Knows.{IsStored}
-use Rattle.count_invariant.specs.kept_facts.proofs.Carries.{removal_on}
-use Rattle.count_invariant.specs.step_ways.proofs.Counting as counters
-use Rattle.count_invariant.specs.step_ways.proofs.Loads.{IsOfCall, core_in_call, inner, call_is, is_active}
-use Rattle.count_invariant.specs.step_ways.proofs.Places.{node_mark, node_says}
-use Rattle.count_invariant.specs.step_ways.proofs.Refusals.{GoodTook, ticks_at, refuses_raced}
-use Rattle.count_invariant.proofs.Acquiring.{removal_places, plan_leads, goes_by}
 use Rattle.place_invariant.proofs.Fills.{changes_node, target_way}
-use Rattle.count_invariant.proofs.Lookups.{footprint_way}
-use Rattle.count_invariant.specs.act_states.specs.call_plans.specs.PlanOf.{plan_for}
+use Rattle.{count_invariant.specs.kernel_history.specs.Justified.IsSlot, count_invariant.specs.entry_words.proofs.Spelling.spelling}
+use Rattle.{count_invariant.specs.act_states.specs.Acts.took_close, count_invariant.specs.core_invariant.specs.Knows.IsStored}
+use Rattle.{count_invariant.proofs.Acquiring.removal_places}
+use low.{Places.node_says}
+use Rattle.count_invariant.specs.step_ways.proofs.Counting as counters
 
 -- The clock is no entry, and no count is one.
 not_clock : (f i : ℕ) → ClockAt ≢ EntryAt f i
@@ -57,9 +46,9 @@ by_value v x is bare = let spells = spelling.spells x v is in
     record { unmarked = ap entry_mark is ∙ bare; small = subst (λ (n : ℕ). n < 2 ^ 64) spells.1 (spelling.small v spells.0) }
 
 spelled : (n : ℕ) (p : Place) (r x : ℕ) → PlaceIs n p r (entry_of_word x) → IsSpelled x
-spelled n Free r x is = by_value entry.Free x is refl
-spelled n (Holds k) r x is = by_value (entry.Held k) x is.0 refl
-spelled n (Quiescing k) r x is = by_value (entry.Quiescing r) x is.says refl
+spelled n Free r x is = by_value Entry.Free x is refl
+spelled n (Holds k) r x is = by_value (Entry.Held k) x is.0 refl
+spelled n (Quiescing k) r x is = by_value (Entry.Quiescing r) x is.says refl
 
 module _ (setup : Setting) (setting : IsSetting setup) (cores : ℕ → Core) (t : Trace) (stands : Invariant setup cores t) (c : ℕ)
     (here : c < setup.cores)
@@ -80,7 +69,7 @@ module _ (setup : Setting) (setting : IsSetting setup) (cores : ℕ → Core) (t
     slot = record { node = node; index = index }
 
     abbrev closing : ℕ
-    closing = word_of_entry (entry.Closing by)
+    closing = word_of_entry (Entry.Closing by)
 
     abbrev compare : Move
     compare = CompareOf at word closing
@@ -150,14 +139,14 @@ module _ (setup : Setting) (setting : IsSetting setup) (cores : ℕ → Core) (t
       leaves : left_of compare was ≡ closing
       leaves = ap (λ b. left_if b was closing) equal
 
-      spells : EntryFits (entry.Held cap) × (word_of_entry (entry.Held cap) ≡ word)
-      spells = spelling.spells word (entry.Held cap) has.knows.knows.held
+      spells : EntryFits (Entry.Held cap) × (word_of_entry (Entry.Held cap) ≡ word)
+      spells = spelling.spells word (Entry.Held cap) has.knows.knows.held
 
       unmarked : marked_by setup t at ≡ None
       unmarked = node_mark (s.frame node) index was in_node ∙ ap (λ (n : ℕ). entry_mark (entry_of_word n)) same ∙ ap entry_mark
           has.knows.knows.held
 
-      by_fits : EntryFits (entry.Closing by)
+      by_fits : EntryFits (Entry.Closing by)
       by_fits = let below : c < setup.cores = here in let most = setting.most_cores in let own = has.knows.knows.core in omega arith
 
       abbrev next : ActiveCall
@@ -177,22 +166,22 @@ module _ (setup : Setting) (setting : IsSetting setup) (cores : ℕ → Core) (t
           let e : Step = inner setup setting cores t stands c here a active compare None None in
           counters.holds_on setup setting cores t stands c here a active compare next (λ b. refl) (not_clock node index) refl of_call
           lands
-          (subst (λ (n : ℕ). n < 2 ^ 64) (sym leaves) (spelling.small (entry.Closing by) by_fits))
+          (subst (λ (n : ℕ). n < 2 ^ 64) (sym leaves) (spelling.small (Entry.Closing by) by_fits))
           (λ w there. (
             ap (λ b. if b then true else (holds_counts None a.counts).marks w) (same_word-other w at there) ∙ sym
                 (ap (λ h. h.marks w) before),
-            ap (λ b. if b then word_of_entry (entry.Held cap) else (holds_counts None a.counts).stands w) (same_word-other w at there) ∙
+            ap (λ b. if b then word_of_entry (Entry.Held cap) else (holds_counts None a.counts).stands w) (same_word-other w at there) ∙
                 sym (ap (λ h. h.stands w) before),
           ))
           (as_none (holds (cores c)) (holds after) at (λ f i. ap (λ h. h.bare f i) before ∙ counts_bare None a.counts f i)
           (counts_bare None a.counts))
           (node_mark (s.frame node) index (left_of compare was) in_node ∙ ap (λ (n : ℕ). entry_mark (entry_of_word n)) leaves
-          ∙ ap entry_mark (spelling.reads (entry.Closing by) by_fits) ∙ ap (λ (n : ℕ). Some n) has.knows.knows.core
+          ∙ ap entry_mark (spelling.reads (Entry.Closing by) by_fits) ∙ ap (λ (n : ℕ). Some n) has.knows.knows.core
           ∙ sym (ap (λ b. if b then Some c else None) marked))
           (λ b other is. none_some b (sym unmarked ∙ is))
           (ap (λ b. settled_by (if b then Some c else None) (held_by (put cores c after)) at (left_of compare was)) marked
           ∙ ap (λ k. (holds k).stands at) (put_same cores c after c refl)
-          ∙ ap (λ b. if b then word_of_entry (entry.Held cap) else (holds_counts None a.counts).stands at) (same_same at)
+          ∙ ap (λ b. if b then word_of_entry (Entry.Held cap) else (holds_counts None a.counts).stands at) (same_same at)
           ∙ spells.1 ∙ sym same ∙ sym (ap (λ o. settled_by o (held_by cores) at was) unmarked
           ∙ not_exclusive_value setup cores t stands node (node_keeps_none (s.frame node) in_node) index was))
           opens
@@ -225,7 +214,7 @@ module _ (setup : Setting) (setting : IsSetting setup) (cores : ℕ → Core) (t
   module _ (r : Reply) (drawn : Option ℕ) (x : ℕ) (stage_is : a.stage ≡ Decided r drawn (Quiesce (AtStore node index x)))
       (has : IsStored setup t c a.call node index) where
     abbrev stored : ℕ
-    stored = word_of_entry (entry.Quiescing x)
+    stored = word_of_entry (Entry.Quiescing x)
 
     abbrev store : Move
     store = StoreOf at stored

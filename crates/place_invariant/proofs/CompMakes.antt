@@ -1,16 +1,11 @@
 -- A call that makes a component: its names, and what is left of its rule after them.
-use Rattle.count_invariant.proofs.Common.{to_use, ◌≡◌, ◌≢◌, ◌+◌, ℕ, true, pos, List, [], ◌∷◌, refl, sym, ◌∙◌, ap, IsTrue}
-use Rattle.count_invariant.proofs.Common.{false≢true, All-nil, All-cons, Capability, State, Frame, Kernel, Blank, Table}
-use Rattle.count_invariant.proofs.Common.{Pages, CompFields, Target, Under, found, only, fits, Rule, Vacant, Does, Found, named, outside}
-use Rattle.count_invariant.proofs.Common.{not_blank, epoch_of, rule_of, of_kind, plan_for, Leads, LeadsIn}
-use Rattle.count_invariant.proofs.Common.{rule_after, names_after, NextFree, next_of, comp_due_list, CompMaking, Due, AreDuesApart}
-use Rattle.kernel_laws.specs.spk_nums.specs.declared.kinds.Kind.TheVariants as kind
-use Rattle.kernel_laws.specs.spk_nums.specs.declared.calls.Call.TheVariants.{Make as make_call}
-use Rattle.kernel_laws.specs.spk_nums.specs.declared.calls.Make.TheVariants as make
-use Rattle.kernel_laws.specs.kernel_rules.specs.CapabilityCalls.{not_taken}
-use Rattle.kernel_laws.specs.kernel_rules.specs.Edits.{Component as component_edit, Fill as fill_edit}
-use Rattle.kernel_laws.specs.spk_nums.specs.declared.replies.Value.TheVariants.{Nothing as no_value}
-use Rattle.kernel_laws.specs.kernel_rules.specs.Start.{plain_cap}
+use Rattle.count_invariant.specs as low
+use low.step_ways.proofs.{to_use, ◌≡◌, ◌≢◌, ◌+◌, ℕ, true, pos, List, [], ◌∷◌, refl, sym, ◌∙◌, ap, IsTrue, false≢true, Capability, State}
+use low.step_ways.proofs.{Frame, Kernel, Blank, Table, Pages, CompFields, Target, Under, found, only, fits, Rule, Vacant, Does, Found}
+use low.step_ways.proofs.{named, outside, not_blank, rule_of, of_kind, plan_for, Leads, LeadsIn, rule_after, names_after, NextFree, next_of}
+use low.step_ways.proofs.{comp_due_list, CompMaking, Due, AreDuesApart, Make as make_call, plain_cap, Kind}
+use low.boot_words.specs.kernel_rules.specs.{epoch_of, not_taken, Component as component_edit, Fill as fill_edit, Nothing as no_value, Make}
+use Rattle.std.proofs.lemmas.List.Elements.{All-nil, All-cons}
 
 -- What the component has.
 abbrev pub new_comp : State → ℕ → ℕ → ℕ → CompFields
@@ -20,7 +15,7 @@ new_comp s x p l = record { table = x; pages = p; number = l; epoch = epoch_of (
 abbrev pub comp_rest : State → Capability → ℕ → ℕ → ℕ → ℕ → Target → Rule
 comp_rest s range f x p l target =
     Vacant target λ at. Does (outside (found range) f ∷ not_blank s f ∷ not_taken s l) no_value
-    (component_edit f (new_comp s x p l) ∷ fill_edit at (plain_cap kind.Comp f) ∷ [])
+    (component_edit f (new_comp s x p l) ∷ fill_edit at (plain_cap Kind.Comp f) ∷ [])
 
 -- Its names have led to a range, a table, and the table and the pages of the component.
 pub record IsCompMake (s : State) (c r f u b x p l : ℕ) (ks : List Capability) : Type 0 where
@@ -29,33 +24,33 @@ pub record IsCompMake (s : State) (c r f u b x p l : ℕ) (ks : List Capability)
   pub table : Capability
   pub pages : Capability
   pub found_is : ks ≡ range ∷ second ∷ table ∷ pages ∷ []
-  pub first : named s c r (to_use (only kind.Range)) ≡ Found range
-  pub under : named s c u (to_use (only kind.Table)) ≡ Found second
-  pub third : named s c x (to_use (only kind.Table)) ≡ Found table
-  pub fourth : named s c p (to_use (only kind.Pages)) ≡ Found pages
-  pub rule : rule_after (rule_of s c (make_call (make.Comp x p l) r f u b)) ks
+  pub first : named s c r (to_use (only Kind.Range)) ≡ Found range
+  pub under : named s c u (to_use (only Kind.Table)) ≡ Found second
+  pub third : named s c x (to_use (only Kind.Table)) ≡ Found table
+  pub fourth : named s c p (to_use (only Kind.Pages)) ≡ Found pages
+  pub rule : rule_after (rule_of s c (make_call (Make.Comp x p l) r f u b)) ks
       ≡ comp_rest s range f table.frame pages.frame l (Under (found second) b)
-  pub next : next_of (plan_for (make_call (make.Comp x p l) r f u b)) ks ≡ NextFree (Under (found second) b)
+  pub next : next_of (plan_for (make_call (Make.Comp x p l) r f u b)) ks ≡ NextFree (Under (found second) b)
 
 pub comp_make : (s : State) (c r f u b x p l : ℕ) (ks : List Capability)
-    → Leads (LeadsIn s c) (plan_for (make_call (make.Comp x p l) r f u b)).names [] ks
-    → names_after (plan_for (make_call (make.Comp x p l) r f u b)).names ks ≡ []
+    → Leads (LeadsIn s c) (plan_for (make_call (Make.Comp x p l) r f u b)).names [] ks
+    → names_after (plan_for (make_call (Make.Comp x p l) r f u b)).names ks ≡ []
     → IsCompMake s c r f u b x p l ks
 comp_make s c r f u b x p l [] leads none = absurd (not_none none)
   where
-    not_none : of_kind kind.Range r ∷ of_kind kind.Table u ∷ of_kind kind.Table x ∷ of_kind kind.Pages p ∷ [] ≡ [] → ⊥
+    not_none : of_kind Kind.Range r ∷ of_kind Kind.Table u ∷ of_kind Kind.Table x ∷ of_kind Kind.Pages p ∷ [] ≡ [] → ⊥
     not_none h = cc
 comp_make s c r f u b x p l (k ∷ []) leads none = absurd (not_none none)
   where
-    not_none : of_kind kind.Table u ∷ of_kind kind.Table x ∷ of_kind kind.Pages p ∷ [] ≡ [] → ⊥
+    not_none : of_kind Kind.Table u ∷ of_kind Kind.Table x ∷ of_kind Kind.Pages p ∷ [] ≡ [] → ⊥
     not_none h = cc
 comp_make s c r f u b x p l (k ∷ j ∷ []) leads none = absurd (not_none none)
   where
-    not_none : of_kind kind.Table x ∷ of_kind kind.Pages p ∷ [] ≡ [] → ⊥
+    not_none : of_kind Kind.Table x ∷ of_kind Kind.Pages p ∷ [] ≡ [] → ⊥
     not_none h = cc
 comp_make s c r f u b x p l (k ∷ j ∷ i ∷ []) leads none = absurd (not_none none)
   where
-    not_none : of_kind kind.Pages p ∷ [] ≡ [] → ⊥
+    not_none : of_kind Kind.Pages p ∷ [] ≡ [] → ⊥
     not_none h = cc
 comp_make s c r f u b x p l (k ∷ j ∷ i ∷ h ∷ []) leads none = record {
   range = k;
@@ -73,16 +68,16 @@ comp_make s c r f u b x p l (k ∷ j ∷ i ∷ h ∷ []) leads none = record {
 comp_make s c r f u b x p l (k ∷ j ∷ i ∷ h ∷ g ∷ ks) leads none = absurd leads.1.1.1.1
 
 -- Its frame, which is blank, its table and its pages differ.
-is_table : (y : Frame) → IsTrue (fits kind.Table y) → y ≡ Kernel Table
+is_table : (y : Frame) → IsTrue (fits Kind.Table y) → y ≡ Kernel Table
 is_table (Kernel Table) h = refl
 is_table _ h = absurd (false≢true h)
 
-is_pages : (y : Frame) → IsTrue (fits kind.Pages y) → y ≡ Kernel Pages
+is_pages : (y : Frame) → IsTrue (fits Kind.Pages y) → y ≡ Kernel Pages
 is_pages (Kernel Pages) h = refl
 is_pages _ h = absurd (false≢true h)
 
-pub comp_dues_apart : (s : State) (m : CompMaking) → s.frame m.frame ≡ Kernel Blank → IsTrue (fits kind.Table (s.frame m.table))
-    → IsTrue (fits kind.Pages (s.frame m.pages)) → AreDuesApart (comp_due_list m)
+pub comp_dues_apart : (s : State) (m : CompMaking) → s.frame m.frame ≡ Kernel Blank → IsTrue (fits Kind.Table (s.frame m.table))
+    → IsTrue (fits Kind.Pages (s.frame m.pages)) → AreDuesApart (comp_due_list m)
 comp_dues_apart s m blank table pages = (
   All-cons (λ (y : Due). m.frame ≢ y.frame) (one m.table) (one m.pages ∷ [])
       (λ same. not_table (sym blank ∙ ap s.frame same ∙ is_table (s.frame m.table) table))

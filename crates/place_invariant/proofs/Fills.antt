@@ -1,68 +1,42 @@
 -- The filling compare of a copy is good: it is lost to another core, or the place is free and takes the capability.
-use Rattle.count_invariant.proofs.Common.{Want, not_exclusive_word, node_keeps_none, ◌≡◌, ◌≢◌, ◌⊎◌, inl}
-use Rattle.count_invariant.proofs.Common.{inr, not, ℕ, pos, length, ◌≤◌, ◌+◌, ◌^◌}
-use Rattle.count_invariant.proofs.Common.{◌/◌}
-use Rattle.count_invariant.proofs.Common.{◌%◌, ◌<◌, ◌==◌, ◌&&◌, nat_le, if◌then◌else◌, ◌∷◌, [], Bool, true, false, List, Option, Some}
-use Rattle.count_invariant.proofs.Common.{None, arith, refl, sym, ◌∙◌, ap, subst, IsTrue, ◌+ℤ◌, max, option_to_list, eqb-true, eqb-false}
-use Rattle.count_invariant.proofs.Common.{eq-eqb, false≢true, kept, right_to_copy, Capability, cap_of, Setting, IsSetting, Call, Copy}
-use Rattle.count_invariant.proofs.Common.{Remove, Shrink, Unmap, Retype}
-use Rattle.count_invariant.proofs.Common.{Tick, Gate, Kill, Grow, Flush, Map, Touch, Ret, Transfer, Delegate, Test, Switch, Entry}
-use Rattle.count_invariant.proofs.Common.{Held, EntryFits, word_of_entry, entry_of_word, Word, EntryAt, CountAt, Move, CompareOf, left_of}
-use Rattle.count_invariant.proofs.Common.{left_if, Place, comp_of, comp_in, Holds, Frame, Kernel, Table, Leaf, Pages, Pleaf, Thing}
-use Rattle.count_invariant.proofs.Common.{PlaceOf, FrameOf, State, with_place, User, Slot, found, Target, Under, InRoot, place_at}
-use Rattle.count_invariant.proofs.Common.{usable_in, linked, slot_in, root_slot, reached, own, has_frame, outside, is_frame}
-use Rattle.count_invariant.proofs.Common.{Cause, first_cause, first_of, Found, IsFoundAnd, Does, and_then, or_refuse, unless, not_vacant}
-use Rattle.count_invariant.proofs.Common.{outcome, MayReply, rule_of, ends_by, flushes_by, changed, change_of, counted, begins_in}
-use Rattle.count_invariant.proofs.Common.{calls_counted, is_node, put_same, slot_is, place_here, place_there, Step, Trace, Open, phase}
-use Rattle.count_invariant.proofs.Common.{state_after, state_decided_in, last_left, capability_in, root_passed, way_to, wide_way_to, ways}
-use Rattle.count_invariant.proofs.Common.{wide_ways, target_of, changes_places, changes_in_frame, is_slot_in, HasReached, IsSlot}
-use Rattle.count_invariant.proofs.Common.{ok_first, entry_mark, mark_in_frame, mark_of, marked_by, ends_in, flushes_in, stamp}
-use Rattle.count_invariant.proofs.Common.{CapNames, of_kind, plan_for, GoesBy, own_pages, calls_go, leads_by, outcome_left}
-use Rattle.count_invariant.proofs.Common.{rule_after, names_after, Leads, LeadsIn, NextName, NextFree, next_of, Act, Undecided, Decided}
-use Rattle.count_invariant.proofs.Common.{ActiveCall, put_by, reads_of, page_cap, named_by, times, refs, reads_alike, IsCalm}
-use Rattle.count_invariant.proofs.Common.{IsUntimed, plain_stamp, limits_of, holds_counts, landed, Core, StageFits, HasRoom}
-use Rattle.count_invariant.proofs.Common.{PlaceIs, IsFrameWord, WordIs, HasFound, ReadIs, MayFill, KnowsUndecided, own_in}
-use Rattle.count_invariant.proofs.Common.{phase_at, holds_at, holds_in, holds, times_of, Invariant, own_kept, slot_relies}
-use Rattle.count_invariant.specs.step_ways.proofs.Good.{spares_node}
-use Rattle.kernel_laws.specs.spk_nums.specs.declared.kinds.Kind.TheVariants as kind
-use Rattle.kernel_laws.specs.spk_nums.specs.declared.calls.Call.TheVariants.{Look, Make as make_call, Part, Replenish}
-use Rattle.kernel_laws.specs.spk_nums.specs.declared.calls.Call.TheVariants.{Call as call_gate}
-use Rattle.kernel_laws.specs.spk_nums.specs.declared.replies.Value.TheVariants.{Nothing}
-use Rattle.kernel_laws.specs.spk_nums.specs.declared.replies.Reply.TheVariants as reply
-use Rattle.kernel_laws.specs.spk_nums.specs.Rights.{part_of}
-use Rattle.count_invariant.specs.entry_words.specs.declared.entry.Entry.TheVariants.{Free, Quiescing}
-use Rattle.count_invariant.specs.entry_words.proofs.Spelling.{spelling}
-use Rattle.kernel_laws.specs.kernel_rules.specs.State.{Free as Vacant, Quiescing as Removed}
-use Rattle.kernel_laws.specs.kernel_rules.specs.Start.{plain_cap}
-use Rattle.kernel_laws.specs.kernel_rules.specs.MemoryCalls.{is_user, not_user}
-use Rattle.kernel_laws.specs.kernel_rules.specs.Rules.{Vacant as to_be_free, does}
-use Rattle.kernel_laws.specs.kernel_rules.specs.CapabilityCalls.{has_frames, beyond}
-use Rattle.count_invariant.specs.kernel_history.specs.Ways.{led_to}
-use Rattle.count_invariant.specs.kernel_history.specs.Stamps.{begins_in as begins_then}
-use Rattle.count_invariant.specs.call_plans.specs.PlanOf.{any_cap}
-use Rattle.count_invariant.specs.plan_ways.specs.Laws.{NextPlace, IsTargetOf}
-use Rattle.count_invariant.specs.plan_ways.proofs.Ways.{next_on_way, target_is, all_ways}
-use Rattle.count_invariant.specs.act_states.specs.declared.fills.Fill.{Fill}
-use Rattle.count_invariant.specs.act_states.specs.declared.work.Act.TheVariants.{Fill as fill_act}
-use Rattle.count_invariant.specs.act_states.specs.declared.work.Tail.TheVariants.{Nothing as no_tail}
-use Rattle.count_invariant.specs.act_states.specs.Fills.{FillFits, filled_if, fill_move}
-use Rattle.count_invariant.specs.act_states.specs.Acts.{cap_dues, gate_if, gate_to}
-use Rattle.count_invariant.specs.act_fits.proofs.DuesFit.{cap_one}
-use Rattle.count_invariant.specs.kept_facts.proofs.Calm.{calm_core}
-use Rattle.count_invariant.specs.kept_facts.proofs.CountSums.{fill_refs}
-use Rattle.count_invariant.proofs.CapChanges.{counts_commit, counts_sum}
-use Rattle.count_invariant.proofs.Acquiring.{plan_leads}
-use Rattle.place_invariant.proofs.Vacancy.{IsVacant, vacant_by}
-use Rattle.count_invariant.specs.step_ways.proofs.Writes.{same_marks, writes_entry}
-use Rattle.count_invariant.specs.core_invariant.specs.Knows.{IsRead, HasUser}
-use Rattle.count_invariant.specs.step_ways.proofs.Loads.{IsOfCall, next_at, core_in_call, inner, call_is, is_active}
-use Rattle.count_invariant.specs.step_ways.proofs.Places.{IsMarked, IsUnmarked, node_mark, place_reads}
-use Rattle.count_invariant.specs.step_ways.proofs.Refusals.{GoodTook, ticks_at, not_spent, refuses_raced}
-use Rattle.count_invariant.proofs.Lookups.{slot_right, slot_one, footprint_way}
-use Rattle.count_invariant.proofs.Findings.{own_is, found_named, way_gone}
-use Rattle.count_invariant.proofs.Next.{Rest, ANameLeft, NoneLeft, rest_of, next_name}
-use Rattle.kernel_laws.specs.kernel_rules.specs.Edits.{Fill as fill_edit}
-use Rattle.count_invariant.specs.call_plans.specs.PlanOf.{plan_for}
+use Rattle.count_invariant.specs as low
+use low.step_ways.proofs.{Want, not_exclusive_word, ◌≡◌, ◌≢◌, ◌⊎◌, inl, inr, not, ℕ, pos, length, ◌≤◌, ◌+◌, ◌^◌, ◌/◌, ◌<◌, ◌==◌, ◌&&◌}
+use low.step_ways.proofs.{leb as nat_le, if◌then◌else◌, ◌∷◌, [], Bool, true, false, List, Option, Some, None, arith, refl, sym, ◌∙◌, ap}
+use low.step_ways.proofs.{subst, IsTrue, ◌+ℤ◌, max, option_to_list, eqb-true, eqb-false, eq-eqb, false≢true, Capability, Setting, IsSetting}
+use low.step_ways.proofs.{Call, Copy, Shrink, Unmap, Retype, Gate, Grow, Ret, Transfer, Delegate, Test, Entry, Held, EntryFits}
+use low.step_ways.proofs.{word_of_entry, entry_of_word, Word, EntryAt, CountAt, Move, CompareOf, left_of, left_if, Place, comp_of, comp_in}
+use low.step_ways.proofs.{Holds, Frame, Kernel, Table, Leaf, Pages, Pleaf, Thing, PlaceOf, FrameOf, State, with_place, User, Slot, found}
+use low.step_ways.proofs.{Target, Under, InRoot, place_at, usable_in, root_slot, reached, own, has_frame, outside, is_frame, Cause}
+use low.step_ways.proofs.{first_cause, first_of, Found, IsFoundAnd, Does, and_then, or_refuse, unless, not_vacant, outcome, MayReply}
+use low.step_ways.proofs.{rule_of, ends_by, flushes_by, changed, change_of, counted, calls_counted, is_node, put_same, Step, Trace, Open}
+use low.step_ways.proofs.{phase, state_after, state_decided_in, last_left, way_to, ways, wide_ways, target_of, changes_places}
+use low.step_ways.proofs.{changes_in_frame, is_slot_in, HasReached, ok_first, entry_mark, mark_in_frame, mark_of, marked_by, ends_in}
+use low.step_ways.proofs.{flushes_in, stamp, CapNames, of_kind, plan_for, GoesBy, own_pages, calls_go, leads_by, outcome_left, rule_after}
+use low.step_ways.proofs.{names_after, Leads, LeadsIn, NextName, NextFree, next_of, Act, Undecided, Decided, ActiveCall, put_by, reads_of}
+use low.step_ways.proofs.{page_cap, named_by, times, refs, IsUntimed, plain_stamp, limits_of, holds_counts, landed, Core, StageFits}
+use low.step_ways.proofs.{HasRoom, PlaceIs, IsFrameWord, WordIs, HasFound, ReadIs, MayFill, KnowsUndecided, own_in, phase_at, holds_at}
+use low.step_ways.proofs.{holds_in, holds, times_of, Invariant, own_kept, slot_relies, spares_node, Make as make_call, Part, Replenish}
+use low.step_ways.proofs.{Free as Vacant, Quiescing as Removed, plain_cap, Vacant as to_be_free, does, begins_in as begins_then}
+use low.step_ways.proofs.{Fill as fill_act, Nothing as no_tail, same_marks, IsOfCall, next_at, core_in_call, inner, call_is, is_active}
+use low.step_ways.proofs.{IsMarked, IsUnmarked, node_mark, place_reads, GoodTook, ticks_at, not_spent, refuses_raced, Kind, Reply}
+use low.boot_words.specs.kernel_rules.specs.{◌%◌, kept, right_to_copy, cap_of, Remove, Tick, Kill, Flush, Map, Touch, Switch, linked}
+use low.boot_words.specs.kernel_rules.specs.{slot_in, begins_in, Look, Nothing, part_of, is_user, not_user, has_frames, beyond}
+use Rattle.count_invariant.proofs.{counts_commit, counts_sum, plan_leads, footprint_way, own_is, found_named, way_gone, Rest, ANameLeft}
+use Rattle.count_invariant.proofs.{NoneLeft, rest_of, next_name}
+use low.act_states.specs.{filled_if, fill_move, cap_dues, gate_if, gate_to}
+use low.kernel_history.specs.{capability_in, root_passed, wide_way_to, IsSlot, led_to}
+use low.kept_facts.proofs.{node_keeps_none, reads_alike, IsCalm}
+use low.kernel_laws.specs.found_stays.proofs.{slot_is, place_here, place_there}
+use low.plan_ways.proofs.Ways.{next_on_way, target_is, all_ways}
+use low.{boot_words.specs.kernel_rules.specs.Fill as fill_edit, plan_ways.specs.NextPlace, plan_ways.specs.IsTargetOf}
+use low.{quality_lists.specs.spk_nums.specs.declared.calls.Call.TheVariants.Call as call_gate}
+use low.{entry_words.specs.declared.entry.Entry.TheVariants.Free, entry_words.specs.declared.entry.Entry.TheVariants.Quiescing}
+use low.{entry_words.proofs.Spelling.spelling, call_plans.specs.PlanOf.any_cap, act_states.specs.declared.fills.Fill.Fill}
+use low.{act_states.specs.Fills.FillFits, act_fits.proofs.DuesFit.cap_one, kept_facts.proofs.Calm.calm_core}
+use low.{kept_facts.proofs.CountSums.fill_refs, step_ways.proofs.Writes.writes_entry, core_invariant.specs.Components.IsRead}
+use low.{core_invariant.specs.Reaching.HasUser}
+use Rattle.{count_invariant.proofs.Lookups.slot_right, count_invariant.proofs.Lookups.slot_one, place_invariant.proofs.Vacancy.IsVacant}
+use Rattle.{place_invariant.proofs.Vacancy.vacant_by}
 
 -- What a call puts at its target: what is left of its rule after its names fills the target with k, where no own cause stands, and it
 -- changes
@@ -82,7 +56,7 @@ puts_it : (s : State) (c : ℕ) (target : Target) (k : Capability) (causes : Lis
     → outcome s c (to_be_free target (λ at. Does causes Nothing (fill_edit at k ∷ []))) ≡ Found (does c s Nothing (fill_edit at k ∷ []))
 puts_it s c target k causes calm at reached_at free =
     ap (λ x. and_then x λ at. outcome s c (Does causes Nothing (fill_edit at k ∷ [])))
-    (ap (λ o. and_then (or_refuse o reply.NoSlot) λ at. unless (not_vacant s c (PlaceOf at.node at.index) (place_at s at)) at) reached_at
+    (ap (λ o. and_then (or_refuse o Reply.NoSlot) λ at. unless (not_vacant s c (PlaceOf at.node at.index) (place_at s at)) at) reached_at
     ∙ ap (λ o. unless o at) free)
     ∙ ap (λ o. unless o (does c s Nothing (fill_edit at k ∷ []))) calm
 
@@ -231,7 +205,7 @@ module _ (setup : Setting) (setting : IsSetting setup) (cores : ℕ → Core) (t
     new = word_of_entry (Held k)
 
     abbrev e : Step
-    e = inner setup setting cores t stands c here a active compare (Some (reply.Ok Nothing)) None
+    e = inner setup setting cores t stands c here a active compare (Some (Reply.Ok Nothing)) None
 
     may : MayFill setup t c (PlaceOf node index) setup.cores (entry_of_word was)
     may = subst (MayFill setup t c (PlaceOf node index) setup.cores) (sym (ap entry_of_word same)) has.knows.knows.vacant
@@ -251,7 +225,7 @@ module _ (setup : Setting) (setting : IsSetting setup) (cores : ℕ → Core) (t
         ∙ puts_it s c has.knows.knows.target k puts.causes puts.calm slot has.knows.knows.way.reached empty.vacant
 
     now : state_after setup (e ∷ t) ≡ counted (with_place s node index (Holds k)) c
-    now = ap (λ p. state_decided_in p (reply.Ok Nothing) s c) is_open ∙ ap (λ x. counted (changed s x) c) change
+    now = ap (λ p. state_decided_in p (Reply.Ok Nothing) s c) is_open ∙ ap (λ x. counted (changed s x) c) change
 
     calm : IsCalm s (state_after setup (e ∷ t)) c
     calm = subst (λ x. IsCalm s x c) (sym now) (calm_core s (counted (with_place s node index (Holds k)) c) c _ refl (λ g. refl)
@@ -259,14 +233,14 @@ module _ (setup : Setting) (setting : IsSetting setup) (cores : ℕ → Core) (t
 
     plain : IsUntimed setup t e
     plain = record {
-      begins = λ x. ap (λ p. begins_then (Some (reply.Ok Nothing)) p s c x) is_open ∙ ap (λ y. begins_in y x) change;
-      ends = λ x. ap (λ p. ends_in (Some (reply.Ok Nothing)) p x) is_open ∙ puts.ends x;
-      flushes = ap (flushes_in (Some (reply.Ok Nothing))) is_open ∙ puts.flushes;
+      begins = λ x. ap (λ p. begins_then (Some (Reply.Ok Nothing)) p s c x) is_open ∙ ap (λ y. begins_in y x) change;
+      ends = λ x. ap (λ p. ends_in (Some (Reply.Ok Nothing)) p x) is_open ∙ puts.ends x;
+      flushes = ap (flushes_in (Some (Reply.Ok Nothing))) is_open ∙ puts.flushes;
       apart = λ d. refl;
       same = refl;
     }
 
-    counts : (cores c).own.made + calls_counted (reply.Ok Nothing) ≡ ((state_after setup (e ∷ t)).core c).counted
+    counts : (cores c).own.made + calls_counted (Reply.Ok Nothing) ≡ ((state_after setup (e ∷ t)).core c).counted
     counts =
         let made = (stands.each c here).works.made in
         let x : ((state_after setup (e ∷ t)).core c).counted ≡ ((counted (with_place s node index (Holds k)) c).core c).counted = ap
@@ -327,7 +301,7 @@ module _ (setup : Setting) (setting : IsSetting setup) (cores : ℕ → Core) (t
               (λ m d h. own_kept t e c refl refl _ (had.way.stepped m d h))),
         )
 
-    permitted : MayReply s c a.call (reply.Ok Nothing)
+    permitted : MayReply s c a.call (Reply.Ok Nothing)
     permitted = (
       not_spent setup (cores c) t c (stands.each c here) room,
       (has.acts, subst (λ x. IsFoundAnd x (λ y. y.value ≡ Nothing)) (sym change) refl),
@@ -335,8 +309,8 @@ module _ (setup : Setting) (setting : IsSetting setup) (cores : ℕ → Core) (t
 
     -- what it makes of the counts
     abbrev after : Core
-    after = core_in_call (cores c) ((cores c).own.made + calls_counted (reply.Ok Nothing))
-        (next_at a a.found (Decided (reply.Ok Nothing) None no_tail))
+    after = core_in_call (cores c) ((cores c).own.made + calls_counted (Reply.Ok Nothing))
+        (next_at a a.found (Decided (Reply.Ok Nothing) None no_tail))
 
     bare_now : mark_of s (EntryAt node index) (left_of compare was) ≡ None
     bare_now = ap (mark_in_frame (s.frame node) index) leaves ∙ node_mark (s.frame node) index new in_node ∙ ap entry_mark new_says
@@ -390,7 +364,7 @@ module _ (setup : Setting) (setting : IsSetting setup) (cores : ℕ → Core) (t
 
     won : GoodTook setup cores t c compare (landed a (filled_if true))
     won lands = writes_entry setup setting cores t stands c here a active compare node index
-        ((cores c).own.made + calls_counted (reply.Ok Nothing)) (reply.Ok Nothing) a.found (Decided (reply.Ok Nothing) None no_tail)
+        ((cores c).own.made + calls_counted (Reply.Ok Nothing)) (Reply.Ok Nothing) a.found (Decided (Reply.Ok Nothing) None no_tail)
         refl unmarked.mark bare_now
         (subst (λ (n : ℕ). n < 2 ^ 64) (sym leaves) (spelling.small (Held k) fits))
         of_call lands opens refl refl (not_exclusive_word setup cores t stands node index (node_keeps_none (s.frame node) in_node))
@@ -398,11 +372,11 @@ module _ (setup : Setting) (setting : IsSetting setup) (cores : ℕ → Core) (t
         (subst (WordIs (state_after setup (e ∷ t)) (times_of setup (e ∷ t)) (EntryAt node index)) (sym leaves) word_now)
         held_is (λ w own. counts_commit setup setting cores t stands c here a active (pos 1) None none_small
         (named_by k.kind k.frame) few has.knows.all compare
-        (reply.Ok Nothing) after still before_count (λ f d. refl) (reads_alike setup t e calm.frame) unmarked.mark bare_now no_count w
+        (Reply.Ok Nothing) after still before_count (λ f d. refl) (reads_alike setup t e calm.frame) unmarked.mark bare_now no_count w
         (own_marked w own))
         (counts_sum setup setting cores t stands c here a active (pos 1) None none_small (named_by k.kind k.frame) few
         has.knows.all compare
-        (reply.Ok Nothing) after still before_count (λ f d. refl) (reads_alike setup t e calm.frame) unmarked.mark bare_now no_count
+        (Reply.Ok Nothing) after still before_count (λ f d. refl) (reads_alike setup t e calm.frame) unmarked.mark bare_now no_count
         (ap (λ l. l.cores) calm.limits)
         (λ f none. ((let more = grows f in omega arith), plain_stamp setup t e plain (FrameOf f)))
         (λ f one. (grows_one f one, plain_stamp setup t e plain (FrameOf f) ∙ max_zero (stamp setup t (FrameOf f)))))
@@ -426,31 +400,31 @@ cap_same k j is = cc
 
 -- A gate carries the epoch of its component, which the call has read.
 gate_is : (s : State) (c : ℕ) (comp q : Capability) (read : Option ℕ) → IsRead s c comp.frame read → gate_to (Some comp) read ≡ Some q
-    → cap_of kind.Gate comp.frame (comp_in (s.frame comp.frame)).epoch ≡ q
+    → cap_of Kind.Gate comp.frame (comp_in (s.frame comp.frame)).epoch ≡ q
 gate_is s c comp q read has puts =
-    ap (λ (n : ℕ). cap_of kind.Gate comp.frame n) has.has_life.epoch
+    ap (λ (n : ℕ). cap_of Kind.Gate comp.frame n) has.has_life.epoch
     ∙ by (nat_le 1 has.life.epoch) (ap (gate_to (Some comp)) (sym has.epoch) ∙ puts)
   where
     by : (some : Bool) → gate_if some comp.frame has.life.epoch ≡ Some q
-        → cap_of kind.Gate comp.frame has.life.epoch ≡ q
-    by true h = cap_same (cap_of kind.Gate comp.frame has.life.epoch) q h
+        → cap_of Kind.Gate comp.frame has.life.epoch ≡ q
+    by true h = cap_same (cap_of Kind.Gate comp.frame has.life.epoch) q h
     by false h = absurd (cc)
 
 -- A map has no cause against it, where the range has its frame, which is a user frame.
 maps_calm : (s : State) (c f : ℕ) (range : Capability) → has_frame (found range) f ≡ true → s.frame f ≡ User
     → first_cause s c (outside (found range) f ∷ not_user s f ∷ []) ≡ None
 maps_calm s c f range has user =
-    ap (λ b. first_of (if not b then Some reply.OutOfRange else None) (first_cause s c (not_user s f ∷ []))) has
-    ∙ ap (λ x. first_of (if is_frame s f && not (is_user x) then Some reply.FrameKind else None) None) user ∙ by (is_frame s f)
+    ap (λ b. first_of (if not b then Some Reply.OutOfRange else None) (first_cause s c (not_user s f ∷ []))) has
+    ∙ ap (λ x. first_of (if is_frame s f && not (is_user x) then Some Reply.FrameKind else None) None) user ∙ by (is_frame s f)
   where
-    by : (b : Bool) → first_of (if b && false then Some reply.FrameKind else None) None ≡ None
+    by : (b : Bool) → first_of (if b && false then Some Reply.FrameKind else None) None ≡ None
     by true = refl
     by false = refl
 
 -- A part has no cause against it, where the range has its frames.
 part_calm : (s : State) (c f n : ℕ) (range : Capability) → has_frames (found range) f n ≡ true
     → first_cause s c (beyond (found range) f n ∷ []) ≡ None
-part_calm s c f n range has = ap (λ b. first_of (if not b then Some reply.OutOfRange else None) None) has
+part_calm s c f n range has = ap (λ b. first_of (if not b then Some Reply.OutOfRange else None) None) has
 
 -- A frame that the call maps is a user frame.
 abbrev MapsUser : State → Call → Type 0
@@ -479,16 +453,16 @@ puts_by s c target q (Copy a u b rights) (k ∷ j ∷ []) lead none next read ha
     }))
 puts_by s c target q (Copy a u b rights) [] lead none next read has_read puts user = absurd (not_none none)
   where
-    not_none : any_cap right_to_copy a ∷ of_kind kind.Table u ∷ [] ≡ [] → ⊥
+    not_none : any_cap right_to_copy a ∷ of_kind Kind.Table u ∷ [] ≡ [] → ⊥
     not_none h = cc
 puts_by s c target q (Copy a u b rights) (k ∷ []) lead none next read has_read puts user = absurd (not_none none)
   where
-    not_none : of_kind kind.Table u ∷ [] ≡ [] → ⊥
+    not_none : of_kind Kind.Table u ∷ [] ≡ [] → ⊥
     not_none h = cc
 puts_by s c target q (Copy a u b rights) (k ∷ j ∷ i ∷ ks) lead none next read has_read puts user = absurd lead.1.1
 puts_by s c target q (Grow u i l) (k ∷ j ∷ []) lead none next read has_read puts user =
-    subst (λ (q : Capability). Puts s c (Grow u i l) (k ∷ j ∷ []) target q) (cap_same (plain_cap kind.Link j.frame) q puts)
-    (subst (λ p. Puts s c (Grow u i l) (k ∷ j ∷ []) p (plain_cap kind.Link j.frame)) (target_in (InRoot (found k) i) target next)
+    subst (λ (q : Capability). Puts s c (Grow u i l) (k ∷ j ∷ []) target q) (cap_same (plain_cap Kind.Link j.frame) q puts)
+    (subst (λ p. Puts s c (Grow u i l) (k ∷ j ∷ []) p (plain_cap Kind.Link j.frame)) (target_in (InRoot (found k) i) target next)
     (record { causes = []; calm = refl; rule = refl; places = refl; ends = λ x. refl; flushes = refl }))
 puts_by s c target q (Grow u i l) [] lead none next read has_read puts user = absurd (cc)
 puts_by s c target q (Grow u i l) (k ∷ []) lead none next read has_read puts user = absurd (cc)
@@ -521,7 +495,7 @@ puts_by s c target q (Tick n) ks lead none next read has_read puts user = absurd
 puts_by s c target q (Gate n u b) (k ∷ j ∷ []) lead none next read has_read puts user =
     subst (λ (q : Capability). Puts s c (Gate n u b) (k ∷ j ∷ []) target q) (gate_is s c k q read has_read puts)
     (subst (λ p. Puts s c (Gate n u b) (k ∷ j ∷ []) p
-    (cap_of kind.Gate k.frame (comp_in (s.frame k.frame)).epoch)) (target_in (Under (found j) b) target next)
+    (cap_of Kind.Gate k.frame (comp_in (s.frame k.frame)).epoch)) (target_in (Under (found j) b) target next)
     (record {
       causes = [];
       calm = refl;
@@ -532,11 +506,11 @@ puts_by s c target q (Gate n u b) (k ∷ j ∷ []) lead none next read has_read 
     }))
 puts_by s c target q (Gate n u b) [] lead none next read has_read puts user = absurd (not_none none)
   where
-    not_none : of_kind kind.Comp n ∷ of_kind kind.Table u ∷ [] ≡ [] → ⊥
+    not_none : of_kind Kind.Comp n ∷ of_kind Kind.Table u ∷ [] ≡ [] → ⊥
     not_none h = cc
 puts_by s c target q (Gate n u b) (k ∷ []) lead none next read has_read puts user = absurd (not_none none)
   where
-    not_none : of_kind kind.Table u ∷ [] ≡ [] → ⊥
+    not_none : of_kind Kind.Table u ∷ [] ≡ [] → ⊥
     not_none h = cc
 puts_by s c target q (Touch v) ks lead none next read has_read puts user = absurd (cc)
 puts_by s c target q (Gate n u b) (k ∷ j ∷ i ∷ ks) lead none next read has_read puts user = absurd lead.1.1

@@ -1,48 +1,33 @@
 -- The load of the word of a frame that is to be mapped: one that a core has marked is `busy`, one that is no user frame `frame-kind`, and a
 -- user frame is mapped next. The call has acquired the count of the frame, and while it holds that no other core makes it anything else.
-use Rattle.count_invariant.proofs.Common.{◌≡◌, ℕ, ℤ, pos, ◌<◌, ◌&&◌, map, not, Bool, true, false, IsTrue, List, [], ◌∷◌, Option, Some}
-use Rattle.count_invariant.proofs.Common.{None, inl, inr, refl, sym, ◌∙◌, ap, subst, if◌then◌else◌, All, All-head, lt-ltb, eq-eqb}
-use Rattle.count_invariant.proofs.Common.{false≢true, Capability, Setting, IsSetting, Call, Map, PageFlags, FrameKind, count_of_word}
-use Rattle.count_invariant.proofs.Common.{frame_of_word, FrameWord, EntryAt, FrameAt, CountAt, Move, LoadOf}
-use Rattle.count_invariant.proofs.Common.{Frame, Untyped, User, Kernel, State, Target, Under, found, has_frame, outside}
-use Rattle.count_invariant.proofs.Common.{is_frame, Change, RuleMay, Refused, Vacant, Does, and_then, unless, first_of, first_cause}
-use Rattle.count_invariant.proofs.Common.{outcome, rule_of, change_of, are_calls_spent}
-use Rattle.count_invariant.proofs.Common.{IsAlone, looks_at_frames, is_one_of, footprint_frames}
-use Rattle.count_invariant.proofs.Common.{frame_argument, marked_by, count_mark, frame_mark, frame_value, Step, Trace, Open, phase}
-use Rattle.count_invariant.proofs.Common.{state_after, last_left, refused_first, own_read-there, last_left-there, plan_for, GoesBy}
-use Rattle.count_invariant.proofs.Common.{own_pages, Leads, LeadsIn, NextFree, rule_after, next_of, left_may, outcome_left, Second}
-use Rattle.count_invariant.proofs.Common.{at_place, Due, Act, Goes, refuse, Acquired, named_by, is_node, reads_of, put_by, page_cap}
-use Rattle.count_invariant.proofs.Common.{Undecided, ActiveCall, StageFits, HasRoom, landed, Core, holds_counts, settled_by, ReadIs}
-use Rattle.count_invariant.proofs.Common.{IsCount, due_of, KnowsUndecided, phase_at, holds_at, holds_in, held_by, Invariant, names_on}
-use Rattle.count_invariant.proofs.Common.{spot_on, slot_relies, limits_of}
-use Rattle.std.specs.Prelude.{◌||◌}
-use Rattle.kernel_laws.specs.spk_nums.specs.declared.kinds.FrameKind.TheVariants as kind
-use Rattle.kernel_laws.specs.spk_nums.specs.declared.replies.Reply.TheVariants as reply
-use Rattle.kernel_laws.specs.kernel_rules.specs.MemoryCalls.{is_user, not_user}
-use Rattle.count_invariant.specs.act_states.specs.declared.fills.Fill.{Fill}
-use Rattle.count_invariant.specs.act_states.specs.declared.refusals.Refusal.TheVariants as refusal
-use Rattle.count_invariant.specs.act_states.specs.declared.work.Act.TheVariants.{Fill as fill_act, Map as map_act}
-use Rattle.count_invariant.specs.act_states.specs.Acts.{page_of, maps_kind, maps_frame, maps_word}
-use Rattle.count_invariant.specs.core_invariant.specs.Knows.{HasUser, IsUser, IsMapping}
-use Rattle.count_invariant.specs.core_invariant.specs.Knows.{mapped_frame, is_mapping}
-use Rattle.count_invariant.specs.step_ways.proofs.Counting.{first_marked}
-use Rattle.count_invariant.specs.step_ways.proofs.Loads.{OnlyLooks, step_to, core_is, call_is, is_active, loads_on, decides_on}
-use Rattle.count_invariant.specs.step_ways.proofs.Refusals.{GoodTook, ticks_at, not_spent, refuses_busy}
-use Rattle.count_invariant.proofs.Acquiring.{plan_leads, goes_by}
-use Rattle.count_invariant.proofs.MakingCounts.{argument_footprint}
+use Rattle.count_invariant.specs.step_ways.proofs as low
+use low.{◌≡◌, ℕ, ℤ, pos, ◌<◌, ◌&&◌, map, not, Bool, true, false, IsTrue, List, [], ◌∷◌, Option, Some, None, inl, inr, refl, sym, ◌∙◌, ap}
+use low.{subst, if◌then◌else◌, All, lt-ltb, eq-eqb, false≢true, Capability, Setting, IsSetting, Call, FrameKind, count_of_word}
+use low.{frame_of_word, FrameWord, EntryAt, FrameAt, CountAt, Move, LoadOf, Frame, Untyped, User, Kernel, State, Target, Under, found}
+use low.{has_frame, outside, is_frame, Change, RuleMay, Refused, Vacant, Does, and_then, unless, first_of, first_cause, outcome, rule_of}
+use low.{change_of, are_calls_spent, IsAlone, is_one_of, footprint_frames, frame_argument, marked_by, count_mark, frame_mark, frame_value}
+use low.{Step, Trace, Open, phase, state_after, last_left, refused_first, own_read-there, last_left-there, plan_for, GoesBy, own_pages}
+use low.{Leads, LeadsIn, NextFree, rule_after, next_of, left_may, outcome_left, Second, at_place, Due, Act, Goes, refuse, Acquired}
+use low.{named_by, is_node, reads_of, put_by, page_cap, Undecided, ActiveCall, StageFits, HasRoom, landed, Core, holds_counts, settled_by}
+use low.{ReadIs, IsCount, due_of, KnowsUndecided, phase_at, holds_at, holds_in, held_by, Invariant, names_on, spot_on, slot_relies}
+use low.{limits_of, ◌||◌, Fill as fill_act, Map as map_act, first_marked, OnlyLooks, step_to, core_is, call_is, is_active, loads_on}
+use low.{decides_on, GoodTook, ticks_at, not_spent, refuses_busy, does, Reply, Refusal}
+use Rattle.count_invariant.specs.boot_words.specs.kernel_rules.specs.{Map, PageFlags, is_user, not_user, Fill as fill_edit}
+use Rattle.count_invariant.proofs.{plan_leads, goes_by, argument_footprint}
+use Rattle.count_invariant.specs.act_states.specs.{maps_frame, maps_word}
+use Rattle.count_invariant.specs.act_states.specs.{declared.fills.Fill.Fill, Acts.page_of, Taking.maps_kind}
+use Rattle.count_invariant.specs.core_invariant.specs.Reaching.{HasUser, IsUser, IsMapping, mapped_frame, is_mapping}
 use Rattle.place_invariant.proofs.Outside.{vacant_slot, vacant_node, stands_alone}
-use Rattle.kernel_laws.specs.kernel_rules.specs.Edits.{Fill as fill_edit}
-use Rattle.kernel_laws.specs.kernel_rules.specs.Rules.{does}
-use Rattle.kernel_laws.specs.spk_nums.specs.declared.replies.Value.TheVariants.{Nothing as no_value}
-use Rattle.count_invariant.specs.act_states.specs.call_plans.specs.PlanOf.{plan_for}
+use Rattle.{count_invariant.specs.boot_words.specs.kernel_rules.specs.Nothing as no_value, std.proofs.lemmas.List.Elements.All-head}
+use Rattle.{count_invariant.specs.kernel_history.specs.Discipline.looks_at_frames}
 
 -- A frame that its word does not call a user frame is none.
-not_user_is : (x : Frame) (j : FrameKind) → (frame_value x).kind ≡ j → (j ≡ kind.User → ⊥) → is_user x ≡ false
+not_user_is : (x : Frame) (j : FrameKind) → (frame_value x).kind ≡ j → (j ≡ FrameKind.User → ⊥) → is_user x ≡ false
 not_user_is Untyped j is other = refl
 not_user_is User j is other = absurd (other (sym is))
 not_user_is (Kernel object) j is other = refl
 
-user_is : (x : Frame) → (frame_value x).kind ≡ kind.User → x ≡ User
+user_is : (x : Frame) → (frame_value x).kind ≡ FrameKind.User → x ≡ User
 user_is Untyped is = absurd (cc)
 user_is User is = refl
 user_is (Kernel object) is = absurd (cc)
@@ -206,16 +191,16 @@ module _ (setup : Setting) (setting : IsSetting setup) (cores : ℕ → Core) (t
       knows.spot.way).node
 
   -- it is no user frame
-  kind_good : (v : FrameWord) → frame_of_word was ≡ Some v → v.mark ≡ None → (j : FrameKind) → v.kind ≡ j → (j ≡ kind.User → ⊥)
-      → GoodTook setup cores t c load (landed a (refuse refusal.FrameKind))
+  kind_good : (v : FrameWord) → frame_of_word was ≡ Some v → v.mark ≡ None → (j : FrameKind) → v.kind ≡ j → (j ≡ FrameKind.User → ⊥)
+      → GoodTook setup cores t c load (landed a (refuse Refusal.FrameKind))
   kind_good v shown bare j kind_is other lands =
-      decides_on setup setting cores t stands c here a active load reply.FrameKind a.found looks lands (sym held_is) opens refl refl
+      decides_on setup setting cores t stands c here a active load Reply.FrameKind a.found looks lands (sym held_is) opens refl refl
       (λ x. refl) (λ x. refl) refl (
         unspent,
-        left_may s c (own_pages s c) (plan_for a.call) (rule_of s c a.call) a.found by_plan leads reply.FrameKind
-            (subst (λ x. RuleMay s c x reply.FrameKind) (sym rest.rule) (inr (inr (inl (stands_so, refl))))),
+        left_may s c (own_pages s c) (plan_for a.call) (rule_of s c a.call) a.found by_plan leads Reply.FrameKind
+            (subst (λ x. RuleMay s c x Reply.FrameKind) (sym rest.rule) (inr (inr (inl (stands_so, refl))))),
       ) tt
-      (λ is_alone. refused_first s c a.call reply.FrameKind has.acts unspent (first is_alone))
+      (λ is_alone. refused_first s c a.call Reply.FrameKind has.acts unspent (first is_alone))
     where
       no_user : is_user (s.frame f) ≡ false
       no_user = not_user_is (s.frame f) j (ap (λ x. x.kind) (shown_is v shown bare) ∙ kind_is) other
@@ -223,7 +208,7 @@ module _ (setup : Setting) (setting : IsSetting setup) (cores : ℕ → Core) (t
       stands_so : (is_frame s f && not (is_user (s.frame f))) ≡ true
       stands_so = ap (λ b. b && not (is_user (s.frame f))) (lt-ltb f s.limits.frames below) ∙ ap (λ b. not b) no_user
 
-      first : IsAlone t (step_to c None load was (Some reply.FrameKind) None) → change_of s c a.call ≡ Refused reply.FrameKind
+      first : IsAlone t (step_to c None load was (Some Reply.FrameKind) None) → change_of s c a.call ≡ Refused Reply.FrameKind
       first alone =
           outcome_left s c (own_pages s c) (plan_for a.call) (rule_of s c a.call) a.found by_plan leads ∙ ap (outcome s c) rest.rule
           ∙ ap (λ x. and_then x λ at. outcome s c (Does (outside (found rest.range) f ∷ not_user s f ∷ []) no_value
@@ -231,10 +216,10 @@ module _ (setup : Setting) (setting : IsSetting setup) (cores : ℕ → Core) (t
           (vacant_slot s c knows.spot.target (record { node = fill.node; index = fill.entry }) knows.spot.way.reached
           (vacant_node setup setting cores t stands c here a active opens has.names fill.node fill.entry fill.word knows.spot
           fits.0.entry in_node
-          (stands_alone setup t c fill.node fill.entry fill.word knows.spot.own load reply.FrameKind alone)).vacant)
-          ∙ ap (λ b. unless (first_of (if not b then Some reply.OutOfRange else None) (first_cause s c
+          (stands_alone setup t c fill.node fill.entry fill.word knows.spot.own load Reply.FrameKind alone)).vacant)
+          ∙ ap (λ b. unless (first_of (if not b then Some Reply.OutOfRange else None) (first_cause s c
           (not_user s f ∷ []))) change) rest.within
-          ∙ ap (λ b. unless (first_of (if b then Some reply.FrameKind else None) None) change) stands_so
+          ∙ ap (λ b. unless (first_of (if b then Some Reply.FrameKind else None) None) change) stands_so
         where
           change : Change
           change = does c s no_value (fill_edit (record { node = fill.node; index = fill.entry }) (page_cap f rest.flags) ∷ [])
@@ -255,7 +240,7 @@ module _ (setup : Setting) (setting : IsSetting setup) (cores : ℕ → Core) (t
   not_count g b h = cc
 
   -- it is a user frame
-  user_good : (v : FrameWord) → frame_of_word was ≡ Some v → v.mark ≡ None → v.kind ≡ kind.User
+  user_good : (v : FrameWord) → frame_of_word was ≡ Some v → v.mark ≡ None → v.kind ≡ FrameKind.User
       → GoodTook setup cores t c load (landed a (Goes (Act (fill_act fill))))
   user_good v shown bare kind_is lands =
       let e : Step = step_to c None load was None None in
@@ -291,9 +276,9 @@ module _ (setup : Setting) (setting : IsSetting setup) (cores : ℕ → Core) (t
 
   unmarked_good : (v : FrameWord) → frame_of_word was ≡ Some v → (j : FrameKind) → v.kind ≡ j → v.mark ≡ None
       → GoodTook setup cores t c load (landed a (maps_kind fill j))
-  unmarked_good v shown kind.User is_kind bare = user_good v shown bare is_kind
-  unmarked_good v shown kind.Untyped is_kind bare = kind_good v shown bare kind.Untyped is_kind (λ h. cc)
-  unmarked_good v shown kind.Kernel is_kind bare = kind_good v shown bare kind.Kernel is_kind (λ h. cc)
+  unmarked_good v shown FrameKind.User is_kind bare = user_good v shown bare is_kind
+  unmarked_good v shown FrameKind.Untyped is_kind bare = kind_good v shown bare FrameKind.Untyped is_kind (λ h. cc)
+  unmarked_good v shown FrameKind.Kernel is_kind bare = kind_good v shown bare FrameKind.Kernel is_kind (λ h. cc)
 
   marked_good : (v : FrameWord) → frame_of_word was ≡ Some v → (m : Option ℕ) → v.mark ≡ m
       → GoodTook setup cores t c load (landed a (maps_frame fill v.kind m))

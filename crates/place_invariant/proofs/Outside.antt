@@ -1,41 +1,28 @@
 -- The refusal of a call whose frame is outside its range.
-use Rattle.count_invariant.proofs.Common.{Want, ◌≡◌, ◌⊎◌, inl, inr, ℕ, ◌<◌, not, false, IsTrue, List, [], ◌∷◌, Option, Some, None, refl}
-use Rattle.count_invariant.proofs.Common.{sym, ◌∙◌, ap, subst, if◌then◌else◌, IsSome, cases_eq, false≢true, Capability, Setting}
-use Rattle.count_invariant.proofs.Common.{IsSetting, Call, Map, Make, Reply, entry_of_word, EntryAt, Move, LoadOf, word_of, State}
-use Rattle.count_invariant.proofs.Common.{PlaceOf, Kernel, Leaf, Slot, Target, Under, found, place_at, reached, page_cap, slot_relies}
-use Rattle.count_invariant.proofs.Common.{Cause, Vacant, Does, RuleMay, Refused, Found, and_then, or_refuse, unless}
-use Rattle.count_invariant.proofs.Common.{first_of, first_cause, vacant, not_vacant, outcome, is_node, has_frame, outside, not_blank}
-use Rattle.count_invariant.proofs.Common.{rule_of, change_of, IsAlone, Trace, Open, state_after, last_left}
-use Rattle.count_invariant.proofs.Common.{own_read, not_changed, Plan, plan_for, GoesBy, own_pages, Leads, LeadsIn, rule_after}
-use Rattle.count_invariant.proofs.Common.{names_after, NextName, NextFree, next_of, left_may, outcome_left, NewObject, object_kind}
-use Rattle.count_invariant.proofs.Common.{object_made, ActiveCall, Core, IsSpot, MayFill, NamesAre, phase_at, Invariant, limits_of, Bool}
-use Rattle.kernel_laws.specs.spk_nums.specs.declared.calls.Call.TheVariants.{Make as make_call, Part}
-use Rattle.kernel_laws.specs.spk_nums.specs.declared.calls.Make.TheVariants as make_of
-use Rattle.place_invariant.proofs.CompMakes.{IsCompMake, comp_make, comp_rest, new_comp}
-use Rattle.kernel_laws.specs.spk_nums.specs.declared.replies.Reply.TheVariants as reply
-use Rattle.kernel_laws.specs.spk_nums.specs.Rights.{part_of}
-use Rattle.kernel_laws.specs.kernel_rules.specs.MemoryCalls.{not_user}
-use Rattle.kernel_laws.specs.kernel_rules.specs.Rules.{When, does}
-use Rattle.kernel_laws.specs.kernel_rules.specs.CapabilityCalls.{not_taken, has_frames}
-use Rattle.count_invariant.specs.core_invariant.specs.Knows.{OutsideBy, OutsideObject, OutsideComp}
-use Rattle.count_invariant.specs.step_ways.proofs.Loads.{step_to, call_is}
-use Rattle.count_invariant.specs.step_ways.proofs.Places.{IsMarked, IsUnmarked, place_reads}
-use Rattle.count_invariant.proofs.Acquiring.{plan_leads, goes_by}
-use Rattle.count_invariant.proofs.Next.{Rest, ANameLeft, NoneLeft, rest_of, next_name}
-use Rattle.place_invariant.proofs.ObjectMakes.{made_by, make_rest, IsObjectMake, object_make}
-use Rattle.place_invariant.proofs.Starts.{IsRefusedOutside}
-use Rattle.place_invariant.proofs.Vacancy.{in_leaf, IsVacant, vacant_by}
-use Rattle.kernel_laws.specs.kernel_rules.specs.Edits.{Component as component_edit, Fill as fill_edit, Edit}
-use Rattle.kernel_laws.specs.spk_nums.specs.declared.replies.Value.TheVariants.{Nothing as no_value}
-use Rattle.kernel_laws.specs.spk_nums.specs.declared.kinds.Kind.TheVariants as kind
-use Rattle.kernel_laws.specs.kernel_rules.specs.Start.{plain_cap}
-use Rattle.count_invariant.specs.core_invariant.specs.call_plans.specs.PlanOf.{plan_for}
+use Rattle.count_invariant.specs.step_ways.proofs as low
+use low.{Want, ◌≡◌, ◌⊎◌, inl, inr, ℕ, ◌<◌, not, false, IsTrue, List, [], ◌∷◌, Option, Some, None, refl, sym, ◌∙◌, ap, subst, if◌then◌else◌}
+use low.{IsSome, false≢true, Capability, Setting, IsSetting, Call, Reply, entry_of_word, EntryAt, Move, LoadOf, word_of, State, PlaceOf}
+use low.{Kernel, Leaf, Slot, Target, Under, found, place_at, reached, page_cap, slot_relies, Cause, Vacant, Does, RuleMay, Refused, Found}
+use low.{and_then, or_refuse, unless, first_of, first_cause, vacant, not_vacant, outcome, is_node, has_frame, outside, not_blank, rule_of}
+use low.{change_of, IsAlone, Trace, Open, state_after, last_left, own_read, Plan, plan_for, GoesBy, own_pages, Leads, LeadsIn, rule_after}
+use low.{names_after, NextName, NextFree, next_of, left_may, outcome_left, NewObject, object_made, ActiveCall, Core, IsSpot, MayFill}
+use low.{NamesAre, phase_at, Invariant, limits_of, Bool, Make as make_call, Part, does, step_to, call_is, IsMarked, IsUnmarked, place_reads}
+use low.{Edit, plain_cap, Kind}
+use Rattle.count_invariant.specs.boot_words.specs.kernel_rules.specs.{Map, Make, part_of, not_user, When, not_taken, has_frames}
+use Rattle.count_invariant.specs.boot_words.specs.kernel_rules.specs.{Component as component_edit, Fill as fill_edit, Nothing as no_value}
+use Rattle.count_invariant.proofs.{plan_leads, goes_by, Rest, ANameLeft, NoneLeft, rest_of, next_name}
+use Rattle.count_invariant.specs.core_invariant.specs.Acting.{OutsideBy, OutsideObject, OutsideComp}
+use Rattle.place_invariant.proofs.{CompMakes.IsCompMake, CompMakes.comp_make, CompMakes.comp_rest, CompMakes.new_comp, ObjectMakes.made_by}
+use Rattle.place_invariant.proofs.{ObjectMakes.make_rest, ObjectMakes.IsObjectMake, ObjectMakes.object_make, Starts.IsRefusedOutside}
+use Rattle.place_invariant.proofs.{Vacancy.in_leaf, Vacancy.IsVacant, Vacancy.vacant_by}
+use Rattle.{std.proofs.lemmas.Bool.cases_eq, count_invariant.specs.kernel_history.proofs.Laws.not_changed}
+use Rattle.{count_invariant.specs.act_states.specs.Objects.object_kind}
 
 -- A slot that is reached and vacant.
 pub vacant_slot : (s : State) (c : ℕ) (target : Target) (at : Slot) → reached s c target ≡ Some at
     → not_vacant s c (PlaceOf at.node at.index) (place_at s at) ≡ None → vacant s c target ≡ Found at
 vacant_slot s c target at is free =
-    ap (λ o. and_then (or_refuse o reply.NoSlot) λ at. unless (not_vacant s c (PlaceOf at.node at.index) (place_at s at)) at) is
+    ap (λ o. and_then (or_refuse o Reply.NoSlot) λ at. unless (not_vacant s c (PlaceOf at.node at.index) (place_at s at)) at) is
     ∙ ap (λ o. unless o at) free
 
 -- The call is one that makes an object, in a frame that is not in its range.
@@ -95,7 +82,7 @@ record IsRefusable (s : State) (c : ℕ) (call : Call) (ks : List Capability) (t
   has : Bool
   causes : List Cause
   edits : Slot → List Edit
-  rule : rule_after (rule_of s c call) ks ≡ Vacant target (λ at. Does (When (not has) reply.OutOfRange ∷ causes) no_value (edits at))
+  rule : rule_after (rule_of s c call) ks ≡ Vacant target (λ at. Does (When (not has) Reply.OutOfRange ∷ causes) no_value (edits at))
   is_outside : has ≡ false
 
 target_in : (p q : Target) → NextFree p ≡ NextFree q → p ≡ q
@@ -128,15 +115,15 @@ made_refusable s c call ks target is leads next =
 -- So is a call that makes a component.
 comp_refusable : (s : State) (c : ℕ) (call : Call) (ks : List Capability) (target : Target) → OutsideComp call ks
     → Leads (LeadsIn s c) (plan_for call).names [] ks → next_of (plan_for call) ks ≡ NextFree target → IsRefusable s c call ks target
-comp_refusable s c (make_call (make_of.Comp x p live) r f u b) (range ∷ second ∷ table ∷ pages ∷ []) target out leads next =
-    let call : Call = make_call (make_of.Comp x p live) r f u b in
+comp_refusable s c (make_call (Make.Comp x p live) r f u b) (range ∷ second ∷ table ∷ pages ∷ []) target out leads next =
+    let call : Call = make_call (Make.Comp x p live) r f u b in
     let ks : List Capability = range ∷ second ∷ table ∷ pages ∷ [] in
     let make : IsCompMake s c r f u b x p live ks = comp_make s c r f u b x p live ks leads (none_left_of (plan_for call) ks target next) in
     record {
       has = has_frame (found make.range) f;
       causes = not_blank s f ∷ not_taken s live;
       edits = λ at.
-          component_edit f (new_comp s make.table.frame make.pages.frame live) ∷ fill_edit at (plain_cap kind.Comp f) ∷ [];
+          component_edit f (new_comp s make.table.frame make.pages.frame live) ∷ fill_edit at (plain_cap Kind.Comp f) ∷ [];
       rule = make.rule ∙ ap (λ to. comp_rest s make.range f make.table.frame make.pages.frame live to)
           (target_in _ _ (sym make.next ∙ next));
       is_outside = ap (λ (k : Capability). has_frame (found k) f) (first_same _ _ _ _ (sym make.found_is)) ∙ out;
@@ -144,11 +131,11 @@ comp_refusable s c (make_call (make_of.Comp x p live) r f u b) (range ∷ second
   where
     first_same : (k j : Capability) (ks js : List Capability) → k ∷ ks ≡ j ∷ js → k ≡ j
     first_same k j ks js h = cc
-comp_refusable s c (make_call (make_of.Comp x p live) r f u b) [] target out leads next = absurd out
-comp_refusable s c (make_call (make_of.Comp x p live) r f u b) (k ∷ []) target out leads next = absurd out
-comp_refusable s c (make_call (make_of.Comp x p live) r f u b) (k ∷ j ∷ []) target out leads next = absurd out
-comp_refusable s c (make_call (make_of.Comp x p live) r f u b) (k ∷ j ∷ i ∷ []) target out leads next = absurd out
-comp_refusable s c (make_call (make_of.Comp x p live) r f u b) (k ∷ j ∷ i ∷ h ∷ g ∷ ks) target out leads next = absurd out
+comp_refusable s c (make_call (Make.Comp x p live) r f u b) [] target out leads next = absurd out
+comp_refusable s c (make_call (Make.Comp x p live) r f u b) (k ∷ []) target out leads next = absurd out
+comp_refusable s c (make_call (Make.Comp x p live) r f u b) (k ∷ j ∷ []) target out leads next = absurd out
+comp_refusable s c (make_call (Make.Comp x p live) r f u b) (k ∷ j ∷ i ∷ []) target out leads next = absurd out
+comp_refusable s c (make_call (Make.Comp x p live) r f u b) (k ∷ j ∷ i ∷ h ∷ g ∷ ks) target out leads next = absurd out
 comp_refusable s c (make_call what r f u b) ks target out leads next = absurd out
 comp_refusable s c call ks target out leads next = absurd out
 
@@ -190,7 +177,7 @@ module _ (setup : Setting) (setting : IsSetting setup) (cores : ℕ → Core) (t
     (next : next_of (plan_for a.call) a.found ≡ NextFree target)
     (reaches : reached (state_after setup t) c target ≡ Some (record { node = node; index = index }))
     (out : OutsideBy a.call a.found) (move : Move)
-    (vacant_alone : IsAlone t (step_to c None move (last_left setup t (word_of move)) (Some reply.OutOfRange) None)
+    (vacant_alone : IsAlone t (step_to c None move (last_left setup t (word_of move)) (Some Reply.OutOfRange) None)
     → IsVacant (state_after setup t) c node index) where
   abbrev s : State
   s = state_after setup t
@@ -208,20 +195,20 @@ module _ (setup : Setting) (setting : IsSetting setup) (cores : ℕ → Core) (t
   is = refusable s c a.call a.found target out leads
       next
 
-  first : IsAlone t (step_to c None move (last_left setup t (word_of move)) (Some reply.OutOfRange) None)
-      → change_of s c a.call ≡ Refused reply.OutOfRange
+  first : IsAlone t (step_to c None move (last_left setup t (word_of move)) (Some Reply.OutOfRange) None)
+      → change_of s c a.call ≡ Refused Reply.OutOfRange
   first alone =
       outcome_left s c (own_pages s c) (plan_for a.call) (rule_of s c a.call) a.found by_plan leads ∙ ap (outcome s c) is.rule
-      ∙ ap (λ x. and_then x λ at. unless (first_of (if not is.has then Some reply.OutOfRange else None)
+      ∙ ap (λ x. and_then x λ at. unless (first_of (if not is.has then Some Reply.OutOfRange else None)
       (first_cause s c is.causes)) (does c s no_value (is.edits at)))
       (vacant_slot s c target slot reaches (vacant_alone alone).vacant)
-      ∙ ap (λ b. unless (first_of (if not b then Some reply.OutOfRange else None) (first_cause s c is.causes))
+      ∙ ap (λ b. unless (first_of (if not b then Some Reply.OutOfRange else None) (first_cause s c is.causes))
       (does c s no_value (is.edits slot))) is.is_outside
 
   pub refused_vacant : IsRefusedOutside setup t c a.call move
   refused_vacant = record {
-    may = left_may s c (own_pages s c) (plan_for a.call) (rule_of s c a.call) a.found by_plan leads reply.OutOfRange
-        (subst (λ x. RuleMay s c x reply.OutOfRange) (sym is.rule) (inr (inl (ap (λ b. not b) is.is_outside, refl))));
+    may = left_may s c (own_pages s c) (plan_for a.call) (rule_of s c a.call) a.found by_plan leads Reply.OutOfRange
+        (subst (λ x. RuleMay s c x Reply.OutOfRange) (sym is.rule) (inr (inl (ap (λ b. not b) is.is_outside, refl))));
     first = first;
   }
 
@@ -270,4 +257,4 @@ module _ (setup : Setting) (setting : IsSetting setup) (cores : ℕ → Core) (t
   pub refused_outside : (index < 64) → OutsideBy a.call a.found → (move : Move) → IsRefusedOutside setup t c a.call move
   refused_outside small out move =
       refused_vacant setup setting cores t stands c here a active names node index spot.target spot.next spot.way.reached out move
-      (λ alone. vacant_node small in_node (stands_alone setup t c node index word spot.own move reply.OutOfRange alone))
+      (λ alone. vacant_node small in_node (stands_alone setup t c node index word spot.own move Reply.OutOfRange alone))

@@ -1,27 +1,19 @@
 -- Which places that a call fills are those of page tables.
-use Rattle.kernel_laws.specs.spk_nums.specs.declared.calls.Make.TheVariants as make
-use Rattle.count_invariant.proofs.Common.{◌≡◌, ℕ, ◌&&◌, nat_le, if◌then◌else◌, Bool, true, false, List, [], ◌∷◌, Some, None, refl}
-use Rattle.count_invariant.proofs.Common.{sym, ◌∙◌, ap, IsTrue, false≢true, Capability, Setting, IsSetting, Kind, Call, Copy}
-use Rattle.count_invariant.proofs.Common.{Remove, Grow, Shrink, Map, Unmap, Retype, Tick, Kill, Gate, Touch, Flush, Ret, Transfer}
-use Rattle.count_invariant.proofs.Common.{Delegate, Test, Switch, Table, Pages, Frame, Kernel, State, Slot, Named, found, only, Target}
-use Rattle.count_invariant.proofs.Common.{Under, InRoot, reached, fits, is_paging, some_inj, none_some, opened, events_of, IsLegal, Trace}
-use Rattle.count_invariant.proofs.Common.{Open, phase, state_after, sound_of, opened_is, Nowhere, Plan, plan_for, Leads}
-use Rattle.count_invariant.proofs.Common.{LeadsIn, NextNothing, NextHeld, NextOwn, NextFree, next_of, fills_page}
-use Rattle.place_invariant.proofs.CompMakes.{IsCompMake, comp_make}
-use Rattle.kernel_laws.specs.spk_nums.specs.declared.kinds.FrameKind.TheVariants as frame_kind
-use Rattle.kernel_laws.specs.spk_nums.specs.declared.kinds.Kind.TheVariants as kind
-use Rattle.kernel_laws.specs.spk_nums.specs.declared.calls.Call.TheVariants.{Look, Part, Replenish}
-use Rattle.kernel_laws.specs.spk_nums.specs.declared.calls.Call.TheVariants.{Make as make_call}
-use Rattle.kernel_laws.specs.spk_nums.specs.declared.calls.Call.TheVariants.{Call as call_gate}
-use Rattle.kernel_laws.specs.kernel_rules.specs.Access.{to_use, root}
-use Rattle.kernel_laws.specs.kernel_rules.specs.Fitting.{IsGood}
-use Rattle.kernel_laws.specs.kernel_invariant.proofs.Facts.{named_good}
-use Rattle.count_invariant.specs.call_plans.specs.declared.plans.Target.{Target as TargetOf}
+use Rattle.count_invariant.specs.act_states.proofs as low
+use low.{◌≡◌, ℕ, ◌&&◌, leb as nat_le, if◌then◌else◌, Bool, true, false, List, [], ◌∷◌, Some, None, refl, sym, ◌∙◌, ap, IsTrue, false≢true}
+use low.{Capability, Setting, IsSetting, Kind, Call, Copy, Remove, Grow, Shrink, Map, Unmap, Retype, Tick, Kill, Gate, Touch, Flush, Ret}
+use low.{Transfer, Delegate, Test, Switch, Table, Pages, Frame, Kernel, State, Slot, Named, found, only, Target, Under, InRoot, reached}
+use low.{fits, some_inj, opened, Nowhere, Plan, plan_for, Leads, LeadsIn, NextNothing, NextHeld, NextOwn, NextFree, next_of, Part}
+use low.{Replenish, to_use, FrameKind}
+use Rattle.count_invariant.specs.step_ways.proofs.{events_of, IsLegal, Trace, Open, phase, state_after, sound_of, opened_is}
+use Rattle.count_invariant.specs.kernel_laws.proofs.{is_paging, none_some, Look, root, IsGood, named_good}
 use Rattle.count_invariant.specs.call_plans.specs.declared.plans.Target.TheVariants.{Free, Held, Own}
-use Rattle.count_invariant.proofs.Next.{next_end}
-use Rattle.place_invariant.proofs.ObjectMakes.{made_of, IsObjectMake, object_make}
-use Rattle.place_invariant.proofs.Outside.{none_left_of}
-use Rattle.place_invariant.proofs.Vacancy.{in_leaf, in_pleaf}
+use Rattle.place_invariant.proofs.{CompMakes.IsCompMake, CompMakes.comp_make, ObjectMakes.made_of, ObjectMakes.IsObjectMake}
+use Rattle.place_invariant.proofs.{ObjectMakes.object_make, Outside.none_left_of, Vacancy.in_leaf, Vacancy.in_pleaf}
+use Rattle.{count_invariant.specs.step_ways.proofs.Make as make_call, count_invariant.specs.act_states.specs.Acts.fills_page}
+use Rattle.{count_invariant.specs.quality_lists.specs.spk_nums.specs.declared.calls.Call.TheVariants.Call as call_gate}
+use Rattle.{count_invariant.specs.call_plans.specs.declared.plans.Target.Target as TargetOf, count_invariant.proofs.Next.next_end}
+use Rattle.count_invariant.specs.kernel_laws.specs.spk_nums.specs.declared.calls.Make.TheVariants as make
 
 -- The plan of a call whose target is to be free.
 abbrev IsFreeTarget : TargetOf → Type 0
@@ -49,11 +41,11 @@ free_target plan ks target next = by plan.target refl
         not_free h = cc
 
 -- A root is one of a page table where its capability is of pages.
-root_paging : (k : Kind) (x : Frame) → IsTrue (root k) → IsTrue (fits k x) → is_paging x ≡ only kind.Pages k
-root_paging kind.Table (Kernel Table) r h = refl
-root_paging kind.Table _ r h = absurd (false≢true h)
-root_paging kind.Pages (Kernel Pages) r h = refl
-root_paging kind.Pages _ r h = absurd (false≢true h)
+root_paging : (k : Kind) (x : Frame) → IsTrue (root k) → IsTrue (fits k x) → is_paging x ≡ only Kind.Pages k
+root_paging Kind.Table (Kernel Table) r h = refl
+root_paging Kind.Table _ r h = absurd (false≢true h)
+root_paging Kind.Pages (Kernel Pages) r h = refl
+root_paging Kind.Pages _ r h = absurd (false≢true h)
 root_paging _ x r h = absurd (false≢true r)
 
 in_root_node : (table : Named) (i : ℕ) (at : Slot) (b : Bool) → (if b then Some (record { node = table.frame; index = i }) else None) ≡
@@ -130,9 +122,9 @@ module _ (setup : Setting) (setting : IsSetting setup) (t : Trace) (legal : IsLe
   paging_by (Remove u b) is ks lead next = absurd (none_free (Remove u b) ks next)
   paging_by (Shrink u i) is ks lead next = absurd (none_free (Shrink u i) ks next)
   paging_by (Unmap p v) is ks lead next = absurd (none_free (Unmap p v) ks next)
-  paging_by (Retype r f frame_kind.Untyped) is ks lead next = absurd (none_free (Retype r f frame_kind.Untyped) ks next)
-  paging_by (Retype r f frame_kind.User) is ks lead next = absurd (none_free (Retype r f frame_kind.User) ks next)
-  paging_by (Retype r f frame_kind.Kernel) is ks lead next = absurd (none_free (Retype r f frame_kind.Kernel) ks next)
+  paging_by (Retype r f FrameKind.Untyped) is ks lead next = absurd (none_free (Retype r f FrameKind.Untyped) ks next)
+  paging_by (Retype r f FrameKind.User) is ks lead next = absurd (none_free (Retype r f FrameKind.User) ks next)
+  paging_by (Retype r f FrameKind.Kernel) is ks lead next = absurd (none_free (Retype r f FrameKind.Kernel) ks next)
   paging_by (Tick n) is ks lead next = absurd (none_free (Tick n) ks next)
   paging_by (Kill n) is ks lead next = absurd (none_free (Kill n) ks next)
   paging_by (call_gate n) is ks lead next = absurd (none_free (call_gate n) ks next)

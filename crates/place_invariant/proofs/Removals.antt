@@ -1,64 +1,48 @@
 -- A removal draws its stamp and is decided: what its target held is removed, the reference is released, and the grace periods of both
 -- begin at the stamp.
-use Rattle.count_invariant.proofs.Common.{Want, counts_bare, ◌≡◌, ◌≢◌, ◌⊎◌, inl, inr, ℕ, pos, negsuc, ◌+ℤ◌, max, length, ◌≤◌, ◌+◌, ◌^◌, ◌<◌}
-use Rattle.count_invariant.proofs.Common.{◌==◌, ◌&&◌, ◌||◌, ◌∷◌, [], Bool, true, false, List, Option, Some, None, arith, refl, sym, ◌∙◌}
-use Rattle.count_invariant.proofs.Common.{ap, subst, IsTrue, if◌then◌else◌, list_any, cases_eq, eq-eqb, ne_eqb, false≢true, Capability}
-use Rattle.count_invariant.proofs.Common.{Setting, IsSetting, Call, Remove, Shrink, Unmap, Reply, Entry, EntryFits, word_of_entry}
-use Rattle.count_invariant.proofs.Common.{entry_of_word, Word, EntryAt, FrameAt, CountAt, CoreAt, FlushAt, LiveAt, ClockAt, same_word}
-use Rattle.count_invariant.proofs.Common.{AddOf, word_of, told_of, same_same, Place, Free, Holds, Quiescing, Thing, PlaceOf, FrameOf}
-use Rattle.count_invariant.proofs.Common.{NumberOf, Grace, State, comp_of, with_place, with_grace, Slot, Target, Under, InRoot, found}
-use Rattle.count_invariant.proofs.Common.{own, place_at, held_in, reached, Found, IsFoundAnd, Does, and_then, or_refuse, outcome}
-use Rattle.count_invariant.proofs.Common.{frames_of, named_by, times, refs, MayReply, rule_of, ends_by, flushes_by, changed, change_of}
-use Rattle.count_invariant.proofs.Common.{counted, begins_in, same_thing, new_grace, calls_counted, is_node, IsGuarded, Relies, put_same}
-use Rattle.count_invariant.proofs.Common.{slot_is, place_here, place_there, Step, Trace, Out, Open, WasAt, phase, state_after}
-use Rattle.count_invariant.proofs.Common.{state_decided_in, last_left, way_to, ways, wide_ways, IsInFootprint, is_slot_in, HasReached}
-use Rattle.count_invariant.proofs.Common.{marked_by, ends_in, flushes_in, begins_at, ends_at, flushes_at, stamp, clock, flush_stored}
-use Rattle.count_invariant.proofs.Common.{is_in, ok_first, was_now, was_stays, decided-inside, cases_word, same_word-other, stamp-begins}
-use Rattle.count_invariant.proofs.Common.{stamp-kept, flush_stored-own, flush_stored-other, Close, AtCompare, AtDraw, AtStore}
-use Rattle.count_invariant.proofs.Common.{drawn_stamp, of_kind, plan_for, GoesBy, own_pages, rule_after, names_after, Leads}
-use Rattle.count_invariant.proofs.Common.{LeadsIn, NextName, NextHeld, next_of, leads_by, outcome_left, later, Act, Nothing, Quiesce}
-use Rattle.count_invariant.proofs.Common.{Undecided, Decided, ActiveCall, removes_by, StageFits, HasRoom, GoesOn, landed, went_with, Core}
-use Rattle.count_invariant.proofs.Common.{Holding, holds_counts, settled_by, settled, PlaceIs, WordIs, HasFound}
-use Rattle.count_invariant.proofs.Common.{KnowsUndecided, own_in, phase_at, holds_at, holds_in, holds, held_by, times_of, Invariant}
-use Rattle.count_invariant.proofs.Common.{IsCalm, plain_exit, own_kept, slot_relies, limits_of, SameFor, ReadsAlike}
-use Rattle.count_invariant.proofs.Common.{reads_alike, StaysSaid, word_stays, Stage}
-use Rattle.std.proofs.Math.IntN.{pos-+ℤ-pos, +ℤ_assoc, +ℤ_invr, +ℤ_idr}
-use Rattle.kernel_laws.specs.spk_nums.specs.declared.kinds.Kind.TheVariants as kind
-use Rattle.kernel_laws.specs.spk_nums.specs.declared.replies.Reply.TheVariants as reply
-use Rattle.kernel_laws.specs.spk_nums.specs.declared.replies.Value.TheVariants as value
-use Rattle.count_invariant.specs.entry_words.specs.declared.entry.Entry.TheVariants as entry
-use Rattle.count_invariant.specs.entry_words.proofs.Spelling.{spelling}
-use Rattle.kernel_laws.specs.kernel_rules.specs.Rules as rules
-use Rattle.kernel_laws.specs.kernel_invariant.proofs.Sums as sums
-use Rattle.count_invariant.specs.kernel_history.specs.Stamps.{begins_in as begins_then}
-use Rattle.count_invariant.specs.kernel_history.proofs.Inside.{inside_is}
-use Rattle.count_invariant.specs.stage_quiet.specs.Removal.{close_move, close_end, close_after}
-use Rattle.count_invariant.specs.call_plans.specs.PlanOf.{a_root}
-use Rattle.count_invariant.specs.plan_ways.specs.Laws.{NextPlace}
+use Rattle.count_invariant.specs.step_ways.proofs.{Want, counts_bare, ◌≡◌, ◌≢◌, ◌⊎◌, inl, inr, ℕ, pos, negsuc, ◌+ℤ◌, max, length, ◌≤◌, ◌+◌}
+use Rattle.count_invariant.specs.step_ways.proofs.{◌^◌, ◌<◌, ◌==◌, ◌&&◌, ◌||◌, ◌∷◌, [], Bool, true, false, List, Option, Some, None, arith}
+use Rattle.count_invariant.specs.step_ways.proofs.{refl, sym, ◌∙◌, ap, subst, IsTrue, if◌then◌else◌, eq-eqb, ne_eqb, false≢true, Capability}
+use Rattle.count_invariant.specs.step_ways.proofs.{Setting, IsSetting, Call, Shrink, Unmap, Reply, Entry, EntryFits, word_of_entry}
+use Rattle.count_invariant.specs.step_ways.proofs.{entry_of_word, Word, EntryAt, FrameAt, CountAt, CoreAt, FlushAt, LiveAt, ClockAt}
+use Rattle.count_invariant.specs.step_ways.proofs.{same_word, AddOf, word_of, told_of, same_same, Place, Free, Holds, Quiescing, Thing}
+use Rattle.count_invariant.specs.step_ways.proofs.{PlaceOf, FrameOf, NumberOf, Grace, State, comp_of, with_place, Slot, Target, Under}
+use Rattle.count_invariant.specs.step_ways.proofs.{InRoot, found, own, place_at, held_in, reached, Found, IsFoundAnd, Does, and_then}
+use Rattle.count_invariant.specs.step_ways.proofs.{or_refuse, outcome, frames_of, named_by, times, refs, MayReply, rule_of, ends_by}
+use Rattle.count_invariant.specs.step_ways.proofs.{flushes_by, changed, change_of, counted, same_thing, new_grace, calls_counted, is_node}
+use Rattle.count_invariant.specs.step_ways.proofs.{IsGuarded, Relies, put_same, Step, Trace, Out, Open, WasAt, phase, state_after}
+use Rattle.count_invariant.specs.step_ways.proofs.{state_decided_in, last_left, way_to, ways, wide_ways, IsInFootprint, is_slot_in}
+use Rattle.count_invariant.specs.step_ways.proofs.{HasReached, marked_by, ends_in, flushes_in, begins_at, ends_at, flushes_at, stamp, clock}
+use Rattle.count_invariant.specs.step_ways.proofs.{flush_stored, is_in, ok_first, was_now, was_stays, decided-inside, cases_word}
+use Rattle.count_invariant.specs.step_ways.proofs.{same_word-other, stamp-begins, stamp-kept, flush_stored-own, flush_stored-other}
+use Rattle.count_invariant.specs.step_ways.proofs.{AtCompare, AtDraw, AtStore, drawn_stamp, of_kind, plan_for, GoesBy, own_pages}
+use Rattle.count_invariant.specs.step_ways.proofs.{rule_after, names_after, Leads, LeadsIn, NextName, NextHeld, next_of, leads_by}
+use Rattle.count_invariant.specs.step_ways.proofs.{outcome_left, later, Act, Nothing, Quiesce, Undecided, Decided, ActiveCall, StageFits}
+use Rattle.count_invariant.specs.step_ways.proofs.{HasRoom, GoesOn, landed, went_with, Core, Holding, holds_counts, settled_by, settled}
+use Rattle.count_invariant.specs.step_ways.proofs.{PlaceIs, WordIs, HasFound, KnowsUndecided, own_in, phase_at, holds_at, holds_in, holds}
+use Rattle.count_invariant.specs.step_ways.proofs.{held_by, times_of, Invariant, plain_exit, own_kept, slot_relies, limits_of, SameFor}
+use Rattle.count_invariant.specs.step_ways.proofs.{ReadsAlike, StaysSaid, word_stays, Stage, begins_in as begins_then, inside_is}
+use Rattle.count_invariant.specs.step_ways.proofs.{Remove as remove_act, Answers, call_is, inner_works, is_active, GoodTook, not_spent}
+use Rattle.count_invariant.specs.step_ways.proofs.{clock_small, same_marks, does, Kind, Value}
+use Rattle.count_invariant.proofs.{plan_leads, goes_by, counts_commit, counts_sum, own_is, found_named, way_gone, footprint_way, Rest}
+use Rattle.count_invariant.proofs.{ANameLeft, NoneLeft, rest_of, next_name}
+use Rattle.count_invariant.specs.act_states.specs.{Remove, begins_in, Close, removes_by, close_move, close_end, close_after, took_close}
+use Rattle.count_invariant.specs.act_states.specs.{cap_dues, Nothing as no_value}
+use Rattle.count_invariant.specs.kept_facts.proofs.{IsCalm, reads_alike, counted_grows}
+use Rattle.count_invariant.specs.kernel_laws.specs.found_stays.proofs.{slot_is, place_here, place_there}
+use Rattle.std.proofs.{lemmas.Bool.cases_eq, Math.IntN.pos-+ℤ-pos, Math.IntN.+ℤ_assoc, Math.IntN.+ℤ_invr, Math.IntN.+ℤ_idr}
+use Rattle.count_invariant.specs.boot_words.specs.kernel_rules.specs.{State.with_grace, Edits.Remove as remove_edit}
 use Rattle.count_invariant.specs.plan_ways.proofs.Ways.{next_on_way, all_ways}
-use Rattle.count_invariant.specs.act_states.specs.declared.work.Act.TheVariants.{Remove as remove_act}
-use Rattle.count_invariant.specs.act_states.specs.declared.work.WorkStep.TheVariants.{Answers}
-use Rattle.count_invariant.specs.act_states.specs.Acts.{took_close, cap_dues}
-use Rattle.count_invariant.specs.act_fits.proofs.DuesFit.{cap_one}
-use Rattle.count_invariant.specs.core_invariant.specs.Knows.{KnowsStore}
-use Rattle.count_invariant.specs.kept_facts.proofs.Calm.{calm_core, counted_grows}
-use Rattle.count_invariant.specs.kept_facts.proofs.CountSums.{removed_refs}
+use Rattle.count_invariant.specs.kept_facts.proofs.{Calm.calm_core, CountSums.removed_refs}
+use Rattle.count_invariant.proofs.Acquiring.{removal_places, removal_raises, removal_types}
+use Rattle.place_invariant.proofs.{Closings.close_good, Closings.store_at, Fills.node_word, Fills.target_way}
+use Rattle.{std.specs.List.list_any, count_invariant.specs.entry_words.proofs.Spelling.spelling}
+use Rattle.{count_invariant.specs.call_plans.specs.PlanOf.a_root, count_invariant.specs.plan_ways.specs.Laws.NextPlace}
+use Rattle.{count_invariant.specs.act_fits.proofs.DuesFit.cap_one, count_invariant.specs.core_invariant.specs.Knows.KnowsStore}
+use Rattle.{count_invariant.specs.step_ways.proofs.Places.node_says}
+use Rattle.count_invariant.specs.kernel_laws.specs.kernel_rules.specs.Rules as rules
+use Rattle.count_invariant.specs.kernel_laws.specs.kernel_invariant.proofs.Sums as sums
 use Rattle.count_invariant.specs.step_ways.proofs.Draws as drawing
-use Rattle.count_invariant.specs.step_ways.proofs.Loads.{call_is, inner_works, is_active}
-use Rattle.count_invariant.specs.step_ways.proofs.Places.{node_says}
-use Rattle.count_invariant.specs.step_ways.proofs.Refusals.{GoodTook, not_spent}
-use Rattle.count_invariant.specs.step_ways.proofs.Writes.{clock_small, same_marks}
-use Rattle.count_invariant.proofs.Acquiring.{removal_places, removal_raises, removal_types, plan_leads, goes_by}
-use Rattle.place_invariant.proofs.Closings.{close_good, store_at}
-use Rattle.count_invariant.proofs.CapChanges.{counts_commit, counts_sum}
-use Rattle.place_invariant.proofs.Fills.{node_word, target_way}
-use Rattle.count_invariant.proofs.Findings.{own_is, found_named, way_gone}
-use Rattle.count_invariant.proofs.Lookups.{footprint_way}
-use Rattle.count_invariant.proofs.Next.{Rest, ANameLeft, NoneLeft, rest_of, next_name}
-use Rattle.kernel_laws.specs.kernel_rules.specs.Edits.{Remove as remove_edit}
-use Rattle.kernel_laws.specs.kernel_rules.specs.Rules.{does}
-use Rattle.kernel_laws.specs.spk_nums.specs.declared.replies.Value.TheVariants.{Nothing as no_value}
-use Rattle.count_invariant.specs.call_plans.specs.PlanOf.{plan_for}
 
 -- What a call takes away at its target: what is left of its rule after its names removes what the target holds.
 pub record TakesAway (s : State) (c : ℕ) (call : Call) (ks : List Capability) (target : Target) : Type 0 where
@@ -78,7 +62,7 @@ takes_by s c target (Remove u b) (j ∷ []) lead none next is =
     (record { rule = refl; ends = λ x. refl; flushes = refl })
 takes_by s c target (Remove u b) [] lead none next is = absurd (not_none none)
   where
-    not_none : of_kind kind.Table u ∷ [] ≡ [] → ⊥
+    not_none : of_kind Kind.Table u ∷ [] ≡ [] → ⊥
     not_none h = cc
 takes_by s c target (Remove u b) (j ∷ k ∷ ks) lead none next is = absurd lead.1
 takes_by s c target (Shrink u i) (j ∷ []) lead none next is =
@@ -94,7 +78,7 @@ takes_by s c target (Unmap p v) (j ∷ []) lead none next is =
     (record { rule = refl; ends = λ x. refl; flushes = refl })
 takes_by s c target (Unmap p v) [] lead none next is = absurd (not_none none)
   where
-    not_none : of_kind kind.Pages p ∷ [] ≡ [] → ⊥
+    not_none : of_kind Kind.Pages p ∷ [] ≡ [] → ⊥
     not_none h = cc
 takes_by s c target (Unmap p v) (j ∷ k ∷ ks) lead none next is = absurd lead.1
 takes_by s c target call ks lead none next is = absurd (false≢true is)
@@ -104,23 +88,23 @@ takes_it : (s : State) (c : ℕ) (target : Target) (at : Slot) (k : Capability) 
     → outcome s c (rules.Held target (λ at k. Does [] no_value (remove_edit at k ∷ []))) ≡ Found (does c s no_value (remove_edit at k ∷ []))
 takes_it s c target at k reached_at holds_k =
     ap (λ x. and_then x λ p. outcome s c (Does [] no_value (remove_edit p.0 p.1 ∷ [])))
-    (ap (λ o. and_then (or_refuse o reply.NoSlot) λ at. and_then (or_refuse (held_in (place_at s at)) reply.Empty) λ k. Found (at, k))
+    (ap (λ o. and_then (or_refuse o Reply.NoSlot) λ at. and_then (or_refuse (held_in (place_at s at)) Reply.Empty) λ k. Found (at, k))
     reached_at
-    ∙ ap (λ p. and_then (or_refuse (held_in p) reply.Empty) λ k. Found (at, k)) holds_k)
+    ∙ ap (λ p. and_then (or_refuse (held_in p) Reply.Empty) λ k. Found (at, k)) holds_k)
 
 -- A word that says what it holds is that of a place that holds it.
-pub holds_place : (n : ℕ) (p : Place) (r : ℕ) (o : Option Entry) (k : Capability) → PlaceIs n p r o → o ≡ Some (entry.Held k) → p ≡ Holds k
+pub holds_place : (n : ℕ) (p : Place) (r : ℕ) (o : Option Entry) (k : Capability) → PlaceIs n p r o → o ≡ Some (Entry.Held k) → p ≡ Holds k
 holds_place n Free r o k is shows = absurd (not_held (sym is ∙ shows))
   where
-    not_held : Some entry.Free ≡ Some (entry.Held k) → ⊥
+    not_held : Some Entry.Free ≡ Some (Entry.Held k) → ⊥
     not_held h = cc
 holds_place n (Holds j) r o k is shows = ap Holds (cap_same (sym is.0 ∙ shows))
   where
-    cap_same : Some (entry.Held j) ≡ Some (entry.Held k) → j ≡ k
+    cap_same : Some (Entry.Held j) ≡ Some (Entry.Held k) → j ≡ k
     cap_same h = cc
 holds_place n (Quiescing j) r o k is shows = absurd (not_held (sym is.says ∙ shows))
   where
-    not_held : Some (entry.Quiescing r) ≡ Some (entry.Held k) → ⊥
+    not_held : Some (Entry.Quiescing r) ≡ Some (Entry.Held k) → ⊥
     not_held h = cc
 
 -- Of a list of frames, which things are among them.
@@ -191,7 +175,7 @@ module _ (setup : Setting) (setting : IsSetting setup) (cores : ℕ → Core) (t
   x = clock setup t
 
   abbrev r : Reply
-  r = reply.Ok value.Nothing
+  r = Reply.Ok Value.Nothing
 
   abbrev fs : List ℕ
   fs = named_by cap.kind cap.frame
@@ -225,7 +209,7 @@ module _ (setup : Setting) (setting : IsSetting setup) (cores : ℕ → Core) (t
 
   -- what it holds: the entry that it has closed, which stands for what the place holds, and its counts
   before : (w : Word) → ((holds (cores c)).marks w ≡ (if same_word w at then true else (counts None).marks w))
-      × ((holds (cores c)).stands w ≡ (if same_word w at then word_of_entry (entry.Held cap) else (counts None).stands w))
+      × ((holds (cores c)).stands w ≡ (if same_word w at then word_of_entry (Entry.Held cap) else (counts None).stands w))
   before w = (
     ap (λ h. h.marks w) (ap holds_in active ∙ ap (λ stage. holds_at stage a.counts) stage_is),
     ap (λ h. h.stands w) (ap holds_in active ∙ ap (λ stage. holds_at stage a.counts) stage_is),
@@ -234,17 +218,17 @@ module _ (setup : Setting) (setting : IsSetting setup) (cores : ℕ → Core) (t
   own_mark : marked_by setup t at ≡ Some c
   own_mark = (stands.marks at c).kept ((before at).0 ∙ ap (λ b. if b then true else (counts None).marks at) (same_same at))
 
-  stood_for : settled setup (held_by cores) t at ≡ word_of_entry (entry.Held cap)
+  stood_for : settled setup (held_by cores) t at ≡ word_of_entry (Entry.Held cap)
   stood_for = ap (λ o. settled_by o (held_by cores) at (last_left setup t at)) own_mark ∙ (before at).1
-      ∙ ap (λ b. if b then word_of_entry (entry.Held cap) else (counts None).stands at) (same_same at)
+      ∙ ap (λ b. if b then word_of_entry (Entry.Held cap) else (counts None).stands at) (same_same at)
 
   held_cap : s.place node index ≡ Holds cap
   held_cap = holds_place s.limits.frames (s.place node index) (stamp setup t (PlaceOf node index))
-      (entry_of_word (word_of_entry (entry.Held cap))) cap
+      (entry_of_word (word_of_entry (Entry.Held cap))) cap
       (node_says s.limits.frames (s.frame node) (s.place node index) (stamp setup t (PlaceOf node index)) index
-      (word_of_entry (entry.Held cap)) relies.node fits.0.1
+      (word_of_entry (Entry.Held cap)) relies.node fits.0.1
       (subst (WordIs s (times_of setup t) at) stood_for (stands.words at)))
-      (spelling.reads (entry.Held cap) has.knows.knows.fits)
+      (spelling.reads (Entry.Held cap) has.knows.knows.fits)
 
   change : change_of s c a.call ≡ Found (does c s no_value (remove_edit slot cap ∷ []))
   change = outcome_left s c (own_pages s c) (plan_for a.call) (rule_of s c a.call) a.found by_plan leads ∙ ap (outcome s c) takes.rule
@@ -363,19 +347,19 @@ module _ (setup : Setting) (setting : IsSetting setup) (cores : ℕ → Core) (t
     small : x < 2 ^ 43
     small = clock_small setup setting cores t stands
 
-    stored_fits : EntryFits (entry.Quiescing now_at)
+    stored_fits : EntryFits (Entry.Quiescing now_at)
     stored_fits = let low = small in let is = drawn_is in omega arith
 
-    entry_now : WordIs s' (times_of setup (e ∷ t)) at (word_of_entry (entry.Quiescing now_at))
+    entry_now : WordIs s' (times_of setup (e ∷ t)) at (word_of_entry (Entry.Quiescing now_at))
     entry_now = node_word s'.limits.frames (s'.frame node)
         (s'.place node index) (stamp setup (e ∷ t) (PlaceOf node index)) index
-        (word_of_entry (entry.Quiescing now_at))
+        (word_of_entry (Entry.Quiescing now_at))
         (subst (λ y. IsTrue (is_node y)) (sym (calm.frame node)) relies.node)
         (subst (λ p. PlaceIs s'.limits.frames p (stamp setup (e ∷ t) (PlaceOf node index))
-        (entry_of_word (word_of_entry (entry.Quiescing now_at)))) (sym here_now)
+        (entry_of_word (word_of_entry (Entry.Quiescing now_at)))) (sym here_now)
         (record {
           drawn = (let some = stands.some_time in let is = stamp_begins (PlaceOf node index) itself in omega arith);
-          says = spelling.reads (entry.Quiescing now_at) stored_fits ∙ ap (λ (n : ℕ). Some (entry.Quiescing n))
+          says = spelling.reads (Entry.Quiescing now_at) stored_fits ∙ ap (λ (n : ℕ). Some (Entry.Quiescing n))
               (drawn_is ∙ sym (stamp_begins (PlaceOf node index) itself));
         }))
 
@@ -429,10 +413,10 @@ module _ (setup : Setting) (setting : IsSetting setup) (cores : ℕ → Core) (t
     held_now w mark = elim (cases_word w at) [
       | inl is ↦ subst (λ v. WordIs s' (times_of setup (e ∷ t)) v ((holds after).stands v)) (sym is)
           (subst (WordIs s' (times_of setup (e ∷ t)) at) (sym (ap
-          (λ b. if b then word_of_entry (entry.Quiescing now_at) else (counts (Some (Some now_at))).stands at) (same_same at)))
+          (λ b. if b then word_of_entry (Entry.Quiescing now_at) else (counts (Some (Some now_at))).stands at) (same_same at)))
           entry_now)
       | inr other ↦ subst (WordIs s' (times_of setup (e ∷ t)) w)
-          (sym (ap (λ b. if b then word_of_entry (entry.Quiescing now_at) else (counts (Some (Some now_at))).stands w)
+          (sym (ap (λ b. if b then word_of_entry (Entry.Quiescing now_at) else (counts (Some (Some now_at))).stands w)
           (same_word-other w at other)))
           (commits w (sym (ap (λ b. if b then true else (counts None).marks w) (same_word-other w at other)) ∙ sym (before w).0 ∙
           (stands.marks w c).owned mark))
@@ -462,7 +446,7 @@ module _ (setup : Setting) (setting : IsSetting setup) (cores : ℕ → Core) (t
       not_spent setup (cores c) t c (stands.each c here) room,
       (
         has.acts,
-        subst (λ y. IsFoundAnd y (λ z. z.value ≡ value.Nothing))
+        subst (λ y. IsFoundAnd y (λ z. z.value ≡ Value.Nothing))
             (sym change) refl,
       ),
     )
@@ -488,7 +472,7 @@ module _ (setup : Setting) (setting : IsSetting setup) (cores : ℕ → Core) (t
         (target_way s c has.knows.knows.target slot has.knows.knows.way.reached)
 
     draw_at : GoodTook setup cores t c (AddOf ClockAt 1) (landed a
-        (Answers value.Nothing (Some now_at) (Quiesce (AtStore node index now_at))))
+        (Answers Value.Nothing (Some now_at) (Quiesce (AtStore node index now_at))))
     draw_at lands = drawing.draws_on setup setting cores t stands c here a active r stage made
         (removal_raises a.call has.knows.knows.removes) lands still
         (λ f i. counts_bare (Some (Some now_at)) a.counts f i ∙ sym (ap (λ h. h.bare f i)
@@ -501,7 +485,7 @@ module _ (setup : Setting) (setting : IsSetting setup) (cores : ℕ → Core) (t
         (AddOf ClockAt 1) r after still
         (λ f d. before (CountAt f d)) (λ f d. refl) alike refl refl no_count (ap (λ l. l.cores) calm.limits) kept changes)
         (record { call = a.call; is_open = is_open; permitted = permitted; justified = gone })
-        (λ is_alone. ok_first s c a.call value.Nothing permitted)
+        (λ is_alone. ok_first s c a.call Value.Nothing permitted)
         (record {
           relies = record { node = subst (λ y. IsTrue (is_node y)) (sym (calm.frame node)) relies.node; guarded = guarded };
           footprint = was_stays (IsInFootprint c a.call at) setup t e c (λ own. refl)
@@ -513,7 +497,7 @@ module _ (setup : Setting) (setting : IsSetting setup) (cores : ℕ → Core) (t
   drawn = let low = clock_small setup setting cores t stands in let some = stands.some_time in omega arith
 
   pub draw_good : GoodTook setup cores t c (AddOf ClockAt 1) (landed a
-      (Answers value.Nothing (Some (drawn_stamp x)) (Quiesce (AtStore node index (drawn_stamp x)))))
+      (Answers Value.Nothing (Some (drawn_stamp x)) (Quiesce (AtStore node index (drawn_stamp x)))))
   draw_good = draw_at (drawn_stamp x) drawn
 
 -- The step of a removal.

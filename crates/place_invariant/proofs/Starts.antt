@@ -1,40 +1,21 @@
 -- Where an act starts, after its look-ups or its scan: it acquires its first count or makes its first step, or its frame is out of range.
-use Rattle.count_invariant.proofs.Common.{acts, IsTrue}
-use Rattle.count_invariant.proofs.Common.{◌≡◌, ℕ, pos, negsuc, ◌<◌, ◌++◌, map, length, not, true, false, List, [], ◌∷◌, Some, None, refl}
-use Rattle.count_invariant.proofs.Common.{sym, ◌∙◌, ap, arith, false≢true, Setting, IsSetting, Call, Move, word_of, RuleMay, Refused}
-use Rattle.count_invariant.proofs.Common.{rule_of, change_of, are_calls_spent, IsAlone, Step, Trace, Open, phase, state_after, last_left}
-use Rattle.count_invariant.proofs.Common.{refused_first, Carries, AtCompare, AtDraw, AtStore, Acquired, MakingAt, Mark, Store, comp_dues}
-use Rattle.count_invariant.proofs.Common.{CompAt, KillingAt, LoadComp, LoadLive, Outside, Goes, refuse, dues, made_dues, next_work}
-use Rattle.count_invariant.proofs.Common.{starts, invoking_dues, returning_dues, Stage, Undecided, ActiveCall, landed, Core, Holding}
-use Rattle.count_invariant.proofs.Common.{holds_counts, AreDuesApart, due_of, KnowsAct, NamesAre, goes_on, phase_at, holds_act}
-use Rattle.count_invariant.proofs.Common.{holds_making, holds_in, Invariant, holds_killing, holds_comp, names_on}
-use Rattle.count_invariant.specs.act_fits.proofs.DuesFit.{invoking_one, returning_one, cap_one}
-use Rattle.kernel_laws.specs.spk_nums.specs.declared.replies.Reply.TheVariants as reply
-use Rattle.count_invariant.specs.act_states.specs.declared.refusals.Refusal.TheVariants as refusal
-use Rattle.count_invariant.specs.act_states.specs.declared.makings.MakingAt.TheVariants.{Load as making_load}
-use Rattle.count_invariant.specs.act_states.specs.declared.makings.MakingAt.TheVariants.{Fill as making_fill}
-use Rattle.count_invariant.specs.act_states.specs.Comps.{comp_is_marked, comp_meets_number}
-use Rattle.count_invariant.specs.act_states.specs.Makings.{is_marked}
-use Rattle.count_invariant.specs.act_states.specs.declared.comps.CompAt.TheVariants as comp_at
-use Rattle.count_invariant.specs.act_states.specs.Kills.{is_killing}
-use Rattle.count_invariant.specs.act_states.specs.declared.kills.KillingAt.TheVariants.{Close as kill_close}
-use Rattle.count_invariant.specs.act_states.specs.declared.kills.KillingAt.TheVariants.{Draw as kill_draw}
-use Rattle.count_invariant.specs.act_states.specs.declared.work.Act.{Act as ActOf}
-use Rattle.count_invariant.specs.act_states.specs.declared.work.Act.TheVariants.{Fill as fill_act, Remove as remove_act, Retype as type_act}
-use Rattle.count_invariant.specs.act_states.specs.declared.work.Act.TheVariants.{Make as make_act, Tick as tick_act}
-use Rattle.count_invariant.specs.act_states.specs.declared.work.Act.TheVariants.{Flush as flush_act}
-use Rattle.count_invariant.specs.act_states.specs.declared.work.Act.TheVariants.{Kill as kill_act, Untype as untype_act, Map as map_act}
-use Rattle.count_invariant.specs.act_states.specs.declared.work.Act.TheVariants.{MakeComp as comp_act, Invoke as invoke_act}
-use Rattle.count_invariant.specs.act_states.specs.declared.work.Act.TheVariants.{Return as return_act}
-use Rattle.count_invariant.specs.act_states.specs.declared.work.Act.TheVariants.{Touch as touch_act, Share as share_act}
-use Rattle.count_invariant.specs.act_states.specs.declared.work.Act.TheVariants.{Refill as refill_act}
-use Rattle.count_invariant.specs.act_states.specs.declared.work.Act.TheVariants.{Switch as switch_act}
-use Rattle.count_invariant.specs.act_states.specs.Acts.{killing_dues}
-use Rattle.count_invariant.specs.core_invariant.specs.Knows.{is_start, is_counting}
-use Rattle.count_invariant.specs.step_ways.proofs.Loads.{OnlyLooks, step_to, next_at, core_is, call_is, loads_on, decides_on}
-use Rattle.count_invariant.specs.step_ways.proofs.Refusals.{GoodTook, not_spent}
-use Rattle.count_invariant.proofs.Acquiring.{knows_next, next_holds, one_apart}
-use Rattle.count_invariant.specs.act_states.specs.call_plans.specs.PlanOf.{plan_for}
+use Rattle.count_invariant.specs as low
+use low.step_ways.proofs.{acts, IsTrue, ◌≡◌, ℕ, pos, negsuc, ◌<◌, ◌++◌, map, length, not, true, false, List, [], ◌∷◌, Some, None, refl, sym}
+use low.step_ways.proofs.{◌∙◌, ap, arith, false≢true, Setting, IsSetting, Call, Move, word_of, RuleMay, Refused, rule_of, change_of}
+use low.step_ways.proofs.{are_calls_spent, IsAlone, Step, Trace, Open, phase, state_after, last_left, refused_first, Carries, AtCompare}
+use low.step_ways.proofs.{AtDraw, AtStore, Acquired, MakingAt, Mark, Store, comp_dues, CompAt, KillingAt, LoadComp, LoadLive, Outside, Goes}
+use low.step_ways.proofs.{refuse, dues, next_work, starts, Stage, Undecided, ActiveCall, landed, Core, Holding, holds_counts, AreDuesApart}
+use low.step_ways.proofs.{due_of, KnowsAct, NamesAre, goes_on, phase_at, holds_act, holds_making, holds_in, Invariant, holds_killing}
+use low.step_ways.proofs.{holds_comp, names_on, Load as making_load, Close as kill_close, Draw as kill_draw, Fill as fill_act}
+use low.step_ways.proofs.{Remove as remove_act, Tick as tick_act, Flush as flush_act, Kill as kill_act, Untype as untype_act}
+use low.step_ways.proofs.{Map as map_act, MakeComp as comp_act, Invoke as invoke_act, Return as return_act, Touch as touch_act}
+use low.step_ways.proofs.{Share as share_act, Refill as refill_act, Switch as switch_act, OnlyLooks, step_to, next_at, core_is, call_is}
+use low.step_ways.proofs.{loads_on, decides_on, GoodTook, not_spent, plan_for, Reply, Refusal}
+use low.act_states.specs.{made_dues, invoking_dues, returning_dues, comp_is_marked, comp_meets_number, is_marked, is_killing, killing_dues}
+use low.core_invariant.specs.{Retype as type_act, Make as make_act, is_start, is_counting}
+use Rattle.count_invariant.proofs.{knows_next, next_holds, one_apart}
+use low.act_fits.proofs.DuesFit.{invoking_one, returning_one, cap_one}
+use low.{act_states.specs.declared.makings.MakingAt.TheVariants.Fill as making_fill, act_states.specs.declared.work.Act.Act as ActOf}
 
 -- Before its first step an act holds nothing.
 start_holds : (act : ActOf) (h : Holding) → is_start act ≡ true → holds_act act h ≡ h
@@ -69,13 +50,13 @@ start_holds (switch_act m) h is = absurd (false≢true is)
 start_holds (comp_act m) h is = by m.at is
   where
     by : (at : CompAt) → not (comp_is_marked at) ≡ true → holds_comp m at h ≡ h
-    by comp_at.Load is = refl
-    by (comp_at.Mark word) is = refl
-    by (comp_at.LoadLive word) is = absurd (false≢true is)
-    by (comp_at.Scan word last q) is = absurd (false≢true is)
-    by (comp_at.Close word last) is = absurd (false≢true is)
-    by (comp_at.Store word last entry) is = absurd (false≢true is)
-    by (comp_at.Fill word last) is = absurd (false≢true is)
+    by CompAt.Load is = refl
+    by (CompAt.Mark word) is = refl
+    by (CompAt.LoadLive word) is = absurd (false≢true is)
+    by (CompAt.Scan word last q) is = absurd (false≢true is)
+    by (CompAt.Close word last) is = absurd (false≢true is)
+    by (CompAt.Store word last entry) is = absurd (false≢true is)
+    by (CompAt.Fill word last) is = absurd (false≢true is)
 start_holds (invoke_act m) h is = refl
 start_holds (return_act m) h is = refl
 
@@ -97,13 +78,13 @@ start_counts (switch_act m) is = absurd (false≢true is)
 start_counts (comp_act m) is = by m.at is
   where
     by : (at : CompAt) → not (comp_is_marked at) ≡ true → not (comp_meets_number at) ≡ true
-    by comp_at.Load is = refl
-    by (comp_at.Mark word) is = refl
-    by (comp_at.LoadLive word) is = refl
-    by (comp_at.Scan word last q) is = absurd (false≢true is)
-    by (comp_at.Close word last) is = absurd (false≢true is)
-    by (comp_at.Store word last entry) is = absurd (false≢true is)
-    by (comp_at.Fill word last) is = absurd (false≢true is)
+    by CompAt.Load is = refl
+    by (CompAt.Mark word) is = refl
+    by (CompAt.LoadLive word) is = refl
+    by (CompAt.Scan word last q) is = absurd (false≢true is)
+    by (CompAt.Close word last) is = absurd (false≢true is)
+    by (CompAt.Store word last entry) is = absurd (false≢true is)
+    by (CompAt.Fill word last) is = absurd (false≢true is)
 start_counts (invoke_act m) is = refl
 start_counts (return_act m) is = refl
 
@@ -138,21 +119,21 @@ start_apart (switch_act m) is = absurd (false≢true is)
 start_apart (comp_act m) is = by m.at is
   where
     by : (at : CompAt) → not (comp_is_marked at) ≡ true → AreDuesApart (comp_dues m at)
-    by comp_at.Load is = tt
-    by (comp_at.Mark word) is = tt
-    by (comp_at.LoadLive word) is = absurd (false≢true is)
-    by (comp_at.Scan word last q) is = absurd (false≢true is)
-    by (comp_at.Close word last) is = absurd (false≢true is)
-    by (comp_at.Store word last entry) is = absurd (false≢true is)
-    by (comp_at.Fill word last) is = absurd (false≢true is)
+    by CompAt.Load is = tt
+    by (CompAt.Mark word) is = tt
+    by (CompAt.LoadLive word) is = absurd (false≢true is)
+    by (CompAt.Scan word last q) is = absurd (false≢true is)
+    by (CompAt.Close word last) is = absurd (false≢true is)
+    by (CompAt.Store word last entry) is = absurd (false≢true is)
+    by (CompAt.Fill word last) is = absurd (false≢true is)
 start_apart (invoke_act m) is = one_apart (invoking_dues m.comp m.at) (invoking_one m.comp m.at)
 start_apart (return_act m) is = one_apart (returning_dues m.top m.at) (returning_one m.top m.at)
 
 -- A call whose frame is not in its range is refused so, and nothing before that refuses it.
 pub record IsRefusedOutside (setup : Setting) (t : Trace) (c : ℕ) (call : Call) (move : Move) : Type 0 where
-  pub may : RuleMay (state_after setup t) c (rule_of (state_after setup t) c call) reply.OutOfRange
-  pub first : IsAlone t (step_to c None move (last_left setup t (word_of move)) (Some reply.OutOfRange) None)
-      → change_of (state_after setup t) c call ≡ Refused reply.OutOfRange
+  pub may : RuleMay (state_after setup t) c (rule_of (state_after setup t) c call) Reply.OutOfRange
+  pub first : IsAlone t (step_to c None move (last_left setup t (word_of move)) (Some Reply.OutOfRange) None)
+      → change_of (state_after setup t) c call ≡ Refused Reply.OutOfRange
 
 module _ (setup : Setting) (setting : IsSetting setup) (cores : ℕ → Core) (t : Trace) (stands : Invariant setup cores t) (c : ℕ)
     (here : c < setup.cores)
@@ -186,13 +167,13 @@ module _ (setup : Setting) (setting : IsSetting setup) (cores : ℕ → Core) (t
             (ap (λ (xs : List Acquired). length xs) (sym no_counts)) (start_counts act is) goes;
       })
 
-  outside_good : IsRefusedOutside setup t c a.call move → GoodTook setup cores t c move (landed a (refuse refusal.OutOfRange))
+  outside_good : IsRefusedOutside setup t c a.call move → GoodTook setup cores t c move (landed a (refuse Refusal.OutOfRange))
   outside_good refused lands =
       let unspent : are_calls_spent (state_after setup t) c ≡ false = not_spent setup (cores c) t c
       (core_is setup setting cores t stands c here a active) room in
-      decides_on setup setting cores t stands c here a active move reply.OutOfRange a.found looks lands (sym held_is) opens refl refl
+      decides_on setup setting cores t stands c here a active move Reply.OutOfRange a.found looks lands (sym held_is) opens refl refl
       (λ x. refl) (λ x. refl) refl (unspent, refused.may) tt
-      (λ is_alone. refused_first (state_after setup t) c a.call reply.OutOfRange may_act unspent (refused.first is_alone))
+      (λ is_alone. refused_first (state_after setup t) c a.call Reply.OutOfRange may_act unspent (refused.first is_alone))
 
   pub starts_good : (act : ActOf) → is_start act ≡ true → Known act → (goes_on act ≡ false → IsRefusedOutside setup t c a.call move)
       → GoodTook setup cores t c move (landed a (starts (cores c).own.core act))

@@ -1,37 +1,30 @@
 -- A place that a call may fill is vacant for it: it is free, or no other core waits in its grace period, and none is to flush it.
-use Rattle.count_invariant.proofs.Common.{to_use, ◌≡◌, ◌≢◌, ℕ, zero, suc, cond, ◌+◌, ◌<◌, ◌≤◌, ◌==◌, ◌&&◌, not, inl, inr, Bool, true, false}
-use Rattle.count_invariant.proofs.Common.{[]}
-use Rattle.count_invariant.proofs.Common.{Option, Some, None, IsTrue, arith, refl, sym, ◌∙◌, ap, subst, false≢true, eqb-false, cases_bool}
-use Rattle.count_invariant.proofs.Common.{Setting, IsSetting, Capability, Call, Entry, Place, Free, Holds, Quiescing, Table, Leaf, Pages}
-use Rattle.count_invariant.proofs.Common.{Pleaf, Frame, Kernel, Thing, PlaceOf, State, Slot, found, Under, only, reached, fits, is_paging}
-use Rattle.count_invariant.proofs.Common.{lowest, unflushed_by, place_names, Found, named, first_of, waits_of, not_vacant, named_fit}
-use Rattle.count_invariant.proofs.Common.{opened, events_of, IsLegal, is_node, stamp, Trace, Open, phase, state_after, awaits_are}
-use Rattle.count_invariant.proofs.Common.{state_is, run_of, sound_of, opened_is, PlaceIs, HasFlushed, IsScanned, MayFill}
-use Rattle.std.proofs.Common.{find}
-use Rattle.std.specs.List.{range_with_len}
-use Rattle.kernel_laws.specs.spk_nums.specs.declared.kinds.Kind.TheVariants as kind
-use Rattle.count_invariant.specs.entry_words.specs.declared.entry.Entry.TheVariants as entry
-use Rattle.kernel_laws.specs.kernel_rules.specs.GracePeriods.{other_waiting, quiescing_by}
-use Rattle.kernel_laws.specs.kernel_rules.specs.Rules.{flushes_of}
-use Rattle.kernel_laws.specs.kernel_invariant.proofs.SoundCalls.{IsOpen}
-use Rattle.kernel_laws.specs.Nodes.{leads_to}
-use Rattle.kernel_laws.proofs.NodeSteps.{IsFitted}
-use Rattle.kernel_laws.proofs.NodesLaw.{runs_fit, leaf_fits}
-use Rattle.count_invariant.specs.kernel_history.specs.Graces.{GraceIs}
+use Rattle.count_invariant.specs.step_ways.proofs as low
+use low.{to_use, ◌≡◌, ◌≢◌, ℕ, zero, suc, cond, ◌+◌, ◌<◌, ◌≤◌, ◌==◌, ◌&&◌, not, inl, inr, Bool, true, false, [], Option, Some, None, IsTrue}
+use low.{arith, refl, sym, ◌∙◌, ap, subst, false≢true, eqb-false, Setting, IsSetting, Capability, Call, Entry, Place, Free, Holds}
+use low.{Quiescing, Table, Leaf, Pages, Pleaf, Frame, Kernel, Thing, PlaceOf, State, Slot, found, Under, only, reached, fits, place_names}
+use low.{Found, named, first_of, not_vacant, named_fit, opened, events_of, IsLegal, is_node, stamp, Trace, Open, phase, state_after}
+use low.{state_is, run_of, sound_of, opened_is, PlaceIs, HasFlushed, MayFill, Kind}
+use Rattle.count_invariant.specs.kernel_laws.proofs.{is_paging, lowest, unflushed_by, waits_of, find, flushes_of, IsOpen, IsFitted}
+use Rattle.count_invariant.specs.boot_words.specs.kernel_rules.specs.{other_waiting, quiescing_by}
+use Rattle.count_invariant.specs.trace_laws.proofs.{cases_bool, awaits_are}
+use Rattle.{count_invariant.specs.kernel_laws.proofs.runs_fit, count_invariant.specs.core_invariant.specs.Reaching.IsScanned}
+use Rattle.{std.specs.List.range_with_len, count_invariant.specs.kernel_laws.specs.Nodes.leads_to}
+use Rattle.{count_invariant.specs.kernel_laws.proofs.NodesLaw.leaf_fits, count_invariant.specs.kernel_history.specs.Graces.GraceIs}
 
 -- The slot that core c reaches under a table of capabilities is in a leaf of capabilities.
-table_leaf : (x : Frame) → IsTrue (fits kind.Table x) → (y : Frame) → IsTrue (leads_to x y) → y ≡ Kernel Leaf
+table_leaf : (x : Frame) → IsTrue (fits Kind.Table x) → (y : Frame) → IsTrue (leads_to x y) → y ≡ Kernel Leaf
 table_leaf (Kernel Table) fit (Kernel Leaf) leads = refl
 table_leaf (Kernel Table) fit _ leads = absurd (false≢true leads)
 table_leaf _ fit y leads = absurd (false≢true fit)
 
-table_node : (x : Frame) → IsTrue (fits kind.Table x) → IsTrue (is_node x)
+table_node : (x : Frame) → IsTrue (fits Kind.Table x) → IsTrue (is_node x)
 table_node (Kernel Table) fit = refl
 table_node _ fit = absurd (false≢true fit)
 
 pub in_leaf : (setup : Setting) → IsSetting setup → (t : Trace) → IsLegal setup t → (c : ℕ) (call : Call) → phase t c ≡ Open call
     → (n b : ℕ) (table : Capability) (at : Slot)
-    → named (state_after setup t) c n (to_use (only kind.Table)) ≡ Found table
+    → named (state_after setup t) c n (to_use (only Kind.Table)) ≡ Found table
     → reached (state_after setup t) c (Under (found table) b) ≡ Some at
     → (state_after setup t).frame at.node ≡ Kernel Leaf
 in_leaf setup setting t legal c call is n b table at names reaches =
@@ -50,22 +43,22 @@ in_leaf setup setting t legal c call is n b table at names reaches =
     fitted : IsFitted s o
     fitted = subst (λ x. IsFitted x o) (sym (state_is setup t)) (runs_fit setup setting (events_of t) (run_of setup t legal))
 
-    fit : IsTrue (fits kind.Table (s.frame table.frame))
-    fit = named_fit s o c n kind.Table table is_open.sound is_open.is names
+    fit : IsTrue (fits Kind.Table (s.frame table.frame))
+    fit = named_fit s o c n Kind.Table table is_open.sound is_open.is names
 
 -- And under the root of a page table it is in a leaf of one.
-pages_leaf : (x : Frame) → IsTrue (fits kind.Pages x) → (y : Frame) → IsTrue (leads_to x y) → y ≡ Kernel Pleaf
+pages_leaf : (x : Frame) → IsTrue (fits Kind.Pages x) → (y : Frame) → IsTrue (leads_to x y) → y ≡ Kernel Pleaf
 pages_leaf (Kernel Pages) fit (Kernel Pleaf) leads = refl
 pages_leaf (Kernel Pages) fit _ leads = absurd (false≢true leads)
 pages_leaf _ fit y leads = absurd (false≢true fit)
 
-pages_node : (x : Frame) → IsTrue (fits kind.Pages x) → IsTrue (is_node x)
+pages_node : (x : Frame) → IsTrue (fits Kind.Pages x) → IsTrue (is_node x)
 pages_node (Kernel Pages) fit = refl
 pages_node _ fit = absurd (false≢true fit)
 
 pub in_pleaf : (setup : Setting) → IsSetting setup → (t : Trace) → IsLegal setup t → (c : ℕ) (call : Call) → phase t c ≡ Open call
     → (n b : ℕ) (pages : Capability) (at : Slot)
-    → named (state_after setup t) c n (to_use (only kind.Pages)) ≡ Found pages
+    → named (state_after setup t) c n (to_use (only Kind.Pages)) ≡ Found pages
     → reached (state_after setup t) c (Under (found pages) b) ≡ Some at
     → (state_after setup t).frame at.node ≡ Kernel Pleaf
 in_pleaf setup setting t legal c call is n b pages at names reaches =
@@ -84,8 +77,8 @@ in_pleaf setup setting t legal c call is n b pages at names reaches =
     fitted : IsFitted s o
     fitted = subst (λ x. IsFitted x o) (sym (state_is setup t)) (runs_fit setup setting (events_of t) (run_of setup t legal))
 
-    fit : IsTrue (fits kind.Pages (s.frame pages.frame))
-    fit = named_fit s o c n kind.Pages pages is_open.sound is_open.is names
+    fit : IsTrue (fits Kind.Pages (s.frame pages.frame))
+    fit = named_fit s o c n Kind.Pages pages is_open.sound is_open.is names
 
 -- What is found in a range of numbers passes the test, and is below the range's end.
 find_in : (p : ℕ → Bool) (a n e : ℕ) → find p (range_with_len a n) ≡ Some e → (p e ≡ true) × (e < a + n)
@@ -148,7 +141,7 @@ pub record IsVacant (s : State) (c node index : ℕ) : Type 0 where
   pub vacant : not_vacant s c (PlaceOf node index) (s.place node index) ≡ None
   pub names : place_names (s.place node index) ≡ []
 
-stamp_same : (x y : ℕ) → Some (entry.Quiescing x) ≡ Some (entry.Quiescing y) → x ≡ y
+stamp_same : (x y : ℕ) → Some (Entry.Quiescing x) ≡ Some (Entry.Quiescing y) → x ≡ y
 stamp_same x y h = cc
 
 -- What the word of a place shows that is quiescing.
@@ -157,14 +150,14 @@ pub record IsRemovedSince (p : Place) (r x : ℕ) : Type 0 where
   pub place : p ≡ Quiescing cap
   pub since : r ≡ x
 
-pub removed_is : (n : ℕ) (p : Place) (r x : ℕ) → PlaceIs n p r (Some (entry.Quiescing x)) → IsRemovedSince p r x
+pub removed_is : (n : ℕ) (p : Place) (r x : ℕ) → PlaceIs n p r (Some (Entry.Quiescing x)) → IsRemovedSince p r x
 removed_is n Free r x is = absurd (not_free is)
   where
-    not_free : Some (entry.Quiescing x) ≡ Some entry.Free → ⊥
+    not_free : Some (Entry.Quiescing x) ≡ Some Entry.Free → ⊥
     not_free h = cc
 removed_is n (Holds k) r x is = absurd (not_held is.0)
   where
-    not_held : Some (entry.Quiescing x) ≡ Some (entry.Held k) → ⊥
+    not_held : Some (Entry.Quiescing x) ≡ Some (Entry.Held k) → ⊥
     not_held h = cc
 removed_is n (Quiescing k) r x is = record { cap = k; place = refl; since = sym (stamp_same x r is.says) }
 
@@ -178,15 +171,15 @@ module _ (setup : Setting) (t : Trace) (c node index : ℕ) (cores : (state_afte
   some_entry : (v u : Entry) → Some v ≡ Some u → v ≡ u
   some_entry v u h = cc
 
-  free_is : (n : ℕ) (p : Place) (r : ℕ) → PlaceIs n p r (Some entry.Free) → p ≡ Free
+  free_is : (n : ℕ) (p : Place) (r : ℕ) → PlaceIs n p r (Some Entry.Free) → p ≡ Free
   free_is n Free r is = refl
   free_is n (Holds k) r is = absurd (not_free k is.0)
     where
-      not_free : (k : Capability) → Some entry.Free ≡ Some (entry.Held k) → ⊥
+      not_free : (k : Capability) → Some Entry.Free ≡ Some (Entry.Held k) → ⊥
       not_free k h = cc
   free_is n (Quiescing k) r is = absurd (not_free r is.says)
     where
-      not_free : (r : ℕ) → Some entry.Free ≡ Some (entry.Quiescing r) → ⊥
+      not_free : (r : ℕ) → Some Entry.Free ≡ Some (Entry.Quiescing r) → ⊥
       not_free r h = cc
 
   scanned_vacant : (x : ℕ) → IsRemovedSince (s.place node index) (stamp setup t thing) x → IsScanned setup t c thing x setup.cores
@@ -202,9 +195,9 @@ module _ (setup : Setting) (t : Trace) (c node index : ℕ) (cores : (state_afte
   pub vacant_by : (n : ℕ) (o : Option Entry) → PlaceIs n (s.place node index) (stamp setup t thing) o
       → MayFill setup t c thing setup.cores o → IsVacant s c node index
   vacant_by n None is may = absurd may
-  vacant_by n (Some entry.Free) is may =
+  vacant_by n (Some Entry.Free) is may =
       let free = free_is n (s.place node index) (stamp setup t thing) is in record
       { vacant = ap (not_vacant s c thing) free; names = ap place_names free }
-  vacant_by n (Some (entry.Held k)) is may = absurd may
-  vacant_by n (Some (entry.Closing by)) is may = absurd may
-  vacant_by n (Some (entry.Quiescing x)) is may = scanned_vacant x (removed_is n (s.place node index) (stamp setup t thing) x is) may
+  vacant_by n (Some (Entry.Held k)) is may = absurd may
+  vacant_by n (Some (Entry.Closing by)) is may = absurd may
+  vacant_by n (Some (Entry.Quiescing x)) is may = scanned_vacant x (removed_is n (s.place node index) (stamp setup t thing) x is) may

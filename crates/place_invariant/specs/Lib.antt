@@ -1,12 +1,13 @@
 -- What the crates above name through this one.
-pub use Rattle.kernel_laws.specs.spk_nums
+pub use Rattle.count_invariant.specs.boot_words
+pub use Rattle.count_invariant.specs.kernel_laws.specs.spk_nums
 pub use Rattle.count_invariant.specs.entry_words
 pub use Rattle.count_invariant.specs.frame_words
 pub use Rattle.count_invariant.specs.tcap_words
 pub use Rattle.count_invariant.specs.word_map
-pub use Rattle.kernel_laws.specs.kernel_rules
-pub use Rattle.kernel_laws.specs.kernel_invariant
-pub use Rattle.kernel_laws.specs.found_stays
+pub use Rattle.count_invariant.specs.kernel_laws.specs.kernel_rules
+pub use Rattle.count_invariant.specs.kernel_laws.specs.kernel_invariant
+pub use Rattle.count_invariant.specs.kernel_laws.specs.found_stays
 pub use Rattle.count_invariant.specs.kernel_history
 pub use Rattle.count_invariant.specs.trace_laws
 pub use Rattle.count_invariant.specs.call_plans

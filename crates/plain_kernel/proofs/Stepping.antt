@@ -1,34 +1,16 @@
 -- A call made whole: from the kernel's own state to every reached state that it represents.
-use Rattle.std.proofs.Common.{◌≡◌, ◌≢◌, ℕ, ◌+◌, ◌-◌, ◌^◌, ◌<◌, ◌≤◌, ◌==◌, Bool, true, false, refl, sym}
-use Rattle.std.proofs.Common.{◌∙◌, ap, subst, arith, nat_le, if◌then◌else◌, List, ◌∷◌, IsTrue}
-use Rattle.std.proofs.lemmas.Bool.{eq-eqb}
-use Rattle.spk_nums.specs.Setting.{Setting, IsSetting}
-use Rattle.spk_nums.specs.CallLimits.{InLimits}
-use Rattle.spk_nums.specs.declared.calls.Call.{Call}
-use Rattle.spk_nums.specs.declared.replies.Reply.{Reply}
-use Rattle.spk_nums.specs.declared.replies.Reply.TheVariants as reply
-use Rattle.kernel_rules.specs.State.{Core, Grace, Limits, State, with_core, put}
-use Rattle.kernel_rules.specs.GracePeriods.{begun, entered, returned, passed}
-use Rattle.kernel_rules.specs.Rules.{Change, Judged, Refused, Found, RuleMay}
-use Rattle.kernel_rules.specs.CallRelation.{rule_of, change_of, changed, counted, state_by, are_calls_spent}
-use Rattle.kernel_rules.specs.Life.{acts}
-use Rattle.kernel_rules.specs.Alone.{reply_in, first_reply, alone, plain_reply, plain_step}
-use Rattle.kernel_rules.specs.Runs.{Event, Enters, Decides, Returns, after, Phase, Open, Decided, Out, is_decided, phase_of, IsRun}
-use Rattle.kernel_rules.proofs.Agrees.{IsBounded, IsPlain, IfRefused, rule_refused}
-use Rattle.kernel_rules.proofs.AloneLaw.{Waits, found_waits, rule_plain, waits_inside, first_permitted}
-use Rattle.kernel_rules.proofs.Changes.{IfFound}
-use Rattle.kernel_laws.proofs.RangesLaw.{ranges_hold}
-use Rattle.kernel_rules.proofs.Within.{waits_within}
-use Rattle.kernel_invariant.proofs.SoundRuns.{limits_stay}
-use Rattle.seq_state.specs.Maps.{Maps, state_of}
-use Rattle.seq_state.specs.Representation.{SameGrace, SameState, Represents}
-use Rattle.seq_state.proofs.Same.{same_by, same_then, same_core}
-use Rattle.seq_lookups.specs.Carried.{IsCarriedOut}
-use Rattle.seq_lookups.specs.Ranges.{IsInRange}
-use Rattle.same_changes.specs.Same.{SameOutcome}
-use Rattle.same_changes.proofs.Alike.{begun_same}
-use Rattle.same_changes.proofs.EveryCall.{changes_same, same_acts, stays_in_range}
-use Rattle.plain_kernel.specs.Step.{IsStep, StepsExactly}
+use Rattle.seq_state.specs.kernel_rules.proofs as low
+use Rattle.seq_state.proofs.{◌≡◌, ◌≢◌, ℕ, ◌+◌, ◌-◌, ◌^◌, ◌<◌, ◌≤◌, ◌==◌, Bool, true, false, refl, sym, ◌∙◌, ap, subst, arith, leb as nat_le}
+use Rattle.seq_state.proofs.{if◌then◌else◌, List, ◌∷◌, IsTrue, eq-eqb, Setting, IsSetting, InLimits, Call, Reply, Grace, Limits, State}
+use Rattle.seq_state.proofs.{with_core, put, begun, entered, returned, Change, Judged, Refused, Found, RuleMay, rule_of, change_of, changed}
+use Rattle.seq_state.proofs.{counted, state_by, are_calls_spent, acts, reply_in, alone, Event, Enters, Decides, Returns, after, Phase, Open}
+use Rattle.seq_state.proofs.{Decided, Out, is_decided, phase_of, IsRun, IfFound, limits_stay, state_of, SameGrace, SameState, Represents}
+use low.{Core, passed, first_reply, plain_reply, plain_step, IfRefused, Waits, found_waits, waits_inside}
+use low.{Agrees.IsBounded, Agrees.IsPlain, Agrees.rule_refused, AloneLaw.rule_plain, AloneLaw.first_permitted, Within.waits_within}
+use Rattle.same_changes.proofs.{Alike.begun_same, EveryCall.changes_same, EveryCall.same_acts, EveryCall.stays_in_range}
+use Rattle.{seq_state.proofs.same_by, seq_state.proofs.same_then, seq_state.proofs.same_core, seq_lookups.specs.IsCarriedOut}
+use Rattle.{seq_lookups.specs.IsInRange, same_changes.specs.kernel_laws.proofs.RangesLaw.ranges_hold, seq_state.specs.Maps.Maps}
+use Rattle.{same_changes.specs.Same.SameOutcome, plain_kernel.specs.Step.IsStep, plain_kernel.specs.Step.StepsExactly}
 
 -- ---- the steps that are no call's own
 
@@ -87,7 +69,7 @@ over : (t s : State) (r : Reply) (k : Maps) → SameState t s → (x y : Judged 
     → IsCarriedOut t x r k → IsCarriedOut s y r k
 over t s r k e (Refused p) (Refused q) same limits h = record { reply = h.reply ∙ same; state = same_then (state_of k) t s h.state e }
 over t s r k e (Found x) (Found y) same limits h = record {
-  reply = h.reply ∙ ap reply.Ok same.value;
+  reply = h.reply ∙ ap Reply.Ok same.value;
   state = same_then (state_of k) (begun t x.begins x.next) (begun s y.begins y.next) h.state
       (subst (λ xs. SameState (begun t xs x.next) (begun s y.begins y.next)) (sym same.begins)
       (begun_same t s x.next y.next y.begins e same.next limits));
@@ -102,18 +84,18 @@ limits_of s (Found change) h = h.limits
 
 -- A plain refusal leaves all as it was, and is counted.
 plain_refusal : (s : State) (c : ℕ) (call : Call) (r : Reply) → IsPlain r → state_by s c call r ≡ counted s c
-plain_refusal s c call (reply.Ok v) plain = absurd plain
-plain_refusal s c call reply.Raced plain = absurd plain
-plain_refusal s c call (reply.Busy d) plain = absurd plain
-plain_refusal s c call reply.CallsSpent plain = absurd plain
+plain_refusal s c call (Reply.Ok v) plain = absurd plain
+plain_refusal s c call Reply.Raced plain = absurd plain
+plain_refusal s c call (Reply.Busy d) plain = absurd plain
+plain_refusal s c call Reply.CallsSpent plain = absurd plain
 plain_refusal s c call _ plain = refl
 
 -- The state that a call made alone leaves: its change, counted.
 alone_state : (s : State) (c : ℕ) (call : Call) → IsBounded s → are_calls_spent s c ≡ false → IsTrue (acts s c call)
     → state_by s c call (alone s c call) ≡ counted (changed s (change_of s c call)) c
 alone_state s c call calm some may =
-    ap (λ t. state_by s c call (if t then reply.CallsSpent else first_reply s c call)) some
-    ∙ ap (λ t. state_by s c call (if t then reply_in (change_of s c call) else reply.Dead)) may
+    ap (λ t. state_by s c call (if t then Reply.CallsSpent else first_reply s c call)) some
+    ∙ ap (λ t. state_by s c call (if t then reply_in (change_of s c call) else Reply.Dead)) may
     ∙ by_outcome (change_of s c call) refl (rule_refused s c (rule_of s c call) calm (rule_plain s c call))
   where
     by_outcome : (j : Judged Change) → change_of s c call ≡ j → IfRefused j (λ r. RuleMay s c (rule_of s c call) r × IsPlain r)
@@ -171,12 +153,12 @@ module _ (setting : Setting) (lim : IsSetting setting) (events : List Event) (ru
   -- A core whose calls are spent is answered so.
   pub spent_here : (k k1 k2 : Maps) → Represents k (after setting events) → Represents k1 (entered (state_of k) c)
       → true ≡ are_calls_spent (state_of k1) c
-      → Represents k2 (returned (state_of k1) c) → Made (after setting events) c call reply.CallsSpent k2
+      → Represents k2 (returned (state_of k1) c) → Made (after setting events) c call Reply.CallsSpent k2
   spent_here k k1 k2 e is spent left =
       let here = entered_here k k1 e is in
       let yes : are_calls_spent (entered (after setting events) c) c ≡ true = sym (spent ∙ spent_same k1 here) in
-      let replied : reply.CallsSpent ≡ alone (entered (after setting events) c) c call = ap
-      (λ t. if t then reply.CallsSpent else first_reply (entered (after setting events) c) c call) (sym yes) in
+      let replied : Reply.CallsSpent ≡ alone (entered (after setting events) c) c call = ap
+      (λ t. if t then Reply.CallsSpent else first_reply (entered (after setting events) c) c call) (sym yes) in
       record {
         reply = replied;
         state = subst (λ r. SameState (state_of k2) (returned (state_by (entered (after setting events) c) c call r) c)) replied
@@ -192,15 +174,15 @@ module _ (setting : Setting) (lim : IsSetting setting) (events : List Event) (ru
       → false ≡ are_calls_spent (state_of k1) c → false ≡ acts (state_of k1) c call
       → (c < (state_of k1).limits.cores → ((state_of k1).core c).counted < 2 ^ 40 - 1
       → Represents k3 (returned (counted (state_of k1) c) c))
-      → Made (after setting events) c call reply.Dead k3
+      → Made (after setting events) c call Reply.Dead k3
   dead_here k k1 k3 e is some dead finishes =
       let s = entered (after setting events) c in
       let here = entered_here k k1 e is in
       let no : are_calls_spent s c ≡ false = sym (some ∙ spent_same k1 here) in
       let not_acting : acts s c call ≡ false = sym (dead ∙ acts_same k1 here) in
-      let replied : reply.Dead ≡ alone s c call =
-      ap (λ t. if t then reply_in (change_of s c call) else reply.Dead) (sym not_acting)
-      ∙ ap (λ t. if t then reply.CallsSpent else first_reply s c call) (sym no) in
+      let replied : Reply.Dead ≡ alone s c call =
+      ap (λ t. if t then reply_in (change_of s c call) else Reply.Dead) (sym not_acting)
+      ∙ ap (λ t. if t then Reply.CallsSpent else first_reply s c call) (sym no) in
       let left : state_by s c call (alone s c call) ≡ counted s c = ap (state_by s c call) (sym replied) in
       let decided : IsRun setting (Decides c call (alone s c call) ∷ Enters c call ∷ events) =
       (runs, record { is_open = opens; permitted = (first_permitted setting (Enters c call ∷ events) c call).permitted }) in
@@ -239,8 +221,8 @@ module _ (setting : Setting) (lim : IsSetting setting) (events : List Event) (ru
       (changes_same setting lim (Enters c call ∷ events) runs c call opens (state_of k1) here)
       (limits_of s j (found_waits s c call))
       (decides (stays_in_range setting lim (Enters c call ∷ events) runs c call opens (state_of k1) here)) in
-      let replied : r ≡ alone s c call = done.reply ∙ ap (λ t. if t then reply_in j else reply.Dead) (sym may)
-      ∙ ap (λ t. if t then reply.CallsSpent else first_reply s c call) (sym no) in
+      let replied : r ≡ alone s c call = done.reply ∙ ap (λ t. if t then reply_in j else Reply.Dead) (sym may)
+      ∙ ap (λ t. if t then Reply.CallsSpent else first_reply s c call) (sym no) in
       let left : state_by s c call (alone s c call) ≡ counted (changed s j) c = alone_state s c call bounded no may in
       let decided : IsRun setting (Decides c call (alone s c call) ∷ Enters c call ∷ events) =
       (runs, record { is_open = opens; permitted = (first_permitted setting (Enters c call ∷ events) c call).permitted }) in

@@ -1,6 +1,11 @@
 -- What the crates above name through this one.
-pub use Rattle.kernel_laws
+pub use Rattle.seq_state.specs.kernel_rules
+pub use Rattle.seq_state.specs.kernel_invariant
+pub use Rattle.seq_state
+pub use Rattle.same_changes.specs.kernel_laws
 pub use Rattle.same_changes
 -- Its own.
 pub mod Step
 pub mod Families
+-- The names that are used most outside of this library.
+pub use Rattle.plain_kernel.specs.Step.{IsReached, StepsExactly}

@@ -1,13 +1,6 @@
 -- What a call made whole does to the plain kernel.
-use Rattle.std.specs.Prelude.{◌≡◌, ℕ, List}
-use Rattle.spk_nums.specs.Setting.{Setting, IsSetting}
-use Rattle.spk_nums.specs.declared.calls.Call.{Call}
-use Rattle.spk_nums.specs.declared.replies.Reply.{Reply}
-use Rattle.kernel_rules.specs.State.{State}
-use Rattle.kernel_rules.specs.Alone.{plain_reply, plain_step}
-use Rattle.kernel_rules.specs.Runs.{Event, after, Out, phase_of, IsRun}
-use Rattle.seq_state.specs.Maps.{Maps}
-use Rattle.seq_state.specs.Representation.{Represents}
+use Rattle.seq_state.specs.{◌≡◌, ℕ, List, Setting, IsSetting, Call, Reply, State, plain_step, Event, after, Out, phase_of, IsRun}
+use Rattle.{seq_state.specs.Represents, seq_state.specs.kernel_rules.specs.Alone.plain_reply, seq_state.specs.Maps.Maps}
 
 -- The kernel represents a state that a run reaches, and in which no core is in a call.
 pub record IsReached (setting : Setting) (k : Maps) (s : State) : Type 0 where

@@ -2,9 +2,9 @@
 
 ghost use Rattle.std.specs.Prelude.{◌≡◌, ◌<◌, ◌≤◌, ◌-◌, ◌^◌, IsOk, IfOk};
 ghost use Rattle.spk_nums.specs.CallLimits.{InLimits};
-ghost use Rattle.kernel_rules.specs.GracePeriods.{returned};
-ghost use Rattle.kernel_rules.specs.Life.{asks_life, acts};
-ghost use Rattle.kernel_rules.specs.CallRelation.{are_calls_spent, counted};
+ghost use Rattle.seq_state.specs.kernel_rules.specs.GracePeriods.{returned};
+ghost use Rattle.seq_state.specs.kernel_rules.specs.Life.{asks_life, acts};
+ghost use Rattle.seq_state.specs.kernel_rules.specs.CallRelation.{are_calls_spent, counted};
 ghost use Rattle.seq_state.specs.Maps.{state_of};
 ghost use Rattle.seq_state.specs.Representation.{Represents};
 ghost use Rattle.plain_kernel.specs.Step.{StepsExactly};

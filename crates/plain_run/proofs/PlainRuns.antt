@@ -1,27 +1,15 @@
 -- Making the calls of lists alone, one call and one list at a time.
-use Rattle.std.proofs.Common.{◌≡◌, ℕ, zero, suc, ◌+◌, ◌<◌, ◌≤◌, refl, sym, ◌∙◌, ap, subst, arith, List, []}
-use Rattle.std.proofs.Common.{◌∷◌, ◌++◌, length, drop, append_assoc, append-nil, get_or, drop-cons, map}
-use Rattle.std.proofs.lemmas.List.{drop_all, length-map, get_or-map}
-use Rattle.kernel_history.specs.Order.{list_of}
-use Rattle.spk_nums.specs.Setting.{Setting, IsSetting}
-use Rattle.spk_nums.specs.Texts.{reply_line_text}
-use Rattle.spk_nums.specs.declared.calls.Call.{Call}
-use Rattle.spk_nums.specs.declared.replies.Reply.{Reply}
-use Rattle.kernel_rules.specs.State.{Limits, State}
-use Rattle.kernel_rules.specs.Alone.{plain_reply, plain_step, plain_steps}
-use Rattle.spk_nums.specs.declared.kinds.Kind.TheVariants as kind
-use Rattle.kernel_rules.specs.Runs.{after}
-use Rattle.kernel_invariant.proofs.SoundRuns.{opened, limits_stay, runs_sound}
-use Rattle.plain_kernel.specs.same_changes.proofs.Reaching.{fit_below}
-use Rattle.plain_tables.specs.Within.{ThreadsWithin}
-use Rattle.kernel_history.specs.Tables.{lines_below, tables_of}
-use Rattle.kernel_rules.specs.Start.{start}
-use Rattle.seq_state.specs.Representation.{Represents}
-use Rattle.kernel_history.specs.Text.{plain_lines, plain_state, plain_text}
-use Rattle.table_lines.proofs.Lines.{lines_none, lines_more}
-use Rattle.seq_state.specs.Maps.{Maps, state_of}
-use Rattle.plain_kernel.specs.Step.{IsReached, StepsExactly}
+use Rattle.plain_kernel.specs as low
+use low.seq_state.proofs.{◌≡◌, ℕ, zero, suc, ◌+◌, ◌<◌, ◌≤◌, refl, sym, ◌∙◌, ap, subst, arith, List, [], ◌∷◌, ◌++◌, length, drop}
+use low.seq_state.proofs.{append_assoc, append-nil, get_or, map, length-map, get_or-map, Setting, IsSetting, Call, Reply, Limits, State}
+use low.seq_state.proofs.{after, opened, limits_stay, runs_sound, Represents, state_of, Kind}
+use Rattle.plain_tables.specs.kernel_history.specs.{list_of, lines_below, tables_of, start}
+use low.kernel_rules.specs.{plain_reply, plain_step, plain_steps}
+use Rattle.plain_tables.specs.kernel_history.specs.Text.{plain_lines, plain_state, plain_text}
 use Rattle.plain_run.specs.Plain.{HasReached, IsRunnable, AreRunnable, Ran, RunsCall, RunsList, RunsLists}
+use low.{IsReached, StepsExactly, same_changes.proofs.Reaching.fit_below, seq_state.specs.Maps.Maps}
+use Rattle.{plain_tables.specs.table_lines.proofs.lines_none, plain_tables.specs.table_lines.proofs.lines_more, std.proofs.Common.drop-cons}
+use Rattle.{std.proofs.lemmas.List.drop_all, spk_nums.specs.Texts.reply_line_text, plain_tables.specs.Within.ThreadsWithin}
 
 -- The kernel has as many cores as the setting.
 pub cores_of : (setting : Setting) (k : Maps) (s : State) → IsReached setting k s → (state_of k).limits.cores ≡ setting.cores
@@ -144,7 +132,7 @@ started setting k e = record { events = []; runs = tt; quiet = λ c. refl; state
 pub threads_within : (setting : Setting) → IsSetting setting → (k : Maps) (s : State) → IsReached setting k s → ThreadsWithin s
 threads_within setting lim k s r =
     let sound = runs_sound setting lim r.events r.runs in
-    subst ThreadsWithin r.state (λ c below. fit_below (after setting r.events) (opened r.events) kind.Thread
+    subst ThreadsWithin r.state (λ c below. fit_below (after setting r.events) (opened r.events) Kind.Thread
     ((after setting r.events).core c).thread sound refl (sound.cores c below).0)
 
 -- The whole text: the lines of all lists, and then the tables of the last state.

@@ -1,15 +1,9 @@
 -- Calls made alone by the plain kernel, and what is written of them.
-use Rattle.std.specs.Prelude.{◌≡◌, ◌<◌, ◌^◌, ℕ, List, ◌++◌, length, All}
-use Rattle.spk_nums.specs.Setting.{Setting}
-use Rattle.spk_nums.specs.CallLimits.{InLimits}
-use Rattle.spk_nums.specs.Texts.{reply_line_text}
-use Rattle.spk_nums.specs.declared.calls.Call.{Call}
-use Rattle.kernel_rules.specs.State.{State}
-use Rattle.kernel_rules.specs.Alone.{plain_reply, plain_step, plain_steps}
-use Rattle.kernel_history.specs.Tables.{lines_below}
-use Rattle.kernel_history.specs.Text.{plain_lines, plain_state}
-use Rattle.seq_state.specs.Maps.{Maps}
-use Rattle.plain_kernel.specs.Step.{IsReached}
+use Rattle.plain_kernel.specs.kernel_rules.specs.{◌≡◌, ◌<◌, ◌^◌, ℕ, List, ◌++◌, length, All, Setting, InLimits, Call, plain_reply}
+use Rattle.plain_kernel.specs.kernel_rules.specs.{plain_step, plain_steps}
+use Rattle.plain_tables.specs.kernel_history.specs.{State, lines_below}
+use Rattle.plain_tables.specs.kernel_history.specs.Text.{plain_lines, plain_state}
+use Rattle.{spk_nums.specs.Texts.reply_line_text, plain_kernel.specs.seq_state.specs.Maps.Maps, plain_kernel.specs.Step.IsReached}
 
 -- The kernel has reached some state.
 pub record HasReached (setting : Setting) (k : Maps) : Type 0 where

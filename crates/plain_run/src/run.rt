@@ -2,8 +2,8 @@
 ghost use Rattle.std.specs.Prelude.{◌≡◌, ◌<◌, ◌++◌, ◌^◌, IfOk, OnOk, All, map, length, string_bytes};
 ghost use Rattle.spk_nums.specs.CallLimits.{InLimits};
 ghost use Rattle.spk_nums.specs.Texts.{reply_line_text};
-ghost use Rattle.kernel_history.specs.Order.{list_of};
-ghost use Rattle.kernel_history.specs.Text.{plain_text};
+ghost use Rattle.plain_tables.specs.kernel_history.specs.Order.{list_of};
+ghost use Rattle.plain_tables.specs.kernel_history.specs.Text.{plain_text};
 ghost use Rattle.plain_run.specs.Plain.{HasReached, RunsCall, RunsList, RunsLists, AreRunnable};
 
 use plain_kernel::{SeqKernel, plain_step};

@@ -1,15 +1,10 @@
 -- Lists read one item more at a time.
-use Rattle.std.proofs.Common.{◌≡◌, ℕ, ◌+◌, ◌≤◌, ◌<◌, ◌++◌, List, [], ◌∷◌, Some, refl, sym, ap, ◌∙◌}
-use Rattle.std.proofs.Common.{subst, arith, length, take, reverse, append-nil, get_or, slice_get}
-use Rattle.std.specs.List.{flat_map}
-use Rattle.std.proofs.lemmas.List.{take_more, take_all, length-reverse}
-use Rattle.std.proofs.lemmas.Grind.{flat_map-append}
-use Rattle.std.proofs.lemmas.Option.{slice_get_within, get_or_from_slice_get}
-use Rattle.kernel_rules.specs.References.{times}
-use Rattle.kernel_history.proofs.Sums.{times_append}
-use Rattle.seq_state.proofs.StackLemmas.{times_reverse}
-use Rattle.table_lines.specs.Counting.{Adds}
-use Rattle.table_lines.proofs.Adding.{adds_piece}
+use Rattle.table_lines.specs.kernel_history.proofs.{◌≡◌, ℕ, ◌+◌, ◌≤◌, ◌<◌, ◌++◌, List, [], ◌∷◌, Some, refl, sym, ap, ◌∙◌, subst, arith}
+use Rattle.table_lines.specs.kernel_history.proofs.{length, take, reverse, append-nil, get_or, slice_get, flat_map, take_more, take_all}
+use Rattle.table_lines.specs.kernel_history.proofs.{times, times_append}
+use Rattle.plain_tables.proofs.Common.{Adds, adds_piece}
+use Rattle.std.proofs.{lemmas.List.length-reverse, lemmas.Grind.flat_map-append, lemmas.Option.slice_get_within}
+use Rattle.{std.proofs.lemmas.Option.get_or_from_slice_get, seq_state.proofs.StackLemmas.times_reverse}
 
 pub next_item : {A : Type 0} (xs : List A) (h : ℕ) (x : A) → slice_get xs h ≡ Some x → take (h + 1) xs ≡ take h xs ++ x ∷ []
 next_item {A = A} xs h x is =

@@ -1,17 +1,13 @@
 -- The tables from their parts, and in states that are one for the machine.
-use Rattle.std.proofs.Common.{◌≡◌, ℕ, ◌+◌, ◌<◌, ◌++◌, List, [], refl, sym, ap, ◌∙◌, subst, arith, append_assoc, slice_index}
-use Rattle.kernel_rules.specs.State as state
-use Rattle.kernel_rules.specs.State.{Frame, Liveness, Core, Limits, State, tcap_in, thread_in, first_of_stack, thread_of, outstanding}
-use Rattle.kernel_rules.specs.References.{sum_below, times, place_names, frame_names, core_names, number_names, node_refs, refs}
-use Rattle.kernel_rules.specs.Laws.{ticks}
-use Rattle.kernel_invariant.proofs.Sums.{sum_same}
-use Rattle.kernel_history.specs.Tables.{lines_below, frame_lines, object_lines, number_line, core_lines}
-use Rattle.kernel_history.specs.Tables.{total_line, tables_of, node_lines, entry_line, frame_line, object_word}
-use Rattle.seq_state.specs.Representation.{SameState}
-use Rattle.seq_state.proofs.Same.{same_refs}
-use Rattle.table_lines.specs.Counting.{Adds, AreCounts}
-use Rattle.table_lines.proofs.Lines.{lines_same}
-use Rattle.plain_tables.specs.Within.{ThreadsWithin}
+use Rattle.table_lines.specs.kernel_history.proofs.{◌≡◌, ℕ, ◌+◌, ◌<◌, ◌++◌, List, [], refl, sym, ap, ◌∙◌, subst, arith, append_assoc}
+use Rattle.table_lines.specs.kernel_history.proofs.{slice_index, Frame, Liveness, Core, Limits, State, tcap_in, thread_in, first_of_stack}
+use Rattle.table_lines.specs.kernel_history.proofs.{thread_of, outstanding, sum_below, times, place_names, frame_names, core_names}
+use Rattle.table_lines.specs.kernel_history.proofs.{number_names, node_refs, refs, ticks, lines_below, tables_of}
+use Rattle.plain_tables.proofs.Common.{frame_lines, number_line, core_lines, entry_line, Adds}
+use Rattle.table_lines.specs.kernel_history.specs.Tables.{object_lines, total_line, node_lines, frame_line, object_word}
+use Rattle.{seq_state.proofs.SameState, seq_state.proofs.same_refs, seq_state.specs.kernel_invariant.proofs.Sums.sum_same}
+use Rattle.{table_lines.specs.Counting.AreCounts, table_lines.proofs.Lines.lines_same, plain_tables.specs.Within.ThreadsWithin}
+use Rattle.seq_state.specs.kernel_rules.specs.State as state
 
 -- The names of places, objects, cores and liveness numbers are the references.
 pub all_adds : (s : State) (a b c d e : List ℕ)

@@ -1,8 +1,8 @@
 //! The frames to which there are references, each as often as it is referenced.
 
 ghost use Rattle.std.specs.Prelude.{◌≡◌, ◌<◌, ◌++◌, OnOk, [], ◌∷◌, Some, length, slice_get, reverse};
-ghost use Rattle.kernel_rules.specs.State.{Kernel};
-ghost use Rattle.kernel_rules.specs.References.{sum_below, times, named_by, place_names, frame_names, number_names, core_names, refs};
+ghost use Rattle.seq_state.specs.kernel_rules.specs.State.{Kernel};
+ghost use Rattle.seq_state.specs.kernel_rules.specs.References.{sum_below, times, named_by, place_names, frame_names, number_names, core_names, refs};
 ghost use Rattle.seq_state.specs.Parts.{place_held, object_of, frame_of, number_of, core_of};
 ghost use Rattle.seq_state.specs.Maps.{state_of};
 ghost use Rattle.table_lines.specs.Counting.{Adds};

@@ -1,9 +1,9 @@
 //! The lines of liveness numbers and cores, and the ticks that cores have spent and have not had back.
 
 ghost use Rattle.std.specs.Prelude.{◌≡◌, ◌<◌, ◌≤◌, ◌^◌, ◌++◌, OnOk, string_bytes};
-ghost use Rattle.kernel_rules.specs.State.{first_of_stack, outstanding, thread_of};
-ghost use Rattle.kernel_rules.specs.References.{sum_below};
-ghost use Rattle.kernel_history.specs.Tables.{lines_below, number_line, core_lines};
+ghost use Rattle.seq_state.specs.kernel_rules.specs.State.{first_of_stack, outstanding, thread_of};
+ghost use Rattle.seq_state.specs.kernel_rules.specs.References.{sum_below};
+ghost use Rattle.table_lines.specs.kernel_history.specs.Tables.{lines_below, number_line, core_lines};
 ghost use Rattle.seq_state.specs.Parts.{number_of};
 ghost use Rattle.seq_state.specs.Maps.{state_of};
 

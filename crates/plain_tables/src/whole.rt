@@ -1,9 +1,9 @@
 //! The tables, whole.
 
 ghost use Rattle.std.specs.Prelude.{◌≡◌, IfOk, length, string_bytes};
-ghost use Rattle.kernel_rules.specs.State.{State};
-ghost use Rattle.kernel_rules.specs.References.{refs};
-ghost use Rattle.kernel_history.specs.Tables.{tables_of};
+ghost use Rattle.seq_state.specs.kernel_rules.specs.State.{State};
+ghost use Rattle.seq_state.specs.kernel_rules.specs.References.{refs};
+ghost use Rattle.table_lines.specs.kernel_history.specs.Tables.{tables_of};
 ghost use Rattle.seq_state.specs.Maps.{state_of};
 ghost use Rattle.seq_state.specs.Representation.{Represents};
 ghost use Rattle.table_lines.specs.Counting.{AreCounts};

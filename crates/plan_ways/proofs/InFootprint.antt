@@ -1,29 +1,15 @@
 -- The frames to which a call's names have led are in the call's footprint.
-use Rattle.std.proofs.Common.{◌≡◌, ℕ, true, ◌||◌, ◌==◌, List, [], ◌∷◌, ◌++◌, map, Some, None, sym, ◌∙◌, ap, subst}
-use Rattle.std.specs.List.{flat_map}
-use Rattle.std.proofs.lemmas.List.Folds.{list_any-append}
-use Rattle.std.proofs.Math.Bool.{or-true}
-use Rattle.spk_nums.specs.Capability.{Capability}
-use Rattle.spk_nums.specs.declared.calls.Call.{Call}
-use Rattle.kernel_rules.specs.State.{State}
-use Rattle.kernel_rules.specs.Access.{Want, Named, found}
-use Rattle.kernel_rules.specs.References.{named_by, frame_names}
-use Rattle.kernel_rules.specs.Rules.{Rule, Name as name_rule, Vacant as vacant_rule, Held as held_rule}
-use Rattle.kernel_rules.specs.Rules.{Mapped as mapped_rule, Does, Found, named, name_of}
-use Rattle.kernel_rules.specs.CallRelation.{rule_of}
-use Rattle.kernel_history.specs.Ways.{wide_ways, target_of}
-use Rattle.kernel_history.specs.Footprint.{frame_of_name, frames_named, frame_at_slot, frame_argument}
-use Rattle.kernel_history.specs.Footprint.{frames_about, frames_own, footprint_frames, is_one_of}
-use Rattle.call_plans.specs.declared.plans.Nth.{Nth}
-use Rattle.call_plans.specs.declared.plans.Nth.TheVariants.{First, Second, Third, Fourth}
-use Rattle.call_plans.specs.declared.plans.Name.{Name}
-use Rattle.call_plans.specs.declared.plans.Target.{Target}
-use Rattle.call_plans.specs.Plans.{at_place}
-use Rattle.call_plans.specs.PlanOf.{plan_for}
-use Rattle.call_plans.specs.GoesBy.{OwnPages, own_pages, GoesOn}
-use Rattle.call_plans.specs.After.{Leads, LeadsIn}
-use Rattle.call_plans.proofs.CallsGoBy.{calls_go}
+use Rattle.kernel_history.proofs.{◌≡◌, ℕ, true, ◌||◌, ◌==◌, List, [], ◌∷◌, ◌++◌, map, Some, None, sym, ◌∙◌, ap, subst, flat_map, Capability}
+use Rattle.kernel_history.proofs.{Call, State, Want, Named, found, named_by, frame_names, Rule, Vacant as vacant_rule, Does, Found, named}
+use Rattle.kernel_history.proofs.{rule_of, wide_ways, target_of, frames_named, frame_at_slot, frame_argument, frames_own, footprint_frames}
+use Rattle.call_plans.specs.{at_place, plan_for, OwnPages, own_pages, GoesOn, Leads, LeadsIn}
+use Rattle.kernel_history.specs.kernel_rules.specs.{Name as name_rule, Held as held_rule, Mapped as mapped_rule, name_of}
+use Rattle.std.proofs.{lemmas.List.Folds.list_any-append, Math.Bool.or-true}
+use Rattle.kernel_history.specs.Footprint.{frame_of_name, frames_about}
+use Rattle.call_plans.specs.{declared.plans.Nth.Nth, declared.plans.Nth.TheVariants.First, declared.plans.Nth.TheVariants.Second}
+use Rattle.call_plans.specs.{declared.plans.Nth.TheVariants.Third, declared.plans.Nth.TheVariants.Fourth, declared.plans.Name.Name}
 use Rattle.plan_ways.specs.Laws.{FoundAreNamed, FoundAreInFootprint}
+use Rattle.{kernel_history.proofs.is_one_of, call_plans.specs.declared.plans.Target.Target, call_plans.proofs.CallsGoBy.calls_go}
 
 pub one_left : (f : ℕ) (xs ys : List ℕ) → is_one_of f xs ≡ true → is_one_of f (xs ++ ys) ≡ true
 one_left f xs ys h = list_any-append (λ m. m == f) xs ys ∙ ap (λ b. b || is_one_of f ys) h

@@ -1,22 +1,15 @@
 -- The ways of a call by its plan.
-use Rattle.std.proofs.Common.{◌≡◌, ℕ, Bool, true, false, IsTrue, IsFalse, ◌||◌, ◌==◌, ◌&&◌, List, [], ◌++◌, refl, sym, ◌∙◌, ap, subst}
-use Rattle.std.specs.Prelude.{IsSome}
-use Rattle.word_map.specs.Word.{EntryAt}
-use Rattle.kernel_history.specs.Trace.{own_left}
-use Rattle.std.proofs.lemmas.List.Folds.{list_any-append}
-use Rattle.std.proofs.lemmas.List.Elements.{All-append}
-use Rattle.std.proofs.Math.Bool.{or-true}
-use Rattle.spk_nums.specs.declared.replies.Reply.{Reply}
-use Rattle.kernel_rules.specs.State.{State}
-use Rattle.kernel_rules.specs.Access.{Slot, found, own, reached, Target as place}
-use Rattle.kernel_rules.specs.Rules.{Rule, Name as name_rule, Vacant as vacant_rule, Held as held_rule, Mapped as mapped_rule}
-use Rattle.kernel_rules.specs.Rules.{Does, Refused, and_then, named, name_of, vacant, held, mapped, outcome}
-use Rattle.kernel_history.specs.Ways.{way_to, ways, wide_way_to, wide_ways, target_of, asked_of}
-use Rattle.kernel_history.specs.Justified.{is_slot_in, HasReached}
-use Rattle.call_plans.specs.GoesBy.{OwnPages}
-use Rattle.call_plans.specs.After.{rule_after, LeadsIn, Next, NextName, NextFree, NextHeld, NextOwn, NextNothing, next_of}
-use Rattle.call_plans.proofs.AfterNames.{before, Begins, left_begins, outcome_left}
-use Rattle.plan_ways.specs.Laws.{NextPlace, NextOnWay, IsTargetOf, TargetIsNext, AskedIsLeft, NextRefused, NextIsFirst, AllWays}
+use Rattle.kernel_history.proofs.{◌≡◌, ℕ, Bool, true, false, IsTrue, ◌||◌, ◌==◌, ◌&&◌, List, [], ◌++◌, refl, sym, ◌∙◌, ap, subst, IsSome}
+use Rattle.kernel_history.proofs.{EntryAt, own_left, Reply, State, Slot, found, own, reached, Target as place, Rule, Vacant as vacant_rule}
+use Rattle.kernel_history.proofs.{Does, and_then, named, vacant, outcome, way_to, ways, wide_way_to, wide_ways, target_of, asked_of}
+use Rattle.call_plans.specs.{OwnPages, rule_after, LeadsIn, NextName, NextFree, NextHeld, NextOwn, NextNothing, next_of}
+use Rattle.kernel_history.specs.kernel_rules.specs.{IsFalse, Name as name_rule, Held as held_rule, Mapped as mapped_rule, Refused, name_of}
+use Rattle.call_plans.proofs.{before, Begins, left_begins, outcome_left}
+use Rattle.plan_ways.specs.{NextPlace, IsTargetOf, NextRefused}
+use Rattle.std.proofs.{lemmas.List.Folds.list_any-append, lemmas.List.Elements.All-append, Math.Bool.or-true}
+use Rattle.plan_ways.specs.Laws.{NextOnWay, TargetIsNext, AskedIsLeft, NextIsFirst, AllWays}
+use Rattle.{kernel_history.proofs.is_slot_in, kernel_history.proofs.HasReached, kernel_history.specs.kernel_rules.specs.held}
+use Rattle.{kernel_history.specs.kernel_rules.specs.mapped, call_plans.specs.After.Next}
 
 slot_left : (xs ys : List Slot) (f i : ℕ) → is_slot_in xs f i ≡ true → is_slot_in (xs ++ ys) f i ≡ true
 slot_left xs ys f i h = list_any-append (λ at. at.node == f && at.index == i) xs ys ∙ ap (λ b. b || is_slot_in ys f i) h

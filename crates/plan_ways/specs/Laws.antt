@@ -1,24 +1,11 @@
 -- What is proved of the ways of a call by its plan, where its first names have led to some capabilities.
-use Rattle.std.specs.Prelude.{◌≡◌, ℕ, true, List, [], Option, Some, None, IsFalse}
-use Rattle.spk_nums.specs.Capability.{Capability}
-use Rattle.spk_nums.specs.declared.calls.Call.{Call}
-use Rattle.spk_nums.specs.declared.replies.Reply.{Reply}
-use Rattle.word_map.specs.Word.{FrameAt, CountAt}
-use Rattle.kernel_rules.specs.State.{State, Thing}
-use Rattle.kernel_rules.specs.Access.{Slot, Target as place, own, reached}
-use Rattle.kernel_rules.specs.Rules.{Cause, Rule, Refused, named, vacant, held, mapped, outcome}
-use Rattle.kernel_rules.specs.References.{named_by}
-use Rattle.kernel_history.specs.Trace.{Trace}
-use Rattle.kernel_history.specs.Ways.{way_to, ways, wide_way_to, wide_ways, target_of, asked_of}
-use Rattle.kernel_history.specs.Justified.{is_slot_in, HasReached}
-use Rattle.kernel_history.specs.Footprint.{frames_named, is_one_of, IsInFootprint}
-use Rattle.call_plans.specs.declared.plans.Nth.{Nth}
-use Rattle.call_plans.specs.declared.plans.Plan.{Plan}
-use Rattle.call_plans.specs.Plans.{at_place}
-use Rattle.call_plans.specs.PlanOf.{plan_for}
-use Rattle.call_plans.specs.GoesBy.{OwnPages, GoesBy}
-use Rattle.call_plans.specs.After.{rule_after, Leads, LeadsIn, Next, NextName, NextFree, NextHeld, NextOwn, NextNothing, next_of}
-use Rattle.call_plans.specs.Laws.{AfterNames}
+use Rattle.kernel_history.specs.{◌≡◌, ℕ, true, List, [], Option, Some, None, IsFalse, Capability, Call, Reply, FrameAt, CountAt, State}
+use Rattle.kernel_history.specs.{Thing, Slot, Target as place, own, reached, Cause, Rule, named, vacant, held, outcome, named_by, way_to}
+use Rattle.kernel_history.specs.{ways, wide_way_to, wide_ways, target_of, asked_of, is_slot_in, HasReached, frames_named, is_one_of}
+use Rattle.call_plans.specs.{at_place, plan_for, OwnPages, rule_after, Leads, LeadsIn, NextName, NextFree, NextHeld, NextOwn, NextNothing}
+use Rattle.kernel_history.specs.kernel_rules.specs.{Refused, mapped}
+use Rattle.call_plans.specs.{declared.plans.Nth.Nth, declared.plans.Plan.Plan, GoesBy.GoesBy, After.Next, Laws.AfterNames}
+use Rattle.{kernel_history.specs.IsInFootprint, call_plans.specs.next_of, kernel_history.specs.Trace.Trace}
 
 -- The place of the next look-up.
 abbrev pub NextPlace : State → ℕ → Next → place → Type 0

@@ -1,12 +1,14 @@
 -- What the crates above name through this one.
-pub use Rattle.spk_nums
+pub use Rattle.kernel_history.specs.spk_nums
 pub use Rattle.kernel_history.specs.entry_words
 pub use Rattle.kernel_history.specs.frame_words
 pub use Rattle.kernel_history.specs.tcap_words
-pub use Rattle.word_map
-pub use Rattle.kernel_rules
+pub use Rattle.kernel_history.specs.word_map
+pub use Rattle.kernel_history.specs.kernel_rules
 pub use Rattle.call_plans.specs.kernel_invariant
 pub use Rattle.kernel_history
 pub use Rattle.call_plans
 -- Its own.
 pub mod Laws
+-- The names that are used most outside of this library.
+pub use Rattle.plan_ways.specs.Laws.{NextPlace, IsTargetOf, NextRefused}

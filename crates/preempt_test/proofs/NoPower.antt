@@ -1,9 +1,8 @@
 -- Merging gives no list the power to preempt what neither part could.
-use Rattle.std.proofs.Common.{◌≡◌, ℕ, ◌≤◌, ◌==◌, Bool, true, false, if◌then◌else◌, nat_lt}
-use Rattle.std.proofs.Common.{max, List, [], ◌∷◌, Option, Some, None, refl, subst, arith}
-use Rattle.std.proofs.lemmas.Bool.{and_parts, and_from, eqb-true, ltb-true, lt-ltb}
+use Rattle.std.proofs.Common.{◌≡◌, ℕ, ◌≤◌, ◌==◌, Bool, true, false, if◌then◌else◌, nat_lt, max, List, [], ◌∷◌, Option, Some, None, refl}
+use Rattle.std.proofs.Common.{subst, arith, eqb-true, ltb-true, lt-ltb}
 use Rattle.spk_nums.specs.Merging.{put_pair, merged, number_of, is_smaller, is_better}
-use Rattle.preempt_test.specs.Power.{MergingGivesNoPower}
+use Rattle.{std.proofs.lemmas.Bool.and_parts, std.proofs.lemmas.Bool.and_from, preempt_test.specs.Power.MergingGivesNoPower}
 
 -- a number below the larger of two is below the other
 less_smaller : (n m : ℕ) (o : Option ℕ) → n ≤ m → is_smaller m o ≡ true → is_smaller n o ≡ true

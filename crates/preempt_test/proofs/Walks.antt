@@ -1,9 +1,7 @@
 -- Going through a list of pairs from its first.
 use Rattle.std.proofs.Common.{◌≡◌, ◌≢◌, ℕ, zero, suc, ◌+◌, ◌≤◌, ◌&&◌, List, [], ◌∷◌, length, drop, Some, None, refl, sym, ap, ◌∙◌, arith}
-use Rattle.std.specs.Prelude.{slice_get}
-use Rattle.std.proofs.lemmas.Bool.{ne_eqb, eq-eqb}
-use Rattle.std.proofs.lemmas.List.{drop_all}
-use Rattle.spk_nums.specs.Merging.{number_of, is_smaller, is_better}
+use Rattle.{std.proofs.Common.slice_get, std.proofs.Common.ne_eqb, std.proofs.Common.eq-eqb, std.proofs.lemmas.List.drop_all}
+use Rattle.{spk_nums.specs.Merging.number_of, spk_nums.specs.Merging.is_smaller, spk_nums.specs.Merging.is_better}
 
 -- what is left of a list at one of its pairs
 at_pair : (xs : List (ℕ × ℕ)) (i : ℕ) (x : ℕ × ℕ) → slice_get xs i ≡ Some x → drop i xs ≡ x ∷ drop (i + 1) xs

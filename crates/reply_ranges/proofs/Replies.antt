@@ -1,37 +1,16 @@
 -- Every reply that may decide a call is in range.
-use Rattle.std.proofs.Common.{◌≡◌, ℕ, zero, suc, ◌+◌, ◌*◌, ◌<◌, ◌≤◌, ◌^◌, Bool}
-use Rattle.std.proofs.Common.{true, false, cond, List, [], ◌∷◌, length, Option, Some, None}
-use Rattle.std.proofs.Common.{inl, inr, refl, sym, ap, subst, arith, ◌==◌, IsSomeAnd}
-use Rattle.std.proofs.Math.Nat.{suc-mul}
-use Rattle.spk_nums.specs.declared.kinds.Kind.{Kind}
-use Rattle.spk_nums.specs.declared.kinds.Kind.TheVariants as kind
-use Rattle.spk_nums.specs.declared.kinds.FrameKind.TheVariants as frame_kind
-use Rattle.spk_nums.specs.declared.calls.Make.TheVariants as make
-use Rattle.spk_nums.specs.declared.calls.Call.{Call}
-use Rattle.spk_nums.specs.declared.calls.Call.TheVariants.{Retype, Make as make_call, Switch, Transfer, Delegate, Replenish}
-use Rattle.spk_nums.specs.declared.replies.Reply.{Reply}
-use Rattle.spk_nums.specs.declared.replies.Reply.TheVariants as reply
-use Rattle.kernel_rules.specs.State.{Place, Free, Holds, Quiescing, Comp, Thread, Frame, Kernel, Liveness, Unused, Live, Dead, Thing, State}
-use Rattle.kernel_rules.specs.State.{PlaceOf, FrameOf, NumberOf, thread_in, outstanding}
-use Rattle.kernel_rules.specs.Access.{reached}
-use Rattle.kernel_rules.specs.References.{named_by, place_names, frame_names, number_names, core_names, sum_below, times, node_refs, refs}
-use Rattle.kernel_rules.specs.GracePeriods.{MayWait, MayBeUnflushed}
-use Rattle.kernel_rules.specs.Ranges.{budget_at, InRanges}
-use Rattle.kernel_rules.specs.CallRelation.{MayReply}
-use Rattle.kernel_rules.specs.Runs.{after, is_open}
-use Rattle.kernel_invariant.proofs.Sums.{times_cons}
-use Rattle.kernel_invariant.proofs.SoundCalls.{IsOpen}
-use Rattle.kernel_invariant.proofs.SoundRuns.{opened, open_is, limits_stay}
-use Rattle.kernel_laws.specs.Causes.{fills_at, tcap_named, UntypedIs, NumberIs, PlaceIs, IsQuiescing, IsUnflushed, IsRunning, IsShort}
-use Rattle.kernel_laws.proofs.Causes.{causes_stand}
-use Rattle.kernel_laws.proofs.Shapes.{FrameShape, Shaped}
-use Rattle.kernel_laws.proofs.RangesLaw.{runs_shape, ranges_hold}
-use Rattle.kernel_laws.proofs.NodesLaw.{runs_fit}
-use Rattle.state_laws.proofs.CachedLaw.{translations_stand}
-use Rattle.state_laws.proofs.Threads.{threads_run}
-use Rattle.reply_ranges.specs.Ranges.{ReplyFits, RepliesInRange}
-use Rattle.reply_ranges.proofs.Tidy.{runs_tidy}
-use Rattle.reply_ranges.proofs.Values.{answers_fit}
+use Rattle.state_laws.specs.kernel_laws.proofs as low
+use low.{◌≡◌, ℕ, zero, suc, ◌+◌, ◌*◌, ◌<◌, ◌≤◌, ◌^◌, Bool, true, false, cond, List, [], ◌∷◌, length, Option, Some, None, inl, inr, refl}
+use low.{sym, ap, subst, arith, ◌==◌, IsSomeAnd, Kind, Call, Retype, Make as make_call, Switch, Transfer, Delegate, Replenish, Reply, Place}
+use low.{Free, Holds, Quiescing, Comp, Thread, Frame, Kernel, Liveness, Unused, Live, Dead, Thing, State, PlaceOf, FrameOf, NumberOf}
+use low.{thread_in, outstanding, reached, named_by, place_names, frame_names, number_names, core_names, sum_below, times, node_refs, refs}
+use low.{MayWait, MayBeUnflushed, InRanges, MayReply, after, is_open, times_cons, IsOpen, opened, open_is, limits_stay, Shaped, runs_shape}
+use Rattle.state_laws.specs.kernel_laws.specs.Causes.{fills_at, tcap_named, UntypedIs, NumberIs, PlaceIs, IsQuiescing, IsUnflushed}
+use low.{runs_fit, FrameKind, Causes.causes_stand, Shapes.FrameShape, RangesLaw.ranges_hold}
+use Rattle.{state_laws.specs.kernel_rules.specs.budget_at, state_laws.specs.kernel_rules.specs.Make, std.proofs.Math.Nat.suc-mul}
+use Rattle.{state_laws.specs.kernel_laws.specs.Causes.IsRunning, state_laws.specs.kernel_laws.specs.Causes.IsShort}
+use Rattle.{state_laws.proofs.CachedLaw.translations_stand, state_laws.proofs.Threads.threads_run, reply_ranges.specs.Ranges.ReplyFits}
+use Rattle.{reply_ranges.specs.Ranges.RepliesInRange, reply_ranges.proofs.Tidy.runs_tidy, reply_ranges.proofs.Values.answers_fit}
 
 -- ---- references are few
 
@@ -57,7 +36,7 @@ times_few f (g ∷ fs) =
     by false = omega arith
 
 named_few : (k : Kind) (f : ℕ) → length (named_by k f) ≤ 1
-named_few kind.Range f = omega arith
+named_few Kind.Range f = omega arith
 named_few _ f = omega arith
 
 place_few : (f : ℕ) (p : Place) → times f (place_names p) ≤ 1
@@ -98,13 +77,13 @@ some_and None P Q f h = absurd h
 some_and (Some x) P Q f h = f x h
 
 untyped_and : (P : ℕ → Type 0) (Q : Type 0) (call : Call) → ((f : ℕ) → P f → Q) → UntypedIs P call → Q
-untyped_and P Q (Retype r f frame_kind.Untyped) g h = g f h
-untyped_and P Q (Retype r f frame_kind.User) g h = absurd h
-untyped_and P Q (Retype r f frame_kind.Kernel) g h = absurd h
+untyped_and P Q (Retype r f FrameKind.Untyped) g h = g f h
+untyped_and P Q (Retype r f FrameKind.User) g h = absurd h
+untyped_and P Q (Retype r f FrameKind.Kernel) g h = absurd h
 untyped_and P Q _ g h = absurd h
 
 number_and : (P : ℕ → Type 0) (Q : Type 0) (call : Call) → ((l : ℕ) → P l → Q) → NumberIs P call → Q
-number_and P Q (make_call (make.Comp table pages live) r f t b) g h = g live h
+number_and P Q (make_call (Make.Comp table pages live) r f t b) g h = g live h
 number_and P Q (make_call _ r f t b) g h = absurd h
 number_and P Q _ g h = absurd h
 
@@ -169,20 +148,20 @@ replies_in_range setting lim events run c call r may busy = by r may.permitted b
     left : outstanding (s.core c) < 2 ^ 32
     left = let spending = ranges.spending 0 c (opens.sound.inside c opens.is).1 in omega (arith, spending)
 
-    by : (r : Reply) → MayReply s c call r → ((d : ℕ) → r ≡ reply.Busy d → d < setting.cores) → ReplyFits setting.cores r
-    by (reply.Ok v) may busy =
+    by : (r : Reply) → MayReply s c call r → ((d : ℕ) → r ≡ Reply.Busy d → d < setting.cores) → ReplyFits setting.cores r
+    by (Reply.Ok v) may busy =
         answers_fit s (opened events) c opens (runs_fit setting lim events run) (runs_shape setting lim events run)
         (subst (λ l. l.epochs < 2 ^ 16) (sym (limits_stay setting events)) lim.most_epochs) (runs_tidy setting lim events run) ranges
         (translations_stand setting lim events run c core) frames call v may.1.1
-    by (reply.Quiescing e) may busy = below e (waits_core s c call e (causes_stand s c call (reply.Quiescing e) may))
-    by (reply.Unflushed e) may busy = below e (flushes_core s c call e (causes_stand s c call (reply.Unflushed e) may))
-    by (reply.Running e) may busy =
+    by (Reply.Quiescing e) may busy = below e (waits_core s c call e (causes_stand s c call (Reply.Quiescing e) may))
+    by (Reply.Unflushed e) may busy = below e (flushes_core s c call e (causes_stand s c call (Reply.Unflushed e) may))
+    by (Reply.Running e) may busy =
         below e (running_core s c call e (λ f is. ((threads_run setting lim events run f e).current is).0)
-        (causes_stand s c call (reply.Running e) may))
-    by (reply.Busy d) may busy = busy d refl
-    by (reply.Referenced n) may busy =
+        (causes_stand s c call (Reply.Running e) may))
+    by (Reply.Busy d) may busy = busy d refl
+    by (Reply.Referenced n) may busy =
         untyped_and (λ f. (0 < refs s f) × (n ≡ refs s f)) (n ≤ 4294967295) call
         (λ f is. (let few = refs_few s f (runs_shape setting lim events run) frames (subst (λ k. k ≤ 8) (sym cores) lim.most_cores) in
-        let same = is.1 in omega (arith, few, same))) (causes_stand s c call (reply.Referenced n) may)
-    by (reply.Short n) may busy = short_few s c call n budgets left (causes_stand s c call (reply.Short n) may)
+        let same = is.1 in omega (arith, few, same))) (causes_stand s c call (Reply.Referenced n) may)
+    by (Reply.Short n) may busy = short_few s c call n budgets left (causes_stand s c call (Reply.Short n) may)
     by _ may busy = tt

@@ -1,58 +1,28 @@
 -- In every state that a run reaches, capabilities have numbers and rights in the range of their kind, and cached translations have flags
 -- in range.
-use Rattle.std.proofs.Common.{◌≡◌, ℕ, ◌<◌, ◌≤◌, ◌^◌, Bool, true, false, List, [], ◌∷◌, ◌++◌, Option, Some, None, IsTrue}
-use Rattle.std.proofs.Common.{sym, ap, subst, arith, ◌==◌, nat_lt, ◌+◌, length, if◌then◌else◌}
-use Rattle.std.specs.List.{AllByRecursion}
-use Rattle.std.proofs.lemmas.Bool.{false≢true}
-use Rattle.spk_nums.proofs.KeptRights.{kept_above, kept_below}
-use Rattle.spk_nums.specs.Capability.{Capability, cap_of}
-use Rattle.spk_nums.specs.Rights.{kept, least_rights, part_of}
-use Rattle.spk_nums.specs.Setting.{Setting, IsSetting}
-use Rattle.spk_nums.specs.CallLimits.{InLimits}
-use Rattle.spk_nums.specs.declared.kinds.Kind.{Kind}
-use Rattle.spk_nums.specs.declared.kinds.Kind.TheVariants as kind
-use Rattle.spk_nums.specs.declared.kinds.FrameKind.{FrameKind}
-use Rattle.spk_nums.specs.declared.kinds.FrameKind.TheVariants as frame_kind
-use Rattle.spk_nums.specs.declared.calls.Make.{Make}
-use Rattle.spk_nums.specs.declared.calls.Make.TheVariants as make
-use Rattle.spk_nums.specs.declared.calls.Call.{Call}
-use Rattle.spk_nums.specs.declared.calls.Call.TheVariants.{Look, Copy, Remove, Grow, Shrink, Retype, Make as make_call}
-use Rattle.spk_nums.specs.declared.calls.Call.TheVariants.{Map, Unmap, Touch, Flush, Gate, Kill, Call as call_gate}
-use Rattle.spk_nums.specs.declared.calls.Call.TheVariants.{Ret, Switch, Tick, Transfer, Delegate, Test, Part, Replenish}
-use Rattle.spk_nums.specs.declared.translations.Translation.{Translation}
-use Rattle.spk_nums.specs.declared.replies.Reply.{Reply}
-use Rattle.spk_nums.specs.declared.replies.Reply.TheVariants as reply
-use Rattle.kernel_rules.specs.State.{Place, Free, Holds, Quiescing, Comp, Frame, Kernel}
-use Rattle.kernel_rules.specs.State.{Core, State, put, with_place, comp_in, comp_of, thread_in}
-use Rattle.kernel_rules.specs.Start.{plain_cap, start_range, start_cap, place_with, start}
-use Rattle.kernel_rules.specs.GracePeriods.{entered, returned}
-use Rattle.kernel_rules.specs.Access.{Slot, Named, Want, Under, InRoot, found, root_at}
-use Rattle.kernel_rules.specs.Access.{place_at, held_in, usable_in, usable, reached, any, to_copy, to_part, only}
-use Rattle.kernel_rules.specs.Rules.{Change, Judged, Refused, Found, and_then, or_refuse, unless, named, mapped}
-use Rattle.kernel_rules.specs.CapabilityCalls.{make_rule, has_frames}
-use Rattle.kernel_rules.specs.MemoryCalls.{retype_rule, touch_by, translation_of}
-use Rattle.kernel_rules.specs.Edits.{caching}
-use Rattle.kernel_rules.specs.InvocationCalls.{switch_to}
-use Rattle.kernel_rules.specs.CallRelation.{rule_of, change_of, changed, counted, owed_by, state_by}
-use Rattle.kernel_rules.specs.Fitting.{fits, IsGood, EndsWithin}
-use Rattle.kernel_rules.specs.Runs.{Event, Enters, Decides, Returns, after, is_open, IsRun}
-use Rattle.kernel_rules.proofs.Changes.{IfFound}
-use Rattle.kernel_rules.proofs.PartFrames.{frames_in}
-use Rattle.kernel_invariant.proofs.Sound.{put_all, only_is}
-use Rattle.kernel_invariant.proofs.SoundCalls.{IsOpen, within_by}
-use Rattle.kernel_invariant.proofs.SoundRuns.{opened, open_is, open_limits, limits_stay}
-use Rattle.kernel_invariant.proofs.Facts.{ChangesFrom, outcome_from, held_facts, suits, named_fit, then_parts, or_found, named_good}
-use Rattle.found_stays.proofs.Stays.{name_parts}
-use Rattle.kernel_laws.proofs.Shapes.{FrameShape, Shaped}
-use Rattle.kernel_laws.proofs.RangesLaw.{runs_shape}
-use Rattle.kernel_laws.proofs.NodeSteps.{IsFitted}
-use Rattle.kernel_laws.proofs.NodesLaw.{runs_fit, held_is, mapped_page}
+use Rattle.state_laws.specs.kernel_laws.proofs as low
+use low.{◌≡◌, ℕ, ◌<◌, ◌≤◌, ◌^◌, Bool, true, false, List, [], ◌∷◌, ◌++◌, Option, Some, None, IsTrue, sym, ap, subst, arith, ◌==◌}
+use low.{ltb as nat_lt, ◌+◌, length, if◌then◌else◌, false≢true, Capability, cap_of, kept, part_of, Setting, IsSetting, InLimits, Kind}
+use low.{FrameKind, Call, Look, Copy, Remove, Grow, Shrink, Retype, Make as make_call, Map, Unmap, Touch, Flush, Gate, Kill, Ret, Switch}
+use low.{Tick, Transfer, Delegate, Test, Part, Replenish, Translation, Reply, Place, Free, Holds, Quiescing, Comp, Frame, Kernel, Core}
+use low.{State, put, with_place, comp_in, comp_of, thread_in, plain_cap, start_cap, place_with, start, entered, returned, Slot, Named, Want}
+use low.{Under, InRoot, found, root_at, place_at, held_in, usable_in, usable, reached, any, to_copy, only, Change, Judged, Refused, Found}
+use low.{and_then, or_refuse, unless, named, mapped, make_rule, has_frames, retype_rule, touch_by, translation_of, caching, switch_to}
+use low.{rule_of, change_of, changed, counted, owed_by, state_by, fits, IsGood, EndsWithin, Event, Enters, Decides, Returns, after, is_open}
+use low.{IsRun, IfFound, put_all, only_is, IsOpen, opened, open_is, open_limits, limits_stay, ChangesFrom, outcome_from, suits, named_fit}
+use low.{then_parts, or_found, named_good, name_parts, Shaped, runs_shape, IsFitted, runs_fit, held_is, mapped_page}
+use Rattle.state_laws.specs.kernel_rules.specs.{least_rights, Make, to_part}
+use Rattle.state_laws.specs.kernel_invariant.proofs.{within_by, held_facts}
+use Rattle.state_laws.specs.spk_nums.proofs.KeptRights.{kept_above, kept_below}
+use Rattle.{std.specs.List.AllByRecursion, state_laws.specs.spk_nums.specs.declared.calls.Call.TheVariants.Call as call_gate}
+use Rattle.{state_laws.specs.kernel_rules.specs.Start.start_range, state_laws.specs.kernel_rules.proofs.PartFrames.frames_in}
+use low.{Shapes.FrameShape}
 
 -- The number of a capability is in the range of its kind; the frame of a range is below 512.
 abbrev pub NumberFits : Kind → ℕ → ℕ → Type 0
-NumberFits kind.Range f a = f ≤ 511
-NumberFits kind.Gate f a = (1 ≤ a) × (a < 2 ^ 16)
-NumberFits kind.Page f a = a < 4
+NumberFits Kind.Range f a = f ≤ 511
+NumberFits Kind.Gate f a = (1 ≤ a) × (a < 2 ^ 16)
+NumberFits Kind.Page f a = a < 4
 NumberFits _ f a = a < 1
 
 pub record IsCap (k : Capability) : Type 0 where
@@ -97,34 +67,34 @@ flags_cached ts t h new = by (nat_lt (length ts) 64)
 
 -- ---- capabilities that are made
 
-plain_table : (f : ℕ) → IsCap (plain_cap kind.Table f)
+plain_table : (f : ℕ) → IsCap (plain_cap Kind.Table f)
 plain_table f = record { number = omega arith; least = omega arith; most = omega arith }
 
-plain_leaf : (f : ℕ) → IsCap (plain_cap kind.Leaf f)
+plain_leaf : (f : ℕ) → IsCap (plain_cap Kind.Leaf f)
 plain_leaf f = record { number = omega arith; least = omega arith; most = omega arith }
 
-plain_pages : (f : ℕ) → IsCap (plain_cap kind.Pages f)
+plain_pages : (f : ℕ) → IsCap (plain_cap Kind.Pages f)
 plain_pages f = record { number = omega arith; least = omega arith; most = omega arith }
 
-plain_pleaf : (f : ℕ) → IsCap (plain_cap kind.Pleaf f)
+plain_pleaf : (f : ℕ) → IsCap (plain_cap Kind.Pleaf f)
 plain_pleaf f = record { number = omega arith; least = omega arith; most = omega arith }
 
-plain_comp : (f : ℕ) → IsCap (plain_cap kind.Comp f)
+plain_comp : (f : ℕ) → IsCap (plain_cap Kind.Comp f)
 plain_comp f = record { number = omega arith; least = omega arith; most = omega arith }
 
-plain_thread : (f : ℕ) → IsCap (plain_cap kind.Thread f)
+plain_thread : (f : ℕ) → IsCap (plain_cap Kind.Thread f)
 plain_thread f = record { number = omega arith; least = omega arith; most = omega arith }
 
-plain_tcap : (f : ℕ) → IsCap (plain_cap kind.Tcap f)
+plain_tcap : (f : ℕ) → IsCap (plain_cap Kind.Tcap f)
 plain_tcap f = record { number = omega arith; least = omega arith; most = omega arith }
 
-plain_link : (f : ℕ) → IsCap (plain_cap kind.Link f)
+plain_link : (f : ℕ) → IsCap (plain_cap Kind.Link f)
 plain_link f = record { number = omega arith; least = omega arith; most = omega arith }
 
-page_cap : (f w : ℕ) → w < 4 → IsCap (cap_of kind.Page f w)
+page_cap : (f w : ℕ) → w < 4 → IsCap (cap_of Kind.Page f w)
 page_cap f w few = record { number = few; least = omega arith; most = omega arith }
 
-gate_cap : (f e : ℕ) → (1 ≤ e) × (e < 2 ^ 16) → IsCap (cap_of kind.Gate f e)
+gate_cap : (f e : ℕ) → (1 ≤ e) × (e < 2 ^ 16) → IsCap (cap_of Kind.Gate f e)
 gate_cap f e few = record { number = few; least = omega arith; most = omega arith }
 
 kept_cap : (k : Capability) (these : ℕ) → IsCap k → IsCap (kept k these)
@@ -135,7 +105,7 @@ kept_cap k these h = record {
 }
 
 -- The epoch of a component is in range.
-epoch_fits : (epochs : ℕ) (x : Frame) → epochs < 2 ^ 16 → FrameShape epochs x → IsTrue (fits kind.Comp x)
+epoch_fits : (epochs : ℕ) (x : Frame) → epochs < 2 ^ 16 → FrameShape epochs x → IsTrue (fits Kind.Comp x)
     → (1 ≤ (comp_in x).epoch) × ((comp_in x).epoch < 2 ^ 16)
 epoch_fits epochs (Kernel (Comp k)) small shape fit =
     let most : k.epoch ≤ epochs = shape.epoch.most in
@@ -155,12 +125,12 @@ usable_cap s c at k h is = by (place_at s at) _ (h.places at.node at.index) is
 pub mapped_at : (s : State) (c pages v : ℕ) (k : Capability) → mapped s c pages v ≡ Found k
     → (at : Slot) × (held_in (place_at s at) ≡ Some k)
 mapped_at s c pages v k e =
-    let a = then_parts (unless (if nat_lt 4095 v then Some reply.NoSlot else None) v)
-    (λ v. and_then (or_refuse (reached s c (Under (root_at pages) v)) reply.Fault)
-    λ at. or_refuse (held_in (place_at s at)) reply.Fault) k e in
-    let b = then_parts (or_refuse (reached s c (Under (root_at pages) a.0)) reply.Fault)
-    (λ at. or_refuse (held_in (place_at s at)) reply.Fault) k a.2 in
-    (b.0, or_found (held_in (place_at s b.0)) reply.Fault k b.2)
+    let a = then_parts (unless (if nat_lt 4095 v then Some Reply.NoSlot else None) v)
+    (λ v. and_then (or_refuse (reached s c (Under (root_at pages) v)) Reply.Fault)
+    λ at. or_refuse (held_in (place_at s at)) Reply.Fault) k e in
+    let b = then_parts (or_refuse (reached s c (Under (root_at pages) a.0)) Reply.Fault)
+    (λ at. or_refuse (held_in (place_at s at)) Reply.Fault) k a.2 in
+    (b.0, or_found (held_in (place_at s b.0)) Reply.Fault k b.2)
 
 -- ---- every call that is carried out
 
@@ -178,11 +148,11 @@ module _ (s : State) (o : ℕ → Bool) (c : ℕ) (opens : IsOpen s o c) (w : Is
   held_cap f i k is = subst PlaceFits is (h.places f i)
 
   -- A part of a range begins at a frame of the machine.
-  part_cap : (k : Capability) (f n : ℕ) → IsCap k → IsGood s k × IsTrue (only kind.Range k.kind) → has_frames (found k) f n ≡ true
+  part_cap : (k : Capability) (f n : ℕ) → IsCap k → IsGood s k × IsTrue (only Kind.Range k.kind) → has_frames (found k) f n ≡ true
       → IsCap (part_of k f n)
   part_cap k f n cap good has =
-      let ends : EndsWithin kind.Range k.frame k.arg s.limits.frames =
-      subst (λ j. EndsWithin j k.frame k.arg s.limits.frames) (only_is kind.Range k.kind good.1) good.0.within in
+      let ends : EndsWithin Kind.Range k.frame k.arg s.limits.frames =
+      subst (λ j. EndsWithin j k.frame k.arg s.limits.frames) (only_is Kind.Range k.kind good.1) good.0.within in
       let p = frames_in (found k) f n has in
       let some = p.some in
       let last = p.last in
@@ -203,27 +173,27 @@ module _ (s : State) (o : ℕ → Bool) (c : ℕ) (opens : IsOpen s o c) (w : Is
   made f at k is = placed (put s.place f (λ j. Free)) at.node at.index (Holds k) is (cleared f)
 
   make_tidy : (what : Make) (r f t b : ℕ) → ChangesFrom Keeps s c (make_rule s what r f t b)
-  make_tidy make.Table r f t b = λ range e table g at v calm.
-      record { places = made f at (plain_cap kind.Table f) (plain_table f); flags = h.flags }
-  make_tidy make.Leaf r f t b = λ range e table g at v calm.
-      record { places = made f at (plain_cap kind.Leaf f) (plain_leaf f); flags = h.flags }
-  make_tidy make.Pages r f t b = λ range e table g at v calm.
-      record { places = made f at (plain_cap kind.Pages f) (plain_pages f); flags = h.flags }
-  make_tidy make.Pleaf r f t b = λ range e table g at v calm.
-      record { places = made f at (plain_cap kind.Pleaf f) (plain_pleaf f); flags = h.flags }
-  make_tidy (make.Thread comp) r f t b = λ range e table g k j at v calm.
-      record { places = placed s.place at.node at.index (Holds (plain_cap kind.Thread f)) (plain_thread f) h.places; flags = h.flags }
-  make_tidy (make.Tcap sched quality) r f t b = λ range e table g at v calm.
-      record { places = placed s.place at.node at.index (Holds (plain_cap kind.Tcap f)) (plain_tcap f) h.places; flags = h.flags }
-  make_tidy (make.Comp x p l) r f t b = λ range e table g own_table a own_pages d at v calm.
-      record { places = placed s.place at.node at.index (Holds (plain_cap kind.Comp f)) (plain_comp f) h.places; flags = h.flags }
+  make_tidy Make.Table r f t b = λ range e table g at v calm.
+      record { places = made f at (plain_cap Kind.Table f) (plain_table f); flags = h.flags }
+  make_tidy Make.Leaf r f t b = λ range e table g at v calm.
+      record { places = made f at (plain_cap Kind.Leaf f) (plain_leaf f); flags = h.flags }
+  make_tidy Make.Pages r f t b = λ range e table g at v calm.
+      record { places = made f at (plain_cap Kind.Pages f) (plain_pages f); flags = h.flags }
+  make_tidy Make.Pleaf r f t b = λ range e table g at v calm.
+      record { places = made f at (plain_cap Kind.Pleaf f) (plain_pleaf f); flags = h.flags }
+  make_tidy (Make.Thread comp) r f t b = λ range e table g k j at v calm.
+      record { places = placed s.place at.node at.index (Holds (plain_cap Kind.Thread f)) (plain_thread f) h.places; flags = h.flags }
+  make_tidy (Make.Tcap sched quality) r f t b = λ range e table g at v calm.
+      record { places = placed s.place at.node at.index (Holds (plain_cap Kind.Tcap f)) (plain_tcap f) h.places; flags = h.flags }
+  make_tidy (Make.Comp x p l) r f t b = λ range e table g own_table a own_pages d at v calm.
+      record { places = placed s.place at.node at.index (Holds (plain_cap Kind.Comp f)) (plain_comp f) h.places; flags = h.flags }
 
   retype_tidy : (r f : ℕ) (k : FrameKind) → ChangesFrom Keeps s c (retype_rule s r f k)
-  retype_tidy r f frame_kind.Untyped = λ range e calm. record { places = h.places; flags = h.flags }
+  retype_tidy r f FrameKind.Untyped = λ range e calm. record { places = h.places; flags = h.flags }
   retype_tidy r f _ = λ range e calm. record { places = h.places; flags = h.flags }
 
   -- the flags of a mapping
-  page_flags : (k : Kind) (f a : ℕ) → k ≡ kind.Page → NumberFits k f a → a < 4
+  page_flags : (k : Kind) (f a : ℕ) → k ≡ Kind.Page → NumberFits k f a → a < 4
   page_flags k f a is fits = subst (λ (j : Kind). NumberFits j f a) is fits
 
   touch_tidy : (v : ℕ) (t : Option Translation) → ChangesFrom Keeps s c (touch_by (comp_of s c).pages v t)
@@ -243,19 +213,19 @@ module _ (s : State) (o : ℕ → Bool) (c : ℕ) (opens : IsOpen s o c) (w : Is
   rule_tidy (Copy a t b rights) lim = λ k e table f at v calm.
       filled at (kept k rights.0) (kept_cap k rights.0 (named_cap a (to_copy any) k e))
   rule_tidy (Remove t b) lim = λ table e at k g calm. removed at k (held_facts s c (Under (found table) b) at k g).1
-  rule_tidy (Grow t i l) lim = λ table e leaf f at v calm. filled at (plain_cap kind.Link leaf.frame) (plain_link leaf.frame)
+  rule_tidy (Grow t i l) lim = λ table e leaf f at v calm. filled at (plain_cap Kind.Link leaf.frame) (plain_link leaf.frame)
   rule_tidy (Shrink t i) lim = λ table e at k g calm. removed at k (held_facts s c (InRoot (found table) i) at k g).1
   rule_tidy (Retype r f k) lim = retype_tidy r f k
   rule_tidy (make_call what r f t b) lim = make_tidy what r f t b
-  rule_tidy (Map p v r f x) lim = λ pages e range g at u calm. filled at (cap_of kind.Page f x.0) (page_cap f x.0 lim)
+  rule_tidy (Map p v r f x) lim = λ pages e range g at u calm. filled at (cap_of Kind.Page f x.0) (page_cap f x.0 lim)
   rule_tidy (Unmap p v) lim = λ pages e at k g calm. removed at k (held_facts s c (Under (found pages) v) at k g).1
   rule_tidy (Touch v) lim = touch_tidy v (translation_of (s.core c).cached (comp_of s c).pages v)
   rule_tidy Flush lim = λ calm. record { places = h.places; flags = core_flags s.core c _ tt h.flags }
   rule_tidy (Gate k t b) lim = λ comp e table f at v calm.
-      filled at (cap_of kind.Gate comp.frame (comp_in (s.frame comp.frame)).epoch)
+      filled at (cap_of Kind.Gate comp.frame (comp_in (s.frame comp.frame)).epoch)
       (gate_cap comp.frame (comp_in (s.frame comp.frame)).epoch
       (epoch_fits s.limits.epochs (s.frame comp.frame) epochs (shape.frames comp.frame)
-      (named_fit s o c k kind.Comp comp opens.sound opens.is e)))
+      (named_fit s o c k Kind.Comp comp opens.sound opens.is e)))
   rule_tidy (Kill k) lim = λ comp e calm. record { places = h.places; flags = h.flags }
   rule_tidy (call_gate g) lim = λ gate e calm. record { places = h.places; flags = h.flags }
   rule_tidy Ret lim = λ calm. record { places = h.places; flags = h.flags }
@@ -266,8 +236,8 @@ module _ (s : State) (o : ℕ → Bool) (c : ℕ) (opens : IsOpen s o c) (w : Is
   rule_tidy (Test a b) lim = λ j e k f calm. h
   rule_tidy (Replenish a m) lim = λ j e calm. record { places = h.places; flags = core_flags s.core c _ (h.flags c) h.flags }
   rule_tidy (Part r f n t b) lim = λ k e table g at v calm.
-      filled at (part_of k f n) (part_cap k f n (named_cap r (to_part (only kind.Range)) k e)
-      (named_good s o c r (to_part (only kind.Range)) k opens.sound opens.is e) (within_by s c k f n calm))
+      filled at (part_of k f n) (part_cap k f n (named_cap r (to_part (only Kind.Range)) k e)
+      (named_good s o c r (to_part (only Kind.Range)) k opens.sound opens.is e) (within_by s c k f n calm))
 
   counted_tidy : (t : State) → IsTidy t → IsTidy (counted t c)
   counted_tidy t h = record { places = h.places; flags = core_flags t.core c _ (h.flags c) h.flags }
@@ -281,12 +251,12 @@ module _ (s : State) (o : ℕ → Bool) (c : ℕ) (opens : IsOpen s o c) (w : Is
   owed_tidy _ = h
 
   pub decided_tidy : (call : Call) (r : Reply) → InLimits call → IsTidy (state_by s c call r)
-  decided_tidy call (reply.Ok v) lim =
+  decided_tidy call (Reply.Ok v) lim =
       counted_tidy (changed s (change_of s c call))
       (change_tidy (change_of s c call) (outcome_from Keeps s c (rule_of s c call) (rule_tidy call lim)))
-  decided_tidy call reply.CallsSpent lim = h
-  decided_tidy call reply.Raced lim = counted_tidy (owed_by s c call) (owed_tidy call)
-  decided_tidy call (reply.Busy e) lim = counted_tidy (owed_by s c call) (owed_tidy call)
+  decided_tidy call Reply.CallsSpent lim = h
+  decided_tidy call Reply.Raced lim = counted_tidy (owed_by s c call) (owed_tidy call)
+  decided_tidy call (Reply.Busy e) lim = counted_tidy (owed_by s c call) (owed_tidy call)
   decided_tidy call _ lim = counted_tidy s h
 
 -- ---- the start

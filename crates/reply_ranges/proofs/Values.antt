@@ -1,43 +1,16 @@
 -- What a call answers is in range.
-use Rattle.std.proofs.Common.{◌≡◌, ℕ, ◌<◌, ◌≤◌, ◌^◌, Bool, true, false, List, [], ◌∷◌, Option, Some, None, IsTrue}
-use Rattle.std.proofs.Common.{inl, inr, refl, sym, ap, ◌∙◌, subst, arith, if◌then◌else◌}
-use Rattle.std.specs.Prelude.{find}
-use Rattle.std.specs.List.{AllByRecursion}
-use Rattle.std.proofs.lemmas.Bool.{cases_lt, false≢true}
-use Rattle.spk_nums.specs.Capability.{Capability}
-use Rattle.spk_nums.specs.Rights.{least_rights}
-use Rattle.spk_nums.specs.declared.kinds.Kind.{Kind}
-use Rattle.spk_nums.specs.declared.kinds.Kind.TheVariants as kind
-use Rattle.spk_nums.specs.declared.kinds.FrameKind.{FrameKind}
-use Rattle.spk_nums.specs.declared.kinds.FrameKind.TheVariants as frame_kind
-use Rattle.spk_nums.specs.declared.calls.Make.{Make}
-use Rattle.spk_nums.specs.declared.calls.Make.TheVariants as make
-use Rattle.spk_nums.specs.declared.calls.Call.{Call}
-use Rattle.spk_nums.specs.declared.calls.Call.TheVariants.{Look, Copy, Remove, Grow, Shrink, Retype, Make as make_call}
-use Rattle.spk_nums.specs.declared.calls.Call.TheVariants.{Map, Unmap, Touch, Flush, Gate, Kill, Call as call_gate}
-use Rattle.spk_nums.specs.declared.calls.Call.TheVariants.{Ret, Switch, Tick, Transfer, Delegate, Test, Part, Replenish}
-use Rattle.spk_nums.specs.declared.translations.Translation.{Translation}
-use Rattle.spk_nums.specs.declared.replies.Value.{Value}
-use Rattle.kernel_rules.specs.State.{Holds, Untyped, State, comp_of, thread_in}
-use Rattle.kernel_rules.specs.Access.{Named, found, place_at, to_look, any}
-use Rattle.kernel_rules.specs.Rules.{Change, Judged, Refused, Found, IsFoundAnd, outcome, RuleAnswers}
-use Rattle.kernel_rules.specs.CapabilityCalls.{make_rule}
-use Rattle.kernel_rules.specs.MemoryCalls.{retype_rule, touch_by, translation_of}
-use Rattle.kernel_rules.specs.InvocationCalls.{switch_to}
-use Rattle.kernel_rules.specs.TimeCalls.{preemption, preempts}
-use Rattle.kernel_rules.specs.Edits.{tcap_at}
-use Rattle.kernel_rules.specs.CallRelation.{rule_of}
-use Rattle.kernel_rules.specs.Fitting.{fits, EndsWithin, IsGood}
-use Rattle.kernel_rules.specs.Ranges.{InRanges}
-use Rattle.kernel_rules.proofs.Changes.{IfFound}
-use Rattle.kernel_invariant.proofs.SoundCalls.{IsOpen}
-use Rattle.kernel_invariant.proofs.Facts.{ChangesFrom, outcome_from, named_good}
-use Rattle.kernel_laws.proofs.Shapes.{Shaped}
-use Rattle.kernel_laws.proofs.NodeSteps.{IsFitted}
-use Rattle.kernel_laws.proofs.NodesLaw.{held_is, mapped_page}
-use Rattle.state_laws.specs.Cached.{Stands}
-use Rattle.reply_ranges.specs.Ranges.{CapFits, ValueFits}
+use Rattle.state_laws.specs.kernel_laws.proofs as low
+use low.{◌≡◌, ℕ, ◌<◌, ◌≤◌, ◌^◌, Bool, true, false, List, [], ◌∷◌, Option, Some, None, IsTrue, inl, inr, refl, sym, ap, ◌∙◌, subst, arith}
+use low.{if◌then◌else◌, find, false≢true, Capability, Kind, FrameKind, Call, Look, Copy, Remove, Grow, Shrink, Retype, Make as make_call}
+use low.{Map, Unmap, Touch, Flush, Gate, Kill, Ret, Switch, Tick, Transfer, Delegate, Test, Part, Replenish, Translation, Value, Holds}
+use low.{Untyped, State, comp_of, thread_in, Named, found, place_at, to_look, any, Change, Judged, Refused, Found, IsFoundAnd, outcome}
+use low.{make_rule, retype_rule, touch_by, translation_of, switch_to, preemption, preempts, tcap_at, rule_of, fits, EndsWithin, IsGood}
+use low.{InRanges, IfFound, IsOpen, ChangesFrom, outcome_from, named_good, Shaped, IsFitted, held_is, mapped_page}
 use Rattle.reply_ranges.proofs.Tidy.{NumberFits, IsCap, IsTidy, named_cap, held_cap, mapped_at}
+use Rattle.{state_laws.specs.kernel_rules.specs.least_rights, state_laws.specs.kernel_rules.specs.Make, std.specs.List.AllByRecursion}
+use Rattle.{std.proofs.lemmas.Bool.cases_lt, state_laws.specs.spk_nums.specs.declared.calls.Call.TheVariants.Call as call_gate}
+use Rattle.{state_laws.specs.kernel_rules.specs.Rules.RuleAnswers, state_laws.specs.Cached.Stands, reply_ranges.specs.Ranges.CapFits}
+use Rattle.{reply_ranges.specs.Ranges.ValueFits}
 
 -- What is found in a list is as all of it are.
 find_is : (P : Translation → Type 0) (test : Translation → Bool) (ts : List Translation) (t : Translation) → AllByRecursion P ts
@@ -63,49 +36,49 @@ module _ (s : State) (o : ℕ → Bool) (c : ℕ) (opens : IsOpen s o c) (w : Is
 
   cap_by : (j : Kind) (f a r : ℕ) → NumberFits j f a → least_rights j ≤ r → r < 4 → IsTrue (fits j (s.frame f))
       → EndsWithin j f a s.limits.frames → CapFits (record { kind = j; frame = f; arg = a; rights = r })
-  cap_by kind.Range f a r number least most fit ends =
+  cap_by Kind.Range f a r number least most fit ends =
       record { frame = number; least = omega arith; below = omega arith; rights = least; most = omega arith }
-  cap_by kind.Gate f a r number least most fit ends =
-      record { frame = small kind.Gate f refl fit; least = number.0; below = number.1; rights = least; most = omega arith }
-  cap_by kind.Page f a r number least most fit ends =
-      record { frame = small kind.Page f refl fit; least = omega arith; below = number; rights = least; most = omega arith }
-  cap_by kind.Table f a r number least most fit ends =
-      record { frame = small kind.Table f refl fit; least = omega arith; below = number; rights = least; most = omega arith }
-  cap_by kind.Leaf f a r number least most fit ends =
-      record { frame = small kind.Leaf f refl fit; least = omega arith; below = number; rights = least; most = omega arith }
-  cap_by kind.Pages f a r number least most fit ends =
-      record { frame = small kind.Pages f refl fit; least = omega arith; below = number; rights = least; most = omega arith }
-  cap_by kind.Pleaf f a r number least most fit ends =
-      record { frame = small kind.Pleaf f refl fit; least = omega arith; below = number; rights = least; most = omega arith }
-  cap_by kind.Comp f a r number least most fit ends =
-      record { frame = small kind.Comp f refl fit; least = omega arith; below = number; rights = least; most = omega arith }
-  cap_by kind.Thread f a r number least most fit ends =
-      record { frame = small kind.Thread f refl fit; least = omega arith; below = number; rights = least; most = omega arith }
-  cap_by kind.Tcap f a r number least most fit ends =
-      record { frame = small kind.Tcap f refl fit; least = omega arith; below = number; rights = least; most = omega arith }
-  cap_by kind.Link f a r number least most fit ends =
-      record { frame = small kind.Link f refl fit; least = omega arith; below = number; rights = least; most = omega arith }
+  cap_by Kind.Gate f a r number least most fit ends =
+      record { frame = small Kind.Gate f refl fit; least = number.0; below = number.1; rights = least; most = omega arith }
+  cap_by Kind.Page f a r number least most fit ends =
+      record { frame = small Kind.Page f refl fit; least = omega arith; below = number; rights = least; most = omega arith }
+  cap_by Kind.Table f a r number least most fit ends =
+      record { frame = small Kind.Table f refl fit; least = omega arith; below = number; rights = least; most = omega arith }
+  cap_by Kind.Leaf f a r number least most fit ends =
+      record { frame = small Kind.Leaf f refl fit; least = omega arith; below = number; rights = least; most = omega arith }
+  cap_by Kind.Pages f a r number least most fit ends =
+      record { frame = small Kind.Pages f refl fit; least = omega arith; below = number; rights = least; most = omega arith }
+  cap_by Kind.Pleaf f a r number least most fit ends =
+      record { frame = small Kind.Pleaf f refl fit; least = omega arith; below = number; rights = least; most = omega arith }
+  cap_by Kind.Comp f a r number least most fit ends =
+      record { frame = small Kind.Comp f refl fit; least = omega arith; below = number; rights = least; most = omega arith }
+  cap_by Kind.Thread f a r number least most fit ends =
+      record { frame = small Kind.Thread f refl fit; least = omega arith; below = number; rights = least; most = omega arith }
+  cap_by Kind.Tcap f a r number least most fit ends =
+      record { frame = small Kind.Tcap f refl fit; least = omega arith; below = number; rights = least; most = omega arith }
+  cap_by Kind.Link f a r number least most fit ends =
+      record { frame = small Kind.Link f refl fit; least = omega arith; below = number; rights = least; most = omega arith }
 
   cap_fits : (k : Capability) → IsCap k → IsGood s k → CapFits k
   cap_fits k is good = cap_by k.kind k.frame k.arg k.rights is.number is.least is.most good.fit good.within
 
   make_values : (what : Make) (r f t b : ℕ) → ChangesFrom Answers s c (make_rule s what r f t b)
-  make_values make.Table r f t b = λ range e table g at v calm. tt
-  make_values (make.Thread comp) r f t b = λ range e table g k j at v calm. tt
-  make_values (make.Comp x p l) r f t b = λ range e table g own_table a own_pages d at v calm. tt
+  make_values Make.Table r f t b = λ range e table g at v calm. tt
+  make_values (Make.Thread comp) r f t b = λ range e table g k j at v calm. tt
+  make_values (Make.Comp x p l) r f t b = λ range e table g own_table a own_pages d at v calm. tt
   make_values _ r f t b = λ range e table g at v calm. tt
 
   retype_values : (r f : ℕ) (k : FrameKind) → ChangesFrom Answers s c (retype_rule s r f k)
-  retype_values r f frame_kind.Untyped = λ range e calm. tt
+  retype_values r f FrameKind.Untyped = λ range e calm. tt
   retype_values r f _ = λ range e calm. tt
 
   cached_values : (t : Translation) → Stands s c t → t.flags.0 < 4 → (t.frame ≤ 511) × (t.flags.0 ≤ 3)
-  cached_values t stands few = (small kind.Page t.frame refl (ap (fits kind.Page) stands.user), omega arith)
+  cached_values t stands few = (small Kind.Page t.frame refl (ap (fits Kind.Page) stands.user), omega arith)
 
-  page_frame : (k : Kind) (f a : ℕ) → k ≡ kind.Page → NumberFits k f a → IsTrue (fits k (s.frame f)) → (f ≤ 511) × (a ≤ 3)
+  page_frame : (k : Kind) (f a : ℕ) → k ≡ Kind.Page → NumberFits k f a → IsTrue (fits k (s.frame f)) → (f ≤ 511) × (a ≤ 3)
   page_frame k f a is number fit =
       let few : a < 4 = subst (λ (j : Kind). NumberFits j f a) is number in
-      (small kind.Page f refl (subst (λ (j : Kind). IsTrue (fits j (s.frame f))) is fit), omega arith)
+      (small Kind.Page f refl (subst (λ (j : Kind). IsTrue (fits j (s.frame f))) is fit), omega arith)
 
   touch_values : (v : ℕ) (t : Option Translation) → translation_of (s.core c).cached (comp_of s c).pages v ≡ t
       → ChangesFrom Answers s c (touch_by (comp_of s c).pages v t)

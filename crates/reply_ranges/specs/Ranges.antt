@@ -1,15 +1,7 @@
 -- The ranges of replies.
-use Rattle.std.specs.Prelude.{◌≡◌, ℕ, ◌<◌, ◌≤◌, List}
-use Rattle.spk_nums.specs.Setting.{Setting, IsSetting}
-use Rattle.spk_nums.specs.declared.calls.Call.{Call}
-use Rattle.spk_nums.specs.Capability.{Capability}
-use Rattle.spk_nums.specs.Limits.{least_arg, end_of_arg}
-use Rattle.spk_nums.specs.Rights.{least_rights}
-use Rattle.spk_nums.specs.declared.replies.Value.{Value}
-use Rattle.spk_nums.specs.declared.replies.Value.TheVariants as value
-use Rattle.spk_nums.specs.declared.replies.Reply.{Reply}
-use Rattle.spk_nums.specs.declared.replies.Reply.TheVariants as reply
-use Rattle.kernel_rules.specs.Runs.{Event, MayDecide, IsRun}
+use Rattle.state_laws.specs.kernel_rules.specs.{◌≡◌, ℕ, ◌<◌, ◌≤◌, List, Setting, IsSetting, Call, Capability, least_rights, Value, Reply}
+use Rattle.state_laws.specs.kernel_rules.specs.{Event, MayDecide, IsRun}
+use Rattle.state_laws.specs.spk_nums.specs.Limits.{least_arg, end_of_arg}
 
 -- A capability's frame is below 512, and its number and its rights are in the range of its kind.
 pub record CapFits (c : Capability) : Type 0 where
@@ -21,23 +13,23 @@ pub record CapFits (c : Capability) : Type 0 where
 
 -- What a call answers is in range: a capability, a frame below 512 and flags below 4, or an amount below 2^32.
 abbrev pub ValueFits : Value → Type 0
-ValueFits (value.Cap c) = CapFits c
-ValueFits (value.Page f flags) = (f ≤ 511) × (flags.0 ≤ 3)
-ValueFits (value.Amount n) = n ≤ 4294967295
+ValueFits (Value.Cap c) = CapFits c
+ValueFits (Value.Page f flags) = (f ≤ 511) × (flags.0 ≤ 3)
+ValueFits (Value.Amount n) = n ≤ 4294967295
 ValueFits _ = Unit {0}
 
 -- A reply is in range: its core is one of the machine's, its number is below 2^32, its value is in range.
 abbrev pub ReplyFits : ℕ → Reply → Type 0
-ReplyFits cores (reply.Ok v) = ValueFits v
-ReplyFits cores (reply.Quiescing e) = e < cores
-ReplyFits cores (reply.Unflushed e) = e < cores
-ReplyFits cores (reply.Running e) = e < cores
-ReplyFits cores (reply.Busy e) = e < cores
-ReplyFits cores (reply.Referenced n) = n ≤ 4294967295
-ReplyFits cores (reply.Short n) = n ≤ 4294967295
+ReplyFits cores (Reply.Ok v) = ValueFits v
+ReplyFits cores (Reply.Quiescing e) = e < cores
+ReplyFits cores (Reply.Unflushed e) = e < cores
+ReplyFits cores (Reply.Running e) = e < cores
+ReplyFits cores (Reply.Busy e) = e < cores
+ReplyFits cores (Reply.Referenced n) = n ≤ 4294967295
+ReplyFits cores (Reply.Short n) = n ≤ 4294967295
 ReplyFits cores r = Unit {0}
 
 -- In every state that a run reaches, each reply that may decide a call is in range, if a `busy` names a core of the machine.
 abbrev pub RepliesInRange : Type 0
 RepliesInRange = (setting : Setting) → IsSetting setting → (events : List Event) → IsRun setting events → (c : ℕ) (call : Call) (r : Reply)
-    → MayDecide setting events c call r → ((d : ℕ) → r ≡ reply.Busy d → d < setting.cores) → ReplyFits setting.cores r
+    → MayDecide setting events c call r → ((d : ℕ) → r ≡ Reply.Busy d → d < setting.cores) → ReplyFits setting.cores r

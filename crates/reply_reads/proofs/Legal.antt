@@ -1,24 +1,13 @@
 -- Every reply that a legal trace decides is in range: the events up to a decision are a run, and a `busy` names a core that is in a call.
-use Rattle.std.proofs.Common.{◌≡◌, ℕ, ◌<◌, List, [], ◌∷◌, length, Option, Some, None, sym, ◌∙◌, ap, subst, IsTrue}
-use Rattle.std.specs.Prelude.{All}
+use Rattle.kernel_history.proofs.{◌≡◌, ℕ, ◌<◌, List, [], ◌∷◌, length, Option, Some, None, sym, ◌∙◌, ap, subst, IsTrue, All, Setting}
+use Rattle.kernel_history.proofs.{IsSetting, Call, Reply, Decision, State, MayReply, Event, after, IsRun, Step, phase, after_enter}
+use Rattle.kernel_history.proofs.{state_before, decision_at, decisions_of, calls_of, plain_phase, IsJustified, MayDecide, IsLegal}
+use Rattle.kernel_history.proofs.{entered_events, before_is, entered_phase, entered_run, run_of}
+use Rattle.reply_ranges.specs.kernel_laws.proofs.{inside_is, limits_stay}
 use Rattle.std.proofs.lemmas.List.Elements.{All-nil, All-cons, All-append}
-use Rattle.spk_nums.specs.Setting.{Setting, IsSetting}
-use Rattle.spk_nums.specs.declared.calls.Call.{Call}
-use Rattle.spk_nums.specs.declared.replies.Reply.{Reply}
-use Rattle.spk_nums.specs.declared.replies.Reply.TheVariants as reply
-use Rattle.spk_nums.specs.declared.replies.Decision.{Decision}
-use Rattle.kernel_rules.specs.State.{State}
-use Rattle.kernel_rules.specs.CallRelation.{MayReply}
-use Rattle.kernel_rules.specs.Runs.{Event, after, IsRun}
-use Rattle.kernel_invariant.proofs.SoundRuns.{inside_is, limits_stay}
-use Rattle.found_stays.proofs.SparesRuns.{inside_facts}
-use Rattle.reply_ranges.proofs.Replies.{replies_in_range}
-use Rattle.kernel_history.specs.Trace.{Step, Trace, phase, after_enter, state_before, decision_at, decisions_of, calls_of}
-use Rattle.kernel_history.specs.Events.{plain_phase}
-use Rattle.kernel_history.specs.Justified.{IsJustified}
-use Rattle.kernel_history.specs.Legal.{DecidesBy, MayDecide, IsLegal}
-use Rattle.kernel_history.proofs.Events.{entered_events, before_is, entered_phase, entered_run, run_of}
+use Rattle.kernel_history.specs.{Trace.Trace, Legal.DecidesBy}
 use Rattle.reply_reads.specs.Laws.{IsReplyWithin, LegalReplies}
+use Rattle.{reply_ranges.specs.found_stays.proofs.SparesRuns.inside_facts, reply_ranges.proofs.Replies.replies_in_range}
 
 module _ (setup : Setting) (lim : IsSetting setup) (t : Trace) (e : Step) (legal : IsLegal setup (e ∷ t)) where
   -- The events before the step's decision.
@@ -34,7 +23,7 @@ module _ (setup : Setting) (lim : IsSetting setup) (t : Trace) (e : Step) (legal
       let is : IsTrue ((after setup events).core d).inside = subst (λ (s : State). IsTrue (s.core d).inside) (before_is setup t e) inside in
       subst (λ l. d < l.cores) (limits_stay setup events) (inside_facts setup events run d (sym (inside_is setup events run d) ∙ is)).1
 
-  busy_core : (call : Call) (r : Reply) → IsJustified setup t e call r → (d : ℕ) → r ≡ reply.Busy d → d < setup.cores
+  busy_core : (call : Call) (r : Reply) → IsJustified setup t e call r → (d : ℕ) → r ≡ Reply.Busy d → d < setup.cores
   busy_core call r justified d is = inside_core d (subst (IsJustified setup t e call) is justified).is_inside
 
   -- The reply that the step decides is in range.

@@ -1,31 +1,21 @@
 -- Replies as words: the words of a reply in range are read as that reply.
-use Rattle.std.proofs.Common.{◌≡◌, ◌≢◌, ℕ, ◌<◌, ◌≤◌, ◌==◌, Bool, true, false, List, [], ◌∷◌, ◌^◌, length, map}
-use Rattle.std.proofs.Common.{None, Ok, refl, sym, ap, ◌∙◌, arith}
-use Rattle.std.specs.Prelude.{codes, decimal}
-use Rattle.std.proofs.lemmas.Bool.{and_from, eqb-true, eqb-false, lt-ltb}
-use Rattle.std.proofs.lemmas.Fmt.{decimal_nonempty}
-use Rattle.spk_nums.specs.Limits.{end_of_arg, least_arg}
-use Rattle.spk_nums.specs.Names.{kind_word, reply_word}
-use Rattle.spk_nums.specs.Rights.{least_rights}
-use Rattle.spk_nums.specs.declared.kinds.Kind.{Kind}
-use Rattle.spk_nums.specs.declared.kinds.Kind.TheVariants as kind
-use Rattle.spk_nums.specs.declared.replies.Value.{Value}
-use Rattle.spk_nums.specs.declared.replies.Value.TheVariants as value
-use Rattle.spk_nums.specs.declared.replies.Reply.{Reply}
-use Rattle.spk_nums.specs.declared.replies.Reply.TheVariants as reply
-use Rattle.reply_ranges.specs.Ranges.{ValueFits}
-use Rattle.script_tokens.specs.Words.{spans, first_fault, line_count, ending_from, before_fault, word_at as word_there, words_of}
-use Rattle.line_reader.specs.Lines.{rows_of}
-use Rattle.line_reader.specs.Numerals.{is_digits}
-use Rattle.line_reader.specs.Arguments.{is_word, word_at, end_at}
-use Rattle.script_printer.proofs.Spans.{is_line, are_lines, line_onto, lines_rows, lines_fault}
+use Rattle.kernel_history.proofs.{◌≡◌, ◌≢◌, ℕ, ◌<◌, ◌≤◌, ◌==◌, Bool, true, false, List, [], ◌∷◌, ◌^◌, length, map, None, Ok, refl, sym, ap}
+use Rattle.kernel_history.proofs.{◌∙◌, arith, codes, and_from, eqb-true, eqb-false, lt-ltb, Kind, Value, Reply}
+use Rattle.script_printer.specs.script_tokens.specs.{spans, first_fault, line_count, ending_from, before_fault, word_at as word_there}
+use Rattle.script_printer.proofs.{is_line, are_lines, line_onto}
+use Rattle.reply_reads.specs.{reply_words, IsReplyWithin}
+use Rattle.kernel_history.specs.kernel_rules.specs.{decimal, least_rights}
+use Rattle.kernel_history.specs.spk_nums.specs.{Limits.end_of_arg, Limits.least_arg, Names.kind_word, Names.reply_word}
+use Rattle.script_printer.specs.line_reader.specs.{Lines.rows_of, Numerals.is_digits, Arguments.is_word, Arguments.word_at}
+use Rattle.script_printer.proofs.Spans.{lines_rows, lines_fault}
 use Rattle.script_printer.proofs.NumberWords.{number_digits, number_back, core_back}
-use Rattle.history_reader.specs.Replies.{kind_of, arg_at, rights_place, fewer_rights, both_rights, rights_at, cap_at}
-use Rattle.history_reader.specs.Replies.{ticks_at, page_at, said_at, numbers_at, named_at, value_at}
-use Rattle.history_reader.specs.Replies.{later_name, plain_name, reply_name, core_named, count_named, reply_by, reply_of}
-use Rattle.reply_reads.specs.Words.{rights_words, cap_words_by, value_words, words_after, reply_words}
-use Rattle.reply_reads.specs.Laws.{IsReplyWithin, RepliesReadBack}
+use Rattle.history_reader.specs.Replies.{kind_of, arg_at, rights_place, fewer_rights, both_rights, rights_at, cap_at, ticks_at, page_at}
+use Rattle.history_reader.specs.Replies.{said_at, numbers_at, named_at, value_at, later_name, plain_name, reply_name, core_named}
+use Rattle.history_reader.specs.Replies.{count_named, reply_by, reply_of}
+use Rattle.reply_reads.specs.{Words.rights_words, Words.cap_words_by, Words.value_words, Words.words_after, Laws.RepliesReadBack}
 use Rattle.reply_reads.proofs.Texts.{reply_spaced, reply_onto, reply_is_line}
+use Rattle.{script_printer.specs.script_tokens.specs.words_of, std.proofs.lemmas.Fmt.decimal_nonempty, reply_ranges.specs.Ranges.ValueFits}
+use Rattle.{script_printer.specs.line_reader.specs.Arguments.end_at}
 
 -- ---- capabilities
 
@@ -53,7 +43,7 @@ four_rights false k x w f a r is least most =
 numbered : (k : Kind) (whole : Bool) (f a r : ℕ) → arg_at (codes "ok" ∷ kind_word k ∷ decimal f ∷ decimal a ∷ rights_words whole r) k ≡ Ok a
     → rights_place k ≡ 4 → (r == 3) ≡ whole → f ≤ 511 → least_rights k ≤ r → r ≤ 3
     → cap_at (codes "ok" ∷ kind_word k ∷ decimal f ∷ decimal a ∷ rights_words whole r) k
-    ≡ Ok (value.Cap (record { kind = k; frame = f; arg = a; rights = r }))
+    ≡ Ok (Value.Cap (record { kind = k; frame = f; arg = a; rights = r }))
 unfolding cap_at
 numbered k whole f a r arg place is frame least most =
     let ws = codes "ok" ∷ kind_word k ∷ decimal f ∷ decimal a ∷ rights_words whole r in
@@ -67,7 +57,7 @@ numbered k whole f a r arg place is frame least most =
 bare : (k : Kind) (whole : Bool) (f a r : ℕ) → arg_at (codes "ok" ∷ kind_word k ∷ decimal f ∷ rights_words whole r) k ≡ Ok 0
     → a ≡ 0 → rights_place k ≡ 3 → (r == 3) ≡ whole → f ≤ 511 → least_rights k ≤ r → r ≤ 3
     → cap_at (codes "ok" ∷ kind_word k ∷ decimal f ∷ rights_words whole r) k
-    ≡ Ok (value.Cap (record { kind = k; frame = f; arg = a; rights = r }))
+    ≡ Ok (Value.Cap (record { kind = k; frame = f; arg = a; rights = r }))
 unfolding cap_at
 bare k whole f a r arg none place is frame least most =
     let ws = codes "ok" ∷ kind_word k ∷ decimal f ∷ rights_words whole r in
@@ -81,20 +71,20 @@ bare k whole f a r arg none place is frame least most =
 
 cap_back : (k : Kind) (whole : Bool) (f a r : ℕ) → (r == 3) ≡ whole → f ≤ 511 → least_arg k ≤ a → a < end_of_arg k
     → least_rights k ≤ r → r ≤ 3 → cap_at (codes "ok" ∷ cap_words_by k f a (rights_words whole r)) k
-    ≡ Ok (value.Cap (record { kind = k; frame = f; arg = a; rights = r }))
+    ≡ Ok (Value.Cap (record { kind = k; frame = f; arg = a; rights = r }))
 unfolding arg_at
-cap_back kind.Range whole f a r is frame low high least most =
+cap_back Kind.Range whole f a r is frame low high least most =
     let ws = codes "ok" ∷ codes "range" ∷ decimal f ∷ decimal a ∷ rights_words whole r in
     let below : a < 16777216 = high in
-    numbered kind.Range whole f a r (number_back ws 3 0 16777215 a refl low (omega arith) (omega arith)) refl is frame least most
-cap_back kind.Gate whole f a r is frame low high least most =
+    numbered Kind.Range whole f a r (number_back ws 3 0 16777215 a refl low (omega arith) (omega arith)) refl is frame least most
+cap_back Kind.Gate whole f a r is frame low high least most =
     let ws = codes "ok" ∷ codes "gate" ∷ decimal f ∷ decimal a ∷ rights_words whole r in
     let below : a < 65536 = high in
-    numbered kind.Gate whole f a r (number_back ws 3 1 65535 a refl low (omega arith) (omega arith)) refl is frame least most
-cap_back kind.Page whole f a r is frame low high least most =
+    numbered Kind.Gate whole f a r (number_back ws 3 1 65535 a refl low (omega arith) (omega arith)) refl is frame least most
+cap_back Kind.Page whole f a r is frame low high least most =
     let ws = codes "ok" ∷ codes "page" ∷ decimal f ∷ decimal a ∷ rights_words whole r in
     let below : a < 4 = high in
-    numbered kind.Page whole f a r (number_back ws 3 0 3 a refl low (omega arith) (omega arith)) refl is frame least most
+    numbered Kind.Page whole f a r (number_back ws 3 0 3 a refl low (omega arith) (omega arith)) refl is frame least most
 cap_back k whole f a r is frame low high least most =
     let below : a < 1 = high in
     bare k whole f a r refl (omega arith) refl is frame least most
@@ -104,14 +94,14 @@ cap_back k whole f a r is frame low high least most =
 -- After `ok` stands the word of a kind.
 kind_back : (k : Kind) (more : List (List ℕ)) → value_at (codes "ok" ∷ kind_word k ∷ more) ≡ cap_at (codes "ok" ∷ kind_word k ∷ more) k
 unfolding value_at named_at kind_of is_word
-kind_back kind.Range more = refl
+kind_back Kind.Range more = refl
 kind_back _ more = refl
 
 cap_first : (k : Kind) (f a : ℕ) (rights : List (List ℕ))
     → value_at (codes "ok" ∷ cap_words_by k f a rights) ≡ cap_at (codes "ok" ∷ cap_words_by k f a rights) k
-cap_first kind.Range f a rights = kind_back kind.Range (decimal f ∷ decimal a ∷ rights)
-cap_first kind.Gate f a rights = kind_back kind.Gate (decimal f ∷ decimal a ∷ rights)
-cap_first kind.Page f a rights = kind_back kind.Page (decimal f ∷ decimal a ∷ rights)
+cap_first Kind.Range f a rights = kind_back Kind.Range (decimal f ∷ decimal a ∷ rights)
+cap_first Kind.Gate f a rights = kind_back Kind.Gate (decimal f ∷ decimal a ∷ rights)
+cap_first Kind.Page f a rights = kind_back Kind.Page (decimal f ∷ decimal a ∷ rights)
 cap_first k f a rights = kind_back k (decimal f ∷ rights)
 
 -- A number is digits.
@@ -122,11 +112,11 @@ digits_are n few =
 
 value_back : (v : Value) → ValueFits v → value_at (codes "ok" ∷ value_words v) ≡ Ok v
 unfolding value_at numbers_at ticks_at page_at named_at said_at end_at is_word
-value_back value.Nothing h = refl
-value_back (value.Cap c) h =
+value_back Value.Nothing h = refl
+value_back (Value.Cap c) h =
     cap_first c.kind c.frame c.arg (rights_words (c.rights == 3) c.rights)
     ∙ cap_back c.kind (c.rights == 3) c.frame c.arg c.rights refl h.frame h.least h.below h.rights h.most
-value_back (value.Page frame flags) h =
+value_back (Value.Page frame flags) h =
     let f : frame ≤ 511 = h.0 in
     let ws = codes "ok" ∷ decimal frame ∷ decimal flags.0 ∷ [] in
     rw (
@@ -134,10 +124,10 @@ value_back (value.Page frame flags) h =
       number_back ws 1 0 511 frame refl (omega arith) h.0 (omega arith),
       number_back ws 2 0 3 flags.0 refl (omega arith) h.1 (omega arith),
     ) refl
-value_back (value.Amount n) h =
+value_back (Value.Amount n) h =
     rw (digits_are n h, number_back (codes "ok" ∷ decimal n ∷ []) 1 0 4294967295 n refl (omega arith) h (omega arith)) refl
-value_back value.Preempts h = refl
-value_back value.Stays h = refl
+value_back Value.Preempts h = refl
+value_back Value.Stays h = refl
 
 -- ---- replies
 
@@ -152,13 +142,13 @@ count_there n w few = rw (number_back (w ∷ decimal n ∷ []) 1 0 4294967295 n 
 -- The words of a reply in range are read as that reply.
 pub reply_read : (cores : ℕ) → cores ≤ 8 → (r : Reply) → IsReplyWithin cores r → reply_of cores (reply_words r) ≡ Ok r
 unfolding reply_of reply_by reply_name plain_name later_name word_at end_at is_word
-reply_read cores most (reply.Ok v) h = rw (value_back v h) refl
-reply_read cores most (reply.Quiescing e) h = rw (core_there cores e (codes "quiescing") most h) refl
-reply_read cores most (reply.Unflushed e) h = rw (core_there cores e (codes "unflushed") most h) refl
-reply_read cores most (reply.Running e) h = rw (core_there cores e (codes "running") most h) refl
-reply_read cores most (reply.Busy d) h = rw (core_there cores d (codes "busy") most h) refl
-reply_read cores most (reply.Referenced k) h = rw (count_there k (codes "referenced") h) refl
-reply_read cores most (reply.Short b) h = rw (count_there b (codes "short") h) refl
+reply_read cores most (Reply.Ok v) h = rw (value_back v h) refl
+reply_read cores most (Reply.Quiescing e) h = rw (core_there cores e (codes "quiescing") most h) refl
+reply_read cores most (Reply.Unflushed e) h = rw (core_there cores e (codes "unflushed") most h) refl
+reply_read cores most (Reply.Running e) h = rw (core_there cores e (codes "running") most h) refl
+reply_read cores most (Reply.Busy d) h = rw (core_there cores d (codes "busy") most h) refl
+reply_read cores most (Reply.Referenced k) h = rw (count_there k (codes "referenced") h) refl
+reply_read cores most (Reply.Short b) h = rw (count_there b (codes "short") h) refl
 reply_read cores most _ h = refl
 
 -- ---- the law

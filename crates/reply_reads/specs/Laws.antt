@@ -1,17 +1,8 @@
 -- Which replies are read back from their texts, that they are, and that legal traces decide no others.
-use Rattle.std.specs.Prelude.{◌≡◌, ℕ, ◌≤◌, [], ◌∷◌, All, Ok}
-use Rattle.spk_nums.specs.Setting.{Setting, IsSetting}
-use Rattle.spk_nums.specs.Texts.{reply_text}
-use Rattle.spk_nums.specs.declared.replies.Reply.{Reply}
-use Rattle.spk_nums.specs.declared.replies.Decision.{Decision}
-use Rattle.kernel_history.specs.Trace.{Trace, decisions_of}
-use Rattle.kernel_history.specs.Legal.{IsLegal}
-use Rattle.reply_ranges.specs.Ranges.{ReplyFits}
-use Rattle.script_tokens.specs.Words.{words_of}
-use Rattle.line_reader.specs.Lines.{rows_of}
-use Rattle.script_printer.specs.Printing.{line}
-use Rattle.history_reader.specs.Replies.{reply_of}
+use Rattle.kernel_history.specs.{◌≡◌, ℕ, ◌≤◌, [], ◌∷◌, All, Ok, Setting, IsSetting, reply_text, Reply, Decision, decisions_of, IsLegal}
 use Rattle.reply_reads.specs.Words.{spaced, reply_words}
+use Rattle.{kernel_history.specs.Trace.Trace, reply_ranges.specs.Ranges.ReplyFits, script_printer.specs.script_tokens.specs.Words.words_of}
+use Rattle.{script_printer.specs.line_reader.specs.Lines.rows_of, script_printer.specs.Printing.line, history_reader.specs.Replies.reply_of}
 
 -- A reply is in the ranges in which it is read on a machine of so many cores: those in which the replies of runs are.
 abbrev pub IsReplyWithin : ℕ → Reply → Type 0

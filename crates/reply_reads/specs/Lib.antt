@@ -1,2 +1,4 @@
 pub mod Words
 pub mod Laws
+-- The names that are used most outside of this library.
+pub use Rattle.reply_reads.specs.{Laws.IsReplyWithin, Words.reply_words, Words.spaced}

@@ -1,56 +1,25 @@
 -- A frame that nothing names, and for which a core does not wait, rests where the core's call is carried out: it stays, with what its
 -- places hold, or it is made untyped.
-use Rattle.std.proofs.Common.{◌≡◌, ◌≢◌, ◌⊎◌, inl, inr, ℕ, ◌<◌, ◌≤◌, ◌+◌, ◌-◌, ◌==◌, ◌&&◌, nat_le, Bool, true, false}
-use Rattle.std.proofs.Common.{arith, refl, sym, ◌∙◌, ap, subst, if◌then◌else◌, IsTrue, [], ◌∷◌, Option, Some, None}
-use Rattle.std.proofs.lemmas.Bool.{false≢true, cases_eq}
-use Rattle.trace_laws.specs.spk_nums.specs.Capability.{Capability}
-use Rattle.trace_laws.specs.spk_nums.specs.Rights.{kept, part_of}
-use Rattle.trace_laws.specs.spk_nums.specs.Setting.{Setting, IsSetting}
-use Rattle.trace_laws.specs.spk_nums.specs.declared.kinds.Kind.{Kind}
-use Rattle.trace_laws.specs.spk_nums.specs.declared.kinds.Kind.TheVariants as kind
-use Rattle.trace_laws.specs.spk_nums.specs.declared.kinds.FrameKind.{FrameKind}
-use Rattle.trace_laws.specs.spk_nums.specs.declared.kinds.FrameKind.TheVariants as frame_kind
-use Rattle.trace_laws.specs.spk_nums.specs.declared.calls.Make.{Make}
-use Rattle.trace_laws.specs.spk_nums.specs.declared.calls.Make.TheVariants as make
-use Rattle.trace_laws.specs.spk_nums.specs.declared.calls.Call.{Call}
-use Rattle.trace_laws.specs.spk_nums.specs.declared.calls.Call.TheVariants.{Look, Copy, Remove as remove_call, Grow, Shrink, Retype}
-use Rattle.trace_laws.specs.spk_nums.specs.declared.calls.Call.TheVariants.{Make as make_call}
-use Rattle.trace_laws.specs.spk_nums.specs.declared.calls.Call.TheVariants.{Map, Unmap, Touch, Flush, Gate, Kill, Call as call_gate}
-use Rattle.trace_laws.specs.spk_nums.specs.declared.calls.Call.TheVariants.{Ret, Switch, Tick, Transfer, Delegate, Test, Part, Replenish}
-use Rattle.trace_laws.specs.spk_nums.specs.declared.translations.Translation.{Translation}
-use Rattle.trace_laws.specs.spk_nums.specs.declared.replies.Reply.{Reply}
-use Rattle.trace_laws.specs.spk_nums.specs.declared.replies.Reply.TheVariants as reply
-use Rattle.trace_laws.specs.kernel_rules.specs.State.{Place, Free, Holds, Quiescing, Object, Blank, Comp, Thread, Tcap, Frame, Untyped}
-use Rattle.trace_laws.specs.kernel_rules.specs.State.{Kernel, FrameOf, State, put, with_place, with_frame, with_number, comp_of}
-use Rattle.trace_laws.specs.kernel_rules.specs.State.{thread_in, Live}
-use Rattle.trace_laws.specs.kernel_rules.specs.References.{named_by, core_names, times, refs}
-use Rattle.trace_laws.specs.kernel_rules.specs.Start.{plain_cap}
-use Rattle.trace_laws.specs.kernel_rules.specs.Access.{Want, to_use, Slot, Named, found, Under, InRoot, reached, only, root}
-use Rattle.trace_laws.specs.spk_nums.specs.declared.replies.Value.TheVariants.{Nothing}
-use Rattle.trace_laws.specs.kernel_rules.specs.Rules.{Change, does, Judged, Refused, Found, named, vacant, held}
-use Rattle.trace_laws.specs.kernel_rules.specs.CapabilityCalls.{make_node, make_rule, not_taken, epoch_of}
-use Rattle.trace_laws.specs.kernel_rules.specs.Edits.{Fill, Remove, cleared, with_thread, running, with_budget, tcap_at, moved}
-use Rattle.trace_laws.specs.kernel_rules.specs.MemoryCalls.{retype_rule, touch_by, translation_of}
-use Rattle.trace_laws.specs.kernel_rules.specs.InvocationCalls.{switch_to}
-use Rattle.trace_laws.specs.kernel_rules.specs.CallRelation.{rule_of, change_of, changed, owed_by, state_by, counted}
-use Rattle.trace_laws.specs.kernel_rules.specs.Relies.{IsGuarded}
-use Rattle.trace_laws.specs.kernel_rules.proofs.Changes.{IfFound}
-use Rattle.trace_laws.specs.kernel_rules.proofs.Within.{put_same, put_other}
-use Rattle.trace_laws.specs.kernel_invariant.proofs.Sound.{only_is}
-use Rattle.trace_laws.specs.kernel_invariant.proofs.SoundCalls.{IsOpen, blank_by, untyped_by}
-use Rattle.trace_laws.specs.kernel_invariant.proofs.SoundRemovals.{unnamed}
-use Rattle.trace_laws.specs.found_stays.proofs.SparesRuns.{core_same_refs}
-use Rattle.trace_laws.specs.kernel_invariant.proofs.Sums.{times_first, times_cons}
-use Rattle.trace_laws.specs.kernel_invariant.proofs.Facts.{ChangesFrom, outcome_from, some_inj, none_some, suits, named_good, vacant_facts}
-use Rattle.trace_laws.specs.kernel_invariant.proofs.Facts.{held_facts}
-use Rattle.trace_laws.specs.kernel_invariant.proofs.FrameTurns.{is_typed}
-use Rattle.trace_laws.specs.kernel_invariant.proofs.SoundRuns.{opened}
-use Rattle.trace_laws.specs.found_stays.proofs.Stays.{name_parts, usable_guarded, reached_relies}
-use Rattle.trace_laws.specs.kernel_history.specs.Legal.{MayFollow, IsLegal}
-use Rattle.trace_laws.specs.kernel_history.specs.Trace.{Step, Trace, Phase, Out, Open, Decided, phase, after_enter, state_after}
-use Rattle.trace_laws.specs.kernel_history.specs.Trace.{state_entered, state_decided, state_returned, state_before}
-use Rattle.trace_laws.specs.kernel_history.proofs.Events.{entered_events}
-use Rattle.trace_laws.proofs.Opens.{opens}
+use Rattle.trace_laws.specs.kernel_history.proofs as low
+use low.{◌≡◌, ◌≢◌, ◌⊎◌, inl, inr, ℕ, ◌<◌, ◌≤◌, ◌+◌, ◌-◌, ◌==◌, ◌&&◌, leb as nat_le, Bool, true, false, arith, refl, sym, ◌∙◌, ap, subst}
+use low.{if◌then◌else◌, IsTrue, [], ◌∷◌, Option, Some, None, false≢true, Capability, part_of, Setting, IsSetting, Kind, FrameKind, Make}
+use low.{Call, Look, Copy, Remove as remove_call, Grow, Shrink, Retype, Map, Unmap, Touch, Flush, Gate, Kill, Ret, Switch, Tick, Transfer}
+use low.{Delegate, Test, Part, Replenish, Translation, Reply, Place, Free, Holds, Quiescing, Object, Blank, Comp, Thread, Tcap, Frame}
+use low.{Untyped, Kernel, FrameOf, State, put, with_place, with_frame, comp_of, thread_in, Live, named_by, core_names, times, refs}
+use low.{plain_cap, Want, to_use, Slot, Named, found, Under, InRoot, reached, only, Nothing, Change, does, Judged, Found, named, vacant}
+use low.{epoch_of, Fill, with_thread, running, with_budget, tcap_at, moved, translation_of, rule_of, change_of, changed, owed_by, state_by}
+use low.{counted, IsGuarded, IfFound, put_same, put_other, MayFollow, IsLegal, Step, Phase, Out, Decided, phase, after_enter, state_after}
+use low.{state_entered, state_decided, state_returned, state_before, entered_events}
+use Rattle.trace_laws.specs.kernel_invariant.proofs.{only_is, IsOpen, blank_by, untyped_by, unnamed, times_first, times_cons, ChangesFrom}
+use Rattle.trace_laws.specs.kernel_invariant.proofs.{outcome_from, some_inj, none_some, suits, named_good, vacant_facts, held_facts}
+use Rattle.trace_laws.specs.kernel_invariant.proofs.{is_typed, opened}
+use Rattle.trace_laws.specs.kernel_rules.specs.{kept, with_number, root, Refused, held, make_node, make_rule, not_taken, cleared}
+use Rattle.trace_laws.specs.kernel_rules.specs.{retype_rule, touch_by, switch_to}
+use Rattle.trace_laws.specs.found_stays.proofs.{core_same_refs, name_parts, usable_guarded}
+use Rattle.trace_laws.specs.spk_nums.specs.declared.calls.Call.TheVariants.{Make as make_call, Call as call_gate}
+use Rattle.trace_laws.specs.kernel_history.specs.Trace.{Trace, Open}
+use Rattle.{std.proofs.lemmas.Bool.cases_eq, trace_laws.specs.kernel_rules.specs.Edits.Remove}
+use Rattle.{trace_laws.specs.found_stays.proofs.Stays.reached_relies, trace_laws.proofs.Opens.opens}
 
 -- From s to t the frame f rests.
 pub record Rests (s t : State) (f : ℕ) : Type 0 where
@@ -88,7 +57,7 @@ made_rests s f g object k at other away =
     (place_rests (with_frame s g (Kernel object)) f at.node at.index _ away)
 
 root_names : (k : Kind) (f : ℕ) → root k ≡ true → named_by k f ≡ f ∷ []
-root_names kind.Range f is = absurd (false≢true is)
+root_names Kind.Range f is = absurd (false≢true is)
 root_names _ f is = refl
 
 module _ (s : State) (o : ℕ → Bool) (d : ℕ) (h : IsOpen s o d) (f : ℕ) (typed : IsTrue (is_typed (s.frame f))) (zero : refs s f ≡ 0)
@@ -173,30 +142,30 @@ module _ (s : State) (o : ℕ → Bool) (d : ℕ) (h : IsOpen s o d) (f : ℕ) (
       (made_rests (cleared s g) f g object k at other there))
 
   make_rests : (what : Make) (r g t b : ℕ) → ChangesFrom RestsBy s d (make_rule s what r g t b)
-  make_rests make.Table r g t b = node_rests _ kind.Table r g t b
-  make_rests make.Leaf r g t b = node_rests _ kind.Leaf r g t b
-  make_rests make.Pages r g t b = node_rests _ kind.Pages r g t b
-  make_rests make.Pleaf r g t b = node_rests _ kind.Pleaf r g t b
-  make_rests (make.Thread comp) r g t b = λ range e table v k j at w calm.
-      inr (made_rests s f g _ kind.Thread at (blank_away g (blank_by s o d r g range [] h e calm).1)
+  make_rests Make.Table r g t b = node_rests _ Kind.Table r g t b
+  make_rests Make.Leaf r g t b = node_rests _ Kind.Leaf r g t b
+  make_rests Make.Pages r g t b = node_rests _ Kind.Pages r g t b
+  make_rests Make.Pleaf r g t b = node_rests _ Kind.Pleaf r g t b
+  make_rests (Make.Thread comp) r g t b = λ range e table v k j at w calm.
+      inr (made_rests s f g _ Kind.Thread at (blank_away g (blank_by s o d r g range [] h e calm).1)
       (under_away (found table) b at (vacant_facts s d (Under (found table) b) at w).0))
-  make_rests (make.Tcap sched quality) r g t b = λ range e table v at w calm.
-      inr (made_rests s f g _ kind.Tcap at (blank_away g (blank_by s o d r g range [] h e calm).1)
+  make_rests (Make.Tcap sched quality) r g t b = λ range e table v at w calm.
+      inr (made_rests s f g _ Kind.Tcap at (blank_away g (blank_by s o d r g range [] h e calm).1)
       (under_away (found table) b at (vacant_facts s d (Under (found table) b) at w).0))
-  make_rests (make.Comp x y l) r g t b = λ range e table v own_table a own_pages k at w calm.
+  make_rests (Make.Comp x y l) r g t b = λ range e table v own_table a own_pages k at w calm.
       let taken : State = with_number s l (Live (epoch_of (s.number l) + 1) g) in
       let made = made_rests taken f g
-      (Comp (record { table = own_table.frame; pages = own_pages.frame; number = l; epoch = epoch_of (s.number l) + 1 })) kind.Comp at
+      (Comp (record { table = own_table.frame; pages = own_pages.frame; number = l; epoch = epoch_of (s.number l) + 1 })) Kind.Comp at
       (blank_away g (blank_by s o d r g range (not_taken s l) h e calm).1)
       (under_away (found table) b at (vacant_facts s d (Under (found table) b) at w).0) in
       inr (record { frame = made.frame; place = made.place })
 
   retype_rests : (r g : ℕ) (k : FrameKind) → ChangesFrom RestsBy s d (retype_rule s r g k)
-  retype_rests r g frame_kind.User = λ range e calm.
+  retype_rests r g FrameKind.User = λ range e calm.
       inr (frame_rests s f g _ (untyped_away g (untyped_by s o d r g range h e calm).1))
-  retype_rests r g frame_kind.Kernel = λ range e calm.
+  retype_rests r g FrameKind.Kernel = λ range e calm.
       inr (frame_rests s f g _ (untyped_away g (untyped_by s o d r g range h e calm).1))
-  retype_rests r g frame_kind.Untyped = λ range e calm. elim (cases_eq g f) [
+  retype_rests r g FrameKind.Untyped = λ range e calm. elim (cases_eq g f) [
     | inl same ↦ inl (put_same s.frame g Untyped f (sym same))
     | inr other ↦ inr (record { frame = put_other s.frame g Untyped f (λ same. other (sym same)); place = λ i. refl })
   ]
@@ -247,18 +216,18 @@ module _ (s : State) (o : ℕ → Bool) (d : ℕ) (h : IsOpen s o d) (f : ℕ) (
   rule_rests (call_gate g) = λ gate e calm. inr (frame_rests s f (s.core d).thread _ thread_away)
   rule_rests Ret = λ calm. inr (frame_rests s f (s.core d).thread _ thread_away)
   rule_rests (Switch a q) = λ thread e tcap v.
-      switch_rests (found thread) tcap.frame (thread_in (s.frame thread.frame)).runs_on (only_away a kind.Thread thread (λ g. refl) e)
+      switch_rests (found thread) tcap.frame (thread_in (s.frame thread.frame)).runs_on (only_away a Kind.Thread thread (λ g. refl) e)
   rule_rests (Tick n) = λ calm.
       let one = frame_rests s f (s.core d).tcap _ tcap_away in inr (record { frame = one.frame; place = λ i. refl })
   rule_rests (Transfer a b m) = λ j e k v calm.
-      inr (moved_rests j.frame k.frame m (only_away a kind.Tcap j (λ g. refl) e) (only_away b kind.Tcap k (λ g. refl) v))
+      inr (moved_rests j.frame k.frame m (only_away a Kind.Tcap j (λ g. refl) e) (only_away b Kind.Tcap k (λ g. refl) v))
   rule_rests (Delegate a b m) = λ j e k v calm.
-      let second = only_away b kind.Tcap k (λ g. refl) v in
-      inr (rests_then s (moved s j.frame k.frame m) _ f (moved_rests j.frame k.frame m (only_away a kind.Tcap j (λ g. refl) e) second)
+      let second = only_away b Kind.Tcap k (λ g. refl) v in
+      inr (rests_then s (moved s j.frame k.frame m) _ f (moved_rests j.frame k.frame m (only_away a Kind.Tcap j (λ g. refl) e) second)
       (frame_rests (moved s j.frame k.frame m) f k.frame _ second))
   rule_rests (Test a b) = λ j e k v calm. inr (rests_same s f)
   rule_rests (Replenish a m) = λ j e calm.
-      let one = frame_rests s f j.frame _ (only_away a kind.Tcap j (λ g. refl) e) in
+      let one = frame_rests s f j.frame _ (only_away a Kind.Tcap j (λ g. refl) e) in
       inr (record { frame = one.frame; place = λ i. refl })
   rule_rests (Part r f n t b) = λ k e table v at w calm. fill_under (found table) b at (part_of k f n) w
 
@@ -279,11 +248,11 @@ module _ (s : State) (o : ℕ → Bool) (d : ℕ) (h : IsOpen s o d) (f : ℕ) (
 
   -- whatever its reply
   pub decided_rests : (call : Call) (r : Reply) → RestsOr s (state_by s d call r) f
-  decided_rests call (reply.Ok v) = counted_rests (changed s (change_of s d call))
+  decided_rests call (Reply.Ok v) = counted_rests (changed s (change_of s d call))
       (found_rests (change_of s d call) (outcome_from RestsBy s d (rule_of s d call) (rule_rests call)))
-  decided_rests call reply.CallsSpent = inr (rests_same s f)
-  decided_rests call reply.Raced = counted_rests (owed_by s d call) (inr (owed_rests call))
-  decided_rests call (reply.Busy e) = counted_rests (owed_by s d call) (inr (owed_rests call))
+  decided_rests call Reply.CallsSpent = inr (rests_same s f)
+  decided_rests call Reply.Raced = counted_rests (owed_by s d call) (inr (owed_rests call))
+  decided_rests call (Reply.Busy e) = counted_rests (owed_by s d call) (inr (owed_rests call))
   decided_rests call r = counted_rests s (inr (rests_same s f))
 
 -- Entering changes no reference.

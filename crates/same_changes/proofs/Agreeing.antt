@@ -1,13 +1,11 @@
 -- States that are one on a region: the same change keeps them so, and they are one for the machine where the region is the whole of it.
-use Rattle.std.proofs.Common.{◌≡◌, ℕ, ◌<◌, ◌==◌, Bool, true, false, refl, sym, ◌∙◌, ap, subst, if◌then◌else◌, List}
-use Rattle.std.specs.List.{list_any}
-use Rattle.std.proofs.lemmas.Bool.{eqb-true, ltb-true, lt-ltb}
-use Rattle.kernel_rules.specs.State.{put, Place, Frame, Liveness, Core, Grace, Thing, PlaceOf, FrameOf, NumberOf, Limits}
-use Rattle.kernel_rules.specs.State.{State, with_place, with_frame, with_number, with_core}
-use Rattle.kernel_rules.specs.GracePeriods.{same_thing, needs_flush, is_paging, is_translated, new_grace, begun}
-use Rattle.seq_state.specs.Representation.{IsThing, SameGrace, SameState}
-use Rattle.seq_state.proofs.Same.{same_grace_by}
-use Rattle.same_changes.specs.Region.{Region, whole, IsIn, AgreeOn}
+use Rattle.kernel_laws.specs.kernel_rules.proofs.{◌≡◌, ℕ, ◌<◌, ◌==◌, Bool, true, false, refl, sym, ◌∙◌, ap, subst, if◌then◌else◌, List}
+use Rattle.kernel_laws.specs.kernel_rules.proofs.{eqb-true, ltb-true, lt-ltb, put, Place, Frame, Liveness, Core, Grace, Thing, PlaceOf}
+use Rattle.kernel_laws.specs.kernel_rules.proofs.{FrameOf, NumberOf, Limits, with_place, with_frame, with_number, with_core, same_thing}
+use Rattle.kernel_laws.specs.kernel_rules.proofs.{needs_flush, is_paging, is_translated, new_grace, begun}
+use Rattle.seq_lookups.specs.seq_state.specs.{State, IsThing, SameGrace, SameState}
+use Rattle.same_changes.specs.{whole, IsIn, AgreeOn}
+use Rattle.{std.specs.List.list_any, seq_lookups.specs.seq_state.proofs.Same.same_grace_by, same_changes.specs.Region.Region}
 
 -- ---- the whole machine
 

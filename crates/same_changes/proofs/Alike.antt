@@ -1,20 +1,12 @@
 -- Two rules come to the same on a region where what they look up is the same, and so are their causes, their values and their edits.
-use Rattle.std.proofs.Common.{◌≡◌, ℕ, Bool, true, false, refl, sym, ◌∙◌, ap, subst, if◌then◌else◌, List, [], ◌∷◌, Option, Some, None}
-use Rattle.spk_nums.specs.Capability.{Capability}
-use Rattle.spk_nums.specs.declared.calls.Call.{Call}
-use Rattle.spk_nums.specs.declared.replies.Reply.{Reply}
-use Rattle.kernel_rules.specs.State.{Thing, Limits, State}
-use Rattle.kernel_rules.specs.Access.{Slot, found}
-use Rattle.kernel_rules.specs.GracePeriods.{begun}
-use Rattle.kernel_rules.specs.Rules.{Change, does, Cause, When, WaitedFor, Unflushed, Rule, Name, Vacant, Held, Mapped, Does}
-use Rattle.kernel_rules.specs.Rules.{Judged, Refused, Found, and_then, unless, named, vacant, held, mapped, first_of, refusal_of}
-use Rattle.kernel_rules.specs.Rules.{first_cause, outcome}
-use Rattle.kernel_rules.proofs.Changes.{IfFound}
-use Rattle.kernel_invariant.proofs.Facts.{EditsFrom}
-use Rattle.kernel_invariant.proofs.Edited.{Edits}
-use Rattle.seq_state.specs.Representation.{SameState}
-use Rattle.same_changes.specs.Same.{SameOutcome}
-use Rattle.same_changes.specs.Region.{Region, whole, IsIn, AgreeOn, AgreeChange, AgreeOutcome}
+use Rattle.kernel_laws.specs.kernel_rules.proofs as low
+use low.{◌≡◌, ℕ, Bool, true, false, refl, sym, ◌∙◌, ap, subst, if◌then◌else◌, List, [], ◌∷◌, Option, Some, None, Capability, Call, Reply}
+use low.{Thing, Limits, Slot, found, begun, Change, does, Cause, When, WaitedFor, Unflushed, Rule, Name, Vacant, Held, Mapped, Does, Judged}
+use low.{Refused, Found, and_then, unless, named, vacant, held, mapped, first_of, refusal_of, first_cause, outcome, IfFound}
+use Rattle.same_changes.specs.{SameOutcome, whole, IsIn, AgreeOn, AgreeOutcome}
+use Rattle.seq_lookups.specs.seq_state.specs.{State, SameState}
+use Rattle.kernel_laws.specs.kernel_invariant.proofs.{Facts.EditsFrom, Edited.Edits}
+use Rattle.same_changes.specs.Region.{Region, AgreeChange}
 use Rattle.same_changes.proofs.Agreeing.{on_whole, from_whole, agree_begun}
 use Rattle.same_changes.proofs.EditsAgree.{EditsIn, does_agree}
 use Rattle.same_changes.proofs.Reaching.{TwinsOn, RootIn, named_agree, vacant_agree, held_agree, mapped_agree, waits_agree, flushes_agree}

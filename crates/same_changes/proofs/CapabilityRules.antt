@@ -1,26 +1,13 @@
 -- The calls on capabilities come to the same on a region.
-use Rattle.std.proofs.Common.{◌≡◌, ℕ, ◌+◌, ◌==◌, Bool, true, false, not, ◌&&◌, refl, ◌∙◌}
-use Rattle.std.proofs.Common.{ap, nat_lt, if◌then◌else◌, [], ◌∷◌, IsTrue}
-use Rattle.std.proofs.lemmas.Bool.{ltb-true}
-use Rattle.spk_nums.specs.Capability.{Capability}
-use Rattle.spk_nums.specs.declared.kinds.Kind.{Kind}
-use Rattle.spk_nums.specs.declared.kinds.Kind.TheVariants as kind
-use Rattle.spk_nums.specs.declared.calls.Make.{Make}
-use Rattle.spk_nums.specs.declared.calls.Make.TheVariants as make
-use Rattle.spk_nums.specs.declared.calls.Call.TheVariants.{Make as make_call}
-use Rattle.kernel_rules.specs.State.{Object, Table, Leaf, Pages, Pleaf, Frame, Limits, State}
-use Rattle.kernel_rules.specs.Start.{plain_cap}
-use Rattle.kernel_rules.specs.Access.{to_use, root}
-use Rattle.kernel_rules.specs.Edits.{Fill, Component}
-use Rattle.kernel_rules.specs.Rules.{Found, named}
-use Rattle.kernel_rules.specs.CapabilityCalls.{look_rule, copy_rule, remove_rule, grow_rule, shrink_rule, is_blank, not_blank, make_node}
-use Rattle.kernel_rules.specs.CapabilityCalls.{is_live, epoch_of, make_comp, make_rule, part_rule}
-use Rattle.kernel_rules.specs.Relies.{is_node}
-use Rattle.kernel_invariant.proofs.Facts.{named_good}
-use Rattle.kernel_invariant.proofs.SoundCalls.{root_node}
-use Rattle.same_changes.specs.Region.{Region, NamesIn}
+use Rattle.kernel_laws.proofs.{◌≡◌, ℕ, ◌+◌, ◌==◌, Bool, true, false, not, ◌&&◌, refl, ◌∙◌, ap, ltb as nat_lt, if◌then◌else◌, [], ◌∷◌}
+use Rattle.kernel_laws.proofs.{IsTrue, ltb-true, Capability, Kind, Make as make_call, Object, Table, Leaf, Pages, Pleaf, Frame, Limits}
+use Rattle.kernel_laws.proofs.{State, plain_cap, to_use, root, Fill, Component, Found, named, is_blank, not_blank, is_live, epoch_of}
+use Rattle.kernel_laws.proofs.{make_rule, is_node, named_good}
+use Rattle.kernel_laws.specs.kernel_rules.specs.{Make, copy_rule, make_node}
+use Rattle.kernel_laws.specs.kernel_rules.specs.CapabilityCalls.{look_rule, remove_rule, grow_rule, shrink_rule, make_comp, part_rule}
 use Rattle.same_changes.proofs.Reaching.{Twins, TwinsOn, table_at, root_within, range_at, frame_agree}
-use Rattle.same_changes.proofs.Alike.{SameCause, SameRule}
+use Rattle.{kernel_laws.specs.kernel_invariant.proofs.SoundCalls.root_node, same_changes.specs.Region.Region}
+use Rattle.{same_changes.specs.Region.NamesIn, same_changes.proofs.Alike.SameCause, same_changes.proofs.Alike.SameRule}
 
 module _ {r : Region} {t s : State} {o : ℕ → Bool} {c : ℕ} (w : TwinsOn r t s o c) where
   pub look_same : (a : ℕ) → SameRule r s c (look_rule a) (look_rule a)
@@ -139,7 +126,7 @@ module _ {r : Region} {t s : State} {o : ℕ → Bool} {c : ℕ} (w : TwinsOn r 
                   λ none. (
                     refl,
                     ap (λ n. Component f (record { table = own_table.frame; pages = own_pages.frame; number = l; epoch = epoch_of n + 1 })
-                        ∷ Fill at (plain_cap kind.Comp f) ∷ []) number,
+                        ∷ Fill at (plain_cap Kind.Comp f) ∷ []) number,
                     (tt, (tt, tt)),
                   ),
                 ),
@@ -151,11 +138,11 @@ module _ {r : Region} {t s : State} {o : ℕ → Bool} {c : ℕ} (w : TwinsOn r 
 
   pub make_same : (what : Make) (p f x b : ℕ) → NamesIn r (make_call what p f x b)
       → SameRule r s c (make_rule t what p f x b) (make_rule s what p f x b)
-  make_same make.Table p f x b names = make_node_same Table kind.Table p f x b
-  make_same make.Leaf p f x b names = make_node_same Leaf kind.Leaf p f x b
-  make_same make.Pages p f x b names = make_node_same Pages kind.Pages p f x b
-  make_same make.Pleaf p f x b names = make_node_same Pleaf kind.Pleaf p f x b
-  make_same (make.Thread comp) p f x b names = (
+  make_same Make.Table p f x b names = make_node_same Table Kind.Table p f x b
+  make_same Make.Leaf p f x b names = make_node_same Leaf Kind.Leaf p f x b
+  make_same Make.Pages p f x b names = make_node_same Pages Kind.Pages p f x b
+  make_same Make.Pleaf p f x b names = make_node_same Pleaf Kind.Pleaf p f x b
+  make_same (Make.Thread comp) p f x b names = (
     refl,
     refl,
     λ range is. (
@@ -175,7 +162,7 @@ module _ {r : Region} {t s : State} {o : ℕ → Bool} {c : ℕ} (w : TwinsOn r 
       ),
     ),
   )
-  make_same (make.Tcap sched quality) p f x b names = (
+  make_same (Make.Tcap sched quality) p f x b names = (
     refl,
     refl,
     λ range is. (
@@ -191,7 +178,7 @@ module _ {r : Region} {t s : State} {o : ℕ → Bool} {c : ℕ} (w : TwinsOn r 
       ),
     ),
   )
-  make_same (make.Comp y q l) p f x b names = make_comp_same p f x b y q l names
+  make_same (Make.Comp y q l) p f x b names = make_comp_same p f x b y q l names
 
 -- ---- the whole machine
 

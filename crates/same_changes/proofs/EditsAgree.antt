@@ -1,21 +1,14 @@
 -- An edit comes to the same on a region in two states that are one there, and so does a list of edits.
-use Rattle.std.proofs.Common.{◌≡◌, ℕ, ◌+◌, ◌-◌, ◌==◌, Bool, true, false, refl, sym, ◌∙◌, ap, subst, if◌then◌else◌, min}
-use Rattle.std.proofs.Common.{List, [], ◌∷◌, ◌++◌, take, drop, Option, Some, None}
-use Rattle.spk_nums.specs.declared.calls.Call.{Call}
-use Rattle.spk_nums.specs.declared.replies.Value.{Value}
-use Rattle.kernel_rules.specs.State.{Free, Holds, Quiescing, ThreadFields, Comp, Untyped, Kernel, Live, Dead, Core, Thing, FrameOf}
-use Rattle.kernel_rules.specs.State.{NumberOf, State, with_frame, with_core, with_grace, thread_in, tcap_in, thread_of}
-use Rattle.kernel_rules.specs.Start.{no_grace}
-use Rattle.kernel_rules.specs.References.{frame_names, number_names}
-use Rattle.kernel_rules.specs.GracePeriods.{same_thing, flushed}
-use Rattle.kernel_rules.specs.Edits.{is_place_of, cleared, with_thread, with_stack, running, switched, caching, tcap_at, with_tcap}
-use Rattle.kernel_rules.specs.Edits.{with_budget, with_qualities, charge, charging, moved, given_back, frames_of}
-use Rattle.kernel_rules.specs.Edits.{Edit, Fill, Remove, Node, Become, Untype, Component, Deaden, Push, Pop, Switch, Cache, Flush}
-use Rattle.kernel_rules.specs.Edits.{Charge, Move, Merge, Give, edited, begins_in, after_edits, begins_all}
-use Rattle.kernel_rules.specs.Rules.{does}
-use Rattle.kernel_invariant.proofs.Edited.{AreLater, Edits}
-use Rattle.seq_state.specs.Representation.{SameGrace}
-use Rattle.seq_state.proofs.Same.{same_grace_by}
+use Rattle.kernel_laws.specs.kernel_rules.proofs as low
+use low.{◌≡◌, ℕ, ◌+◌, ◌-◌, ◌==◌, Bool, true, false, refl, sym, ◌∙◌, ap, subst, if◌then◌else◌, min, List, [], ◌∷◌, ◌++◌, take, drop, Option}
+use low.{Some, None, Call, Value, Free, Holds, Quiescing, ThreadFields, Comp, Untyped, Kernel, Live, Dead, Core, Thing, FrameOf, NumberOf}
+use low.{with_frame, with_core, with_grace, thread_in, tcap_in, thread_of, no_grace, frame_names, number_names, same_thing, flushed}
+use low.{is_place_of, cleared, with_thread, with_stack, running, switched, caching, tcap_at, with_tcap, with_budget, with_qualities, charge}
+use low.{moved, frames_of, Edit, Fill, Node, Become, Untype, Component, Deaden, Push, Pop, Cache, Charge, Move, Merge, Give, edited}
+use low.{after_edits, begins_all, does}
+use Rattle.kernel_laws.proofs.{State, AreLater, Edits}
+use Rattle.seq_lookups.specs.seq_state.proofs.{SameGrace, same_grace_by}
+use Rattle.kernel_laws.specs.kernel_rules.specs.Edits.{charging, given_back, Remove, Switch, Flush, begins_in}
 use Rattle.same_changes.specs.Region.{Region, AgreeOn, AgreeChange}
 use Rattle.same_changes.proofs.Agreeing.{agree_by, agree_then, agree_place, agree_frame, agree_number, agree_core}
 use Rattle.same_changes.proofs.Reaching.{TwinsOn, core_agree, thread_frame_agree, tcap_frame_agree, thread_agree}

@@ -1,35 +1,21 @@
 -- Every call comes to the same on a region in two states that are one there, one of them reached, and so for the machine.
-use Rattle.std.proofs.Common.{◌≡◌, ℕ, ◌-◌, ◌^◌, ◌≤◌, sym, ap, subst, List}
-use Rattle.std.proofs.lemmas.Bool.{lt-ltb}
-use Rattle.spk_nums.specs.Setting.{Setting, IsSetting}
-use Rattle.spk_nums.specs.CallLimits.{InLimits, MakeInLimits}
-use Rattle.spk_nums.specs.declared.calls.Make.{Make}
-use Rattle.spk_nums.specs.declared.calls.Make.TheVariants as make
-use Rattle.spk_nums.specs.declared.calls.Call.{Call}
-use Rattle.spk_nums.specs.declared.calls.Call.TheVariants.{Look, Copy, Remove, Grow, Shrink, Retype, Make as make_call}
-use Rattle.spk_nums.specs.declared.calls.Call.TheVariants.{Map, Unmap, Touch, Flush, Gate, Kill, Call as call_gate}
-use Rattle.spk_nums.specs.declared.calls.Call.TheVariants.{Ret, Switch, Tick, Transfer, Delegate, Test, Part, Replenish}
-use Rattle.kernel_rules.specs.State.{Limits, State}
-use Rattle.kernel_rules.specs.Rules.{Judged, Refused, Found, Change}
-use Rattle.kernel_rules.specs.Life.{acts}
-use Rattle.kernel_rules.specs.CallRelation.{rule_of, change_of}
-use Rattle.kernel_rules.specs.Runs.{Event, after, Open, is_open, phase_of, IsRun}
-use Rattle.kernel_rules.proofs.AloneLaw.{Waits, found_waits}
-use Rattle.kernel_rules.proofs.Changes.{IfFound}
-use Rattle.kernel_invariant.proofs.Edited.{rule_edits}
-use Rattle.kernel_invariant.proofs.SoundRuns.{opened, limits_stay, open_limits, runs_sound}
-use Rattle.kernel_laws.proofs.NodesLaw.{nodes_hold_what_fits}
-use Rattle.kernel_laws.proofs.RangesLaw.{ranges_hold}
-use Rattle.seq_state.specs.Representation.{SameState}
-use Rattle.same_changes.specs.Same.{SameChanges, SameActs, StaysInRange}
-use Rattle.same_changes.specs.Region.{Region, whole, NamesIn, AgreeOutcome, ChangesAgree}
+use Rattle.kernel_laws.proofs.{◌≡◌, ℕ, ◌-◌, ◌^◌, ◌≤◌, sym, ap, subst, List, lt-ltb, Setting, IsSetting, InLimits, Call, Look, Copy, Remove}
+use Rattle.kernel_laws.proofs.{Grow, Shrink, Retype, Make as make_call, Map, Unmap, Touch, Flush, Gate, Kill, Ret, Switch, Tick, Transfer}
+use Rattle.kernel_laws.proofs.{Delegate, Test, Part, Replenish, Limits, State, Judged, Refused, Found, Change, acts, rule_of, change_of}
+use Rattle.kernel_laws.proofs.{Event, after, Open, is_open, phase_of, IsRun, IfFound, opened, limits_stay, open_limits, runs_sound}
+use Rattle.same_changes.specs.{whole, NamesIn, AgreeOutcome}
+use Rattle.kernel_laws.specs.kernel_rules.proofs.{Make, Waits, found_waits}
+use Rattle.kernel_laws.specs.spk_nums.specs.{CallLimits.MakeInLimits, declared.calls.Call.TheVariants.Call as call_gate}
+use Rattle.kernel_laws.proofs.{NodesLaw.nodes_hold_what_fits, RangesLaw.ranges_hold}
+use Rattle.same_changes.specs.{Same.SameChanges, Same.SameActs, Same.StaysInRange, Region.Region, Region.ChangesAgree}
 use Rattle.same_changes.proofs.Reaching.{Twins, TwinsOn, on_machine}
-use Rattle.same_changes.proofs.InRange.{in_range}
 use Rattle.same_changes.proofs.Alike.{SameRule, outcome_same, same_outcome}
 use Rattle.same_changes.proofs.CapabilityRules.{look_same, copy_same, remove_same, grow_same, shrink_same, make_same, part_same}
 use Rattle.same_changes.proofs.MemoryRules.{retype_same, map_same, unmap_same, touch_same, flush_same}
-use Rattle.same_changes.proofs.TimeRules.{acts_agree, gate_same, kill_same, call_same, ret_same, switch_same}
-use Rattle.same_changes.proofs.TimeRules.{tick_same, transfer_same, delegate_same, test_same, replenish_same}
+use Rattle.same_changes.proofs.TimeRules.{acts_agree, gate_same, kill_same, call_same, ret_same, switch_same, tick_same, transfer_same}
+use Rattle.same_changes.proofs.TimeRules.{delegate_same, test_same, replenish_same}
+use Rattle.{kernel_laws.specs.kernel_invariant.proofs.Edited.rule_edits, seq_lookups.specs.seq_state.specs.Representation.SameState}
+use Rattle.{same_changes.proofs.InRange.in_range}
 
 -- ---- on a region
 
@@ -77,13 +63,13 @@ changes_agree setting is events run c call opens w within names t agree referred
 
 -- A call within its limits names a liveness number of the machine.
 make_names : (limits : Limits) (what : Make) (p f x b : ℕ) → MakeInLimits what → NamesIn (whole limits) (make_call what p f x b)
-make_names limits (make.Comp table pages live) p f x b fits = lt-ltb live 64 fits
-make_names limits make.Table p f x b fits = tt
-make_names limits make.Leaf p f x b fits = tt
-make_names limits make.Pages p f x b fits = tt
-make_names limits make.Pleaf p f x b fits = tt
-make_names limits (make.Thread comp) p f x b fits = tt
-make_names limits (make.Tcap sched quality) p f x b fits = tt
+make_names limits (Make.Comp table pages live) p f x b fits = lt-ltb live 64 fits
+make_names limits Make.Table p f x b fits = tt
+make_names limits Make.Leaf p f x b fits = tt
+make_names limits Make.Pages p f x b fits = tt
+make_names limits Make.Pleaf p f x b fits = tt
+make_names limits (Make.Thread comp) p f x b fits = tt
+make_names limits (Make.Tcap sched quality) p f x b fits = tt
 
 names_whole : (limits : Limits) (call : Call) → InLimits call → NamesIn (whole limits) call
 names_whole limits (make_call what p f x b) fits = make_names limits what p f x b fits

@@ -1,28 +1,15 @@
 -- The calls on memory come to the same on a region.
-use Rattle.std.proofs.Common.{◌≡◌, ℕ, ◌+◌, ◌<◌, ◌≤◌, ◌==◌, Bool, true, not, refl, sym, ◌∙◌, ap, subst, arith}
-use Rattle.std.proofs.Common.{nat_lt, if◌then◌else◌, zero, suc, [], Option, Some, None, is_some, IsTrue}
-use Rattle.std.specs.List.{list_any, range_with_len}
-use Rattle.std.proofs.lemmas.Bool.{lt-ltb}
-use Rattle.spk_nums.specs.Capability.{Capability}
-use Rattle.spk_nums.specs.declared.kinds.Kind.TheVariants as kind
-use Rattle.spk_nums.specs.declared.kinds.FrameKind.{FrameKind}
-use Rattle.spk_nums.specs.declared.kinds.FrameKind.TheVariants as frame_kind
-use Rattle.spk_nums.specs.declared.kinds.PageFlags.{PageFlags}
-use Rattle.spk_nums.specs.declared.translations.Translation.{Translation}
-use Rattle.spk_nums.specs.declared.replies.Reply.TheVariants as reply
-use Rattle.kernel_rules.specs.State.{Object, Blank, Table, Leaf, Pages, Pleaf, Comp, Thread, Tcap, Frame, Untyped, User, Kernel}
-use Rattle.kernel_rules.specs.State.{CompFields, State, comp_of}
-use Rattle.kernel_rules.specs.Access.{to_use, found, only, held_in}
-use Rattle.kernel_rules.specs.Rules.{Found, named, refusal_of, first_cause}
-use Rattle.kernel_rules.specs.CapabilityCalls.{outside}
-use Rattle.kernel_rules.specs.MemoryCalls.{is_untyped, is_user, holds_nothing, is_empty_object, is_empty, not_retyped, retype_rule}
-use Rattle.kernel_rules.specs.MemoryCalls.{map_rule, unmap_rule, translation_of, touch_by, touch_rule, flush_rule}
-use Rattle.kernel_rules.specs.Relies.{is_node}
-use Rattle.kernel_invariant.proofs.Facts.{named_fit, none_parts}
-use Rattle.same_changes.specs.Region.{Region, whole, AgreeOn}
-use Rattle.same_changes.proofs.Agreeing.{on_whole}
+use Rattle.kernel_laws.proofs.{◌≡◌, ℕ, ◌+◌, ◌<◌, ◌≤◌, ◌==◌, Bool, true, not, refl, sym, ◌∙◌, ap, subst, arith, ltb as nat_lt, if◌then◌else◌}
+use Rattle.kernel_laws.proofs.{zero, suc, [], Option, Some, None, is_some, IsTrue, lt-ltb, Capability, FrameKind, PageFlags, Translation}
+use Rattle.kernel_laws.proofs.{Object, Blank, Table, Leaf, Pages, Pleaf, Comp, Thread, Tcap, Frame, Untyped, User, Kernel, CompFields}
+use Rattle.kernel_laws.proofs.{State, comp_of, to_use, found, only, held_in, Found, named, refusal_of, first_cause, outside, is_untyped}
+use Rattle.kernel_laws.proofs.{is_user, is_empty, not_retyped, retype_rule, translation_of, touch_by, is_node, named_fit, Kind, Reply}
+use Rattle.kernel_laws.specs.kernel_rules.specs.MemoryCalls.{is_empty_object, unmap_rule, touch_rule, flush_rule}
 use Rattle.same_changes.proofs.Reaching.{Twins, TwinsOn, pages_node, core_agree, comp_agree, pages_in, pages_at, range_at, frame_agree}
-use Rattle.same_changes.proofs.Alike.{SameRule}
+use Rattle.{same_changes.specs.whole, same_changes.specs.AgreeOn, kernel_laws.specs.kernel_rules.specs.holds_nothing}
+use Rattle.{kernel_laws.specs.kernel_rules.specs.map_rule, std.specs.List.list_any, std.specs.List.range_with_len}
+use Rattle.{kernel_laws.specs.kernel_invariant.proofs.Facts.none_parts, same_changes.specs.Region.Region}
+use Rattle.{same_changes.proofs.Agreeing.on_whole, same_changes.proofs.Alike.SameRule}
 
 -- ---- empty frames
 
@@ -58,7 +45,7 @@ empty_agree t s f (Kernel x) is e = object_agree t s f x is e
 
 module _ {r : Region} {t s : State} {o : ℕ → Bool} {c : ℕ} (w : TwinsOn r t s o c) where
   pub retype_same : (p f : ℕ) (k : FrameKind) → SameRule r s c (retype_rule t p f k) (retype_rule s p f k)
-  retype_same p f frame_kind.Untyped = (
+  retype_same p f FrameKind.Untyped = (
     refl,
     refl,
     λ range is. (
@@ -68,7 +55,7 @@ module _ {r : Region} {t s : State} {o : ℕ → Bool} {c : ℕ} (w : TwinsOn r 
             let is_in = range_at w p range f is inside in (
               (frame_agree w f is_untyped is_in, λ on. refl),
               λ calm. (
-                (ap (nat_lt 0) (w.referred f is_in), λ on. ap reply.Referenced (w.referred f is_in)),
+                (ap (nat_lt 0) (w.referred f is_in), λ on. ap Reply.Referenced (w.referred f is_in)),
                 λ calm. (
                   (refl, is_in),
                   λ calm. (
@@ -87,11 +74,11 @@ module _ {r : Region} {t s : State} {o : ℕ → Bool} {c : ℕ} (w : TwinsOn r 
       ),
       λ none.
           let is_in = range_at w p range f is (none_parts (refusal_of s c (outside (found range) f))
-          (first_cause s c (not_retyped s f frame_kind.Untyped)) none).0 in
+          (first_cause s c (not_retyped s f FrameKind.Untyped)) none).0 in
           (refl, refl, (is_in, tt)),
     ),
   )
-  retype_same p f frame_kind.User = (
+  retype_same p f FrameKind.User = (
     refl,
     refl,
     λ range is. (
@@ -102,7 +89,7 @@ module _ {r : Region} {t s : State} {o : ℕ → Bool} {c : ℕ} (w : TwinsOn r 
       λ none. (refl, refl, (tt, tt)),
     ),
   )
-  retype_same p f frame_kind.Kernel = (
+  retype_same p f FrameKind.Kernel = (
     refl,
     refl,
     λ range is. (
@@ -169,8 +156,8 @@ module _ {r : Region} {t s : State} {o : ℕ → Bool} {c : ℕ} (w : TwinsOn r 
 -- ---- the whole machine
 
 module _ {t s : State} {o : ℕ → Bool} {c : ℕ} (w : Twins t s o c) where
-  pub named_pages : (n : ℕ) (k : Capability) → named s c n (to_use (only kind.Pages)) ≡ Found k → IsTrue (is_node (s.frame k.frame))
-  named_pages n k is = pages_node (s.frame k.frame) (named_fit s o c n kind.Pages k w.sound w.is_open is)
+  pub named_pages : (n : ℕ) (k : Capability) → named s c n (to_use (only Kind.Pages)) ≡ Found k → IsTrue (is_node (s.frame k.frame))
+  named_pages n k is = pages_node (s.frame k.frame) (named_fit s o c n Kind.Pages k w.sound w.is_open is)
 
   pub empty_same : (f : ℕ) (x : Frame) → f < s.limits.frames → is_empty t f x ≡ is_empty s f x
   empty_same f x below = empty_agree {r = whole s.limits} t s f x (lt-ltb f s.limits.frames below) (on_whole t s w.same)

@@ -1,35 +1,20 @@
 -- What an open call looks up is the same in two states that are one on a region, one of them reached, where the call's core reaches nothing
 -- outside of it; and so it is in two states that are one for all that the machine has.
-use Rattle.std.proofs.Common.{◌≡◌, inl, inr, ℕ, ◌+◌, ◌%◌, ◌<◌, ◌≤◌, ◌==◌, Bool, true, false, not, ◌&&◌, refl}
-use Rattle.std.proofs.Common.{◌∙◌, ap, subst, arith, nat_le, nat_lt, if◌then◌else◌, IsTrue, List, [], ◌∷◌, Option, Some, None}
-use Rattle.std.specs.Prelude.{find}
-use Rattle.std.specs.List.{range_with_len, AllByRecursion}
-use Rattle.std.proofs.lemmas.Bool.{cases_lt, false≢true, leb-true, ltb-true, lt-ltb}
-use Rattle.spk_nums.specs.Capability.{Capability}
-use Rattle.spk_nums.specs.declared.kinds.Kind.{Kind}
-use Rattle.spk_nums.specs.declared.kinds.Kind.TheVariants as kind
-use Rattle.spk_nums.specs.declared.replies.Reply.{Reply}
-use Rattle.spk_nums.specs.declared.replies.Reply.TheVariants as reply
-use Rattle.kernel_rules.specs.State.{Place, Free, Holds, Quiescing, CompFields, ThreadFields, Table, Pages}
-use Rattle.kernel_rules.specs.State.{Comp, Thread, Frame, Untyped, Kernel, Thing, PlaceOf}
-use Rattle.kernel_rules.specs.State.{Limits, Core, State, thread_in, comp_in, first_of_stack, thread_of, comp_of}
-use Rattle.kernel_rules.specs.Access.{Want, Slot, Named, found, to_use, only, root, root_at, Target, Under, InRoot, place_at, held_in}
-use Rattle.kernel_rules.specs.Access.{usable_in, usable, linked, slot_in, reached, root_slot, own}
-use Rattle.kernel_rules.specs.GracePeriods.{lowest, quiescing_by, unflushed_by}
-use Rattle.kernel_rules.specs.Rules.{Judged, Refused, Found, and_then, unless, or_refuse, of_kind, named, refusal_of}
-use Rattle.kernel_rules.specs.Rules.{first_of, waits_of, flushes_of, not_vacant, vacant, held, mapped}
-use Rattle.kernel_rules.specs.CapabilityCalls.{outside}
-use Rattle.kernel_rules.specs.Fitting.{fits, EndsWithin}
-use Rattle.kernel_rules.specs.Ranges.{FrameInRange, InRanges}
-use Rattle.kernel_rules.specs.Relies.{is_node}
-use Rattle.kernel_invariant.proofs.Sound.{IsSound, IsStack, AreComps, IsObjectGood, only_is}
-use Rattle.kernel_invariant.proofs.Facts.{usable_good, named_good, suits}
-use Rattle.kernel_invariant.proofs.Facts.{some_inj, none_some, then_parts, or_found, when_not, not_not}
-use Rattle.seq_state.specs.Representation.{SameState}
-use Rattle.seq_state.proofs.Same.{same_refs}
-use Rattle.seq_lookups.proofs.Lowest.{found_alike}
-use Rattle.same_changes.specs.Region.{Region, whole, IsIn, AgreeOn, SameRefs, LeadsIn, ReachesOnly}
-use Rattle.same_changes.proofs.Agreeing.{on_whole}
+use Rattle.kernel_laws.proofs.{◌≡◌, inl, inr, ℕ, ◌+◌, ◌%◌, ◌<◌, ◌≤◌, ◌==◌, Bool, true, false, not, ◌&&◌, refl, ◌∙◌, ap, subst, arith}
+use Rattle.kernel_laws.proofs.{leb as nat_le, ltb as nat_lt, if◌then◌else◌, IsTrue, List, [], ◌∷◌, Option, Some, None, find, false≢true}
+use Rattle.kernel_laws.proofs.{leb-true, ltb-true, lt-ltb, Capability, Kind, Reply, Place, Free, Holds, Quiescing, CompFields, ThreadFields}
+use Rattle.kernel_laws.proofs.{Table, Pages, Comp, Thread, Frame, Untyped, Kernel, Thing, PlaceOf, Limits, Core, State, thread_in, comp_in}
+use Rattle.kernel_laws.proofs.{first_of_stack, thread_of, comp_of, Want, Slot, Named, found, to_use, only, root, root_at, Target, Under}
+use Rattle.kernel_laws.proofs.{InRoot, place_at, held_in, usable_in, usable, linked, slot_in, reached, root_slot, own, lowest, unflushed_by}
+use Rattle.kernel_laws.proofs.{Judged, Refused, Found, and_then, unless, or_refuse, of_kind, named, refusal_of, first_of, waits_of}
+use Rattle.kernel_laws.proofs.{flushes_of, not_vacant, vacant, held, mapped, outside, fits, EndsWithin, FrameInRange, InRanges, is_node}
+use Rattle.kernel_laws.proofs.{IsSound, IsStack, IsObjectGood, only_is, named_good, suits, some_inj, none_some, then_parts, or_found}
+use Rattle.kernel_laws.specs.kernel_invariant.proofs.{AreComps, usable_good, when_not, not_not}
+use Rattle.same_changes.specs.{whole, IsIn, AgreeOn}
+use Rattle.same_changes.specs.Region.{Region, SameRefs, LeadsIn, ReachesOnly}
+use Rattle.{seq_lookups.specs.seq_state.proofs.SameState, seq_lookups.specs.seq_state.proofs.same_refs, std.specs.List.range_with_len}
+use Rattle.{std.specs.List.AllByRecursion, std.proofs.lemmas.Bool.cases_lt, kernel_laws.specs.kernel_rules.specs.GracePeriods.quiescing_by}
+use Rattle.{seq_lookups.proofs.Lowest.found_alike, same_changes.proofs.Agreeing.on_whole}
 
 -- A frame that has something is one of the machine's.
 pub below : (s : State) (o : ℕ → Bool) (f : ℕ) → IsSound s o → (s.frame f ≡ Untyped → ⊥) → f < s.limits.frames
@@ -44,11 +29,11 @@ node_below s o f h node = below s o f h (λ none. false≢true (subst (λ x. IsT
 
 -- Whether a kind of capability names a frame that has something.
 abbrev pub is_some_kind : Kind → Bool
-is_some_kind kind.Range = false
+is_some_kind Kind.Range = false
 is_some_kind _ = true
 
 fit_typed : (j : Kind) → is_some_kind j ≡ true → IsTrue (fits j Untyped) → ⊥
-fit_typed kind.Range some fit = false≢true some
+fit_typed Kind.Range some fit = false≢true some
 fit_typed _ some fit = false≢true fit
 
 pub fit_below : (s : State) (o : ℕ → Bool) (j : Kind) (f : ℕ) → IsSound s o → is_some_kind j ≡ true → IsTrue (fits j (s.frame f))
@@ -56,30 +41,30 @@ pub fit_below : (s : State) (o : ℕ → Bool) (j : Kind) (f : ℕ) → IsSound 
 fit_below s o j f h some fit = below s o f h (λ none. fit_typed j some (subst (λ x. IsTrue (fits j x)) none fit))
 
 -- The frame that a root fits is a node.
-pub table_node : (x : Frame) → IsTrue (fits kind.Table x) → IsTrue (is_node x)
+pub table_node : (x : Frame) → IsTrue (fits Kind.Table x) → IsTrue (is_node x)
 table_node (Kernel Table) fit = refl
 table_node _ fit = absurd (false≢true fit)
 
-pub pages_node : (x : Frame) → IsTrue (fits kind.Pages x) → IsTrue (is_node x)
+pub pages_node : (x : Frame) → IsTrue (fits Kind.Pages x) → IsTrue (is_node x)
 pages_node (Kernel Pages) fit = refl
 pages_node _ fit = absurd (false≢true fit)
 
 -- The component on top of a thread's stack.
-top_fit : (s : State) (x : Frame) → IsTrue (fits kind.Thread x) → IsObjectGood s x
-    → IsTrue (fits kind.Comp (s.frame (first_of_stack (thread_in x).stack)))
+top_fit : (s : State) (x : Frame) → IsTrue (fits Kind.Thread x) → IsObjectGood s x
+    → IsTrue (fits Kind.Comp (s.frame (first_of_stack (thread_in x).stack)))
 top_fit s (Kernel (Thread t)) fit good = by_stack t.stack good
   where
-    by_stack : (fs : List ℕ) → IsStack s fs → IsTrue (fits kind.Comp (s.frame (first_of_stack fs)))
+    by_stack : (fs : List ℕ) → IsStack s fs → IsTrue (fits Kind.Comp (s.frame (first_of_stack fs)))
     by_stack [] bad = absurd bad
     by_stack (f ∷ fs) ok = ok.0
 top_fit s _ fit good = absurd (false≢true fit)
 
-comp_fit : (s : State) (x : Frame) → IsTrue (fits kind.Comp x) → IsObjectGood s x
-    → IsTrue (fits kind.Table (s.frame (comp_in x).table)) × IsTrue (fits kind.Pages (s.frame (comp_in x).pages))
+comp_fit : (s : State) (x : Frame) → IsTrue (fits Kind.Comp x) → IsObjectGood s x
+    → IsTrue (fits Kind.Table (s.frame (comp_in x).table)) × IsTrue (fits Kind.Pages (s.frame (comp_in x).pages))
 comp_fit s (Kernel (Comp k)) fit good = good
 comp_fit s _ fit good = absurd (false≢true fit)
 
-comp_is : (x : Frame) → IsTrue (fits kind.Comp x) → x ≡ Kernel (Comp (comp_in x))
+comp_is : (x : Frame) → IsTrue (fits Kind.Comp x) → x ≡ Kernel (Comp (comp_in x))
 comp_is (Kernel (Comp k)) fit = refl
 comp_is _ fit = absurd (false≢true fit)
 
@@ -116,11 +101,11 @@ RootIn r (InRoot table i) = r.frame table.frame ≡ true
 
 -- What leads into a region, and is no range, names a frame of it.
 pub leads_at : (r : Region) (j : Kind) (k : Capability) → is_some_kind j ≡ true → LeadsIn r j k → r.frame k.frame ≡ true
-leads_at r kind.Range k some leads = absurd (false≢true some)
+leads_at r Kind.Range k some leads = absurd (false≢true some)
 leads_at r j k some leads = leads
 
 root_some : (j : Kind) → IsTrue (root j) → is_some_kind j ≡ true
-root_some kind.Range h = absurd (false≢true h)
+root_some Kind.Range h = absurd (false≢true h)
 root_some _ h = refl
 
 -- A root that is known by its slot: a number of it leads to a slot of it.
@@ -132,7 +117,7 @@ root_slot_in r table n good on = record {
 }
 
 -- The component on top of the stack of a thread whose components are in a region.
-top_in : (r : Region) (s : State) (x : Frame) → IsTrue (fits kind.Thread x) → IsObjectGood s x
+top_in : (r : Region) (s : State) (x : Frame) → IsTrue (fits Kind.Thread x) → IsObjectGood s x
     → ((h : ThreadFields) → x ≡ Kernel (Thread h) → AllByRecursion (λ g. r.frame g ≡ true) h.stack)
     → r.frame (first_of_stack (thread_in x).stack) ≡ true
 top_in r s (Kernel (Thread h)) fit good all = by_stack h.stack good (all h refl)
@@ -172,7 +157,7 @@ module _ {r : Region} {t s : State} {o : ℕ → Bool} {c : ℕ} (w : TwinsOn r 
   pub thread_agree : thread_of t c ≡ thread_of s c
   thread_agree = ap thread_in thread_frame_agree
 
-  thread_fits : IsTrue (fits kind.Thread (s.frame (s.core c).thread))
+  thread_fits : IsTrue (fits Kind.Thread (s.frame (s.core c).thread))
   thread_fits = (w.sound.cores c below_cores).0
 
   pub here_in : r.frame (here s c) ≡ true
@@ -184,7 +169,7 @@ module _ {r : Region} {t s : State} {o : ℕ → Bool} {c : ℕ} (w : TwinsOn r 
       ∙ ap comp_in (w.agree.frame (here s c) here_in)
 
   -- The table, the pages and the liveness number of a component in the region.
-  pub comp_parts : (f : ℕ) → r.frame f ≡ true → IsTrue (fits kind.Comp (s.frame f))
+  pub comp_parts : (f : ℕ) → r.frame f ≡ true → IsTrue (fits Kind.Comp (s.frame f))
       → (r.frame (comp_in (s.frame f)).table ≡ true) × (r.frame (comp_in (s.frame f)).pages ≡ true)
       × (r.number (comp_in (s.frame f)).number ≡ true)
   comp_parts f is fit = w.within.comps f (comp_in (s.frame f)) is (comp_is (s.frame f) fit)
@@ -222,12 +207,12 @@ module _ {r : Region} {t s : State} {o : ℕ → Bool} {c : ℕ} (w : TwinsOn r 
   pub slot_within : (target : Target) (at : Slot) → RootIn r target → reached s c target ≡ Some at → IsSlotIn r at
   slot_within (Under table n) at good e = by_number (table.found && nat_le n 4095) refl e
     where
-      by_link : (k : Capability) (b : Bool) → only kind.Link k.kind ≡ b → usable s c (root_slot table.frame n) ≡ Some k
+      by_link : (k : Capability) (b : Bool) → only Kind.Link k.kind ≡ b → usable s c (root_slot table.frame n) ≡ Some k
           → r.frame table.frame ≡ true → slot_in (if b then Some k.frame else None) (n % 64) ≡ Some at → IsSlotIn r at
       by_link k true link is inside q =
           let slot = some_inj (record { node = k.frame; index = n % 64 }) at q in record {
             node = subst (λ f. r.frame f ≡ true) (ap (λ (x : Slot). x.node) slot) (subst (λ j. LeadsIn r j k)
-                (only_is kind.Link k.kind link) (w.within.places (root_slot table.frame n) k inside is));
+                (only_is Kind.Link k.kind link) (w.within.places (root_slot table.frame n) k inside is));
             index = let i : n % 64 ≡ at.index = ap (λ (x : Slot). x.index) slot in omega (arith, i);
           }
       by_link k false link is inside q = absurd (none_some at q)
@@ -235,7 +220,7 @@ module _ {r : Region} {t s : State} {o : ℕ → Bool} {c : ℕ} (w : TwinsOn r 
       by_use : (u : Option Capability) → usable s c (root_slot table.frame n) ≡ u → r.frame table.frame ≡ true
           → slot_in (linked u) (n % 64) ≡ Some at → IsSlotIn r at
       by_use None is inside q = absurd (none_some at q)
-      by_use (Some k) is inside q = by_link k (only kind.Link k.kind) refl is inside q
+      by_use (Some k) is inside q = by_link k (only Kind.Link k.kind) refl is inside q
 
       by_number : (b : Bool) → (table.found && nat_le n 4095) ≡ b
           → (if b then slot_in (linked (usable s c (root_slot table.frame n))) (n % 64) else None) ≡ Some at → IsSlotIn r at
@@ -271,20 +256,20 @@ module _ {r : Region} {t s : State} {o : ℕ → Bool} {c : ℕ} (w : TwinsOn r 
 
   pub named_agree : (n : ℕ) (wanted : Want) → named t c n wanted ≡ named s c n wanted
   named_agree n wanted =
-      then_same (or_refuse (reached t c (own t c n)) reply.NoSlot) (or_refuse (reached s c (own s c n)) reply.NoSlot) _ _
-      (ap (λ r. or_refuse r reply.NoSlot) (ap (reached t c) (own_agree n) ∙ reached_agree (own s c n) (own_in n)))
-      (λ at is. ap (λ u. and_then (or_refuse u reply.Empty) (of_kind wanted))
-      (usable_agree at (slot_found (own s c n) reply.NoSlot at (own_in n) is)))
+      then_same (or_refuse (reached t c (own t c n)) Reply.NoSlot) (or_refuse (reached s c (own s c n)) Reply.NoSlot) _ _
+      (ap (λ r. or_refuse r Reply.NoSlot) (ap (reached t c) (own_agree n) ∙ reached_agree (own s c n) (own_in n)))
+      (λ at is. ap (λ u. and_then (or_refuse u Reply.Empty) (of_kind wanted))
+      (usable_agree at (slot_found (own s c n) Reply.NoSlot at (own_in n) is)))
 
   -- What a name leads to leads into the region.
   pub named_leads : (n : ℕ) (wanted : Want) (k : Capability) → named s c n wanted ≡ Found k → LeadsIn r k.kind k
   named_leads n wanted k e =
-      let a = then_parts (or_refuse (reached s c (own s c n)) reply.NoSlot)
-      (λ at. and_then (or_refuse (usable s c at) reply.Empty) λ k. of_kind wanted k) k e in
-      let b = then_parts (or_refuse (usable s c a.0) reply.Empty) (λ k. of_kind wanted k) k a.2 in
+      let a = then_parts (or_refuse (reached s c (own s c n)) Reply.NoSlot)
+      (λ at. and_then (or_refuse (usable s c at) Reply.Empty) λ k. of_kind wanted k) k e in
+      let b = then_parts (or_refuse (usable s c a.0) Reply.Empty) (λ k. of_kind wanted k) k a.2 in
       subst (λ (j : Capability). LeadsIn r j.kind j) (suits wanted b.0 k b.2).is
-      (w.within.places a.0 b.0 (slot_found (own s c n) reply.NoSlot a.0 (own_in n) a.1).node
-      (or_found (usable s c a.0) reply.Empty b.0 b.1))
+      (w.within.places a.0 b.0 (slot_found (own s c n) Reply.NoSlot a.0 (own_in n) a.1).node
+      (or_found (usable s c a.0) Reply.Empty b.0 b.1))
 
   -- What a name of one kind leads to is in the region, and the same in both states.
   pub named_at : (n : ℕ) (j : Kind) (k : Capability) → is_some_kind j ≡ true → named s c n (to_use (only j)) ≡ Found k
@@ -296,22 +281,22 @@ module _ {r : Region} {t s : State} {o : ℕ → Bool} {c : ℕ} (w : TwinsOn r 
       → t.frame k.frame ≡ s.frame k.frame
   named_agrees n j k some is = w.agree.frame k.frame (named_at n j k some is)
 
-  pub table_at : (n : ℕ) (k : Capability) → named s c n (to_use (only kind.Table)) ≡ Found k → r.frame k.frame ≡ true
-  table_at n k is = named_at n kind.Table k refl is
+  pub table_at : (n : ℕ) (k : Capability) → named s c n (to_use (only Kind.Table)) ≡ Found k → r.frame k.frame ≡ true
+  table_at n k is = named_at n Kind.Table k refl is
 
-  pub pages_at : (n : ℕ) (k : Capability) → named s c n (to_use (only kind.Pages)) ≡ Found k → r.frame k.frame ≡ true
-  pages_at n k is = named_at n kind.Pages k refl is
+  pub pages_at : (n : ℕ) (k : Capability) → named s c n (to_use (only Kind.Pages)) ≡ Found k → r.frame k.frame ≡ true
+  pages_at n k is = named_at n Kind.Pages k refl is
 
   pub root_within : (n : ℕ) (k : Capability) → named s c n (to_use root) ≡ Found k → r.frame k.frame ≡ true
   root_within n k is = leads_at r k.kind k (root_some k.kind (named_good s o c n (to_use root) k w.sound w.is_open is).1)
       (named_leads n (to_use root) k is)
 
   -- A frame of a named range is in the region.
-  pub range_at : (n : ℕ) (k : Capability) (f : ℕ) → named s c n (to_use (only kind.Range)) ≡ Found k
+  pub range_at : (n : ℕ) (k : Capability) (f : ℕ) → named s c n (to_use (only Kind.Range)) ≡ Found k
       → refusal_of s c (outside (found k) f) ≡ None → r.frame f ≡ true
   range_at n k f is calm =
-      subst (λ j. LeadsIn r j k) (only_is kind.Range k.kind (named_good s o c n (to_use (only kind.Range)) k w.sound w.is_open is).1)
-      (named_leads n (to_use (only kind.Range)) k is) f (not_not _ (when_not _ reply.OutOfRange calm))
+      subst (λ j. LeadsIn r j k) (only_is Kind.Range k.kind (named_good s o c n (to_use (only Kind.Range)) k w.sound w.is_open is).1)
+      (named_leads n (to_use (only Kind.Range)) k is) f (not_not _ (when_not _ Reply.OutOfRange calm))
 
   -- A cause about a frame of the region.
   pub frame_agree : (f : ℕ) (test : Frame → Bool) → r.frame f ≡ true
@@ -344,30 +329,30 @@ module _ {r : Region} {t s : State} {o : ℕ → Bool} {c : ℕ} (w : TwinsOn r 
 
   pub vacant_agree : (target : Target) → RootIn r target → vacant t c target ≡ vacant s c target
   vacant_agree target good =
-      then_same (or_refuse (reached t c target) reply.NoSlot) (or_refuse (reached s c target) reply.NoSlot) _ _
-      (ap (λ r. or_refuse r reply.NoSlot) (reached_agree target good))
+      then_same (or_refuse (reached t c target) Reply.NoSlot) (or_refuse (reached s c target) Reply.NoSlot) _ _
+      (ap (λ r. or_refuse r Reply.NoSlot) (reached_agree target good))
       (λ at is.
-      let slot = slot_found target reply.NoSlot at good is in
+      let slot = slot_found target Reply.NoSlot at good is in
       let x = PlaceOf at.node at.index in
       ap (λ p. unless (not_vacant t c x p) at) (place_agree at slot)
       ∙ ap (λ r. unless r at) (not_vacant_agree x (place_at s at) (slot.node, slot.index)))
 
   pub held_agree : (target : Target) → RootIn r target → held t c target ≡ held s c target
   held_agree target good =
-      then_same (or_refuse (reached t c target) reply.NoSlot) (or_refuse (reached s c target) reply.NoSlot) _ _
-      (ap (λ r. or_refuse r reply.NoSlot) (reached_agree target good))
-      (λ at is. ap (λ p. and_then (or_refuse (held_in p) reply.Empty) λ k. Found (at, k))
-      (place_agree at (slot_found target reply.NoSlot at good is)))
+      then_same (or_refuse (reached t c target) Reply.NoSlot) (or_refuse (reached s c target) Reply.NoSlot) _ _
+      (ap (λ r. or_refuse r Reply.NoSlot) (reached_agree target good))
+      (λ at is. ap (λ p. and_then (or_refuse (held_in p) Reply.Empty) λ k. Found (at, k))
+      (place_agree at (slot_found target Reply.NoSlot at good is)))
 
   pub mapped_agree : (table v : ℕ) → r.frame table ≡ true → mapped t c table v ≡ mapped s c table v
   mapped_agree table v is_in =
-      then_same (unless (if nat_lt 4095 v then Some reply.NoSlot else None) v)
-      (unless (if nat_lt 4095 v then Some reply.NoSlot else None) v) _ _ refl
-      (λ v is. then_same (or_refuse (reached t c (Under (root_at table) v)) reply.Fault)
-      (or_refuse (reached s c (Under (root_at table) v)) reply.Fault) _ _
-      (ap (λ r. or_refuse r reply.Fault) (reached_agree (Under (root_at table) v) (λ found. is_in)))
-      (λ at is. ap (λ p. or_refuse (held_in p) reply.Fault)
-      (place_agree at (slot_found (Under (root_at table) v) reply.Fault at (λ found. is_in) is))))
+      then_same (unless (if nat_lt 4095 v then Some Reply.NoSlot else None) v)
+      (unless (if nat_lt 4095 v then Some Reply.NoSlot else None) v) _ _ refl
+      (λ v is. then_same (or_refuse (reached t c (Under (root_at table) v)) Reply.Fault)
+      (or_refuse (reached s c (Under (root_at table) v)) Reply.Fault) _ _
+      (ap (λ r. or_refuse r Reply.Fault) (reached_agree (Under (root_at table) v) (λ found. is_in)))
+      (λ at is. ap (λ p. or_refuse (held_in p) Reply.Fault)
+      (place_agree at (slot_found (Under (root_at table) v) Reply.Fault at (λ found. is_in) is))))
 
 -- ---- the whole machine
 
@@ -391,7 +376,7 @@ RootGood s (InRoot table i) = IsTrue (is_node (s.frame table.frame))
 -- What names an object of its kind leads to frames of the machine.
 leads_whole : (s : State) (o : ℕ → Bool) (j : Kind) (k : Capability) → IsSound s o → IsTrue (fits j (s.frame k.frame))
     → EndsWithin j k.frame k.arg s.limits.frames → LeadsIn (whole s.limits) j k
-leads_whole s o kind.Range k h fit ends = λ f has.
+leads_whole s o Kind.Range k h fit ends = λ f has.
     let less : f < k.frame + k.arg = ltb-true f (k.frame + k.arg) (number_part (nat_le k.frame f) (nat_lt f (k.frame + k.arg)) has) in
     lt-ltb f s.limits.frames (omega (arith, ends, less))
 leads_whole s o j k h fit ends = lt-ltb k.frame s.limits.frames (fit_below s o j k.frame h refl fit)
@@ -403,24 +388,24 @@ module _ (s : State) (o : ℕ → Bool) (h : IsSound s o) (ranges : InRanges s) 
 
   comps_whole : (fs : List ℕ) → AreComps s fs → AllByRecursion (λ g. (whole s.limits).frame g ≡ true) fs
   comps_whole [] ok = tt
-  comps_whole (g ∷ fs) ok = (fits_whole kind.Comp g refl ok.0, comps_whole fs ok.1)
+  comps_whole (g ∷ fs) ok = (fits_whole Kind.Comp g refl ok.0, comps_whole fs ok.1)
 
   stack_whole : (fs : List ℕ) → IsStack s fs → AllByRecursion (λ g. (whole s.limits).frame g ≡ true) fs
   stack_whole [] ok = absurd ok
-  stack_whole (g ∷ fs) ok = (fits_whole kind.Comp g refl ok.0, comps_whole fs ok.1)
+  stack_whole (g ∷ fs) ok = (fits_whole Kind.Comp g refl ok.0, comps_whole fs ok.1)
 
   pub reaches_whole : (c : ℕ) → o c ≡ true → ReachesOnly (whole s.limits) s c
   reaches_whole c inc =
       let below : c < s.limits.cores = (h.inside c inc).1 in record {
         core = lt-ltb c s.limits.cores below;
-        thread = fits_whole kind.Thread (s.core c).thread refl (h.cores c below).0;
-        tcap = fits_whole kind.Tcap (s.core c).tcap refl (h.cores c below).1;
+        thread = fits_whole Kind.Thread (s.core c).thread refl (h.cores c below).0;
+        tcap = fits_whole Kind.Tcap (s.core c).tcap refl (h.cores c below).1;
         places = λ at k is has. let good = usable_good s o c at k h inc has in leads_whole s o k.kind k h good.fit good.within;
         comps = λ f k is has.
             let good = subst (IsObjectGood s) has (h.objects f) in
             let range = subst (FrameInRange s.limits.epochs) has (ranges.frames f) in (
-              fits_whole kind.Table k.table refl good.0,
-              fits_whole kind.Pages k.pages refl good.1,
+              fits_whole Kind.Table k.table refl good.0,
+              fits_whole Kind.Pages k.pages refl good.1,
               lt-ltb k.number 64 range.number,
             );
         stacks = λ f x is has. stack_whole x.stack (subst (IsObjectGood s) has (h.objects f));
@@ -458,7 +443,7 @@ module _ {t s : State} {o : ℕ → Bool} {c : ℕ} (w : Twins t s o c) where
   pub thread_same : thread_of t c ≡ thread_of s c
   thread_same = thread_agree (on_machine w)
 
-  pub here_fit : IsTrue (fits kind.Comp (s.frame (here s c)))
+  pub here_fit : IsTrue (fits Kind.Comp (s.frame (here s c)))
   here_fit = top_fit s (s.frame (s.core c).thread) (w.sound.cores c (core_below w)).0 (w.sound.objects (s.core c).thread)
 
   pub comp_same : comp_of t c ≡ comp_of s c

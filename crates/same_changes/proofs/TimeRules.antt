@@ -1,40 +1,25 @@
 -- The calls of invocation and of time come to the same on a region.
-use Rattle.std.proofs.Common.{◌≡◌, ℕ, ◌<◌, Bool, true, not, ◌&&◌, ◌||◌, refl, sym, ◌∙◌, ap, subst}
-use Rattle.std.proofs.Common.{nat_le, nat_lt, [], ◌∷◌, length, Option, Some, None, IsTrue}
-use Rattle.std.proofs.lemmas.Bool.{false≢true}
-use Rattle.spk_nums.specs.Merging.{merged, covers}
-use Rattle.spk_nums.specs.Capability.{Capability, cap_of}
-use Rattle.spk_nums.specs.declared.kinds.Kind.{Kind}
-use Rattle.spk_nums.specs.declared.kinds.Kind.TheVariants as kind
-use Rattle.spk_nums.specs.declared.calls.Call.{Call}
-use Rattle.spk_nums.specs.declared.replies.Value.TheVariants.{Amount}
-use Rattle.spk_nums.specs.declared.replies.Reply.TheVariants as reply
-use Rattle.kernel_rules.specs.State.{Frame, Kernel, Comp, CompFields, ThreadFields, TcapFields, NumberOf, Core, outstanding}
-use Rattle.kernel_rules.specs.State.{State, comp_of, comp_in, thread_in, tcap_in}
-use Rattle.kernel_rules.specs.Access.{to_use, found, only}
-use Rattle.kernel_rules.specs.Edits.{tcap_at, Fill, Move, Merge}
-use Rattle.kernel_rules.specs.Rules.{Found, named}
-use Rattle.kernel_rules.specs.Life.{is_live_in, is_dead_in, asks_life, acts}
-use Rattle.kernel_rules.specs.InvocationCalls.{switch_to, gate_rule, kill_rule, call_rule, ret_rule, switch_rule}
-use Rattle.kernel_rules.specs.TimeCalls.{merged_list, are_alike, preemption, preempts, tick_rule, transfer_rule, delegate_rule}
-use Rattle.kernel_rules.specs.TimeCalls.{test_rule, replenish_rule}
-use Rattle.kernel_rules.specs.Fitting.{fits}
-use Rattle.kernel_rules.specs.Relies.{is_node}
-use Rattle.kernel_rules.specs.Ranges.{FrameInRange}
-use Rattle.kernel_invariant.proofs.Facts.{named_fit}
-use Rattle.same_changes.specs.Region.{Region}
+use Rattle.kernel_laws.specs.kernel_rules.proofs as low
+use low.{◌≡◌, ℕ, ◌<◌, Bool, true, not, ◌&&◌, ◌||◌, refl, sym, ◌∙◌, ap, subst, leb as nat_le, ltb as nat_lt, [], ◌∷◌, length, Option, Some}
+use low.{None, IsTrue, false≢true, merged, covers, Capability, cap_of, Kind, Call, Amount, Frame, Kernel, Comp, CompFields, ThreadFields}
+use low.{TcapFields, NumberOf, Core, outstanding, comp_of, comp_in, thread_in, tcap_in, to_use, found, only, tcap_at, Fill, Move, Merge}
+use low.{Found, named, is_live_in, is_dead_in, asks_life, acts, switch_to, merged_list, are_alike, preemption, preempts, fits, is_node}
+use low.{FrameInRange, Reply}
+use Rattle.kernel_laws.specs.kernel_rules.specs.{call_rule, switch_rule, replenish_rule}
+use Rattle.kernel_laws.proofs.{State, named_fit}
+use Rattle.kernel_laws.specs.kernel_rules.specs.InvocationCalls.{gate_rule, kill_rule, ret_rule}
+use Rattle.kernel_laws.specs.kernel_rules.specs.TimeCalls.{tick_rule, transfer_rule, delegate_rule, test_rule}
 use Rattle.same_changes.proofs.Reaching.{Twins, TwinsOn, is_some_kind, fit_below, table_node, core_agree, thread_agree, comp_agree}
 use Rattle.same_changes.proofs.Reaching.{comp_parts, number_in, below_cores, named_at, named_agrees, table_at}
-use Rattle.same_changes.proofs.EditsAgree.{charge_agree}
-use Rattle.same_changes.proofs.Alike.{SameRule}
+use Rattle.{same_changes.specs.Region.Region, same_changes.proofs.EditsAgree.charge_agree, same_changes.proofs.Alike.SameRule}
 
-pub gate_comp : (x : Frame) → IsTrue (fits kind.Gate x) → IsTrue (fits kind.Comp x)
+pub gate_comp : (x : Frame) → IsTrue (fits Kind.Gate x) → IsTrue (fits Kind.Comp x)
 gate_comp (Kernel (Comp k)) fit = refl
 gate_comp _ fit = absurd (false≢true fit)
 
 module _ {r : Region} {t s : State} {o : ℕ → Bool} {c : ℕ} (w : TwinsOn r t s o c) where
   -- The liveness number of a component of the region is the same.
-  pub life_agree : (f : ℕ) → r.frame f ≡ true → IsTrue (fits kind.Comp (s.frame f))
+  pub life_agree : (f : ℕ) → r.frame f ≡ true → IsTrue (fits Kind.Comp (s.frame f))
       → t.number (comp_in (s.frame f)).number ≡ s.number (comp_in (s.frame f)).number
   life_agree f is fit = w.agree.number (comp_in (s.frame f)).number (comp_parts w f is fit).2
 
@@ -65,7 +50,7 @@ module _ {r : Region} {t s : State} {o : ℕ → Bool} {c : ℕ} (w : TwinsOn r 
           tt,
           λ none. (
             refl,
-            ap (λ (x : Frame). Fill at (cap_of kind.Gate comp.frame (comp_in x).epoch) ∷ []) (named_agrees w k kind.Comp comp refl is),
+            ap (λ (x : Frame). Fill at (cap_of Kind.Gate comp.frame (comp_in x).epoch) ∷ []) (named_agrees w k Kind.Comp comp refl is),
             (tt, tt),
           ),
         ),
@@ -78,13 +63,13 @@ module _ {r : Region} {t s : State} {o : ℕ → Bool} {c : ℕ} (w : TwinsOn r 
     refl,
     refl,
     λ comp is.
-        let frame = named_agrees w k kind.Comp comp refl is in
-        let fit = named_fit s o c k kind.Comp comp w.sound w.is_open is in
-        let inside = named_at w k kind.Comp comp refl is in
+        let frame = named_agrees w k Kind.Comp comp refl is in
+        let fit = named_fit s o c k Kind.Comp comp w.sound w.is_open is in
+        let inside = named_at w k Kind.Comp comp refl is in
         let number = life_agree comp.frame inside fit in
         let fields = comp_in (s.frame comp.frame) in
-        subst (λ x. SameRule r s c (Rattle.kernel_rules.specs.InvocationCalls.kill_comp t (found comp) (comp_in x))
-        (Rattle.kernel_rules.specs.InvocationCalls.kill_comp s (found comp) fields)) (sym frame) (
+        subst (λ x. SameRule r s c (Rattle.kernel_laws.specs.kernel_rules.specs.InvocationCalls.kill_comp t (found comp) (comp_in x))
+        (Rattle.kernel_laws.specs.kernel_rules.specs.InvocationCalls.kill_comp s (found comp) fields)) (sym frame) (
           ((ap (λ n. not (is_live_in n fields.epoch)) number, λ on. refl), λ calm. tt),
           λ none. (refl, refl, ((comp_parts w comp.frame inside fit).2, tt)),
         ),
@@ -97,10 +82,10 @@ module _ {r : Region} {t s : State} {o : ℕ → Bool} {c : ℕ} (w : TwinsOn r 
     refl,
     refl,
     λ gate is.
-        let frame = named_agrees w g kind.Gate gate refl is in
-        let fit = gate_comp (s.frame gate.frame) (named_fit s o c g kind.Gate gate w.sound w.is_open is) in
+        let frame = named_agrees w g Kind.Gate gate refl is in
+        let fit = gate_comp (s.frame gate.frame) (named_fit s o c g Kind.Gate gate w.sound w.is_open is) in
         let number : t.number (comp_in (t.frame gate.frame)).number ≡ s.number (comp_in (s.frame gate.frame)).number =
-        ap (λ x. t.number (comp_in x).number) frame ∙ life_agree gate.frame (named_at w g kind.Gate gate refl is) fit in (
+        ap (λ x. t.number (comp_in x).number) frame ∙ life_agree gate.frame (named_at w g Kind.Gate gate refl is) fit in (
           (
             (ap (λ (k : ThreadFields). nat_le 16 (length k.stack)) (thread_agree w), λ on. refl),
             λ calm. ((ap (λ n. not (is_live_in n gate.arg)) number, λ on. refl), λ calm. tt),
@@ -125,10 +110,10 @@ module _ {r : Region} {t s : State} {o : ℕ → Bool} {c : ℕ} (w : TwinsOn r 
       refl,
       refl,
       λ tcap is_tcap.
-          let frame = named_agrees w h kind.Thread thread refl is in
+          let frame = named_agrees w h Kind.Thread thread refl is in
           subst (λ x. SameRule r s c (switch_to (found thread) tcap.frame (thread_in x).runs_on)
           (switch_to (found thread) tcap.frame (thread_in (s.frame thread.frame)).runs_on)) (sym frame)
-          (by_core thread tcap (named_at w h kind.Thread thread refl is) (thread_in (s.frame thread.frame)).runs_on),
+          (by_core thread tcap (named_at w h Kind.Thread thread refl is) (thread_in (s.frame thread.frame)).runs_on),
     ),
   )
     where
@@ -145,8 +130,8 @@ module _ {r : Region} {t s : State} {o : ℕ → Bool} {c : ℕ} (w : TwinsOn r 
   -- ---- moving budgets, and preemption
 
   -- The temporal capability that a name leads to is the same.
-  tcap_agree : (n : ℕ) (k : Capability) → named s c n (to_use (only kind.Tcap)) ≡ Found k → tcap_at t k.frame ≡ tcap_at s k.frame
-  tcap_agree n k is = ap tcap_in (named_agrees w n kind.Tcap k refl is)
+  tcap_agree : (n : ℕ) (k : Capability) → named s c n (to_use (only Kind.Tcap)) ≡ Found k → tcap_at t k.frame ≡ tcap_at s k.frame
+  tcap_agree n k is = ap tcap_in (named_agrees w n Kind.Tcap k refl is)
 
   pub transfer_same : (a b m : ℕ) → SameRule r s c (transfer_rule t a b m) (transfer_rule s a b m)
   transfer_same a b m = (
@@ -161,11 +146,11 @@ module _ {r : Region} {t s : State} {o : ℕ → Bool} {c : ℕ} (w : TwinsOn r 
             (
               (refl, λ on. refl),
               λ calm. (
-                (ap (λ (q : TcapFields). nat_lt q.budget m) one, λ on. ap (λ (q : TcapFields). reply.Short q.budget) one),
+                (ap (λ (q : TcapFields). nat_lt q.budget m) one, λ on. ap (λ (q : TcapFields). Reply.Short q.budget) one),
                 λ calm. (((λ i. not (are_alike (one i).qualities (other i).qualities)), λ on. refl), λ calm. tt),
               ),
             ),
-            λ none. (refl, refl, ((named_at w a kind.Tcap x refl is, named_at w b kind.Tcap y refl is_other), tt)),
+            λ none. (refl, refl, ((named_at w a Kind.Tcap x refl is, named_at w b Kind.Tcap y refl is_other), tt)),
           ),
     ),
   )
@@ -181,12 +166,12 @@ module _ {r : Region} {t s : State} {o : ℕ → Bool} {c : ℕ} (w : TwinsOn r 
           let one : tcap_at t x.frame ≡ tcap_at s x.frame = tcap_agree a x is in
           let other : tcap_at t y.frame ≡ tcap_at s y.frame = tcap_agree b y is_other in
           let list : merged_list t x.frame y.frame ≡ merged_list s x.frame y.frame = λ i. merged (one i).qualities (other i).qualities in
-          let first = named_at w a kind.Tcap x refl is in
-          let second = named_at w b kind.Tcap y refl is_other in (
+          let first = named_at w a Kind.Tcap x refl is in
+          let second = named_at w b Kind.Tcap y refl is_other in (
             (
               (refl, λ on. refl),
               λ calm. (
-                (ap (λ (q : TcapFields). nat_lt q.budget m) one, λ on. ap (λ (q : TcapFields). reply.Short q.budget) one),
+                (ap (λ (q : TcapFields). nat_lt q.budget m) one, λ on. ap (λ (q : TcapFields). Reply.Short q.budget) one),
                 λ calm. ((ap (λ l. nat_lt 8 (length l)) list, λ on. refl), λ calm. tt),
               ),
             ),
@@ -225,19 +210,19 @@ module _ {r : Region} {t s : State} {o : ℕ → Bool} {c : ℕ} (w : TwinsOn r 
             λ calm. (
               (
                 ap (λ (k : Core). nat_lt (outstanding k) m) core,
-                λ on. ap (λ (k : Core). reply.Short (Rattle.std.specs.Prelude.min (outstanding k) m)) core,
+                λ on. ap (λ (k : Core). Reply.Short (Rattle.std.specs.Prelude.min (outstanding k) m)) core,
               ),
               λ calm. tt,
             ),
           ),
-          λ none. (refl, refl, (named_at w a kind.Tcap x refl is, tt)),
+          λ none. (refl, refl, (named_at w a Kind.Tcap x refl is, tt)),
         ),
   )
 
 -- ---- the whole machine
 
 -- A component's liveness number is one of the machine's.
-number_small : (epochs : ℕ) (x : Frame) → IsTrue (fits kind.Comp x) → FrameInRange epochs x → (comp_in x).number < 64
+number_small : (epochs : ℕ) (x : Frame) → IsTrue (fits Kind.Comp x) → FrameInRange epochs x → (comp_in x).number < 64
 number_small epochs (Kernel (Comp k)) fit range = range.number
 number_small epochs _ fit range = absurd (false≢true fit)
 
@@ -247,10 +232,10 @@ module _ {t s : State} {o : ℕ → Bool} {c : ℕ} (w : Twins t s o c) where
   named_frame n j k some is = w.same.frame k.frame (fit_below s o j k.frame w.sound some (named_fit s o c n j k w.sound w.is_open is))
 
   -- A named table is a node.
-  pub named_table : (n : ℕ) (k : Capability) → named s c n (to_use (only kind.Table)) ≡ Found k → IsTrue (is_node (s.frame k.frame))
-  named_table n k is = table_node (s.frame k.frame) (named_fit s o c n kind.Table k w.sound w.is_open is)
+  pub named_table : (n : ℕ) (k : Capability) → named s c n (to_use (only Kind.Table)) ≡ Found k → IsTrue (is_node (s.frame k.frame))
+  named_table n k is = table_node (s.frame k.frame) (named_fit s o c n Kind.Table k w.sound w.is_open is)
 
   -- The liveness number of a component is the same.
-  pub alive_same : (f : ℕ) → IsTrue (fits kind.Comp (s.frame f))
+  pub alive_same : (f : ℕ) → IsTrue (fits Kind.Comp (s.frame f))
       → t.number (comp_in (s.frame f)).number ≡ s.number (comp_in (s.frame f)).number
   alive_same f fit = w.same.number (comp_in (s.frame f)).number (number_small s.limits.epochs (s.frame f) fit (w.ranges.frames f))

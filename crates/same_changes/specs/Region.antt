@@ -1,22 +1,10 @@
 -- A part of a machine, and when a call comes to the same there in two states.
-use Rattle.std.specs.Prelude.{◌≡◌, ◌<◌, ℕ, Bool, true, nat_lt, List, Some}
+use Rattle.kernel_laws.specs.kernel_rules.specs.{◌≡◌, ◌<◌, ℕ, Bool, true, ltb as nat_lt, List, Some, Setting, IsSetting, Capability, Kind}
+use Rattle.kernel_laws.specs.kernel_rules.specs.{Call, CompFields, ThreadFields, Comp, Thread, Kernel, Thing, PlaceOf, FrameOf, NumberOf}
+use Rattle.kernel_laws.specs.kernel_rules.specs.{Limits, refs, Slot, found, usable, Change, Judged, Refused, Found, has_frame, acts}
+use Rattle.kernel_laws.specs.kernel_rules.specs.{change_of, Event, after, Open, phase_of, IsRun, Make}
+use Rattle.seq_lookups.specs.seq_state.specs.{Make as make_call, State, SameGrace}
 use Rattle.std.specs.List.{AllByRecursion}
-use Rattle.spk_nums.specs.Setting.{Setting, IsSetting}
-use Rattle.spk_nums.specs.Capability.{Capability}
-use Rattle.spk_nums.specs.declared.kinds.Kind.{Kind}
-use Rattle.spk_nums.specs.declared.kinds.Kind.TheVariants as kind
-use Rattle.spk_nums.specs.declared.calls.Make.TheVariants as make
-use Rattle.spk_nums.specs.declared.calls.Call.{Call}
-use Rattle.spk_nums.specs.declared.calls.Call.TheVariants.{Make as make_call}
-use Rattle.kernel_rules.specs.State.{CompFields, ThreadFields, Comp, Thread, Kernel, Thing, PlaceOf, FrameOf, NumberOf, Limits, State}
-use Rattle.kernel_rules.specs.References.{refs}
-use Rattle.kernel_rules.specs.Access.{Slot, found, usable}
-use Rattle.kernel_rules.specs.Rules.{Change, Judged, Refused, Found}
-use Rattle.kernel_rules.specs.CapabilityCalls.{has_frame}
-use Rattle.kernel_rules.specs.Life.{acts}
-use Rattle.kernel_rules.specs.CallRelation.{change_of}
-use Rattle.kernel_rules.specs.Runs.{Event, after, Open, phase_of, IsRun}
-use Rattle.seq_state.specs.Representation.{SameGrace}
 
 -- A region of a machine: some of its frames, of its liveness numbers and of its cores.
 pub record Region : Type 0 where
@@ -63,7 +51,7 @@ AgreeOutcome w _ _ = ⊥
 
 -- A capability of a kind leads into a region: a range has frames of it alone, and any other names one.
 abbrev pub LeadsIn : Region → Kind → Capability → Type 0
-LeadsIn w kind.Range k = (f : ℕ) → has_frame (found k) f ≡ true → w.frame f ≡ true
+LeadsIn w Kind.Range k = (f : ℕ) → has_frame (found k) f ≡ true → w.frame f ≡ true
 LeadsIn w _ k = w.frame k.frame ≡ true
 
 -- Core c is of a region and works in it, and reaches nothing outside: its thread and its temporal capability are there; what it may use
@@ -81,7 +69,7 @@ pub record ReachesOnly (w : Region) (s : State) (c : ℕ) : Type 0 where
 
 -- A call names no liveness number but one of a region.
 abbrev pub NamesIn : Region → Call → Type 0
-NamesIn w (make_call (make.Comp table pages live) range frame slots slot) = w.number live ≡ true
+NamesIn w (make_call (Make.Comp table pages live) range frame slots slot) = w.number live ≡ true
 NamesIn w call = Unit {0}
 
 -- In every state that a run reaches from which the core of an open call reaches nothing outside a region, and in every state that is one

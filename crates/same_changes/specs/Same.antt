@@ -1,13 +1,6 @@
 -- When a call comes to the same in two states.
-use Rattle.std.specs.Prelude.{◌≡◌, ℕ, List}
-use Rattle.spk_nums.specs.Setting.{Setting, IsSetting}
-use Rattle.spk_nums.specs.declared.calls.Call.{Call}
-use Rattle.kernel_rules.specs.State.{State}
-use Rattle.kernel_rules.specs.Rules.{Change, Judged, Refused, Found}
-use Rattle.kernel_rules.specs.Life.{acts}
-use Rattle.kernel_rules.specs.CallRelation.{change_of}
-use Rattle.kernel_rules.specs.Runs.{Event, after, Open, phase_of, IsRun}
-use Rattle.seq_state.specs.Representation.{SameState}
+use Rattle.seq_lookups.specs.seq_state.specs.{◌≡◌, ℕ, List, Setting, IsSetting, Call, State, Change, Judged, Refused, Found, acts}
+use Rattle.seq_lookups.specs.seq_state.specs.{change_of, Event, after, Open, phase_of, IsRun, SameState}
 use Rattle.seq_lookups.specs.Ranges.{IsInRange}
 
 -- Two changes answer one value, begin the grace periods of the same things, and leave states that are one for the machine.

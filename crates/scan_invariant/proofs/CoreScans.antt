@@ -1,40 +1,29 @@
 -- A step of a scan on the word of another core is good: it is refused by a core that may still use what was removed, or goes on to the
 -- next core, and from the last to the flush words or to the counts of the act.
-use Rattle.place_invariant.proofs.Common.{◌≡◌, ◌≢◌, ◌⊎◌, ℕ, ◌<◌, ◌≤◌, ◌&&◌, ◌++◌, nat_lt, nat_le, if◌then◌else◌, Bool, true, false, []}
-use Rattle.place_invariant.proofs.Common.{◌∷◌, Option, Some, None, IsTrue, inl, inr, arith, refl, sym, ◌∙◌, ap, subst, IsSomeAnd}
-use Rattle.place_invariant.proofs.Common.{list_any, ltb-false, leb-true, leb-false, Setting, IsSetting, entry_of_word}
-use Rattle.place_invariant.proofs.Common.{core_of_word, CoreWord, EntryAt, CountAt, CoreAt, FrameAt, LiveAt, LoadOf}
-use Rattle.place_invariant.proofs.Common.{Thing, PlaceOf, State, Slot, rule_of, same_thing, MayWait, is_paging}
-use Rattle.place_invariant.proofs.Common.{RuleMay, IsRemoved, IsWaiting, exit_of, Step, Trace, Open, phase, state_after, last_left}
-use Rattle.place_invariant.proofs.Common.{waited_in, Carries, not_inside, own_read-there, last_left-there, out_passed}
-use Rattle.place_invariant.proofs.Common.{later_passed, may_wait, Quiet, AtCore, AtFlush, next_other, core_scan, flush_scan}
-use Rattle.place_invariant.proofs.Common.{core_refuses, scan_end, scan_after, quiet_next, quiet_end, quiet_after, GoesBy, own_pages}
-use Rattle.place_invariant.proofs.Common.{Leads, LeadsIn, rule_after, NextMay, next_may, Scan, Undecided}
-use Rattle.place_invariant.proofs.Common.{ActiveCall, Goes, refuse, stamp_shown, starts, StageFits, CountsAt, HasRoom, landed, took_scan}
-use Rattle.place_invariant.proofs.Common.{Core, holds_counts, MayFill, KnowsAct, KnowsUndecided, phase_at, IsSpot, HasFlushed}
-use Rattle.place_invariant.proofs.Common.{holds_at, holds_in, Invariant, names_on, slot_relies, limits_of, is_node, plan_for}
-use Rattle.place_invariant.proofs.Starts.{IsRefusedOutside as RefusedOutside, starts_good}
-use Rattle.std.specs.Prelude.{◌==◌, ◌||◌}
-use Rattle.place_invariant.specs.spk_nums.specs.declared.replies.Reply.TheVariants as reply
+use Rattle.place_invariant.specs as low
+use low.step_ways.proofs.{◌≡◌, ◌≢◌, ◌⊎◌, ℕ, ◌<◌, ◌≤◌, ◌&&◌, ◌++◌, ltb as nat_lt, leb as nat_le, if◌then◌else◌, Bool, true, false, [], ◌∷◌}
+use low.step_ways.proofs.{Option, Some, None, IsTrue, inl, inr, arith, refl, sym, ◌∙◌, ap, subst, IsSomeAnd, ltb-false, leb-true, leb-false}
+use low.step_ways.proofs.{Setting, IsSetting, entry_of_word, core_of_word, EntryAt, CountAt, CoreAt, FrameAt, LiveAt, LoadOf, Thing}
+use low.step_ways.proofs.{PlaceOf, State, Slot, rule_of, same_thing, RuleMay, IsRemoved, exit_of, Step, Trace, Open, phase, state_after}
+use low.step_ways.proofs.{last_left, Carries, not_inside, own_read-there, last_left-there, Quiet, AtCore, AtFlush, core_scan, scan_end}
+use low.step_ways.proofs.{scan_after, quiet_next, quiet_end, quiet_after, GoesBy, own_pages, Leads, LeadsIn, rule_after, Scan, Undecided}
+use low.step_ways.proofs.{ActiveCall, Goes, refuse, stamp_shown, starts, StageFits, CountsAt, HasRoom, landed, took_scan, Core}
+use low.step_ways.proofs.{holds_counts, MayFill, KnowsAct, KnowsUndecided, phase_at, IsSpot, HasFlushed, holds_at, holds_in, Invariant}
+use low.step_ways.proofs.{names_on, slot_relies, limits_of, is_node, plan_for, ◌==◌, ◌||◌, goes_on as goes_on_act, users_kept, OnlyLooks}
+use low.step_ways.proofs.{step_to, inner, core_is, call_is, is_active, loads_on, decides_on, next_at, GoodTook, not_spent, Reply, Refusal}
+use low.trace_laws.proofs.{out_passed, later_passed, may_wait, was_before}
+use Rattle.scan_invariant.proofs.Scans.{before_next, IsScanFor, scan_for, asks_for}
+use low.{core_invariant.specs.HasPassed, core_invariant.specs.KnowsQuiet, core_invariant.specs.scanned_for, act_states.specs.CoreWord}
+use low.{act_states.specs.next_other, act_states.specs.flush_scan, call_plans.proofs.next_may, call_plans.proofs.Begins}
+use low.{call_plans.proofs.left_begins, kernel_history.specs.is_paging, kernel_history.specs.waited_in, count_invariant.proofs.plan_leads}
+use low.{count_invariant.proofs.goes_by, kernel_rules.specs.GracePeriods.MayWait, kernel_history.specs.Justified.IsWaiting}
+use low.{stage_quiet.specs.Scan.core_refuses, call_plans.specs.After.NextMay, plan_ways.proofs.Ways.asked_left}
+use low.{act_states.specs.declared.work.Act.Act as ActOf, core_invariant.specs.Knows.KnowsScan, kept_facts.proofs.KeptReads.start_pairs}
+use low.{kept_facts.proofs.KeptReads.ReadsSame, kept_facts.proofs.Carries.act_on}
+use Rattle.{place_invariant.proofs.IsRefusedOutside as RefusedOutside, place_invariant.proofs.starts_good, place_invariant.proofs.paging_by}
+use Rattle.{std.specs.List.list_any, place_invariant.proofs.Vacancy.unpaged_flushed}
 use Rattle.place_invariant.specs.entry_words.specs.declared.entry.Entry.TheVariants as entry
 use Rattle.place_invariant.specs.kernel_rules.specs.Rules as rules
-use Rattle.place_invariant.specs.trace_laws.proofs.Carries.{was_before}
-use Rattle.place_invariant.specs.call_plans.proofs.AfterNames.{Begins, left_begins}
-use Rattle.place_invariant.specs.plan_ways.proofs.Ways.{asked_left}
-use Rattle.place_invariant.specs.act_states.specs.declared.refusals.Refusal.TheVariants as refusal
-use Rattle.place_invariant.specs.act_states.specs.declared.work.Act.{Act as ActOf}
-use Rattle.place_invariant.specs.core_invariant.specs.Knows.{HasPassed}
-use Rattle.place_invariant.specs.core_invariant.specs.Knows.{goes_on as goes_on_act, KnowsScan, KnowsQuiet, scanned_for}
-use Rattle.place_invariant.specs.kept_facts.proofs.Carries.{start_pairs, act_on, ReadsSame}
-use Rattle.place_invariant.specs.step_ways.proofs.Users.{users_kept}
-use Rattle.place_invariant.specs.step_ways.proofs.Loads.{OnlyLooks, step_to, inner, core_is, call_is, is_active, loads_on, decides_on}
-use Rattle.place_invariant.specs.step_ways.proofs.Loads.{next_at}
-use Rattle.place_invariant.specs.step_ways.proofs.Refusals.{GoodTook, not_spent}
-use Rattle.place_invariant.specs.count_invariant.proofs.Acquiring.{plan_leads, goes_by}
-use Rattle.scan_invariant.proofs.Scans.{before_next, IsScanFor, scan_for, asks_for}
-use Rattle.place_invariant.proofs.Paging.{paging_by}
-use Rattle.place_invariant.proofs.Vacancy.{unpaged_flushed}
-use Rattle.place_invariant.specs.act_states.specs.call_plans.specs.PlanOf.{plan_for}
 
 module _ (setup : Setting) (setting : IsSetting setup) (cores : ℕ → Core) (t : Trace) (stands : Invariant setup cores t) (c : ℕ)
     (here : c < setup.cores)
@@ -114,7 +103,7 @@ module _ (setup : Setting) (setting : IsSetting setup) (cores : ℕ → Core) (t
   -- The core may still use what was removed.
   module _ (inside : (s.core at).inside ≡ true) (early : exit_of t at ≤ x) where
     abbrev e : Step
-    e = inner setup setting cores t stands c here a active (LoadOf (CoreAt at)) (Some (reply.Quiescing at)) None
+    e = inner setup setting cores t stands c here a active (LoadOf (CoreAt at)) (Some (Reply.Quiescing at)) None
 
     waits : MayWait s c thing at
     waits = record {
@@ -124,9 +113,9 @@ module _ (setup : Setting) (setting : IsSetting setup) (cores : ℕ → Core) (t
       not_passed = may_wait setup t thing (stands.graces thing) at x (let d = drawn in omega arith) scan.scanned.rises early;
     }
 
-    may : RuleMay s c (rule_of s c a.call) (reply.Quiescing at)
-    may = next_may s c (own_pages s c) (plan_for a.call) (rule_of s c a.call) a.found by_plan leads (reply.Quiescing at)
-        (subst (λ n. NextMay s c (own_pages s c) n (reply.Quiescing at)) (sym spot.next)
+    may : RuleMay s c (rule_of s c a.call) (Reply.Quiescing at)
+    may = next_may s c (own_pages s c) (plan_for a.call) (rule_of s c a.call) a.found by_plan leads (Reply.Quiescing at)
+        (subst (λ n. NextMay s c (own_pages s c) n (Reply.Quiescing at)) (sym spot.next)
         (subst (λ o. IsSomeAnd o (λ at2. MayWait s c (PlaceOf at2.node at2.index) at)) (sym spot.way.reached) waits))
 
     justified : IsWaiting setup t e s (rule_of s c a.call) at
@@ -141,8 +130,8 @@ module _ (setup : Setting) (setting : IsSetting setup) (cores : ℕ → Core) (t
       was_removed = was_before (IsRemoved thing) setup t e refl scan.scanned.was_removed;
     }
 
-    still_inside : GoodTook setup cores t c (LoadOf (CoreAt at)) (landed a (refuse (refusal.Quiescing at)))
-    still_inside lands = decides_on setup setting cores t stands c here a active (LoadOf (CoreAt at)) (reply.Quiescing at) a.found looks
+    still_inside : GoodTook setup cores t c (LoadOf (CoreAt at)) (landed a (refuse (Refusal.Quiescing at)))
+    still_inside lands = decides_on setup setting cores t stands c here a active (LoadOf (CoreAt at)) (Reply.Quiescing at) a.found looks
         lands (sym held_is) opens refl refl
         (λ x. refl) (λ x. refl) refl (not_spent setup (cores c) t c (core_is setup setting cores t stands c here a active) room, may)
         justified
@@ -300,9 +289,9 @@ module _ (setup : Setting) (setting : IsSetting setup) (cores : ℕ → Core) (t
     where
       by_inside : (inside : Bool) → (s.core at).inside ≡ inside → (early : Bool) → nat_le (exit_of t at) x ≡ early
           → GoodTook setup cores t c (LoadOf (CoreAt at)) (landed a (took_scan (cores c).own.core act
-          (scan_after (AtCore x by at page) (if inside && early then Some (reply.Quiescing at) else None)
+          (scan_after (AtCore x by at page) (if inside && early then Some (Reply.Quiescing at) else None)
           (quiet_next setup.cores (AtCore x by at page)))
-          (scan_end (if inside && early then Some (reply.Quiescing at) else None) (quiet_next setup.cores (AtCore x by at page)))))
+          (scan_end (if inside && early then Some (Reply.Quiescing at) else None) (quiet_next setup.cores (AtCore x by at page)))))
       by_inside false is early le = has_passed (out_passed setup t thing (stands.graces thing) at x is)
       by_inside true is true le = still_inside is (leb-true (exit_of t at) x le)
       by_inside true is false le = has_passed (later_passed setup t thing (stands.graces thing) at x (leb-false (exit_of t at) x le))

@@ -1,49 +1,40 @@
 -- A step of a scan on a flush word is good: it is refused by a core that may not have flushed since the removal, or goes on to the next
 -- flush word, and from the last to the counts of the act.
-use Rattle.place_invariant.proofs.Common.{◌≡◌, ◌≢◌, ◌⊎◌, ℕ, zero, suc, ◌+◌, ◌<◌, ◌≤◌, ◌==◌, cond, nat_lt, nat_le, if◌then◌else◌, Bool}
-use Rattle.place_invariant.proofs.Common.{true, false, [], ◌∷◌, Option, Some, None, IsTrue, inl, inr, arith, refl, sym, ◌∙◌, ap, subst}
-use Rattle.place_invariant.proofs.Common.{IsSomeAnd, list_any, cases_eq, eqb-true, ltb-true, ltb-false, leb-true, leb-false}
-use Rattle.place_invariant.proofs.Common.{Setting, IsSetting, Call, entry_of_word, flush_of_word, FlushWord}
-use Rattle.place_invariant.proofs.Common.{EntryAt, CountAt, FlushAt, FrameAt, LiveAt, same_word, Move, LoadOf, Thing, PlaceOf}
-use Rattle.place_invariant.proofs.Common.{State, Slot, Target, place_at, reached, is_paging, same_thing, lowest, unflushed_by}
-use Rattle.place_invariant.proofs.Common.{MayBeUnflushed, is_node, RuleMay, Refused, and_then, or_refuse, unless, first_of, not_vacant}
-use Rattle.place_invariant.proofs.Common.{vacant, rule_of, change_of, IsAlone, IsRemoved, IsUnflushed, awaits_flushes, flush_of}
-use Rattle.place_invariant.proofs.Common.{flush_stored, stamp, Step, Trace, Out, Open, phase, state_after, last_left, flushed_in}
-use Rattle.place_invariant.proofs.Common.{refused_first, nobody_waits, awaits_are, Carries, own_read-there, last_left-there, Quiet}
-use Rattle.place_invariant.proofs.Common.{AtFlush, flush_refuses, scan_end, scan_after, quiet_next, quiet_end, quiet_after}
-use Rattle.place_invariant.proofs.Common.{plan_for, GoesBy, own_pages, Leads, LeadsIn, rule_after, NextMay, next_may}
-use Rattle.place_invariant.proofs.Common.{Scan, Goes, refuse, stamp_shown, starts, Undecided, ActiveCall, StageFits, CountsAt, HasRoom}
-use Rattle.place_invariant.proofs.Common.{landed, took_scan, Core, holds_counts, PlaceIs, HasFlushed, MayFill, KnowsAct, KnowsUndecided}
-use Rattle.place_invariant.proofs.Common.{phase_at, IsSpot, CallIs, holds_at, holds_in, Invariant, slot_relies, names_on, limits_of}
-use Rattle.std.proofs.Common.{find}
-use Rattle.std.proofs.Common.{IfSome}
-use Rattle.std.specs.List.{range_with_len}
-use Rattle.place_invariant.specs.spk_nums.specs.declared.replies.Reply.TheVariants as reply
-use Rattle.place_invariant.specs.entry_words.specs.declared.entry.Entry.TheVariants as entry
-use Rattle.place_invariant.specs.kernel_rules.specs.Rules.{flushes_of}
-use Rattle.place_invariant.specs.trace_laws.proofs.Carries.{was_before}
+use Rattle.place_invariant.specs.step_ways.proofs.{◌≡◌, ◌≢◌, ◌⊎◌, ℕ, zero, suc, ◌+◌, ◌<◌, ◌≤◌, ◌==◌, cond, ltb as nat_lt, leb as nat_le}
+use Rattle.place_invariant.specs.step_ways.proofs.{if◌then◌else◌, Bool, true, false, [], ◌∷◌, Option, Some, None, IsTrue, inl, inr, arith}
+use Rattle.place_invariant.specs.step_ways.proofs.{refl, sym, ◌∙◌, ap, subst, IsSomeAnd, eqb-true, ltb-true, ltb-false, leb-true, leb-false}
+use Rattle.place_invariant.specs.step_ways.proofs.{Setting, IsSetting, Call, entry_of_word, EntryAt, CountAt, FlushAt, FrameAt, LiveAt}
+use Rattle.place_invariant.specs.step_ways.proofs.{same_word, Move, LoadOf, Thing, PlaceOf, State, Slot, Target, place_at, reached}
+use Rattle.place_invariant.specs.step_ways.proofs.{same_thing, is_node, RuleMay, Refused, and_then, or_refuse, unless, first_of, not_vacant}
+use Rattle.place_invariant.specs.step_ways.proofs.{vacant, rule_of, change_of, IsAlone, IsRemoved, flush_of, flush_stored, stamp, Step}
+use Rattle.place_invariant.specs.step_ways.proofs.{Trace, Out, Open, phase, state_after, last_left, refused_first, Carries, own_read-there}
+use Rattle.place_invariant.specs.step_ways.proofs.{last_left-there, Quiet, AtFlush, scan_end, scan_after, quiet_next, quiet_end}
+use Rattle.place_invariant.specs.step_ways.proofs.{quiet_after, plan_for, GoesBy, own_pages, Leads, LeadsIn, rule_after, Scan, Goes, refuse}
+use Rattle.place_invariant.specs.step_ways.proofs.{stamp_shown, starts, Undecided, ActiveCall, StageFits, CountsAt, HasRoom, landed}
+use Rattle.place_invariant.specs.step_ways.proofs.{took_scan, Core, holds_counts, PlaceIs, HasFlushed, MayFill, KnowsAct, KnowsUndecided}
+use Rattle.place_invariant.specs.step_ways.proofs.{phase_at, IsSpot, CallIs, holds_at, holds_in, Invariant, slot_relies, names_on}
+use Rattle.place_invariant.specs.step_ways.proofs.{limits_of, IfSome, goes_on as goes_on_act, users_kept, OnlyLooks, step_to, inner}
+use Rattle.place_invariant.specs.step_ways.proofs.{core_is, call_is, is_active, loads_on, decides_on, IsMarked, IsUnmarked, place_reads}
+use Rattle.place_invariant.specs.step_ways.proofs.{GoodTook, not_spent, Reply, Refusal}
+use Rattle.place_invariant.specs.kernel_rules.specs.{is_paging, lowest, unflushed_by, MayBeUnflushed, find, flushes_of}
+use Rattle.place_invariant.proofs.{stands_alone, paging_by, IsRefusedOutside as RefusedOutside, starts_good, none_waits}
+use Rattle.place_invariant.specs.trace_laws.proofs.{nobody_waits, awaits_are, was_before}
+use Rattle.place_invariant.specs.call_plans.proofs.{next_may, Begins, left_begins}
+use Rattle.place_invariant.specs.core_invariant.specs.{HasPassed, scanned_for}
+use Rattle.place_invariant.specs.kernel_history.specs.{flush_of_word, awaits_flushes}
+use Rattle.place_invariant.specs.count_invariant.proofs.{plan_leads, goes_by}
+use Rattle.place_invariant.specs.plan_ways.proofs.{asked_left, next_first}
+use Rattle.std.specs.List.{list_any, range_with_len}
+use Rattle.place_invariant.specs.kernel_history.specs.{Justified.IsUnflushed, Ways.flushed_in}
 use Rattle.place_invariant.specs.trace_laws.proofs.Waiting.{later_flushed, may_be_unflushed}
-use Rattle.place_invariant.specs.call_plans.proofs.AfterNames.{Begins, left_begins}
-use Rattle.place_invariant.specs.plan_ways.specs.Laws.{NextRefused}
-use Rattle.place_invariant.specs.plan_ways.proofs.Ways.{asked_left, next_first}
-use Rattle.place_invariant.specs.act_states.specs.declared.refusals.Refusal.TheVariants as refusal
-use Rattle.place_invariant.specs.act_states.specs.declared.work.Act.{Act as ActOf}
-use Rattle.place_invariant.specs.core_invariant.specs.Knows.{HasPassed}
-use Rattle.place_invariant.specs.core_invariant.specs.Knows.{scanned_for, goes_on as goes_on_act}
-use Rattle.place_invariant.specs.step_ways.proofs.Flushing.{none_flushing}
-use Rattle.place_invariant.specs.kept_facts.proofs.Carries.{start_pairs, act_on}
-use Rattle.place_invariant.specs.step_ways.proofs.Users.{users_kept}
-use Rattle.place_invariant.specs.step_ways.proofs.Loads.{OnlyLooks, step_to, inner, core_is, call_is, is_active, loads_on}
-use Rattle.place_invariant.specs.step_ways.proofs.Loads.{decides_on}
-use Rattle.place_invariant.specs.step_ways.proofs.Places.{IsMarked, IsUnmarked, place_reads}
-use Rattle.place_invariant.specs.step_ways.proofs.Refusals.{GoodTook, not_spent}
-use Rattle.place_invariant.specs.count_invariant.proofs.Acquiring.{plan_leads, goes_by}
-use Rattle.place_invariant.proofs.Outside.{stands_alone}
-use Rattle.place_invariant.proofs.Paging.{paging_by}
+use Rattle.place_invariant.specs.kept_facts.proofs.{KeptReads.start_pairs, Carries.act_on}
+use Rattle.place_invariant.proofs.Vacancy.{IsRemovedSince, removed_is}
 use Rattle.scan_invariant.proofs.Scans.{IsScanFor, scan_for, asks_for}
-use Rattle.place_invariant.proofs.Starts.{IsRefusedOutside as RefusedOutside, starts_good}
-use Rattle.place_invariant.proofs.Vacancy.{IsRemovedSince, removed_is, none_waits}
-use Rattle.place_invariant.specs.act_states.specs.call_plans.specs.PlanOf.{plan_for}
+use Rattle.{std.proofs.lemmas.Bool.cases_eq, place_invariant.specs.frame_words.specs.declared.flush_word.FlushWord.FlushWord}
+use Rattle.{place_invariant.specs.stage_quiet.specs.Scan.flush_refuses, place_invariant.specs.call_plans.specs.After.NextMay}
+use Rattle.{place_invariant.specs.plan_ways.specs.Laws.NextRefused, place_invariant.specs.act_states.specs.declared.work.Act.Act as ActOf}
+use Rattle.{place_invariant.specs.step_ways.proofs.Flushing.none_flushing}
+use Rattle.place_invariant.specs.entry_words.specs.declared.entry.Entry.TheVariants as entry
 
 -- what a flush word tells
 
@@ -93,10 +84,10 @@ lowest_is s set e below before is = find_first set 0 s.limits.cores e (omega ari
 
 -- A target that is to be free is refused where its place waits for a flush, and for no other core.
 vacant_unflushed : (s : State) (c : ℕ) (target : Target) (at : Slot) (d : ℕ) → reached s c target ≡ Some at
-    → not_vacant s c (PlaceOf at.node at.index) (place_at s at) ≡ Some (reply.Unflushed d)
-    → vacant s c target ≡ Refused (reply.Unflushed d)
+    → not_vacant s c (PlaceOf at.node at.index) (place_at s at) ≡ Some (Reply.Unflushed d)
+    → vacant s c target ≡ Refused (Reply.Unflushed d)
 vacant_unflushed s c target at d is waits =
-    ap (λ o. and_then (or_refuse o reply.NoSlot) λ at. unless (not_vacant s c (PlaceOf at.node at.index) (place_at s at)) at) is
+    ap (λ o. and_then (or_refuse o Reply.NoSlot) λ at. unless (not_vacant s c (PlaceOf at.node at.index) (place_at s at)) at) is
     ∙ ap (λ o. unless o at) waits
 
 module _ (setup : Setting) (setting : IsSetting setup) (cores : ℕ → Core) (t : Trace) (stands : Invariant setup cores t) (c : ℕ)
@@ -191,14 +182,14 @@ module _ (setup : Setting) (setting : IsSetting setup) (cores : ℕ → Core) (t
   -- the core may not have flushed since
   module _ (early : flush_stored t at ≤ x) where
     abbrev e : Step
-    e = inner setup setting cores t stands c here a active load (Some (reply.Unflushed at)) None
+    e = inner setup setting cores t stands c here a active load (Some (Reply.Unflushed at)) None
 
     unflushed : MayBeUnflushed s thing at
     unflushed = unflushed_shown setup cores t stands thing x at below awaits scan.scanned.rises early
 
-    may : RuleMay s c (rule_of s c a.call) (reply.Unflushed at)
-    may = next_may s c (own_pages s c) (plan_for a.call) (rule_of s c a.call) a.found by_plan leads (reply.Unflushed at)
-        (subst (λ n. NextMay s c (own_pages s c) n (reply.Unflushed at)) (sym spot.next)
+    may : RuleMay s c (rule_of s c a.call) (Reply.Unflushed at)
+    may = next_may s c (own_pages s c) (plan_for a.call) (rule_of s c a.call) a.found by_plan leads (Reply.Unflushed at)
+        (subst (λ n. NextMay s c (own_pages s c) n (Reply.Unflushed at)) (sym spot.next)
         (subst (λ o. IsSomeAnd o (λ at2. MayBeUnflushed s (PlaceOf at2.node at2.index) at)) (sym spot.way.reached) unflushed))
 
     justified : IsUnflushed setup t e s (rule_of s c a.call) at
@@ -226,7 +217,7 @@ module _ (setup : Setting) (setting : IsSetting setup) (cores : ℕ → Core) (t
           by_read (inr p) = p
 
       same_word_is : last_left setup t (EntryAt node index) ≡ word
-      same_word_is = stands_alone setup t c node index word spot.own load (reply.Unflushed at) alone
+      same_word_is = stands_alone setup t c node index word spot.own load (Reply.Unflushed at) alone
 
       removed : IsRemovedSince (s.place node index) (stamp setup t thing) x
       removed = removed_is setup.frames (s.place node index) (stamp setup t thing) x
@@ -245,25 +236,25 @@ module _ (setup : Setting) (setting : IsSetting setup) (cores : ℕ → Core) (t
           (λ d lower. scan.scanned.flushed d lower removed.since)
           (still_unflushed setup cores t stands thing at below undecided awaits (let q = removed.since in let h = early in omega arith))
 
-      waits : not_vacant s c thing (s.place node index) ≡ Some (reply.Unflushed at)
+      waits : not_vacant s c thing (s.place node index) ≡ Some (Reply.Unflushed at)
       waits = ap (not_vacant s c thing) removed.place
           ∙ ap (λ o. first_of o (flushes_of s thing)) (none_waits s c thing
           (λ d low other. nobody_waits setup t e stands.legal tt alone a.call is_open thing d))
           ∙ ap unflushed_by first_unflushed
 
-      refused : change_of s c a.call ≡ Refused (reply.Unflushed at)
-      refused = next_first s c (own_pages s c) (plan_for a.call) (rule_of s c a.call) a.found by_plan leads (reply.Unflushed at)
-          (subst (λ n. NextRefused s c (own_pages s c) n (reply.Unflushed at)) (sym spot.next)
+      refused : change_of s c a.call ≡ Refused (Reply.Unflushed at)
+      refused = next_first s c (own_pages s c) (plan_for a.call) (rule_of s c a.call) a.found by_plan leads (Reply.Unflushed at)
+          (subst (λ n. NextRefused s c (own_pages s c) n (Reply.Unflushed at)) (sym spot.next)
           (vacant_unflushed s c spot.target slot at spot.way.reached waits))
 
-    not_flushed : GoodTook setup cores t c load (landed a (refuse (refusal.Unflushed at)))
+    not_flushed : GoodTook setup cores t c load (landed a (refuse (Refusal.Unflushed at)))
     not_flushed lands =
         let unspent = not_spent setup (cores c) t c (core_is setup setting cores t stands c here a active) room in
-        decides_on setup setting cores t stands c here a active load (reply.Unflushed at) a.found looks
+        decides_on setup setting cores t stands c here a active load (Reply.Unflushed at) a.found looks
         lands (sym held_is) opens refl refl
         (λ x. refl) (λ x. refl) refl (unspent, may)
         justified
-        (λ is_alone. refused_first s c a.call (reply.Unflushed at) has.acts unspent (refused is_alone))
+        (λ is_alone. refused_first s c a.call (Reply.Unflushed at) has.acts unspent (refused is_alone))
 
   -- the core has flushed since
   module _ (flushed : HasFlushed setup t thing x at) where
@@ -379,7 +370,7 @@ module _ (setup : Setting) (setting : IsSetting setup) (cores : ℕ → Core) (t
     where
       by_stamp : (early : Bool) → nat_le (flush_stored t at) x ≡ early
           → GoodTook setup cores t c load (landed a (took_scan (cores c).own.core act
-          (scan_after (AtFlush x at) (if early then Some (reply.Unflushed at) else None) (quiet_next setup.cores (AtFlush x at)))
-          (scan_end (if early then Some (reply.Unflushed at) else None) (quiet_next setup.cores (AtFlush x at)))))
+          (scan_after (AtFlush x at) (if early then Some (Reply.Unflushed at) else None) (quiet_next setup.cores (AtFlush x at)))
+          (scan_end (if early then Some (Reply.Unflushed at) else None) (quiet_next setup.cores (AtFlush x at)))))
       by_stamp true le = not_flushed (leb-true (flush_stored t at) x le)
       by_stamp false le = has_flushed (flush_shown setup cores t stands thing x at (leb-false (flush_stored t at) x le))

@@ -1,7 +1,7 @@
--- The names that most proofs use.
-pub use Rattle.place_invariant.proofs.Common
 -- Scanning.
 pub mod Scans
 pub mod CoreScans
 pub mod FlushScans
 pub mod ScanSteps
+-- The names that are used most outside of this library.
+pub use Rattle.scan_invariant.proofs.Scans.{AtCores, AtFlushes, ScanBegins, scan_begins, scan_none}

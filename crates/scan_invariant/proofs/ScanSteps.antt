@@ -1,28 +1,16 @@
 -- A step of a scan for a place that is quiescing is good, whatever it scans and whatever is then done.
-use Rattle.place_invariant.proofs.Common.{◌≡◌, ℕ, ◌<◌, ◌≤◌, false, Some, arith, refl, sym, ◌∙◌, ap, subst, false≢true, Setting, IsSetting}
-use Rattle.place_invariant.proofs.Common.{entry_of_word, CoreAt, FlushAt, Move, LoadOf, word_of, told_of, PlaceOf, Trace, last_left}
-use Rattle.place_invariant.proofs.Common.{Quiet, AtCore, AtFlush, quiet_move, quiet_end, quiet_after, Outside, Scan, stamp_shown}
-use Rattle.place_invariant.proofs.Common.{Undecided, ActiveCall, StageFits, landed, took_scan, Core, KnowsAct, KnowsUndecided, NamesAre}
-use Rattle.place_invariant.proofs.Common.{IsSpot, phase_at, goes_on, Invariant}
+use Rattle.place_invariant.specs.step_ways.proofs as low
+use low.{◌≡◌, ℕ, ◌<◌, ◌≤◌, false, Some, arith, refl, sym, ◌∙◌, ap, subst, false≢true, Setting, IsSetting, entry_of_word, CoreAt, FlushAt}
+use low.{Move, LoadOf, word_of, told_of, PlaceOf, Trace, last_left, Quiet, AtCore, AtFlush, quiet_end, quiet_after, Outside, Scan}
+use low.{stamp_shown, Undecided, ActiveCall, StageFits, landed, took_scan, Core, KnowsAct, KnowsUndecided, NamesAre, IsSpot, phase_at}
+use low.{goes_on, Invariant, Fill as fill_act, Remove as remove_act, Tick as tick_act, Flush as flush_act, Kill as kill_act}
+use low.{Untype as untype_act, Map as map_act, MakeComp as comp_act, Invoke as invoke_act, Return as return_act, Touch as touch_act}
+use low.{Share as share_act, Refill as refill_act, Switch as switch_act, is_active, GoodTook, plan_for}
+use Rattle.place_invariant.specs.core_invariant.specs.{Retype as type_act, Make as make_act, scanned_for}
+use Rattle.place_invariant.specs.act_states.specs.{quiet_move, ActFits, stamp_of_act}
 use Rattle.place_invariant.specs.act_states.specs.declared.work.Act.{Act as ActOf}
-use Rattle.place_invariant.specs.act_states.specs.declared.work.Act.TheVariants.{Fill as fill_act, Remove as remove_act, Retype as type_act}
-use Rattle.place_invariant.specs.act_states.specs.declared.work.Act.TheVariants.{Make as make_act, Tick as tick_act}
-use Rattle.place_invariant.specs.act_states.specs.declared.work.Act.TheVariants.{Flush as flush_act}
-use Rattle.place_invariant.specs.act_states.specs.declared.work.Act.TheVariants.{Kill as kill_act, Untype as untype_act, Map as map_act}
-use Rattle.place_invariant.specs.act_states.specs.declared.work.Act.TheVariants.{MakeComp as comp_act, Invoke as invoke_act}
-use Rattle.place_invariant.specs.act_states.specs.declared.work.Act.TheVariants.{Return as return_act}
-use Rattle.place_invariant.specs.act_states.specs.declared.work.Act.TheVariants.{Touch as touch_act, Share as share_act}
-use Rattle.place_invariant.specs.act_states.specs.declared.work.Act.TheVariants.{Refill as refill_act}
-use Rattle.place_invariant.specs.act_states.specs.declared.work.Act.TheVariants.{Switch as switch_act}
-use Rattle.place_invariant.specs.act_states.specs.Acts.{ActFits, stamp_of_act}
-use Rattle.place_invariant.specs.core_invariant.specs.Knows.{scanned_for}
-use Rattle.place_invariant.specs.step_ways.proofs.Loads.{is_active}
-use Rattle.place_invariant.specs.step_ways.proofs.Refusals.{GoodTook}
-use Rattle.scan_invariant.proofs.CoreScans.{core_good}
-use Rattle.scan_invariant.proofs.FlushScans.{flush_good}
-use Rattle.place_invariant.proofs.Outside.{refused_outside}
-use Rattle.place_invariant.proofs.Starts.{IsRefusedOutside as RefusedOutside}
-use Rattle.place_invariant.specs.act_states.specs.call_plans.specs.PlanOf.{plan_for}
+use Rattle.place_invariant.proofs.{Outside.refused_outside, Starts.IsRefusedOutside as RefusedOutside}
+use Rattle.scan_invariant.proofs.{CoreScans.core_good, FlushScans.flush_good}
 
 -- What an act that is scanned for knows: the place, with the word that was read there, and that it knows the rest of its act still where
 -- more was scanned; one that is out of range is refused so.

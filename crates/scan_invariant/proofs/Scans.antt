@@ -1,19 +1,16 @@
 -- The scan for a place that is quiescing: a step of it is refused by a core that may still use what was removed, or goes on to the next
 -- core, or to the counts of the act.
-use Rattle.place_invariant.proofs.Common.{AtCore, AtFlush, Quiet, ◌≡◌, ◌≢◌, ◌⊎◌, ℕ, ◌+◌, ◌<◌, ◌≤◌, ◌==◌, nat_lt, if◌then◌else◌, Bool}
-use Rattle.place_invariant.proofs.Common.{true, false, Option, Some, None, inl, inr, arith, refl, sym, ◌∙◌, ap, ◌&&◌, ◌++◌, subst, IsTrue}
-use Rattle.place_invariant.proofs.Common.{List, cases_eq, eq-eqb, eqb-true, ltb-false}
-use Rattle.place_invariant.proofs.Common.{Entry, Place, Free, Holds, Quiescing, Thing, PlaceOf, State, next_other, core_scan}
-use Rattle.place_invariant.proofs.Common.{quiet_scan, list_any, Setting, Slot, Target, reached, same_thing, Rule, Cause, Trace, asked_of}
-use Rattle.place_invariant.proofs.Common.{NextFree, stamp_shown, PlaceIs, IsScanned, MayFill}
-use Rattle.place_invariant.specs.entry_words.specs.declared.entry.Entry.TheVariants as entry
-use Rattle.place_invariant.specs.kernel_history.specs.Justified.{IsRemovedPlace}
-use Rattle.place_invariant.specs.stage_quiet.specs.Scan.{first_other}
-use Rattle.std.specs.Prelude.{◌||◌}
+use Rattle.place_invariant.specs.core_invariant.proofs.{AtCore, AtFlush, Quiet, ◌≡◌, ◌≢◌, ◌⊎◌, ℕ, ◌+◌, ◌<◌, ◌≤◌, ◌==◌, ltb as nat_lt}
+use Rattle.place_invariant.specs.core_invariant.proofs.{if◌then◌else◌, Bool, true, false, Option, Some, None, inl, inr, arith, refl, sym}
+use Rattle.place_invariant.specs.core_invariant.proofs.{◌∙◌, ap, ◌&&◌, ◌++◌, subst, IsTrue, List, eq-eqb, eqb-true, ltb-false, Entry, Place}
+use Rattle.place_invariant.specs.core_invariant.proofs.{Free, Holds, Quiescing, Thing, PlaceOf, State, core_scan, quiet_scan, Setting, Slot}
+use Rattle.place_invariant.specs.core_invariant.proofs.{Target, reached, same_thing, Rule, Cause, Trace, NextFree, stamp_shown, PlaceIs}
+use Rattle.place_invariant.specs.core_invariant.proofs.{IsScanned, MayFill, ◌||◌}
+use Rattle.place_invariant.specs.act_states.specs.{next_other, first_other}
+use Rattle.place_invariant.specs.kernel_history.specs.{Ways.asked_of, Ways.thing_at, Justified.IsRemovedPlace}
+use Rattle.{std.proofs.lemmas.Bool.cases_eq, std.specs.List.list_any, place_invariant.specs.call_plans.specs.GoesBy.OwnPages}
+use Rattle.{place_invariant.specs.call_plans.proofs.AfterNames.Begins}
 use Rattle.place_invariant.specs.kernel_rules.specs.Rules as rules
-use Rattle.place_invariant.specs.kernel_history.specs.Ways.{thing_at}
-use Rattle.place_invariant.specs.call_plans.specs.GoesBy.{OwnPages}
-use Rattle.place_invariant.specs.call_plans.proofs.AfterNames.{Begins}
 
 -- The cores before the first of a scan, and before the next: all but the one that scans are passed.
 pub before_first : (c d : ℕ) → d < first_other c → d ≢ c → ⊥
@@ -88,35 +85,35 @@ pub record ShowsSince (p : Place) (since x : ℕ) : Type 0 where
   pub drawn : 1 ≤ x
   pub same : since ≡ x
 
-pub since_is : (n : ℕ) (p : Place) (r x : ℕ) (o : Option Entry) → PlaceIs n p r o → o ≡ Some (entry.Quiescing x) → ShowsSince p r x
+pub since_is : (n : ℕ) (p : Place) (r x : ℕ) (o : Option Entry) → PlaceIs n p r o → o ≡ Some (Entry.Quiescing x) → ShowsSince p r x
 since_is n Free r x o is shows = absurd (not_free (sym is ∙ shows))
   where
-    not_free : Some entry.Free ≡ Some (entry.Quiescing x) → ⊥
+    not_free : Some Entry.Free ≡ Some (Entry.Quiescing x) → ⊥
     not_free h = cc
 since_is n (Holds k) r x o is shows = absurd (not_held (sym is.0 ∙ shows))
   where
-    not_held : Some (entry.Held k) ≡ Some (entry.Quiescing x) → ⊥
+    not_held : Some (Entry.Held k) ≡ Some (Entry.Quiescing x) → ⊥
     not_held h = cc
 since_is n (Quiescing k) r x o is shows =
     let same : r ≡ x = stamp_same (sym is.says ∙ shows) in record { removed = tt; drawn = (let d = is.drawn in omega arith); same = same }
   where
-    stamp_same : Some (entry.Quiescing r) ≡ Some (entry.Quiescing x) → r ≡ x
+    stamp_same : Some (Entry.Quiescing r) ≡ Some (Entry.Quiescing x) → r ≡ x
     stamp_same h = cc
 
 -- A word that may be filled, and since whose stamp is scanned, says that it is quiescing since then.
 pub record IsScanFor (setup : Setting) (t : Trace) (c : ℕ) (thing : Thing) (x upto : ℕ) (o : Option Entry) : Type 0 where
-  pub shows : o ≡ Some (entry.Quiescing x)
+  pub shows : o ≡ Some (Entry.Quiescing x)
   pub scanned : IsScanned setup t c thing x upto
 
 pub scan_for : (setup : Setting) (t : Trace) (c : ℕ) (thing : Thing) (x upto : ℕ) (o : Option Entry) → stamp_shown o ≡ x → 1 ≤ x
     → MayFill setup t c thing upto o
     → IsScanFor setup t c thing x upto o
 scan_for setup t c thing x upto None is some may = absurd may
-scan_for setup t c thing x upto (Some entry.Free) is some may = absurd (omega arith)
-scan_for setup t c thing x upto (Some (entry.Held k)) is some may = absurd may
-scan_for setup t c thing x upto (Some (entry.Closing by)) is some may = absurd may
-scan_for setup t c thing x upto (Some (entry.Quiescing y)) is some may =
-    record { shows = ap (λ (n : ℕ). Some (entry.Quiescing n)) is; scanned = subst (λ (n : ℕ). IsScanned setup t c thing n upto) is may }
+scan_for setup t c thing x upto (Some Entry.Free) is some may = absurd (omega arith)
+scan_for setup t c thing x upto (Some (Entry.Held k)) is some may = absurd may
+scan_for setup t c thing x upto (Some (Entry.Closing by)) is some may = absurd may
+scan_for setup t c thing x upto (Some (Entry.Quiescing y)) is some may =
+    record { shows = ap (λ (n : ℕ). Some (Entry.Quiescing n)) is; scanned = subst (λ (n : ℕ). IsScanned setup t c thing n upto) is may }
 
 -- A rule whose target is to be free asks for the grace period of the target's place.
 pub asks_for : (of_cause : Cause → List Thing) (s : State) (c : ℕ) (pages : OwnPages) (target : Target) (rule : Rule) (at : Slot)

@@ -1,4 +1,5 @@
 -- What the crates above name through this one.
+pub use Rattle.place_invariant.specs.boot_words
 pub use Rattle.place_invariant.specs.spk_nums
 pub use Rattle.place_invariant.specs.entry_words
 pub use Rattle.place_invariant.specs.frame_words

@@ -1,19 +1,12 @@
 -- The work that the tasks that come before one ask for up to a time.
-use Rattle.std.proofs.Common.{◌≡◌, ◌≢◌, inl, inr, ℕ, zero, suc, ◌+◌, ◌*◌, ◌-◌, ◌<◌, ◌≤◌, Bool, true, false, not, ◌&&◌, ◌==◌}
-use Rattle.std.proofs.Common.{refl, sym, ◌∙◌, ap, subst, arith, mul-le-mul_right, zero-mul}
-use Rattle.std.proofs.Common.{nat_le, nat_lt, if◌then◌else◌, List, [], ◌∷◌, map, Option, Some, None, slice_set}
-use Rattle.std.specs.Prelude.{slice_get, IfSome}
-use Rattle.std.specs.Int.{div_ceil}
-use Rattle.std.proofs.lemmas.Bool.{cases_lt, ltb-true, leb-true, eqb-true, eq-eqb, ne_eqb, or_cases, and_parts, and_from, false≢true}
-use Rattle.std.proofs.lemmas.Grind.{div_ceil_times}
-use Rattle.sched_rules.specs.declared.tasks.Task.{Task}
-use Rattle.sched_rules.specs.declared.tasks.Job.{Job}
-use Rattle.sched_rules.specs.Schedule.{PeriodFits, TaskFits, job_after, next_of, begun}
-use Rattle.sched_laws.specs.Least.{ComesFirst}
-use Rattle.sched_laws.specs.Response.{is_not_after}
-use Rattle.sched_laws.specs.Periods.{jobs_in, is_above, work_above}
-use Rattle.sched_laws.proofs.Jobs.{the_job, times_next}
-use Rattle.sched_laws.proofs.Weights.{first_not_after}
+use Rattle.sched_laws.proofs.Common.{◌≡◌, ◌≢◌, inl, inr, ℕ, zero, suc, ◌+◌, ◌*◌, ◌-◌, ◌<◌, ◌≤◌, Bool, true, false, not, ◌&&◌, ◌==◌, refl}
+use Rattle.sched_laws.proofs.Common.{sym, ◌∙◌, ap, subst, arith, mul-le-mul_right, zero-mul, nat_le, nat_lt, if◌then◌else◌, List, [], ◌∷◌}
+use Rattle.sched_laws.proofs.Common.{map, Option, Some, None, slice_set, slice_get, IfSome, div_ceil, cases_lt, ltb-true, leb-true}
+use Rattle.sched_laws.proofs.Common.{eqb-true, eq-eqb, ne_eqb, or_cases, and_parts, and_from, false≢true, div_ceil_times, Task, Job}
+use Rattle.sched_laws.proofs.Common.{PeriodFits, TaskFits, job_after, next_of, begun}
+use Rattle.sched_laws.specs.{ComesFirst, is_not_after, is_above, work_above}
+use Rattle.sched_laws.specs.Periods.{jobs_in}
+use Rattle.sched_laws.proofs.{Jobs.the_job, Jobs.times_next, Weights.first_not_after}
 
 -- ---- rounding up
 

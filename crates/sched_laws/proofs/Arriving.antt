@@ -1,14 +1,8 @@
 -- The next arrival, and that no task becomes ready before it.
-use Rattle.std.proofs.Common.{◌≡◌, inl, inr, ℕ, zero, suc, ◌+◌, ◌<◌, ◌≤◌, Bool, true, false, not, ◌&&◌, refl, sym}
-use Rattle.std.proofs.Common.{◌∙◌, ap, subst, arith}
-use Rattle.std.proofs.Common.{nat_le, nat_lt, if◌then◌else◌, List, [], ◌∷◌, Option, Some, None}
-use Rattle.std.specs.Prelude.{slice_get}
-use Rattle.std.proofs.lemmas.Bool.{leb-true, ltb-true, le-leb, lt-leb, lt-ltb}
-use Rattle.std.proofs.lemmas.Bool.{and_parts, and_from, cases_lt, false≢true}
-use Rattle.kernel_rules.specs.State.{State}
-use Rattle.sched_rules.specs.declared.tasks.Rule.{Rule}
-use Rattle.sched_rules.specs.declared.tasks.Job.{Job}
-use Rattle.sched_rules.specs.Schedule.{reach, time_of, is_due, ready, later, sooner, next_arrival, cut_at}
+use Rattle.sched_laws.proofs.Common.{◌≡◌, inl, inr, ℕ, zero, suc, ◌+◌, ◌<◌, ◌≤◌, Bool, true, false, not, ◌&&◌, refl, sym, ◌∙◌, ap, subst}
+use Rattle.sched_laws.proofs.Common.{arith, nat_le, nat_lt, if◌then◌else◌, List, [], ◌∷◌, Option, Some, None, slice_get, leb-true, ltb-true}
+use Rattle.sched_laws.proofs.Common.{le-leb, lt-leb, lt-ltb, and_parts, and_from, cases_lt, false≢true, State, Rule, Job, reach, time_of}
+use Rattle.sched_laws.proofs.Common.{is_due, ready, later, sooner, next_arrival, cut_at}
 
 -- A time is before the next arrival, if one comes.
 abbrev pub IsBefore : ℕ → Option ℕ → Type 0

@@ -1,29 +1,15 @@
 -- The response bound, turn by turn.
-use Rattle.std.proofs.Common.{◌≡◌, ◌≢◌, inl, inr, ℕ, zero, suc, ◌+◌, ◌-◌, ◌<◌, ◌≤◌, min, Bool, true, false, not, ◌&&◌, ◌==◌, refl, sym}
-use Rattle.std.proofs.Common.{◌∙◌, ap, subst, arith}
-use Rattle.std.proofs.Common.{if◌then◌else◌, List, [], ◌∷◌, map, Option, Some, None, slice_set, IsSome}
-use Rattle.std.specs.Prelude.{slice_get, option_map}
-use Rattle.std.proofs.lemmas.Bool.{cases_lt, cases_eq, eq-eqb, ne_eqb, false≢true}
-use Rattle.std.proofs.lemmas.Option.{slice_get-map}
-use Rattle.spk_nums.specs.declared.replies.Reply.{Reply}
-use Rattle.sched_rules.specs.declared.tasks.Task.{Task}
-use Rattle.sched_rules.specs.declared.tasks.Rule.{Rule}
-use Rattle.sched_rules.specs.declared.tasks.Job.{Job}
-use Rattle.sched_rules.specs.declared.tasks.Ready.{Ready}
-use Rattle.sched_rules.specs.declared.tasks.Choice.{Choice}
-use Rattle.sched_rules.specs.declared.tasks.Renewal.{Renewal}
-use Rattle.sched_rules.specs.declared.turns.Turn.TheVariants.{Ran, Refused}
-use Rattle.sched_rules.specs.Schedule.{Progress, Step, ready, next_arrival, length_of, turn_of, new_job, at_first, has_come, renewal}
-use Rattle.sched_rules.specs.Schedule.{job_after}
-use Rattle.sched_rules.specs.Schedule.{IsSchedule, turns_of}
-use Rattle.sched_rules.specs.Texts.{ran_in, ran_by}
-use Rattle.sched_laws.specs.Response.{Throughout, HasNumbers, IsSupplied, NeverRefused, is_not_after, work_not_after}
-use Rattle.sched_laws.specs.Response.{TurnsEndBy, ResponseBound}
-use Rattle.sched_laws.proofs.Picks.{best, none_ready, place_of, first_of_all}
-use Rattle.sched_laws.proofs.Arriving.{IsBefore, cut_most, cut_by, not_before, due_is, due_tells}
-use Rattle.sched_laws.proofs.Readiness.{ready_tells}
-use Rattle.sched_laws.proofs.Turns.{Way, Runs, Refuses, Idles, Begins, Lacks, RunsOne, RefusesOne, IdlesOn, way, ends}
-use Rattle.sched_laws.proofs.Weights.{left_not_after, all_left, left_falls, not_after_itself, first_not_after, set_here, set_apart}
+use Rattle.sched_laws.proofs as low
+use low.Common.{◌≡◌, ◌≢◌, inl, inr, ℕ, zero, suc, ◌+◌, ◌-◌, ◌<◌, ◌≤◌, min, Bool, true, false, not, ◌&&◌, ◌==◌, refl, sym, ◌∙◌, ap, subst}
+use low.Common.{arith, if◌then◌else◌, List, [], ◌∷◌, map, Option, Some, None, slice_set, IsSome, slice_get, option_map, cases_lt, cases_eq}
+use low.Common.{eq-eqb, ne_eqb, false≢true, slice_get-map, Reply, Task, Rule, Job, Ready, Choice, Renewal, Ran, Refused, Progress, Step}
+use low.Common.{ready, next_arrival, length_of, turn_of, new_job, at_first, has_come, renewal, job_after, IsSchedule, turns_of, ran_in}
+use Rattle.sched_laws.specs.{Throughout, HasNumbers, IsSupplied, NeverRefused, is_not_after}
+use low.Arriving.{IsBefore, cut_most, cut_by, not_before, due_is, due_tells}
+use low.Turns.{Way, Runs, Refuses, Idles, Begins, Lacks, RunsOne, RefusesOne, IdlesOn, way, ends}
+use low.Weights.{left_not_after, all_left, left_falls, not_after_itself, first_not_after, set_here, set_apart}
+use low.{Common.ran_by, Picks.best, Picks.none_ready, Picks.place_of, Picks.first_of_all, Readiness.ready_tells}
+use Rattle.{sched_laws.specs.Response.work_not_after, sched_laws.specs.Response.TurnsEndBy, sched_laws.specs.Response.ResponseBound}
 
 same_job : (x y : Job) → Some x ≡ Some y → x ≡ y
 same_job x y e = cc

@@ -1,27 +1,13 @@
 -- What the calls `switch` and `tick` of core 0, made alone, do to budgets and to what the core has spent, has had back, and owes.
-use Rattle.std.proofs.Common.{◌≡◌, ◌≢◌, ℕ, ◌+◌, ◌-◌, ◌<◌, ◌≤◌, Bool, true, false, ◌==◌, refl, sym, ◌∙◌, ap, subst, arith}
-use Rattle.std.proofs.Common.{if◌then◌else◌, Option, Some, None}
-use Rattle.std.specs.Option.{option_and_then}
-use Rattle.std.proofs.lemmas.Bool.{eqb-true, eq-eqb, ne_eqb, false≢true, true≢false}
-use Rattle.spk_nums.specs.Capability.{Capability}
-use Rattle.spk_nums.specs.Rights.{has_rights}
-use Rattle.spk_nums.specs.declared.kinds.Kind.TheVariants as kind
-use Rattle.spk_nums.specs.declared.calls.Call.{Call}
-use Rattle.spk_nums.specs.declared.calls.Call.TheVariants.{Switch, Tick}
-use Rattle.spk_nums.specs.declared.replies.Reply.{Reply}
-use Rattle.spk_nums.specs.declared.replies.Reply.TheVariants as reply
-use Rattle.kernel_rules.specs.State.{ThreadFields, TcapFields, Frame, Kernel, Thread, Tcap, State, tcap_in, thread_in, put}
-use Rattle.kernel_rules.specs.Access.{Slot, Want, only, to_use, usable, reached, own, found}
-use Rattle.kernel_rules.specs.GracePeriods.{entered, returned}
-use Rattle.kernel_rules.specs.Life.{acts}
-use Rattle.kernel_rules.specs.Rules.{Change, Judged, Refused, Found, named, of_kind, with_rights, and_then, or_refuse, outcome}
-use Rattle.kernel_rules.specs.InvocationCalls.{switch_to, switch_rule}
-use Rattle.kernel_rules.specs.Edits.{with_thread, running, switched, tcap_at, with_tcap, charge}
-use Rattle.kernel_rules.specs.CallRelation.{are_calls_spent, change_of, changed, counted, state_by}
-use Rattle.kernel_rules.specs.Alone.{reply_in, first_reply, plain_reply}
-use Rattle.kernel_rules.proofs.Changes.{IfFound, AllChanges, outcome_all}
-use Rattle.sched_rules.specs.Schedule.{reach, reply_to, state_past, is_done}
-use Rattle.sched_laws.specs.Charging.{Charges}
+use Rattle.sched_laws.proofs.Common.{◌≡◌, ◌≢◌, ℕ, ◌+◌, ◌-◌, ◌<◌, ◌≤◌, Bool, true, false, ◌==◌, refl, sym, ◌∙◌, ap, subst, arith}
+use Rattle.sched_laws.proofs.Common.{if◌then◌else◌, Option, Some, None, option_and_then, eqb-true, eq-eqb, ne_eqb, false≢true, true≢false}
+use Rattle.sched_laws.proofs.Common.{Capability, has_rights, Call, Switch, Tick, Reply, ThreadFields, TcapFields, Frame, Kernel, Thread}
+use Rattle.sched_laws.proofs.Common.{Tcap, State, tcap_in, thread_in, put, Slot, Want, only, to_use, usable, reached, own, found, entered}
+use Rattle.sched_laws.proofs.Common.{returned, acts, Change, Judged, Found, named, of_kind, with_rights, and_then, or_refuse, outcome}
+use Rattle.sched_laws.proofs.Common.{switch_to, switch_rule, with_thread, running, switched, tcap_at, with_tcap, charge, are_calls_spent}
+use Rattle.sched_laws.proofs.Common.{change_of, changed, counted, state_by, reply_in, first_reply, plain_reply, IfFound, AllChanges}
+use Rattle.sched_laws.proofs.Common.{outcome_all, reach, reply_to, state_past, is_done, Kind}
+use Rattle.{sched_rules.specs.kernel_rules.specs.Rules.Refused, sched_laws.specs.Charging.Charges}
 
 -- ---- frames
 
@@ -77,12 +63,12 @@ found_keeps s (Found change) h = record { budgets = h.budgets; spent = h.spent; 
 
 -- Whatever the reply.
 by_reply : (s : State) (h q : ℕ) (r : Reply) → Keeps s (state_by s 0 (Switch h q) r)
-by_reply s h q (reply.Ok v) =
+by_reply s h q (Reply.Ok v) =
     let k = found_keeps s (change_of s 0 (Switch h q)) (change_keeps s h q) in
     record { budgets = k.budgets; spent = k.spent; back = k.back; owed = k.owed }
-by_reply s h q reply.CallsSpent = same_keeps s
-by_reply s h q reply.Raced = record { budgets = λ g. refl; spent = refl; back = refl; owed = refl }
-by_reply s h q (reply.Busy d) = record { budgets = λ g. refl; spent = refl; back = refl; owed = refl }
+by_reply s h q Reply.CallsSpent = same_keeps s
+by_reply s h q Reply.Raced = record { budgets = λ g. refl; spent = refl; back = refl; owed = refl }
+by_reply s h q (Reply.Busy d) = record { budgets = λ g. refl; spent = refl; back = refl; owed = refl }
 by_reply s h q _ = record { budgets = λ g. refl; spent = refl; back = refl; owed = refl }
 
 pub switch_keeps : (s : State) (h q : ℕ) → Keeps s (state_past s (Switch h q))
@@ -96,12 +82,12 @@ named_is : (s : State) (n : ℕ) (want : Want) (k : Capability) → reach s 0 n 
 unfolding reach
 named_is s n want k e = by_slot (reached s 0 (own s 0 n)) e
   where
-    by_cap : (o : Option Capability) → o ≡ Some k → and_then (or_refuse o reply.Empty) (of_kind want) ≡ of_kind want k
+    by_cap : (o : Option Capability) → o ≡ Some k → and_then (or_refuse o Reply.Empty) (of_kind want) ≡ of_kind want k
     by_cap None e = absurd (cc)
     by_cap (Some j) e = let same : j ≡ k = cc in ap (of_kind want) same
 
     by_slot : (o : Option Slot) → option_and_then (usable s 0) o ≡ Some k
-        → and_then (or_refuse o reply.NoSlot) (λ at. and_then (or_refuse (usable s 0 at) reply.Empty) (of_kind want)) ≡ of_kind want k
+        → and_then (or_refuse o Reply.NoSlot) (λ at. and_then (or_refuse (usable s 0 at) Reply.Empty) (of_kind want)) ≡ of_kind want k
     by_slot None e = absurd (cc)
     by_slot (Some at) e = by_cap (usable s 0 at) e
 
@@ -109,11 +95,11 @@ named_is s n want k e = by_slot (reached s 0 (own s 0 n)) e
 kind_found : (want : Want) (k j : Capability) → of_kind want k ≡ Found j → j ≡ k
 kind_found want k j e = by_kind (want.kinds k.kind) e
   where
-    by_right : (b : Bool) → (if b then Found k else Refused reply.NoRight) ≡ Found j → j ≡ k
+    by_right : (b : Bool) → (if b then Found k else Refused Reply.NoRight) ≡ Found j → j ≡ k
     by_right true e = cc
     by_right false e = absurd (cc)
 
-    by_kind : (b : Bool) → (if b then with_rights want.needs k else Refused reply.WrongCap) ≡ Found j → j ≡ k
+    by_kind : (b : Bool) → (if b then with_rights want.needs k else Refused Reply.WrongCap) ≡ Found j → j ≡ k
     by_kind true e = by_right (has_rights k.rights want.needs) e
     by_kind false e = absurd (cc)
 
@@ -124,22 +110,22 @@ name_refused s n want r e = by_slot (reached s 0 (own s 0 n)) e
     done_not : (p : Reply) → is_done p ≡ false → (let j : Judged Capability = Refused p in j ≡ Refused r) → is_done r ≡ false
     done_not p off e = let same : p ≡ r = cc in subst (λ x. is_done x ≡ false) same off
 
-    by_right : (k : Capability) (b : Bool) → (if b then Found k else Refused reply.NoRight) ≡ Refused r → is_done r ≡ false
+    by_right : (k : Capability) (b : Bool) → (if b then Found k else Refused Reply.NoRight) ≡ Refused r → is_done r ≡ false
     by_right k true e = absurd (cc)
-    by_right k false e = done_not reply.NoRight refl e
+    by_right k false e = done_not Reply.NoRight refl e
 
-    by_kind : (k : Capability) (b : Bool) → (if b then with_rights want.needs k else Refused reply.WrongCap) ≡ Refused r → is_done r ≡ false
+    by_kind : (k : Capability) (b : Bool) → (if b then with_rights want.needs k else Refused Reply.WrongCap) ≡ Refused r → is_done r ≡ false
     by_kind k true e = by_right k (has_rights k.rights want.needs) e
-    by_kind k false e = done_not reply.WrongCap refl e
+    by_kind k false e = done_not Reply.WrongCap refl e
 
-    by_cap : (o : Option Capability) → and_then (or_refuse o reply.Empty) (of_kind want) ≡ Refused r → is_done r ≡ false
-    by_cap None e = done_not reply.Empty refl e
+    by_cap : (o : Option Capability) → and_then (or_refuse o Reply.Empty) (of_kind want) ≡ Refused r → is_done r ≡ false
+    by_cap None e = done_not Reply.Empty refl e
     by_cap (Some k) e = by_kind k (want.kinds k.kind) e
 
     by_slot : (o : Option Slot)
-        → and_then (or_refuse o reply.NoSlot) (λ at. and_then (or_refuse (usable s 0 at) reply.Empty) (of_kind want)) ≡ Refused r
+        → and_then (or_refuse o Reply.NoSlot) (λ at. and_then (or_refuse (usable s 0 at) Reply.Empty) (of_kind want)) ≡ Refused r
         → is_done r ≡ false
-    by_slot None e = done_not reply.NoSlot refl e
+    by_slot None e = done_not Reply.NoSlot refl e
     by_slot (Some at) e = by_cap (usable s 0 at) e
 
 -- The core's temporal capability after what is judged, where it is carried out.
@@ -147,28 +133,28 @@ abbrev Sets : State → ℕ → Judged Change → Type 0
 Sets s f j = is_done (reply_in j) ≡ true → ((changed s j).core 0).tcap ≡ f
 
 judged_sets : (s : State) (h q : ℕ) (k : Capability) → reach s 0 q ≡ Some k → Sets s k.frame (change_of s 0 (Switch h q))
-judged_sets s h q k at = by_thread (named s 0 h (to_use (only kind.Thread))) refl
+judged_sets s h q k at = by_thread (named s 0 h (to_use (only Kind.Thread))) refl
   where
     by_runner : (t l : Capability) → l ≡ k → (o : Option ℕ) → Sets s k.frame (outcome s 0 (switch_to (found t) l.frame o))
     by_runner t l same None done = ap (λ (x : Capability). x.frame) same
     by_runner t l same (Some e) done = absurd (false≢true done)
 
-    by_tcap : (t : Capability) (x : Judged Capability) → named s 0 q (to_use (only kind.Tcap)) ≡ x
+    by_tcap : (t : Capability) (x : Judged Capability) → named s 0 q (to_use (only Kind.Tcap)) ≡ x
         → Sets s k.frame (and_then x (λ l. outcome s 0 (switch_to (found t) l.frame (thread_in (s.frame t.frame)).runs_on)))
-    by_tcap t (Refused r) is done = absurd (false≢true (sym (name_refused s q (to_use (only kind.Tcap)) r is) ∙ done))
+    by_tcap t (Refused r) is done = absurd (false≢true (sym (name_refused s q (to_use (only Kind.Tcap)) r is) ∙ done))
     by_tcap t (Found l) is done = by_runner t l
-        (kind_found (to_use (only kind.Tcap)) k l (sym (named_is s q (to_use (only kind.Tcap)) k at) ∙ is))
+        (kind_found (to_use (only Kind.Tcap)) k l (sym (named_is s q (to_use (only Kind.Tcap)) k at) ∙ is))
         (thread_in (s.frame t.frame)).runs_on done
 
-    by_thread : (x : Judged Capability) → named s 0 h (to_use (only kind.Thread)) ≡ x
-        → Sets s k.frame (and_then x (λ t. and_then (named s 0 q (to_use (only kind.Tcap)))
+    by_thread : (x : Judged Capability) → named s 0 h (to_use (only Kind.Thread)) ≡ x
+        → Sets s k.frame (and_then x (λ t. and_then (named s 0 q (to_use (only Kind.Tcap)))
         (λ l. outcome s 0 (switch_to (found t) l.frame (thread_in (s.frame t.frame)).runs_on))))
-    by_thread (Refused r) is done = absurd (false≢true (sym (name_refused s h (to_use (only kind.Thread)) r is) ∙ done))
-    by_thread (Found t) is done = by_tcap t (named s 0 q (to_use (only kind.Tcap))) refl done
+    by_thread (Refused r) is done = absurd (false≢true (sym (name_refused s h (to_use (only Kind.Thread)) r is) ∙ done))
+    by_thread (Found t) is done = by_tcap t (named s 0 q (to_use (only Kind.Tcap))) refl done
 
 pub done_value : (r : Reply) → is_done r ≡ true → (s : State) (call : Call)
     → state_by s 0 call r ≡ counted (changed s (change_of s 0 call)) 0
-done_value (reply.Ok v) done s call = refl
+done_value (Reply.Ok v) done s call = refl
 done_value _ done s call = absurd (false≢true done)
 
 -- A `switch` that is carried out puts the core on the temporal capability that its name reaches.
@@ -182,11 +168,11 @@ switch_sets s h q k at done =
     judged : Reply
     judged = reply_in (change_of (entered s 0) 0 (Switch h q))
 
-    by_life : (b : Bool) → is_done (if b then judged else reply.Dead) ≡ true → is_done judged ≡ true
+    by_life : (b : Bool) → is_done (if b then judged else Reply.Dead) ≡ true → is_done judged ≡ true
     by_life true e = e
     by_life false e = absurd (false≢true e)
 
-    by_spent : (b : Bool) → is_done (if b then reply.CallsSpent else first_reply (entered s 0) 0 (Switch h q)) ≡ true
+    by_spent : (b : Bool) → is_done (if b then Reply.CallsSpent else first_reply (entered s 0) 0 (Switch h q)) ≡ true
         → is_done judged ≡ true
     by_spent true e = absurd (false≢true e)
     by_spent false e = by_life (acts (entered s 0) 0 (Switch h q)) e
@@ -232,7 +218,7 @@ pub tick_keeps : (s : State) (u : ℕ) → is_done (reply_to s (Tick u)) ≡ fal
 unfolding reply_to state_past
 tick_keeps s u off = by_spent (are_calls_spent (entered s 0) 0) off
   where
-    by_spent : (b : Bool) → is_done (if b then reply.CallsSpent else first_reply (entered s 0) 0 (Tick u)) ≡ false
-        → Keeps s (returned (state_by (entered s 0) 0 (Tick u) (if b then reply.CallsSpent else first_reply (entered s 0) 0 (Tick u))) 0)
+    by_spent : (b : Bool) → is_done (if b then Reply.CallsSpent else first_reply (entered s 0) 0 (Tick u)) ≡ false
+        → Keeps s (returned (state_by (entered s 0) 0 (Tick u) (if b then Reply.CallsSpent else first_reply (entered s 0) 0 (Tick u))) 0)
     by_spent true e = record { budgets = λ g. refl; spent = refl; back = refl; owed = refl }
     by_spent false e = absurd (true≢false e)

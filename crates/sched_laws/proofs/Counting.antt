@@ -1,12 +1,7 @@
 -- What a task with a period has run by a time, where each of its jobs is done within so many ticks.
-use Rattle.std.proofs.Common.{◌≡◌, inl, inr, ℕ, ◌+◌, ◌*◌, ◌-◌, ◌<◌, ◌≤◌, min, Bool, true, false, ◌==◌}
-use Rattle.std.proofs.Common.{refl, ◌∙◌, ap, subst, arith, mul-le-mul_right, mul-zero}
-use Rattle.std.proofs.Common.{if◌then◌else◌, List, [], ◌∷◌, Some}
-use Rattle.std.proofs.lemmas.Bool.{cases_lt}
-use Rattle.sched_rules.specs.declared.tasks.Task.{Task}
-use Rattle.sched_rules.specs.declared.tasks.Rule.{Rule}
-use Rattle.sched_rules.specs.Schedule.{Progress, Step, length_of, turn_of, turns_of, IsSchedule}
-use Rattle.sched_rules.specs.Texts.{ran_in, come_in}
+use Rattle.sched_laws.proofs.Common.{◌≡◌, inl, inr, ℕ, ◌+◌, ◌*◌, ◌-◌, ◌<◌, ◌≤◌, min, Bool, true, false, ◌==◌, refl, ◌∙◌, ap, subst, arith}
+use Rattle.sched_laws.proofs.Common.{mul-le-mul_right, mul-zero, if◌then◌else◌, List, [], ◌∷◌, Some, cases_lt, Task, Rule, Progress, Step}
+use Rattle.sched_laws.proofs.Common.{length_of, turn_of, turns_of, IsSchedule, ran_in, come_in}
 use Rattle.sched_laws.specs.Periods.{ran_before, ran_until}
 use Rattle.sched_laws.proofs.Turns.{Way, Runs, Refuses, Idles, Begins, Lacks, way}
 use Rattle.sched_laws.proofs.Jobs.{Follows, idles_on, none_left, times_next}

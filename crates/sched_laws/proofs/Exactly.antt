@@ -1,24 +1,13 @@
 -- The ticks of each turn are exactly those charged, or given back, in it.
-use Rattle.std.proofs.Common.{◌≡◌, ℕ, ◌≤◌, min, Bool, true, false, ◌==◌, refl, ◌∙◌, ap, subst, arith}
-use Rattle.std.proofs.Common.{if◌then◌else◌, List, [], ◌∷◌, ◌++◌, Option, Some, None}
-use Rattle.std.proofs.lemmas.Bool.{eqb-true, and_parts}
-use Rattle.spk_nums.specs.declared.calls.Call.{Call}
-use Rattle.spk_nums.specs.declared.calls.Call.TheVariants.{Tick}
-use Rattle.spk_nums.specs.declared.replies.Reply.{Reply}
-use Rattle.kernel_rules.specs.State.{State}
-use Rattle.kernel_rules.specs.Edits.{tcap_at}
-use Rattle.sched_rules.specs.declared.tasks.Rule.{Rule}
-use Rattle.sched_rules.specs.declared.tasks.Choice.{Choice}
-use Rattle.sched_rules.specs.declared.tasks.Renewal.{Renewal}
-use Rattle.sched_rules.specs.Schedule.{Progress, Step, chosen, next_arrival, length_of, reply_to, state_past, is_done, is_place}
-use Rattle.sched_rules.specs.Schedule.{refused, ran, ticks, switches, switch_for, goes_on, runs, idles, turn_by, turn_of}
-use Rattle.sched_rules.specs.Schedule.{renewal, put_out, gives_back, renews, replenish_for, turn_for}
+use Rattle.sched_laws.proofs.Common.{◌≡◌, ℕ, ◌≤◌, min, Bool, true, false, ◌==◌, refl, ◌∙◌, ap, subst, arith, if◌then◌else◌, List, [], ◌∷◌}
+use Rattle.sched_laws.proofs.Common.{◌++◌, Option, Some, None, eqb-true, and_parts, Call, Tick, Reply, State, tcap_at, Rule, Choice}
+use Rattle.sched_laws.proofs.Common.{Renewal, Progress, Step, chosen, next_arrival, length_of, reply_to, state_past, is_done, is_place}
+use Rattle.sched_laws.proofs.Common.{refused, ran, ticks, switches, switch_for, goes_on, runs, idles, turn_by, turn_of, renewal, put_out}
+use Rattle.sched_laws.proofs.Common.{gives_back, renews, replenish_for, turn_for}
 use Rattle.sched_laws.specs.Charging.{Charges, ChargesNothing, TurnCharges, ExactTicks}
-use Rattle.sched_laws.proofs.Picks.{best}
-use Rattle.sched_laws.proofs.Arriving.{cut_most}
-use Rattle.sched_laws.proofs.Readiness.{IsReady, ready_tells}
-use Rattle.sched_laws.proofs.Charging.{Keeps, same_keeps, switch_keeps, switch_sets, tick_charges, tick_keeps}
-use Rattle.sched_laws.proofs.Restoring.{replenish_keeps, replenish_restores}
+use Rattle.sched_laws.proofs.{Picks.best, Arriving.cut_most, Readiness.IsReady, Readiness.ready_tells, Charging.Keeps, Charging.same_keeps}
+use Rattle.sched_laws.proofs.{Charging.switch_keeps, Charging.switch_sets, Charging.tick_charges, Charging.tick_keeps}
+use Rattle.sched_laws.proofs.{Restoring.replenish_keeps, Restoring.replenish_restores}
 
 -- A turn charges exactly, and leaves nothing owed.
 record Turn_exact (rule : Rule) (x : Progress) (step : Step) : Type 0 where

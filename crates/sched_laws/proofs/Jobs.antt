@@ -1,27 +1,14 @@
 -- The jobs of a task with a period, as they arrive.
-use Rattle.std.proofs.Common.{◌≡◌, ◌≢◌, inl, inr, ℕ, zero, suc, ◌+◌, ◌*◌, ◌-◌, ◌<◌, ◌≤◌, min, Bool, true, false, not, ◌&&◌}
-use Rattle.std.proofs.Common.{refl, sym, ◌∙◌, ap, subst, arith, suc-mul, one-mul}
-use Rattle.std.proofs.Common.{nat_le, nat_lt, if◌then◌else◌, List, [], ◌∷◌, Option, Some, None, slice_set}
-use Rattle.std.specs.Prelude.{slice_get, option_map}
-use Rattle.std.proofs.lemmas.Bool.{cases_lt, cases_eq, eq-eqb, ne_eqb, leb-true, le-leb, lt-leb, le-ltb, and_parts, false≢true}
-use Rattle.std.proofs.lemmas.Option.{slice_get-map}
-use Rattle.spk_nums.specs.declared.replies.Reply.{Reply}
-use Rattle.kernel_rules.specs.State.{State}
-use Rattle.sched_rules.specs.declared.tasks.Task.{Task}
-use Rattle.sched_rules.specs.declared.tasks.Rule.{Rule}
-use Rattle.sched_rules.specs.declared.tasks.Job.{Job}
-use Rattle.sched_rules.specs.declared.tasks.Choice.{Choice}
-use Rattle.sched_rules.specs.declared.tasks.Renewal.{Renewal}
-use Rattle.sched_rules.specs.declared.turns.Turn.TheVariants.{Ran, Back, Refused}
-use Rattle.sched_rules.specs.Schedule.{Progress, Step, later, sooner, next_arrival, length_of, turn_of, within_last, job_after, next_of}
-use Rattle.sched_rules.specs.Schedule.{has_come, is_renewed, renewal, begun, ran, refused, gives_back, put_out, replenish_for}
-use Rattle.sched_rules.specs.Schedule.{new_job, at_first}
-use Rattle.sched_rules.specs.Texts.{ran_in, come_in}
-use Rattle.sched_laws.proofs.Picks.{place_of}
-use Rattle.sched_laws.proofs.Arriving.{IsBefore, before_each, later_is, cut_by, not_before}
-use Rattle.sched_laws.proofs.Turns.{Way, Runs, Refuses, Idles, Begins, Lacks, RunsOne, IdlesOn, BeginsOne, way, come_at}
-use Rattle.sched_laws.proofs.Weights.{set_here, set_apart}
-use Rattle.sched_laws.proofs.Bound.{length_most}
+use Rattle.sched_laws.proofs as low
+use low.Common.{◌≡◌, ◌≢◌, inl, inr, ℕ, zero, suc, ◌+◌, ◌*◌, ◌-◌, ◌<◌, ◌≤◌, min, Bool, true, false, not, ◌&&◌, refl, sym, ◌∙◌, ap, subst}
+use low.Common.{arith, suc-mul, one-mul, nat_le, nat_lt, if◌then◌else◌, List, [], ◌∷◌, Option, Some, None, slice_set, slice_get, option_map}
+use low.Common.{cases_lt, cases_eq, eq-eqb, ne_eqb, leb-true, le-leb, lt-leb, le-ltb, and_parts, false≢true, slice_get-map, Reply, State}
+use low.Common.{Task, Rule, Job, Choice, Renewal, Ran, Back, Refused, Progress, Step, later, sooner, next_arrival, length_of, turn_of}
+use low.Common.{within_last, job_after, next_of, has_come, is_renewed, renewal, begun, ran, refused, gives_back, put_out, replenish_for}
+use low.Common.{new_job, at_first, ran_in, come_in}
+use low.{Picks.place_of, Arriving.IsBefore, Arriving.before_each, Arriving.later_is, Arriving.cut_by, Arriving.not_before, Turns.Way}
+use low.{Turns.Runs, Turns.Refuses, Turns.Idles, Turns.Begins, Turns.Lacks, Turns.RunsOne, Turns.IdlesOn, Turns.BeginsOne, Turns.way}
+use low.{Turns.come_at, Weights.set_here, Weights.set_apart, Bound.length_most}
 
 pub the_job : (a b : Job) → Some a ≡ Some b → a ≡ b
 the_job a b e = cc

@@ -1,3 +1,5 @@
+-- The names that most files use.
+pub mod Common
 pub mod Picks
 pub mod Arriving
 pub mod Readiness
@@ -21,3 +23,5 @@ pub mod Lists
 pub mod Returning
 pub mod Supplying
 pub mod Sufficing
+-- The names that are used most outside of this library.
+pub use Rattle.sched_laws.proofs.{Picks.place_of, Turns.come_at}

@@ -1,37 +1,20 @@
 -- No turn changes where temporal capabilities are, nor their lists.
-use Rattle.std.proofs.Common.{◌≡◌, ℕ, ◌+◌, ◌-◌, Bool, true, false, ◌==◌, refl, sym, ◌∙◌, subst}
-use Rattle.std.proofs.Common.{if◌then◌else◌, List, [], ◌∷◌, ◌++◌, Option, Some, None}
-use Rattle.std.proofs.lemmas.Bool.{eqb-true}
-use Rattle.spk_nums.specs.Capability.{Capability}
-use Rattle.spk_nums.specs.declared.kinds.Kind.TheVariants as kind
-use Rattle.spk_nums.specs.declared.calls.Call.{Call}
-use Rattle.spk_nums.specs.declared.calls.Call.TheVariants.{Switch, Tick, Replenish}
-use Rattle.spk_nums.specs.declared.replies.Reply.{Reply}
-use Rattle.spk_nums.specs.declared.replies.Reply.TheVariants as reply
-use Rattle.kernel_rules.specs.State.{ThreadFields, TcapFields, Frame, Kernel, Thread, Tcap, State, tcap_in, thread_in, put}
-use Rattle.kernel_rules.specs.Access.{found}
-use Rattle.kernel_rules.specs.GracePeriods.{entered}
-use Rattle.kernel_rules.specs.Rules.{Change, Judged, Refused, Found}
-use Rattle.kernel_rules.specs.Fitting.{fits}
-use Rattle.kernel_rules.specs.InvocationCalls.{switch_to, switch_rule}
-use Rattle.kernel_rules.specs.TimeCalls.{tick_rule, replenish_rule}
-use Rattle.kernel_rules.specs.Edits.{with_thread, running, switched, tcap_at, with_tcap, with_budget, charge}
-use Rattle.kernel_rules.specs.CallRelation.{change_of, changed, owed_by, state_by}
-use Rattle.kernel_rules.specs.Alone.{plain_reply}
-use Rattle.kernel_rules.proofs.Changes.{IfFound, AllChanges, outcome_all}
-use Rattle.sched_rules.specs.declared.tasks.Rule.{Rule}
-use Rattle.sched_rules.specs.declared.tasks.Choice.{Choice}
-use Rattle.sched_rules.specs.declared.tasks.Renewal.{Renewal}
-use Rattle.sched_rules.specs.Schedule.{Progress, Step, chosen, next_arrival, length_of, reply_to, state_past, is_done}
-use Rattle.sched_rules.specs.Schedule.{refused, ran, ticks, switches as switches_turn, switch_for, goes_on, runs, idles, turn_by, turn_of}
-use Rattle.sched_rules.specs.Schedule.{renewal, put_out, gives_back, renews, replenish_for, turn_for}
+use Rattle.sched_laws.proofs.Common.{◌≡◌, ℕ, ◌+◌, ◌-◌, Bool, true, false, ◌==◌, refl, sym, ◌∙◌, subst, if◌then◌else◌, List, [], ◌∷◌, ◌++◌}
+use Rattle.sched_laws.proofs.Common.{Option, Some, None, eqb-true, Capability, Call, Switch, Tick, Replenish, Reply, ThreadFields}
+use Rattle.sched_laws.proofs.Common.{TcapFields, Frame, Kernel, Thread, Tcap, State, tcap_in, thread_in, put, found, entered, Change}
+use Rattle.sched_laws.proofs.Common.{Judged, Found, fits, switch_to, switch_rule, tick_rule, replenish_rule, with_thread, running, switched}
+use Rattle.sched_laws.proofs.Common.{tcap_at, with_tcap, with_budget, charge, change_of, changed, owed_by, state_by, plain_reply, IfFound}
+use Rattle.sched_laws.proofs.Common.{AllChanges, outcome_all, Rule, Choice, Renewal, Progress, Step, chosen, next_arrival, length_of}
+use Rattle.sched_laws.proofs.Common.{reply_to, state_past, is_done, refused, ran, ticks, switches as switches_turn, switch_for, goes_on}
+use Rattle.sched_laws.proofs.Common.{runs, idles, turn_by, turn_of, renewal, put_out, gives_back, renews, replenish_for, turn_for, Kind}
+use Rattle.sched_rules.specs.kernel_rules.specs.Rules.{Refused}
 
 -- ---- frames
 
 -- A frame has a temporal capability where the other has one, with the same list.
 pub record Like (x y : Frame) : Type 0 where
   pub list : (tcap_in x).qualities ≡ (tcap_in y).qualities
-  pub kind : fits kind.Tcap x ≡ fits kind.Tcap y
+  pub kind : fits Kind.Tcap x ≡ fits Kind.Tcap y
 
 same_like : (x : Frame) → Like x x
 same_like x = record { list = refl; kind = refl }
@@ -68,14 +51,14 @@ keeps_then s t new a b = record {
 -- What keeps them in the change that a call makes, and in what it owes where it is refused, keeps them in the call.
 by_reply : (s : State) (call : Call) → IfFound (change_of s 0 call) (λ change. Keeps s change.next) → Keeps s (owed_by s 0 call)
     → (r : Reply) → Keeps s (state_by s 0 call r)
-by_reply s call change owed (reply.Ok v) = let k = by_judged (change_of s 0 call) change in record { like = k.like }
+by_reply s call change owed (Reply.Ok v) = let k = by_judged (change_of s 0 call) change in record { like = k.like }
   where
     by_judged : (j : Judged Change) → IfFound j (λ change. Keeps s change.next) → Keeps s (changed s j)
     by_judged (Refused r) h = record { like = λ g. same_like (s.frame g) }
     by_judged (Found c) h = record { like = h.like }
-by_reply s call change owed reply.CallsSpent = keeps_all s
-by_reply s call change owed reply.Raced = record { like = owed.like }
-by_reply s call change owed (reply.Busy d) = record { like = owed.like }
+by_reply s call change owed Reply.CallsSpent = keeps_all s
+by_reply s call change owed Reply.Raced = record { like = owed.like }
+by_reply s call change owed (Reply.Busy d) = record { like = owed.like }
 by_reply s call change owed _ = record { like = λ g. same_like (s.frame g) }
 
 both_like : (t : State) (h q g : ℕ) → Like ((switched t 0 h q).frame g) (t.frame g)

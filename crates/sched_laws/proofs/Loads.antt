@@ -1,31 +1,17 @@
 -- The response bound of tasks with periods, turn by turn: time up to which a task and those above it have what they ask for.
-use Rattle.std.proofs.Common.{◌≡◌, ◌≢◌, inl, inr, ℕ, ◌+◌, ◌*◌, ◌-◌, ◌<◌, ◌≤◌, Bool, true, false}
-use Rattle.std.proofs.Common.{refl, sym, ◌∙◌, ap, subst, arith}
-use Rattle.std.proofs.Common.{if◌then◌else◌, List, [], Option, Some, None, slice_set, IsSome}
-use Rattle.std.specs.Prelude.{slice_get}
-use Rattle.std.proofs.lemmas.Bool.{cases_lt, cases_eq, eq-eqb, ne_eqb, false≢true}
-use Rattle.sched_rules.specs.declared.tasks.Task.{Task}
-use Rattle.sched_rules.specs.declared.tasks.Rule.{Rule}
-use Rattle.sched_rules.specs.declared.tasks.Job.{Job}
-use Rattle.sched_rules.specs.declared.tasks.Ready.{Ready}
-use Rattle.sched_rules.specs.declared.tasks.Choice.{Choice}
-use Rattle.sched_rules.specs.declared.tasks.Renewal.{Renewal}
-use Rattle.sched_rules.specs.declared.turns.Turn.TheVariants.{Ran, Idle, Back}
-use Rattle.sched_rules.specs.Schedule.{Progress, Step, TaskFits, is_due, ready, chosen, next_arrival, length_of, turn_of, begun}
-use Rattle.sched_rules.specs.Schedule.{ran, refused, gives_back, put_out, replenish_for}
-use Rattle.sched_rules.specs.Texts.{ran_in, come_in}
-use Rattle.sched_laws.specs.Response.{HasNumbers, IsSupplied, is_not_after}
-use Rattle.sched_laws.specs.Periods.{is_above, work_above}
-use Rattle.sched_laws.proofs.Picks.{best, none_ready, place_of, first_of_all}
-use Rattle.sched_laws.proofs.Arriving.{IsBefore, due_is, due_tells}
-use Rattle.sched_laws.proofs.Readiness.{ready_tells}
-use Rattle.sched_laws.proofs.Turns.{Way, Runs, Refuses, Idles, Begins, Lacks, RunsOne, IdlesOn, BeginsOne, way, come_at}
-use Rattle.sched_laws.proofs.Weights.{not_after_itself}
-use Rattle.sched_laws.proofs.Bound.{length_most}
-use Rattle.sched_laws.proofs.Jobs.{Follows, FollowsOn, has_come_of, first_left, begins_at, not_first, none_left, times_next}
-use Rattle.sched_laws.proofs.Above.{IsFrom, weight, weight_in, weight_out, begun_weight, left_above, above_in, above_out}
-use Rattle.sched_laws.proofs.Above.{above_not_after, own_not_above, first_above, first_of_above}
-use Rattle.sched_laws.proofs.Pausing.{Kept, task_fits, run_from, idle_from, rests}
+use Rattle.sched_laws.proofs as low
+use low.Common.{◌≡◌, ◌≢◌, inl, inr, ℕ, ◌+◌, ◌*◌, ◌-◌, ◌<◌, ◌≤◌, Bool, true, false, refl, sym, ◌∙◌, ap, subst, arith, if◌then◌else◌, List}
+use low.Common.{[], Option, Some, None, slice_set, IsSome, slice_get, cases_lt, cases_eq, eq-eqb, ne_eqb, false≢true, Task, Rule, Job}
+use low.Common.{Ready, Choice, Renewal, Ran, Idle, Back, Progress, Step, TaskFits, is_due, ready, chosen, next_arrival, length_of, turn_of}
+use low.Common.{begun, ran, refused, gives_back, put_out, replenish_for, ran_in, come_in}
+use Rattle.sched_laws.specs.{HasNumbers, IsSupplied, is_not_after, is_above, work_above}
+use low.{Picks.best, Picks.none_ready, Picks.place_of, Picks.first_of_all, Arriving.IsBefore, Arriving.due_is, Arriving.due_tells}
+use low.{Readiness.ready_tells, Turns.Way, Turns.Runs, Turns.Refuses, Turns.Idles, Turns.Begins, Turns.Lacks, Turns.RunsOne, Turns.IdlesOn}
+use low.{Turns.BeginsOne, Turns.way, Turns.come_at, Weights.not_after_itself, Bound.length_most, Jobs.Follows, Jobs.FollowsOn}
+use low.{Jobs.has_come_of, Jobs.first_left, Jobs.begins_at, Jobs.not_first, Jobs.none_left, Jobs.times_next, Above.IsFrom, Above.weight}
+use low.{Above.weight_in, Above.weight_out, Above.begun_weight, Above.left_above, Above.above_in, Above.above_out, Above.above_not_after}
+use low.{Above.own_not_above, Above.first_above, Above.first_of_above, Pausing.Kept, Pausing.task_fits, Pausing.run_from, Pausing.idle_from}
+use low.{Pausing.rests}
 
 pub none_some : {A B : Type 0} (o : Option A) → o ≡ None → IsSome o → B
 none_some None e h = absurd (false≢true h)

@@ -1,28 +1,15 @@
 -- Further jobs of tasks arrive when they are due.
-use Rattle.std.proofs.Common.{◌≡◌, inl, inr, ℕ, ◌+◌, ◌*◌, ◌-◌, ◌<◌, ◌≤◌, min, Bool, true, false, ◌||◌, ◌==◌}
-use Rattle.std.proofs.Common.{refl, sym, ◌∙◌, ap, subst, arith, one-mul}
-use Rattle.std.proofs.Common.{List, [], ◌∷◌, ◌++◌, Option, Some, None, slice_set, if◌then◌else◌}
-use Rattle.std.specs.Prelude.{slice_get, option_map}
-use Rattle.std.proofs.lemmas.Bool.{cases_lt, cases_eq, eq-eqb, ne_eqb, true≢false}
-use Rattle.std.proofs.lemmas.Option.{slice_get-map}
-use Rattle.kernel_rules.specs.State.{State}
-use Rattle.sched_rules.specs.declared.tasks.Task.{Task}
-use Rattle.sched_rules.specs.declared.tasks.Rule.{Rule}
-use Rattle.sched_rules.specs.declared.tasks.Job.{Job}
-use Rattle.sched_rules.specs.declared.tasks.Choice.{Choice}
-use Rattle.sched_rules.specs.declared.tasks.Renewal.{Renewal}
-use Rattle.sched_rules.specs.declared.turns.Turn.{Turn}
-use Rattle.sched_rules.specs.declared.turns.Turn.TheVariants.{Ran, Idle, Back, Refused}
-use Rattle.sched_rules.specs.Schedule.{Progress, Step, next_arrival, length_of, turn_of, within_last, job_after, next_of, begun}
-use Rattle.sched_rules.specs.Schedule.{new_job, at_first, turns_of, IsSchedule, renewal, ran, refused, gives_back, put_out, replenish_for}
-use Rattle.sched_rules.specs.Texts.{come_in, come_by}
+use Rattle.sched_laws.proofs as low
+use low.Common.{◌≡◌, inl, inr, ℕ, ◌+◌, ◌*◌, ◌-◌, ◌<◌, ◌≤◌, min, Bool, true, false, ◌||◌, ◌==◌, refl, sym, ◌∙◌, ap, subst, arith, one-mul}
+use low.Common.{List, [], ◌∷◌, ◌++◌, Option, Some, None, slice_set, if◌then◌else◌, slice_get, option_map, cases_lt, cases_eq, eq-eqb}
+use low.Common.{ne_eqb, true≢false, slice_get-map, State, Task, Rule, Job, Choice, Renewal, Turn, Ran, Idle, Back, Refused, Progress, Step}
+use low.Common.{next_arrival, length_of, turn_of, within_last, job_after, next_of, begun, new_job, at_first, turns_of, IsSchedule, renewal}
+use low.Common.{ran, refused, gives_back, put_out, replenish_for, come_in, come_by}
 use Rattle.sched_laws.specs.Arrivals.{begins_at, refuses, is_refused, NextDue, ArriveOnTime}
-use Rattle.sched_laws.proofs.Picks.{place_of}
-use Rattle.sched_laws.proofs.Arriving.{IsBefore, before_each, later_is, cut_by}
-use Rattle.sched_laws.proofs.Turns.{Way, Runs, Refuses, Idles, Begins, Lacks, RunsOne, IdlesOn, BeginsOne, way, ends, come_at}
-use Rattle.sched_laws.proofs.Weights.{set_here, set_apart}
-use Rattle.sched_laws.proofs.Jobs.{the_job, has_come_of, later_next, within_is, within_tells, times_next}
-use Rattle.sched_laws.proofs.Pausing.{Kept, kept_on, kept_first}
+use low.{Picks.place_of, Arriving.IsBefore, Arriving.before_each, Arriving.later_is, Arriving.cut_by, Turns.Way, Turns.Runs, Turns.Refuses}
+use low.{Turns.Idles, Turns.Begins, Turns.Lacks, Turns.RunsOne, Turns.IdlesOn, Turns.BeginsOne, Turns.way, Turns.ends, Turns.come_at}
+use low.{Weights.set_here, Weights.set_apart, Jobs.the_job, Jobs.has_come_of, Jobs.later_next, Jobs.within_is, Jobs.within_tells}
+use low.{Jobs.times_next, Pausing.Kept, Pausing.kept_on, Pausing.kept_first}
 
 -- ---- when the next job is due
 

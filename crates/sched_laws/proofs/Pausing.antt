@@ -1,26 +1,15 @@
 -- What holds of all tasks in a schedule, and what those above one ask for after a turn in which none of them was due.
-use Rattle.std.proofs.Common.{◌≡◌, inl, inr, ℕ, zero, suc, ◌+◌, ◌-◌, ◌<◌, ◌≤◌, min, Bool, true, false}
-use Rattle.std.proofs.Common.{refl, sym, ◌∙◌, ap, subst, arith}
-use Rattle.std.proofs.Common.{List, [], ◌∷◌, map, Option, Some, None, slice_set}
-use Rattle.std.specs.Prelude.{slice_get, option_map}
-use Rattle.std.proofs.lemmas.Bool.{cases_lt, cases_eq}
-use Rattle.std.proofs.lemmas.Option.{slice_get-map}
-use Rattle.kernel_rules.specs.State.{State}
-use Rattle.sched_rules.specs.declared.tasks.Task.{Task}
-use Rattle.sched_rules.specs.declared.tasks.Rule.{Rule}
-use Rattle.sched_rules.specs.declared.tasks.Job.{Job}
-use Rattle.sched_rules.specs.declared.tasks.Choice.{Choice}
-use Rattle.sched_rules.specs.declared.tasks.Renewal.{Renewal}
-use Rattle.sched_rules.specs.Schedule.{Progress, Step, TaskFits, is_due, later, sooner, next_arrival, cut_at, length_of, turn_of, job_after}
-use Rattle.sched_rules.specs.Schedule.{renewal, begun, new_job, at_first, ran, refused, gives_back, put_out, replenish_for}
-use Rattle.sched_laws.specs.Periods.{is_above, work_above}
-use Rattle.sched_laws.proofs.Picks.{best, place_of}
-use Rattle.sched_laws.proofs.Arriving.{IsBefore, later_is, due_is, due_tells}
-use Rattle.sched_laws.proofs.Readiness.{ready_tells}
-use Rattle.sched_laws.proofs.Turns.{Way, Runs, Refuses, Idles, Begins, Lacks, RunsOne, IdlesOn, way, come_at}
-use Rattle.sched_laws.proofs.Weights.{set_here, set_apart}
-use Rattle.sched_laws.proofs.Jobs.{the_job, has_come_of, later_next, idles_on, within_tells, none_come, none_left}
-use Rattle.sched_laws.proofs.Above.{IsFrom, Quiet, Out, Done, New, left_above, quiet_all}
+use Rattle.sched_laws.proofs.Common.{◌≡◌, inl, inr, ℕ, zero, suc, ◌+◌, ◌-◌, ◌<◌, ◌≤◌, min, Bool, true, false, refl, sym, ◌∙◌, ap, subst}
+use Rattle.sched_laws.proofs.Common.{arith, List, [], ◌∷◌, map, Option, Some, None, slice_set, slice_get, option_map, cases_lt, cases_eq}
+use Rattle.sched_laws.proofs.Common.{slice_get-map, State, Task, Rule, Job, Choice, Renewal, Progress, Step, TaskFits, is_due, later}
+use Rattle.sched_laws.proofs.Common.{sooner, next_arrival, cut_at, length_of, turn_of, job_after, renewal, begun, new_job, at_first, ran}
+use Rattle.sched_laws.proofs.Common.{refused, gives_back, put_out, replenish_for}
+use Rattle.sched_laws.specs.{is_above, work_above}
+use Rattle.sched_laws.proofs.{Picks.best, Picks.place_of, Arriving.IsBefore, Arriving.later_is, Arriving.due_is, Arriving.due_tells}
+use Rattle.sched_laws.proofs.{Readiness.ready_tells, Turns.Way, Turns.Runs, Turns.Refuses, Turns.Idles, Turns.Begins, Turns.Lacks}
+use Rattle.sched_laws.proofs.{Turns.RunsOne, Turns.IdlesOn, Turns.way, Turns.come_at, Weights.set_here, Weights.set_apart, Jobs.the_job}
+use Rattle.sched_laws.proofs.{Jobs.has_come_of, Jobs.later_next, Jobs.idles_on, Jobs.within_tells, Jobs.none_come, Jobs.none_left}
+use Rattle.sched_laws.proofs.{Above.IsFrom, Above.Quiet, Above.Out, Above.Done, Above.New, Above.left_above, Above.quiet_all}
 
 -- ---- all tasks
 

@@ -1,27 +1,13 @@
 -- The response bound of tasks with periods.
-use Rattle.std.proofs.Common.{◌≡◌, inl, inr, ℕ, zero, suc, ◌+◌, ◌*◌, ◌<◌, ◌≤◌, true}
-use Rattle.std.proofs.Common.{refl, sym, ap, subst, arith, zero-mul, one-mul}
-use Rattle.std.proofs.Common.{List, [], ◌∷◌, map, Some}
-use Rattle.std.specs.Prelude.{slice_get, All}
-use Rattle.std.proofs.lemmas.Bool.{cases_lt}
-use Rattle.std.proofs.lemmas.Option.{slice_get_within, get_or_from_slice_get}
-use Rattle.kernel_rules.specs.State.{State}
-use Rattle.sched_rules.specs.declared.tasks.Task.{Task}
-use Rattle.sched_rules.specs.declared.tasks.Rule.{Rule}
-use Rattle.sched_rules.specs.declared.tasks.Job.{Job}
-use Rattle.sched_rules.specs.Schedule.{Progress, Step, TaskFits, ready, at_first, new_job, IsSchedule}
-use Rattle.sched_rules.specs.Texts.{ran_in, come_in}
-use Rattle.sched_laws.specs.Response.{Throughout, HasNumbers, IsSupplied, NeverRefused, is_not_after}
-use Rattle.sched_laws.specs.Periods.{work_above, PeriodicBound}
-use Rattle.sched_laws.proofs.Picks.{none_ready}
-use Rattle.sched_laws.proofs.Arriving.{IsBefore, due_is}
-use Rattle.sched_laws.proofs.Turns.{ends}
-use Rattle.sched_laws.proofs.Weights.{not_after_itself}
-use Rattle.sched_laws.proofs.Jobs.{Follows, follows_on, follows_first, not_first, not_past, none_left, the_job}
-use Rattle.sched_laws.proofs.Counting.{Tracked, done_by}
-use Rattle.sched_laws.proofs.Above.{Quiet, New, quiet_all}
-use Rattle.sched_laws.proofs.Pausing.{Kept, kept_on, kept_first}
-use Rattle.sched_laws.proofs.Loads.{Load, load_anew, loaded_on, none_some}
+use Rattle.sched_laws.proofs.Common.{◌≡◌, inl, inr, ℕ, zero, suc, ◌+◌, ◌*◌, ◌<◌, ◌≤◌, true, refl, sym, ap, subst, arith, zero-mul, one-mul}
+use Rattle.sched_laws.proofs.Common.{List, [], ◌∷◌, map, Some, slice_get, All, cases_lt, slice_get_within, get_or_from_slice_get, State}
+use Rattle.sched_laws.proofs.Common.{Task, Rule, Job, Progress, Step, TaskFits, ready, at_first, new_job, IsSchedule, ran_in, come_in}
+use Rattle.sched_laws.specs.{Throughout, HasNumbers, IsSupplied, NeverRefused, is_not_after, work_above}
+use Rattle.sched_laws.specs.Periods.{PeriodicBound}
+use Rattle.sched_laws.proofs.{Picks.none_ready, Arriving.IsBefore, Arriving.due_is, Turns.ends, Weights.not_after_itself, Jobs.Follows}
+use Rattle.sched_laws.proofs.{Jobs.follows_on, Jobs.follows_first, Jobs.not_first, Jobs.not_past, Jobs.none_left, Jobs.the_job}
+use Rattle.sched_laws.proofs.{Counting.Tracked, Counting.done_by, Above.Quiet, Above.New, Above.quiet_all, Pausing.Kept, Pausing.kept_on}
+use Rattle.sched_laws.proofs.{Pausing.kept_first, Loads.Load, Loads.load_anew, Loads.loaded_on, Loads.none_some}
 
 module _ (rule : Rule) (numbers : ℕ → ℕ) (i : ℕ) (task : Task) (period ticks : ℕ) (tasks : List Task)
     (enough : task.work + work_above numbers i ticks 0 tasks ≤ ticks) (own : task.period ≡ Some period) (short : ticks ≤ period)

@@ -1,14 +1,7 @@
 -- What is chosen is the least among the ready ones.
-use Rattle.std.proofs.Common.{◌≡◌, ℕ, zero, suc, ◌+◌, ◌<◌, ◌≤◌, Bool, true, false, refl, sym, ◌∙◌, ap, subst, arith}
-use Rattle.std.proofs.Common.{nat_le, if◌then◌else◌, List, [], ◌∷◌, Option, Some, None}
-use Rattle.std.specs.Prelude.{slice_get}
-use Rattle.std.proofs.lemmas.Bool.{leb-true, leb-false}
-use Rattle.kernel_rules.specs.State.{State}
-use Rattle.sched_rules.specs.declared.tasks.Rule.{Rule}
-use Rattle.sched_rules.specs.declared.tasks.Job.{Job}
-use Rattle.sched_rules.specs.declared.tasks.Ready.{Ready}
-use Rattle.sched_rules.specs.declared.tasks.Choice.{Choice}
-use Rattle.sched_rules.specs.Schedule.{ready, lesser, chosen}
+use Rattle.sched_laws.proofs.Common.{◌≡◌, ℕ, zero, suc, ◌+◌, ◌<◌, ◌≤◌, Bool, true, false, refl, sym, ◌∙◌, ap, subst, arith, nat_le}
+use Rattle.sched_laws.proofs.Common.{if◌then◌else◌, List, [], ◌∷◌, Option, Some, None, slice_get, leb-true, leb-false, State, Rule, Job}
+use Rattle.sched_laws.proofs.Common.{Ready, Choice, ready, lesser, chosen}
 use Rattle.sched_laws.specs.Least.{ComesFirst, NoneReady, LeastChosen}
 
 -- The choice among the tasks listed from place i on.

@@ -1,12 +1,9 @@
 -- A ready task does not preempt the chosen one.
-use Rattle.std.proofs.Common.{◌≡◌, ℕ, ◌<◌, ◌≤◌, Bool, true, false, ◌&&◌, ◌==◌, refl, sym, ◌∙◌, ap, subst, arith}
-use Rattle.std.proofs.Common.{nat_lt, if◌then◌else◌, List, [], ◌∷◌, Some}
-use Rattle.std.proofs.lemmas.Bool.{eqb-true, ne_eqb, le-ltb, and_right}
-use Rattle.spk_nums.specs.Merging.{number_of, is_smaller, is_better, preempts_by}
-use Rattle.kernel_rules.specs.Edits.{tcap_at}
+use Rattle.sched_laws.proofs.Common.{◌≡◌, ℕ, ◌<◌, ◌≤◌, Bool, true, false, ◌&&◌, ◌==◌, refl, sym, ◌∙◌, ap, subst, arith, nat_lt}
+use Rattle.sched_laws.proofs.Common.{if◌then◌else◌, List, [], ◌∷◌, Some, eqb-true, ne_eqb, le-ltb, and_right, number_of, is_smaller}
+use Rattle.sched_laws.proofs.Common.{is_better, preempts_by, tcap_at}
 use Rattle.sched_laws.specs.Least.{OthersStay}
-use Rattle.sched_laws.proofs.Picks.{best, first_of_all}
-use Rattle.sched_laws.proofs.Readiness.{ready_tells}
+use Rattle.sched_laws.proofs.{Picks.best, Picks.first_of_all, Readiness.ready_tells}
 
 -- A list is no better than one that gives a scheduler of both no greater number.
 not_better : (xs ys : List (ℕ × ℕ)) (sched n m : ℕ) → number_of xs sched ≡ Some n → number_of ys sched ≡ Some m → m ≤ n

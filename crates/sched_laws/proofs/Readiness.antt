@@ -1,23 +1,14 @@
 -- What makes a task ready.
-use Rattle.std.proofs.Common.{◌≡◌, ℕ, ◌<◌, Bool, true, false, refl, ◌∙◌, ap, subst, nat_lt, if◌then◌else◌, Option, Some, None}
-use Rattle.std.proofs.lemmas.Bool.{ltb-true}
-use Rattle.spk_nums.specs.Capability.{Capability}
-use Rattle.spk_nums.specs.Merging.{number_of}
-use Rattle.spk_nums.specs.declared.kinds.Kind.TheVariants as kind
-use Rattle.kernel_rules.specs.State.{TcapFields, State}
-use Rattle.kernel_rules.specs.Access.{only}
-use Rattle.kernel_rules.specs.Edits.{tcap_at}
-use Rattle.sched_rules.specs.declared.tasks.Rule.{Rule}
-use Rattle.sched_rules.specs.declared.tasks.Job.{Job}
-use Rattle.sched_rules.specs.declared.tasks.Ready.{Ready}
-use Rattle.sched_rules.specs.Schedule.{reach, with_number, time_in, time_of, is_due, ready}
+use Rattle.sched_laws.proofs.Common.{◌≡◌, ℕ, ◌<◌, Bool, true, false, refl, ◌∙◌, ap, subst, nat_lt, if◌then◌else◌, Option, Some, None}
+use Rattle.sched_laws.proofs.Common.{ltb-true, Capability, number_of, TcapFields, State, only, tcap_at, Rule, Job, Ready, reach}
+use Rattle.sched_laws.proofs.Common.{with_number, time_in, time_of, is_due, ready, Kind}
 
 -- A ready task is due, and its name reaches a temporal capability that has this budget, above 0, and gives the scheduler this number.
 pub record IsReady (s : State) (rule : Rule) (now : ℕ) (job : Job) (r : Ready) : Type 0 where
   pub due : is_due now job ≡ true
   pub cap : Capability
   pub reaches : reach s 0 job.task.tcap ≡ Some cap
-  pub kind : only kind.Tcap cap.kind ≡ true
+  pub kind : only Kind.Tcap cap.kind ≡ true
   pub frame : cap.frame ≡ r.tcap
   pub budget : (tcap_at s r.tcap).budget ≡ r.budget
   pub some : 0 < r.budget
@@ -51,7 +42,7 @@ time_tells f q sched r e = by_budget (nat_lt 0 q.budget) refl e
 pub ready_tells : (s : State) (rule : Rule) (now : ℕ) (job : Job) (r : Ready) → ready s rule now job ≡ Some r → IsReady s rule now job r
 ready_tells s rule now job r e = by_due (is_due now job) refl e
   where
-    by_kind : (k : Capability) → reach s 0 job.task.tcap ≡ Some k → is_due now job ≡ true → (b : Bool) → only kind.Tcap k.kind ≡ b
+    by_kind : (k : Capability) → reach s 0 job.task.tcap ≡ Some k → is_due now job ≡ true → (b : Bool) → only Kind.Tcap k.kind ≡ b
         → (if b then time_in k.frame (tcap_at s k.frame) rule.sched else None) ≡ Some r → IsReady s rule now job r
     by_kind k is due true on h =
         let t = time_tells k.frame (tcap_at s k.frame) rule.sched r h in
@@ -70,7 +61,7 @@ ready_tells s rule now job r e = by_due (is_due now job) refl e
     by_cap : (o : Option Capability) → reach s 0 job.task.tcap ≡ o → is_due now job ≡ true → time_of s rule.sched o ≡ Some r
         → IsReady s rule now job r
     by_cap None is due h = absurd (cc)
-    by_cap (Some k) is due h = by_kind k is due (only kind.Tcap k.kind) refl h
+    by_cap (Some k) is due h = by_kind k is due (only Kind.Tcap k.kind) refl h
 
     by_due : (b : Bool) → is_due now job ≡ b → (if b then time_of s rule.sched (reach s 0 job.task.tcap) else None) ≡ Some r
         → IsReady s rule now job r

@@ -1,34 +1,19 @@
 -- What the call `replenish` of core 0, made alone, does to budgets and to what the core has spent, has had back, and owes.
-use Rattle.std.proofs.Common.{◌≡◌, ◌≢◌, ℕ, ◌+◌, Bool, true, false, refl, sym, ◌∙◌, ap, subst}
-use Rattle.std.proofs.Common.{if◌then◌else◌, [], ◌∷◌, Some, None}
-use Rattle.std.specs.Prelude.{IsTrue}
-use Rattle.std.proofs.lemmas.Bool.{eq-eqb, ne_eqb, false≢true, true≢false}
-use Rattle.spk_nums.specs.Capability.{Capability}
-use Rattle.spk_nums.specs.declared.kinds.Kind.TheVariants as kind
-use Rattle.spk_nums.specs.declared.calls.Call.TheVariants.{Replenish}
-use Rattle.spk_nums.specs.declared.replies.Value.TheVariants.{Nothing}
-use Rattle.spk_nums.specs.declared.replies.Reply.{Reply}
-use Rattle.spk_nums.specs.declared.replies.Reply.TheVariants as reply
-use Rattle.kernel_rules.specs.State.{TcapFields, Frame, Kernel, Tcap, State, tcap_in, put}
-use Rattle.kernel_rules.specs.Access.{only, to_use, found}
-use Rattle.kernel_rules.specs.GracePeriods.{entered, returned}
-use Rattle.kernel_rules.specs.Life.{acts}
-use Rattle.kernel_rules.specs.Rules.{Change, does, Judged, Refused, Found, named, and_then, unless, first_of, first_cause}
-use Rattle.kernel_rules.specs.Fitting.{fits}
-use Rattle.kernel_rules.specs.TimeCalls.{is_finer, is_less}
-use Rattle.kernel_rules.specs.Edits.{tcap_at, with_tcap, Give}
-use Rattle.kernel_rules.specs.CallRelation.{are_calls_spent, change_of, changed, counted, state_by}
-use Rattle.kernel_rules.specs.Alone.{reply_in, first_reply, plain_reply}
-use Rattle.sched_rules.specs.Schedule.{reply_to, state_past, is_done}
-use Rattle.sched_laws.specs.Charging.{Restores}
+use Rattle.sched_laws.proofs.Common.{◌≡◌, ◌≢◌, ℕ, ◌+◌, Bool, true, false, refl, sym, ◌∙◌, ap, subst, if◌then◌else◌, [], ◌∷◌, Some, None}
+use Rattle.sched_laws.proofs.Common.{IsTrue, eq-eqb, ne_eqb, false≢true, true≢false, Capability, Replenish, Nothing, Reply, TcapFields}
+use Rattle.sched_laws.proofs.Common.{Frame, Kernel, Tcap, State, tcap_in, put, only, to_use, found, entered, returned, acts, Change, does}
+use Rattle.sched_laws.proofs.Common.{Judged, Found, named, and_then, unless, first_of, first_cause, fits, is_finer, is_less, tcap_at}
+use Rattle.sched_laws.proofs.Common.{with_tcap, Give, are_calls_spent, change_of, changed, counted, state_by, reply_in, first_reply}
+use Rattle.sched_laws.proofs.Common.{plain_reply, reply_to, state_past, is_done, Kind}
 use Rattle.sched_laws.proofs.Charging.{Keeps, same_keeps, name_refused, done_value}
+use Rattle.{sched_rules.specs.kernel_rules.specs.Rules.Refused, sched_laws.specs.Charging.Restores}
 
 -- A refusal changes nothing of this.
 by_reply : (s : State) (a m : ℕ) (r : Reply) → is_done r ≡ false → Keeps s (state_by s 0 (Replenish a m) r)
-by_reply s a m (reply.Ok v) off = absurd (true≢false off)
-by_reply s a m reply.CallsSpent off = same_keeps s
-by_reply s a m reply.Raced off = record { budgets = λ g. refl; spent = refl; back = refl; owed = refl }
-by_reply s a m (reply.Busy d) off = record { budgets = λ g. refl; spent = refl; back = refl; owed = refl }
+by_reply s a m (Reply.Ok v) off = absurd (true≢false off)
+by_reply s a m Reply.CallsSpent off = same_keeps s
+by_reply s a m Reply.Raced off = record { budgets = λ g. refl; spent = refl; back = refl; owed = refl }
+by_reply s a m (Reply.Busy d) off = record { budgets = λ g. refl; spent = refl; back = refl; owed = refl }
 by_reply s a m _ off = record { budgets = λ g. refl; spent = refl; back = refl; owed = refl }
 
 pub replenish_keeps : (s : State) (a m : ℕ) → is_done (reply_to s (Replenish a m)) ≡ false → Keeps s (state_past s (Replenish a m))
@@ -44,31 +29,31 @@ gives_back s f m = does 0 s Nothing (Give f m ∷ [])
 -- What is judged is that the ticks are given back to the temporal capability that the name leads to.
 record Gives (s : State) (a m : ℕ) (j : Judged Change) : Type 0 where
   tcap : Capability
-  led : named s 0 a (to_use (only kind.Tcap)) ≡ Found tcap
+  led : named s 0 a (to_use (only Kind.Tcap)) ≡ Found tcap
   is : j ≡ Found (gives_back s tcap.frame m)
 
 judged_gives : (s : State) (a m : ℕ) → is_done (reply_in (change_of s 0 (Replenish a m))) ≡ true
     → Gives s a m (change_of s 0 (Replenish a m))
-judged_gives s a m done = by_name (named s 0 a (to_use (only kind.Tcap))) refl done
+judged_gives s a m done = by_name (named s 0 a (to_use (only Kind.Tcap))) refl done
   where
-    by_causes : (k : Capability) → named s 0 a (to_use (only kind.Tcap)) ≡ Found k → (b d : Bool) (n : ℕ)
-        → is_done (reply_in (unless (first_of (if b then Some reply.Unlike else None)
-        (first_of (if d then Some (reply.Short n) else None) None)) (gives_back s k.frame m))) ≡ true
-        → Gives s a m (unless (first_of (if b then Some reply.Unlike else None)
-        (first_of (if d then Some (reply.Short n) else None) None)) (gives_back s k.frame m))
+    by_causes : (k : Capability) → named s 0 a (to_use (only Kind.Tcap)) ≡ Found k → (b d : Bool) (n : ℕ)
+        → is_done (reply_in (unless (first_of (if b then Some Reply.Unlike else None)
+        (first_of (if d then Some (Reply.Short n) else None) None)) (gives_back s k.frame m))) ≡ true
+        → Gives s a m (unless (first_of (if b then Some Reply.Unlike else None)
+        (first_of (if d then Some (Reply.Short n) else None) None)) (gives_back s k.frame m))
     by_causes k led true d n done = absurd (false≢true done)
     by_causes k led false true n done = absurd (false≢true done)
     by_causes k led false false n done = record { tcap = k; led = led; is = refl }
 
-    by_name : (x : Judged Capability) → named s 0 a (to_use (only kind.Tcap)) ≡ x
+    by_name : (x : Judged Capability) → named s 0 a (to_use (only Kind.Tcap)) ≡ x
         → is_done (reply_in (and_then x (λ k. unless (first_cause s 0 (is_finer s 0 (found k) ∷ is_less s 0 m ∷ []))
         (gives_back s k.frame m)))) ≡ true
         → Gives s a m (and_then x (λ k. unless (first_cause s 0 (is_finer s 0 (found k) ∷ is_less s 0 m ∷ []))
         (gives_back s k.frame m)))
-    by_name (Refused r) led done = absurd (false≢true (sym (name_refused s a (to_use (only kind.Tcap)) r led) ∙ done))
+    by_name (Refused r) led done = absurd (false≢true (sym (name_refused s a (to_use (only Kind.Tcap)) r led) ∙ done))
     by_name (Found k) led done = by_causes k led _ _ _ done
 
-given_tcap : (x : Frame) (p : TcapFields) → IsTrue (fits kind.Tcap x) → tcap_in (with_tcap x p) ≡ p
+given_tcap : (x : Frame) (p : TcapFields) → IsTrue (fits Kind.Tcap x) → tcap_in (with_tcap x p) ≡ p
 given_tcap (Kernel (Tcap q)) p fit = refl
 given_tcap _ p fit = absurd (false≢true fit)
 
@@ -76,7 +61,7 @@ given_tcap _ p fit = absurd (false≢true fit)
 abbrev given : State → ℕ → ℕ → TcapFields
 given s f m = record (tcap_at s f) { budget = (tcap_at s f).budget + m }
 
-here : (s : State) (f m : ℕ) → IsTrue (fits kind.Tcap (s.frame f))
+here : (s : State) (f m : ℕ) → IsTrue (fits Kind.Tcap (s.frame f))
     → (tcap_in (put s.frame f (with_tcap (s.frame f) (given s f m)) f)).budget ≡ (tcap_at s f).budget + m
 here s f m fit =
     ap (λ b. (tcap_in (if b then with_tcap (s.frame f) (given s f m) else s.frame f)).budget) (eq-eqb f f refl)
@@ -90,7 +75,7 @@ elsewhere s f m g other =
 -- A `replenish` that is carried out gives its ticks back to the temporal capability that its name leads to.
 pub record Restored (s new : State) (a m : ℕ) : Type 0 where
   pub tcap : Capability
-  pub led : named s 0 a (to_use (only kind.Tcap)) ≡ Found tcap
+  pub led : named s 0 a (to_use (only Kind.Tcap)) ≡ Found tcap
   pub restores : Restores s new tcap.frame m
 
 pub replenish_restores : (s : State) (a m : ℕ) → (s.core 0).owed ≡ 0 → is_done (reply_to s (Replenish a m)) ≡ true
@@ -117,11 +102,11 @@ replenish_restores s a m owes done =
     judged : Reply
     judged = reply_in (change_of (entered s 0) 0 (Replenish a m))
 
-    by_life : (b : Bool) → is_done (if b then judged else reply.Dead) ≡ true → is_done judged ≡ true
+    by_life : (b : Bool) → is_done (if b then judged else Reply.Dead) ≡ true → is_done judged ≡ true
     by_life true e = e
     by_life false e = absurd (false≢true e)
 
-    by_spent : (b : Bool) → is_done (if b then reply.CallsSpent else first_reply (entered s 0) 0 (Replenish a m)) ≡ true
+    by_spent : (b : Bool) → is_done (if b then Reply.CallsSpent else first_reply (entered s 0) 0 (Replenish a m)) ≡ true
         → is_done judged ≡ true
     by_spent true e = absurd (false≢true e)
     by_spent false e = by_life (acts (entered s 0) 0 (Replenish a m)) e

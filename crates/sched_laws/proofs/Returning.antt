@@ -1,39 +1,17 @@
 -- A budget of a task's own comes back.
-use Rattle.std.proofs.Common.{◌≡◌, ◌≢◌, inl, inr, ℕ, ◌+◌, ◌-◌, Bool, true, false, refl, sym, ◌∙◌, ap, subst, arith}
-use Rattle.std.proofs.Common.{if◌then◌else◌, List, [], ◌∷◌, Option, Some, None, slice_set}
-use Rattle.std.specs.Prelude.{slice_get, option_map, IsTrue}
-use Rattle.std.specs.Option.{option_and_then}
-use Rattle.std.proofs.lemmas.Bool.{cases_eq}
-use Rattle.std.proofs.lemmas.Option.{slice_get-map}
-use Rattle.spk_nums.specs.Capability.{Capability}
-use Rattle.spk_nums.specs.Rights.{has_rights}
-use Rattle.spk_nums.specs.declared.kinds.Kind.TheVariants as kind
-use Rattle.spk_nums.specs.declared.replies.Reply.TheVariants as reply
-use Rattle.kernel_rules.specs.State.{State}
-use Rattle.kernel_rules.specs.Access.{Slot, Want, only, to_use, usable, reached, own}
-use Rattle.kernel_rules.specs.Rules.{Refused, Found, named, of_kind, with_rights, and_then, or_refuse}
-use Rattle.kernel_rules.specs.Fitting.{fits}
-use Rattle.kernel_rules.specs.Edits.{tcap_at}
-use Rattle.sched_rules.specs.declared.tasks.Task.{Task}
-use Rattle.sched_rules.specs.declared.tasks.Rule.{Rule}
-use Rattle.sched_rules.specs.declared.tasks.Job.{Job}
-use Rattle.sched_rules.specs.declared.tasks.Choice.{Choice}
-use Rattle.sched_rules.specs.declared.tasks.Renewal.{Renewal}
-use Rattle.sched_rules.specs.declared.turns.Turn.TheVariants.{Back}
-use Rattle.sched_rules.specs.Schedule.{Progress, Step, reach, chosen, length_of, turn_of, begun, refused, gives_back}
-use Rattle.sched_rules.specs.Schedule.{put_out, replenish_for, new_job, at_first, IsSchedule}
-use Rattle.sched_laws.specs.Response.{Throughout}
-use Rattle.sched_laws.specs.Charging.{Charges, ChargesNothing, Restores, TurnCharges, TurnsCharge}
-use Rattle.sched_laws.specs.Budgets.{LeadsTo, IsOwn, LacksUsed, IsWholeAfter, OwnBudgetReturns}
-use Rattle.sched_laws.proofs.Picks.{best, place_of}
-use Rattle.sched_laws.proofs.Readiness.{ready_tells}
-use Rattle.sched_laws.proofs.Turns.{Way, Runs, Refuses, Idles, Begins, Lacks, RunsOne, BeginsOne, way, come_at}
-use Rattle.sched_laws.proofs.Weights.{set_here, set_apart}
-use Rattle.sched_laws.proofs.Exactly.{exact_ticks}
-use Rattle.sched_laws.proofs.Jobs.{the_job}
-use Rattle.sched_laws.proofs.OnTime.{is_of, comes_by}
-use Rattle.sched_laws.proofs.Pausing.{Kept, kept_on, kept_first}
-use Rattle.sched_laws.proofs.Lists.{turn_keeps}
+use Rattle.sched_laws.proofs as low
+use low.Common.{◌≡◌, ◌≢◌, inl, inr, ℕ, ◌+◌, ◌-◌, Bool, true, false, refl, sym, ◌∙◌, ap, subst, arith, if◌then◌else◌, List, [], ◌∷◌, Option}
+use low.Common.{Some, None, slice_set, slice_get, option_map, IsTrue, option_and_then, cases_eq, slice_get-map, Capability, has_rights}
+use low.Common.{State, Slot, Want, only, to_use, usable, reached, own, Found, named, of_kind, with_rights, and_then, or_refuse, fits}
+use low.Common.{tcap_at, Task, Rule, Job, Choice, Renewal, Back, Progress, Step, reach, chosen, length_of, turn_of, begun, refused}
+use low.Common.{gives_back, put_out, replenish_for, new_job, at_first, IsSchedule, Kind, Reply}
+use Rattle.sched_laws.specs.{Throughout, Charges, TurnsCharge, IsOwn, LacksUsed}
+use Rattle.sched_rules.specs.kernel_rules.specs.Rules.{Refused}
+use Rattle.sched_laws.specs.Charging.{ChargesNothing, Restores, TurnCharges}
+use Rattle.sched_laws.specs.Budgets.{LeadsTo, IsWholeAfter, OwnBudgetReturns}
+use low.{Picks.best, Picks.place_of, Readiness.ready_tells, Turns.Way, Turns.Runs, Turns.Refuses, Turns.Idles, Turns.Begins, Turns.Lacks}
+use low.{Turns.RunsOne, Turns.BeginsOne, Turns.way, Turns.come_at, Weights.set_here, Weights.set_apart, Exactly.exact_ticks, Jobs.the_job}
+use low.{OnTime.is_of, OnTime.comes_by, Pausing.Kept, Pausing.kept_on, Pausing.kept_first, Lists.turn_keeps}
 
 -- ---- where names lead
 
@@ -47,20 +25,20 @@ the_cap : (a b : Capability) → Some a ≡ Some b → a ≡ b
 the_cap a b e = cc
 
 -- A name that leads to a temporal capability for use reaches it.
-named_leads : (s : State) (n : ℕ) (k : Capability) → named s 0 n (to_use (only kind.Tcap)) ≡ Found k → LeadsTo s n k.frame
+named_leads : (s : State) (n : ℕ) (k : Capability) → named s 0 n (to_use (only Kind.Tcap)) ≡ Found k → LeadsTo s n k.frame
 unfolding reach
 named_leads s n k e = by_slot (reached s 0 (own s 0 n)) refl e
   where
     want : Want
-    want = to_use (only kind.Tcap)
+    want = to_use (only Kind.Tcap)
 
-    by_right : (j : Capability) → (b : Bool) → (if b then Found j else Refused reply.NoRight) ≡ Found k → j ≡ k
+    by_right : (j : Capability) → (b : Bool) → (if b then Found j else Refused Reply.NoRight) ≡ Found k → j ≡ k
     by_right j true e = cc
     by_right j false e = absurd (cc)
 
     by_kind : (at : Slot) → reached s 0 (own s 0 n) ≡ Some at → (j : Capability) → usable s 0 at ≡ Some j
-        → (b : Bool) → only kind.Tcap j.kind ≡ b
-        → (if b then with_rights want.needs j else Refused reply.WrongCap) ≡ Found k → LeadsTo s n k.frame
+        → (b : Bool) → only Kind.Tcap j.kind ≡ b
+        → (if b then with_rights want.needs j else Refused Reply.WrongCap) ≡ Found k → LeadsTo s n k.frame
     by_kind at slot j is true on e =
         let same : j ≡ k = by_right j (has_rights j.rights want.needs) e in
         record {
@@ -72,12 +50,12 @@ named_leads s n k e = by_slot (reached s 0 (own s 0 n)) refl e
     by_kind at slot j is false off e = absurd (cc)
 
     by_cap : (at : Slot) → reached s 0 (own s 0 n) ≡ Some at → (o : Option Capability) → usable s 0 at ≡ o
-        → and_then (or_refuse o reply.Empty) (of_kind want) ≡ Found k → LeadsTo s n k.frame
+        → and_then (or_refuse o Reply.Empty) (of_kind want) ≡ Found k → LeadsTo s n k.frame
     by_cap at slot None is e = absurd (cc)
-    by_cap at slot (Some j) is e = by_kind at slot j is (only kind.Tcap j.kind) refl e
+    by_cap at slot (Some j) is e = by_kind at slot j is (only Kind.Tcap j.kind) refl e
 
     by_slot : (o : Option Slot) → reached s 0 (own s 0 n) ≡ o
-        → and_then (or_refuse o reply.NoSlot) (λ at. and_then (or_refuse (usable s 0 at) reply.Empty) (of_kind want)) ≡ Found k
+        → and_then (or_refuse o Reply.NoSlot) (λ at. and_then (or_refuse (usable s 0 at) Reply.Empty) (of_kind want)) ≡ Found k
         → LeadsTo s n k.frame
     by_slot None slot e = absurd (cc)
     by_slot (Some at) slot e = by_cap at slot (usable s 0 at) refl e
@@ -135,7 +113,7 @@ module _ (rule : Rule) (tasks : List Task) (i f budget : ℕ) where
             omega (arith, kept, before)
       ])
 
-  by_begin : (x : Progress) (step : Step) → BeginsOne rule x step → IsTrue (fits kind.Tcap (x.state.frame f)) → Kept tasks x
+  by_begin : (x : Progress) (step : Step) → BeginsOne rule x step → IsTrue (fits Kind.Tcap (x.state.frame f)) → Kept tasks x
       → IsOwn tasks i f x → LacksUsed i f budget x → LacksOn x step
   by_begin x step w there kept mine lacks = subst (LacksOn x) w.is_step (λ charge job at.
       let r : Renewal = w.come in
@@ -186,7 +164,7 @@ module _ (rule : Rule) (tasks : List Task) (i f budget : ℕ) where
             omega (arith, kept, before)
       ]
 
-  lacks_on : (x : Progress) (step : Step) → turn_of rule x ≡ Some step → IsTrue (fits kind.Tcap (x.state.frame f)) → Kept tasks x
+  lacks_on : (x : Progress) (step : Step) → turn_of rule x ≡ Some step → IsTrue (fits Kind.Tcap (x.state.frame f)) → Kept tasks x
       → IsOwn tasks i f x → LacksUsed i f budget x → LacksOn x step
   lacks_on x step e there kept mine lacks = by_way (way rule x step e)
     where
@@ -218,7 +196,7 @@ module _ (rule : Rule) (tasks : List Task) (i f budget : ℕ) where
   -- ---- all turns
 
   all_lack : (x : Progress) (steps : List Step) → IsSchedule rule x steps → TurnsCharge rule x steps
-      → IsTrue (fits kind.Tcap (x.state.frame f)) → Kept tasks x → Throughout (IsOwn tasks i f) x steps → LacksUsed i f budget x
+      → IsTrue (fits Kind.Tcap (x.state.frame f)) → Kept tasks x → Throughout (IsOwn tasks i f) x steps → LacksUsed i f budget x
       → Throughout (LacksUsed i f budget) x steps
   all_lack x [] is charge there kept mine lacks = lacks
   all_lack x (step ∷ steps) is charge there kept mine lacks = (

@@ -1,34 +1,15 @@
 -- Budgets of their own are enough for tasks that have a bound.
-use Rattle.std.proofs.Common.{◌≡◌, ◌≢◌, ℕ, ◌+◌, ◌*◌, ◌≤◌, Bool, true, false, ◌||◌, refl, sym, ◌∙◌, ap, subst, arith}
-use Rattle.std.proofs.Common.{List, [], ◌∷◌, Some, IsSome}
-use Rattle.std.specs.Prelude.{slice_get}
-use Rattle.std.proofs.lemmas.Bool.{eq-eqb, or_parts, true≢false}
-use Rattle.spk_nums.specs.Merging.{number_of}
-use Rattle.spk_nums.specs.declared.replies.Reply.{Reply}
-use Rattle.kernel_rules.specs.State.{State}
-use Rattle.kernel_rules.specs.Edits.{tcap_at}
-use Rattle.sched_rules.specs.declared.tasks.Task.{Task}
-use Rattle.sched_rules.specs.declared.tasks.Rule.{Rule}
-use Rattle.sched_rules.specs.declared.tasks.Job.{Job}
-use Rattle.sched_rules.specs.declared.tasks.Renewal.{Renewal}
-use Rattle.sched_rules.specs.declared.turns.Turn.{Turn}
-use Rattle.sched_rules.specs.declared.turns.Turn.TheVariants.{Refused}
-use Rattle.sched_rules.specs.Schedule.{Progress, Step, TaskFits, renewal, turn_of, at_first, IsSchedule}
-use Rattle.sched_rules.specs.Texts.{ran_in, come_in}
-use Rattle.sched_laws.specs.Response.{Throughout, HasNumbers, IsSupplied, is_not_after}
-use Rattle.sched_laws.specs.Arrivals.{refuses}
-use Rattle.sched_laws.specs.Budgets.{IsOwn, LacksUsed, IsBound, OwnBudgetsSuffice}
-use Rattle.sched_laws.proofs.Arriving.{due_tells}
-use Rattle.sched_laws.proofs.Weights.{first_not_after}
-use Rattle.sched_laws.proofs.Jobs.{Follows, follows_on, follows_first, begins_at, none_left, the_job, times_next}
-use Rattle.sched_laws.proofs.Above.{not_after_tells}
-use Rattle.sched_laws.proofs.Pausing.{Kept, kept_on, kept_first}
-use Rattle.sched_laws.proofs.Loads.{Load, loaded_on}
-use Rattle.sched_laws.proofs.Periodic.{load_first, each_fits, periodic_bound}
-use Rattle.sched_laws.proofs.OnTime.{Expects, expects_on, expects_first, comes_by, comes_now, is_of}
-use Rattle.sched_laws.proofs.Lists.{turn_keeps}
-use Rattle.sched_laws.proofs.Returning.{own_budget_returns, first_of_all}
-use Rattle.sched_laws.proofs.Supplying.{IsOneJob, FindsNone, one_job_on, first_job, has_list, supplied}
+use Rattle.sched_laws.proofs.Common.{◌≡◌, ◌≢◌, ℕ, ◌+◌, ◌*◌, ◌≤◌, Bool, true, false, ◌||◌, refl, sym, ◌∙◌, ap, subst, arith, List, [], ◌∷◌}
+use Rattle.sched_laws.proofs.Common.{Some, IsSome, slice_get, eq-eqb, or_parts, true≢false, number_of, Reply, State, tcap_at, Task, Rule}
+use Rattle.sched_laws.proofs.Common.{Job, Renewal, Turn, Refused, Progress, Step, TaskFits, renewal, turn_of, at_first, IsSchedule, ran_in}
+use Rattle.sched_laws.specs.{Throughout, HasNumbers, IsSupplied, is_not_after, IsOwn, LacksUsed, Arrivals.refuses, Budgets.IsBound}
+use Rattle.sched_laws.proofs.{Arriving.due_tells, Weights.first_not_after, Jobs.Follows, Jobs.follows_on, Jobs.follows_first}
+use Rattle.sched_laws.proofs.{Jobs.begins_at, Jobs.none_left, Jobs.the_job, Jobs.times_next, Above.not_after_tells, Pausing.Kept}
+use Rattle.sched_laws.proofs.{Pausing.kept_on, Pausing.kept_first, Loads.Load, Loads.loaded_on, Periodic.load_first, Periodic.each_fits}
+use Rattle.sched_laws.proofs.{Periodic.periodic_bound, OnTime.Expects, OnTime.expects_on, OnTime.expects_first, OnTime.comes_by}
+use Rattle.sched_laws.proofs.{OnTime.comes_now, OnTime.is_of, Lists.turn_keeps, Returning.own_budget_returns, Returning.first_of_all}
+use Rattle.sched_laws.proofs.{Supplying.IsOneJob, Supplying.FindsNone, Supplying.one_job_on, Supplying.first_job, Supplying.has_list}
+use Rattle.{sched_laws.proofs.Common.come_in, sched_laws.specs.Budgets.OwnBudgetsSuffice, sched_laws.proofs.Supplying.supplied}
 
 -- What is not after a task that is not after another is not after that one.
 not_after_both : (numbers : ℕ → ℕ) (i k q : ℕ) → is_not_after numbers i k ≡ true → is_not_after numbers k q ≡ true

@@ -1,34 +1,15 @@
 -- A budget of a task's own that is at least its work is enough.
-use Rattle.std.proofs.Common.{◌≡◌, inl, inr, ℕ, ◌+◌, ◌-◌, ◌<◌, ◌≤◌, true, refl, sym, ◌∙◌, ap, subst, arith}
-use Rattle.std.proofs.Common.{if◌then◌else◌, List, [], ◌∷◌, Option, Some, None, IsSome, slice_set}
-use Rattle.std.specs.Prelude.{slice_get, option_map, IsTrue}
-use Rattle.std.proofs.lemmas.Bool.{cases_eq, lt-ltb, false≢true}
-use Rattle.std.proofs.lemmas.Option.{slice_get-map}
-use Rattle.spk_nums.specs.Merging.{number_of}
-use Rattle.spk_nums.specs.declared.kinds.Kind.TheVariants as kind
-use Rattle.kernel_rules.specs.State.{Frame, Kernel, Tcap, TcapFields, State, tcap_in}
-use Rattle.kernel_rules.specs.Fitting.{fits}
-use Rattle.kernel_rules.specs.Edits.{tcap_at}
-use Rattle.sched_rules.specs.declared.tasks.Task.{Task}
-use Rattle.sched_rules.specs.declared.tasks.Rule.{Rule}
-use Rattle.sched_rules.specs.declared.tasks.Job.{Job}
-use Rattle.sched_rules.specs.declared.tasks.Choice.{Choice}
-use Rattle.sched_rules.specs.declared.tasks.Renewal.{Renewal}
-use Rattle.sched_rules.specs.declared.turns.Turn.TheVariants.{Back}
-use Rattle.sched_rules.specs.Schedule.{Progress, Step, reach, with_number, time_in, time_of, is_due, ready, length_of, turn_of, begun}
-use Rattle.sched_rules.specs.Schedule.{ran, refused, gives_back, put_out, replenish_for, new_job, at_first, IsSchedule}
-use Rattle.sched_laws.specs.Response.{Throughout, IsSupplied}
-use Rattle.sched_laws.specs.Budgets.{LeadsTo, IsOwn, LacksUsed, DoneByNext, OwnBudgetSupplies}
-use Rattle.sched_laws.proofs.Picks.{place_of}
-use Rattle.sched_laws.proofs.Arriving.{due_tells}
-use Rattle.sched_laws.proofs.Turns.{Way, Runs, Refuses, Idles, Begins, Lacks, way, come_at}
-use Rattle.sched_laws.proofs.Weights.{set_here, set_apart}
-use Rattle.sched_laws.proofs.Bound.{length_most}
-use Rattle.sched_laws.proofs.Jobs.{the_job}
-use Rattle.sched_laws.proofs.OnTime.{is_of}
-use Rattle.sched_laws.proofs.Pausing.{Kept, kept_on, kept_first}
-use Rattle.sched_laws.proofs.Lists.{turn_keeps}
-use Rattle.sched_laws.proofs.Returning.{own_budget_returns}
+use Rattle.sched_laws.proofs.Common.{◌≡◌, inl, inr, ℕ, ◌+◌, ◌-◌, ◌<◌, ◌≤◌, true, refl, sym, ◌∙◌, ap, subst, arith, if◌then◌else◌, List, []}
+use Rattle.sched_laws.proofs.Common.{◌∷◌, Option, Some, None, IsSome, slice_set, slice_get, option_map, IsTrue, cases_eq, lt-ltb}
+use Rattle.sched_laws.proofs.Common.{false≢true, slice_get-map, number_of, Frame, Kernel, Tcap, TcapFields, State, tcap_in, fits, tcap_at}
+use Rattle.sched_laws.proofs.Common.{Task, Rule, Job, Choice, Renewal, Back, Progress, Step, reach, with_number, time_in, time_of, is_due}
+use Rattle.sched_laws.proofs.Common.{ready, length_of, turn_of, begun, ran, refused, gives_back, put_out, replenish_for, new_job, at_first}
+use Rattle.sched_laws.specs.{Throughout, IsSupplied, IsOwn, LacksUsed}
+use Rattle.sched_laws.specs.Budgets.{LeadsTo, DoneByNext, OwnBudgetSupplies}
+use Rattle.sched_laws.proofs.{Picks.place_of, Arriving.due_tells, Turns.Way, Turns.Runs, Turns.Refuses, Turns.Idles, Turns.Begins}
+use Rattle.sched_laws.proofs.{Turns.Lacks, Turns.way, Turns.come_at, Weights.set_here, Weights.set_apart, Bound.length_most, Jobs.the_job}
+use Rattle.sched_laws.proofs.{OnTime.is_of, Pausing.Kept, Pausing.kept_on, Pausing.kept_first, Lists.turn_keeps}
+use Rattle.{sched_laws.proofs.Common.IsSchedule, sched_laws.proofs.Common.Kind, sched_laws.proofs.Returning.own_budget_returns}
 
 -- ---- what a task has left of its last job
 
@@ -102,7 +83,7 @@ first_job s tasks i job at = by_task (slice_get tasks i) (sym (slice_get-map new
 -- ---- what makes a task ready
 
 -- A list that names a scheduler is that of a temporal capability.
-pub has_list : (x : Frame) (sched : ℕ) → IsSome (number_of (tcap_in x).qualities sched) → IsTrue (fits kind.Tcap x)
+pub has_list : (x : Frame) (sched : ℕ) → IsSome (number_of (tcap_in x).qualities sched) → IsTrue (fits Kind.Tcap x)
 has_list (Kernel (Tcap q)) sched named = refl
 has_list _ sched named = absurd (false≢true named)
 

@@ -1,20 +1,9 @@
 -- What a turn comes to: a further job of a task arrives, a task runs, or is refused, or nothing is ready.
-use Rattle.std.proofs.Common.{◌≡◌, ℕ, suc, ◌+◌, ◌-◌, ◌<◌, ◌≤◌, Bool, true, false, refl, sym}
-use Rattle.std.proofs.Common.{◌∙◌, ap, subst, arith}
-use Rattle.std.proofs.Common.{min, if◌then◌else◌, List, [], ◌∷◌, ◌++◌, Option, Some, None}
-use Rattle.std.specs.Prelude.{slice_get}
-use Rattle.spk_nums.specs.declared.calls.Call.{Call}
-use Rattle.spk_nums.specs.declared.calls.Call.TheVariants.{Tick}
-use Rattle.spk_nums.specs.declared.replies.Reply.{Reply}
-use Rattle.kernel_rules.specs.State.{State}
-use Rattle.sched_rules.specs.declared.tasks.Rule.{Rule}
-use Rattle.sched_rules.specs.declared.tasks.Job.{Job}
-use Rattle.sched_rules.specs.declared.tasks.Choice.{Choice}
-use Rattle.sched_rules.specs.declared.tasks.Renewal.{Renewal}
-use Rattle.sched_rules.specs.declared.turns.Turn.TheVariants.{Ran, Idle, Back, Refused}
-use Rattle.sched_rules.specs.Schedule.{Progress, Step, chosen, next_arrival, length_of, reply_to, state_past, is_done}
-use Rattle.sched_rules.specs.Schedule.{refused, ran, ticks, switches, switch_for, goes_on, idles, turn_by, turn_for, turn_of}
-use Rattle.sched_rules.specs.Schedule.{is_renewed, renewal, put_out, gives_back, replenish_for}
+use Rattle.sched_laws.proofs.Common.{◌≡◌, ℕ, suc, ◌+◌, ◌-◌, ◌<◌, ◌≤◌, Bool, true, false, refl, sym, ◌∙◌, ap, subst, arith, min}
+use Rattle.sched_laws.proofs.Common.{if◌then◌else◌, List, [], ◌∷◌, ◌++◌, Option, Some, None, slice_get, Call, Tick, Reply, State, Rule, Job}
+use Rattle.sched_laws.proofs.Common.{Choice, Renewal, Ran, Idle, Back, Refused, Progress, Step, chosen, next_arrival, length_of, reply_to}
+use Rattle.sched_laws.proofs.Common.{state_past, is_done, refused, ran, ticks, switches, switch_for, goes_on, idles, turn_by, turn_for}
+use Rattle.sched_laws.proofs.Common.{turn_of, is_renewed, renewal, put_out, gives_back, replenish_for}
 use Rattle.sched_laws.specs.Least.{IsLeast, NoneReady, LeastRuns, NoneWaits}
 use Rattle.sched_laws.proofs.Picks.{best, none_ready, place_of, first_of_all}
 use Rattle.sched_laws.proofs.Arriving.{IsBefore, ready_same, tick_before}

@@ -1,14 +1,8 @@
 -- The work left of the tasks that are not after one.
-use Rattle.std.proofs.Common.{◌≡◌, ◌≢◌, ℕ, zero, suc, ◌+◌, Bool, true, false, ◌&&◌, ◌==◌, refl, sym}
-use Rattle.std.proofs.Common.{◌∙◌, ap, arith}
-use Rattle.std.proofs.Common.{inl, inr, nat_lt, nat_le, if◌then◌else◌, List, [], ◌∷◌, map, Some, slice_set}
-use Rattle.std.specs.Prelude.{slice_get}
-use Rattle.std.proofs.lemmas.Bool.{cases_lt, lt-ltb, le-leb, eq-eqb, or_left, or_right, and_from}
-use Rattle.sched_rules.specs.declared.tasks.Task.{Task}
-use Rattle.sched_rules.specs.declared.tasks.Job.{Job}
-use Rattle.sched_rules.specs.Schedule.{new_job}
-use Rattle.sched_laws.specs.Least.{ComesFirst}
-use Rattle.sched_laws.specs.Response.{is_not_after, work_not_after}
+use Rattle.sched_laws.proofs.Common.{◌≡◌, ◌≢◌, ℕ, zero, suc, ◌+◌, Bool, true, false, ◌&&◌, ◌==◌, refl, sym, ◌∙◌, ap, arith, inl, inr}
+use Rattle.sched_laws.proofs.Common.{nat_lt, nat_le, if◌then◌else◌, List, [], ◌∷◌, map, Some, slice_set, slice_get, cases_lt, lt-ltb}
+use Rattle.sched_laws.proofs.Common.{le-leb, eq-eqb, or_left, or_right, and_from, Task, Job, new_job}
+use Rattle.{sched_laws.specs.ComesFirst, sched_laws.specs.is_not_after, sched_laws.specs.Response.work_not_after}
 
 -- The work left of the tasks listed from place k on that are not after the task at place i.
 abbrev pub left_not_after : (ℕ → ℕ) → ℕ → ℕ → List Job → ℕ

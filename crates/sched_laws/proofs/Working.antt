@@ -1,22 +1,11 @@
 -- What each task has left.
-use Rattle.std.proofs.Common.{◌≡◌, ◌≢◌, inl, inr, ℕ, suc, ◌+◌, ◌*◌, ◌-◌, ◌==◌, true, false, refl, sym, ◌∙◌, ap, subst, arith}
-use Rattle.std.proofs.Common.{if◌then◌else◌, List, [], ◌∷◌, Some, slice_set}
-use Rattle.std.specs.Prelude.{slice_get, option_map}
-use Rattle.std.proofs.lemmas.Bool.{cases_eq, eq-eqb, ne_eqb}
-use Rattle.std.proofs.Math.Nat.{suc-mul, add-mul}
-use Rattle.std.proofs.lemmas.Option.{slice_get-map}
-use Rattle.sched_rules.specs.declared.tasks.Rule.{Rule}
-use Rattle.sched_rules.specs.declared.tasks.Job.{Job}
-use Rattle.sched_rules.specs.declared.tasks.Choice.{Choice}
-use Rattle.sched_rules.specs.declared.tasks.Renewal.{Renewal}
-use Rattle.sched_rules.specs.declared.turns.Turn.TheVariants.{Ran, Back}
-use Rattle.sched_rules.specs.Schedule.{Progress, Step, begun, length_of, turn_of, new_job, at_first, turns_of, last_of, IsSchedule}
-use Rattle.sched_rules.specs.Texts.{ran_in, ran_by, come_in, come_by}
-use Rattle.sched_laws.specs.Work.{WorkIsKept}
-use Rattle.sched_laws.proofs.Picks.{place_of}
-use Rattle.sched_laws.proofs.Turns.{Way, Runs, Refuses, Idles, Begins, Lacks, RunsOne, way, come_at}
-use Rattle.sched_laws.proofs.Weights.{set_here, set_apart}
-use Rattle.sched_laws.proofs.Bound.{length_most}
+use Rattle.sched_laws.proofs.Common.{◌≡◌, ◌≢◌, inl, inr, ℕ, suc, ◌+◌, ◌*◌, ◌-◌, ◌==◌, true, false, refl, sym, ◌∙◌, ap, subst, arith}
+use Rattle.sched_laws.proofs.Common.{if◌then◌else◌, List, [], ◌∷◌, Some, slice_set, slice_get, option_map, cases_eq, eq-eqb, ne_eqb}
+use Rattle.sched_laws.proofs.Common.{add-mul, slice_get-map, Rule, Job, Choice, Renewal, Ran, Back, Progress, Step, begun, length_of}
+use Rattle.sched_laws.proofs.Common.{turn_of, new_job, at_first, turns_of, last_of, IsSchedule, ran_in, ran_by, come_in, come_by}
+use Rattle.sched_laws.proofs.{Picks.place_of, Turns.Way, Turns.Runs, Turns.Refuses, Turns.Idles, Turns.Begins, Turns.Lacks, Turns.RunsOne}
+use Rattle.sched_laws.proofs.{Turns.way, Turns.come_at, Weights.set_here, Weights.set_apart, Bound.length_most}
+use Rattle.{std.proofs.Math.Nat.suc-mul, sched_laws.specs.Work.WorkIsKept}
 
 same_job : (a b : Job) → Some a ≡ Some b → a ≡ b
 same_job a b e = cc

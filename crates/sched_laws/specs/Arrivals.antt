@@ -1,12 +1,9 @@
 -- When further jobs of tasks arrive.
+use Rattle.sched_rules.specs as low
 use Rattle.std.specs.Prelude.{◌≡◌, ◌≤◌, ℕ, ◌+◌, ◌*◌, ◌==◌, Bool, false, ◌||◌, List, [], ◌∷◌, ◌++◌, slice_get, Some}
-use Rattle.kernel_rules.specs.State.{State}
-use Rattle.sched_rules.specs.declared.tasks.Task.{Task}
-use Rattle.sched_rules.specs.declared.tasks.Rule.{Rule}
-use Rattle.sched_rules.specs.declared.turns.Turn.{Turn}
-use Rattle.sched_rules.specs.declared.turns.Turn.TheVariants.{Ran, Idle, Back, Refused}
-use Rattle.sched_rules.specs.Schedule.{Step, at_first, turns_of, IsSchedule}
-use Rattle.sched_rules.specs.Texts.{come_by}
+use low.{declared.tasks.Task.Task, declared.tasks.Rule.Rule, declared.turns.Turn.Turn, declared.turns.Turn.TheVariants.Ran}
+use low.{Step, at_first, turns_of, IsSchedule, come_by, kernel_rules.specs.State.State, declared.turns.Turn.TheVariants.Idle}
+use low.{declared.turns.Turn.TheVariants.Back, declared.turns.Turn.TheVariants.Refused}
 
 -- When a turn begins.
 abbrev pub begins_at : Turn → ℕ

@@ -1,25 +1,17 @@
 -- A temporal capability of a task's own, and how its budget comes back.
-use Rattle.std.specs.Prelude.{◌≡◌, ◌≢◌, ◌≤◌, ℕ, ◌+◌, ◌*◌, true, List, [], ◌∷◌, slice_get, Some, IsSome, IsTrue, All}
-use Rattle.spk_nums.specs.Capability.{Capability}
-use Rattle.spk_nums.specs.Merging.{number_of}
-use Rattle.spk_nums.specs.declared.kinds.Kind.TheVariants as kind
-use Rattle.kernel_rules.specs.State.{State}
-use Rattle.kernel_rules.specs.Access.{only}
-use Rattle.kernel_rules.specs.Fitting.{fits}
-use Rattle.kernel_rules.specs.Edits.{tcap_at}
-use Rattle.sched_rules.specs.declared.tasks.Task.{Task}
-use Rattle.sched_rules.specs.declared.tasks.Rule.{Rule}
-use Rattle.sched_rules.specs.declared.tasks.Job.{Job}
-use Rattle.sched_rules.specs.declared.turns.Turn.TheVariants.{Back}
-use Rattle.sched_rules.specs.Schedule.{Progress, Step, TaskFits, reach, at_first, turns_of, IsSchedule}
+use Rattle.sched_rules.specs.kernel_rules.specs.{◌≡◌, ◌≢◌, ◌≤◌, ℕ, ◌+◌, ◌*◌, true, List, [], ◌∷◌, slice_get, Some, IsSome, IsTrue, All}
+use Rattle.sched_rules.specs.kernel_rules.specs.{Capability, number_of, only, fits, tcap_at, Kind}
+use Rattle.sched_rules.specs.{Progress, Step, TaskFits, reach, at_first, turns_of, IsSchedule}
+use Rattle.sched_rules.specs.{declared.tasks.Task.Task, declared.tasks.Rule.Rule, declared.tasks.Job.Job}
 use Rattle.sched_laws.specs.Response.{Throughout, HasNumbers, IsSupplied, NeverRefused, is_not_after}
 use Rattle.sched_laws.specs.Periods.{ran_until, work_above}
+use Rattle.{sched_rules.specs.kernel_rules.specs.State.State, sched_rules.specs.declared.turns.Turn.TheVariants.Back}
 
 -- A name of core 0 leads to the temporal capability in a frame.
 pub record LeadsTo (s : State) (name f : ℕ) : Type 0 where
   pub cap : Capability
   pub reaches : reach s 0 name ≡ Some cap
-  pub kind : IsTrue (only kind.Tcap cap.kind)
+  pub kind : IsTrue (only Kind.Tcap cap.kind)
   pub frame : cap.frame ≡ f
 
 -- The name of the task at place i leads to the temporal capability in a frame, and no other task's name does.
@@ -46,7 +38,7 @@ pub record BudgetReturns (i f budget : ℕ) (x : Progress) (steps : List Step) :
 -- job.
 abbrev pub OwnBudgetReturns : Type 0
 OwnBudgetReturns = (rule : Rule) (s : State) (tasks : List Task) (steps : List Step) → IsSchedule rule (at_first s tasks) steps
-    → (s.core 0).owed ≡ 0 → (i f : ℕ) → IsTrue (fits kind.Tcap (s.frame f)) → Throughout (IsOwn tasks i f) (at_first s tasks) steps
+    → (s.core 0).owed ≡ 0 → (i f : ℕ) → IsTrue (fits Kind.Tcap (s.frame f)) → Throughout (IsOwn tasks i f) (at_first s tasks) steps
     → BudgetReturns i f (tcap_at s f).budget (at_first s tasks) steps
 
 -- Each further job of the task at place i arrives when it has nothing left of the earlier ones.

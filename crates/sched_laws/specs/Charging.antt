@@ -1,18 +1,9 @@
 -- What the turns of a schedule charge and give back, and to which temporal capability.
-use Rattle.std.specs.Prelude.{◌≡◌, ◌≢◌, ℕ, ◌+◌, List, [], ◌∷◌, Some, IsTrue}
-use Rattle.spk_nums.specs.Capability.{Capability}
-use Rattle.spk_nums.specs.declared.kinds.Kind.TheVariants as kind
-use Rattle.kernel_rules.specs.State.{State}
-use Rattle.kernel_rules.specs.Access.{only, to_use}
-use Rattle.kernel_rules.specs.Rules.{Found, named}
-use Rattle.kernel_rules.specs.Fitting.{fits}
-use Rattle.kernel_rules.specs.Edits.{tcap_at}
-use Rattle.sched_rules.specs.declared.tasks.Rule.{Rule}
-use Rattle.sched_rules.specs.declared.tasks.Choice.{Choice}
-use Rattle.sched_rules.specs.declared.tasks.Renewal.{Renewal}
-use Rattle.sched_rules.specs.declared.turns.Turn.{Turn}
-use Rattle.sched_rules.specs.declared.turns.Turn.TheVariants.{Ran, Idle, Back, Refused}
-use Rattle.sched_rules.specs.Schedule.{Progress, Step, chosen, renewal, IsSchedule}
+use Rattle.sched_rules.specs as low
+use low.kernel_rules.specs.{◌≡◌, ◌≢◌, ℕ, ◌+◌, List, [], ◌∷◌, Some, IsTrue, Capability, only, to_use, Found, named, fits, tcap_at, Kind}
+use low.{declared.tasks.Rule.Rule, declared.tasks.Choice.Choice, declared.tasks.Renewal.Renewal, declared.turns.Turn.Turn}
+use low.{declared.turns.Turn.TheVariants.Ran, declared.turns.Turn.TheVariants.Idle, declared.turns.Turn.TheVariants.Back}
+use low.{Progress, Step, chosen, renewal, IsSchedule, kernel_rules.specs.State.State, declared.turns.Turn.TheVariants.Refused}
 
 -- From state s to the new one core 0 has spent so many ticks, all of the temporal capability in a frame; it has had none back, and owes
 -- none.
@@ -40,7 +31,7 @@ pub record ChargesChosen (rule : Rule) (x : Progress) (new : State) (i ticks : �
 -- From state s to the new one core 0 has had back so many ticks, all in the temporal capability in a frame, where it has one, as in every
 -- state that the kernel reaches.
 pub record Restores (s new : State) (f ticks : ℕ) : Type 0 where
-  pub budget : IsTrue (fits kind.Tcap (s.frame f)) → (tcap_at new f).budget ≡ (tcap_at s f).budget + ticks
+  pub budget : IsTrue (fits Kind.Tcap (s.frame f)) → (tcap_at new f).budget ≡ (tcap_at s f).budget + ticks
   pub others : (g : ℕ) → g ≢ f → (tcap_at new g).budget ≡ (tcap_at s g).budget
   pub spent : (new.core 0).spent ≡ (s.core 0).spent
   pub back : (new.core 0).back ≡ (s.core 0).back + ticks
@@ -54,7 +45,7 @@ pub record RestoresTask (x : Progress) (new : State) (i ticks : ℕ) : Type 0 wh
   pub task : come.index + 1 ≡ i
   pub used : come.job.used ≡ ticks
   pub tcap : Capability
-  pub led : named x.state 0 come.job.task.tcap (to_use (only kind.Tcap)) ≡ Found tcap
+  pub led : named x.state 0 come.job.task.tcap (to_use (only Kind.Tcap)) ≡ Found tcap
   pub restores : Restores x.state new tcap.frame ticks
 
 -- A turn charges exactly its ticks, or gives them back.

@@ -1,14 +1,9 @@
 -- Which task runs: the least among the ready ones, at every tick.
-use Rattle.std.specs.Prelude.{◌≡◌, ◌<◌, ◌≤◌, ℕ, ◌+◌, false, List, slice_get, Some, None}
-use Rattle.kernel_rules.specs.State.{State}
-use Rattle.kernel_rules.specs.TimeCalls.{preempts}
-use Rattle.kernel_rules.specs.Edits.{tcap_at}
-use Rattle.sched_rules.specs.declared.tasks.Rule.{Rule}
-use Rattle.sched_rules.specs.declared.tasks.Job.{Job}
-use Rattle.sched_rules.specs.declared.tasks.Ready.{Ready}
-use Rattle.sched_rules.specs.declared.tasks.Choice.{Choice}
-use Rattle.sched_rules.specs.declared.turns.Turn.TheVariants.{Ran, Idle}
-use Rattle.sched_rules.specs.Schedule.{Progress, Step, ready, chosen, turn_of}
+use Rattle.sched_rules.specs.kernel_rules.specs.{◌≡◌, ◌<◌, ◌≤◌, ℕ, ◌+◌, false, List, slice_get, Some, None, preempts, tcap_at}
+use Rattle.sched_rules.specs.{Progress, Step, ready, chosen, turn_of}
+use Rattle.sched_rules.specs.kernel_rules.specs.State.{State}
+use Rattle.sched_rules.specs.{declared.tasks.Rule.Rule, declared.tasks.Job.Job, declared.tasks.Ready.Ready, declared.tasks.Choice.Choice}
+use Rattle.sched_rules.specs.{declared.turns.Turn.TheVariants.Ran, declared.turns.Turn.TheVariants.Idle}
 
 -- A task of number n at place i does not come after one of number m at place k: its number is smaller, or the same and it is listed no
 -- later.

@@ -1,15 +1,10 @@
 -- When a task ends.
-use Rattle.std.specs.Prelude.{◌≡◌, ◌≢◌, ◌≤◌, ℕ, ◌+◌, Bool, true, ◌||◌, ◌&&◌, ◌==◌, nat_lt, nat_le, if◌then◌else◌}
-use Rattle.std.specs.Prelude.{List, [], ◌∷◌, slice_get, Some, None, IsSome}
-use Rattle.spk_nums.specs.declared.replies.Reply.{Reply}
-use Rattle.kernel_rules.specs.State.{State}
-use Rattle.sched_rules.specs.declared.tasks.Task.{Task}
-use Rattle.sched_rules.specs.declared.tasks.Rule.{Rule}
-use Rattle.sched_rules.specs.declared.tasks.Job.{Job}
-use Rattle.sched_rules.specs.declared.tasks.Ready.{Ready}
-use Rattle.sched_rules.specs.declared.turns.Turn.TheVariants.{Ran, Refused}
-use Rattle.sched_rules.specs.Schedule.{Progress, Step, is_due, ready, at_first, turns_of, IsSchedule}
-use Rattle.sched_rules.specs.Texts.{ran_by}
+use Rattle.sched_rules.specs.kernel_rules.specs.{◌≡◌, ◌≢◌, ◌≤◌, ℕ, ◌+◌, Bool, true, ◌||◌, ◌&&◌, ◌==◌, ltb as nat_lt, leb as nat_le}
+use Rattle.sched_rules.specs.kernel_rules.specs.{if◌then◌else◌, List, [], ◌∷◌, slice_get, Some, None, IsSome, Reply}
+use Rattle.sched_rules.specs.{Progress, Step, is_due, ready, at_first, turns_of, IsSchedule, ran_by}
+use Rattle.sched_rules.specs.kernel_rules.specs.State.{State}
+use Rattle.sched_rules.specs.{declared.tasks.Task.Task, declared.tasks.Rule.Rule, declared.tasks.Job.Job, declared.tasks.Ready.Ready}
+use Rattle.sched_rules.specs.{declared.turns.Turn.TheVariants.Ran, declared.turns.Turn.TheVariants.Refused}
 
 -- This holds wherever the schedule comes to, before its first turn and after each turn.
 abbrev pub Throughout : (Progress → Type 0) → Progress → List Step → Type 0

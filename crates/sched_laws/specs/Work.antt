@@ -1,11 +1,8 @@
 -- What a schedule leaves of each task's work.
+use Rattle.sched_rules.specs.{Progress, Step, at_first, turns_of, IsSchedule, ran_by, work_by}
 use Rattle.std.specs.Prelude.{◌≡◌, ℕ, ◌+◌, List, slice_get, Some}
-use Rattle.kernel_rules.specs.State.{State}
-use Rattle.sched_rules.specs.declared.tasks.Task.{Task}
-use Rattle.sched_rules.specs.declared.tasks.Rule.{Rule}
-use Rattle.sched_rules.specs.declared.tasks.Job.{Job}
-use Rattle.sched_rules.specs.Schedule.{Progress, Step, at_first, turns_of, last_of, IsSchedule}
-use Rattle.sched_rules.specs.Texts.{ran_by, work_by}
+use Rattle.sched_rules.specs.kernel_rules.specs.State.{State}
+use Rattle.sched_rules.specs.{declared.tasks.Task.Task, declared.tasks.Rule.Rule, declared.tasks.Job.Job, Schedule.last_of}
 
 -- The task at place i has this work left, and has run for the rest of it.
 pub record HasLeft (x : Progress) (i ran work : ℕ) : Type 0 where

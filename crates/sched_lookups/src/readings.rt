@@ -2,8 +2,8 @@
 
 ghost use Rattle.std.specs.Prelude.{◌≡◌, ◌<◌};
 ghost use Rattle.std.specs.Option.{option_and_then};
-ghost use Rattle.kernel_rules.specs.Access.{usable, own, reached};
-ghost use Rattle.kernel_rules.specs.Edits.{tcap_at};
+ghost use Rattle.seq_state.specs.kernel_rules.specs.Access.{usable, own, reached};
+ghost use Rattle.seq_state.specs.kernel_rules.specs.Edits.{tcap_at};
 ghost use Rattle.seq_state.specs.Maps.{state_of};
 ghost use Rattle.sched_rules.specs.Schedule.{reach};
 

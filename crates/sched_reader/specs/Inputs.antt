@@ -1,21 +1,14 @@
 -- A script and the tasks after it, as a whole: the lines of the bytes, one after another, and the end.
-use Rattle.std.specs.Prelude.{◌≡◌, ◌≤◌, ℕ, ◌+◌, ◌==◌, List, [], ◌∷◌, ◌++◌, Bool, true, false, Option, Some, None, Result, Ok, Err}
-use Rattle.std.specs.Prelude.{length, codes, All, IfSome, IsSome, if◌then◌else◌}
-use Rattle.script_tokens.specs.declared.scanning.Ending.{Ending}
-use Rattle.script_tokens.specs.Words.{words_of, ending_of}
-use Rattle.line_reader.specs.declared.cause.Cause.{Cause}
-use Rattle.line_reader.specs.declared.cause.Cause.TheVariants.{S5, S7, S9}
-use Rattle.line_reader.specs.Causes.{◌>>=◌}
-use Rattle.line_reader.specs.Lines.{Row, rows_of, First_fault, at_line, and_then, lines_from as all_lines_from, whole_lines}
-use Rattle.script_reader.specs.Heads.{is_whole}
-use Rattle.script_reader.specs.Readings.{Draft_of, no_draft, draft_behind, Meaning, meaning_of}
-use Rattle.script_reader.specs.Readings.{IsDraft, IsScript, draft_view, script_view}
-use Rattle.sched_rules.specs.declared.tasks.Rule.{Rule}
-use Rattle.sched_rules.specs.declared.tasks.Task.{Task}
-use Rattle.sched_rules.specs.Schedule.{TaskFits, RuleFits}
-use Rattle.sched_reader.specs.declared.draft.SchedDraft.{SchedDraft}
-use Rattle.sched_reader.specs.declared.reading.SchedInput.{SchedInput}
-use Rattle.sched_reader.specs.Lines.{begins, rule_at, task_line}
+use Rattle.std.specs.Prelude.{◌≡◌, ◌≤◌, ℕ, ◌+◌, ◌==◌, List, [], ◌∷◌, ◌++◌, Bool, true, false, Option, Some, None, Result, Ok, Err, length}
+use Rattle.std.specs.Prelude.{codes, All, IfSome, IsSome, if◌then◌else◌}
+use Rattle.script_reader.specs.{is_whole, Draft_of, no_draft, draft_behind, Meaning, meaning_of, IsDraft, IsScript, draft_view, script_view}
+use Rattle.line_reader.specs.{◌>>=◌, Row, rows_of, First_fault, at_line, and_then, lines_from as all_lines_from}
+use Rattle.line_reader.specs.{declared.cause.Cause.Cause, declared.cause.Cause.TheVariants.S5, declared.cause.Cause.TheVariants.S7}
+use Rattle.sched_reader.specs.{declared.draft.SchedDraft.SchedDraft, declared.reading.SchedInput.SchedInput, Lines.begins, Lines.rule_at}
+use Rattle.{sched_rules.specs.TaskFits, sched_rules.specs.RuleFits, script_tokens.specs.words_of, script_tokens.specs.ending_of}
+use Rattle.{script_tokens.specs.declared.scanning.Ending.Ending, line_reader.specs.declared.cause.Cause.TheVariants.S9}
+use Rattle.{line_reader.specs.Lines.whole_lines, sched_rules.specs.declared.tasks.Rule.Rule, sched_rules.specs.declared.tasks.Task.Task}
+use Rattle.{sched_reader.specs.Lines.task_line}
 
 -- ---- lines
 

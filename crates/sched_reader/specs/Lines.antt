@@ -1,12 +1,8 @@
 -- The line `sched`, and the lines of tasks after it.
 use Rattle.std.specs.Prelude.{ℕ, ◌&&◌, nat_le, nat_lt, List, length, Bool, false, Option, Some, None, Result, Ok, Err, slice_get, codes}
-use Rattle.std.specs.Prelude.{if◌then◌else◌}
-use Rattle.sched_rules.specs.declared.tasks.Rule.{Rule}
-use Rattle.sched_rules.specs.declared.tasks.Task.{Task}
-use Rattle.line_reader.specs.declared.cause.Cause.{Cause}
-use Rattle.line_reader.specs.declared.cause.Cause.TheVariants.{S2}
-use Rattle.line_reader.specs.Causes.{◌>>=◌}
-use Rattle.line_reader.specs.Arguments.{is_word, name_at, number_at, end_at}
+use Rattle.line_reader.specs.{declared.cause.Cause.Cause, declared.cause.Cause.TheVariants.S2, Arguments.is_word, Arguments.number_at}
+use Rattle.{std.specs.Prelude.if◌then◌else◌, line_reader.specs.◌>>=◌, line_reader.specs.name_at, sched_rules.specs.declared.tasks.Rule.Rule}
+use Rattle.{sched_rules.specs.declared.tasks.Task.Task, line_reader.specs.Arguments.end_at}
 
 -- there is a word, and it is this one
 abbrev pub is_name : List ℕ → Option (List ℕ) → Bool

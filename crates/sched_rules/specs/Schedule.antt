@@ -1,27 +1,14 @@
 -- Fixed-priority scheduling on core 0: which task is ready, which is chosen, what a turn is, and the schedule that turns make; and what is
 -- given back to a task as its further jobs arrive. It is said of the states of the sequential kernel, whose calls core 0 makes alone.
-use Rattle.std.specs.Prelude.{◌≡◌, ◌<◌, ◌≤◌, ℕ, ◌+◌, ◌-◌, min, Bool, true, false, not, ◌&&◌, ◌==◌, nat_lt, nat_le, if◌then◌else◌}
-use Rattle.std.specs.Prelude.{List, [], ◌∷◌, ◌++◌, map, slice_set, Option, Some, None, IfSome}
-use Rattle.std.specs.Option.{option_and_then}
-use Rattle.spk_nums.specs.Capability.{Capability}
-use Rattle.spk_nums.specs.Merging.{number_of}
-use Rattle.spk_nums.specs.declared.kinds.Kind.TheVariants as kind
-use Rattle.spk_nums.specs.declared.calls.Call.{Call}
-use Rattle.spk_nums.specs.declared.calls.Call.TheVariants.{Switch, Tick, Replenish}
-use Rattle.spk_nums.specs.declared.replies.Reply.{Reply}
-use Rattle.spk_nums.specs.declared.replies.Reply.TheVariants.{Ok as ok_reply}
-use Rattle.kernel_rules.specs.State.{TcapFields, State}
-use Rattle.kernel_rules.specs.Access.{only, usable, reached, own}
-use Rattle.kernel_rules.specs.Edits.{tcap_at}
-use Rattle.kernel_rules.specs.Alone.{plain_reply, plain_step}
-use Rattle.sched_rules.specs.declared.tasks.Task.{Task}
-use Rattle.sched_rules.specs.declared.tasks.Rule.{Rule}
-use Rattle.sched_rules.specs.declared.tasks.Job.{Job}
-use Rattle.sched_rules.specs.declared.tasks.Ready.{Ready}
-use Rattle.sched_rules.specs.declared.tasks.Choice.{Choice}
-use Rattle.sched_rules.specs.declared.tasks.Renewal.{Renewal}
-use Rattle.sched_rules.specs.declared.turns.Turn.{Turn}
-use Rattle.sched_rules.specs.declared.turns.Turn.TheVariants.{Ran, Idle, Back, Refused}
+use Rattle.kernel_rules.specs.{◌≡◌, ◌<◌, ◌≤◌, ℕ, ◌+◌, ◌-◌, min, Bool, true, false, not, ◌&&◌, ◌==◌, ltb as nat_lt, leb as nat_le}
+use Rattle.kernel_rules.specs.{if◌then◌else◌, List, [], ◌∷◌, ◌++◌, map, set as slice_set, Option, Some, None, IfSome, option_and_then}
+use Rattle.kernel_rules.specs.{Capability, number_of, Call, Switch, Tick, Replenish, Reply, TcapFields, only, usable, reached, own, tcap_at}
+use Rattle.kernel_rules.specs.{plain_reply, plain_step, Kind}
+use Rattle.sched_rules.specs.{declared.tasks.Task.Task, declared.tasks.Rule.Rule, declared.tasks.Job.Job, declared.tasks.Ready.Ready}
+use Rattle.sched_rules.specs.{declared.tasks.Choice.Choice, declared.tasks.Renewal.Renewal, declared.turns.Turn.Turn}
+use Rattle.sched_rules.specs.{declared.turns.Turn.TheVariants.Ran, declared.turns.Turn.TheVariants.Idle}
+use Rattle.sched_rules.specs.{declared.turns.Turn.TheVariants.Back, declared.turns.Turn.TheVariants.Refused}
+use Rattle.{spk_nums.specs.declared.replies.Reply.TheVariants.Ok as ok_reply, kernel_rules.specs.State.State}
 
 -- Where a schedule has come to: the time, the kernel's state, the tasks in the order listed, and the place in that list of the task that
 -- ran last.
@@ -49,7 +36,7 @@ time_in f q sched = if nat_lt 0 q.budget then with_number f q.budget (number_of 
 -- What a name reaches has time for a scheduler where it is such a temporal capability.
 abbrev pub time_of : State → ℕ → Option Capability → Option Ready
 time_of s sched None = None
-time_of s sched (Some k) = if only kind.Tcap k.kind then time_in k.frame (tcap_at s k.frame) sched else None
+time_of s sched (Some k) = if only Kind.Tcap k.kind then time_in k.frame (tcap_at s k.frame) sched else None
 
 -- A task is due where it has arrived, has work left, and was not refused.
 abbrev pub is_due : ℕ → Job → Bool

@@ -1,9 +1,7 @@
 -- How turns and tasks are written.
-use Rattle.std.specs.Prelude.{ℕ, ◌+◌, ◌-◌, ◌*◌, ◌==◌, if◌then◌else◌, List, [], ◌∷◌, ◌++◌, codes, decimal}
-use Rattle.spk_nums.specs.Texts.{reply_text}
-use Rattle.sched_rules.specs.declared.tasks.Task.{Task}
-use Rattle.sched_rules.specs.declared.turns.Turn.{Turn}
+use Rattle.kernel_rules.specs.{ℕ, ◌+◌, ◌-◌, ◌*◌, ◌==◌, if◌then◌else◌, List, [], ◌∷◌, ◌++◌, codes, decimal, reply_text}
 use Rattle.sched_rules.specs.declared.turns.Turn.TheVariants.{Ran, Idle, Back, Refused}
+use Rattle.{sched_rules.specs.declared.tasks.Task.Task, sched_rules.specs.declared.turns.Turn.Turn}
 
 -- the beginning of a turn of a task
 abbrev pub task_at : ℕ → ℕ → List ℕ

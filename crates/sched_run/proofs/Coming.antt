@@ -1,23 +1,17 @@
 -- How many further jobs of a task arrive: no two at one time, and none after 1,000,000.
-use Rattle.std.proofs.Common.{◌≡◌, ◌≢◌, inl, inr, ℕ, ◌+◌, ◌*◌, ◌-◌, ◌≤◌, Bool, true, false, not, nat_le, refl, sym, ◌∙◌, ap, subst, arith}
-use Rattle.std.proofs.Common.{if◌then◌else◌, List, [], ◌∷◌, slice_set, Option, Some, None, IfSome}
-use Rattle.std.specs.Prelude.{slice_get, option_map}
-use Rattle.std.proofs.lemmas.Bool.{cases_eq, eq-eqb, ne_eqb, leb-true, and_parts, false≢true}
-use Rattle.std.proofs.lemmas.Nat.{mul-le}
-use Rattle.std.proofs.lemmas.Option.{slice_get-map}
-use Rattle.kernel_rules.specs.State.{State}
-use Rattle.sched_rules.specs.declared.tasks.Task.{Task}
-use Rattle.sched_rules.specs.declared.tasks.Rule.{Rule}
-use Rattle.sched_rules.specs.declared.tasks.Job.{Job}
-use Rattle.sched_rules.specs.declared.tasks.Renewal.{Renewal}
-use Rattle.sched_rules.specs.declared.turns.Turn.TheVariants.{Back}
-use Rattle.sched_rules.specs.Schedule.{Progress, Step, job_after, has_come, next_of, begun, turn_of, new_job, at_first, turns_of}
-use Rattle.sched_rules.specs.Schedule.{IsSchedule, PeriodFits, TaskFits}
-use Rattle.sched_rules.specs.Texts.{come_in, come_by, work_by}
-use Rattle.fixed_prio.specs.sched_laws.proofs.Picks.{place_of}
-use Rattle.fixed_prio.specs.sched_laws.proofs.Turns.{Way, Runs, Refuses, Idles, Begins, Lacks, way, come_at}
-use Rattle.fixed_prio.specs.sched_laws.proofs.Weights.{set_here, set_apart}
-use Rattle.fixed_prio.proofs.ToGo.{come_is}
+use Rattle.fixed_prio.specs.plain_kernel.specs.kernel_laws.proofs.{◌≡◌, ◌≢◌, inl, inr, ℕ, ◌+◌, ◌*◌, ◌-◌, ◌≤◌, Bool, true, false, not}
+use Rattle.fixed_prio.specs.plain_kernel.specs.kernel_laws.proofs.{leb as nat_le, refl, sym, ◌∙◌, ap, subst, arith, if◌then◌else◌, List, []}
+use Rattle.fixed_prio.specs.plain_kernel.specs.kernel_laws.proofs.{◌∷◌, set as slice_set, Option, Some, None, IfSome, slice_get, option_map}
+use Rattle.fixed_prio.specs.plain_kernel.specs.kernel_laws.proofs.{eq-eqb, ne_eqb, leb-true, false≢true, State}
+use Rattle.fixed_prio.specs.sched_rules.specs.{Progress, Step, job_after, has_come, next_of, begun, turn_of, new_job, at_first, turns_of}
+use Rattle.fixed_prio.specs.sched_rules.specs.{IsSchedule, PeriodFits, TaskFits, come_in, come_by, work_by}
+use Rattle.fixed_prio.specs.sched_rules.specs.{declared.tasks.Task.Task, declared.tasks.Rule.Rule, declared.tasks.Job.Job}
+use Rattle.fixed_prio.specs.sched_laws.proofs.Turns.{Way, Runs, Refuses, Idles, Begins, Lacks, way}
+use Rattle.{std.proofs.lemmas.Bool.cases_eq, std.proofs.lemmas.Bool.and_parts, fixed_prio.specs.sched_laws.proofs.place_of}
+use Rattle.{fixed_prio.specs.sched_laws.proofs.come_at, std.proofs.lemmas.Nat.mul-le, std.proofs.lemmas.Option.slice_get-map}
+use Rattle.{fixed_prio.specs.sched_rules.specs.declared.tasks.Renewal.Renewal}
+use Rattle.{fixed_prio.specs.sched_rules.specs.declared.turns.Turn.TheVariants.Back, fixed_prio.specs.sched_laws.proofs.Weights.set_here}
+use Rattle.{fixed_prio.specs.sched_laws.proofs.Weights.set_apart, fixed_prio.proofs.ToGo.come_is}
 
 -- At how many times the jobs of a task may still arrive.
 abbrev to_come : Option ℕ → ℕ

@@ -1,27 +1,13 @@
 -- From a booted machine to the text.
-use Rattle.std.proofs.Common.{◌≡◌, ℕ, ◌+◌, ◌<◌, ◌≤◌, ◌^◌, refl, sym, ◌∙◌, ap, subst, arith, append_assoc}
-use Rattle.std.proofs.Common.{List, [], ◌∷◌, ◌++◌, length, take, get_or, All}
-use Rattle.std.specs.Prelude.{slice_index_or}
-use Rattle.std.specs.Global.{Vec}
-use Rattle.std.proofs.lemmas.Option.{slice_get_within, get_or_from_slice_get}
-use Rattle.std.proofs.lemmas.List.{take_more, get_or-map, length-map}
-use Rattle.spk_nums.specs.Setting.{Setting, IsSetting}
-use Rattle.spk_nums.specs.CallLimits.{InLimits}
-use Rattle.spk_nums.specs.declared.calls.Call.{Call}
-use Rattle.kernel_rules.specs.State.{State}
-use Rattle.kernel_rules.specs.Start.{start}
-use Rattle.seq_state.specs.Maps.{Maps}
-use Rattle.seq_state.specs.Representation.{Represents}
-use Rattle.script_reader.specs.Readings.{lists_of}
-use Rattle.sched_rules.specs.declared.tasks.Task.{Task}
-use Rattle.sched_rules.specs.declared.tasks.Rule.{Rule}
-use Rattle.sched_rules.specs.declared.turns.Turn.{Turn}
-use Rattle.sched_rules.specs.Schedule.{Step, at_first, turns_of, IsSchedule, TaskFits}
-use Rattle.sched_rules.specs.Texts.{ran_by, work_by}
-use Rattle.fixed_prio.specs.sched_laws.proofs.Working.{work_is_kept}
-use Rattle.sched_text.specs.Fitting.{RunsFit}
-use Rattle.fixed_prio.specs.Machines.{after_calls, Beside}
-use Rattle.sched_run.proofs.Coming.{work_most}
+use Rattle.fixed_prio.specs.plain_kernel.specs.kernel_laws.proofs as low
+use low.{◌≡◌, ℕ, ◌+◌, ◌<◌, ◌≤◌, ◌^◌, refl, sym, ◌∙◌, ap, subst, arith, append_assoc, List, [], ◌∷◌, ◌++◌, length, take, get_or, All}
+use low.{get_or as slice_index_or, take_more, get_or-map, length-map, Setting, IsSetting, InLimits, Call, State, start}
+use Rattle.fixed_prio.specs.sched_rules.specs.{Step, at_first, turns_of, IsSchedule, TaskFits, ran_by, work_by}
+use Rattle.fixed_prio.specs.sched_rules.specs.{declared.tasks.Task.Task, declared.tasks.Rule.Rule, declared.turns.Turn.Turn}
+use Rattle.{fixed_prio.specs.after_calls, fixed_prio.specs.Beside, std.specs.Global.Vec, std.proofs.lemmas.Option.slice_get_within}
+use Rattle.{std.proofs.lemmas.Option.get_or_from_slice_get, fixed_prio.specs.seq_state.specs.Maps.Maps}
+use Rattle.{fixed_prio.specs.seq_state.specs.Representation.Represents, sched_reader.specs.script_reader.specs.Readings.lists_of}
+use Rattle.{fixed_prio.specs.sched_laws.proofs.Working.work_is_kept, sched_text.specs.Fitting.RunsFit, sched_run.proofs.Coming.work_most}
 
 -- The plain kernel that starts beside a machine that has made no call.
 pub begun_beside : (setup : Setting) (k : Maps) → IsSetting setup → setup.cores ≡ 1 → Represents k (start setup) → Beside setup [] k

@@ -1,13 +1,9 @@
 -- What the command `sched` writes.
-use Rattle.std.specs.Prelude.{◌≡◌, ℕ, List, ◌++◌, Result, Ok}
-use Rattle.spk_nums.specs.Setting.{Setting}
-use Rattle.spk_nums.specs.declared.calls.Call.{Call}
-use Rattle.line_reader.specs.declared.cause.ReadFault.{ReadFault}
-use Rattle.script_reader.specs.Readings.{Meaning, calls_of, Fails}
-use Rattle.sched_rules.specs.Schedule.{Step, at_first, turns_of, calls_of as calls_of_turns, IsSchedule}
-use Rattle.sched_rules.specs.Texts.{schedule_text}
-use Rattle.fixed_prio.specs.Machines.{after_calls}
-use Rattle.sched_reader.specs.Inputs.{Input, input_of}
+use Rattle.fixed_prio.specs.seq_state.specs.{◌≡◌, ℕ, List, ◌++◌, Result, Ok, Setting, Call}
+use Rattle.fixed_prio.specs.sched_rules.specs.{Step, at_first, turns_of, calls_of as calls_of_turns, IsSchedule}
+use Rattle.{sched_reader.specs.Input, sched_reader.specs.input_of, sched_reader.specs.script_reader.specs.Meaning}
+use Rattle.{sched_reader.specs.script_reader.specs.calls_of, line_reader.specs.declared.cause.ReadFault.ReadFault}
+use Rattle.{line_reader.specs.Lines.Fails, fixed_prio.specs.sched_rules.specs.Texts.schedule_text, fixed_prio.specs.Machines.after_calls}
 
 -- The calls of the script: those of core 0.
 abbrev pub calls_in : Meaning → List Call

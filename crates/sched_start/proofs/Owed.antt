@@ -1,27 +1,18 @@
 -- Calls that core 0 makes alone are a run, whose decided ticks are those of its `tick` calls.
-use Rattle.std.proofs.Common.{◌≡◌, ℕ, ◌+◌, ◌<◌, List, [], ◌∷◌, All, refl, sym, ◌∙◌, ap, subst, arith}
-use Rattle.std.proofs.lemmas.List.Elements.{All-head, All-tail}
-use Rattle.spk_nums.specs.Setting.{Setting}
-use Rattle.spk_nums.specs.CallLimits.{InLimits}
-use Rattle.spk_nums.specs.declared.calls.Call.{Call}
-use Rattle.spk_nums.specs.declared.calls.Call.TheVariants.{Tick}
-use Rattle.spk_nums.specs.declared.replies.Reply.{Reply}
-use Rattle.spk_nums.specs.declared.replies.Reply.TheVariants as reply
-use Rattle.kernel_rules.specs.State.{State}
-use Rattle.kernel_rules.specs.Start.{start}
-use Rattle.kernel_rules.specs.Alone.{plain_reply, plain_step, plain_steps}
-use Rattle.kernel_rules.specs.Runs.{Event, Enters, Decides, Returns, after, Out, phase_of, IsRun}
-use Rattle.kernel_rules.proofs.AloneLaw.{first_permitted}
+use Rattle.kernel_laws.specs.kernel_rules.proofs.{◌≡◌, ℕ, ◌+◌, ◌<◌, List, [], ◌∷◌, All, refl, sym, ◌∙◌, ap, subst, arith, Setting, InLimits}
+use Rattle.kernel_laws.specs.kernel_rules.proofs.{Call, Tick, Reply, start, plain_reply, plain_step, plain_steps, Event, Enters, Decides}
+use Rattle.kernel_laws.specs.kernel_rules.proofs.{Returns, after, Out, phase_of, IsRun}
 use Rattle.kernel_laws.specs.Laws.{ticks_of, ticks_counted, decided_ticks}
-use Rattle.kernel_laws.proofs.Spending.{spending_sums}
-use Rattle.sched_start.specs.Owing.{IsNoTick, OwesNothing}
+use Rattle.{std.proofs.lemmas.List.Elements.All-head, std.proofs.lemmas.List.Elements.All-tail}
+use Rattle.{kernel_laws.specs.kernel_rules.specs.State.State, kernel_laws.specs.kernel_rules.proofs.AloneLaw.first_permitted}
+use Rattle.{kernel_laws.proofs.Spending.spending_sums, sched_start.specs.Owing.IsNoTick, sched_start.specs.Owing.OwesNothing}
 
 no_ticks : (call : Call) → IsNoTick call → ticks_of call ≡ 0
 no_ticks (Tick n) none = absurd none
 no_ticks _ none = refl
 
 none_counted : (call : Call) (r : Reply) → IsNoTick call → ticks_counted call r ≡ 0
-none_counted call reply.CallsSpent none = refl
+none_counted call Reply.CallsSpent none = refl
 none_counted call _ none = no_ticks call none
 
 -- A state that a run reaches after which core 0 is between calls, and which has decided none of its ticks.

@@ -1,36 +1,26 @@
 -- Line by line: a draft that has met no `tick` has none.
-use Rattle.std.proofs.Common.{◌≡◌, ℕ, ◌+◌, ◌==◌, List, [], ◌∷◌, ◌++◌, Bool, true, false, if◌then◌else◌, Option, Some, None, Result, Ok, Err}
-use Rattle.std.proofs.Common.{IfOk, All, length, refl, sym, ◌∙◌, ap, subst, arith, inl, inr}
-use Rattle.std.specs.Prelude.{codes, slice_get, slice_index_or}
-use Rattle.std.specs.Str.{bytes_eq}
-use Rattle.std.proofs.lemmas.Slice.Eq.{bytes_eq-Decides}
-use Rattle.std.proofs.lemmas.Bool.{cases_lt, false≢true}
-use Rattle.std.proofs.lemmas.List.{get_or_past}
+use Rattle.sched_reader.specs as low
+use Rattle.kernel_laws.proofs.{◌≡◌, ℕ, ◌+◌, ◌==◌, List, [], ◌∷◌, ◌++◌, Bool, true, false, if◌then◌else◌, Option, Some, None, Result, Ok}
+use Rattle.kernel_laws.proofs.{Err, IfOk, All, length, refl, sym, ◌∙◌, ap, subst, arith, inl, inr, codes, slice_get}
+use Rattle.kernel_laws.proofs.{get_or as slice_index_or, false≢true, get_or_past, Call, Item}
+use low.script_reader.specs.{is_whole, line_of, items_of, Draft_of, calls_of, with_call, with_line, is_order, behind_line, draft_behind}
+use low.line_reader.specs.{◌>>=◌, Row, rows_of, First_fault, at_line, and_then}
+use low.{Input, input_of}
+use low.script_tokens.specs.{words_of, ending_of}
 use Rattle.std.proofs.lemmas.List.Elements.{All-nil, All-push, All-set, All-get_or, All-take, All-replicate}
-use Rattle.spk_nums.specs.declared.calls.Call.{Call}
-use Rattle.spk_nums.specs.declared.steps.Item.{Item}
-use Rattle.script_tokens.specs.declared.scanning.ByteFault.TheVariants.{NotAscii, TooManyLines}
-use Rattle.script_tokens.specs.declared.scanning.Ending.{Ending}
-use Rattle.script_tokens.specs.declared.scanning.Ending.TheVariants.{Whole, Fault as Faulty}
-use Rattle.script_tokens.specs.Words.{words_of, ending_of}
-use Rattle.line_reader.specs.declared.cause.Cause.{Cause}
-use Rattle.line_reader.specs.declared.cause.Cause.TheVariants.{S5, S7, S9}
-use Rattle.line_reader.specs.Causes.{◌>>=◌}
-use Rattle.line_reader.specs.Arguments.{is_word}
-use Rattle.script_reader.specs.declared.head.Line.{Line}
-use Rattle.script_reader.specs.declared.head.Line.TheVariants as line
-use Rattle.script_reader.specs.Heads.{is_whole, line_of}
-use Rattle.script_reader.specs.Orders.{items_of}
-use Rattle.script_reader.specs.Readings.{Row, rows_of, Draft_of, calls_of, with_call, with_line, is_order, behind_line, draft_behind}
-use Rattle.script_reader.specs.Readings.{First_fault, at_line, and_then}
-use Rattle.sched_rules.specs.declared.tasks.Rule.{Rule}
-use Rattle.sched_rules.specs.declared.tasks.Task.{Task}
-use Rattle.sched_reader.specs.Lines.{is_name, begins, rule_at, task_line}
-use Rattle.sched_reader.specs.Inputs.{Sched_draft, no_input, first_line, noted, script_line, tick_fault, unfit, unless, script_end}
-use Rattle.sched_reader.specs.Inputs.{sched_line, with_task, task_line_of, head_line, line_by, line_behind, lines_from, Input, input_by}
-use Rattle.sched_reader.specs.Inputs.{input_at, input_of}
+use low.script_tokens.specs.declared.scanning.ByteFault.TheVariants.{NotAscii, TooManyLines}
+use low.script_tokens.specs.declared.scanning.Ending.TheVariants.{Whole, Fault as Faulty}
+use low.line_reader.specs.declared.cause.Cause.TheVariants.{S5, S7, S9}
+use low.sched_rules.specs.{declared.tasks.Rule.Rule, declared.tasks.Task.Task}
+use low.Lines.{is_name, begins, rule_at, task_line}
+use low.Inputs.{Sched_draft, no_input, first_line, noted, script_line, tick_fault, unfit, unless, script_end, sched_line, with_task}
+use low.Inputs.{task_line_of, head_line, line_by, line_behind, lines_from, input_by, input_at}
 use Rattle.sched_start.specs.Owing.{IsNoTick, TakesNoTick}
 use Rattle.sched_start.proofs.Tickless.{IsCalm, line_calm}
+use Rattle.{std.specs.Str.bytes_eq, std.proofs.lemmas.Slice.Eq.bytes_eq-Decides, std.proofs.lemmas.Bool.cases_lt}
+use low.{script_tokens.specs.declared.scanning.Ending.Ending, line_reader.specs.declared.cause.Cause.Cause}
+use low.{line_reader.specs.Arguments.is_word, script_reader.specs.declared.head.Line.Line}
+use Rattle.sched_reader.specs.script_reader.specs.declared.head.Line.TheVariants as line
 
 -- ---- the script
 

@@ -1,12 +1,6 @@
 -- What core 0 owes before a schedule begins.
-use Rattle.std.specs.Prelude.{◌≡◌, ℕ, ◌<◌, List, All, Ok}
-use Rattle.spk_nums.specs.Setting.{Setting}
-use Rattle.spk_nums.specs.CallLimits.{InLimits}
-use Rattle.spk_nums.specs.declared.calls.Call.{Call}
-use Rattle.spk_nums.specs.declared.calls.Call.TheVariants.{Tick}
-use Rattle.kernel_rules.specs.Start.{start}
-use Rattle.kernel_rules.specs.Alone.{plain_steps}
-use Rattle.sched_reader.specs.Inputs.{Input, input_of}
+use Rattle.kernel_laws.specs.kernel_rules.specs.{◌≡◌, ℕ, ◌<◌, List, All, Ok, Setting, InLimits, Call, Tick, start, plain_steps}
+use Rattle.sched_reader.specs.{Input, input_of}
 
 -- The call is no `tick`.
 abbrev pub IsNoTick : Call → Type 0

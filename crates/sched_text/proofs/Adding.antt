@@ -1,12 +1,9 @@
 -- Adding up what tasks ran, and appending their lines.
-use Rattle.std.proofs.Common.{◌≡◌, ℕ, zero, suc, ◌+◌, ◌-◌, ◌<◌, ◌≤◌, ◌^◌, refl, sym, ◌∙◌, ap, subst, arith}
-use Rattle.std.proofs.Common.{List, [], ◌∷◌, ◌++◌, length, drop, get_or}
-use Rattle.std.proofs.lemmas.List.{drop_more}
-use Rattle.std.proofs.lemmas.Option.{slice_get_read}
-use Rattle.sched_rules.specs.declared.tasks.Task.{Task}
-use Rattle.sched_rules.specs.declared.turns.Turn.{Turn}
-use Rattle.sched_rules.specs.Texts.{ran_in, ran_by, work_by, turn_text, turn_lines, task_line, task_lines}
-use Rattle.sched_text.specs.Fitting.{RunsFit}
+use Rattle.sched_rules.specs.kernel_rules.proofs.{◌≡◌, ℕ, zero, suc, ◌+◌, ◌-◌, ◌<◌, ◌≤◌, ◌^◌, refl, sym, ◌∙◌, ap, subst, arith, List, []}
+use Rattle.sched_rules.specs.kernel_rules.proofs.{◌∷◌, ◌++◌, length, drop, get_or, drop_more}
+use Rattle.sched_rules.specs.{ran_in, ran_by, work_by}
+use Rattle.sched_rules.specs.{declared.tasks.Task.Task, declared.turns.Turn.Turn, Texts.turn_text, Texts.turn_lines, Texts.task_line}
+use Rattle.{std.proofs.lemmas.Option.slice_get_read, sched_rules.specs.Texts.task_lines, sched_text.specs.Fitting.RunsFit}
 
 pub one_ran : (i : ℕ) (turns : List Turn) (n : ℕ) (turn : Turn) → n < length turns → turn ≡ get_or turns n turn
     → ran_by i (drop n turns) ≡ ran_in i turn + ran_by i (drop (n + 1) turns)

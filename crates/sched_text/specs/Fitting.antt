@@ -1,8 +1,6 @@
 -- That the ticks of each task can be added up.
 use Rattle.std.specs.Prelude.{◌≡◌, ◌<◌, ◌^◌, ℕ, ◌+◌, List, slice_get, Some}
-use Rattle.sched_rules.specs.declared.tasks.Task.{Task}
-use Rattle.sched_rules.specs.declared.turns.Turn.{Turn}
-use Rattle.sched_rules.specs.Texts.{ran_by, work_by}
+use Rattle.sched_rules.specs.{ran_by, work_by, declared.tasks.Task.Task, declared.turns.Turn.Turn}
 
 -- Each task ran, and was to run, for fewer than 2^64 ticks.
 abbrev pub RunsFit : List Turn → List Task → Type 0

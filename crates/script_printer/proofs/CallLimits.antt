@@ -1,32 +1,21 @@
 -- What the line of a call says is in the ranges of its arguments.
-use Rattle.std.proofs.Common.{◌≡◌, ℕ, ◌≤◌, Bool, true, false, cond, eqb, leb, ltb, List, length, Result, Ok, Err, refl, sym, ap, subst}
-use Rattle.std.proofs.Common.{◌∙◌, arith, inl, inr}
-use Rattle.std.specs.Prelude.{codes, ◌&&◌}
-use Rattle.std.specs.Option.{ok_or}
-use Rattle.std.proofs.lemmas.Bool.{cases_Bool, eqb-true, leb-true}
-use Rattle.spk_nums.specs.Rights.{both}
-use Rattle.spk_nums.specs.declared.rights.Rights.{Rights}
-use Rattle.spk_nums.specs.declared.calls.Make.{Make}
+use Rattle.script_reader.specs.call_reader.specs.{frame_kind_at, fourth_at, both_at, rights_at, call_line, look_line, copy_line}
+use Rattle.script_reader.specs.call_reader.specs.{remove_line, grow_line, shrink_line, retype_line, map_line, unmap_line, touch_line}
+use Rattle.script_reader.specs.call_reader.specs.{flush_line, gate_line, kill_line, enter_line, ret_line, switch_line, tick_line}
+use Rattle.script_reader.specs.call_reader.specs.{transfer_line, delegate_line, test_line, object_of, object_at, thread_at, tcap_at}
+use Rattle.script_reader.specs.call_reader.specs.{comp_at, plain_at, made_at, make_line, part_line, replenish_line}
+use Rattle.std.proofs.Common.{◌≡◌, ℕ, ◌≤◌, Bool, true, false, cond, eqb, leb, ltb, List, length, Result, Ok, Err, refl, sym, ap, subst, ◌∙◌}
+use Rattle.std.proofs.Common.{arith, inl, inr, codes, ◌&&◌, ok_or, eqb-true, leb-true}
+use Rattle.script_reader.specs.line_reader.specs.{◌>>=◌, number_of, is_word, word_at, number_at, end_at}
+use Rattle.script_printer.specs.{IsName, IsMakeWithin, IsCallWithin}
+use Rattle.spk_nums.specs.{Rights.both, declared.rights.Rights.Rights, declared.calls.Make.Make, declared.calls.Call.Call}
+use Rattle.script_reader.specs.line_reader.specs.declared.cause.Cause.TheVariants.{S1, S2, S5}
+use Rattle.script_printer.proofs.{Spans.both_left, Spans.both_right, KnownWords.IsVerbIn}
+use Rattle.{std.proofs.lemmas.Bool.cases_Bool, script_reader.specs.line_reader.specs.declared.cause.Cause.Cause}
+use Rattle.{script_reader.specs.call_reader.specs.declared.first_words.Verb.Verb}
 use Rattle.spk_nums.specs.declared.calls.Make.TheVariants as make
-use Rattle.spk_nums.specs.declared.calls.Call.{Call}
 use Rattle.spk_nums.specs.declared.calls.Call.TheVariants as call
-use Rattle.line_reader.specs.declared.cause.Cause.{Cause}
-use Rattle.line_reader.specs.declared.cause.Cause.TheVariants.{S1, S2, S5}
-use Rattle.line_reader.specs.Causes.{◌>>=◌}
-use Rattle.line_reader.specs.Numerals.{number_of}
-use Rattle.line_reader.specs.Arguments.{is_word, word_at, number_at, end_at}
-use Rattle.call_reader.specs.declared.first_words.Verb.{Verb}
-use Rattle.call_reader.specs.declared.first_words.Verb.TheVariants as verb
-use Rattle.call_reader.specs.CallLines.{frame_kind_at}
-use Rattle.call_reader.specs.CallLines.{fourth_at, both_at, rights_at}
-use Rattle.call_reader.specs.CallLines.{call_line, look_line, copy_line, remove_line, grow_line, shrink_line, retype_line}
-use Rattle.call_reader.specs.CallLines.{map_line, unmap_line, touch_line, flush_line, gate_line, kill_line, enter_line}
-use Rattle.call_reader.specs.CallLines.{ret_line, switch_line, tick_line, transfer_line, delegate_line, test_line}
-use Rattle.call_reader.specs.CallLines.{object_of, object_at, thread_at, tcap_at, comp_at, plain_at, made_at, make_line, part_line}
-use Rattle.call_reader.specs.CallLines.{replenish_line}
-use Rattle.script_printer.specs.Law.{IsName, IsMakeWithin, IsCallWithin}
-use Rattle.script_printer.proofs.Spans.{both_left, both_right}
-use Rattle.script_printer.proofs.KnownWords.{IsVerbIn}
+use Rattle.script_reader.specs.call_reader.specs.declared.first_words.Verb.TheVariants as verb
 
 -- ---- judgements that did not fail
 

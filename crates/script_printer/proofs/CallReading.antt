@@ -1,38 +1,28 @@
 -- Calls as words: the words of the line of a call are read as that call.
+use Rattle.script_reader.specs.call_reader.specs as low
+use low.{first_word, verb_of, later_verb_of, call_word, frame_kind_of, frame_kind_at, fourth_at, both_at, rights_at, call_line, look_line}
+use low.{copy_line, remove_line, grow_line, shrink_line, retype_line, map_line, unmap_line, touch_line, flush_line, gate_line, kill_line}
+use low.{enter_line, ret_line, switch_line, tick_line, transfer_line, delegate_line, test_line, part_line, replenish_line, object_of}
+use low.{object_at, thread_at, tcap_at, comp_at, plain_at, made_at, make_line}
 use Rattle.std.proofs.Common.{◌≡◌, ◌≢◌, ℕ, ◌≤◌, ◌==◌, Bool, true, false, ◌&&◌, if◌then◌else◌, List, [], ◌∷◌, Some, Ok, refl, sym, ap, arith}
-use Rattle.std.proofs.lemmas.Bool.{eqb-true, eqb-false, le-leb}
-use Rattle.std.specs.Prelude.{codes, decimal, slice_get}
-use Rattle.std.specs.Option.{option_and_then}
-use Rattle.std.specs.Prelude.{nat_le, None}
-use Rattle.spk_nums.specs.Names.{frame_kind_word}
-use Rattle.spk_nums.specs.Rights.{both}
-use Rattle.spk_nums.specs.declared.kinds.FrameKind.{FrameKind}
+use Rattle.std.proofs.Common.{eqb-true, le-leb, codes, decimal, slice_get, option_and_then, nat_le, None}
+use Rattle.script_printer.specs.{IsName, IsMakeWithin, IsCallWithin}
+use Rattle.script_reader.specs.line_reader.specs.{is_word, word_at, end_at}
 use Rattle.spk_nums.specs.declared.kinds.FrameKind.TheVariants.{Untyped, User, Kernel}
-use Rattle.spk_nums.specs.declared.calls.Make.{Make}
-use Rattle.spk_nums.specs.declared.calls.Make.TheVariants as make
-use Rattle.spk_nums.specs.declared.calls.Call.{Call}
-use Rattle.spk_nums.specs.declared.calls.Call.TheVariants.{Look, Copy, Remove, Grow, Shrink, Retype, Make as make_call}
-use Rattle.spk_nums.specs.declared.calls.Call.TheVariants.{Map, Unmap, Touch, Flush, Gate, Kill, Call as call_gate}
-use Rattle.spk_nums.specs.declared.calls.Call.TheVariants.{Ret, Switch, Tick, Transfer, Delegate, Test, Part, Replenish}
-use Rattle.line_reader.specs.Arguments.{is_word, word_at, end_at}
-use Rattle.call_reader.specs.declared.first_words.Verb.{Verb}
-use Rattle.call_reader.specs.declared.first_words.Verb.TheVariants as verb
-use Rattle.call_reader.specs.declared.first_words.FirstWord.TheVariants as first
-use Rattle.call_reader.specs.FirstWords.{first_word, verb_of, later_verb_of, call_word}
-use Rattle.call_reader.specs.CallLines.{frame_kind_of, frame_kind_at}
-use Rattle.call_reader.specs.CallLines.{fourth_at, both_at, rights_at}
-use Rattle.call_reader.specs.CallLines.{call_line, look_line, copy_line, remove_line, grow_line, shrink_line, retype_line}
-use Rattle.call_reader.specs.CallLines.{map_line, unmap_line, touch_line, flush_line, gate_line, kill_line, enter_line}
-use Rattle.call_reader.specs.CallLines.{ret_line, switch_line, tick_line, transfer_line, delegate_line, test_line, part_line}
-use Rattle.call_reader.specs.CallLines.{replenish_line}
-use Rattle.call_reader.specs.CallLines.{object_of, object_at, thread_at, tcap_at, comp_at, plain_at, made_at, make_line}
-use Rattle.script_reader.specs.declared.head.Section.TheVariants as section
-use Rattle.script_reader.specs.declared.head.Head.{Head}
-use Rattle.script_reader.specs.declared.head.Line.TheVariants as line
-use Rattle.script_reader.specs.Heads.{line_of, line_by}
-use Rattle.script_printer.specs.Law.{IsName, IsMakeWithin, IsCallWithin}
-use Rattle.script_printer.proofs.NumberWords.{number_back, name_back}
+use Rattle.spk_nums.specs.declared.calls.Call.TheVariants.{Look, Copy, Remove, Grow, Shrink, Retype, Make as make_call, Map, Unmap, Touch}
+use Rattle.spk_nums.specs.declared.calls.Call.TheVariants.{Flush, Gate, Kill, Call as call_gate, Ret, Switch, Tick, Transfer, Delegate}
+use Rattle.spk_nums.specs.declared.calls.Call.TheVariants.{Test, Part, Replenish}
 use Rattle.script_printer.proofs.CallWords.{make_words, copy_words, call_words}
+use Rattle.{script_reader.specs.line_of, script_reader.specs.line_by, std.proofs.lemmas.Bool.eqb-false}
+use Rattle.{spk_nums.specs.Names.frame_kind_word, spk_nums.specs.Rights.both, spk_nums.specs.declared.kinds.FrameKind.FrameKind}
+use Rattle.{spk_nums.specs.declared.calls.Make.Make, spk_nums.specs.declared.calls.Call.Call, script_reader.specs.declared.head.Head.Head}
+use Rattle.{script_printer.proofs.NumberWords.number_back, script_printer.proofs.NumberWords.name_back}
+use low.{declared.first_words.Verb.Verb}
+use Rattle.spk_nums.specs.declared.calls.Make.TheVariants as make
+use Rattle.script_reader.specs.call_reader.specs.declared.first_words.Verb.TheVariants as verb
+use Rattle.script_reader.specs.call_reader.specs.declared.first_words.FirstWord.TheVariants as first
+use Rattle.script_reader.specs.declared.head.Section.TheVariants as section
+use Rattle.script_reader.specs.declared.head.Line.TheVariants as line
 
 -- the word of a call, as the reader knows it
 abbrev call_verb : Call → Verb

@@ -1,31 +1,25 @@
 -- Calls as words: the printed line of a call is read as that call.
+use Rattle.spk_nums.specs as low
 use Rattle.std.proofs.Common.{◌≡◌, ℕ, ◌≤◌, ◌==◌, Bool, true, false, if◌then◌else◌, List, [], ◌∷◌, ◌++◌, refl, ◌∙◌, arith, append_assoc}
-use Rattle.std.specs.Prelude.{codes, decimal}
-use Rattle.spk_nums.specs.Names.{frame_kind_word}
-use Rattle.spk_nums.specs.Texts.{call_text, make_text, with_three, with_four}
-use Rattle.spk_nums.specs.declared.kinds.FrameKind.{FrameKind}
-use Rattle.spk_nums.specs.declared.kinds.FrameKind.TheVariants.{Untyped, User, Kernel}
-use Rattle.spk_nums.specs.declared.calls.Make.{Make}
-use Rattle.spk_nums.specs.declared.calls.Make.TheVariants as make
-use Rattle.spk_nums.specs.declared.calls.Call.{Call}
-use Rattle.spk_nums.specs.declared.calls.Call.TheVariants.{Look, Copy, Remove, Grow, Shrink, Retype, Make as make_call}
-use Rattle.spk_nums.specs.declared.calls.Call.TheVariants.{Map, Unmap, Touch, Flush, Gate, Kill, Call as call_gate}
-use Rattle.spk_nums.specs.declared.calls.Call.TheVariants.{Ret, Switch, Tick, Transfer, Delegate, Test, Part, Replenish}
-use Rattle.script_printer.specs.Printing.{call_line}
-use Rattle.script_printer.specs.Law.{IsName, IsMakeWithin, IsCallWithin}
-use Rattle.script_printer.proofs.Spans.{is_text, is_line, line_onto}
-use Rattle.script_printer.proofs.NumberWords.{number_text, name_text}
+use Rattle.std.proofs.Common.{codes, decimal}
+use Rattle.script_printer.specs.{call_line, IsName, IsMakeWithin, IsCallWithin}
+use low.Texts.{call_text, make_text, with_three, with_four}
+use low.declared.kinds.FrameKind.TheVariants.{Untyped, User, Kernel}
+use low.declared.calls.Call.TheVariants.{Look, Copy, Remove, Grow, Shrink, Retype, Make as make_call, Map, Unmap, Touch, Flush, Gate, Kill}
+use low.declared.calls.Call.TheVariants.{Call as call_gate, Ret, Switch, Tick, Transfer, Delegate, Test, Part, Replenish}
+use Rattle.script_printer.proofs.{Spans.is_text, Spans.is_line, Spans.line_onto, NumberWords.number_text, NumberWords.name_text}
+use low.{Names.frame_kind_word, declared.kinds.FrameKind.FrameKind, declared.calls.Make.Make, declared.calls.Call.Call}
 
 -- the words of the line of a make
 abbrev pub make_words : Make → ℕ → ℕ → ℕ → ℕ → List (List ℕ)
-make_words make.Table r f t b = codes "make" ∷ codes "table" ∷ decimal r ∷ decimal f ∷ decimal t ∷ decimal b ∷ []
-make_words make.Leaf r f t b = codes "make" ∷ codes "leaf" ∷ decimal r ∷ decimal f ∷ decimal t ∷ decimal b ∷ []
-make_words make.Pages r f t b = codes "make" ∷ codes "pages" ∷ decimal r ∷ decimal f ∷ decimal t ∷ decimal b ∷ []
-make_words make.Pleaf r f t b = codes "make" ∷ codes "pleaf" ∷ decimal r ∷ decimal f ∷ decimal t ∷ decimal b ∷ []
-make_words (make.Thread comp) r f t b = codes "make" ∷ codes "thread" ∷ decimal r ∷ decimal f ∷ decimal t ∷ decimal b ∷ decimal comp ∷ []
-make_words (make.Tcap sched quality) r f t b =
+make_words Make.Table r f t b = codes "make" ∷ codes "table" ∷ decimal r ∷ decimal f ∷ decimal t ∷ decimal b ∷ []
+make_words Make.Leaf r f t b = codes "make" ∷ codes "leaf" ∷ decimal r ∷ decimal f ∷ decimal t ∷ decimal b ∷ []
+make_words Make.Pages r f t b = codes "make" ∷ codes "pages" ∷ decimal r ∷ decimal f ∷ decimal t ∷ decimal b ∷ []
+make_words Make.Pleaf r f t b = codes "make" ∷ codes "pleaf" ∷ decimal r ∷ decimal f ∷ decimal t ∷ decimal b ∷ []
+make_words (Make.Thread comp) r f t b = codes "make" ∷ codes "thread" ∷ decimal r ∷ decimal f ∷ decimal t ∷ decimal b ∷ decimal comp ∷ []
+make_words (Make.Tcap sched quality) r f t b =
     codes "make" ∷ codes "tcap" ∷ decimal r ∷ decimal f ∷ decimal t ∷ decimal b ∷ decimal sched ∷ decimal quality ∷ []
-make_words (make.Comp table pages live) r f t b =
+make_words (Make.Comp table pages live) r f t b =
     codes "make" ∷ codes "comp" ∷ decimal r ∷ decimal f ∷ decimal t ∷ decimal b ∷ decimal table ∷ decimal pages ∷ decimal live ∷ []
 
 -- the words of the line of a copy: with its rights where they are not both
@@ -61,13 +55,13 @@ call_words (Replenish a m) = codes "replenish" ∷ decimal a ∷ decimal m ∷ [
 -- ---- the line is its words
 
 make_onto : (what : Make) (r f t b : ℕ) (rest : List ℕ) → make_text what r f t b ++ 10 ∷ rest ≡ line_onto (make_words what r f t b) rest
-make_onto make.Table r f t b rest = simp append_assoc
-make_onto make.Leaf r f t b rest = simp append_assoc
-make_onto make.Pages r f t b rest = simp append_assoc
-make_onto make.Pleaf r f t b rest = simp append_assoc
-make_onto (make.Thread comp) r f t b rest = simp append_assoc
-make_onto (make.Tcap sched quality) r f t b rest = simp append_assoc
-make_onto (make.Comp table pages live) r f t b rest = simp append_assoc
+make_onto Make.Table r f t b rest = simp append_assoc
+make_onto Make.Leaf r f t b rest = simp append_assoc
+make_onto Make.Pages r f t b rest = simp append_assoc
+make_onto Make.Pleaf r f t b rest = simp append_assoc
+make_onto (Make.Thread comp) r f t b rest = simp append_assoc
+make_onto (Make.Tcap sched quality) r f t b rest = simp append_assoc
+make_onto (Make.Comp table pages live) r f t b rest = simp append_assoc
 
 copy_onto : (whole : Bool) (a t b r : ℕ) (rest : List ℕ)
     → (if whole then with_three (codes "copy") a t b else with_four (codes "copy") a t b r) ++ 10 ∷ rest
@@ -112,13 +106,13 @@ kind_text Kernel = refl
 
 make_is_line : (what : Make) (r f t b : ℕ) → IsMakeWithin what → IsName r
     → IsName f → IsName t → IsName b → is_line (make_words what r f t b) ≡ true
-make_is_line make.Table r f t b h hr hf ht hb = rw (name_text r hr, name_text f hf, name_text t ht, name_text b hb) refl
-make_is_line make.Leaf r f t b h hr hf ht hb = rw (name_text r hr, name_text f hf, name_text t ht, name_text b hb) refl
-make_is_line make.Pages r f t b h hr hf ht hb = rw (name_text r hr, name_text f hf, name_text t ht, name_text b hb) refl
-make_is_line make.Pleaf r f t b h hr hf ht hb = rw (name_text r hr, name_text f hf, name_text t ht, name_text b hb) refl
-make_is_line (make.Thread comp) r f t b h hr hf ht hb =
+make_is_line Make.Table r f t b h hr hf ht hb = rw (name_text r hr, name_text f hf, name_text t ht, name_text b hb) refl
+make_is_line Make.Leaf r f t b h hr hf ht hb = rw (name_text r hr, name_text f hf, name_text t ht, name_text b hb) refl
+make_is_line Make.Pages r f t b h hr hf ht hb = rw (name_text r hr, name_text f hf, name_text t ht, name_text b hb) refl
+make_is_line Make.Pleaf r f t b h hr hf ht hb = rw (name_text r hr, name_text f hf, name_text t ht, name_text b hb) refl
+make_is_line (Make.Thread comp) r f t b h hr hf ht hb =
     rw (name_text r hr, name_text f hf, name_text t ht, name_text b hb, name_text comp h) refl
-make_is_line (make.Tcap sched quality) r f t b h hr hf ht hb =
+make_is_line (Make.Tcap sched quality) r f t b h hr hf ht hb =
     let least : sched ≤ 63 = h.0 in
     let most : quality ≤ 16777215 = h.2 in
     rw (
@@ -129,7 +123,7 @@ make_is_line (make.Tcap sched quality) r f t b h hr hf ht hb =
       number_text sched (omega arith),
       number_text quality (omega arith),
     ) refl
-make_is_line (make.Comp table pages live) r f t b h hr hf ht hb =
+make_is_line (Make.Comp table pages live) r f t b h hr hf ht hb =
     let most : live ≤ 63 = h.2 in
     rw (
       name_text r hr,

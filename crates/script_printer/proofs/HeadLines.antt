@@ -1,20 +1,12 @@
 -- The lines of the setup, and the `core` and `order` lines, are read as what was printed.
-use Rattle.std.proofs.Common.{◌≡◌, ℕ, ◌+◌, ◌*◌, ◌<◌, ◌≤◌, ◌^◌, ◌⊎◌, List, [], ◌∷◌, Ok, refl, arith, inl, inr}
-use Rattle.std.specs.Prelude.{codes, decimal}
-use Rattle.spk_nums.specs.declared.grants.Grant.{Grant}
-use Rattle.spk_nums.specs.Setting.{GrantFits}
-use Rattle.line_reader.specs.Numerals.{number_of}
-use Rattle.line_reader.specs.Arguments.{is_word, word_at, number_at, end_at}
-use Rattle.call_reader.specs.FirstWords.{first_word}
-use Rattle.call_reader.specs.Versions.{most_calls}
-use Rattle.script_reader.specs.declared.head.Section.{Section}
-use Rattle.script_reader.specs.declared.head.Section.TheVariants as section
-use Rattle.script_reader.specs.declared.head.Head.{Head}
-use Rattle.script_reader.specs.declared.head.Line.TheVariants as line
-use Rattle.script_reader.specs.Heads.{no_head, granted, line_of, line_by, speck_line, cores_line, frames_line}
-use Rattle.script_reader.specs.Heads.{grant_line, calls_line, epochs_line, core_line, order_line}
-use Rattle.script_printer.proofs.NumberWords.{number_back, core_back}
-use Rattle.script_printer.proofs.KnownWords.{most_machine}
+use Rattle.std.proofs.Common.{◌≡◌, ℕ, ◌+◌, ◌*◌, ◌<◌, ◌≤◌, ◌^◌, ◌⊎◌, List, [], ◌∷◌, Ok, refl, arith, inl, inr, codes, decimal}
+use Rattle.script_reader.specs.{no_head, granted, line_of, line_by, core_line, order_line}
+use Rattle.script_reader.specs.line_reader.specs.{number_of, is_word, word_at, number_at, end_at}
+use Rattle.script_reader.specs.call_reader.specs.{first_word, most_calls}
+use Rattle.spk_nums.specs.{declared.grants.Grant.Grant, Setting.GrantFits}
+use Rattle.script_reader.specs.{declared.head.Section.Section, declared.head.Head.Head, Heads.speck_line, Heads.cores_line}
+use Rattle.script_reader.specs.{Heads.frames_line, Heads.grant_line, Heads.calls_line, Heads.epochs_line, declared.head.Line.Line}
+use Rattle.script_printer.proofs.{NumberWords.number_back, NumberWords.core_back, KnownWords.most_machine}
 
 -- the words of the lines
 abbrev pub speck_words : ℕ → List (List ℕ)
@@ -43,25 +35,25 @@ order_words = codes "order" ∷ []
 
 -- between the limits and the order: after the limits, or in the list of a core
 abbrev pub IsListing : Section → Type 0
-IsListing s = (s ≡ section.Lists) ⊎ (s ≡ section.List)
+IsListing s = (s ≡ Section.Lists) ⊎ (s ≡ Section.List)
 
 pub speck_back : (n : ℕ) → 1 ≤ n → n ≤ 3
-    → line_of no_head (speck_words n) ≡ Ok (line.Head (record no_head { section = section.Cores; version = n; calls = most_calls n }))
+    → line_of no_head (speck_words n) ≡ Ok (Line.Head (record no_head { section = Section.Cores; version = n; calls = most_calls n }))
 unfolding line_of line_by speck_line end_at first_word is_word
 speck_back n low high = rw (number_back (speck_words n) 1 1 3 n refl low high (omega arith)) refl
 
-pub cores_back : (h : Head) (n : ℕ) → h.section ≡ section.Cores → 1 ≤ n → n ≤ 8
-    → line_of h (cores_words n) ≡ Ok (line.Head (record h { section = section.Frames; cores = n }))
+pub cores_back : (h : Head) (n : ℕ) → h.section ≡ Section.Cores → 1 ≤ n → n ≤ 8
+    → line_of h (cores_words n) ≡ Ok (Line.Head (record h { section = Section.Frames; cores = n }))
 unfolding line_of line_by cores_line end_at first_word is_word
 cores_back h n e low high = rw (e, number_back (cores_words n) 1 1 8 n refl low high (omega arith)) refl
 
-pub frames_back : (h : Head) (n : ℕ) → h.section ≡ section.Frames → 4 + 2 * h.cores ≤ n → n ≤ 512
-    → line_of h (frames_words n) ≡ Ok (line.Head (record h { section = section.Grants; frames = n }))
+pub frames_back : (h : Head) (n : ℕ) → h.section ≡ Section.Frames → 4 + 2 * h.cores ≤ n → n ≤ 512
+    → line_of h (frames_words n) ≡ Ok (Line.Head (record h { section = Section.Grants; frames = n }))
 unfolding line_of line_by frames_line end_at first_word is_word
 frames_back h n e low high = rw (e, number_back (frames_words n) 1 (4 + 2 * h.cores) 512 n refl low high (omega arith)) refl
 
-pub grant_back : (h : Head) (g : Grant) → h.section ≡ section.Grants
-    → GrantFits g → line_of h (grant_words g) ≡ Ok (line.Head (granted h g))
+pub grant_back : (h : Head) (g : Grant) → h.section ≡ Section.Grants
+    → GrantFits g → line_of h (grant_words g) ≡ Ok (Line.Head (granted h g))
 unfolding line_of line_by grant_line end_at first_word is_word
 grant_back h g e fits =
     let budget : g.budget ≤ 500000000 = fits.0 in
@@ -74,25 +66,25 @@ grant_back h g e fits =
       number_back (grant_words g) 3 1 16777215 g.quality refl fits.2 (omega arith) (omega arith),
     ) refl
 
-pub calls_back : (h : Head) (n : ℕ) → h.section ≡ section.Calls → n ≤ most_calls h.version
-    → line_of h (calls_words n) ≡ Ok (line.Head (record h { section = section.Epochs; calls = n }))
+pub calls_back : (h : Head) (n : ℕ) → h.section ≡ Section.Calls → n ≤ most_calls h.version
+    → line_of h (calls_words n) ≡ Ok (Line.Head (record h { section = Section.Epochs; calls = n }))
 unfolding line_of line_by calls_line end_at first_word is_word
 calls_back h n e high =
     let most = most_machine h.version in
     rw (e, number_back (calls_words n) 1 0 (most_calls h.version) n refl (omega arith) high (omega arith)) refl
 
-pub epochs_back : (h : Head) (n : ℕ) → h.section ≡ section.Epochs → 1 ≤ n → n ≤ 65535
-    → line_of h (epochs_words n) ≡ Ok (line.Head (record h { section = section.Lists; epochs = n }))
+pub epochs_back : (h : Head) (n : ℕ) → h.section ≡ Section.Epochs → 1 ≤ n → n ≤ 65535
+    → line_of h (epochs_words n) ≡ Ok (Line.Head (record h { section = Section.Lists; epochs = n }))
 unfolding line_of line_by epochs_line end_at first_word is_word
 epochs_back h n e low high = rw (e, number_back (epochs_words n) 1 1 65535 n refl low high (omega arith)) refl
 
 pub core_line_back : (h : Head) (n : ℕ) → IsListing h.section → n < h.cores → h.cores ≤ 8
-    → line_of h (core_words n) ≡ Ok (line.Head (record h { section = section.List; core = n }))
+    → line_of h (core_words n) ≡ Ok (Line.Head (record h { section = Section.List; core = n }))
 unfolding line_of line_by core_line end_at first_word is_word
 core_line_back h n (inl e) below fits = rw (e, core_back (core_words n) 1 h.cores n refl below fits) refl
 core_line_back h n (inr e) below fits = rw (e, core_back (core_words n) 1 h.cores n refl below fits) refl
 
-pub order_back : (h : Head) → IsListing h.section → line_of h order_words ≡ Ok (line.Head (record h { section = section.Order }))
+pub order_back : (h : Head) → IsListing h.section → line_of h order_words ≡ Ok (Line.Head (record h { section = Section.Order }))
 unfolding line_of line_by order_line end_at first_word is_word
 order_back h (inl e) = rw e refl
 order_back h (inr e) = rw e refl

@@ -1,15 +1,10 @@
 -- The items of an order as words: ten a line, and each is read as it was printed.
-use Rattle.std.proofs.Common.{◌≡◌, ℕ, zero, suc, ◌+◌, ◌%◌, ◌<◌, ◌≤◌, Bool, true, false, cond, List, []}
-use Rattle.std.proofs.Common.{◌∷◌, ◌++◌, All, Some, Ok, refl, sym, ap, ◌∙◌, arith, append_assoc, inl, inr}
-use Rattle.std.specs.Prelude.{codes, decimal, ◌==◌}
-use Rattle.std.proofs.lemmas.Bool.{cases_Bool, lt-ltb}
-use Rattle.std.proofs.lemmas.List.{append-nil}
-use Rattle.std.proofs.lemmas.List.Elements.{All-head, All-tail}
-use Rattle.std.proofs.lemmas.Fmt.{decimal_digit}
-use Rattle.spk_nums.specs.declared.steps.How.{How}
-use Rattle.spk_nums.specs.declared.steps.How.TheVariants.{One, Ready, Decide, Return}
-use Rattle.spk_nums.specs.declared.steps.Item.{Item}
-use Rattle.line_reader.specs.Numerals.{value_of}
+use Rattle.std.proofs.Common.{◌≡◌, ℕ, zero, suc, ◌+◌, ◌%◌, ◌<◌, ◌≤◌, Bool, true, false, cond, List, [], ◌∷◌, ◌++◌, All, Some, Ok, refl, sym}
+use Rattle.std.proofs.Common.{ap, ◌∙◌, arith, append_assoc, inl, inr, codes, decimal, ◌==◌, lt-ltb, append-nil}
+use Rattle.std.proofs.{lemmas.Bool.cases_Bool, lemmas.List.Elements.All-head, lemmas.List.Elements.All-tail, lemmas.Fmt.decimal_digit}
+use Rattle.spk_nums.specs.{declared.steps.How.How, declared.steps.How.TheVariants.One, declared.steps.How.TheVariants.Ready}
+use Rattle.spk_nums.specs.{declared.steps.How.TheVariants.Decide, declared.steps.How.TheVariants.Return, declared.steps.Item.Item}
+use Rattle.script_reader.specs.line_reader.specs.Numerals.{value_of}
 use Rattle.script_reader.specs.Orders.{parts_of, item_of}
 use Rattle.script_printer.specs.Printing.{how_text, item_text, before_item, items_text, order_lines}
 use Rattle.script_printer.proofs.Spans.{is_text, are_lines, lines_onto}

@@ -10,3 +10,5 @@ pub mod PrintedLines
 pub mod LineCounts
 pub mod CallLimits
 pub mod ReadLimits
+-- The names that are used most outside of this library.
+pub use Rattle.script_printer.proofs.Spans.{both_left, both_right, is_line, line_onto, are_lines, is_text, rows_from}

@@ -1,20 +1,14 @@
 -- How many lines the printed form of a script has at most.
-use Rattle.std.proofs.Common.{◌≡◌, ℕ, ◌+◌, ◌%◌, ◌≤◌, Bool, true, false, cond, List, [], ◌∷◌, length, All, ap, ◌∙◌, arith}
-use Rattle.std.specs.Prelude.{count_by, slice_get, ◌==◌, ◌-◌}
-use Rattle.spk_nums.specs.declared.calls.Call.{Call}
-use Rattle.spk_nums.specs.declared.grants.Grant.{Grant}
-use Rattle.spk_nums.specs.declared.steps.Item.{Item}
-use Rattle.spk_nums.specs.Setting.{IsSetting}
-use Rattle.script_tokens.specs.Bytes.{is_feed}
-use Rattle.script_tokens.specs.Words.{ends_open, line_count}
-use Rattle.script_reader.specs.Readings.{Meaning, BelowCores}
-use Rattle.script_printer.specs.Printing.{printed, item_text}
-use Rattle.script_printer.specs.Law.{IsCallWithin, most_list_lines, most_lines}
-use Rattle.script_printer.proofs.Spans.{lines_count}
-use Rattle.script_printer.proofs.HeadLines.{calls_words, epochs_words}
-use Rattle.script_printer.proofs.ItemWords.{in_front, item_rows, order_rows}
-use Rattle.script_printer.proofs.ReadingLines.{grants_then, calls_then, core_then, lists_then, script_lines}
-use Rattle.script_printer.proofs.PrintedLines.{printed_onto, script_are_lines}
+use Rattle.std.proofs.Common.{◌≡◌, ℕ, ◌+◌, ◌%◌, ◌≤◌, Bool, true, false, cond, List, [], ◌∷◌, length, All, ap, ◌∙◌, arith, count_by}
+use Rattle.spk_nums.specs.{declared.calls.Call.Call, declared.grants.Grant.Grant, declared.steps.Item.Item, Setting.IsSetting}
+use Rattle.script_printer.proofs.{Spans.lines_count, HeadLines.calls_words, HeadLines.epochs_words, ItemWords.in_front, ItemWords.item_rows}
+use Rattle.script_printer.proofs.{ItemWords.order_rows, ReadingLines.grants_then, ReadingLines.calls_then, ReadingLines.core_then}
+use Rattle.script_printer.proofs.{ReadingLines.lists_then, ReadingLines.script_lines, PrintedLines.printed_onto}
+use Rattle.{std.proofs.Common.slice_get, std.proofs.Common.◌==◌, std.proofs.Common.◌-◌, script_printer.specs.printed}
+use Rattle.{script_printer.specs.item_text, script_printer.specs.IsCallWithin, script_reader.specs.Meaning, script_reader.specs.BelowCores}
+use Rattle.{script_reader.specs.script_tokens.specs.is_feed, script_reader.specs.script_tokens.specs.line_count}
+use Rattle.{script_reader.specs.script_tokens.specs.Words.ends_open, script_printer.specs.Law.most_list_lines}
+use Rattle.{script_printer.specs.Law.most_lines, script_printer.proofs.PrintedLines.script_are_lines}
 
 grants_length : (gs : List Grant) (lines : List (List (List ℕ))) → length (grants_then gs lines) ≡ length gs + length lines
 grants_length [] lines = omega arith

@@ -1,14 +1,12 @@
 -- Numbers as words: what is printed of a number is read as that number.
-use Rattle.std.proofs.Common.{◌≡◌, ℕ, ◌^◌, ◌<◌, ◌≤◌, true, leb, List, [], ◌∷◌, length, Some, Ok, refl, sym, ap, ◌∙◌, arith, rules}
-use Rattle.std.specs.Prelude.{decimal, slice_get}
-use Rattle.std.proofs.lemmas.Bool.{and_from, leb-true, le-leb, lt-ltb, ne_eqb}
-use Rattle.std.proofs.lemmas.Fmt.{digits_decimal, digits_value-decimal, decimal_nonempty}
-use Rattle.std.proofs.lemmas.Str.Parse.{IsNumeralModel, numerals_by_fold}
-use Rattle.script_tokens.specs.Bytes.{is_word_byte}
-use Rattle.line_reader.specs.Numerals.{is_digit, all_digits, is_digits, value_from, value_of, number_of}
-use Rattle.line_reader.specs.Arguments.{word_at, number_at, core_at}
-use Rattle.line_reader.proofs.Digits.{number_is}
+use Rattle.std.proofs.Common.{◌≡◌, ℕ, ◌^◌, ◌<◌, ◌≤◌, true, leb, List, [], ◌∷◌, length, Some, Ok, refl, sym, ap, ◌∙◌, arith, rules, decimal}
+use Rattle.std.proofs.Common.{slice_get, leb-true, le-leb, lt-ltb, ne_eqb}
+use Rattle.script_reader.specs.line_reader.specs.{all_digits, is_digits, value_of, number_of, word_at, number_at, core_at}
+use Rattle.std.proofs.{lemmas.Bool.and_from, lemmas.Fmt.digits_decimal, lemmas.Fmt.digits_value-decimal, lemmas.Fmt.decimal_nonempty}
+use Rattle.std.proofs.{lemmas.Str.Parse.IsNumeralModel, lemmas.Str.Parse.numerals_by_fold}
+use Rattle.script_reader.specs.line_reader.specs.Numerals.{is_digit, value_from}
 use Rattle.script_printer.proofs.Spans.{is_text, are_word_bytes, both_left, both_right}
+use Rattle.{script_reader.specs.script_tokens.specs.Bytes.is_word_byte, script_reader.specs.line_reader.proofs.Digits.number_is}
 
 own : IsNumeralModel (λ ds. all_digits ds ≡ true) (value_from 0)
 own = numerals_by_fold _ (search rules) value_from (search rules)

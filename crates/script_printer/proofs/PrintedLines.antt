@@ -1,29 +1,21 @@
 -- The printed form of a script is its lines of words, and is read as that script.
-use Rattle.std.proofs.Common.{◌≡◌, ℕ, ◌+◌, ◌-◌, ◌<◌, ◌≤◌, ◌^◌, true, false, List, [], ◌∷◌, ◌++◌, length}
-use Rattle.std.proofs.Common.{map, All, None, Ok, refl, ap, subst, ◌∙◌, arith, append_assoc}
-use Rattle.std.specs.Prelude.{codes, decimal, count_by}
-use Rattle.std.specs.List.{flat_map}
-use Rattle.std.proofs.lemmas.Bool.{and_from}
-use Rattle.std.proofs.lemmas.List.Elements.{All-head, All-tail, All-weaker}
-use Rattle.spk_nums.specs.declared.calls.Call.{Call}
-use Rattle.spk_nums.specs.declared.grants.Grant.{Grant}
-use Rattle.spk_nums.specs.declared.steps.Item.{Item}
-use Rattle.spk_nums.specs.Setting.{Setting, GrantFits, IsSetting}
-use Rattle.spk_nums.specs.Texts.{with_one}
-use Rattle.script_tokens.specs.declared.scanning.Ending.TheVariants.{Whole}
-use Rattle.script_tokens.specs.Bytes.{is_feed}
-use Rattle.script_tokens.specs.Words.{first_fault, line_count, ending_from, ending_of, before_fault, spans, word_at, words_of}
-use Rattle.script_reader.specs.Readings.{Meaning, rows_of, no_draft, draft_from, and_then, meaning_at, script_of, BelowCores}
-use Rattle.script_printer.specs.Printing.{grant_line, size_lines, limit_lines, setup_lines, call_line}
-use Rattle.script_printer.specs.Printing.{core_lines, list_lines, order_lines, printed, line}
-use Rattle.script_printer.specs.Law.{IsCallWithin, IsWithin}
-use Rattle.script_printer.proofs.Spans.{both_left, is_line, are_lines, line_onto, lines_onto}
-use Rattle.script_printer.proofs.Spans.{rows_from, lines_rows, lines_fault, lines_count}
-use Rattle.script_printer.proofs.NumberWords.{number_text}
-use Rattle.script_printer.proofs.CallWords.{call_onto, call_is_line}
-use Rattle.script_printer.proofs.HeadLines.{speck_words, cores_words, frames_words, grant_words, calls_words, epochs_words}
-use Rattle.script_printer.proofs.ItemWords.{order_rows, order_onto, rows_lines}
-use Rattle.script_printer.proofs.ReadingLines.{Says, grants_then, calls_then, core_then, lists_then, script_lines, script_says}
+use Rattle.script_printer.proofs as low
+use Rattle.std.proofs.Common.{◌≡◌, ℕ, ◌+◌, ◌-◌, ◌<◌, ◌≤◌, ◌^◌, true, false, List, [], ◌∷◌, ◌++◌, length, map, All, None, Ok, refl, ap}
+use Rattle.std.proofs.Common.{subst, ◌∙◌, arith, append_assoc, codes, decimal, count_by, flat_map}
+use Rattle.script_reader.specs.script_tokens.specs.{is_feed, first_fault, line_count, ending_from, ending_of, before_fault, spans, word_at}
+use Rattle.script_printer.specs.{setup_lines, call_line, list_lines, printed, line, IsCallWithin, IsWithin}
+use Rattle.script_reader.specs.{Meaning, no_draft, draft_from, meaning_at, script_of, BelowCores}
+use Rattle.std.proofs.{lemmas.Bool.and_from, lemmas.List.Elements.All-head, lemmas.List.Elements.All-tail, lemmas.List.Elements.All-weaker}
+use Rattle.spk_nums.specs.{declared.calls.Call.Call, declared.grants.Grant.Grant, declared.steps.Item.Item, Setting.Setting}
+use Rattle.script_printer.specs.Printing.{grant_line, size_lines, limit_lines, core_lines, order_lines}
+use low.Spans.{both_left, is_line, are_lines, line_onto, lines_onto, rows_from, lines_rows, lines_fault, lines_count}
+use low.HeadLines.{speck_words, cores_words, frames_words, grant_words, calls_words, epochs_words}
+use low.ReadingLines.{Says, grants_then, calls_then, core_then, lists_then, script_lines, script_says}
+use Rattle.{script_reader.specs.script_tokens.specs.words_of, script_reader.specs.line_reader.specs.rows_of}
+use Rattle.{script_reader.specs.line_reader.specs.and_then, spk_nums.specs.Setting.GrantFits, spk_nums.specs.Setting.IsSetting}
+use Rattle.{spk_nums.specs.Texts.with_one, script_reader.specs.script_tokens.specs.declared.scanning.Ending.TheVariants.Whole}
+use low.{NumberWords.number_text, CallWords.call_onto, CallWords.call_is_line, ItemWords.order_rows, ItemWords.order_onto}
+use low.{ItemWords.rows_lines}
 
 -- ---- the text is its lines
 

@@ -1,98 +1,84 @@
 -- What bytes say is a script within the limits.
-use Rattle.std.proofs.Common.{◌≡◌, ℕ, ◌+◌, ◌*◌, ◌≤◌, ◌<◌, Bool, true, false, cond, eqb, ltb, List, [], ◌∷◌, ◌++◌, length}
-use Rattle.std.proofs.Common.{All, Option, Some, None, Result, Ok, Err, refl, sym, ap, subst, ◌∙◌, arith, inl, inr}
-use Rattle.std.specs.Prelude.{slice_get}
-use Rattle.std.specs.Option.{ok_or, option_and_then}
-use Rattle.std.proofs.lemmas.Bool.{cases_Bool, cases_lt, eqb-true, eqb-false, ltb-true}
-use Rattle.std.proofs.lemmas.List.{get_or_past, length_push, length-set, length-take-le}
+use Rattle.script_reader.specs as low
+use Rattle.std.proofs.Common.{◌≡◌, ℕ, ◌+◌, ◌*◌, ◌≤◌, ◌<◌, Bool, true, false, cond, eqb, ltb, List, [], ◌∷◌, ◌++◌, length, All, Option, Some}
+use Rattle.std.proofs.Common.{None, Result, Ok, Err, refl, sym, ap, subst, ◌∙◌, arith, inl, inr, slice_get, ok_or, option_and_then}
+use Rattle.std.proofs.Common.{eqb-true, ltb-true, length-set, length-take-le}
+use low.{may_stand, granted, is_whole, line_of, line_by, core_line, order_line, item_of, items_of, Draft_of, Meaning, no_draft, calls_of}
+use low.{with_call, with_line, is_order, behind_line, draft_behind, draft_from, meaning_of, meaning_at, script_of, BelowCores}
+use low.line_reader.specs.{◌>>=◌, value_of, number_at, core_at, end_at, Row, First_fault, at_line, and_then, rows_of}
+use Rattle.script_printer.specs.{printed, IsCallWithin, IsWithin}
+use Rattle.std.proofs.lemmas.Bool.{cases_Bool, cases_lt, eqb-false}
+use low.call_reader.specs.{first_word, call_line, most_calls}
+use low.script_tokens.specs.{words_of, ending_of, line_count}
+use Rattle.std.proofs.lemmas.List.{get_or_past, length_push}
 use Rattle.std.proofs.lemmas.List.Elements.{All-push, All-set, All-weaker, All-get_or, All-take, All-nil, All-replicate}
-use Rattle.spk_nums.specs.declared.calls.Call.{Call}
-use Rattle.spk_nums.specs.declared.calls.Call.TheVariants.{Copy, Part, Replenish}
-use Rattle.spk_nums.specs.declared.grants.Grant.{Grant}
-use Rattle.spk_nums.specs.declared.steps.Item.{Item}
-use Rattle.spk_nums.specs.Setting.{GrantFits, IsSetting}
-use Rattle.script_tokens.specs.declared.scanning.ByteFault.TheVariants.{NotAscii, TooManyLines}
-use Rattle.script_tokens.specs.declared.scanning.Ending.{Ending}
-use Rattle.script_tokens.specs.declared.scanning.Ending.TheVariants.{Whole, Fault}
-use Rattle.script_tokens.specs.Words.{words_of, ending_of, line_count}
-use Rattle.line_reader.specs.declared.cause.Cause.{Cause}
-use Rattle.line_reader.specs.declared.cause.Cause.TheVariants.{S2, S6, S7, S9}
-use Rattle.line_reader.specs.Causes.{◌>>=◌}
-use Rattle.line_reader.specs.Numerals.{value_of}
-use Rattle.line_reader.specs.Arguments.{number_at, core_at, end_at}
-use Rattle.call_reader.specs.declared.first_words.FirstWord.{FirstWord}
-use Rattle.call_reader.specs.declared.first_words.FirstWord.TheVariants as first
-use Rattle.call_reader.specs.FirstWords.{first_word}
-use Rattle.call_reader.specs.CallLines.{call_line}
-use Rattle.call_reader.specs.Versions.{most_calls}
-use Rattle.script_reader.specs.declared.head.Section.{Section}
-use Rattle.script_reader.specs.declared.head.Section.TheVariants as section
-use Rattle.script_reader.specs.declared.head.Head.{Head}
-use Rattle.script_reader.specs.declared.head.Line.{Line}
-use Rattle.script_reader.specs.declared.head.Line.TheVariants as line
-use Rattle.script_reader.specs.Heads.{may_stand, granted, is_whole, AreFrames, HasCome, IsHead, line_of, line_by, speck_line}
-use Rattle.script_reader.specs.Heads.{cores_line, frames_line, grant_line, calls_line, epochs_line, core_line, order_line}
-use Rattle.script_reader.specs.Orders.{Parts, parts_of, no_item, item_of, judged, with_item, items_of}
-use Rattle.script_reader.specs.Readings.{Row, Draft_of, Meaning, First_fault, no_draft, calls_of, with_call}
-use Rattle.script_reader.specs.Readings.{with_line, is_order, behind_line, draft_behind, at_line, and_then}
-use Rattle.script_reader.specs.Readings.{draft_from, rows_of, meaning_of, meaning_at, script_of, BelowCores}
-use Rattle.script_printer.specs.Printing.{printed}
-use Rattle.script_printer.specs.Law.{IsCallWithin, IsWithin}
+use Rattle.spk_nums.specs.{declared.calls.Call.Call, declared.calls.Call.TheVariants.Copy, declared.calls.Call.TheVariants.Part}
+use Rattle.spk_nums.specs.{declared.calls.Call.TheVariants.Replenish, declared.grants.Grant.Grant, declared.steps.Item.Item}
+use Rattle.spk_nums.specs.{Setting.GrantFits, Setting.IsSetting}
+use low.script_tokens.specs.declared.scanning.ByteFault.TheVariants.{NotAscii, TooManyLines}
+use low.script_tokens.specs.declared.scanning.Ending.TheVariants.{Whole, Fault}
+use low.line_reader.specs.declared.cause.Cause.TheVariants.{S2, S6, S7, S9}
+use low.{declared.head.Section.Section, declared.head.Head.Head, declared.head.Line.Line, Heads.AreFrames, Heads.HasCome, Heads.IsHead}
+use low.{Heads.speck_line, Heads.cores_line, Heads.frames_line, Heads.grant_line, Heads.calls_line, Heads.epochs_line, Orders.Parts}
+use low.{Orders.parts_of, Orders.no_item, Orders.judged, Orders.with_item}
 use Rattle.script_printer.proofs.CallLimits.{judged_is, bind_ok, args_none, args_one, args_three, number_in, call_in}
 use Rattle.script_printer.proofs.KnownWords.{IsWordIn, word_known, most_machine}
+use low.{script_tokens.specs.declared.scanning.Ending.Ending, line_reader.specs.declared.cause.Cause.Cause}
+use low.{call_reader.specs.declared.first_words.FirstWord.FirstWord}
+use Rattle.script_reader.specs.call_reader.specs.declared.first_words.FirstWord.TheVariants as first
 
 -- ---- lines of the head
 
 -- before the grants there are none
 no_grants : (s : Section) (h : Head) → may_stand s first.Speck ≡ true → HasCome s h → h.grants ≡ []
-no_grants section.Version h t come = come.0
+no_grants Section.Version h t come = come.0
 no_grants _ h t come = absurd cc
 
 no_grants_cores : (s : Section) (h : Head) → may_stand s first.Cores ≡ true → HasCome s h → h.grants ≡ []
-no_grants_cores section.Cores h t come = come
+no_grants_cores Section.Cores h t come = come
 no_grants_cores _ h t come = absurd cc
 
 no_grants_frames : (s : Section) (h : Head) → may_stand s first.Frames ≡ true → HasCome s h → h.grants ≡ []
-no_grants_frames section.Frames h t come = come
+no_grants_frames Section.Frames h t come = come
 no_grants_frames _ h t come = absurd cc
 
 some_grants : (s : Section) (h : Head) → may_stand s first.Grant ≡ true → HasCome s h → AreFrames h × (length h.grants < h.cores)
-some_grants section.Grants h t come = come
+some_grants Section.Grants h t come = come
 some_grants _ h t come = absurd cc
 
 all_grants_calls : (s : Section) (h : Head) → may_stand s first.Calls ≡ true → HasCome s h → AreFrames h × (length h.grants ≡ h.cores)
-all_grants_calls section.Calls h t come = come
+all_grants_calls Section.Calls h t come = come
 all_grants_calls _ h t come = absurd cc
 
 all_grants_epochs : (s : Section) (h : Head) → may_stand s first.Epochs ≡ true → HasCome s h → AreFrames h × (length h.grants ≡ h.cores)
-all_grants_epochs section.Calls h t come = come
-all_grants_epochs section.Epochs h t come = come
+all_grants_epochs Section.Calls h t come = come
+all_grants_epochs Section.Epochs h t come = come
 all_grants_epochs _ h t come = absurd cc
 
 all_grants_core : (s : Section) (h : Head) → may_stand s first.Core ≡ true → HasCome s h → AreFrames h × (length h.grants ≡ h.cores)
-all_grants_core section.Calls h t come = come
-all_grants_core section.Epochs h t come = come
-all_grants_core section.Lists h t come = come
-all_grants_core section.List h t come = come
+all_grants_core Section.Calls h t come = come
+all_grants_core Section.Epochs h t come = come
+all_grants_core Section.Lists h t come = come
+all_grants_core Section.List h t come = come
 all_grants_core _ h t come = absurd cc
 
 all_grants_order : (s : Section) (h : Head) → may_stand s first.Order ≡ true → HasCome s h → AreFrames h × (length h.grants ≡ h.cores)
-all_grants_order section.Calls h t come = come
-all_grants_order section.Epochs h t come = come
-all_grants_order section.Lists h t come = come
-all_grants_order section.List h t come = come
+all_grants_order Section.Calls h t come = come
+all_grants_order Section.Epochs h t come = come
+all_grants_order Section.Lists h t come = come
+all_grants_order Section.List h t come = come
 all_grants_order _ h t come = absurd cc
 
 all_grants_whole : (s : Section) (h : Head) → is_whole s ≡ true → HasCome s h → AreFrames h × (length h.grants ≡ h.cores)
-all_grants_whole section.Version h t come = absurd cc
-all_grants_whole section.Cores h t come = absurd cc
-all_grants_whole section.Frames h t come = absurd cc
-all_grants_whole section.Grants h t come = absurd cc
+all_grants_whole Section.Version h t come = absurd cc
+all_grants_whole Section.Cores h t come = absurd cc
+all_grants_whole Section.Frames h t come = absurd cc
+all_grants_whole Section.Grants h t come = absurd cc
 all_grants_whole _ h t come = come
 
 -- before its line the version is 1
 first_version : (s : Section) (h : Head) → may_stand s first.Speck ≡ true → HasCome s h → h.version ≡ 1
-first_version section.Version h t come = come.1
+first_version Section.Version h t come = come.1
 first_version _ h t come = absurd cc
 
 -- what a line makes of a head: a head, of version 1 only if it was so before, and from version 3 on if it was so before
@@ -103,7 +89,7 @@ speck_in : (h g : Head) (words : List (List ℕ)) → IsHead h → may_stand h.s
 unfolding speck_line
 speck_in h g words is t e =
     let r = args_one (number_at words 1 1 3) (end_at words 2)
-    (λ n. record h { section = section.Cores; version = n; calls = most_calls n }) g e in
+    (λ n. record h { section = Section.Cores; version = n; calls = most_calls n }) g e in
     let n = number_in words 1 1 3 r.0 r.1 in
     subst (Goes h) r.2 (
       record {
@@ -125,7 +111,7 @@ speck_in h g words is t e =
 cores_in : (h g : Head) (words : List (List ℕ)) → IsHead h → may_stand h.section first.Cores ≡ true → cores_line h words ≡ Ok g → Goes h g
 unfolding cores_line
 cores_in h g words is t e =
-    let r = args_one (number_at words 1 1 8) (end_at words 2) (λ n. record h { section = section.Frames; cores = n }) g e in
+    let r = args_one (number_at words 1 1 8) (end_at words 2) (λ n. record h { section = Section.Frames; cores = n }) g e in
     let n = number_in words 1 1 8 r.0 r.1 in
     subst (Goes h) r.2 (
       record {
@@ -149,7 +135,7 @@ frames_in : (h g : Head) (words : List (List ℕ)) → IsHead h
 unfolding frames_line
 frames_in h g words is t e =
     let r = args_one (number_at words 1 (4 + 2 * h.cores) 512) (end_at words 2)
-    (λ n. record h { section = section.Grants; frames = n }) g e in
+    (λ n. record h { section = Section.Grants; frames = n }) g e in
     let none : h.grants ≡ [] = no_grants_frames h.section h t is.come in
     let some : 1 ≤ h.cores = is.some_core in
     let few : length h.grants < h.cores = subst (λ (gs : List Grant). length gs < h.cores) (sym none) (omega arith) in
@@ -225,7 +211,7 @@ calls_in : (h g : Head) (words : List (List ℕ)) → IsHead h → may_stand h.s
 unfolding calls_line
 calls_in h g words is t e =
     let r = args_one (number_at words 1 0 (most_calls h.version)) (end_at words 2)
-    (λ n. record h { section = section.Epochs; calls = n }) g e in
+    (λ n. record h { section = Section.Epochs; calls = n }) g e in
     let few : r.0 ≤ most_calls h.version = (number_in words 1 0 (most_calls h.version) r.0 r.1).1 in
     subst (Goes h) r.2 (
       record {
@@ -249,7 +235,7 @@ epochs_in : (h g : Head) (words : List (List ℕ)) → IsHead h
     → may_stand h.section first.Epochs ≡ true → epochs_line h words ≡ Ok g → Goes h g
 unfolding epochs_line
 epochs_in h g words is t e =
-    let r = args_one (number_at words 1 1 65535) (end_at words 2) (λ n. record h { section = section.Lists; epochs = n }) g e in
+    let r = args_one (number_at words 1 1 65535) (end_at words 2) (λ n. record h { section = Section.Lists; epochs = n }) g e in
     let n = number_in words 1 1 65535 r.0 r.1 in
     let most : r.0 ≤ 65535 = n.1 in
     subst (Goes h) r.2 (
@@ -272,7 +258,7 @@ epochs_in h g words is t e =
 core_in : (h g : Head) (words : List (List ℕ)) → IsHead h → may_stand h.section first.Core ≡ true → core_line h words ≡ Ok g → Goes h g
 unfolding core_line
 core_in h g words is t e =
-    let r = args_one (core_at words 1 h.cores) (end_at words 2) (λ n. record h { section = section.List; core = n }) g e in
+    let r = args_one (core_at words 1 h.cores) (end_at words 2) (λ n. record h { section = Section.List; core = n }) g e in
     subst (Goes h) r.2 (
       record {
         some_version = is.some_version;
@@ -293,7 +279,7 @@ core_in h g words is t e =
 order_in : (h g : Head) (words : List (List ℕ)) → IsHead h → may_stand h.section first.Order ≡ true → order_line h words ≡ Ok g → Goes h g
 unfolding order_line
 order_in h g words is t e =
-    subst (Goes h) (args_none (end_at words 1) (record h { section = section.Order }) g e) (
+    subst (Goes h) (args_none (end_at words 1) (record h { section = Section.Order }) g e) (
       record {
         some_version = is.some_version;
         most_versions = is.most_versions;
@@ -313,12 +299,12 @@ order_in h g words is t e =
 
 -- what a line says is within the limits
 abbrev IsLineWithin : Head → Line → Type 0
-IsLineWithin h (line.Head head) = Goes h head
-IsLineWithin h (line.Call call) = IsCallWithin h.version call
+IsLineWithin h (Line.Head head) = Goes h head
+IsLineWithin h (Line.Call call) = IsCallWithin h.version call
 
 head_line : (h : Head) (r : Result Head Cause) (l : Line) → ((g : Head) → r ≡ Ok g → Goes h g)
-    → (r >>= λ head. Ok (line.Head head)) ≡ Ok l → IsLineWithin h l
-head_line h (Ok g) l within e = subst (IsLineWithin h) (judged_is (line.Head g) l e) (within g refl)
+    → (r >>= λ head. Ok (Line.Head head)) ≡ Ok l → IsLineWithin h l
+head_line h (Ok g) l within e = subst (IsLineWithin h) (judged_is (Line.Head g) l e) (within g refl)
 head_line h (Err k) l within e = absurd cc
 
 line_by_in : (h : Head) (words : List (List ℕ)) (w : FirstWord) (l : Line)
@@ -333,8 +319,8 @@ line_by_in h words first.Epochs l is t known e = head_line h (epochs_line h word
 line_by_in h words first.Core l is t known e = head_line h (core_line h words) l (λ g. core_in h g words is t) e
 line_by_in h words first.Order l is t known e = head_line h (order_line h words) l (λ g. order_in h g words is t) e
 line_by_in h words (first.Call v) l is t known e =
-    let r = bind_ok (call_line h.version words v) (λ call. Ok (line.Call call)) l e in
-    subst (IsLineWithin h) (judged_is (line.Call r.0) l r.2) (call_in h.version words v r.0 known r.1)
+    let r = bind_ok (call_line h.version words v) (λ call. Ok (Line.Call call)) l e in
+    subst (IsLineWithin h) (judged_is (Line.Call r.0) l r.2) (call_in h.version words v r.0 known r.1)
 
 abbrev failed : {A : Type 0} → Cause → Result A Cause
 failed k = Err k
@@ -426,7 +412,7 @@ call_more v lists core c h k =
     All-set (All (IsCallWithin v)) lists core (calls_of lists core ++ c ∷ []) (All-push (IsCallWithin v) (calls_of lists core) c old k) h
 
 line_read : (d : Draft_of) (l : Line) → IsRead d → is_order d.head.section ≡ false → IsLineWithin d.head l → IsRead (with_line d l)
-line_read d (line.Head g) is none h =
+line_read d (Line.Head g) is none h =
     record {
       head = h.0;
       eight = is.eight;
@@ -436,7 +422,7 @@ line_read d (line.Head g) is none h =
       order = no_order g.cores d.order (is.before none);
       before = λ t. is.before none;
     }
-line_read d (line.Call c) is none h =
+line_read d (Line.Call c) is none h =
     record {
       head = is.head;
       eight = length-set d.lists d.head.core (calls_of d.lists d.head.core ++ c ∷ []) ∙ is.eight;

@@ -1,33 +1,24 @@
 -- The printed lines, read one after another from the first.
-use Rattle.std.proofs.Common.{◌≡◌, ℕ, zero, suc, ◌+◌, ◌-◌, ◌%◌, ◌<◌, ◌≤◌, ◌^◌, true, false, List, [], ◌∷◌, ◌++◌, length, set}
-use Rattle.std.proofs.Common.{take, replicate, All, Ok, refl, sym, ap, subst, ◌∙◌, arith, append_assoc, zero-add, inl, inr}
-use Rattle.std.specs.Prelude.{◌==◌}
-use Rattle.std.proofs.lemmas.Bool.{cases_Bool, eq-eqb, ne_eqb, lt-ltb}
-use Rattle.std.proofs.lemmas.List.{append-nil, length_push}
-use Rattle.std.proofs.lemmas.List.Elements.{All-head, All-tail}
-use Rattle.std.proofs.Math.Seq.{set-append_seam, get_or-append_seam, take-append_seam}
-use Rattle.spk_nums.specs.declared.calls.Call.{Call}
-use Rattle.spk_nums.specs.declared.grants.Grant.{Grant}
-use Rattle.spk_nums.specs.declared.steps.Item.{Item}
-use Rattle.spk_nums.specs.Setting.{Setting, GrantFits, IsSetting}
-use Rattle.script_tokens.specs.declared.scanning.Ending.TheVariants.{Whole}
-use Rattle.script_reader.specs.declared.head.Section.{Section}
+use Rattle.std.proofs.Common.{◌≡◌, ℕ, zero, suc, ◌+◌, ◌-◌, ◌%◌, ◌<◌, ◌≤◌, ◌^◌, true, false, List, [], ◌∷◌, ◌++◌, length, set, take}
+use Rattle.std.proofs.Common.{replicate, All, Ok, refl, sym, ap, subst, ◌∙◌, arith, append_assoc, zero-add, inl, inr, ◌==◌, eq-eqb, ne_eqb}
+use Rattle.script_reader.specs.{no_head, granted, is_whole, line_of, Draft_of, Meaning, no_draft, with_call, is_order, behind_line}
+use Rattle.script_reader.specs.{draft_behind, draft_from, meaning_of, meaning_at, setting_of, BelowCores}
+use Rattle.std.proofs.{lemmas.Bool.cases_Bool, lemmas.List.length_push, lemmas.List.Elements.All-head, lemmas.List.Elements.All-tail}
+use Rattle.std.proofs.{Math.Seq.set-append_seam, Math.Seq.get_or-append_seam, Math.Seq.take-append_seam}
+use Rattle.spk_nums.specs.{declared.calls.Call.Call, declared.grants.Grant.Grant, declared.steps.Item.Item, Setting.Setting}
+use Rattle.script_printer.proofs.{Spans.rows_from, CallWords.call_words, CallReading.call_back, HeadLines.speck_words}
+use Rattle.script_printer.proofs.{HeadLines.cores_words, HeadLines.frames_words, HeadLines.grant_words, HeadLines.calls_words}
+use Rattle.script_printer.proofs.{HeadLines.epochs_words, HeadLines.core_words, HeadLines.order_words, HeadLines.IsListing}
+use Rattle.script_printer.proofs.{HeadLines.speck_back, HeadLines.cores_back, HeadLines.frames_back, HeadLines.grant_back}
+use Rattle.script_printer.proofs.{HeadLines.calls_back, HeadLines.epochs_back, HeadLines.core_line_back, HeadLines.order_back}
+use Rattle.script_printer.proofs.{ItemWords.in_front, ItemWords.item_rows, ItemWords.order_rows, ItemWords.item_read}
+use Rattle.{std.proofs.Common.lt-ltb, std.proofs.Common.append-nil, script_printer.specs.item_text, script_printer.specs.IsCallWithin}
+use Rattle.{spk_nums.specs.Setting.GrantFits, spk_nums.specs.Setting.IsSetting}
+use Rattle.{script_reader.specs.script_tokens.specs.declared.scanning.Ending.TheVariants.Whole}
+use Rattle.{script_reader.specs.declared.head.Section.Section, script_reader.specs.declared.head.Head.Head}
+use Rattle.{script_reader.specs.line_reader.specs.Lines.and_then, script_reader.specs.call_reader.specs.Versions.most_calls}
 use Rattle.script_reader.specs.declared.head.Section.TheVariants as section
-use Rattle.script_reader.specs.declared.head.Head.{Head}
 use Rattle.script_reader.specs.declared.head.Line.TheVariants as line
-use Rattle.script_reader.specs.Heads.{no_head, granted, is_whole, line_of}
-use Rattle.script_reader.specs.Readings.{Draft_of, Meaning, no_draft, with_call, is_order, behind_line, draft_behind}
-use Rattle.script_reader.specs.Readings.{and_then, draft_from, meaning_of, meaning_at, setting_of, BelowCores}
-use Rattle.script_printer.specs.Printing.{item_text}
-use Rattle.script_printer.specs.Law.{IsCallWithin}
-use Rattle.script_printer.proofs.Spans.{rows_from}
-use Rattle.script_printer.proofs.CallWords.{call_words}
-use Rattle.script_printer.proofs.CallReading.{call_back}
-use Rattle.script_printer.proofs.HeadLines.{speck_words, cores_words, frames_words, grant_words, calls_words}
-use Rattle.script_printer.proofs.HeadLines.{epochs_words, core_words, order_words, IsListing, speck_back, cores_back}
-use Rattle.script_printer.proofs.HeadLines.{frames_back, grant_back, calls_back, epochs_back, core_line_back, order_back}
-use Rattle.script_printer.proofs.ItemWords.{in_front, item_rows, order_rows, item_read}
-use Rattle.call_reader.specs.Versions.{most_calls}
 
 -- after a draft, these lines say that script, wherever they stand
 pub record Says (d : Draft_of) (lines : List (List (List ℕ))) (m : Meaning) : Type 0 where

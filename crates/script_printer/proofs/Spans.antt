@@ -1,15 +1,12 @@
 -- The words of lines: each word stands where it was printed.
-use Rattle.std.proofs.Common.{◌≡◌, ℕ, suc, ◌+◌, ◌-◌, ◌≤◌, Bool, true, false, cond, eqb, leb, List, [], ◌∷◌, ◌++◌}
-use Rattle.std.proofs.Common.{length, take, drop, map, Option, None, refl, sym, ap, subst, ◌∙◌, arith, inl, inr}
-use Rattle.std.specs.Prelude.{◌&&◌, not, count_by, slice_get, slice_range}
-use Rattle.std.proofs.lemmas.Bool.{cases_Bool, eqb-true, eq-eqb, ne_eqb, le-ltb, leb-true, le-leb}
-use Rattle.std.proofs.lemmas.List.{drop-drop}
-use Rattle.std.proofs.lemmas.List.Sums.{sum_by-cons}
-use Rattle.std.proofs.Math.Seq.{take-append_seam, drop-append_seam}
-use Rattle.script_tokens.specs.Bytes.{is_feed, is_hash, is_word_byte, is_allowed}
-use Rattle.script_tokens.specs.Words.{Span, Word, joined, spans, first_fault, word_at}
-use Rattle.script_tokens.proofs.Steps.{RisesFrom, spans_rise}
-use Rattle.script_reader.specs.Readings.{Row, with_word, rows_of}
+use Rattle.std.proofs.Common.{◌≡◌, ℕ, suc, ◌+◌, ◌-◌, ◌≤◌, Bool, true, false, cond, eqb, leb, List, [], ◌∷◌, ◌++◌, length, take, drop, map}
+use Rattle.std.proofs.Common.{Option, None, refl, sym, ap, subst, ◌∙◌, arith, inl, inr, ◌&&◌, not, count_by, slice_get, slice_range}
+use Rattle.std.proofs.Common.{eqb-true, eq-eqb, ne_eqb, le-ltb, leb-true, le-leb, drop-drop}
+use Rattle.script_reader.specs.script_tokens.specs.{is_feed, is_hash, is_word_byte, is_allowed, Span, Word, joined, spans, first_fault}
+use Rattle.script_reader.specs.script_tokens.specs.{word_at}
+use Rattle.script_reader.specs.line_reader.specs.{Row, with_word, rows_of}
+use Rattle.std.proofs.{lemmas.Bool.cases_Bool, lemmas.List.Sums.sum_by-cons, Math.Seq.take-append_seam, Math.Seq.drop-append_seam}
+use Rattle.script_reader.specs.script_tokens.proofs.Steps.{RisesFrom, spans_rise}
 
 -- each byte is one of a word
 abbrev pub are_word_bytes : List ℕ → Bool

@@ -1,17 +1,13 @@
 -- Which scripts are read back from their printed form, and that they are.
 use Rattle.std.specs.Prelude.{◌≡◌, ◌≤◌, ℕ, ◌+◌, List, [], ◌∷◌, All, Ok, length}
-use Rattle.spk_nums.specs.declared.calls.Make.{Make}
+use Rattle.script_reader.specs.{Meaning, BelowCores, script_of}
 use Rattle.spk_nums.specs.declared.calls.Make.TheVariants.{Thread, Tcap, Comp}
-use Rattle.spk_nums.specs.declared.calls.Call.{Call}
-use Rattle.spk_nums.specs.declared.calls.Call.TheVariants.{Look, Copy, Remove, Grow, Shrink, Retype, Make as make_call}
-use Rattle.spk_nums.specs.declared.calls.Call.TheVariants.{Map, Unmap, Touch, Flush, Gate, Kill, Call as call_gate}
-use Rattle.spk_nums.specs.declared.calls.Call.TheVariants.{Ret, Switch, Tick, Transfer, Delegate, Test, Part, Replenish}
-use Rattle.spk_nums.specs.Rights.{both}
-use Rattle.spk_nums.specs.Setting.{IsSetting}
-use Rattle.script_tokens.specs.Words.{line_count}
-use Rattle.script_reader.specs.Readings.{Meaning, BelowCores, script_of}
-use Rattle.script_printer.specs.Printing.{printed}
-use Rattle.call_reader.specs.Versions.{most_calls}
+use Rattle.spk_nums.specs.declared.calls.Call.TheVariants.{Look, Copy, Remove, Grow, Shrink, Retype, Make as make_call, Map, Unmap, Touch}
+use Rattle.spk_nums.specs.declared.calls.Call.TheVariants.{Flush, Gate, Kill, Call as call_gate, Ret, Switch, Tick, Transfer, Delegate}
+use Rattle.spk_nums.specs.declared.calls.Call.TheVariants.{Test, Part, Replenish}
+use Rattle.{spk_nums.specs.declared.calls.Make.Make, spk_nums.specs.declared.calls.Call.Call, spk_nums.specs.Rights.both}
+use Rattle.{spk_nums.specs.Setting.IsSetting, script_reader.specs.script_tokens.specs.Words.line_count}
+use Rattle.{script_reader.specs.call_reader.specs.Versions.most_calls, script_printer.specs.Printing.printed}
 
 -- the number of a capability, a page, a root entry or a frame
 abbrev pub IsName : ℕ → Type 0

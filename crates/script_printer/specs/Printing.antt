@@ -1,14 +1,9 @@
 -- The printed form of a script: the lines of its setup, then the calls of each core that has some, then its order.
-use Rattle.std.specs.Prelude.{ℕ, List, [], ◌∷◌, ◌++◌, codes, decimal, ◌+◌, ◌%◌, ◌==◌, if◌then◌else◌}
-use Rattle.std.specs.List.{flat_map}
-use Rattle.spk_nums.specs.declared.calls.Call.{Call}
-use Rattle.spk_nums.specs.declared.grants.Grant.{Grant}
-use Rattle.spk_nums.specs.declared.steps.How.{How}
-use Rattle.spk_nums.specs.declared.steps.How.TheVariants.{One, Ready, Decide, Return}
-use Rattle.spk_nums.specs.declared.steps.Item.{Item}
-use Rattle.spk_nums.specs.Setting.{Setting}
-use Rattle.spk_nums.specs.Texts.{with_one, with_three, call_text}
-use Rattle.script_reader.specs.Readings.{Meaning}
+use Rattle.std.specs.Prelude.{ℕ, List, [], ◌∷◌, ◌++◌, codes, decimal, ◌+◌, ◌%◌, ◌==◌, if◌then◌else◌, flat_map}
+use Rattle.spk_nums.specs.{declared.calls.Call.Call, declared.grants.Grant.Grant, declared.steps.How.How}
+use Rattle.spk_nums.specs.{declared.steps.How.TheVariants.One, declared.steps.How.TheVariants.Ready, declared.steps.How.TheVariants.Decide}
+use Rattle.spk_nums.specs.{declared.steps.How.TheVariants.Return, declared.steps.Item.Item, Setting.Setting, Texts.with_one}
+use Rattle.{spk_nums.specs.Texts.with_three, spk_nums.specs.Texts.call_text, script_reader.specs.Readings.Meaning}
 
 -- a line: its text, and a line feed
 abbrev pub line : List ℕ → List ℕ

@@ -1,26 +1,18 @@
 -- No list of a script has more calls than the script has words.
-use Rattle.std.proofs.Common.{◌≡◌, ℕ, ◌+◌, ◌≤◌, List, [], ◌∷◌, ◌++◌, length, All}
-use Rattle.std.proofs.Common.{IfOk, Result, Ok, Err, subst, arith, inl, inr}
-use Rattle.std.proofs.lemmas.Bool.{cases_Bool, cases_lt}
-use Rattle.std.proofs.lemmas.List.{get_or_past, length_push}
+use Rattle.script_reader.specs.{line_of, is_whole, items_of, Draft_of, Meaning, no_draft, calls_of, with_call, with_line, is_order}
+use Rattle.script_reader.specs.{behind_line, draft_behind, draft_from, meaning_of, meaning_at, script_of, AtMost, script_view, lists_of}
+use Rattle.std.proofs.Common.{◌≡◌, ℕ, ◌+◌, ◌≤◌, List, [], ◌∷◌, ◌++◌, length, All, IfOk, Result, Ok, Err, subst, arith, inl, inr}
+use Rattle.line_reader.proofs.{judged_is, read_is, bind_ok, then_ok, at_line_ok, few_rows, lines_keep}
+use Rattle.line_reader.specs.{Row, rows_of, First_fault, Gives}
 use Rattle.std.proofs.lemmas.List.Elements.{All-set, All-get_or, All-weaker, All-take, All-replicate}
-use Rattle.spk_nums.specs.declared.calls.Call.{Call}
-use Rattle.script_tokens.specs.declared.scanning.Ending.{Ending}
-use Rattle.script_tokens.specs.declared.scanning.Ending.TheVariants.{Whole, Fault}
-use Rattle.script_tokens.specs.declared.scanning.ByteFault.TheVariants.{NotAscii, TooManyLines}
-use Rattle.script_tokens.specs.Words.{words_of, ending_of}
-use Rattle.line_reader.specs.declared.cause.ReadFault.{ReadFault}
-use Rattle.line_reader.proofs.Judged.{judged_is, read_is, bind_ok, then_ok, at_line_ok}
-use Rattle.line_reader.proofs.Rows.{few_rows}
-use Rattle.line_reader.proofs.LineSteps.{lines_keep}
-use Rattle.script_reader.specs.declared.head.Line.{Line}
+use Rattle.script_reader.specs.{declared.head.Line.Line, declared.reading.Script.Script, Readings.draft_step}
+use Rattle.{std.proofs.lemmas.Bool.cases_Bool, std.proofs.lemmas.Bool.cases_lt, std.proofs.lemmas.List.get_or_past}
+use Rattle.{std.proofs.lemmas.List.length_push, script_tokens.specs.words_of, script_tokens.specs.ending_of}
+use Rattle.{spk_nums.specs.declared.calls.Call.Call, script_tokens.specs.declared.scanning.Ending.Ending}
+use Rattle.{script_tokens.specs.declared.scanning.Ending.TheVariants.Whole, script_tokens.specs.declared.scanning.Ending.TheVariants.Fault}
+use Rattle.{script_tokens.specs.declared.scanning.ByteFault.TheVariants.NotAscii}
+use Rattle.{script_tokens.specs.declared.scanning.ByteFault.TheVariants.TooManyLines, line_reader.specs.declared.cause.ReadFault.ReadFault}
 use Rattle.script_reader.specs.declared.head.Line.TheVariants as line
-use Rattle.script_reader.specs.declared.reading.Script.{Script}
-use Rattle.script_reader.specs.Heads.{line_of, is_whole}
-use Rattle.script_reader.specs.Orders.{items_of}
-use Rattle.script_reader.specs.Readings.{Row, rows_of, Draft_of, Meaning, First_fault, no_draft, calls_of}
-use Rattle.script_reader.specs.Readings.{with_call, with_line, is_order, behind_line, draft_behind}
-use Rattle.script_reader.specs.Readings.{draft_step, draft_from, meaning_of, meaning_at, script_of, AtMost, Gives, script_view, lists_of}
 
 pub few_weaker : (m n : ℕ) (lists : List (List Call)) → m ≤ n → All (AtMost m) lists → All (AtMost n) lists
 few_weaker m n lists le h = All-weaker (AtMost m) (AtMost n) (λ calls k. omega (arith, k)) lists h

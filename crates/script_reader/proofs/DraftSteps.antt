@@ -1,19 +1,13 @@
 -- What a draft keeps, line by line.
-use Rattle.std.proofs.Common.{◌≡◌, ℕ, zero, suc, ◌<◌, ◌≤◌, true, List, [], ◌∷◌, ◌++◌, length}
-use Rattle.std.proofs.Common.{get_or, take, All, Ok, refl, sym, ap, subst, ◌∙◌, arith, inl, inr}
-use Rattle.std.specs.Prelude.{slice_set, slice_index_or}
-use Rattle.std.specs.Global.{Vec}
-use Rattle.std.proofs.lemmas.Bool.{cases_lt}
-use Rattle.std.proofs.lemmas.List.{map-set, length-map, length-set, length-take-le, get_or_past}
+use Rattle.std.proofs.Common.{◌≡◌, ℕ, zero, suc, ◌<◌, ◌≤◌, true, List, [], ◌∷◌, ◌++◌, length, get_or, take, All, Ok, refl, sym, ap, subst}
+use Rattle.std.proofs.Common.{◌∙◌, arith, inl, inr, slice_set, slice_index_or, length-set, length-take-le}
+use Rattle.script_reader.specs.{is_whole, lists_of, with_call, calls_of, setting_of, meaning_of, meaning_at, script_view, Draft_of, IsDraft}
+use Rattle.std.proofs.lemmas.List.{map-set, length-map, get_or_past}
 use Rattle.std.proofs.lemmas.List.Elements.{All-push, All-set, All-get_or, All-take, All-nil}
-use Rattle.spk_nums.specs.declared.calls.Call.{Call}
-use Rattle.spk_nums.specs.CallLimits.{InLimits}
-use Rattle.script_tokens.specs.declared.scanning.Ending.{Ending}
-use Rattle.line_reader.specs.Lines.{and_then, whole_lines}
-use Rattle.script_reader.specs.declared.reading.Script.{Script}
-use Rattle.script_reader.specs.Heads.{is_whole}
-use Rattle.script_reader.specs.Readings.{lists_of, with_call, calls_of, setting_of, meaning_of}
-use Rattle.script_reader.specs.Readings.{meaning_in, meaning_at, script_view, Draft_of, IsDraft, IsScript, BelowCores}
+use Rattle.{script_reader.specs.IsScript, script_reader.specs.BelowCores, line_reader.specs.and_then, line_reader.specs.whole_lines}
+use Rattle.{std.specs.Global.Vec, std.proofs.lemmas.Bool.cases_lt, spk_nums.specs.declared.calls.Call.Call}
+use Rattle.{spk_nums.specs.CallLimits.InLimits, script_tokens.specs.declared.scanning.Ending.Ending}
+use Rattle.{script_reader.specs.declared.reading.Script.Script, script_reader.specs.Readings.meaning_in}
 
 -- ---- one more call
 

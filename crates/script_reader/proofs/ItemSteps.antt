@@ -1,13 +1,8 @@
 -- Taking the items of a line, one after another.
-use Rattle.std.proofs.Common.{◌≡◌, ℕ, ◌+◌, ◌<◌, List, [], ◌∷◌, ◌++◌, length, get_or, drop, Ok, refl, sym, ap, subst, ◌∙◌}
-use Rattle.std.proofs.lemmas.Bool.{lt-ltb}
-use Rattle.std.proofs.lemmas.List.{drop_more}
-use Rattle.std.proofs.lemmas.List.Elements.{All-push}
-use Rattle.spk_nums.specs.declared.steps.Item.{Item}
-use Rattle.script_tokens.specs.declared.token.Token.{Token}
-use Rattle.line_reader.specs.Arguments.{texts}
-use Rattle.script_reader.specs.Orders.{item_of, items_of}
-use Rattle.script_reader.specs.Readings.{BelowCores}
+use Rattle.std.proofs.Common.{◌≡◌, ℕ, ◌+◌, ◌<◌, List, [], ◌∷◌, ◌++◌, length, get_or, drop, Ok, refl, sym, ap, subst, ◌∙◌, lt-ltb}
+use Rattle.script_reader.specs.{item_of, items_of, BelowCores}
+use Rattle.std.proofs.{lemmas.List.drop_more, lemmas.List.Elements.All-push}
+use Rattle.{spk_nums.specs.declared.steps.Item.Item, script_tokens.specs.declared.token.Token.Token, line_reader.specs.Arguments.texts}
 
 -- the items so far, and what the words that follow still give in a script of this version
 pub record Adds (version cores : ℕ) (old : List Item) (words : List Token) (i : ℕ) (order : List Item) : Type 0 where

@@ -1,13 +1,10 @@
 -- Items of an order.
 use Rattle.std.proofs.Common.{◌≡◌, ℕ, ◌-◌, ◌<◌, ◌≤◌, true, List, [], ◌∷◌, ◌++◌, length, take, Some, None, Ok, Err, refl, ap, ◌∙◌, arith}
-use Rattle.std.specs.Prelude.{slice_get}
-use Rattle.std.proofs.lemmas.Bool.{lt-ltb, le-ltb}
-use Rattle.std.proofs.lemmas.List.{take_at, length-append}
-use Rattle.spk_nums.specs.declared.steps.How.{How}
-use Rattle.line_reader.specs.declared.cause.Cause.TheVariants.{S6}
-use Rattle.line_reader.specs.Numerals.{is_digits, value_of, number_of}
+use Rattle.std.proofs.Common.{slice_get, lt-ltb, le-ltb, take_at, length-append}
+use Rattle.line_reader.specs.{is_digits, value_of, number_of}
 use Rattle.line_reader.proofs.Digits.{digits_some, digits_none}
 use Rattle.script_reader.specs.Orders.{how_of, suffixed, core_below}
+use Rattle.{spk_nums.specs.declared.steps.How.How, line_reader.specs.declared.cause.Cause.TheVariants.S6}
 
 slice_get_at : (front : List ℕ) (x : ℕ) → slice_get (front ++ x ∷ []) (length front) ≡ Some x
 slice_get_at [] x = refl

@@ -1,15 +1,11 @@
 -- The items of an order of steps.
-use Rattle.std.specs.Prelude.{ℕ, List, [], ◌∷◌, ◌++◌, Option, Some, None, Result, Ok, Err}
-use Rattle.std.specs.Prelude.{length, take, slice_get, ◌-◌, ◌==◌, nat_lt, is_some, if◌then◌else◌}
-use Rattle.std.specs.Option.{option_and_then}
-use Rattle.spk_nums.specs.declared.steps.How.{How}
-use Rattle.spk_nums.specs.declared.steps.How.TheVariants.{One, Ready, Decide, Return}
-use Rattle.spk_nums.specs.declared.steps.Item.{Item}
-use Rattle.line_reader.specs.declared.cause.Cause.{Cause}
+use Rattle.std.specs.Prelude.{ℕ, List, [], ◌∷◌, ◌++◌, Option, Some, None, Result, Ok, Err, length, take, slice_get, ◌-◌, ◌==◌, nat_lt}
+use Rattle.std.specs.Prelude.{is_some, if◌then◌else◌, option_and_then}
+use Rattle.line_reader.specs.{◌>>=◌, is_digits, value_of}
+use Rattle.spk_nums.specs.{declared.steps.How.How, declared.steps.How.TheVariants.One, declared.steps.How.TheVariants.Ready}
+use Rattle.spk_nums.specs.{declared.steps.How.TheVariants.Decide, declared.steps.How.TheVariants.Return, declared.steps.Item.Item}
 use Rattle.line_reader.specs.declared.cause.Cause.TheVariants.{S2, S6, S7, S9}
-use Rattle.line_reader.specs.Causes.{◌>>=◌}
-use Rattle.line_reader.specs.Numerals.{is_digits, value_of}
-use Rattle.call_reader.specs.FirstWords.{first_word}
+use Rattle.{line_reader.specs.declared.cause.Cause.Cause, call_reader.specs.FirstWords.first_word}
 
 -- the suffixes `<`, `!` and `.`
 abbrev pub how_of : ℕ → Option How

@@ -1,28 +1,15 @@
 -- A script as a whole: the lines of its bytes, one after another, and the end.
-use Rattle.std.specs.Prelude.{◌≡◌, ◌<◌, ◌≤◌, ℕ, List, [], ◌∷◌, ◌++◌, Bool, true, false, Result, Ok, Err, map}
-use Rattle.std.specs.Prelude.{take, length, slice_set, slice_index_or, ◌+◌, All, replicate, if◌then◌else◌}
-use Rattle.std.specs.Global.{Vec}
-use Rattle.spk_nums.specs.declared.calls.Call.{Call}
-use Rattle.spk_nums.specs.declared.steps.Item.{Item}
-use Rattle.spk_nums.specs.CallLimits.{InLimits}
-use Rattle.spk_nums.specs.Setting.{Setting}
-use Rattle.script_tokens.specs.declared.scanning.Ending.{Ending}
-use Rattle.script_tokens.specs.Words.{words_of, ending_of}
-use Rattle.line_reader.specs.declared.cause.Cause.{Cause}
-use Rattle.line_reader.specs.declared.cause.Cause.TheVariants.{S7}
-use Rattle.line_reader.specs.Causes.{◌>>=◌}
-use Rattle.line_reader.specs.Lines.{Step, lines_from, whole_lines}
+use Rattle.std.specs.Prelude.{◌≡◌, ◌<◌, ◌≤◌, ℕ, List, [], ◌∷◌, ◌++◌, Bool, true, false, Result, Ok, Err, map, take, length, slice_set}
+use Rattle.std.specs.Prelude.{slice_index_or, ◌+◌, All, replicate, if◌then◌else◌}
+use Rattle.line_reader.specs.{◌>>=◌, Step, lines_from, whole_lines}
+use Rattle.spk_nums.specs.{declared.calls.Call.Call, declared.steps.Item.Item, CallLimits.InLimits, Setting.Setting}
+use Rattle.script_reader.specs.{declared.head.Section.Section, declared.head.Head.Head, declared.head.Line.Line}
+use Rattle.script_reader.specs.{declared.reading.Draft.Draft, declared.reading.Script.Script, Heads.line_of, Heads.no_head, Heads.is_whole}
+use Rattle.{script_tokens.specs.words_of, script_tokens.specs.ending_of, std.specs.Global.Vec}
+use Rattle.{script_tokens.specs.declared.scanning.Ending.Ending, line_reader.specs.declared.cause.Cause.Cause}
+use Rattle.{line_reader.specs.declared.cause.Cause.TheVariants.S7, script_reader.specs.Heads.IsHead, script_reader.specs.Orders.items_of}
 pub use Rattle.line_reader.specs.Lines.{Row, with_word, rows_of, words_in, First_fault, at_line, and_then}
 pub use Rattle.line_reader.specs.Lines.{Takes, Fails, fault_at, Leads, Gives}
-use Rattle.script_reader.specs.declared.head.Section.{Section}
-use Rattle.script_reader.specs.declared.head.Section.TheVariants as section
-use Rattle.script_reader.specs.declared.head.Head.{Head}
-use Rattle.script_reader.specs.declared.head.Line.{Line}
-use Rattle.script_reader.specs.declared.head.Line.TheVariants as line
-use Rattle.script_reader.specs.declared.reading.Draft.{Draft}
-use Rattle.script_reader.specs.declared.reading.Script.{Script}
-use Rattle.script_reader.specs.Heads.{line_of, no_head, is_whole, IsHead}
-use Rattle.script_reader.specs.Orders.{items_of}
 
 -- ---- lines
 
@@ -46,12 +33,12 @@ with_call lists core call = slice_set lists core (calls_of lists core ++ call �
 
 -- the draft with what a line says
 abbrev pub with_line : Draft_of → Line → Draft_of
-with_line d (line.Head head) = record d { head = head }
-with_line d (line.Call call) = record d { lists = with_call d.lists d.head.core call }
+with_line d (Line.Head head) = record d { head = head }
+with_line d (Line.Call call) = record d { lists = with_call d.lists d.head.core call }
 
 -- after the `order` line stand items alone
 abbrev pub is_order : Section → Bool
-is_order section.Order = true
+is_order Section.Order = true
 is_order _ = false
 
 -- the draft after a line before the order of steps

@@ -1,17 +1,13 @@
 -- How many lines and words a source has at most.
-use Rattle.std.proofs.Common.{◌≡◌, ℕ, suc, ◌+◌, ◌-◌, ◌≤◌, Bool, true, false, cond, eqb, ltb, List, []}
-use Rattle.std.proofs.Common.{◌∷◌, length, Option, Some, None, refl, sym, ap, ◌∙◌, arith, inl, inr}
-use Rattle.std.specs.Prelude.{count_by, slice_get, ◌||◌}
-use Rattle.std.proofs.lemmas.Bool.{cases_Bool, ltb-false}
-use Rattle.std.proofs.lemmas.List.{length-map}
-use Rattle.std.proofs.lemmas.List.Sums.{sum_by-cons, length-filter, count_by-le-length}
-use Rattle.script_tokens.specs.declared.scanning.ByteFault.{ByteFault}
-use Rattle.script_tokens.specs.declared.scanning.Ending.{Ending}
-use Rattle.script_tokens.specs.declared.scanning.Ending.TheVariants.{Whole, Fault}
-use Rattle.script_tokens.specs.declared.token.Token.{Token}
-use Rattle.script_tokens.specs.Bytes.{is_feed, is_hash, is_word_byte, is_allowed}
-use Rattle.script_tokens.specs.Words.{Span, joined, spans, spans_of, first_fault, line_count, ends_open, ending_from}
-use Rattle.script_tokens.specs.Words.{ending_of, before_fault, view, views, word_at, words_of, line_of_fault, FewLines}
+use Rattle.std.proofs.Common.{◌≡◌, ℕ, suc, ◌+◌, ◌-◌, ◌≤◌, Bool, true, false, cond, eqb, ltb, List, [], ◌∷◌, length, Option, Some, None}
+use Rattle.std.proofs.Common.{refl, sym, ap, ◌∙◌, arith, inl, inr, count_by, slice_get, ◌||◌, ltb-false}
+use Rattle.script_tokens.specs.{is_feed, is_hash, is_word_byte, is_allowed, Span, joined, spans, spans_of, first_fault, line_count}
+use Rattle.script_tokens.specs.{ending_from, ending_of, before_fault, views, word_at, words_of}
+use Rattle.std.proofs.{lemmas.Bool.cases_Bool, lemmas.List.length-map, lemmas.List.Sums.sum_by-cons, lemmas.List.Sums.length-filter}
+use Rattle.std.proofs.{lemmas.List.Sums.count_by-le-length}
+use Rattle.script_tokens.specs.{declared.scanning.ByteFault.ByteFault, declared.scanning.Ending.Ending}
+use Rattle.script_tokens.specs.{declared.scanning.Ending.TheVariants.Whole, declared.scanning.Ending.TheVariants.Fault}
+use Rattle.script_tokens.specs.{declared.token.Token.Token, Words.ends_open, Words.view, Words.line_of_fault, Words.FewLines}
 
 -- 1 where the last byte is no line feed
 abbrev open_lines : List ℕ → ℕ

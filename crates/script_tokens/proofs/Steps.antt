@@ -1,22 +1,21 @@
 -- The pass over the bytes, as it goes on.
 use Rattle.std.proofs.Common.{◌≡◌, ℕ, zero, suc, ◌+◌, ◌<◌, ◌≤◌, Bool, true, false, cond, eqb, ltb, List, [], ◌∷◌, ◌++◌, length, get_or}
 use Rattle.std.proofs.Common.{take, drop, map, All, IfSome, Option, Some, None, refl, sym, ap, subst, ◌∙◌, append_assoc, arith, inl, inr}
-use Rattle.std.specs.Prelude.{count_by, filter, slice_get, slice_range, nat_le, not, ◌&&◌, ◌||◌}
-use Rattle.std.proofs.lemmas.Bool.{cases_Bool, false≢true, or_parts, not-true, not-false, eqb-true, eqb-false}
-use Rattle.std.proofs.lemmas.Bool.{eq-eqb, ne_eqb, ltb-true, ltb-false, le-ltb, lt-ltb, and_parts, leb-true, le-leb}
-use Rattle.std.proofs.lemmas.List.{append-nil, drop_more, drop_all, take-append-le, length-append, take_all, length-map}
+use Rattle.std.proofs.Common.{count_by, filter, slice_get, slice_range, nat_le, not, ◌&&◌, ◌||◌, eqb-true, eq-eqb, ne_eqb, ltb-true}
+use Rattle.std.proofs.Common.{ltb-false, le-ltb, lt-ltb, leb-true, le-leb, append-nil, length-append, take_all}
+use Rattle.script_tokens.specs.{is_feed, is_hash, is_word_byte, is_allowed, Span, joined, spans, spans_of, first_fault, line_count}
+use Rattle.script_tokens.specs.{ending_from, ending_of, before_fault, word_at, words_of, views}
+use Rattle.std.proofs.lemmas.Bool.{cases_Bool, false≢true, or_parts, not-true, not-false, eqb-false, and_parts}
+use Rattle.std.proofs.lemmas.List.{drop_more, drop_all, take-append-le, length-map}
 use Rattle.std.proofs.lemmas.List.Sums.{sum_by-cons}
 use Rattle.std.proofs.lemmas.List.Elements.{filter-append, All-head, All-tail}
-use Rattle.script_tokens.specs.declared.scanning.Place.{Place}
-use Rattle.script_tokens.specs.declared.scanning.Place.TheVariants.{Between, Word, Comment}
-use Rattle.script_tokens.specs.Bytes.{is_feed, is_hash, is_word_byte, feed_next, is_allowed}
-use Rattle.script_tokens.specs.declared.scanning.Ending.{Ending}
-use Rattle.script_tokens.specs.declared.scanning.Ending.TheVariants.{Whole, Fault}
-use Rattle.script_tokens.specs.declared.token.Token.{Token}
-use Rattle.script_tokens.specs.Words.{Span, joined, spans, spans_of, first_fault, line_of_fault, line_count}
-use Rattle.script_tokens.specs.Words.{ending_from, ending_of, before_fault, word_at, words_of, views, Ascend}
-use Rattle.script_tokens.specs.Scanning.{span_of, IsSlice, after_in, place_after, within_word, after_blank, word_before}
-use Rattle.script_tokens.specs.Scanning.{last_word, ended, line_after, whole_after, fault_at, is_fault}
+use Rattle.script_tokens.specs.{declared.scanning.Place.Place, declared.scanning.Place.TheVariants.Between}
+use Rattle.script_tokens.specs.{declared.scanning.Place.TheVariants.Word, declared.scanning.Place.TheVariants.Comment, Bytes.feed_next}
+use Rattle.script_tokens.specs.{declared.scanning.Ending.Ending, declared.scanning.Ending.TheVariants.Whole}
+use Rattle.script_tokens.specs.{declared.scanning.Ending.TheVariants.Fault, declared.token.Token.Token, Words.line_of_fault, Words.Ascend}
+use Rattle.script_tokens.specs.{Scanning.span_of, Scanning.IsSlice, Scanning.after_in, Scanning.place_after, Scanning.within_word}
+use Rattle.script_tokens.specs.{Scanning.after_blank, Scanning.word_before, Scanning.last_word, Scanning.ended, Scanning.line_after}
+use Rattle.script_tokens.specs.{Scanning.whole_after, Scanning.fault_at, Scanning.is_fault}
 
 -- the words of the bytes that follow, where the byte before stands at that place
 abbrev pub behind : Place → ℕ → ℕ → List ℕ → List Span

@@ -1,12 +1,10 @@
 -- What the pass over the bytes keeps.
 use Rattle.std.specs.Prelude.{◌≡◌, slice_range, ℕ, List, [], ◌∷◌, Bool, Option, Some, None, nat_lt, not, ◌||◌, ◌+◌, if◌then◌else◌}
-use Rattle.script_tokens.specs.declared.scanning.ByteFault.{ByteFault}
-use Rattle.script_tokens.specs.declared.scanning.ByteFault.TheVariants.{NotAscii, TooManyLines}
-use Rattle.script_tokens.specs.declared.scanning.Place.{Place}
-use Rattle.script_tokens.specs.declared.scanning.Place.TheVariants.{Between, Word, Comment}
-use Rattle.script_tokens.specs.declared.token.Token.{Token}
-use Rattle.script_tokens.specs.Bytes.{is_feed, is_hash, is_word_byte, is_allowed}
-use Rattle.script_tokens.specs.Words.{Span}
+use Rattle.script_tokens.specs.{declared.scanning.ByteFault.ByteFault, declared.scanning.ByteFault.TheVariants.NotAscii}
+use Rattle.script_tokens.specs.{declared.scanning.ByteFault.TheVariants.TooManyLines, declared.scanning.Place.Place}
+use Rattle.script_tokens.specs.{declared.scanning.Place.TheVariants.Between, declared.scanning.Place.TheVariants.Word}
+use Rattle.script_tokens.specs.{declared.scanning.Place.TheVariants.Comment, declared.token.Token.Token, Bytes.is_feed, Bytes.is_hash}
+use Rattle.script_tokens.specs.{Bytes.is_word_byte, Bytes.is_allowed, Words.Span}
 
 -- where a token stands
 abbrev pub span_of : Token → Span

@@ -1,14 +1,11 @@
 -- The words of a script's bytes, and the first byte or line that may not stand there.
-use Rattle.std.specs.Prelude.{◌≡◌, ℕ, List, [], ◌∷◌, Bool, true, false, Option, Some, None, ◌==◌, ◌||◌, not, nat_lt}
-use Rattle.std.specs.Prelude.{count_by, filter, map, slice_get, slice_range, length, ◌+◌, ◌-◌, ◌<◌, ◌≤◌, if◌then◌else◌}
-use Rattle.script_tokens.specs.declared.scanning.ByteFault.{ByteFault}
-use Rattle.script_tokens.specs.declared.scanning.ByteFault.TheVariants.{NotAscii, TooManyLines}
-use Rattle.script_tokens.specs.declared.scanning.TokenFault.{TokenFault}
-use Rattle.script_tokens.specs.declared.scanning.TokenFault.TheVariants as tells
-use Rattle.script_tokens.specs.declared.scanning.Ending.{Ending}
-use Rattle.script_tokens.specs.declared.scanning.Ending.TheVariants.{Whole, Fault}
-use Rattle.script_tokens.specs.declared.token.Token.{Token}
-use Rattle.script_tokens.specs.Bytes.{is_feed, is_hash, is_word_byte, is_allowed}
+use Rattle.std.specs.Prelude.{◌≡◌, ℕ, List, [], ◌∷◌, Bool, true, false, Option, Some, None, ◌==◌, ◌||◌, not, nat_lt, count_by, filter, map}
+use Rattle.std.specs.Prelude.{slice_get, slice_range, length, ◌+◌, ◌-◌, ◌<◌, ◌≤◌, if◌then◌else◌}
+use Rattle.script_tokens.specs.{declared.scanning.ByteFault.ByteFault, declared.scanning.ByteFault.TheVariants.NotAscii}
+use Rattle.script_tokens.specs.{declared.scanning.ByteFault.TheVariants.TooManyLines, declared.scanning.TokenFault.TokenFault}
+use Rattle.script_tokens.specs.{declared.scanning.Ending.Ending, declared.scanning.Ending.TheVariants.Whole}
+use Rattle.script_tokens.specs.{declared.scanning.Ending.TheVariants.Fault, declared.token.Token.Token, Bytes.is_feed, Bytes.is_hash}
+use Rattle.script_tokens.specs.{Bytes.is_word_byte, Bytes.is_allowed}
 
 -- where a word stands: its line, counted from 1, and its bytes from start up to end
 pub record Span : Type 0 where
@@ -70,9 +67,9 @@ line_of_fault TooManyLines = 20001
 
 -- the fault that tokens tells of a source whose first fault is that, unless memory has run out
 abbrev pub IsFault : TokenFault → Option ByteFault → Type 0
-IsFault tells.Memory fault = Unit {0}
-IsFault (tells.NotAscii line) fault = fault ≡ Some (NotAscii line)
-IsFault tells.TooManyLines fault = fault ≡ Some TooManyLines
+IsFault TokenFault.Memory fault = Unit {0}
+IsFault (TokenFault.NotAscii line) fault = fault ≡ Some (NotAscii line)
+IsFault TokenFault.TooManyLines fault = fault ≡ Some TooManyLines
 
 -- what stands in the lines before the fault
 abbrev pub before_fault : Ending → List Span → List Span

@@ -1,12 +1,8 @@
 -- What may be used at a place, and whether it holds anything of a world.
-use Rattle.std.proofs.Common.{◌≡◌, ℕ, ◌<◌, Bool, true, false, sym, ◌∙◌, subst, Option, Some, None}
-use Rattle.spk_nums.specs.Capability.{Capability}
-use Rattle.kernel_rules.specs.State.{Place, Free, Holds, Quiescing, PlaceOf, State}
-use Rattle.kernel_rules.specs.Access.{Slot, place_at, usable_in, usable}
-use Rattle.kernel_invariant.proofs.Facts.{some_inj, none_some}
-use Rattle.world_laws.specs.Worlds.{gates, HoldsNone}
-use Rattle.seal_check.specs.Holding.{IsUsedAt}
-use Rattle.seal_check.specs.Sealing.{Tells, IsPlaceFree}
+use Rattle.world_laws.specs.kernel_laws.proofs.{◌≡◌, ℕ, ◌<◌, Bool, true, false, sym, ◌∙◌, subst, Option, Some, None, Capability, Place}
+use Rattle.world_laws.specs.kernel_laws.proofs.{Free, Holds, Quiescing, PlaceOf, State, Slot, place_at, usable_in, usable, some_inj}
+use Rattle.seal_check.specs.{Holding.IsUsedAt, Sealing.Tells, Sealing.IsPlaceFree}
+use Rattle.{world_laws.specs.kernel_laws.proofs.none_some, world_laws.specs.gates, world_laws.specs.HoldsNone}
 
 -- What cores may use at a place is one capability.
 used_one : (p : Place) (x y : Bool) (j k : Capability) → usable_in p x ≡ Some j → usable_in p y ≡ Some k → j ≡ k

@@ -1,29 +1,20 @@
 -- In every state that a run reaches, what a core may use stands in a place of the machine, and what some core may use, one of the
 -- machine's may.
-use Rattle.std.proofs.Common.{◌≡◌, inl, inr, ℕ, ◌<◌, ◌≤◌, Bool, true, false, refl, sym, ◌∙◌, ap, subst, arith}
-use Rattle.std.proofs.Common.{List, [], ◌∷◌, Option, Some, None, IsTrue, ◌==◌, if◌then◌else◌}
-use Rattle.std.proofs.lemmas.Bool.{false≢true, cases_eq, cases_lt}
-use Rattle.spk_nums.specs.Setting.{Setting, IsSetting}
-use Rattle.spk_nums.specs.Capability.{Capability}
-use Rattle.spk_nums.specs.declared.kinds.Kind.TheVariants as kind
-use Rattle.kernel_rules.specs.State.{Place, Free, Holds, Quiescing, Untyped, PlaceOf, Limits, State}
-use Rattle.kernel_rules.specs.Start.{start, start_place, start_cap, plain_cap, place_with}
-use Rattle.kernel_rules.specs.Access.{Slot, usable, usable_in}
-use Rattle.kernel_rules.specs.Relies.{is_node}
-use Rattle.kernel_rules.specs.Runs.{Event, Enters, Decides, Returns, after, phase_of, phase_by, is_in, is_open, core_of, IsRun, MayFollow}
-use Rattle.kernel_rules.proofs.AloneLaw.{waits_inside}
-use Rattle.kernel_invariant.proofs.Facts.{some_inj, none_some}
-use Rattle.kernel_invariant.proofs.Sound.{IsSound}
-use Rattle.kernel_invariant.proofs.SoundSteps.{free_quiescing, holds_quiescing}
-use Rattle.kernel_invariant.proofs.SoundStart.{choose}
-use Rattle.kernel_invariant.proofs.SoundRuns.{opened, open_is, limits_stay, inside_is, runs_sound, phase_own, phase_other}
-use Rattle.state_laws.proofs.Kept.{decided_kept}
+use Rattle.world_laws.specs.kernel_laws.proofs.{◌≡◌, inl, inr, ℕ, ◌<◌, ◌≤◌, Bool, true, false, refl, sym, ◌∙◌, ap, subst, arith, List, []}
+use Rattle.world_laws.specs.kernel_laws.proofs.{◌∷◌, Option, Some, None, IsTrue, ◌==◌, if◌then◌else◌, false≢true, Setting, IsSetting}
+use Rattle.world_laws.specs.kernel_laws.proofs.{Capability, Place, Free, Holds, Quiescing, Untyped, PlaceOf, Limits, State, start}
+use Rattle.world_laws.specs.kernel_laws.proofs.{start_cap, plain_cap, place_with, Slot, usable, usable_in, is_node, Event, Enters, Decides}
+use Rattle.world_laws.specs.kernel_laws.proofs.{Returns, after, phase_of, is_in, is_open, IsRun, waits_inside, some_inj, none_some, IsSound}
+use Rattle.world_laws.specs.kernel_laws.proofs.{opened, open_is, limits_stay, inside_is, runs_sound, phase_own, phase_other, Kind}
+use Rattle.seq_state.specs.kernel_rules.specs.{start_place, phase_by, core_of, MayFollow}
+use Rattle.seq_state.specs.kernel_invariant.proofs.{free_quiescing, holds_quiescing, choose}
+use Rattle.{std.proofs.lemmas.Bool.cases_eq, std.proofs.lemmas.Bool.cases_lt, world_laws.specs.state_laws.proofs.Kept.decided_kept}
 
 pub not_at_start : (setting : Setting) (f i : ℕ) (k : Capability) → start_place setting f i ≡ Quiescing k → ⊥
 not_at_start setting f i k =
     choose (λ p. p ≡ Quiescing k → ⊥) (f == 0) _ _
     (λ e. choose (λ p. p ≡ Quiescing k → ⊥) (i == 0) _ _
-    (λ q is. holds_quiescing (plain_cap kind.Link 1) k is) (λ q is. free_quiescing k is))
+    (λ q is. holds_quiescing (plain_cap Kind.Link 1) k is) (λ q is. free_quiescing k is))
     λ e. choose (λ p. p ≡ Quiescing k → ⊥) (f == 1) _ _
     (λ q. cap_not (start_cap setting i)) (λ q is. free_quiescing k is)
   where

@@ -1,18 +1,12 @@
 -- What is sealed within the numbers of a machine is sealed, in every state that a run reaches and a kernel represents.
-use Rattle.std.proofs.Common.{◌≡◌, inl, inr, ℕ, ◌<◌, ◌≤◌, Bool, true, false, not, ◌&&◌, refl, sym, ◌∙◌, ap, subst, arith}
-use Rattle.std.proofs.Common.{List, Option, Some, None}
-use Rattle.std.proofs.lemmas.Bool.{false≢true, and_parts, cases_lt}
-use Rattle.spk_nums.specs.Setting.{Setting, IsSetting}
-use Rattle.spk_nums.specs.Capability.{Capability}
-use Rattle.kernel_rules.specs.State.{CompFields, Comp, Frame, Untyped, Kernel, PlaceOf, Limits, State}
-use Rattle.kernel_rules.specs.Access.{usable, usable_in}
-use Rattle.kernel_rules.specs.Runs.{Event, after, IsRun}
-use Rattle.kernel_invariant.proofs.SoundRuns.{limits_stay, runs_sound}
-use Rattle.seq_state.specs.Maps.{Maps, state_of}
-use Rattle.seq_state.specs.Representation.{Represents}
-use Rattle.world_laws.specs.Worlds.{gates, IsSealed}
+use Rattle.world_laws.specs.kernel_laws.proofs.{◌≡◌, inl, inr, ℕ, ◌<◌, ◌≤◌, Bool, true, false, not, ◌&&◌, refl, sym, ◌∙◌, ap, subst, arith}
+use Rattle.world_laws.specs.kernel_laws.proofs.{List, Option, Some, None, false≢true, Setting, IsSetting, Capability, CompFields, Comp}
+use Rattle.world_laws.specs.kernel_laws.proofs.{Frame, Untyped, Kernel, PlaceOf, Limits, State, usable, usable_in, Event, after, IsRun}
 use Rattle.seal_check.specs.Sealing.{Tells, is_in, has_none, IsSealedHere, TellsSeal}
-use Rattle.seal_check.proofs.Reached.{UsedWithin, used_within}
+use Rattle.{world_laws.specs.kernel_laws.proofs.limits_stay, world_laws.specs.kernel_laws.proofs.runs_sound}
+use Rattle.{std.proofs.lemmas.Bool.and_parts, std.proofs.lemmas.Bool.cases_lt, world_laws.specs.gates, world_laws.specs.IsSealed}
+use Rattle.{seq_state.specs.state_of, seq_state.specs.Represents, seq_state.specs.Maps.Maps, seal_check.proofs.Reached.UsedWithin}
+use Rattle.{seal_check.proofs.Reached.used_within}
 
 not_true : (b : Bool) → not b ≡ true → b ≡ false
 not_true true e = absurd (false≢true e)

@@ -1,10 +1,6 @@
 -- What a place holds for some core, and what is held by it.
-use Rattle.std.specs.Prelude.{◌≡◌, ◌<◌, ℕ, Bool, not, ◌&&◌, Option, Some, None}
-use Rattle.spk_nums.specs.Capability.{Capability}
-use Rattle.spk_nums.specs.Rights.{has_rights, right_to_use}
-use Rattle.kernel_rules.specs.State.{State}
-use Rattle.kernel_rules.specs.Access.{Slot, usable}
-use Rattle.world_laws.specs.Worlds.{gates}
+use Rattle.seq_state.specs.{◌≡◌, ◌<◌, ℕ, Bool, not, ◌&&◌, Option, Some, None, Capability, has_rights, State, Slot, usable}
+use Rattle.{spk_nums.specs.Rights.right_to_use, world_laws.specs.Worlds.gates}
 
 -- A capability holds what it leads to: it has the right to use, and is no gate.
 abbrev pub holds : Capability → Bool

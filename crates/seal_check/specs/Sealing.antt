@@ -1,16 +1,9 @@
 -- Whether what a machine has is sealed.
-use Rattle.std.specs.Prelude.{◌≡◌, ◌<◌, ◌↔◌, ◌&&◌, not, ℕ, Bool, true, false, List, Option, Some, None, slice_get, IsTrue}
-use Rattle.spk_nums.specs.Capability.{Capability}
-use Rattle.spk_nums.specs.Setting.{Setting, IsSetting}
-use Rattle.spk_nums.specs.declared.kinds.Kind.{Kind}
-use Rattle.spk_nums.specs.declared.kinds.Kind.TheVariants as kind
-use Rattle.kernel_rules.specs.State.{Comp, Frame, Kernel, State}
-use Rattle.kernel_rules.specs.Access.{Slot, found, usable}
-use Rattle.kernel_rules.specs.CapabilityCalls.{has_frame}
-use Rattle.kernel_rules.specs.Runs.{Event, after, IsRun}
-use Rattle.seq_state.specs.Maps.{Maps}
-use Rattle.seq_state.specs.Representation.{Represents}
-use Rattle.world_laws.specs.Worlds.{gates, HoldsNone, IsSealed}
+use Rattle.seq_state.specs.kernel_rules.specs.{◌≡◌, ◌<◌, ◌↔◌, ◌&&◌, not, ℕ, Bool, true, false, List, Option, Some, None, slice_get, IsTrue}
+use Rattle.seq_state.specs.kernel_rules.specs.{Capability, Setting, IsSetting, Kind, Comp, Frame, Kernel, Slot, found, usable, has_frame}
+use Rattle.seq_state.specs.kernel_rules.specs.{Event, after, IsRun}
+use Rattle.world_laws.specs.{gates, HoldsNone, IsSealed}
+use Rattle.{seq_state.specs.State, seq_state.specs.Represents, seq_state.specs.Maps.Maps}
 
 -- A test tells whether this holds.
 pub record Tells (answer : Bool) (Fact : Type 0) : Type 0 where
@@ -31,7 +24,7 @@ IsRangeFree w k = (f : ℕ) → has_frame (found k) f ≡ true → w f ≡ false
 
 -- An answer tells whether a capability of a kind leads to a frame of a world.
 abbrev pub MeetsBy : Kind → (ℕ → Bool) → Capability → Bool → Type 0
-MeetsBy kind.Range w k answer = Tells (not answer) (IsRangeFree w k)
+MeetsBy Kind.Range w k answer = Tells (not answer) (IsRangeFree w k)
 MeetsBy _ w k answer = answer ≡ w k.frame
 
 -- What some core may use at a slot holds nothing of a world.

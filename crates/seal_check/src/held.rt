@@ -3,8 +3,8 @@
 ghost use Rattle.std.specs.Prelude.{◌≡◌, ◌<◌};
 ghost use Rattle.seq_state.specs.Maps.{state_of};
 ghost use Rattle.seal_check.specs.Holding.{IsUsedAt, holds};
-ghost use Rattle.kernel_rules.specs.Access.{found};
-ghost use Rattle.kernel_rules.specs.CapabilityCalls.{has_frame};
+ghost use Rattle.seq_state.specs.kernel_rules.specs.Access.{found};
+ghost use Rattle.seq_state.specs.kernel_rules.specs.CapabilityCalls.{has_frame};
 
 use seq_lookups::{Slot, usable};
 use seq_state::SeqKernel;

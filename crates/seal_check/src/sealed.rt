@@ -1,8 +1,8 @@
 //! Whether a set of frames is sealed.
 
 ghost use Rattle.std.specs.Prelude.{◌≡◌, ◌<◌, ◌&&◌, false};
-ghost use Rattle.kernel_rules.specs.Access.{found};
-ghost use Rattle.kernel_rules.specs.CapabilityCalls.{has_frame};
+ghost use Rattle.seq_state.specs.kernel_rules.specs.Access.{found};
+ghost use Rattle.seq_state.specs.kernel_rules.specs.CapabilityCalls.{has_frame};
 ghost use Rattle.seq_state.specs.Parts.{frame_of};
 ghost use Rattle.seq_state.specs.Maps.{state_of};
 ghost use Rattle.world_laws.specs.Worlds.{gates, HoldsNone};

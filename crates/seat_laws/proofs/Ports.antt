@@ -1,16 +1,11 @@
 -- What a port tells of worlds, by projections of the record of a history.
-use Rattle.std.proofs.Common.{inl, inr, ℕ, List, [], IfOk, Result, Ok, Err, sym, subst}
-use Rattle.spk_nums.specs.Setting.{Setting}
-use Rattle.spk_nums.specs.declared.calls.Call.{Call}
-use Rattle.spk_nums.specs.declared.replies.Reply.{Reply}
-use Rattle.spk_nums.specs.declared.translations.CoreEnd.{CoreEnd}
-use Rattle.core_kernel.specs.Calls.{HasSeen, MakesCall, EndsAt}
-use Rattle.core_kernel.specs.Kernel.{KernelValue, CoreSeatValue}
-use Rattle.core_kernel.specs.kernel_history.specs.Trace.{Trace, state_after}
-use Rattle.core_kernel.specs.flight_laws.specs.Histories.{IsHistory}
-use Rattle.core_kernel.specs.flight_laws.specs.isolation_laws.specs.Worlds.{WorldsStay}
-use Rattle.core_kernel.specs.flight_laws.specs.isolation_laws.specs.world_laws.specs.Worlds.{IsSealed, AreApart}
+use Rattle.core_kernel.specs.flight_laws.specs as low
+use low.flight.specs.step_ways.proofs.{inl, inr, ℕ, List, [], Ok, Err, sym, subst, Setting, Call, Reply, CoreEnd, Trace, state_after}
+use Rattle.core_kernel.specs.{HasSeen, MakesCall, EndsAt, KernelValue, CoreSeatValue}
+use Rattle.std.proofs.Common.{IfOk, Result}
+use low.isolation_laws.specs.world_laws.specs.{IsSealed, AreApart}
 use Rattle.seat_laws.specs.Ports.{TellsOfWorlds, StaySince, EndsInWorlds}
+use low.{Histories.IsHistory, isolation_laws.specs.Worlds.WorldsStay}
 
 of_worlds : (setup : Setting) (t : Trace) → IsHistory setup t → TellsOfWorlds setup t
 of_worlds setup t history = record {

@@ -1,17 +1,11 @@
 -- What a port tells of worlds.
-use Rattle.std.specs.Prelude.{◌≡◌, ◌⊎◌, ℕ, Bool, List, ◌++◌, slice_get, Some}
-use Rattle.spk_nums.specs.Setting.{Setting}
-use Rattle.spk_nums.specs.declared.kinds.Kind.{Kind}
-use Rattle.spk_nums.specs.declared.translations.CoreEnd.{CoreEnd}
-use Rattle.core_kernel.specs.Kernel.{KernelValue, CoreSeatValue}
-use Rattle.core_kernel.specs.kernel_history.specs.BootWords.{shape_of}
-use Rattle.core_kernel.specs.kernel_history.specs.FinalWords.{Represent, word_in, end_in}
-use Rattle.core_kernel.specs.kernel_history.specs.Trace.{Trace, state_after}
-use Rattle.core_kernel.specs.flight_laws.specs.history_laws.specs.Moments.{AtEachStep, OfEachStretch}
-use Rattle.core_kernel.specs.flight_laws.specs.isolation_laws.specs.Authority.{HasAuthority}
-use Rattle.core_kernel.specs.flight_laws.specs.isolation_laws.specs.Carried.{CarriedOutBy}
-use Rattle.core_kernel.specs.flight_laws.specs.isolation_laws.specs.Worlds.{SparesWorlds, EntersWorlds, WorksInside, WorldsStay}
-use Rattle.core_kernel.specs.flight_laws.specs.isolation_laws.specs.world_laws.specs.Worlds.{OnlyGates, IsSealed, AreApart}
+use Rattle.core_kernel.specs.flight_laws.specs.core_invariant.specs.{◌≡◌, ◌⊎◌, ℕ, Bool, List, ◌++◌, slice_get, Some, Setting, Kind, CoreEnd}
+use Rattle.core_kernel.specs.flight_laws.specs.core_invariant.specs.{shape_of, Represent, word_in, end_in, Trace, state_after}
+use Rattle.core_kernel.specs.flight_laws.specs.isolation_laws.specs.{CarriedOutBy, WorksInside, WorldsStay}
+use Rattle.core_kernel.specs.flight_laws.specs.isolation_laws.specs.world_laws.specs.{OnlyGates, IsSealed, AreApart}
+use Rattle.core_kernel.specs.{KernelValue, CoreSeatValue}
+use Rattle.core_kernel.specs.flight_laws.specs.history_laws.specs.{AtEachStep, OfEachStretch}
+use Rattle.core_kernel.specs.flight_laws.specs.isolation_laws.specs.{Authority.HasAuthority, Worlds.SparesWorlds, Worlds.EntersWorlds}
 
 -- Of a trace: each step has authority for what it changes; each step of a core that works outside a sealed world spares
 -- it; cores come to work in worlds by gates, returns and switches; and over each stretch of steps worlds stay.

@@ -1,13 +1,11 @@
 -- A node whose places are free one after the other.
-use Rattle.std.proofs.Common.{◌≡◌, inl, inr, ℕ, ◌+◌, ◌&&◌, ◌==◌, nat_lt, if◌then◌else◌, Bool, true, false, refl, sym, ◌∙◌, ap, subst, arith}
-use Rattle.std.proofs.lemmas.Bool.{cases_eq, cases_lt, lt-ltb, le-ltb, eq-eqb, ne_eqb, true≢false, false≢true}
-use Rattle.kernel_rules.specs.State.{put, Place, Free, Grace, Thing, PlaceOf, FrameOf, NumberOf, State, with_place}
-use Rattle.kernel_rules.specs.Start.{no_grace}
-use Rattle.kernel_rules.specs.GracePeriods.{same_thing}
-use Rattle.kernel_rules.specs.Edits.{cleared}
-use Rattle.kernel_rules.proofs.Within.{put_same, put_other}
-use Rattle.seq_state.specs.Representation.{IsThing, SameState, with_grace_of}
-use Rattle.seq_state.proofs.Same.{same_grace_by, same_then, same_place, same_grace_of}
+use Rattle.seq_state.specs.kernel_rules.proofs.{◌≡◌, inl, inr, ℕ, ◌+◌, ◌&&◌, ◌==◌, ltb as nat_lt, if◌then◌else◌, Bool, true, false, refl}
+use Rattle.seq_state.specs.kernel_rules.proofs.{sym, ◌∙◌, ap, subst, arith, lt-ltb, le-ltb, eq-eqb, ne_eqb, true≢false, false≢true, put}
+use Rattle.seq_state.specs.kernel_rules.proofs.{Place, Free, Grace, Thing, PlaceOf, FrameOf, NumberOf, with_place, no_grace, same_thing}
+use Rattle.seq_state.specs.kernel_rules.proofs.{cleared, put_same, put_other}
+use Rattle.seq_state.specs.{State, IsThing, SameState, with_grace_of}
+use Rattle.{std.proofs.lemmas.Bool.cases_eq, std.proofs.lemmas.Bool.cases_lt, seq_state.proofs.same_grace_by, seq_state.proofs.same_then}
+use Rattle.{seq_state.proofs.Same.same_place, seq_state.proofs.Same.same_grace_of}
 
 -- Whether a thing is one of the first n places of a node.
 abbrev pub is_place_below : ℕ → ℕ → Thing → Bool

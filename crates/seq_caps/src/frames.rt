@@ -2,8 +2,8 @@
 
 ghost use Rattle.std.specs.Prelude.{◌≡◌, ◌<◌};
 ghost use Rattle.spk_nums.specs.Limits.{least_arg, end_of_arg};
-ghost use Rattle.kernel_rules.specs.CapabilityCalls.{epoch_of, is_blank, is_live};
-ghost use Rattle.kernel_rules.specs.Edits.{cleared};
+ghost use Rattle.seq_state.specs.kernel_rules.specs.CapabilityCalls.{epoch_of, is_blank, is_live};
+ghost use Rattle.seq_state.specs.kernel_rules.specs.Edits.{cleared};
 ghost use Rattle.seq_state.specs.Parts.{object_of, frame_of, number_of};
 ghost use Rattle.seq_state.specs.Maps.{state_of};
 ghost use Rattle.seq_state.specs.Representation.{Represents};
@@ -73,4 +73,4 @@ pub(crate) fn epoch_of(number: &Liveness) -> u16
     }
 }
 
-ghost use Rattle.kernel_rules.specs.Start.{plain_cap};
+ghost use Rattle.seq_state.specs.kernel_rules.specs.Start.{plain_cap};

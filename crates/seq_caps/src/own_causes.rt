@@ -1,7 +1,7 @@
 //! The own causes of refusal of the calls on capabilities.
 
 ghost use Rattle.std.specs.Prelude.{◌≡◌, ◌<◌, [], ◌∷◌};
-ghost use Rattle.kernel_rules.specs.CapabilityCalls.{outside, not_blank, not_taken};
+ghost use Rattle.seq_state.specs.kernel_rules.specs.CapabilityCalls.{outside, not_blank, not_taken};
 ghost use Rattle.seq_state.specs.Maps.{state_of};
 ghost use Rattle.seq_plans.specs.Walks.{left_of, causes_of};
 ghost use Rattle.seq_plans.specs.OwnCauses.{cause_of, causes_in, AreFitCauses, judged_rule};

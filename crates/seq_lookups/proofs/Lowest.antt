@@ -1,10 +1,7 @@
 -- The lowest number below an end of which a test holds, found from a number on.
-use Rattle.std.proofs.Common.{◌≡◌, ℕ, zero, suc, ◌+◌, ◌-◌, ◌<◌, ◌≤◌, Bool, true, false, not}
-use Rattle.std.proofs.Common.{◌&&◌, ◌==◌, if◌then◌else◌, cond, refl, ◌∙◌, ap, arith, Some, None}
-use Rattle.std.specs.Prelude.{find}
-use Rattle.std.specs.List.{range_with_len}
-use Rattle.kernel_rules.specs.State.{State}
-use Rattle.kernel_rules.specs.GracePeriods.{lowest}
+use Rattle.seq_state.proofs.{◌≡◌, ℕ, zero, suc, ◌+◌, ◌-◌, ◌<◌, ◌≤◌, Bool, true, false, not, ◌&&◌, ◌==◌, if◌then◌else◌, cond, refl, ◌∙◌, ap}
+use Rattle.seq_state.proofs.{arith, Some, None, find, State}
+use Rattle.{std.specs.List.range_with_len, seq_state.specs.kernel_rules.specs.GracePeriods.lowest}
 
 -- From a number below the end on.
 from_here : (p : ℕ → Bool) (a n : ℕ) → a < n

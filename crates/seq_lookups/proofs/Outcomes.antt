@@ -1,11 +1,6 @@
 -- What was found, and what is refused.
-use Rattle.std.proofs.Common.{◌≡◌, refl, sym, subst}
-use Rattle.spk_nums.specs.declared.replies.Reply.{Reply}
-use Rattle.kernel_rules.specs.Rules.{Change, Judged, Refused, Found}
-use Rattle.seq_state.specs.Maps.{Maps, state_of}
-use Rattle.seq_state.proofs.Same.{same_by}
-use Rattle.seq_lookups.specs.Carried.{IsCarriedOut}
-use Rattle.seq_lookups.specs.Ranges.{WhereFound}
+use Rattle.seq_state.proofs.{◌≡◌, refl, sym, subst, Reply, Change, Judged, Refused, Found, state_of, same_by}
+use Rattle.{seq_state.specs.Maps.Maps, seq_lookups.specs.Carried.IsCarriedOut, seq_lookups.specs.Ranges.WhereFound}
 
 -- What is said of what is found holds of it.
 pub where_found : {A : Type 0} (j : Judged A) (P : A → Type 0) (x : A) → Found x ≡ j → WhereFound j P → P x

@@ -1,17 +1,7 @@
 -- What the plain kernel makes of a call.
-use Rattle.std.specs.Prelude.{◌≡◌, ◌∷◌}
-use Rattle.spk_nums.specs.Capability.{Capability}
-use Rattle.spk_nums.specs.declared.replies.Reply.{Reply}
-use Rattle.kernel_rules.specs.State.{State, Holds, Quiescing, PlaceOf, with_place}
-use Rattle.kernel_rules.specs.References.{place_names}
-use Rattle.kernel_rules.specs.Access.{Slot}
-use Rattle.kernel_rules.specs.GracePeriods.{begun}
-use Rattle.kernel_rules.specs.Edits.{frames_of}
-use Rattle.kernel_rules.specs.Rules.{Change, Judged}
-use Rattle.kernel_rules.specs.CallRelation.{changed}
-use Rattle.kernel_rules.specs.Alone.{reply_in}
-use Rattle.seq_state.specs.Maps.{Maps}
-use Rattle.seq_state.specs.Representation.{Represents}
+use Rattle.seq_state.specs.{◌≡◌, ◌∷◌, Capability, Reply, State, Holds, Quiescing, PlaceOf, with_place, place_names, Slot, begun, Change}
+use Rattle.seq_state.specs.{Judged, changed, reply_in, Represents}
+use Rattle.{seq_state.specs.kernel_rules.specs.Edits.frames_of, seq_state.specs.Maps.Maps}
 
 -- The state in which what a place holds is removed: its grace period has begun, and that of the frame to which it had a reference.
 abbrev pub removed : State → Slot → Capability → State

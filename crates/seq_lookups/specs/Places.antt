@@ -1,9 +1,8 @@
 -- Slots and targets of the plain kernel, as those of the definitions.
-use Rattle.kernel_rules.specs.Access.{Target, Under, InRoot, root_at}
+use Rattle.seq_state.specs.{Target, Under, InRoot, root_at}
 use Rattle.seq_lookups.specs.declared.slots.Target.{Target as Asked}
-use Rattle.seq_lookups.specs.declared.slots.Target.TheVariants as asked
 
 -- The target under a number of a table with this root, or at an entry of the root.
 abbrev pub target_of : Asked → Target
-target_of (asked.Under root number) = Under (root_at root) number
-target_of (asked.InRoot root index) = InRoot (root_at root) index
+target_of (Asked.Under root number) = Under (root_at root) number
+target_of (Asked.InRoot root index) = InRoot (root_at root) index

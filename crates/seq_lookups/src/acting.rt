@@ -1,7 +1,7 @@
 //! Whether a core may act: the component in which it works lives, or was killed while the core was in its call.
 
 ghost use Rattle.std.specs.Prelude.{◌≡◌, ◌<◌};
-ghost use Rattle.kernel_rules.specs.Life.{is_live_in, is_dead_in, may_act};
+ghost use Rattle.seq_state.specs.kernel_rules.specs.Life.{is_live_in, is_dead_in, may_act};
 ghost use Rattle.seq_state.specs.Parts.{number_of, comp_fields_of};
 ghost use Rattle.seq_state.specs.Maps.{state_of};
 

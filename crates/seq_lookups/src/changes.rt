@@ -1,8 +1,8 @@
 //! Beginning grace periods, and the changes of places that several calls share.
 
 ghost use Rattle.std.specs.Prelude.{◌≡◌, [], ◌∷◌};
-ghost use Rattle.kernel_rules.specs.GracePeriods.{begun, needs_flush, is_translated, is_paging};
-ghost use Rattle.kernel_rules.specs.State.{Holds, with_place};
+ghost use Rattle.seq_state.specs.kernel_rules.specs.GracePeriods.{begun, needs_flush, is_translated, is_paging};
+ghost use Rattle.seq_state.specs.kernel_rules.specs.State.{Holds, with_place};
 ghost use Rattle.seq_state.specs.Parts.{frame_of, thing_of};
 ghost use Rattle.seq_state.specs.Maps.{state_of};
 ghost use Rattle.seq_state.specs.Representation.{HasIndex, Represents};

@@ -1,8 +1,8 @@
 //! What a call names, and the targets that it asks for.
 
 ghost use Rattle.std.specs.Prelude.{◌≡◌, ◌<◌};
-ghost use Rattle.kernel_rules.specs.Access.{held_in, only, usable, reached};
-ghost use Rattle.kernel_rules.specs.Rules.{with_rights, named, vacant, not_vacant, held, mapped, of_kind, and_then, or_refuse};
+ghost use Rattle.seq_state.specs.kernel_rules.specs.Access.{held_in, only, usable, reached};
+ghost use Rattle.seq_state.specs.kernel_rules.specs.Rules.{with_rights, named, vacant, not_vacant, held, mapped, of_kind, and_then, or_refuse};
 ghost use Rattle.seq_state.specs.Parts.{place_held, thing_of};
 ghost use Rattle.seq_state.specs.Maps.{state_of};
 ghost use Rattle.seq_lookups.specs.Judged.{judged, wants, want_of};
@@ -187,5 +187,5 @@ pub fn mapped(k: &SeqKernel, core: CoreNo, root: FrameNo, page: PageNo) -> Resul
     }
 }
 
-ghost use Rattle.kernel_rules.specs.State.{PlaceOf};
+ghost use Rattle.seq_state.specs.kernel_rules.specs.State.{PlaceOf};
 ghost use Rattle.spk_nums.specs.declared.replies.Reply.TheVariants.{Empty};

@@ -1,7 +1,7 @@
 //! What the frames hold that calls read: threads, components and temporal capabilities.
 
 ghost use Rattle.std.specs.Prelude.{◌≡◌, ◌<◌};
-ghost use Rattle.kernel_rules.specs.State.{thread_in, comp_in, tcap_in, thread_of, comp_of, first_of_stack};
+ghost use Rattle.seq_state.specs.kernel_rules.specs.State.{thread_in, comp_in, tcap_in, thread_of, comp_of, first_of_stack};
 ghost use Rattle.seq_state.specs.Parts.{comp_fields_of, thread_fields_of, tcap_fields_of, frame_of};
 ghost use Rattle.seq_state.specs.Maps.{state_of};
 

@@ -1,7 +1,7 @@
 //! Slots, and how a core reaches them.
 
 ghost use Rattle.std.specs.Prelude.{◌≡◌, ◌<◌, ◌≤◌, Some};
-ghost use Rattle.kernel_rules.specs.Access.{place_at, usable, usable_in, linked, slot_in, reached, root_slot};
+ghost use Rattle.seq_state.specs.kernel_rules.specs.Access.{place_at, usable, usable_in, linked, slot_in, reached, root_slot};
 ghost use Rattle.seq_state.specs.Parts.{place_held, thing_of};
 ghost use Rattle.seq_state.specs.Maps.{state_of};
 ghost use Rattle.seq_lookups.specs.Places.{target_of};
@@ -18,7 +18,7 @@ pub struct Slot {
 }
 
 impl Model for Slot {
-    ghost use Rattle.kernel_rules.specs.Access.{Slot};
+    ghost use Rattle.seq_state.specs.kernel_rules.specs.Access.{Slot};
 
     ghost Value = { Slot };
 
@@ -179,5 +179,5 @@ pub fn reached(k: &SeqKernel, core: CoreNo, target: Target) -> Option<Slot>
     }
 }
 
-ghost use Rattle.kernel_rules.specs.State.{PlaceOf};
+ghost use Rattle.seq_state.specs.kernel_rules.specs.State.{PlaceOf};
 ghost use Rattle.seq_state.specs.Representation.{HasIndex};

@@ -1,8 +1,8 @@
 //! The cores for which a thing may not be taken again.
 
 ghost use Rattle.std.specs.Prelude.{◌≡◌, ◌≤◌};
-ghost use Rattle.kernel_rules.specs.GracePeriods.{lowest, other_waiting, quiescing_by, unflushed_by};
-ghost use Rattle.kernel_rules.specs.Rules.{waits_of, flushes_of};
+ghost use Rattle.seq_state.specs.kernel_rules.specs.GracePeriods.{lowest, other_waiting, quiescing_by, unflushed_by};
+ghost use Rattle.seq_state.specs.kernel_rules.specs.Rules.{waits_of, flushes_of};
 ghost use Rattle.spk_nums.specs.CoreSets.{has_core};
 ghost use Rattle.seq_state.specs.Parts.{thing_of};
 ghost use Rattle.seq_state.specs.Maps.{state_of};

@@ -6,8 +6,8 @@ ghost use Rattle.spk_nums.specs.declared.kinds.FrameKind.TheVariants as frame_ki
 ghost use Rattle.spk_nums.specs.declared.calls.Call.TheVariants.{Retype, Map, Touch};
 ghost use Rattle.spk_nums.specs.declared.replies.Value.TheVariants.{Nothing};
 ghost use Rattle.spk_nums.specs.declared.replies.Reply.TheVariants.{Ok as ok};
-ghost use Rattle.kernel_rules.specs.State.{thread_in};
-ghost use Rattle.kernel_rules.specs.CallRelation.{rule_of};
+ghost use Rattle.seq_state.specs.kernel_rules.specs.State.{thread_in};
+ghost use Rattle.seq_state.specs.kernel_rules.specs.CallRelation.{rule_of};
 ghost use Rattle.seq_state.specs.Maps.{state_of};
 ghost use Rattle.seq_state.specs.Representation.{Represents};
 ghost use Rattle.seq_lookups.specs.Carried.{IsCarriedOut, removed};
@@ -156,4 +156,4 @@ pub fn carry_out(k: &mut SeqKernel, core: CoreNo, call: &Call, looked: &Looked) 
 
 ghost use Rattle.std.specs.Prelude.{Some};
 ghost use Rattle.spk_nums.specs.Capability.{Capability};
-ghost use Rattle.kernel_rules.specs.Access.{Slot as slot};
+ghost use Rattle.seq_state.specs.kernel_rules.specs.Access.{Slot as slot};

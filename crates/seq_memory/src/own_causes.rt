@@ -3,9 +3,9 @@
 ghost use Rattle.std.specs.Prelude.{◌≡◌, ◌<◌, ℕ, nat_lt, if◌then◌else◌, [], ◌∷◌};
 ghost use Rattle.spk_nums.specs.declared.calls.Call.TheVariants.{Retype, Touch};
 ghost use Rattle.spk_nums.specs.declared.kinds.FrameKind.TheVariants as frame_kind;
-ghost use Rattle.kernel_rules.specs.MemoryCalls.{is_untyped_now, not_untyped, not_retyped, not_user};
-ghost use Rattle.kernel_rules.specs.CapabilityCalls.{outside};
-ghost use Rattle.kernel_rules.specs.CallRelation.{rule_of};
+ghost use Rattle.seq_state.specs.kernel_rules.specs.MemoryCalls.{is_untyped_now, not_untyped, not_retyped, not_user};
+ghost use Rattle.seq_state.specs.kernel_rules.specs.CapabilityCalls.{outside};
+ghost use Rattle.seq_state.specs.kernel_rules.specs.CallRelation.{rule_of};
 ghost use Rattle.seq_plans.specs.declared.walking.Looked.{Looked};
 ghost use Rattle.seq_state.specs.Maps.{state_of};
 ghost use Rattle.seq_plans.specs.Reaches.{named_of};

@@ -2,10 +2,10 @@
 
 ghost use Rattle.std.specs.Prelude.{◌≤◌, length, [], ◌∷◌};
 ghost use Rattle.spk_nums.specs.declared.kinds.FrameKind.TheVariants as frame_kind;
-ghost use Rattle.kernel_rules.specs.State.{thread_in};
-ghost use Rattle.kernel_rules.specs.References.{frame_names};
-ghost use Rattle.kernel_rules.specs.GracePeriods.{begun};
-ghost use Rattle.kernel_rules.specs.Edits.{frames_of};
+ghost use Rattle.seq_state.specs.kernel_rules.specs.State.{thread_in};
+ghost use Rattle.seq_state.specs.kernel_rules.specs.References.{frame_names};
+ghost use Rattle.seq_state.specs.kernel_rules.specs.GracePeriods.{begun};
+ghost use Rattle.seq_state.specs.kernel_rules.specs.Edits.{frames_of};
 ghost use Rattle.seq_state.specs.Parts.{frame_of};
 ghost use Rattle.seq_state.specs.Maps.{state_of};
 ghost use Rattle.seq_state.specs.Representation.{Represents};

@@ -5,7 +5,7 @@
 
 ghost use Rattle.std.specs.Prelude.{◌≡◌, ◌<◌};
 ghost use Rattle.spk_nums.specs.declared.kinds.Kind.TheVariants as kind;
-ghost use Rattle.kernel_rules.specs.Edits.{caching, Cache, edited};
+ghost use Rattle.seq_state.specs.kernel_rules.specs.Edits.{caching, Cache, edited};
 ghost use Rattle.seq_state.specs.Maps.{state_of};
 ghost use Rattle.seq_state.specs.Representation.{Represents};
 

@@ -1,34 +1,26 @@
 -- A rule that goes by a plan may be refused exactly where one of the plan's look-ups may be, or one of the causes that are left.
-use Rattle.std.proofs.Common.{◌≡◌, ◌⊎◌, inl, inr, ℕ, Bool, true, false, ◌&&◌, refl, sym, ◌∙◌, ap, subst, nat_lt}
-use Rattle.std.proofs.Common.{if◌then◌else◌, List, [], ◌∷◌, ◌++◌, length, ◌≤◌, arith, Option, Some, None, IsFalse}
-use Rattle.std.proofs.lemmas.Bool.{true≢false, ltb-true, lt-leb}
-use Rattle.std.specs.Option.{option_and_then}
-use Rattle.spk_nums.specs.Capability.{Capability}
-use Rattle.spk_nums.specs.Rights.{has_rights}
-use Rattle.spk_nums.specs.declared.replies.Reply.{Reply}
+use Rattle.seq_state.specs.kernel_rules.proofs as low
+use low.{◌≡◌, ◌⊎◌, inl, inr, ℕ, Bool, true, false, ◌&&◌, refl, sym, ◌∙◌, ap, subst, ltb as nat_lt, if◌then◌else◌, List, [], ◌∷◌, ◌++◌}
+use low.{length, ◌≤◌, arith, Option, Some, None, IsFalse, true≢false, ltb-true, lt-leb, option_and_then, Capability, has_rights, Reply}
+use low.{comp_of, Slot, Named, Want, Target as place, Under as under, root_at, place_at, held_in, usable, reached, own, Cause, Rule}
+use low.{Name as name_rule, Vacant as vacant_rule, Held as held_rule, Mapped as mapped_rule, Does, Refused, Found, and_then, or_refuse}
+use low.{unless, of_kind, named, held, mapped, IsFoundAnd, NameMay, VacantMay, HeldMay, MappedMay, OneMay, name_of, RuleMay}
+use Rattle.seq_plans.specs.{named_of, names_in, nothing, rest_by, left_of, causes_of, Iff}
+use Rattle.call_plans.specs.{own_pages, OnlyDoes, GoesOn, earlier, wants, want_of, place_of_spot}
+use Rattle.seq_state.specs.kernel_rules.specs.{not_found, slot_of}
+use Rattle.seq_state.specs.kernel_rules.specs.State.{State}
+use Rattle.call_plans.specs.{declared.plans.Nth.Nth, declared.plans.Nth.TheVariants.First, declared.plans.Nth.TheVariants.Second}
+use Rattle.call_plans.specs.{declared.plans.Nth.TheVariants.Third, declared.plans.Nth.TheVariants.Fourth, declared.plans.Wanted.Wanted}
+use Rattle.call_plans.specs.{declared.plans.Wanted.TheVariants.Any, declared.plans.Wanted.TheVariants.Only}
+use Rattle.call_plans.specs.{declared.plans.Wanted.TheVariants.Root, declared.plans.Wanted.TheVariants.LeafOf, declared.plans.Name.Name}
+use Rattle.call_plans.specs.{declared.plans.Spot.Spot, declared.plans.Spot.TheVariants.Under, declared.plans.Spot.TheVariants.InRoot}
+use Rattle.call_plans.specs.{declared.plans.Target.Target, declared.plans.Target.TheVariants.Nowhere}
+use Rattle.call_plans.specs.{declared.plans.Target.TheVariants.Free, declared.plans.Target.TheVariants.Held}
+use Rattle.call_plans.specs.{declared.plans.Target.TheVariants.Own as own_page, declared.plans.Plan.Plan, GoesBy.GoesTo}
+use Rattle.seq_plans.specs.{declared.reaching.Reach.TheVariants.Own, declared.walking.Looked.Looked, Walks.before, Walks.if_wanted}
+use Rattle.seq_plans.specs.{Walks.led, Walks.led_by, Walks.slot_by, Walks.held_by, Walks.looked, Refusals.RefusedByPlan}
+use Rattle.seq_plans.specs.{Refusals.SomeNameMay, Refusals.NthMay, Refusals.TargetMay}
 use Rattle.spk_nums.specs.declared.replies.Reply.TheVariants as reply
-use Rattle.kernel_rules.specs.State.{State, comp_of}
-use Rattle.kernel_rules.specs.Access.{Slot, Named, not_found, Want, Target as place, Under as under, root_at, place_at, held_in}
-use Rattle.kernel_rules.specs.Access.{usable, reached, own}
-use Rattle.kernel_rules.specs.Rules.{Cause, Rule, Name as name_rule, Vacant as vacant_rule, Held as held_rule, Mapped as mapped_rule, Does}
-use Rattle.kernel_rules.specs.Rules.{Refused, Found, and_then, or_refuse, unless, of_kind, named, held, mapped, IsFoundAnd, NameMay}
-use Rattle.kernel_rules.specs.Rules.{VacantMay, HeldMay, MappedMay, OneMay, name_of, slot_of, RuleMay}
-use Rattle.call_plans.specs.declared.plans.Nth.{Nth}
-use Rattle.call_plans.specs.declared.plans.Nth.TheVariants.{First, Second, Third, Fourth}
-use Rattle.call_plans.specs.declared.plans.Wanted.{Wanted}
-use Rattle.call_plans.specs.declared.plans.Wanted.TheVariants.{Any, Only, Root, LeafOf}
-use Rattle.call_plans.specs.declared.plans.Name.{Name}
-use Rattle.call_plans.specs.declared.plans.Spot.{Spot}
-use Rattle.call_plans.specs.declared.plans.Spot.TheVariants.{Under, InRoot}
-use Rattle.call_plans.specs.declared.plans.Target.{Target}
-use Rattle.call_plans.specs.declared.plans.Target.TheVariants.{Nowhere, Free, Held, Own as own_page}
-use Rattle.call_plans.specs.declared.plans.Plan.{Plan}
-use Rattle.call_plans.specs.GoesBy.{own_pages, OnlyDoes, GoesTo, GoesOn, earlier, wants, want_of, place_of_spot}
-use Rattle.seq_plans.specs.declared.reaching.Reach.TheVariants.{Own}
-use Rattle.seq_plans.specs.declared.walking.Looked.{Looked}
-use Rattle.seq_plans.specs.Reaches.{named_of}
-use Rattle.seq_plans.specs.Walks.{names_in, nothing, before, if_wanted, led, led_by, slot_by, held_by, looked, rest_by, left_of, causes_of}
-use Rattle.seq_plans.specs.Refusals.{RefusedByPlan, Iff, SomeNameMay, NthMay, TargetMay}
 
 -- ---- exactly where
 
@@ -119,11 +111,11 @@ wants_same caps ks e name = ap (λ kinds. record { kinds = kinds; needs = name.n
     by_wanted Any = refl
     by_wanted (Only kind) = refl
     by_wanted Root = refl
-    by_wanted (LeafOf i) = ap Rattle.kernel_rules.specs.CapabilityCalls.leaf_for (e i)
+    by_wanted (LeafOf i) = ap Rattle.seq_state.specs.kernel_rules.specs.CapabilityCalls.leaf_for (e i)
 
 pub place_same : (caps ks : List Named) → SameEarlier caps ks → (spot : Spot) → place_of_spot caps spot ≡ place_of_spot ks spot
 place_same caps ks e (Under i n) = ap (λ k. under k n) (e i)
-place_same caps ks e (InRoot i n) = ap (λ k. Rattle.kernel_rules.specs.Access.InRoot k n) (e i)
+place_same caps ks e (InRoot i n) = ap (λ k. Rattle.seq_state.specs.kernel_rules.specs.Access.InRoot k n) (e i)
 
 pub earlier_0 : SameEarlier [] (not_found ∷ not_found ∷ not_found ∷ not_found ∷ [])
 earlier_0 First = refl
@@ -196,8 +188,8 @@ module _ (s : State) (c : ℕ) (r : Reply) where
       by_slot (Some at) = by_held (Some at) (held_in (place_at s at))
 
       none : nat_lt 4095 v ≡ true → reached s c (under (root_at table) v) ≡ None
-      none big = ap (λ b. if b then Rattle.kernel_rules.specs.Access.slot_in (Rattle.kernel_rules.specs.Access.linked
-          (usable s c (Rattle.kernel_rules.specs.Access.root_slot table v))) (Rattle.std.specs.Prelude.◌%◌ v 64) else None)
+      none big = ap (λ b. if b then Rattle.seq_state.specs.kernel_rules.specs.Access.slot_in (Rattle.seq_state.specs.kernel_rules.specs.Access.linked
+          (usable s c (Rattle.seq_state.specs.kernel_rules.specs.Access.root_slot table v))) (Rattle.std.specs.Prelude.◌%◌ v 64) else None)
           (lt-leb v 4095 (ltb-true 4095 v big))
 
       by_number : (b : Bool) → nat_lt 4095 v ≡ b

@@ -1,7 +1,5 @@
 -- What is decided of two things is decided of either and of both.
-use Rattle.std.proofs.Common.{◌≡◌, Bool, true, false, not, ◌||◌, ◌&&◌, ◌⊎◌, inl, inr, refl, IsTrue, IsFalse}
-use Rattle.std.proofs.lemmas.Bool.{false≢true, true≢false}
-use Rattle.spk_nums.specs.declared.replies.Reply.{Reply}
+use Rattle.seq_state.proofs.{◌≡◌, Bool, true, false, not, ◌||◌, ◌&&◌, ◌⊎◌, inl, inr, refl, IsTrue, IsFalse, false≢true, true≢false, Reply}
 use Rattle.seq_plans.specs.Refusals.{Decides}
 
 pub decides_true : (b : Bool) → Decides b (IsTrue b)

@@ -1,21 +1,14 @@
 -- All that is found by a plan, one by one.
-use Rattle.std.proofs.Common.{◌≡◌, ℕ, Bool, true, false, refl, sym, ap, subst, Option, Some, None, IsFalse}
-use Rattle.std.specs.Prelude.{is_some, IsSome, IsSomeAnd}
-use Rattle.std.proofs.lemmas.Bool.{true≢false}
-use Rattle.spk_nums.specs.Capability.{Capability}
-use Rattle.kernel_rules.specs.State.{State, comp_of}
-use Rattle.kernel_rules.specs.MemoryCalls.{translation_of}
-use Rattle.kernel_rules.specs.Rules.{Judged, Refused, Found, and_then, named, vacant, held, mapped}
-use Rattle.call_plans.specs.declared.plans.Nth.TheVariants.{First, Second, Third, Fourth}
-use Rattle.call_plans.specs.declared.plans.Name.{Name}
-use Rattle.call_plans.specs.declared.plans.Target.{Target}
-use Rattle.call_plans.specs.declared.plans.Target.TheVariants.{Nowhere, Free, Held, Own}
-use Rattle.call_plans.specs.declared.plans.Plan.{Plan}
-use Rattle.call_plans.specs.Plans.{at_place}
-use Rattle.call_plans.specs.GoesBy.{want_of, place_of_spot}
-use Rattle.seq_plans.specs.declared.walking.Looked.{Looked}
-use Rattle.seq_plans.specs.Walks.{names_in, nothing, before}
-use Rattle.seq_plans.specs.Resolving.{named_by, paged_by, aimed_by, from_second, from_third, from_fourth, resolved}
+use Rattle.call_plans.specs as low
+use Rattle.seq_state.specs.kernel_rules.proofs.{◌≡◌, ℕ, Bool, true, false, refl, sym, ap, subst, Option, Some, None, IsFalse, is_some}
+use Rattle.seq_state.specs.kernel_rules.proofs.{IsSome, IsSomeAnd, true≢false, Capability, comp_of, translation_of, Judged, Refused, Found}
+use Rattle.seq_state.specs.kernel_rules.proofs.{and_then, named, vacant, held, mapped}
+use low.declared.plans.Nth.TheVariants.{First, Second, Third, Fourth}
+use low.declared.plans.Target.TheVariants.{Nowhere, Free, Held, Own}
+use Rattle.seq_plans.specs.{declared.walking.Looked.Looked, Walks.before, Resolving.named_by, Resolving.paged_by, Resolving.aimed_by}
+use Rattle.{seq_plans.specs.names_in, seq_plans.specs.nothing, seq_plans.specs.resolved, seq_state.specs.kernel_rules.specs.State.State}
+use Rattle.{seq_plans.specs.Resolving.from_second, seq_plans.specs.Resolving.from_third, seq_plans.specs.Resolving.from_fourth}
+use low.{at_place, want_of, place_of_spot, declared.plans.Name.Name, declared.plans.Target.Target, declared.plans.Plan.Plan}
 
 found_is : {A : Type 0} (x y : A) → Found x ≡ Found y → x ≡ y
 found_is x y e = cc

@@ -7,3 +7,5 @@ pub mod Resolved
 pub mod FoundAll
 pub mod MayBeCarried
 pub mod Stepped
+-- The names that are used most outside of this library.
+pub use Rattle.seq_plans.proofs.Stepped.{carried_out, cause_refused, look_refused}

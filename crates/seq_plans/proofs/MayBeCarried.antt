@@ -1,43 +1,20 @@
 -- A call whose plan was found, and against which no own cause stands, may be carried out.
-use Rattle.std.proofs.Common.{◌≡◌, ◌≢◌, inl, inr, ℕ, ◌<◌, ◌≤◌, ◌+◌, ◌^◌, ◌==◌, Bool, true, false, not, ◌&&◌, nat_lt, nat_le, if◌then◌else◌}
-use Rattle.std.proofs.Common.{refl, sym, ap, subst, ◌∙◌, arith, zero, suc, drop, length, List, [], ◌∷◌, Option, Some, None, IsTrue, IsFalse}
-use Rattle.std.specs.Prelude.{is_some, IsSome, IsSomeAnd, min}
-use Rattle.std.proofs.lemmas.Bool.{true≢false, and_parts, cases_lt, ltb-true, ltb-false, leb-true, leb-false, eqb-false, le-ltb}
-use Rattle.spk_nums.specs.Capability.{Capability}
-use Rattle.spk_nums.specs.declared.kinds.Kind.TheVariants as kind
-use Rattle.spk_nums.specs.declared.kinds.FrameKind.{FrameKind}
-use Rattle.spk_nums.specs.declared.kinds.FrameKind.TheVariants as frame_kind
-use Rattle.spk_nums.specs.declared.translations.Translation.{Translation}
-use Rattle.spk_nums.specs.declared.calls.Make.{Make}
-use Rattle.spk_nums.specs.declared.calls.Make.TheVariants as make
-use Rattle.spk_nums.specs.declared.calls.Call.{Call}
-use Rattle.spk_nums.specs.declared.calls.Call.TheVariants.{Look, Copy, Remove, Grow, Shrink, Retype, Make as make_call}
-use Rattle.spk_nums.specs.declared.calls.Call.TheVariants.{Map, Unmap, Touch, Flush, Gate, Kill, Call as call_gate}
-use Rattle.spk_nums.specs.declared.calls.Call.TheVariants.{Ret, Switch, Tick, Transfer, Delegate, Test, Part, Replenish}
-use Rattle.spk_nums.specs.declared.replies.Reply.{Reply}
-use Rattle.spk_nums.specs.declared.replies.Reply.TheVariants as reply
-use Rattle.kernel_rules.specs.State.{Table, Leaf, Pages, Pleaf, Comp, Thread, Tcap, Frame, Untyped, User, Kernel, outstanding}
-use Rattle.kernel_rules.specs.State.{State, comp_in, comp_of, thread_in, thread_of}
-use Rattle.kernel_rules.specs.Access.{Slot, Named, found, only, to_use, to_part}
-use Rattle.kernel_rules.specs.Rules.{Cause, Found, named, mapped, first_of, refusal_of, first_cause}
-use Rattle.kernel_rules.specs.CapabilityCalls.{has_frame, outside, epoch_of, has_frames, beyond}
-use Rattle.kernel_rules.specs.MemoryCalls.{is_empty, not_retyped, retype_rule, translation_of}
-use Rattle.kernel_rules.specs.Life.{is_live_in}
-use Rattle.kernel_rules.specs.InvocationCalls.{not_live, switch_to}
-use Rattle.kernel_rules.specs.TimeCalls.{are_same, is_short, are_many, merged_list, is_finer, is_less}
-use Rattle.kernel_rules.specs.CallRelation.{rule_of}
-use Rattle.kernel_rules.specs.Ranges.{budget_at}
-use Rattle.call_plans.specs.PlanOf.{plan_for}
+use Rattle.seq_state.specs.kernel_rules.proofs as low
+use low.{◌≡◌, ◌≢◌, inl, inr, ℕ, ◌<◌, ◌≤◌, ◌+◌, ◌^◌, ◌==◌, Bool, true, false, not, ◌&&◌, ltb as nat_lt, leb as nat_le, if◌then◌else◌, refl}
+use low.{sym, ap, subst, ◌∙◌, arith, zero, suc, drop, length, List, [], ◌∷◌, Option, Some, None, IsTrue, IsFalse, is_some, IsSome}
+use low.{IsSomeAnd, min, true≢false, ltb-true, ltb-false, leb-true, leb-false, eqb-false, le-ltb, Capability, FrameKind, Translation, Make}
+use low.{Call, Look, Copy, Remove, Grow, Shrink, Retype, Map, Unmap, Touch, Flush, Gate, Kill, Ret, Switch, Tick, Transfer, Delegate, Test}
+use low.{Part, Replenish, Reply, Table, Leaf, Pages, Pleaf, Comp, Thread, Tcap, Frame, Untyped, User, Kernel, outstanding, comp_in, comp_of}
+use low.{thread_in, thread_of, Slot, Named, found, only, to_use, to_part, Cause, Found, named, mapped, first_of, refusal_of, first_cause}
+use low.{has_frame, outside, epoch_of, has_frames, is_empty, not_retyped, retype_rule, translation_of, is_live_in, not_live, switch_to}
+use low.{are_same, is_short, are_many, merged_list, is_finer, is_less, rule_of, frames_in, Kind}
+use Rattle.seq_plans.specs.{named_of, rest_by, left_of, causes_of, retype_beyond, judged_rule, resolved}
 use Rattle.seq_lookups.specs.Ranges.{RangeEnds, PageFound, HasEpoch, BudgetsFit, IsInRange, WholeEnds, BackFits}
-use Rattle.seq_lookups.proofs.Outcomes.{where_found}
-use Rattle.seq_plans.specs.declared.walking.Looked.{Looked}
-use Rattle.seq_plans.specs.Reaches.{named_of}
-use Rattle.seq_plans.specs.Walks.{rest_by, left_of, causes_of}
-use Rattle.seq_plans.specs.OwnCauses.{retype_beyond, judged_rule}
-use Rattle.seq_plans.specs.Carrying.{MayRetype, MayMake, MayTouch, MayCarry}
-use Rattle.seq_plans.specs.Resolving.{resolved}
-use Rattle.seq_plans.proofs.FoundAll.{found_all}
-use Rattle.kernel_rules.proofs.PartFrames.{frames_in}
+use Rattle.seq_plans.specs.{declared.walking.Looked.Looked, Carrying.MayRetype, Carrying.MayMake, Carrying.MayTouch, Carrying.MayCarry}
+use Rattle.{std.proofs.lemmas.Bool.and_parts, std.proofs.lemmas.Bool.cases_lt, seq_state.specs.Make as make_call, seq_state.specs.State}
+use Rattle.{seq_state.specs.kernel_rules.specs.beyond, seq_state.specs.kernel_rules.specs.budget_at}
+use Rattle.{spk_nums.specs.declared.calls.Call.TheVariants.Call as call_gate, call_plans.specs.PlanOf.plan_for}
+use Rattle.{seq_lookups.proofs.Outcomes.where_found, seq_plans.proofs.FoundAll.found_all}
 
 -- ---- no cause stands
 
@@ -78,17 +55,17 @@ Names s c n kind o = IsSomeAnd o λ k. named s c n (to_use (only kind)) ≡ Foun
 
 -- ---- frames of a range
 
-range_most : (s : State) (c r : ℕ) (k : Capability) → named s c r (to_use (only kind.Range)) ≡ Found k → RangeEnds s c r
+range_most : (s : State) (c r : ℕ) (k : Capability) → named s c r (to_use (only Kind.Range)) ≡ Found k → RangeEnds s c r
     → k.frame + k.arg ≤ s.limits.frames
-range_most s c r k is ends = where_found (named s c r (to_use (only kind.Range))) (λ k. k.frame + k.arg ≤ s.limits.frames) k (sym is) ends
+range_most s c r k is ends = where_found (named s c r (to_use (only Kind.Range))) (λ k. k.frame + k.arg ≤ s.limits.frames) k (sym is) ends
 
-found_frame : (s : State) (c r f : ℕ) (o : Option Capability) (others : Option Reply) → Names s c r kind.Range o → RangeEnds s c r
+found_frame : (s : State) (c r f : ℕ) (o : Option Capability) (others : Option Reply) → Names s c r Kind.Range o → RangeEnds s c r
     → None ≡ first_of (refusal_of s c (outside (named_of o) f)) others → f < s.limits.frames
 found_frame s c r f None others is ends calm = absurd is
 found_frame s c r f (Some k) others is ends calm =
     let most = range_most s c r k is ends in
     let inside : has_frame (found k) f ≡ true =
-    not_false (has_frame (found k) f) (calm_when (not (has_frame (found k) f)) reply.OutOfRange
+    not_false (has_frame (found k) f) (calm_when (not (has_frame (found k) f)) Reply.OutOfRange
     (calm_parts (refusal_of s c (outside (found k) f)) others calm).0) in
     let below : f < k.frame + k.arg =
     ltb-true f (k.frame + k.arg) (and_parts (nat_le k.frame f) (nat_lt f (k.frame + k.arg)) inside).1 in
@@ -96,21 +73,21 @@ found_frame s c r f (Some k) others is ends calm =
 
 -- The first frame of a part is one of the machine's.
 part_frame : (s : State) (c r f n : ℕ) (o : Option Capability)
-    → IsSomeAnd o (λ k. named s c r (to_part (only kind.Range)) ≡ Found k) → WholeEnds s c r
+    → IsSomeAnd o (λ k. named s c r (to_part (only Kind.Range)) ≡ Found k) → WholeEnds s c r
     → None ≡ first_cause s c (beyond (named_of o) f n ∷ []) → f < s.limits.frames
 part_frame s c r f n None is ends calm = absurd is
 part_frame s c r f n (Some k) is ends calm =
     let most : k.frame + k.arg ≤ s.limits.frames =
-    where_found (named s c r (to_part (only kind.Range))) (λ k. k.frame + k.arg ≤ s.limits.frames) k (sym is) ends in
-    let p = frames_in (found k) f n (not_false (has_frames (found k) f n) (calm_when (not (has_frames (found k) f n)) reply.OutOfRange
+    where_found (named s c r (to_part (only Kind.Range))) (λ k. k.frame + k.arg ≤ s.limits.frames) k (sym is) ends in
+    let p = frames_in (found k) f n (not_false (has_frames (found k) f n) (calm_when (not (has_frames (found k) f n)) Reply.OutOfRange
     (calm_parts (refusal_of s c (beyond (found k) f n)) None calm).0)) in
     let some = p.some in
     let last = p.last in
     omega (arith, most)
 
 -- A frame past the machine's is in no range.
-frame_outside : (s : State) (c r f : ℕ) (o : Option Capability) → Names s c r kind.Range o → RangeEnds s c r
-    → nat_lt f s.limits.frames ≡ false → refusal_of s c (outside (named_of o) f) ≡ Some reply.OutOfRange
+frame_outside : (s : State) (c r f : ℕ) (o : Option Capability) → Names s c r Kind.Range o → RangeEnds s c r
+    → nat_lt f s.limits.frames ≡ false → refusal_of s c (outside (named_of o) f) ≡ Some Reply.OutOfRange
 frame_outside s c r f None is ends past = absurd is
 frame_outside s c r f (Some k) is ends past =
     let most = range_most s c r k is ends in
@@ -118,7 +95,7 @@ frame_outside s c r f (Some k) is ends past =
     let over : k.frame + k.arg ≤ f = omega (arith, most, beyond) in
     by_first (nat_le k.frame f) (nat_lt f (k.frame + k.arg)) (le-ltb f (k.frame + k.arg) over)
   where
-    by_first : (a b : Bool) → b ≡ false → (if not (a && b) then Some reply.OutOfRange else None) ≡ Some reply.OutOfRange
+    by_first : (a b : Bool) → b ≡ false → (if not (a && b) then Some Reply.OutOfRange else None) ≡ Some Reply.OutOfRange
     by_first true true none = absurd (true≢false none)
     by_first true false none = refl
     by_first false b none = refl
@@ -130,23 +107,23 @@ few_in s f Untyped e = omega arith
 few_in s f (Kernel (Thread t)) e = leb-true (length t.stack) 1 e
 few_in s f _ e = omega arith
 
-few_now : (s : State) (c f : ℕ) (range : Named) → None ≡ first_cause s c (outside range f ∷ not_retyped s f frame_kind.Untyped)
+few_now : (s : State) (c f : ℕ) (range : Named) → None ≡ first_cause s c (outside range f ∷ not_retyped s f FrameKind.Untyped)
     → length (thread_in (s.frame f)).stack ≤ 1
 few_now s c f range calm =
-    few_in s f (s.frame f) (not_false (is_empty s f (s.frame f)) (calm_when (not (is_empty s f (s.frame f))) reply.NotEmpty
-    (calm_at s c 5 (outside range f ∷ not_retyped s f frame_kind.Untyped) calm)))
+    few_in s f (s.frame f) (not_false (is_empty s f (s.frame f)) (calm_when (not (is_empty s f (s.frame f))) Reply.NotEmpty
+    (calm_at s c 5 (outside range f ∷ not_retyped s f FrameKind.Untyped) calm)))
 
 may_retype : (s : State) (c r f : ℕ) (k : FrameKind) (l : Looked) → RangeEnds s c r
     → Found l ≡ resolved s c (plan_for (Retype r f k))
     → None ≡ first_cause s c (causes_of (left_of (rule_of s c (Retype r f k)) l)) → MayRetype s f k
-may_retype s c r f frame_kind.Untyped l ends is calm =
-    let h = found_all s c (plan_for (Retype r f frame_kind.Untyped)) l is in
+may_retype s c r f FrameKind.Untyped l ends is calm =
+    let h = found_all s c (plan_for (Retype r f FrameKind.Untyped)) l is in
     (found_frame s c r f l.first _ h.first ends calm, few_now s c f (named_of l.first) calm)
-may_retype s c r f frame_kind.User l ends is calm =
-    let h = found_all s c (plan_for (Retype r f frame_kind.User)) l is in
+may_retype s c r f FrameKind.User l ends is calm =
+    let h = found_all s c (plan_for (Retype r f FrameKind.User)) l is in
     found_frame s c r f l.first _ h.first ends calm
-may_retype s c r f frame_kind.Kernel l ends is calm =
-    let h = found_all s c (plan_for (Retype r f frame_kind.Kernel)) l is in
+may_retype s c r f FrameKind.Kernel l ends is calm =
+    let h = found_all s c (plan_for (Retype r f FrameKind.Kernel)) l is in
     found_frame s c r f l.first _ h.first ends calm
 
 -- ---- a make
@@ -157,41 +134,41 @@ less e n most apart = elim (cases_lt e n) [ inl lt ↦ lt | inr ge ↦ absurd (e
 may_make : (s : State) (c : ℕ) (what : Make) (r f t b : ℕ) (l : Looked) → IsInRange s c (make_call what r f t b)
     → Found l ≡ resolved s c (plan_for (make_call what r f t b))
     → None ≡ first_cause s c (causes_of (left_of (rule_of s c (make_call what r f t b)) l)) → MayMake s what f l
-may_make s c make.Table r f t b l ranges is calm =
-    let h = found_all s c (plan_for (make_call make.Table r f t b)) l is in
+may_make s c Make.Table r f t b l ranges is calm =
+    let h = found_all s c (plan_for (make_call Make.Table r f t b)) l is in
     (h.target, found_frame s c r f l.first _ h.first ranges.0 calm)
-may_make s c make.Leaf r f t b l ranges is calm =
-    let h = found_all s c (plan_for (make_call make.Leaf r f t b)) l is in
+may_make s c Make.Leaf r f t b l ranges is calm =
+    let h = found_all s c (plan_for (make_call Make.Leaf r f t b)) l is in
     (h.target, found_frame s c r f l.first _ h.first ranges.0 calm)
-may_make s c make.Pages r f t b l ranges is calm =
-    let h = found_all s c (plan_for (make_call make.Pages r f t b)) l is in
+may_make s c Make.Pages r f t b l ranges is calm =
+    let h = found_all s c (plan_for (make_call Make.Pages r f t b)) l is in
     (h.target, found_frame s c r f l.first _ h.first ranges.0 calm)
-may_make s c make.Pleaf r f t b l ranges is calm =
-    let h = found_all s c (plan_for (make_call make.Pleaf r f t b)) l is in
+may_make s c Make.Pleaf r f t b l ranges is calm =
+    let h = found_all s c (plan_for (make_call Make.Pleaf r f t b)) l is in
     (h.target, found_frame s c r f l.first _ h.first ranges.0 calm)
-may_make s c (make.Thread comp) r f t b l ranges is calm =
-    let h = found_all s c (plan_for (make_call (make.Thread comp) r f t b)) l is in
+may_make s c (Make.Thread comp) r f t b l ranges is calm =
+    let h = found_all s c (plan_for (make_call (Make.Thread comp) r f t b)) l is in
     (some_of l.third _ h.third, h.target, found_frame s c r f l.first _ h.first ranges.0 calm)
-may_make s c (make.Tcap sched quality) r f t b l ranges is calm =
-    let h = found_all s c (plan_for (make_call (make.Tcap sched quality) r f t b)) l is in
+may_make s c (Make.Tcap sched quality) r f t b l ranges is calm =
+    let h = found_all s c (plan_for (make_call (Make.Tcap sched quality) r f t b)) l is in
     (h.target, found_frame s c r f l.first _ h.first ranges.0 calm)
-may_make s c (make.Comp x p live) r f t b l ranges is calm =
-    let h = found_all s c (plan_for (make_call (make.Comp x p live) r f t b)) l is in
-    let spent = calm_at s c 4 (causes_of (left_of (rule_of s c (make_call (make.Comp x p live) r f t b)) l)) calm in (
+may_make s c (Make.Comp x p live) r f t b l ranges is calm =
+    let h = found_all s c (plan_for (make_call (Make.Comp x p live) r f t b)) l is in
+    let spent = calm_at s c 4 (causes_of (left_of (rule_of s c (make_call (Make.Comp x p live) r f t b)) l)) calm in (
       some_of l.third _ h.third,
       some_of l.fourth _ h.fourth,
       h.target,
       found_frame s c r f l.first _ h.first ranges.0 calm,
       less (epoch_of (s.number live)) s.limits.epochs ranges.1
-          (calm_when (epoch_of (s.number live) == s.limits.epochs) reply.EpochsSpent spent),
+          (calm_when (epoch_of (s.number live) == s.limits.epochs) Reply.EpochsSpent spent),
     )
 
 -- ---- a touch
 
 page_of : (s : State) (c v : ℕ) (held : Option Capability) → PageFound s c v
-    → IsSomeAnd held (λ k. mapped s c (comp_of s c).pages v ≡ Found k) → IsSomeAnd held (λ k. k.kind ≡ kind.Page)
+    → IsSomeAnd held (λ k. mapped s c (comp_of s c).pages v ≡ Found k) → IsSomeAnd held (λ k. k.kind ≡ Kind.Page)
 page_of s c v None page is = is
-page_of s c v (Some k) page is = where_found (mapped s c (comp_of s c).pages v) (λ k. k.kind ≡ kind.Page) k (sym is) page
+page_of s c v (Some k) page is = where_found (mapped s c (comp_of s c).pages v) (λ k. k.kind ≡ Kind.Page) k (sym is) page
 
 may_touch : (s : State) (c v : ℕ) (cached : Option Translation) (held : Option Capability) → PageFound s c v
     → (IsFalse (is_some cached) → IsSomeAnd held (λ k. mapped s c (comp_of s c).pages v ≡ Found k)) → MayTouch cached held
@@ -200,29 +177,29 @@ may_touch s c v (Some t) held page is = tt
 
 -- ---- a gate, a kill and a switch
 
-gate_epoch : (s : State) (c n : ℕ) (o : Option Capability) → Names s c n kind.Comp o → HasEpoch s c n
+gate_epoch : (s : State) (c n : ℕ) (o : Option Capability) → Names s c n Kind.Comp o → HasEpoch s c n
     → 1 ≤ (comp_in (s.frame (named_of o).frame)).epoch
 gate_epoch s c n None is epoch = absurd is
 gate_epoch s c n (Some k) is epoch =
-    where_found (named s c n (to_use (only kind.Comp))) (λ k. 1 ≤ (comp_in (s.frame k.frame)).epoch) k (sym is) epoch
+    where_found (named s c n (to_use (only Kind.Comp))) (λ k. 1 ≤ (comp_in (s.frame k.frame)).epoch) k (sym is) epoch
 
 lives_now : (s : State) (c : ℕ) (h : Named) (l e : ℕ) → h.found ≡ true → None ≡ first_cause s c (not_live s h l e ∷ [])
     → IsTrue (is_live_in (s.number l) e)
 lives_now s c h l e here calm =
-    not_false (is_live_in (s.number l) e) (calm_when (not (is_live_in (s.number l) e)) reply.Dead
-    (subst (λ (b : Bool). None ≡ (if b && not (is_live_in (s.number l) e) then Some reply.Dead else None)) here
+    not_false (is_live_in (s.number l) e) (calm_when (not (is_live_in (s.number l) e)) Reply.Dead
+    (subst (λ (b : Bool). None ≡ (if b && not (is_live_in (s.number l) e) then Some Reply.Dead else None)) here
     (calm_parts _ _ calm).0))
 
 idle_now : (s : State) (c : ℕ) (h : Named) (q : ℕ) (e : Option ℕ) (ks : List Named) (at : Option Slot) (held : Option Capability)
     → h.found ≡ true → None ≡ first_cause s c (causes_of (rest_by (switch_to h q e) ks at held)) → e ≡ None
 idle_now s c h q None ks at held here calm = refl
 idle_now s c h q (Some d) ks at held here calm =
-    absurd (true≢false (sym here ∙ calm_when h.found (reply.Running d) (calm_parts _ _ calm).0))
+    absurd (true≢false (sym here ∙ calm_when h.found (Reply.Running d) (calm_parts _ _ calm).0))
 
 -- ---- two temporal capabilities
 
 may_move : (s : State) (c a b m : ℕ) (x y : Option Capability) (others : Option Reply)
-    → Names s c a kind.Tcap x → Names s c b kind.Tcap y → BudgetsFit s c a b
+    → Names s c a Kind.Tcap x → Names s c b Kind.Tcap y → BudgetsFit s c a b
     → None ≡ first_of (refusal_of s c (are_same (named_of x) (named_of y))) (first_of (refusal_of s c (is_short s (named_of x) m)) others)
     → IsSome x × IsSome y × ((named_of x).frame ≢ (named_of y).frame) × (budget_at s (named_of y).frame + m < 2 ^ 32)
 may_move s c a b m None y others is_x is_y fits calm = absurd is_x
@@ -230,22 +207,22 @@ may_move s c a b m (Some x) None others is_x is_y fits calm = absurd is_y
 may_move s c a b m (Some x) (Some y) others is_x is_y fits calm =
     let first = calm_parts _ _ calm in
     let second = calm_parts _ _ first.1 in
-    let apart : x.frame ≢ y.frame = eqb-false x.frame y.frame (calm_when (x.frame == y.frame) reply.Same first.0) in
+    let apart : x.frame ≢ y.frame = eqb-false x.frame y.frame (calm_when (x.frame == y.frame) Reply.Same first.0) in
     let enough : m ≤ budget_at s x.frame =
-    ltb-false (budget_at s x.frame) m (calm_when (nat_lt (budget_at s x.frame) m) (reply.Short (budget_at s x.frame)) second.0) in
-    let one = where_found (named s c a (to_use (only kind.Tcap))) _ x (sym is_x) fits in
-    let both = where_found (named s c b (to_use (only kind.Tcap))) _ y (sym is_y) one in
+    ltb-false (budget_at s x.frame) m (calm_when (nat_lt (budget_at s x.frame) m) (Reply.Short (budget_at s x.frame)) second.0) in
+    let one = where_found (named s c a (to_use (only Kind.Tcap))) _ x (sym is_x) fits in
+    let both = where_found (named s c b (to_use (only Kind.Tcap))) _ y (sym is_y) one in
     (refl, refl, apart, omega (arith, both apart, enough))
 
-gives : (s : State) (c a m : ℕ) (x : Option Capability) → Names s c a kind.Tcap x → BackFits s c a
+gives : (s : State) (c a m : ℕ) (x : Option Capability) → Names s c a Kind.Tcap x → BackFits s c a
     → None ≡ first_of (refusal_of s c (is_finer s c (named_of x))) (first_of (refusal_of s c (is_less s c m)) None)
     → IsSome x × (budget_at s (named_of x).frame + m < 2 ^ 32) × ((s.core c).back + m < 2 ^ 64)
 gives s c a m None is fits calm = absurd is
 gives s c a m (Some x) is fits calm =
     let second = calm_parts _ _ (calm_parts _ _ calm).1 in
     let left : ℕ = outstanding (s.core c) in
-    let enough : m ≤ left = ltb-false left m (calm_when (nat_lt left m) (reply.Short (min left m)) second.0) in
-    let one = where_found (named s c a (to_use (only kind.Tcap))) _ x (sym is) fits.budget in
+    let enough : m ≤ left = ltb-false left m (calm_when (nat_lt left m) (Reply.Short (min left m)) second.0) in
+    let one = where_found (named s c a (to_use (only Kind.Tcap))) _ x (sym is) fits.budget in
     (refl, omega (arith, one, enough), omega (arith, enough, fits.back, fits.spent))
 
 few_merged : (s : State) (c : ℕ) (x y : Option Capability) (o p : Option Reply) → IsSome x → IsSome y
@@ -256,7 +233,7 @@ few_merged s c (Some x) None o p some_x some_y calm = absurd (true≢false (sym 
 few_merged s c (Some x) (Some y) o p some_x some_y calm =
     let last = calm_parts _ _ (calm_parts _ _ (calm_parts _ _ calm).1).1 in
     ltb-false 8 (length (merged_list s x.frame y.frame))
-    (calm_when (nat_lt 8 (length (merged_list s x.frame y.frame))) reply.TooMany last.0)
+    (calm_when (nat_lt 8 (length (merged_list s x.frame y.frame))) Reply.TooMany last.0)
 
 -- ---- every call
 
@@ -294,10 +271,10 @@ may_carry s c (Kill k) l ranges is calm =
 may_carry s c (call_gate g) l ranges is calm =
     let h = found_all s c (plan_for (call_gate g)) l is in
     let depth = length (thread_of s c).stack in
-    (some_of l.first _ h.first, leb-false 16 depth (calm_when (nat_le 16 depth) reply.Deep (calm_parts _ _ calm).0))
+    (some_of l.first _ h.first, leb-false 16 depth (calm_when (nat_le 16 depth) Reply.Deep (calm_parts _ _ calm).0))
 may_carry s c Ret l ranges is calm =
     let depth = length (thread_of s c).stack in
-    leb-false depth 1 (calm_when (nat_le depth 1) reply.Bottom (calm_parts _ _ calm).0)
+    leb-false depth 1 (calm_when (nat_le depth 1) Reply.Bottom (calm_parts _ _ calm).0)
 may_carry s c (Switch n q) l ranges is calm =
     let h = found_all s c (plan_for (Switch n q)) l is in
     let some = some_of l.first _ h.first in (
@@ -328,15 +305,15 @@ may_carry s c (Part r f n t b) l ranges is calm =
 -- The own causes of a call as it is judged are those of its rule, for all that the first of them decides.
 pub judged_alike : (s : State) (c : ℕ) (call : Call) (l : Looked) → IsInRange s c call → Found l ≡ resolved s c (plan_for call)
     → first_cause s c (causes_of (left_of (judged_rule s c call) l)) ≡ first_cause s c (causes_of (left_of (rule_of s c call) l))
-judged_alike s c (Retype r f frame_kind.Untyped) l ends is = by_frame (nat_lt f s.limits.frames) refl
+judged_alike s c (Retype r f FrameKind.Untyped) l ends is = by_frame (nat_lt f s.limits.frames) refl
   where
     by_frame : (b : Bool) → nat_lt f s.limits.frames ≡ b
-        → first_cause s c (causes_of (left_of (if b then retype_rule s r f frame_kind.Untyped else retype_beyond r f) l))
-        ≡ first_cause s c (causes_of (left_of (retype_rule s r f frame_kind.Untyped) l))
+        → first_cause s c (causes_of (left_of (if b then retype_rule s r f FrameKind.Untyped else retype_beyond r f) l))
+        ≡ first_cause s c (causes_of (left_of (retype_rule s r f FrameKind.Untyped) l))
     by_frame true within = refl
     by_frame false past =
-        let h = found_all s c (plan_for (Retype r f frame_kind.Untyped)) l is in
+        let h = found_all s c (plan_for (Retype r f FrameKind.Untyped)) l is in
         let stands = frame_outside s c r f l.first h.first ends past in
         ap (λ (o : Option Reply). first_of o None) stands
-        ∙ sym (ap (λ (o : Option Reply). first_of o (first_cause s c (not_retyped s f frame_kind.Untyped))) stands)
+        ∙ sym (ap (λ (o : Option Reply). first_of o (first_cause s c (not_retyped s f FrameKind.Untyped))) stands)
 judged_alike s c call l ranges is = refl

@@ -1,11 +1,6 @@
 -- One of several causes may stand.
-use Rattle.std.proofs.Common.{ℕ, Bool, true, false, ◌||◌, inl, inr, List, [], Option, Some, None}
-use Rattle.spk_nums.specs.declared.replies.Reply.{Reply}
-use Rattle.kernel_rules.specs.State.{State}
-use Rattle.kernel_rules.specs.Rules.{Cause, OneMay}
-use Rattle.seq_plans.specs.declared.causes.Cause.{Cause as Asked}
-use Rattle.seq_plans.specs.OwnCauses.{with_cause, AreFitCauses}
-use Rattle.seq_plans.specs.Refusals.{Decides}
+use Rattle.seq_state.proofs.{ℕ, Bool, true, false, ◌||◌, inl, inr, List, [], Option, Some, None, Reply, State, Cause, OneMay}
+use Rattle.seq_plans.specs.{AreFitCauses, Decides, declared.causes.Cause.Cause as Asked, OwnCauses.with_cause}
 
 -- A cause, if there is one, may stand, or one of those after it.
 pub next_decides : (s : State) (c : ℕ) (r : Reply) (x : Option Asked) (causes : List Cause) (a b : Bool)

@@ -1,19 +1,15 @@
 -- What comes of a rule that goes by a plan is what comes of the plan's look-ups, and then of what is left of the rule.
-use Rattle.std.proofs.Common.{◌≡◌, ℕ, ◌≤◌, Bool, refl, sym, ◌∙◌, subst, List, [], ◌∷◌, ◌++◌, length, Option, Some}
-use Rattle.spk_nums.specs.Capability.{Capability}
-use Rattle.kernel_rules.specs.State.{State, comp_of}
-use Rattle.kernel_rules.specs.Access.{Slot, Named, found, not_found, Want, Target as place}
-use Rattle.kernel_rules.specs.Rules.{Rule, Name as name_rule, Vacant as vacant_rule, Held as held_rule, Mapped as mapped_rule, Does}
-use Rattle.kernel_rules.specs.Rules.{Change, Judged, Refused, Found, and_then, named, vacant, held, mapped, outcome}
-use Rattle.call_plans.specs.declared.plans.Name.{Name}
-use Rattle.call_plans.specs.declared.plans.Target.{Target}
-use Rattle.call_plans.specs.declared.plans.Target.TheVariants.{Nowhere, Free, Held, Own as own_page}
-use Rattle.call_plans.specs.declared.plans.Plan.{Plan}
-use Rattle.call_plans.specs.GoesBy.{own_pages, OnlyDoes, GoesTo, GoesOn, want_of, place_of_spot}
-use Rattle.seq_plans.specs.declared.walking.Looked.{Looked}
-use Rattle.seq_plans.specs.Walks.{names_in, nothing, rest_by}
-use Rattle.seq_plans.specs.Resolving.{named_by, paged_by, aimed_by, from_second, from_third, from_fourth, resolved, Comes, ResolvedByPlan}
+use Rattle.call_plans.specs as low
+use Rattle.seq_state.proofs.{◌≡◌, ℕ, ◌≤◌, Bool, refl, sym, ◌∙◌, subst, List, [], ◌∷◌, ◌++◌, length, Option, Some, Capability, State}
+use Rattle.seq_state.proofs.{comp_of, Slot, Named, found, Want, Target as place, Rule, Name as name_rule, Vacant as vacant_rule}
+use Rattle.seq_state.proofs.{Held as held_rule, Mapped as mapped_rule, Does, Change, Judged, Refused, Found, and_then, named, vacant, held}
+use low.{declared.plans.Name.Name, declared.plans.Target.Target, declared.plans.Target.TheVariants.Nowhere}
+use low.{declared.plans.Target.TheVariants.Free, declared.plans.Target.TheVariants.Held, declared.plans.Target.TheVariants.Own as own_page}
+use Rattle.seq_plans.specs.Resolving.{named_by, paged_by, aimed_by, from_second, from_third, from_fourth, Comes, ResolvedByPlan}
 use Rattle.seq_plans.proofs.ByPlan.{SameEarlier, wants_same, place_same, earlier_0, earlier_1, earlier_2, earlier_3, too_long}
+use Rattle.{seq_state.proofs.mapped, seq_state.proofs.outcome, seq_plans.specs.names_in, seq_plans.specs.nothing, seq_plans.specs.rest_by}
+use Rattle.{seq_plans.specs.resolved, seq_state.specs.kernel_rules.specs.Access.not_found, seq_plans.specs.declared.walking.Looked.Looked}
+use low.{own_pages, OnlyDoes, GoesOn, want_of, place_of_spot, declared.plans.Plan.Plan, GoesBy.GoesTo}
 
 module _ (s : State) (c : ℕ) where
   -- What comes of a rule by what is found after some names: what those have led to stands before the rest of the names.

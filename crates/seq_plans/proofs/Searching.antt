@@ -1,7 +1,6 @@
 -- A search from a number on, in a list.
-use Rattle.std.proofs.Common.{◌≡◌, ℕ, suc, ◌+◌, ◌<◌, Bool, true, false, cond, ◌∙◌, ap}
-use Rattle.std.proofs.Common.{List, ◌∷◌, Some, length, drop, slice_get, drop-cons, add-one}
-use Rattle.std.specs.Prelude.{find}
+use Rattle.std.proofs.Common.{◌≡◌, ℕ, suc, ◌+◌, ◌<◌, Bool, true, false, cond, ◌∙◌, ap, List, ◌∷◌, Some, length, drop, slice_get, drop-cons}
+use Rattle.std.proofs.Common.{add-one, find}
 use Rattle.std.proofs.lemmas.Option.{slice_get_within, get_or_from_slice_get}
 
 -- The item at an index is the first of what is dropped to.

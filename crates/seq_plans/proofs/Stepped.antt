@@ -1,29 +1,12 @@
 -- A call that is made by its plan: refused by a look-up or by an own cause, or carried out.
-use Rattle.std.proofs.Common.{◌≡◌, ℕ, sym, ◌∙◌, ap, subst, List, Option, Some, None}
-use Rattle.spk_nums.specs.declared.calls.Call.{Call}
-use Rattle.spk_nums.specs.declared.replies.Value.{Value}
-use Rattle.spk_nums.specs.declared.replies.Reply.{Reply}
-use Rattle.spk_nums.specs.declared.replies.Reply.TheVariants as reply
-use Rattle.kernel_rules.specs.State.{State}
-use Rattle.kernel_rules.specs.Rules.{does, Cause, Rule, Name as name_rule, Does}
-use Rattle.kernel_rules.specs.Rules.{Change, Judged, Refused, Found, unless, first_cause, outcome}
-use Rattle.kernel_rules.specs.CallRelation.{rule_of, change_of}
-use Rattle.call_plans.specs.declared.plans.Plan.{Plan}
-use Rattle.call_plans.specs.PlanOf.{plan_for}
-use Rattle.call_plans.specs.GoesBy.{OnlyDoes}
-use Rattle.call_plans.proofs.CallsGoBy.{calls_go}
-use Rattle.call_plans.proofs.FewNames.{few_names}
-use Rattle.seq_state.specs.Maps.{Maps, state_of}
-use Rattle.seq_lookups.specs.Carried.{IsCarriedOut}
-use Rattle.seq_lookups.specs.Ranges.{IsInRange}
-use Rattle.seq_lookups.proofs.Outcomes.{refused}
-use Rattle.seq_plans.specs.declared.walking.Looked.{Looked}
-use Rattle.seq_plans.specs.Walks.{left_of, causes_of}
-use Rattle.seq_plans.specs.OwnCauses.{judged_rule}
-use Rattle.seq_plans.specs.Carrying.{change_in, MayCarry}
-use Rattle.seq_plans.specs.Resolving.{resolved, Comes}
-use Rattle.seq_plans.proofs.Resolved.{resolved_by_plan}
-use Rattle.seq_plans.proofs.MayBeCarried.{may_carry, judged_alike}
+use Rattle.seq_state.proofs.{◌≡◌, ℕ, sym, ◌∙◌, ap, subst, List, Option, Some, None, Call, Value, Reply, State, does, Cause, Rule}
+use Rattle.seq_state.proofs.{Name as name_rule, Does, Change, Judged, Refused, Found, unless, first_cause, outcome, rule_of, change_of}
+use Rattle.seq_plans.specs.{left_of, causes_of, judged_rule, change_in, resolved}
+use Rattle.seq_plans.specs.{declared.walking.Looked.Looked, Carrying.MayCarry, Resolving.Comes}
+use Rattle.seq_plans.proofs.{Resolved.resolved_by_plan, MayBeCarried.may_carry, MayBeCarried.judged_alike}
+use Rattle.{seq_state.proofs.state_of, seq_lookups.specs.IsCarriedOut, seq_lookups.specs.IsInRange, call_plans.specs.plan_for}
+use Rattle.{call_plans.specs.OnlyDoes, call_plans.proofs.calls_go, call_plans.proofs.few_names, call_plans.specs.declared.plans.Plan.Plan}
+use Rattle.{seq_state.specs.Maps.Maps, seq_lookups.proofs.Outcomes.refused}
 
 -- ---- what is left of a rule
 
@@ -71,8 +54,8 @@ pub carried_out : (s : State) (k : Maps) (c : ℕ) (call : Call) (plan : Plan) (
     → plan ≡ plan_for call
     → Found l ≡ resolved s c plan → causes ≡ causes_of (left_of (judged_rule s c call) l)
     → None ≡ first_cause s c causes
-    → (MayCarry s c call l → IsCarriedOut s (change_in s c (left_of (rule_of s c call) l)) (reply.Ok v) k) → IsInRange s c call
-    → IsCarriedOut s (change_of s c call) (reply.Ok v) k
+    → (MayCarry s c call l → IsCarriedOut s (change_in s c (left_of (rule_of s c call) l)) (Reply.Ok v) k) → IsInRange s c call
+    → IsCarriedOut s (change_of s c call) (Reply.Ok v) k
 carried_out s k c call plan l causes v is e are calm carries ranges =
     let found : Found l ≡ resolved s c (plan_for call) = e ∙ ap (resolved s c) is in
     let h : Comes s c (rule_of s c call) (Found l) = comes s c call plan (Found l) is e in
@@ -80,4 +63,4 @@ carried_out s k c call plan l causes v is e are calm carries ranges =
     calm ∙ ap (first_cause s c) are ∙ judged_alike s c call l ranges found in
     let o : change_of s c call ≡ change_in s c (left_of (rule_of s c call) l) =
     h.0 ∙ left_carried s c (left_of (rule_of s c call) l) h.1 own in
-    subst (λ (j : Judged Change). IsCarriedOut s j (reply.Ok v) k) (sym o) (carries (may_carry s c call l ranges found own))
+    subst (λ (j : Judged Change). IsCarriedOut s j (Reply.Ok v) k) (sym o) (carries (may_carry s c call l ranges found own))

@@ -1,52 +1,35 @@
 -- The change of a call, given what was looked up, and what it must have found beside that none of its causes stands.
-use Rattle.std.specs.Prelude.{◌≡◌, ◌≢◌, ◌<◌, ◌≤◌, ◌+◌, ◌^◌, ℕ, length, Option, Some, None, IsSome, IsSomeAnd, IsTrue}
-use Rattle.spk_nums.specs.Capability.{Capability}
-use Rattle.spk_nums.specs.declared.kinds.Kind.TheVariants as kind
-use Rattle.spk_nums.specs.declared.kinds.FrameKind.{FrameKind}
-use Rattle.spk_nums.specs.declared.kinds.FrameKind.TheVariants as frame_kind
-use Rattle.spk_nums.specs.declared.translations.Translation.{Translation}
-use Rattle.spk_nums.specs.declared.calls.Make.{Make}
-use Rattle.spk_nums.specs.declared.calls.Make.TheVariants as make
-use Rattle.spk_nums.specs.declared.calls.Call.{Call}
-use Rattle.spk_nums.specs.declared.calls.Call.TheVariants.{Look, Copy, Remove, Grow, Shrink, Retype, Make as make_call}
-use Rattle.spk_nums.specs.declared.calls.Call.TheVariants.{Map, Unmap, Touch, Flush, Gate, Kill, Call as call_gate}
-use Rattle.spk_nums.specs.declared.calls.Call.TheVariants.{Ret, Switch, Tick, Transfer, Delegate, Test, Part, Replenish}
-use Rattle.spk_nums.specs.declared.replies.Reply.TheVariants as reply
-use Rattle.kernel_rules.specs.State.{State, comp_in, comp_of, thread_in, thread_of}
-use Rattle.kernel_rules.specs.Rules.{Rule, Name as name_rule, Vacant, Held as held_rule, Mapped, Does}
-use Rattle.kernel_rules.specs.Rules.{Change, does, Judged, Refused, Found as Carried}
-use Rattle.kernel_rules.specs.CapabilityCalls.{epoch_of}
-use Rattle.kernel_rules.specs.MemoryCalls.{translation_of}
-use Rattle.kernel_rules.specs.Life.{is_live_in}
-use Rattle.kernel_rules.specs.TimeCalls.{merged_list}
-use Rattle.kernel_rules.specs.Ranges.{budget_at}
-use Rattle.seq_lookups.specs.Ranges.{TicksFit}
-use Rattle.seq_plans.specs.declared.walking.Looked.{Looked}
-use Rattle.seq_plans.specs.Reaches.{named_of}
+use Rattle.seq_state.specs.kernel_rules.specs as low
+use low.{◌≡◌, ◌≢◌, ◌<◌, ◌≤◌, ◌+◌, ◌^◌, ℕ, length, Option, Some, None, IsSome, IsSomeAnd, IsTrue, Capability, FrameKind, Translation, Make}
+use low.{Call, Look, Copy, Remove, Grow, Shrink, Retype, Map, Unmap, Touch, Flush, Gate, Kill, Ret, Switch, Tick, Transfer, Delegate, Test}
+use low.{Part, Replenish, comp_in, comp_of, thread_in, thread_of, Rule, Name as name_rule, Vacant, Held as held_rule, Mapped, Does, Change}
+use low.{does, Judged, Refused, Found as Carried, epoch_of, translation_of, is_live_in, merged_list, budget_at, Kind, Reply}
+use Rattle.{seq_state.specs.Make as make_call, seq_state.specs.State, spk_nums.specs.declared.calls.Call.TheVariants.Call as call_gate}
+use Rattle.{seq_lookups.specs.Ranges.TicksFit, seq_plans.specs.declared.walking.Looked.Looked, seq_plans.specs.Reaches.named_of}
 
 -- The change of what is left of a rule of core c, where its look-ups have been made.
 abbrev pub change_in : State → ℕ → Rule → Judged Change
 change_in s c (Does causes value edits) = Carried (does c s value edits)
-change_in s c (name_rule n want rest) = Refused reply.Raced
-change_in s c (Vacant target rest) = Refused reply.Raced
-change_in s c (held_rule target rest) = Refused reply.Raced
-change_in s c (Mapped table v rest) = Refused reply.Raced
+change_in s c (name_rule n want rest) = Refused Reply.Raced
+change_in s c (Vacant target rest) = Refused Reply.Raced
+change_in s c (held_rule target rest) = Refused Reply.Raced
+change_in s c (Mapped table v rest) = Refused Reply.Raced
 
 -- A frame of the machine, which is to be untyped, has a thread in at most one component.
 abbrev pub MayRetype : State → ℕ → FrameKind → Type 0
-MayRetype s f frame_kind.Untyped = (f < s.limits.frames) × (length (thread_in (s.frame f)).stack ≤ 1)
+MayRetype s f FrameKind.Untyped = (f < s.limits.frames) × (length (thread_in (s.frame f)).stack ≤ 1)
 MayRetype s f k = f < s.limits.frames
 
 -- What is made refers to what was found, and a liveness number has an epoch left.
 abbrev pub MayMake : State → Make → ℕ → Looked → Type 0
-MayMake s (make.Thread comp) f l = IsSome l.third × IsSome l.at × (f < s.limits.frames)
-MayMake s (make.Comp table pages live) f l =
+MayMake s (Make.Thread comp) f l = IsSome l.third × IsSome l.at × (f < s.limits.frames)
+MayMake s (Make.Comp table pages live) f l =
     IsSome l.third × IsSome l.fourth × IsSome l.at × (f < s.limits.frames) × (epoch_of (s.number live) < s.limits.epochs)
 MayMake s what f l = IsSome l.at × (f < s.limits.frames)
 
 -- A page that is not cached was found mapped.
 abbrev pub MayTouch : Option Translation → Option Capability → Type 0
-MayTouch None held = IsSomeAnd held λ k. k.kind ≡ kind.Page
+MayTouch None held = IsSomeAnd held λ k. k.kind ≡ Kind.Page
 MayTouch (Some t) held = Unit {0}
 
 -- Ticks move between two temporal capabilities, whose sum fits a budget.

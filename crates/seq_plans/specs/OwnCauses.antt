@@ -1,29 +1,14 @@
 -- Causes of refusal as data, as those of the definitions.
-use Rattle.std.specs.Prelude.{ℕ, nat_lt, if◌then◌else◌, List, [], ◌∷◌, Option, Some, None}
-use Rattle.spk_nums.specs.declared.kinds.Kind.TheVariants as kind
-use Rattle.spk_nums.specs.declared.kinds.FrameKind.TheVariants as frame_kind
-use Rattle.spk_nums.specs.declared.calls.Call.{Call}
-use Rattle.spk_nums.specs.declared.calls.Call.TheVariants.{Retype}
-use Rattle.spk_nums.specs.declared.replies.Value.TheVariants.{Nothing}
-use Rattle.kernel_rules.specs.State.{State}
-use Rattle.kernel_rules.specs.Laws.{IsRefusal}
-use Rattle.kernel_rules.specs.Access.{only, to_use}
-use Rattle.kernel_rules.specs.CapabilityCalls.{outside}
-use Rattle.kernel_rules.specs.MemoryCalls.{retype_rule}
-use Rattle.kernel_rules.specs.CallRelation.{rule_of}
-use Rattle.kernel_rules.specs.Edits.{Untype}
-use Rattle.kernel_rules.specs.Rules.{Cause, When, WaitedFor, Unflushed, Rule, Name, Does}
-use Rattle.seq_state.specs.Parts.{thing_of}
-use Rattle.seq_state.specs.Representation.{HasIndex}
-use Rattle.seq_plans.specs.declared.causes.Cause.{Cause as Asked}
-use Rattle.seq_plans.specs.declared.causes.Cause.TheVariants as asked
-use Rattle.seq_plans.specs.declared.causes.Causes.{Causes}
+use Rattle.seq_state.specs.{ℕ, ltb as nat_lt, if◌then◌else◌, List, [], ◌∷◌, Option, Some, None, Call, Retype, Nothing, State, IsRefusal}
+use Rattle.seq_state.specs.{only, to_use, outside, retype_rule, rule_of, Cause, When, Rule, Name, Does, thing_of, HasIndex, Kind, FrameKind}
+use Rattle.seq_state.specs.kernel_rules.specs.{Untype, WaitedFor, Unflushed}
+use Rattle.seq_plans.specs.{declared.causes.Cause.Cause as Asked, declared.causes.Causes.Causes}
 
 -- A cause.
 abbrev pub cause_of : Asked → Cause
-cause_of (asked.When stands refusal) = When stands refusal
-cause_of (asked.WaitedFor thing) = WaitedFor (thing_of thing)
-cause_of (asked.Unflushed thing) = Unflushed (thing_of thing)
+cause_of (Asked.When stands refusal) = When stands refusal
+cause_of (Asked.WaitedFor thing) = WaitedFor (thing_of thing)
+cause_of (Asked.Unflushed thing) = Unflushed (thing_of thing)
 
 -- A list with a cause before it, if there is one.
 abbrev pub with_cause : Option Asked → List Cause → List Cause
@@ -47,10 +32,10 @@ AreFitCauses (cause ∷ causes) = IsFitCause cause × AreFitCauses causes
 
 -- A retype to untyped of a frame that the machine does not have is judged by its range alone.
 abbrev pub retype_beyond : ℕ → ℕ → Rule
-retype_beyond r f = Name r (to_use (only kind.Range)) λ range. Does (outside range f ∷ []) Nothing (Untype f ∷ [])
+retype_beyond r f = Name r (to_use (only Kind.Range)) λ range. Does (outside range f ∷ []) Nothing (Untype f ∷ [])
 
 -- The rule of a call of core c as it is judged.
 abbrev pub judged_rule : State → ℕ → Call → Rule
-judged_rule s c (Retype r f frame_kind.Untyped) =
-    if nat_lt f s.limits.frames then retype_rule s r f frame_kind.Untyped else retype_beyond r f
+judged_rule s c (Retype r f FrameKind.Untyped) =
+    if nat_lt f s.limits.frames then retype_rule s r f FrameKind.Untyped else retype_beyond r f
 judged_rule s c call = rule_of s c call

@@ -1,13 +1,9 @@
 -- How far a look-up goes: to what a core may use itself, or to all that places show, be it removed or not.
-use Rattle.std.specs.Prelude.{ℕ, ◌%◌, ◌&&◌, nat_le, if◌then◌else◌, Option, Some, None}
-use Rattle.spk_nums.specs.Capability.{Capability}
-use Rattle.kernel_rules.specs.State.{Place, Free, Holds, Quiescing, State}
-use Rattle.kernel_rules.specs.Access.{Slot, Named, found, not_found, Target, Under, InRoot}
-use Rattle.kernel_rules.specs.Access.{place_at, usable, reached, linked, slot_in, root_slot}
-use Rattle.seq_plans.specs.declared.reaching.Aim.{Aim}
-use Rattle.seq_plans.specs.declared.reaching.Aim.TheVariants as aim
-use Rattle.seq_plans.specs.declared.reaching.Reach.{Reach}
-use Rattle.seq_plans.specs.declared.reaching.Reach.TheVariants.{Own, Wide}
+use Rattle.seq_state.specs.kernel_rules.specs.{ℕ, ◌%◌, ◌&&◌, leb as nat_le, if◌then◌else◌, Option, Some, None, Capability, Place, Free}
+use Rattle.seq_state.specs.kernel_rules.specs.{Holds, Quiescing, Slot, Named, found, not_found, Target, Under, InRoot, place_at, usable}
+use Rattle.seq_state.specs.kernel_rules.specs.{reached, linked, slot_in, root_slot}
+use Rattle.seq_plans.specs.{declared.reaching.Aim.Aim, declared.reaching.Reach.Reach, declared.reaching.Reach.TheVariants.Own}
+use Rattle.{seq_state.specs.kernel_rules.specs.State.State, seq_plans.specs.declared.reaching.Reach.TheVariants.Wide}
 
 -- What a name has led to.
 abbrev pub named_of : Option Capability → Named
@@ -16,8 +12,8 @@ named_of (Some k) = found k
 
 -- Where a place is asked for, by what the name of its table's root has led to.
 abbrev pub target_of : Aim → Target
-target_of (aim.Under root n) = Under (named_of root) n
-target_of (aim.InRoot root i) = InRoot (named_of root) i
+target_of (Aim.Under root n) = Under (named_of root) n
+target_of (Aim.InRoot root i) = InRoot (named_of root) i
 
 -- The capability that a place shows: what it holds, and what it held where that is quiescing.
 abbrev pub shown_in : Place → Option Capability

@@ -1,21 +1,15 @@
 -- How the look-ups of a plan may be refused, where its names have led to what was looked up.
-use Rattle.std.specs.Prelude.{◌⊎◌, ◌≤◌, ℕ, length, Bool, MatchBool, List, Option, Some, None, is_some, IsFalse}
-use Rattle.spk_nums.specs.declared.replies.Reply.{Reply}
-use Rattle.kernel_rules.specs.State.{State, comp_of}
-use Rattle.kernel_rules.specs.Access.{Named}
-use Rattle.kernel_rules.specs.MemoryCalls.{translation_of}
-use Rattle.kernel_rules.specs.Rules.{Rule, NameMay, VacantMay, HeldMay, MappedMay, OneMay, RuleMay}
-use Rattle.call_plans.specs.declared.plans.Nth.{Nth}
-use Rattle.call_plans.specs.declared.plans.Nth.TheVariants.{First, Second, Third, Fourth}
-use Rattle.call_plans.specs.declared.plans.Name.{Name}
-use Rattle.call_plans.specs.declared.plans.Target.{Target}
-use Rattle.call_plans.specs.declared.plans.Target.TheVariants.{Nowhere, Free, Held, Own}
-use Rattle.call_plans.specs.declared.plans.Plan.{Plan}
-use Rattle.call_plans.specs.Plans.{at_place}
-use Rattle.call_plans.specs.GoesBy.{own_pages, GoesBy, want_of, place_of_spot}
-use Rattle.seq_plans.specs.declared.walking.Looked.{Looked}
-use Rattle.seq_plans.specs.declared.reaching.Reach.TheVariants.{Own as own_reach}
-use Rattle.seq_plans.specs.Walks.{names_in, before, looked, left_of, causes_of}
+use Rattle.seq_state.specs.kernel_rules.specs.{◌⊎◌, ◌≤◌, ℕ, length, Bool, List, Option, Some, None, is_some, IsFalse, Reply, comp_of, Named}
+use Rattle.seq_state.specs.kernel_rules.specs.{translation_of, Rule, NameMay, VacantMay, HeldMay, MappedMay, OneMay, RuleMay}
+use Rattle.call_plans.specs.{at_place, own_pages, want_of, place_of_spot}
+use Rattle.call_plans.specs.{declared.plans.Nth.Nth, declared.plans.Nth.TheVariants.First, declared.plans.Nth.TheVariants.Second}
+use Rattle.call_plans.specs.{declared.plans.Nth.TheVariants.Third, declared.plans.Nth.TheVariants.Fourth, declared.plans.Name.Name}
+use Rattle.call_plans.specs.{declared.plans.Target.Target, declared.plans.Target.TheVariants.Nowhere}
+use Rattle.call_plans.specs.{declared.plans.Target.TheVariants.Free, declared.plans.Target.TheVariants.Held}
+use Rattle.call_plans.specs.{declared.plans.Target.TheVariants.Own, declared.plans.Plan.Plan, GoesBy.GoesBy}
+use Rattle.seq_plans.specs.{declared.walking.Looked.Looked, declared.reaching.Reach.TheVariants.Own as own_reach, Walks.names_in}
+use Rattle.seq_plans.specs.{Walks.before, Walks.looked, Walks.left_of, Walks.causes_of}
+use Rattle.{std.specs.Prelude.MatchBool, seq_state.specs.kernel_rules.specs.State.State}
 
 -- True exactly where P holds.
 abbrev pub Decides : Bool → Type 0 → Type 0

@@ -1,18 +1,12 @@
 -- What a call finds by its plan: all that it looks up, or the first refusal of its look-ups in their order.
-use Rattle.std.specs.Prelude.{◌≡◌, ◌≤◌, ℕ, Bool, true, false, length, Option, Some, None, is_some}
-use Rattle.spk_nums.specs.Capability.{Capability}
-use Rattle.kernel_rules.specs.State.{State, comp_of}
-use Rattle.kernel_rules.specs.MemoryCalls.{translation_of}
-use Rattle.kernel_rules.specs.Rules.{Rule, Judged, Refused, Found, and_then, named, vacant, held, mapped, outcome}
-use Rattle.call_plans.specs.declared.plans.Nth.TheVariants.{First, Second, Third, Fourth}
-use Rattle.call_plans.specs.declared.plans.Name.{Name}
-use Rattle.call_plans.specs.declared.plans.Target.{Target}
-use Rattle.call_plans.specs.declared.plans.Target.TheVariants.{Nowhere, Free, Held, Own}
-use Rattle.call_plans.specs.declared.plans.Plan.{Plan}
-use Rattle.call_plans.specs.Plans.{at_place}
-use Rattle.call_plans.specs.GoesBy.{OnlyDoes, GoesBy, own_pages, want_of, place_of_spot}
-use Rattle.seq_plans.specs.declared.walking.Looked.{Looked}
-use Rattle.seq_plans.specs.Walks.{names_in, nothing, left_of}
+use Rattle.call_plans.specs as low
+use Rattle.seq_state.specs.{◌≡◌, ◌≤◌, ℕ, Bool, true, false, length, Option, Some, None, is_some, Capability, State, comp_of, translation_of}
+use Rattle.seq_state.specs.{Rule, Judged, Refused, Found, and_then, named, vacant, held, mapped, outcome}
+use low.{at_place, OnlyDoes, own_pages, want_of, place_of_spot, declared.plans.Nth.TheVariants.First, declared.plans.Nth.TheVariants.Second}
+use low.{declared.plans.Nth.TheVariants.Third, declared.plans.Nth.TheVariants.Fourth, declared.plans.Name.Name}
+use low.{declared.plans.Target.Target, declared.plans.Target.TheVariants.Nowhere, declared.plans.Target.TheVariants.Free}
+use low.{declared.plans.Target.TheVariants.Held, declared.plans.Target.TheVariants.Own, declared.plans.Plan.Plan, GoesBy.GoesBy}
+use Rattle.seq_plans.specs.{declared.walking.Looked.Looked, Walks.names_in, Walks.nothing, Walks.left_of}
 
 -- The capability to which a name leads core c, where the names before it have led to these; none, where there is no such name.
 abbrev pub named_by : State → ℕ → Looked → Option Name → Judged (Option Capability)

@@ -1,22 +1,15 @@
 -- What a call looks up by its plan, and what is then left of its rule.
-use Rattle.std.specs.Prelude.{ℕ, ◌&&◌, if◌then◌else◌, List, [], ◌∷◌, Option, Some, None}
-use Rattle.std.specs.Option.{option_and_then}
-use Rattle.spk_nums.specs.Capability.{Capability}
-use Rattle.spk_nums.specs.Rights.{has_rights}
-use Rattle.kernel_rules.specs.State.{State, comp_of}
-use Rattle.kernel_rules.specs.Access.{Slot, Named, Want, Under, root_at, place_at, held_in, own}
-use Rattle.kernel_rules.specs.Rules.{Rule, Name as name_rule, Vacant, Held as held_rule, Mapped, Does, Cause, slot_of}
-use Rattle.call_plans.specs.declared.plans.Nth.{Nth}
-use Rattle.call_plans.specs.declared.plans.Nth.TheVariants.{First, Second, Third, Fourth}
-use Rattle.call_plans.specs.declared.plans.Name.{Name}
-use Rattle.call_plans.specs.declared.plans.Target.{Target}
-use Rattle.call_plans.specs.declared.plans.Target.TheVariants.{Nowhere, Free, Held, Own as own_page}
-use Rattle.call_plans.specs.declared.plans.Plan.{Plan}
-use Rattle.call_plans.specs.Plans.{at_place}
-use Rattle.call_plans.specs.GoesBy.{want_of, place_of_spot}
-use Rattle.seq_plans.specs.declared.reaching.Reach.{Reach}
-use Rattle.seq_plans.specs.declared.walking.Looked.{Looked}
-use Rattle.seq_plans.specs.Reaches.{named_of, usable_by, reached_by}
+use Rattle.seq_state.specs.{ℕ, ◌&&◌, if◌then◌else◌, List, [], ◌∷◌, Option, Some, None, option_and_then, Capability, has_rights, State}
+use Rattle.seq_state.specs.{comp_of, Slot, Named, Want, Under, root_at, place_at, held_in, own, Rule, Name as name_rule, Vacant}
+use Rattle.seq_state.specs.{Held as held_rule, Mapped, Does, Cause}
+use Rattle.call_plans.specs.{at_place, want_of, place_of_spot}
+use Rattle.call_plans.specs.{declared.plans.Nth.Nth, declared.plans.Nth.TheVariants.First, declared.plans.Nth.TheVariants.Second}
+use Rattle.call_plans.specs.{declared.plans.Nth.TheVariants.Third, declared.plans.Nth.TheVariants.Fourth, declared.plans.Name.Name}
+use Rattle.call_plans.specs.{declared.plans.Target.Target, declared.plans.Target.TheVariants.Nowhere}
+use Rattle.call_plans.specs.{declared.plans.Target.TheVariants.Free, declared.plans.Target.TheVariants.Held}
+use Rattle.call_plans.specs.{declared.plans.Target.TheVariants.Own as own_page, declared.plans.Plan.Plan}
+use Rattle.seq_plans.specs.{declared.reaching.Reach.Reach, declared.walking.Looked.Looked, Reaches.named_of, Reaches.usable_by}
+use Rattle.{seq_state.specs.kernel_rules.specs.Rules.slot_of, seq_plans.specs.Reaches.reached_by}
 
 -- What the names have led to, in their order.
 abbrev pub names_in : Looked → List Named

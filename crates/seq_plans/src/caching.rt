@@ -1,7 +1,7 @@
 //! The cached translations of a core.
 
 ghost use Rattle.std.specs.Prelude.{◌≡◌, ◌<◌, ◌&&◌, ◌==◌, Some, length, slice_get};
-ghost use Rattle.kernel_rules.specs.MemoryCalls.{translation_of};
+ghost use Rattle.seq_state.specs.kernel_rules.specs.MemoryCalls.{translation_of};
 
 use spk_nums::{FrameNo, PageNo, Translation, Translations};
 

@@ -1,8 +1,8 @@
 //! A call's own causes of refusal, as data.
 
 ghost use Rattle.std.specs.Prelude.{◌≡◌, ◌<◌, [], ◌∷◌, ◌⊎◌};
-ghost use Rattle.kernel_rules.specs.Rules.{CauseMay, OneMay};
-ghost use Rattle.kernel_rules.specs.GracePeriods.{MayWait, MayBeUnflushed};
+ghost use Rattle.seq_state.specs.kernel_rules.specs.Rules.{CauseMay, OneMay};
+ghost use Rattle.seq_state.specs.kernel_rules.specs.GracePeriods.{MayWait, MayBeUnflushed};
 ghost use Rattle.seq_state.specs.Parts.{thing_of};
 ghost use Rattle.seq_state.specs.Maps.{state_of};
 ghost use Rattle.seq_state.specs.Representation.{HasIndex};
@@ -293,9 +293,9 @@ pub fn one_may(k: &SeqKernel, core: CoreNo, causes: &Causes, refusal: &Reply) ->
 }
 
 ghost use Rattle.std.specs.Prelude.{IsTrue};
-ghost use Rattle.kernel_rules.specs.Access.{found};
-ghost use Rattle.kernel_rules.specs.CapabilityCalls.{has_frame, has_frames, beyond, outside};
+ghost use Rattle.seq_state.specs.kernel_rules.specs.Access.{found};
+ghost use Rattle.seq_state.specs.kernel_rules.specs.CapabilityCalls.{has_frame, has_frames, beyond, outside};
 ghost use Rattle.seq_plans.specs.Reaches.{named_of};
-ghost use Rattle.kernel_rules.specs.Laws.{IsRefusal};
-ghost use Rattle.kernel_rules.specs.Rules.{WaitedMay, UnflushedMay, refusal_of, first_cause};
+ghost use Rattle.seq_state.specs.kernel_rules.specs.Laws.{IsRefusal};
+ghost use Rattle.seq_state.specs.kernel_rules.specs.Rules.{WaitedMay, UnflushedMay, refusal_of, first_cause};
 ghost use Rattle.seq_plans.specs.OwnCauses.{IsFitCause};

@@ -1,7 +1,7 @@
 //! How far a look-up goes.
 
 ghost use Rattle.std.specs.Prelude.{◌≡◌, ◌<◌, Some};
-ghost use Rattle.kernel_rules.specs.Access.{own, place_at, linked, root_at, Under, InRoot};
+ghost use Rattle.seq_state.specs.kernel_rules.specs.Access.{own, place_at, linked, root_at, Under, InRoot};
 ghost use Rattle.seq_state.specs.Parts.{place_held};
 ghost use Rattle.seq_state.specs.Maps.{state_of};
 ghost use Rattle.seq_plans.specs.Reaches.{named_of, target_of, shown_in, shown_slot, usable_by, reached_by};
@@ -177,4 +177,4 @@ pub(crate) fn own_page(k: &SeqKernel, core: CoreNo, page: PageNo) -> Aim
     }
 }
 
-ghost use Rattle.kernel_rules.specs.State.{comp_of};
+ghost use Rattle.seq_state.specs.kernel_rules.specs.State.{comp_of};

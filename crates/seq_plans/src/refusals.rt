@@ -3,10 +3,10 @@
 //! A refusal may come of each name, and of the target, wherever its own cause stands, whatever the other look-ups find.
 
 ghost use Rattle.std.specs.Prelude.{◌≡◌, ◌<◌, ◌≤◌, ◌⊎◌, IsTrue, IsFalse, is_some};
-ghost use Rattle.kernel_rules.specs.Access.{root_at, has_no_slot, holds_link, Under};
-ghost use Rattle.kernel_rules.specs.Rules.{ReachesNone, ReachesHeld, ReachesOther, ReachesLacking, NameMay, VacantMay, HeldMay, MappedMay};
-ghost use Rattle.kernel_rules.specs.MemoryCalls.{translation_of};
-ghost use Rattle.kernel_rules.specs.State.{comp_of};
+ghost use Rattle.seq_state.specs.kernel_rules.specs.Access.{root_at, has_no_slot, holds_link, Under};
+ghost use Rattle.seq_state.specs.kernel_rules.specs.Rules.{ReachesNone, ReachesHeld, ReachesOther, ReachesLacking, NameMay, VacantMay, HeldMay, MappedMay};
+ghost use Rattle.seq_state.specs.kernel_rules.specs.MemoryCalls.{translation_of};
+ghost use Rattle.seq_state.specs.kernel_rules.specs.State.{comp_of};
 ghost use Rattle.call_plans.specs.GoesBy.{want_of};
 ghost use Rattle.seq_state.specs.Parts.{place_held};
 ghost use Rattle.seq_state.specs.Maps.{state_of};
@@ -273,7 +273,7 @@ pub fn looks_may(k: &SeqKernel, core: CoreNo, plan: &Plan, looked: &Looked, refu
 ghost use Rattle.std.specs.Prelude.{IsSomeAnd};
 ghost use Rattle.std.specs.Option.{option_and_then};
 ghost use Rattle.spk_nums.specs.declared.replies.Reply.TheVariants.{Fault};
-ghost use Rattle.kernel_rules.specs.State.{PlaceOf};
-ghost use Rattle.kernel_rules.specs.Access.{place_at, held_in, root_slot, usable, reached};
-ghost use Rattle.kernel_rules.specs.GracePeriods.{MayWait, MayBeUnflushed};
+ghost use Rattle.seq_state.specs.kernel_rules.specs.State.{PlaceOf};
+ghost use Rattle.seq_state.specs.kernel_rules.specs.Access.{place_at, held_in, root_slot, usable, reached};
+ghost use Rattle.seq_state.specs.kernel_rules.specs.GracePeriods.{MayWait, MayBeUnflushed};
 ghost use Rattle.seq_plans.specs.Reaches.{named_of};

@@ -4,9 +4,9 @@
 //! has found those before it, and nothing is looked up twice.
 
 ghost use Rattle.std.specs.Prelude.{◌≡◌, ◌<◌};
-ghost use Rattle.kernel_rules.specs.Access.{found};
-ghost use Rattle.kernel_rules.specs.CapabilityCalls.{leaf_for};
-ghost use Rattle.kernel_rules.specs.Rules.{vacant, held};
+ghost use Rattle.seq_state.specs.kernel_rules.specs.Access.{found};
+ghost use Rattle.seq_state.specs.kernel_rules.specs.CapabilityCalls.{leaf_for};
+ghost use Rattle.seq_state.specs.kernel_rules.specs.Rules.{vacant, held};
 ghost use Rattle.call_plans.specs.GoesBy.{wants};
 ghost use Rattle.call_plans.specs.Plans.{at_place};
 ghost use Rattle.seq_state.specs.Maps.{state_of};

@@ -1,7 +1,7 @@
 //! Replies told apart.
 
 ghost use Rattle.std.specs.Prelude.{◌≡◌};
-ghost use Rattle.kernel_rules.specs.Laws.{IsRefusal};
+ghost use Rattle.seq_state.specs.kernel_rules.specs.Laws.{IsRefusal};
 ghost use Rattle.seq_plans.specs.Refusals.{Decides};
 ghost use Rattle.seq_plans.specs.ReplyNumbers.{reply_number, number_told};
 

@@ -1,7 +1,7 @@
 //! What a call looks up by its plan.
 
 ghost use Rattle.std.specs.Prelude.{◌≡◌, ◌<◌, Option};
-ghost use Rattle.kernel_rules.specs.Access.{held_in};
+ghost use Rattle.seq_state.specs.kernel_rules.specs.Access.{held_in};
 ghost use Rattle.call_plans.specs.GoesBy.{wants, want_of, earlier, place_of_spot};
 ghost use Rattle.seq_state.specs.Parts.{place_held};
 ghost use Rattle.seq_state.specs.Maps.{state_of};
@@ -258,7 +258,7 @@ pub fn look_up(k: &SeqKernel, core: CoreNo, plan: &Plan, reach: Reach) -> Looked
 }
 
 ghost use Rattle.std.specs.Option.{option_and_then};
-ghost use Rattle.kernel_rules.specs.Access.{only, place_at};
-ghost use Rattle.kernel_rules.specs.CapabilityCalls.{leaf_for};
+ghost use Rattle.seq_state.specs.kernel_rules.specs.Access.{only, place_at};
+ghost use Rattle.seq_state.specs.kernel_rules.specs.CapabilityCalls.{leaf_for};
 ghost use Rattle.call_plans.specs.Plans.{at_place};
 ghost use Rattle.seq_plans.specs.Reaches.{usable_by};

@@ -1,23 +1,15 @@
 -- The references to each frame are counted as they come and go.
-use Rattle.std.proofs.Common.{◌≡◌, ◌≢◌, ◌⊎◌, inl, inr, ◌^◌, Bool, true, false, ℕ, zero, suc, ◌+◌, ◌*◌, ◌<◌, ◌≤◌, ◌==◌, cond, refl, sym}
-use Rattle.std.proofs.Common.{◌∙◌, ap, arith}
-use Rattle.std.proofs.Common.{List, [], ◌∷◌, length, set, drop, Option, Some, None, IsSomeAnd, slice_get, unwrap_or}
-use Rattle.std.proofs.lemmas.Bool.{cases_eq, eq-eqb, ne_eqb}
-use Rattle.std.proofs.lemmas.Grind.{get_or-set_at}
-use Rattle.std.proofs.lemmas.Option.{none-some}
-use Rattle.std.proofs.lemmas.List.{get_or-set_other, length-set}
-use Rattle.spk_nums.specs.declared.kinds.Kind.{Kind}
+use Rattle.kernel_invariant.specs.kernel_rules.proofs.{◌≡◌, ◌≢◌, ◌⊎◌, inl, inr, ◌^◌, Bool, true, false, ℕ, zero, suc, ◌+◌, ◌*◌, ◌<◌, ◌≤◌}
+use Rattle.kernel_invariant.specs.kernel_rules.proofs.{◌==◌, cond, refl, sym, ◌∙◌, ap, arith, List, [], ◌∷◌, length, set, drop, Option}
+use Rattle.kernel_invariant.specs.kernel_rules.proofs.{Some, None, IsSomeAnd, slice_get, unwrap_or, eq-eqb, ne_eqb, get_or-set_other}
+use Rattle.kernel_invariant.specs.kernel_rules.proofs.{length-set, Kind, Thing, Grace, with_core, with_grace, named_by, place_names}
+use Rattle.kernel_invariant.specs.kernel_rules.proofs.{frame_names, number_names, core_names, sum_below, times, node_refs, refs}
+use Rattle.seq_state.specs.{State, frame_of, at, count_at, NamesFew, IsWhole, state_of, frame_or_untyped, SameState}
+use Rattle.std.proofs.{lemmas.Bool.cases_eq, lemmas.Grind.get_or-set_at, lemmas.Option.none-some}
+use Rattle.{kernel_invariant.proofs.times_cons, kernel_invariant.proofs.grace_refs, kernel_invariant.proofs.Refs.core_refs}
+use Rattle.{seq_state.specs.declared.parts.Frame.Frame, seq_state.specs.Maps.Maps, seq_state.proofs.Same.same_refs}
 use Rattle.spk_nums.specs.declared.kinds.Kind.TheVariants as kind
-use Rattle.kernel_rules.specs.State as state
-use Rattle.kernel_rules.specs.State.{State, Thing, Grace, with_core, with_grace}
-use Rattle.kernel_rules.specs.References.{named_by, place_names, frame_names, number_names, core_names, sum_below, times, node_refs, refs}
-use Rattle.kernel_invariant.proofs.Sums.{times_cons}
-use Rattle.kernel_invariant.proofs.Refs.{core_refs, grace_refs}
-use Rattle.seq_state.specs.declared.parts.Frame.{Frame}
-use Rattle.seq_state.specs.Parts.{frame_of}
-use Rattle.seq_state.specs.Maps.{Maps, at, count_at, NamesFew, IsWhole, state_of, frame_or_untyped}
-use Rattle.seq_state.specs.Representation.{SameState}
-use Rattle.seq_state.proofs.Same.{same_refs}
+use Rattle.kernel_invariant.specs.kernel_rules.specs.State as state
 
 -- ---- names
 

@@ -1,6 +1,5 @@
 -- Sums over the numbers below a bound, term by term.
-use Rattle.std.proofs.Common.{◌≡◌, ℕ, zero, suc, ◌+◌, ◌*◌, refl, ap, rules, arith}
-use Rattle.kernel_rules.specs.References.{sum_below}
+use Rattle.kernel_invariant.specs.kernel_rules.proofs.{◌≡◌, ℕ, zero, suc, ◌+◌, ◌*◌, refl, ap, rules, arith, sum_below}
 
 pub sum_none : (f : ℕ → ℕ) → 0 ≡ sum_below f 0
 unfolding sum_below

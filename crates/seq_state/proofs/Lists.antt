@@ -1,7 +1,6 @@
 -- What a list has at a position, after a write and after a push.
-use Rattle.std.proofs.Common.{◌≡◌, ◌≢◌, ℕ, zero, suc, ◌+◌, ◌<◌, refl, ◌∙◌, ap, arith}
-use Rattle.std.proofs.Common.{List, [], ◌∷◌, ◌++◌, length, set, get_or, Some, IsSome, slice_get}
-use Rattle.std.proofs.lemmas.Bool.{false≢true}
+use Rattle.kernel_invariant.specs.kernel_rules.proofs.{◌≡◌, ◌≢◌, ℕ, zero, suc, ◌+◌, ◌<◌, refl, ◌∙◌, ap, arith, List, [], ◌∷◌, ◌++◌, length}
+use Rattle.kernel_invariant.specs.kernel_rules.proofs.{set, get_or, Some, IsSome, slice_get, false≢true}
 use Rattle.std.proofs.lemmas.Option.{slice_get_read}
 
 -- A position that has an item lies within the list.

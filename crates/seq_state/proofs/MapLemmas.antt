@@ -1,21 +1,14 @@
 -- Reading and changing the maps is reading and changing the state that they stand for.
-use Rattle.std.proofs.Common.{◌≡◌, ◌≢◌, inl, inr, ℕ, ◌+◌, ◌*◌, ◌<◌, true, false, ◌&&◌, ◌==◌, nat_lt}
-use Rattle.std.proofs.Common.{if◌then◌else◌, refl, sym, ◌∙◌, ap, arith, List, Option, Some, None, unwrap_or}
-use Rattle.std.proofs.lemmas.Bool.{cases_eq, cases_lt, lt-ltb, le-ltb, eq-eqb, ne_eqb}
-use Rattle.kernel_rules.specs.State as state
-use Rattle.kernel_rules.specs.State.{put, with_place, with_frame, with_number, with_core, State, Limits}
-use Rattle.kernel_rules.specs.GracePeriods.{same_thing}
-use Rattle.seq_state.specs.declared.parts.Place.{Place}
-use Rattle.seq_state.specs.declared.parts.Frame.{Frame}
-use Rattle.seq_state.specs.declared.parts.Liveness.{Liveness}
-use Rattle.seq_state.specs.declared.parts.Core.{Core}
-use Rattle.seq_state.specs.declared.times.Period.{Period}
-use Rattle.kernel_rules.proofs.Within.{put_same, put_other}
-use Rattle.seq_state.specs.Parts.{place_held, frame_of, number_of, core_of}
-use Rattle.seq_state.specs.Times.{no_period, grace_by}
-use Rattle.seq_state.specs.Maps.{Maps, at, at_place, state_of, place_or_free, frame_or_untyped}
-use Rattle.seq_state.specs.Maps.{number_or_unused, core_or_none, period_or_none, is_inside, grace_from, period_of, grace_in}
-use Rattle.seq_state.specs.Representation.{with_grace_of}
+use Rattle.seq_state.specs.{◌≡◌, ◌≢◌, ℕ, ◌+◌, ◌*◌, ◌<◌, true, false, ◌&&◌, ◌==◌, ltb as nat_lt, if◌then◌else◌, refl, List, Option, Some}
+use Rattle.seq_state.specs.{None, put, with_place, with_frame, with_core, State, Limits, same_thing, place_held, frame_of, number_of}
+use Rattle.seq_state.specs.{core_of, no_period, at, at_place, state_of, place_or_free, frame_or_untyped, number_or_unused, core_or_none}
+use Rattle.seq_state.specs.{period_or_none, is_inside, grace_from, period_of, with_grace_of}
+use Rattle.kernel_invariant.specs.kernel_rules.proofs.{inl, inr, sym, ◌∙◌, ap, arith, unwrap_or, lt-ltb, le-ltb, eq-eqb, ne_eqb}
+use Rattle.kernel_invariant.specs.kernel_rules.proofs.{with_number, put_same, put_other}
+use Rattle.std.proofs.lemmas.Bool.{cases_eq, cases_lt}
+use Rattle.seq_state.specs.{declared.parts.Place.Place, declared.parts.Frame.Frame, declared.parts.Liveness.Liveness}
+use Rattle.seq_state.specs.{declared.parts.Core.Core, declared.times.Period.Period, Times.grace_by, Maps.Maps, Maps.grace_in}
+use Rattle.kernel_invariant.specs.kernel_rules.specs.State as state
 
 -- A map is another with a value at one key.
 pub record IsWritten {X : Type 0} (old new : List X) (k : ℕ) (x : X) : Type 0 where

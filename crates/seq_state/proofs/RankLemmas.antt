@@ -1,17 +1,11 @@
 -- Where each time becomes its rank among what the cores did last, the state stays the same.
-use Rattle.std.proofs.Common.{◌≡◌, inl, inr, ℕ, zero, suc, ◌+◌, ◌*◌, ◌<◌, ◌≤◌, ◌&&◌, cond, nat_lt, refl, sym, ◌∙◌, ap, subst, arith}
-use Rattle.std.proofs.Common.{List, length, Option, Some, None, IsSomeAnd}
-use Rattle.std.proofs.lemmas.Bool.{cases_lt, lt-ltb, le-ltb}
-use Rattle.kernel_rules.specs.State.{Thing, PlaceOf, FrameOf, NumberOf}
-use Rattle.kernel_rules.specs.References.{sum_below}
-use Rattle.seq_state.specs.declared.times.Times.{Times}
-use Rattle.seq_state.specs.declared.times.Period.{Period}
-use Rattle.seq_state.specs.Times.{times_at, TimesFit, before, rank, ranked, ranked_period}
-use Rattle.seq_state.specs.Maps.{Maps, at, HasBegun, IsWhole, state_of, period_or_none, is_inside, grace_from, period_of}
-use Rattle.seq_state.specs.Passing.{Becomes}
-use Rattle.seq_state.specs.Representation.{IsThing, SameGrace, SameState}
-use Rattle.seq_state.proofs.CountLemmas.{grace_counts}
-use Rattle.seq_state.proofs.MapLemmas.{at_place_is}
+use Rattle.seq_state.specs.{◌≡◌, ℕ, zero, suc, ◌+◌, ◌*◌, ◌<◌, ◌≤◌, ◌&&◌, cond, ltb as nat_lt, refl, List, length, Option, Some, None}
+use Rattle.seq_state.specs.{IsSomeAnd, PlaceOf, FrameOf, NumberOf, sum_below, times_at, TimesFit, before, ranked, at, HasBegun, IsWhole}
+use Rattle.seq_state.specs.{state_of, period_or_none, is_inside, grace_from, period_of, IsThing, SameGrace, SameState}
+use Rattle.kernel_invariant.specs.kernel_rules.proofs.{inl, inr, sym, ◌∙◌, ap, subst, arith, lt-ltb, le-ltb, Thing}
+use Rattle.seq_state.specs.{declared.times.Times.Times, declared.times.Period.Period, Times.rank, Times.ranked_period, Maps.Maps}
+use Rattle.seq_state.proofs.{CountLemmas.grace_counts, MapLemmas.at_place_is}
+use Rattle.{std.proofs.lemmas.Bool.cases_lt, seq_state.specs.Passing.Becomes}
 
 -- ---- sums
 

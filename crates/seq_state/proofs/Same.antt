@@ -1,11 +1,9 @@
 -- States that are one for all that a machine has: changes keep them so, and references are counted alike.
-use Rattle.std.proofs.Common.{◌≡◌, ℕ, ◌+◌, ◌<◌, ◌==◌, Bool, true, false, refl, sym, ◌∙◌, ap, subst, if◌then◌else◌}
-use Rattle.std.proofs.lemmas.Bool.{eqb-true}
-use Rattle.kernel_rules.specs.State.{put, Place, Frame, Liveness, Core, Grace, Thing, Limits}
-use Rattle.kernel_rules.specs.State.{State, with_place, with_frame, with_number, with_core}
-use Rattle.kernel_rules.specs.GracePeriods.{same_thing}
-use Rattle.kernel_rules.specs.References.{place_names, frame_names, number_names, core_names, sum_below, times, node_refs, refs}
-use Rattle.seq_state.specs.Representation.{IsThing, SameGrace, SameState, with_grace_of}
+use Rattle.kernel_invariant.specs.kernel_rules.proofs.{◌≡◌, ℕ, ◌+◌, ◌<◌, ◌==◌, Bool, true, false, refl, sym, ◌∙◌, ap, subst, if◌then◌else◌}
+use Rattle.kernel_invariant.specs.kernel_rules.proofs.{eqb-true, put, Place, Frame, Liveness, Core, Grace, Thing, Limits, with_place}
+use Rattle.kernel_invariant.specs.kernel_rules.proofs.{with_frame, with_number, with_core, same_thing, place_names, frame_names}
+use Rattle.kernel_invariant.specs.kernel_rules.proofs.{number_names, core_names, sum_below, times, node_refs, refs}
+use Rattle.seq_state.specs.{State, IsThing, SameGrace, SameState, with_grace_of}
 use Rattle.kernel_invariant.proofs.Sums.{sum_same}
 
 pub same_grace_by : (n : ℕ) (g h : Grace) → g ≡ h → SameGrace n g h

@@ -1,18 +1,12 @@
 -- A change of the maps is that change of the state, for all that the machine has.
-use Rattle.std.proofs.Common.{◌≡◌, ◌≢◌, inl, inr, ℕ, ◌+◌, ◌*◌, ◌<◌, ◌≤◌, ◌&&◌, ◌==◌}
-use Rattle.std.proofs.Common.{if◌then◌else◌, refl, sym, ◌∙◌, ap, subst, arith, List, Option, Some, None, IsSome, IsSomeAnd}
-use Rattle.std.proofs.lemmas.Bool.{cases_eq, cases_lt, ne_eqb}
-use Rattle.kernel_rules.specs.State as state
-use Rattle.kernel_rules.specs.State.{put, with_place, with_frame, with_number, Thing, PlaceOf, FrameOf, NumberOf}
-use Rattle.kernel_rules.specs.GracePeriods.{same_thing}
-use Rattle.seq_state.specs.declared.times.Period.{Period}
-use Rattle.seq_state.specs.Maps.{Maps, at, at_place, IsWhole, state_of, place_or_free}
-use Rattle.seq_state.specs.Maps.{HasAll, frame_or_untyped, number_or_unused, grace_from, grace_in}
-use Rattle.seq_state.specs.Representation.{IsThing, with_grace_of, SameState}
-use Rattle.seq_state.proofs.MapLemmas.{IsWritten, graced, at_place_is}
-use Rattle.seq_state.proofs.MapLemmas.{place_graces_written, frame_graces_written, number_graces_written}
-use Rattle.kernel_rules.proofs.Within.{put_other}
-use Rattle.seq_state.proofs.Same.{same_by, same_grace_by}
+use Rattle.seq_state.specs.{◌≡◌, ◌≢◌, ℕ, ◌+◌, ◌*◌, ◌<◌, ◌≤◌, ◌&&◌, ◌==◌, if◌then◌else◌, refl, List, Option, Some, None, IsSome, IsSomeAnd}
+use Rattle.seq_state.specs.{put, with_place, with_frame, PlaceOf, FrameOf, NumberOf, same_thing, at, at_place, IsWhole, state_of}
+use Rattle.seq_state.specs.{place_or_free, HasAll, frame_or_untyped, number_or_unused, grace_from, IsThing, with_grace_of, SameState}
+use Rattle.kernel_invariant.specs.kernel_rules.proofs.{inl, inr, sym, ◌∙◌, ap, subst, arith, ne_eqb, with_number, Thing, put_other}
+use Rattle.seq_state.proofs.MapLemmas.{IsWritten, graced, at_place_is, place_graces_written, frame_graces_written, number_graces_written}
+use Rattle.{std.proofs.lemmas.Bool.cases_eq, std.proofs.lemmas.Bool.cases_lt, seq_state.specs.declared.times.Period.Period}
+use Rattle.{seq_state.specs.Maps.Maps, seq_state.specs.Maps.grace_in, seq_state.proofs.Same.same_by, seq_state.proofs.Same.same_grace_by}
+use Rattle.kernel_invariant.specs.kernel_rules.specs.State as state
 
 -- A map is another with a value at a key, where that key stands.
 pub record IsSet {X : Type 0} (old new : List X) (k : ℕ) (x : X) : Type 0 where

@@ -1,23 +1,17 @@
 -- A part that is set leaves the maps whole, its references counted anew.
-use Rattle.std.proofs.Common.{◌≡◌, ℕ, ◌+◌, ◌*◌, ◌^◌, ◌<◌, ◌≤◌, refl, sym, ◌∙◌, ap, subst, arith, List, length, Some, IsSome}
-use Rattle.std.proofs.Common.{inl, inr}
-use Rattle.std.proofs.lemmas.Bool.{cases_eq}
-use Rattle.kernel_rules.specs.State as state
-use Rattle.kernel_rules.specs.State.{State, with_place, with_frame, with_number, with_core}
-use Rattle.kernel_rules.specs.References.{place_names, frame_names, number_names, core_names, times, refs}
-use Rattle.kernel_invariant.proofs.Sums.{sum_term}
-use Rattle.kernel_invariant.proofs.Refs.{place_refs, frame_refs, number_refs, core_refs}
-use Rattle.seq_state.specs.declared.parts.Place.{Place}
-use Rattle.seq_state.specs.declared.parts.Frame.{Frame}
-use Rattle.seq_state.specs.declared.parts.Liveness.{Liveness}
-use Rattle.seq_state.specs.declared.parts.Core.{Core}
-use Rattle.seq_state.specs.declared.times.Period.{Period}
-use Rattle.seq_state.specs.Parts.{place_held, frame_of, number_of, core_of}
-use Rattle.seq_state.specs.Maps.{Maps, at, count_at, HasKeys, NamesFew, HasBegun, IsWhole, is_inside, state_of}
-use Rattle.seq_state.specs.Maps.{place_or_free, frame_or_untyped, number_or_unused}
+use Rattle.seq_state.specs.{◌≡◌, ℕ, ◌+◌, ◌*◌, ◌^◌, ◌<◌, ◌≤◌, refl, List, length, Some, IsSome, State, with_place, with_frame, with_core}
+use Rattle.seq_state.specs.{place_names, frame_names, number_names, core_names, refs, place_held, frame_of, number_of, core_of, at}
+use Rattle.seq_state.specs.{count_at, HasKeys, NamesFew, HasBegun, IsWhole, is_inside, state_of, place_or_free, frame_or_untyped}
+use Rattle.kernel_invariant.specs.kernel_rules.proofs.{sym, ◌∙◌, ap, subst, arith, inl, inr, with_number, times}
+use Rattle.kernel_invariant.proofs.{place_refs, frame_refs, number_refs}
+use Rattle.kernel_invariant.proofs.{Sums.sum_term, Refs.core_refs}
+use Rattle.seq_state.specs.{declared.parts.Place.Place, declared.parts.Frame.Frame, declared.parts.Liveness.Liveness}
+use Rattle.seq_state.specs.{declared.parts.Core.Core, declared.times.Period.Period, Maps.Maps}
 use Rattle.seq_state.proofs.MapLemmas.{IsWritten, at_place_is, places_written, frames_written, numbers_written, cores_written}
 use Rattle.seq_state.proofs.SetLemmas.{IsSet, all_set, place_graces_set, frame_graces_set, number_graces_set}
 use Rattle.seq_state.proofs.CountLemmas.{some_left, refs_most, grace_counts}
+use Rattle.{seq_state.specs.number_or_unused, std.proofs.lemmas.Bool.cases_eq}
+use Rattle.kernel_invariant.specs.kernel_rules.specs.State as state
 
 -- What was named is named no more, and what is named now is.
 pub record Recounted (t : Maps) (c : List ℕ) (old new : List ℕ) : Type 0 where

@@ -1,13 +1,10 @@
 -- The cells of a stack.
-use Rattle.std.proofs.Common.{◌≡◌, ℕ, suc, ◌+◌, ◌-◌, ◌≤◌, List, [], ◌∷◌, ◌++◌, length}
-use Rattle.std.proofs.Common.{take, drop, replicate, reverse, refl, sym, ap, ◌∙◌, arith}
-use Rattle.std.specs.Prelude.{slice_set}
-use Rattle.std.proofs.lemmas.List.{drop-set, length-set, length-reverse, reverse-append}
-use Rattle.spk_nums.specs.Listed.{IsListed, length-listed}
-use Rattle.kernel_rules.specs.References.{times}
-use Rattle.kernel_invariant.proofs.Sums.{times_cons, times_append}
-use Rattle.seq_state.specs.declared.stack.Stack.TheInside.{Inside}
-use Rattle.seq_state.specs.Stacks.{stacked, IsStack}
+use Rattle.kernel_invariant.specs.kernel_rules.proofs.{◌≡◌, ℕ, suc, ◌+◌, ◌-◌, ◌≤◌, List, [], ◌∷◌, ◌++◌, length, take, drop, replicate}
+use Rattle.kernel_invariant.specs.kernel_rules.proofs.{reverse, refl, sym, ap, ◌∙◌, arith, set as slice_set, length-set, length-reverse}
+use Rattle.seq_state.specs.{declared.stack.Stack.TheInside.Inside, Stacks.stacked, Stacks.IsStack}
+use Rattle.{kernel_invariant.specs.kernel_rules.proofs.reverse-append, kernel_invariant.specs.kernel_rules.proofs.times}
+use Rattle.{std.proofs.lemmas.List.drop-set, spk_nums.specs.Listed.IsListed, spk_nums.specs.Listed.length-listed}
+use Rattle.{kernel_invariant.proofs.Sums.times_cons, kernel_invariant.proofs.Sums.times_append}
 
 -- A blank in the last cell that holds an item leaves the cells after it blank.
 pub removed : {A : Type 0} (blank : A) (room len at : ℕ) (cells : List A) → at + 1 ≡ len → IsListed blank room len cells

@@ -1,32 +1,18 @@
 -- The maps of the start stand for the start state.
-use Rattle.std.proofs.Common.{◌≡◌, ◌≢◌, inl, inr, ℕ, zero, suc, ◌+◌, ◌*◌, ◌/◌, ◌%◌, ◌<◌, ◌≤◌, ◌-◌, ◌==◌, nat_lt, Bool, true, false}
-use Rattle.std.proofs.Common.{if◌then◌else◌}
-use Rattle.std.proofs.Common.{refl, sym, ◌∙◌, ap, subst, arith, slice_get, length, replicate, List, [], ◌∷◌, Option, Some, None, IsSomeAnd}
-use Rattle.std.proofs.lemmas.Bool.{cases_eq, lt-ltb}
-use Rattle.std.proofs.lemmas.List.{get_or-replicate}
-use Rattle.spk_nums.specs.Setting.{Setting, IsSetting}
-use Rattle.kernel_rules.specs.State.{Thing, PlaceOf, FrameOf, NumberOf, Limits}
-use Rattle.kernel_rules.specs.State.{Kernel, Table, Leaf, Pages, Comp, Thread, Tcap, Untyped}
-use Rattle.kernel_rules.specs.References.{place_names, frame_names, number_names, core_names, sum_below, times, node_refs, refs}
-use Rattle.kernel_rules.specs.Start.{start_comp, granted, start, start_place, start_frame, start_number, start_core, no_grace}
-use Rattle.seq_state.specs.Parts.{place_held, frame_of, number_of, core_of}
-use Rattle.seq_state.specs.declared.parts.Place.{Place}
-use Rattle.seq_state.specs.declared.parts.Frame.{Frame}
-use Rattle.seq_state.specs.declared.parts.Liveness.{Liveness}
-use Rattle.seq_state.specs.declared.parts.Core.{Core}
-use Rattle.seq_state.specs.declared.times.Times.{Times}
-use Rattle.seq_state.specs.declared.times.Period.{Period}
-use Rattle.seq_state.specs.Counted.{counted_at, IsCounted}
-use Rattle.seq_state.specs.Times.{no_times, no_period, times_at, TimesFit}
-use Rattle.seq_state.specs.Maps.{Maps, at, at_place, count_at, HasKeys, HasAll, HasBegun, NamesFew, LimitsFit, IsWhole, state_of}
-use Rattle.seq_state.specs.Maps.{place_or_free, frame_or_untyped}
-use Rattle.seq_state.specs.Maps.{number_or_unused, core_or_none, period_or_none, period_of, grace_from}
-use Rattle.seq_state.specs.Representation.{IsThing, SameGrace, SameState}
-use Rattle.seq_state.proofs.MapLemmas.{at_place_is}
-use Rattle.seq_state.proofs.SetLemmas.{stands}
-use Rattle.seq_state.proofs.TimeLemmas.{none_is}
-use Rattle.seq_state.proofs.Counting.{sum_rows}
-use Rattle.kernel_invariant.proofs.Sums.{sum_same}
+use Rattle.seq_state.specs as low
+use low.{◌≡◌, ◌≢◌, ℕ, zero, suc, ◌+◌, ◌*◌, ◌%◌, ◌<◌, ◌≤◌, ◌-◌, ◌==◌, ltb as nat_lt, Bool, true, false, if◌then◌else◌, refl, slice_get}
+use low.{length, List, [], ◌∷◌, Option, Some, None, IsSomeAnd, Setting, IsSetting, PlaceOf, FrameOf, NumberOf, Limits, Table, Leaf, Pages}
+use low.{Comp, Thread, Tcap, Untyped, place_names, frame_names, number_names, core_names, sum_below, node_refs, refs, no_grace, place_held}
+use low.{frame_of, number_of, core_of, no_times, no_period, times_at, TimesFit, at, at_place, count_at, HasKeys, HasAll, HasBegun, NamesFew}
+use low.{IsWhole, state_of, place_or_free, frame_or_untyped, number_or_unused, core_or_none, period_or_none, period_of, grace_from, IsThing}
+use Rattle.kernel_invariant.specs.kernel_rules.proofs.{inl, inr, ◌/◌, sym, ◌∙◌, ap, subst, arith, replicate, lt-ltb, Thing, Kernel, times}
+use Rattle.kernel_invariant.specs.kernel_rules.proofs.{granted, start, start_place, start_frame, start_number}
+use low.{declared.parts.Place.Place, declared.parts.Frame.Frame, declared.parts.Liveness.Liveness, declared.parts.Core.Core}
+use low.{declared.times.Times.Times, declared.times.Period.Period, Counted.counted_at, Counted.IsCounted, Maps.Maps, Maps.LimitsFit}
+use Rattle.seq_state.proofs.{MapLemmas.at_place_is, SetLemmas.stands, TimeLemmas.none_is, Counting.sum_rows}
+use low.{SameGrace, SameState}
+use Rattle.{kernel_invariant.specs.kernel_rules.specs.start_comp, kernel_invariant.specs.kernel_rules.specs.start_core}
+use Rattle.{std.proofs.lemmas.Bool.cases_eq, std.proofs.lemmas.List.get_or-replicate, kernel_invariant.proofs.Sums.sum_same}
 
 -- One key more.
 pub all_more : {X : Type 0} (P : ℕ → X → Type 0) (old new : List X) (n : ℕ) (x : X) → at new n ≡ Some x

@@ -1,28 +1,18 @@
 -- What a core does by the clock is that change of all grace periods, for all that the machine has.
-use Rattle.std.proofs.Common.{◌≡◌, ◌≢◌, inl, inr, ℕ, ◌+◌, ◌*◌, ◌<◌, ◌≤◌, Bool, true, false, ◌&&◌, ◌==◌, nat_lt}
-use Rattle.std.proofs.Common.{if◌then◌else◌, refl, sym, ◌∙◌, ap, subst, arith, List, [], length, set, get_or, Option, Some, None}
-use Rattle.std.proofs.Common.{IsSome, IsSomeAnd}
-use Rattle.std.proofs.Common.{get_or-set_same}
-use Rattle.std.proofs.lemmas.List.{get_or-set_other, length-set}
-use Rattle.std.proofs.lemmas.Bool.{cases_eq, cases_lt, eq-eqb, ne_eqb, lt-ltb, le-ltb}
-use Rattle.kernel_rules.specs.State.{Grace, Thing, PlaceOf, FrameOf, NumberOf, State, put, with_core, with_grace}
-use Rattle.kernel_rules.specs.State as state
-use Rattle.kernel_rules.specs.GracePeriods.{passed, entered, returned, flushed}
-use Rattle.kernel_rules.proofs.Within.{put_same, put_other}
-use Rattle.seq_state.specs.declared.parts.Core.{Core}
-use Rattle.seq_state.specs.declared.times.Times.{Times}
-use Rattle.seq_state.specs.declared.times.Period.{Period}
-use Rattle.seq_state.specs.Parts.{core_of}
-use Rattle.seq_state.specs.Times.{no_times, no_period, times_at, TimesFit, enters, returns, flushes}
-use Rattle.seq_state.specs.Maps.{Maps, at, count_at, HasKeys, HasAll, HasBegun, IsWhole, state_of, core_or_none, period_or_none}
-use Rattle.seq_state.specs.Maps.{is_inside, grace_from, period_of}
-use Rattle.seq_state.specs.Passing.{AreBefore, grace_begun}
-use Rattle.seq_state.specs.Representation.{IsThing, SameGrace, SameState, with_grace_of}
-use Rattle.kernel_rules.specs.Start.{no_grace}
+use Rattle.seq_state.specs.{◌≡◌, ◌≢◌, ℕ, ◌+◌, ◌*◌, ◌<◌, ◌≤◌, Bool, true, false, ◌&&◌, ◌==◌, ltb as nat_lt, if◌then◌else◌, refl, List, []}
+use Rattle.seq_state.specs.{length, set, get_or, Option, Some, None, IsSome, IsSomeAnd, Grace, PlaceOf, FrameOf, NumberOf, State, put}
+use Rattle.seq_state.specs.{with_core, entered, returned, no_grace, refs, core_of, no_times, no_period, times_at, TimesFit, at, count_at}
+use Rattle.seq_state.specs.{HasKeys, HasAll, HasBegun, IsWhole, state_of, core_or_none, period_or_none, is_inside, grace_from, period_of}
+use Rattle.seq_state.specs.{IsThing, SameGrace, SameState, with_grace_of}
+use Rattle.kernel_invariant.specs.kernel_rules.proofs.{inl, inr, sym, ◌∙◌, ap, subst, arith, get_or-set_same, get_or-set_other, length-set}
+use Rattle.kernel_invariant.specs.kernel_rules.proofs.{eq-eqb, ne_eqb, lt-ltb, le-ltb, Thing, with_grace, passed, flushed, put_same}
+use Rattle.seq_state.specs.{declared.parts.Core.Core, declared.times.Times.Times, declared.times.Period.Period, Times.enters, Times.returns}
+use Rattle.seq_state.specs.{Times.flushes, Maps.Maps, Passing.AreBefore, Passing.grace_begun}
 use Rattle.seq_state.proofs.Same.{same_by, same_grace_by, same_then, same_grace_of}
-use Rattle.kernel_rules.specs.References.{refs}
-use Rattle.seq_state.proofs.CountLemmas.{core_counts, grace_counts}
 use Rattle.seq_state.proofs.MapLemmas.{IsWritten, at_place_is, put_written, is_inside_of}
+use Rattle.{kernel_invariant.specs.kernel_rules.proofs.put_other, std.proofs.lemmas.Bool.cases_eq, std.proofs.lemmas.Bool.cases_lt}
+use Rattle.{seq_state.proofs.CountLemmas.core_counts, seq_state.proofs.CountLemmas.grace_counts}
+use Rattle.kernel_invariant.specs.kernel_rules.specs.State as state
 
 -- The maps with other cores and other times.
 abbrev pub after : Maps → List Core → List Times → Maps

@@ -1,11 +1,9 @@
 -- The references to each frame, as the lists have them.
-use Rattle.std.specs.Prelude.{◌≡◌, ◌<◌, ◌+◌, ◌*◌, ℕ, List, length}
-use Rattle.kernel_rules.specs.References.{place_names, frame_names, number_names, core_names, sum_below, times}
-use Rattle.seq_state.specs.declared.parts.Place.{Place}
-use Rattle.seq_state.specs.declared.parts.Frame.{Frame}
-use Rattle.seq_state.specs.declared.parts.Liveness.{Liveness}
-use Rattle.seq_state.specs.declared.parts.Core.{Core}
-use Rattle.seq_state.specs.Maps.{at, count_at, place_or_free, frame_or_untyped, number_or_unused, core_or_none}
+use Rattle.kernel_invariant.specs.kernel_rules.specs.{◌≡◌, ◌<◌, ◌+◌, ◌*◌, ℕ, List, length, place_names, frame_names, number_names}
+use Rattle.kernel_invariant.specs.kernel_rules.specs.{core_names, sum_below, times}
+use Rattle.seq_state.specs.{declared.parts.Place.Place, declared.parts.Frame.Frame, declared.parts.Liveness.Liveness}
+use Rattle.seq_state.specs.{declared.parts.Core.Core, Maps.at, Maps.count_at, Maps.place_or_free, Maps.frame_or_untyped}
+use Rattle.seq_state.specs.{Maps.number_or_unused, Maps.core_or_none}
 
 -- The references of what is at the keys: places, then frames, cores and liveness numbers.
 abbrev pub counted_at : ℕ → ℕ → List Place → List Frame → List Liveness → List Core → ℕ → ℕ

@@ -1,6 +1,5 @@
 -- The kernel's fields as its maps.
-use Rattle.seq_state.specs.declared.kernel.SeqKernel.TheInside.{Inside}
-use Rattle.seq_state.specs.Maps.{Maps, IsWhole}
+use Rattle.seq_state.specs.{declared.kernel.SeqKernel.TheInside.Inside, Maps.Maps, Maps.IsWhole}
 
 -- The maps, the times and the limits.
 abbrev pub maps_of : Inside → Maps

@@ -1,16 +1,11 @@
 -- The plain kernel as contracts see it: lists by number, and the state that they stand for.
-use Rattle.std.specs.Prelude.{◌≡◌, ◌<◌, ◌≤◌, ◌^◌, ℕ, ◌+◌, ◌-◌, ◌*◌, false, nat_lt, if◌then◌else◌, List, [], length, get_or, slice_get, Bool}
-use Rattle.std.specs.Prelude.{Option, Some, None, IsSome, IsSomeAnd}
-use Rattle.kernel_rules.specs.State as state
-use Rattle.kernel_rules.specs.References.{frame_names, refs}
-use Rattle.seq_state.specs.declared.parts.Place.{Place}
-use Rattle.seq_state.specs.declared.parts.Frame.{Frame}
-use Rattle.seq_state.specs.declared.parts.Liveness.{Liveness}
-use Rattle.seq_state.specs.declared.parts.Core.{Core}
-use Rattle.seq_state.specs.declared.times.Times.{Times}
-use Rattle.seq_state.specs.declared.times.Period.{Period}
-use Rattle.seq_state.specs.Parts.{place_held, frame_of, number_of, core_of}
-use Rattle.seq_state.specs.Times.{no_period, times_at, grace_by, TimesFit}
+use Rattle.kernel_invariant.specs.kernel_rules.specs.{◌≡◌, ◌<◌, ◌≤◌, ◌^◌, ℕ, ◌+◌, ◌-◌, ◌*◌, false, ltb as nat_lt, if◌then◌else◌, List, []}
+use Rattle.kernel_invariant.specs.kernel_rules.specs.{length, get_or, slice_get, Bool, Option, Some, None, IsSome, IsSomeAnd, frame_names}
+use Rattle.kernel_invariant.specs.kernel_rules.specs.{refs}
+use Rattle.seq_state.specs.{declared.parts.Place.Place, declared.parts.Frame.Frame, declared.parts.Liveness.Liveness}
+use Rattle.seq_state.specs.{declared.parts.Core.Core, declared.times.Times.Times, declared.times.Period.Period, Parts.place_held}
+use Rattle.seq_state.specs.{Parts.frame_of, Parts.number_of, Parts.core_of, Times.no_period, Times.times_at, Times.grace_by, Times.TimesFit}
+use Rattle.kernel_invariant.specs.kernel_rules.specs.State as state
 
 -- The lists, each with the item of a key at that position; the times of the cores and the clock; the count of the references
 -- to each frame; and the limits. The key of place i of node f is 64 f + i.

@@ -1,8 +1,7 @@
 -- What a beginning, a return and a flush make of the plain kernel's times and grace periods.
-use Rattle.std.specs.Prelude.{◌≡◌, ◌<◌, ℕ, Bool, true, Option, Some, None}
-use Rattle.kernel_rules.specs.State.{Grace, State}
-use Rattle.seq_state.specs.declared.times.Times.{Times}
-use Rattle.seq_state.specs.declared.times.Period.{Period}
+use Rattle.kernel_invariant.specs.kernel_rules.specs.{◌≡◌, ◌<◌, ℕ, Bool, true, Option, Some, None, Grace}
+use Rattle.kernel_invariant.specs.kernel_rules.specs.State.{State}
+use Rattle.seq_state.specs.{declared.times.Times.Times, declared.times.Period.Period}
 
 -- The grace period at a key that stands becomes what f makes of it.
 abbrev pub Becomes : (Period → Period) → Option Period → Option Period → Type 0

@@ -1,8 +1,7 @@
 -- When two states are one for all that a machine has, and which states the plain kernel represents.
-use Rattle.std.specs.Prelude.{◌≡◌, ◌<◌, ℕ, if◌then◌else◌}
-use Rattle.kernel_rules.specs.State.{Grace, Thing, PlaceOf, FrameOf, NumberOf, Limits, State, with_grace}
-use Rattle.kernel_rules.specs.GracePeriods.{same_thing}
-use Rattle.seq_state.specs.Maps.{Maps, state_of}
+use Rattle.kernel_invariant.specs.kernel_rules.specs.{◌≡◌, ◌<◌, ℕ, if◌then◌else◌, Grace, Thing, PlaceOf, FrameOf, NumberOf, Limits}
+use Rattle.{kernel_invariant.specs.kernel_rules.specs.with_grace, kernel_invariant.specs.kernel_rules.specs.same_thing}
+use Rattle.{kernel_invariant.specs.kernel_rules.specs.State.State, seq_state.specs.Maps.Maps, seq_state.specs.Maps.state_of}
 
 -- A thing's index, if it is a place, is one in a node.
 abbrev pub HasIndex : Thing → Type 0

@@ -1,9 +1,7 @@
 -- Grace periods by times: when each began, and what each core did last, as a clock then stood.
-use Rattle.std.specs.Prelude.{◌≤◌, ◌+◌, ℕ, Bool, false, ◌&&◌, if◌then◌else◌, nat_lt, cond, List, get_or}
-use Rattle.kernel_rules.specs.State.{Grace}
-use Rattle.kernel_rules.specs.References.{sum_below}
-use Rattle.seq_state.specs.declared.times.Times.{Times}
-use Rattle.seq_state.specs.declared.times.Period.{Period}
+use Rattle.kernel_invariant.specs.kernel_rules.specs.{◌≤◌, ◌+◌, ℕ, Bool, false, ◌&&◌, if◌then◌else◌, ltb as nat_lt, cond, List, get_or}
+use Rattle.kernel_invariant.specs.kernel_rules.specs.{Grace, sum_below}
+use Rattle.seq_state.specs.{declared.times.Times.Times, declared.times.Period.Period}
 
 -- The times of a core that has done nothing.
 abbrev pub no_times : Times

@@ -1,8 +1,8 @@
 //! The references to each frame, counted as they come and go.
 
 ghost use Rattle.std.specs.Prelude.{◌≡◌, ◌<◌, ◌≤◌, ◌+◌, ◌-◌, ◌*◌, ◌^◌, ℕ, IsSome, length, [], ◌∷◌};
-ghost use Rattle.kernel_rules.specs.References.{named_by, place_names, frame_names, number_names};
-ghost use Rattle.kernel_rules.specs.References.{core_names, sum_below, times};
+ghost use Rattle.kernel_invariant.specs.kernel_rules.specs.References.{named_by, place_names, frame_names, number_names};
+ghost use Rattle.kernel_invariant.specs.kernel_rules.specs.References.{core_names, sum_below, times};
 ghost use Rattle.seq_state.specs.Parts.{place_held, object_of, frame_of, number_of, core_of};
 ghost use Rattle.seq_state.specs.Maps.{at, HasKeys, count_at, place_or_free, frame_or_untyped, number_or_unused, core_or_none};
 

@@ -1,7 +1,7 @@
 //! The plain kernel's state, in lists.
 
 ghost use Rattle.std.specs.Prelude.{◌≡◌, ◌<◌, ◌+◌, ◌*◌, ◌==◌, if◌then◌else◌, ℕ};
-ghost use Rattle.kernel_rules.specs.References.{refs};
+ghost use Rattle.kernel_invariant.specs.kernel_rules.specs.References.{refs};
 ghost use Rattle.seq_state.specs.Parts.{place_held, frame_of, number_of, core_of, thing_of};
 ghost use Rattle.spk_nums.specs.CoreSets.{has_core};
 ghost use Rattle.seq_state.specs.Maps.{at, core_or_none, state_of, period_of, grace_from, LimitsFit};

@@ -1,7 +1,7 @@
 //! The clock, and what a core does by it: it enters a call, returns from it, and flushes.
 
 ghost use Rattle.std.specs.Prelude.{◌≡◌, ◌<◌, ◌≤◌, ◌-◌, ◌^◌, ℕ};
-ghost use Rattle.kernel_rules.specs.GracePeriods.{entered, returned, flushed};
+ghost use Rattle.kernel_invariant.specs.kernel_rules.specs.GracePeriods.{entered, returned, flushed};
 ghost use Rattle.seq_state.specs.Times.{times_at};
 ghost use Rattle.seq_state.specs.Maps.{state_of, LimitsFit};
 ghost use Rattle.seq_state.specs.Representation.{Represents};

@@ -3,10 +3,10 @@
 //! What is set past the machine's frames or liveness numbers is no part of the machine.
 
 ghost use Rattle.std.specs.Prelude.{◌≡◌, ◌<◌, ◌≤◌};
-ghost use Rattle.kernel_rules.specs.State.{with_place, with_frame, with_number, with_core};
+ghost use Rattle.kernel_invariant.specs.kernel_rules.specs.State.{with_place, with_frame, with_number, with_core};
 ghost use Rattle.seq_state.specs.Parts.{place_held, frame_of, number_of, core_of, thing_of};
 ghost use Rattle.seq_state.specs.Maps.{state_of, grace_from};
-ghost use Rattle.kernel_rules.specs.Start.{no_grace};
+ghost use Rattle.kernel_invariant.specs.kernel_rules.specs.Start.{no_grace};
 ghost use Rattle.seq_state.specs.Passing.{grace_begun};
 ghost use Rattle.seq_state.specs.Representation.{HasIndex, with_grace_of, Represents};
 

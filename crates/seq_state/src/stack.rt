@@ -1,7 +1,7 @@
 //! The stack of a thread.
 
 ghost use Rattle.std.specs.Prelude.{◌≡◌, ◌<◌, ◌≤◌, [], ◌∷◌, length, slice_get, drop, reverse};
-ghost use Rattle.kernel_rules.specs.References.{times};
+ghost use Rattle.kernel_invariant.specs.kernel_rules.specs.References.{times};
 
 use spk_nums::FrameNo;
 use std::marker::Model;

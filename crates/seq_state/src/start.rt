@@ -2,8 +2,8 @@
 
 ghost use Rattle.std.specs.Prelude.{◌≡◌, ◌<◌, ◌≤◌, ◌+◌, ◌-◌, ◌*◌, ◌/◌, ◌%◌, IfOk, Some, IsSome, slice_get, length, [], ◌∷◌};
 ghost use Rattle.spk_nums.specs.Limits.{least_arg, end_of_arg};
-ghost use Rattle.kernel_rules.specs.Start.{plain_cap, start_range, core_cap, start_cap, start_place, granted, grant_pair};
-ghost use Rattle.kernel_rules.specs.Start.{start_frame, start_number, start_core, start, place_with};
+ghost use Rattle.kernel_invariant.specs.kernel_rules.specs.Start.{plain_cap, start_range, core_cap, start_cap, start_place, granted, grant_pair};
+ghost use Rattle.kernel_invariant.specs.kernel_rules.specs.Start.{start_frame, start_number, start_core, start, place_with};
 ghost use Rattle.seq_state.specs.Parts.{place_held, tcap_fields_of, frame_of, number_of, core_of, thread_fields_of};
 ghost use Rattle.seq_state.specs.Times.{no_period};
 ghost use Rattle.seq_state.specs.Maps.{HasAll, HasKeys};

@@ -1,7 +1,7 @@
 -- Lists of qualities are alike exactly where they are equal.
-use Rattle.std.proofs.Common.{◌≡◌, ◌↔◌, ℕ, ◌==◌, Bool, true, false, ◌&&◌, List, [], ◌∷◌, refl, sym, ap, ◌∙◌, IsTrue}
-use Rattle.std.proofs.lemmas.Bool.{and_parts, and_from, eqb-true, eq-eqb}
-use Rattle.kernel_rules.specs.TimeCalls.{are_alike}
+use Rattle.seq_state.specs.kernel_rules.proofs.{◌≡◌, ℕ, ◌==◌, Bool, true, false, ◌&&◌, List, [], ◌∷◌, refl, sym, ap, ◌∙◌, IsTrue, and_from}
+use Rattle.seq_state.specs.kernel_rules.proofs.{eqb-true, eq-eqb, are_alike}
+use Rattle.std.proofs.{Common.◌↔◌, lemmas.Bool.and_parts}
 
 alike_equal : (xs ys : List (ℕ × ℕ)) → are_alike xs ys ≡ true → xs ≡ ys
 alike_equal [] [] h = refl

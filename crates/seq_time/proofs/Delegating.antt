@@ -1,11 +1,9 @@
 -- A delegation writes the temporal capability that it gives to at once, with its new budget and its new list.
-use Rattle.std.proofs.Common.{arith, ◌≡◌, ◌≢◌, ℕ, ◌+◌, ◌-◌, ◌==◌, Bool, true, false, if◌then◌else◌, refl, sym, ap, ◌∙◌, List}
-use Rattle.std.specs.Prelude.{SomeIff, Option, Some, None, unwrap_or}
-use Rattle.std.proofs.lemmas.Bool.{ne_eqb, eq-eqb}
-use Rattle.kernel_rules.specs.State.{put, Object, Blank, Frame, Untyped, User, Kernel, State, with_frame, tcap_in}
-use Rattle.kernel_rules.specs.Edits.{with_tcap, tcap_at, moved, with_qualities}
-use Rattle.seq_state.specs.Representation.{SameState}
-use Rattle.seq_state.proofs.Same.{same_grace_by, same_then, same_frame}
+use Rattle.seq_state.specs.kernel_rules.proofs.{arith, ◌≡◌, ◌≢◌, ℕ, ◌+◌, ◌-◌, ◌==◌, Bool, true, false, if◌then◌else◌, refl, sym, ap, ◌∙◌}
+use Rattle.seq_state.specs.kernel_rules.proofs.{List, Option, Some, None, unwrap_or, ne_eqb, eq-eqb, put, Object, Blank, Frame, Untyped}
+use Rattle.seq_state.specs.kernel_rules.proofs.{User, Kernel, with_frame, tcap_in, with_tcap, tcap_at, moved, with_qualities}
+use Rattle.seq_state.proofs.{State, SameState, same_grace_by, same_then, same_frame}
+use Rattle.std.specs.Prelude.{SomeIff}
 
 -- A budget and then a list, in an object.
 again_in : (x : Object) (n : ℕ) (l : List (ℕ × ℕ))

@@ -1,13 +1,8 @@
 -- Going on as another thread: the two frames are written from what stood there before.
-use Rattle.std.proofs.Common.{◌≡◌, ℕ, ◌==◌, Bool, true, false, if◌then◌else◌, refl, sym, ap, ◌∙◌, Some, None}
-use Rattle.std.proofs.lemmas.Bool.{eqb-true}
-use Rattle.kernel_rules.specs.State.{put, Object, Blank, Thread, Frame}
-use Rattle.kernel_rules.specs.State.{Untyped, User, Kernel, Core, State, with_frame, with_core, thread_in}
-use Rattle.kernel_rules.specs.GracePeriods.{begun}
-use Rattle.kernel_rules.specs.Edits.{switched}
-use Rattle.seq_state.specs.Representation.{SameState}
-use Rattle.seq_state.proofs.Same.{same_by, same_grace_by, same_then, same_frame, same_core}
-use Rattle.seq_time.specs.Left.{run_by, left_by}
+use Rattle.seq_state.proofs.{◌≡◌, ℕ, ◌==◌, Bool, true, false, if◌then◌else◌, refl, sym, ap, ◌∙◌, Some, None, eqb-true, put, Blank, Thread}
+use Rattle.seq_state.proofs.{Untyped, User, State, with_frame, with_core, thread_in, begun, SameState, same_by, same_grace_by, same_then}
+use Rattle.seq_state.specs.kernel_rules.specs.{Object, Frame, Kernel, Core, switched}
+use Rattle.{seq_state.proofs.same_frame, seq_state.proofs.same_core, seq_time.specs.Left.run_by, seq_time.specs.Left.left_by}
 
 idle_in : (x : Object) → (thread_in (Kernel x)).runs_on ≡ None → run_by (Kernel x) None ≡ Kernel x
 idle_in Blank h = refl

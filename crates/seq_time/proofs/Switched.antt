@@ -1,12 +1,6 @@
 -- The causes against going on as a thread are those of its rule.
-use Rattle.std.proofs.Common.{◌≡◌, ℕ, refl, List, Option, Some, None}
-use Rattle.spk_nums.specs.Capability.{Capability}
-use Rattle.kernel_rules.specs.State.{State}
-use Rattle.kernel_rules.specs.Access.{Slot, Named}
-use Rattle.kernel_rules.specs.InvocationCalls.{switch_to}
-use Rattle.seq_plans.specs.Walks.{rest_by, causes_of}
-use Rattle.seq_plans.specs.OwnCauses.{AreFitCauses}
-use Rattle.seq_time.specs.Left.{running_by}
+use Rattle.seq_state.specs.{◌≡◌, ℕ, refl, List, Option, Some, None, Capability, State, Slot, Named, switch_to}
+use Rattle.{seq_plans.specs.rest_by, seq_plans.specs.causes_of, seq_plans.specs.AreFitCauses, seq_time.specs.Left.running_by}
 
 pub switch_causes : (s : State) (c : ℕ) (h : Named) (q : ℕ) (e : Option ℕ) (ks : List Named) (at : Option Slot) (held : Option Capability)
     → running_by h e ≡ causes_of (rest_by (switch_to h q e) ks at held)

@@ -1,10 +1,7 @@
 -- What becomes of threads as a core goes on as another, and what it leaves.
-use Rattle.std.specs.Prelude.{ℕ, ◌==◌, if◌then◌else◌, List, [], ◌∷◌, Option, Some, None}
+use Rattle.seq_state.specs.kernel_rules.specs.{ℕ, ◌==◌, if◌then◌else◌, List, [], ◌∷◌, Option, Some, None, Frame, Thing, thread_in}
+use Rattle.seq_state.specs.kernel_rules.specs.{with_thread, frames_of, Named, Cause, When}
 use Rattle.spk_nums.specs.declared.replies.Reply.TheVariants.{Running}
-use Rattle.kernel_rules.specs.State.{Frame, Thing, thread_in}
-use Rattle.kernel_rules.specs.Edits.{with_thread, frames_of}
-use Rattle.kernel_rules.specs.Access.{Named}
-use Rattle.kernel_rules.specs.Rules.{Cause, When}
 
 -- The old thread, and the old temporal capability unless it stays: the things whose grace periods begin.
 abbrev pub left_by : ℕ → ℕ → ℕ → List Thing

@@ -1,7 +1,6 @@
 -- The calls of this family.
-use Rattle.spk_nums.specs.declared.calls.Call.{Call}
-use Rattle.spk_nums.specs.declared.calls.Call.TheVariants.{Gate, Kill, Call as call_gate, Ret, Switch, Tick, Transfer, Delegate, Test}
-use Rattle.spk_nums.specs.declared.calls.Call.TheVariants.{Replenish}
+use Rattle.seq_state.specs.{Call, Gate, Kill, Ret, Switch, Tick, Transfer, Delegate, Test, Replenish}
+use Rattle.spk_nums.specs.declared.calls.Call.TheVariants.{Call as call_gate}
 
 -- A call that makes a gate, kills, calls, returns or switches, that charges, moves or gives back ticks, or that tests preemption.
 abbrev pub IsTimeCall : Call → Type 0

@@ -1,8 +1,8 @@
 //! Moving budgets between temporal capabilities, and what a test answers.
 
 ghost use Rattle.std.specs.Prelude.{◌≡◌, ◌≢◌, ◌<◌, ◌≤◌, ◌+◌, ◌^◌, length, SomeIff};
-ghost use Rattle.kernel_rules.specs.TimeCalls.{are_alike, merged_list, preemption};
-ghost use Rattle.kernel_rules.specs.Edits.{with_tcap, moved, with_qualities, tcap_at};
+ghost use Rattle.seq_state.specs.kernel_rules.specs.TimeCalls.{are_alike, merged_list, preemption};
+ghost use Rattle.seq_state.specs.kernel_rules.specs.Edits.{with_tcap, moved, with_qualities, tcap_at};
 ghost use Rattle.seq_state.specs.Parts.{frame_of, tcap_fields_of};
 ghost use Rattle.seq_state.specs.Maps.{state_of};
 ghost use Rattle.seq_state.specs.Representation.{Represents};

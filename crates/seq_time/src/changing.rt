@@ -5,7 +5,7 @@ ghost use Rattle.spk_nums.specs.declared.calls.Call.TheVariants.{Gate, Kill, Cal
 ghost use Rattle.spk_nums.specs.declared.calls.Call.TheVariants.{Replenish};
 ghost use Rattle.spk_nums.specs.declared.replies.Value.TheVariants.{Nothing};
 ghost use Rattle.spk_nums.specs.declared.replies.Reply.TheVariants.{Ok as ok};
-ghost use Rattle.kernel_rules.specs.CallRelation.{rule_of};
+ghost use Rattle.seq_state.specs.kernel_rules.specs.CallRelation.{rule_of};
 ghost use Rattle.seq_state.specs.Maps.{state_of};
 ghost use Rattle.seq_lookups.specs.Carried.{IsCarriedOut};
 ghost use Rattle.seq_plans.specs.declared.walking.Looked.{Looked};

@@ -2,9 +2,9 @@
 
 ghost use Rattle.std.specs.Prelude.{◌≡◌, ◌<◌, ◌≤◌, ◌∷◌, []};
 ghost use Rattle.spk_nums.specs.Capability.{cap_of};
-ghost use Rattle.kernel_rules.specs.State.{comp_in, FrameOf, NumberOf, Dead, with_number};
-ghost use Rattle.kernel_rules.specs.GracePeriods.{begun};
-ghost use Rattle.kernel_rules.specs.Edits.{with_thread, with_stack};
+ghost use Rattle.seq_state.specs.kernel_rules.specs.State.{comp_in, FrameOf, NumberOf, Dead, with_number};
+ghost use Rattle.seq_state.specs.kernel_rules.specs.GracePeriods.{begun};
+ghost use Rattle.seq_state.specs.kernel_rules.specs.Edits.{with_thread, with_stack};
 ghost use Rattle.seq_state.specs.Parts.{frame_of, number_of, thread_fields_of, thing_of};
 ghost use Rattle.seq_state.specs.Maps.{state_of};
 ghost use Rattle.seq_state.specs.Representation.{HasIndex, Represents};

@@ -2,9 +2,9 @@
 
 ghost use Rattle.std.specs.Prelude.{◌≡◌, ◌<◌, ◌≤◌, [], ◌∷◌, length, Option, Some, None};
 ghost use Rattle.spk_nums.specs.declared.calls.Call.TheVariants.{Call as call_gate, Kill, Switch, Ret};
-ghost use Rattle.kernel_rules.specs.State.{comp_in, thread_in};
-ghost use Rattle.kernel_rules.specs.InvocationCalls.{not_live};
-ghost use Rattle.kernel_rules.specs.TimeCalls.{are_same, is_short, are_unlike, are_many, is_finer, is_less};
+ghost use Rattle.seq_state.specs.kernel_rules.specs.State.{comp_in, thread_in};
+ghost use Rattle.seq_state.specs.kernel_rules.specs.InvocationCalls.{not_live};
+ghost use Rattle.seq_state.specs.kernel_rules.specs.TimeCalls.{are_same, is_short, are_unlike, are_many, is_finer, is_less};
 ghost use Rattle.seq_state.specs.Maps.{state_of};
 ghost use Rattle.seq_plans.specs.Reaches.{named_of};
 ghost use Rattle.seq_plans.specs.Walks.{left_of, causes_of};
@@ -210,6 +210,6 @@ pub fn causes(k: &SeqKernel, core: CoreNo, call: &Call, looked: &Looked) -> Caus
 
 ghost use Rattle.std.specs.Prelude.{nat_le, ℕ};
 ghost use Rattle.spk_nums.specs.declared.replies.Reply.TheVariants.{Deep, Bottom};
-ghost use Rattle.kernel_rules.specs.State.{thread_of};
-ghost use Rattle.kernel_rules.specs.Rules.{When};
+ghost use Rattle.seq_state.specs.kernel_rules.specs.State.{thread_of};
+ghost use Rattle.seq_state.specs.kernel_rules.specs.Rules.{When};
 ghost use Rattle.seq_time.specs.Left.{running_by};

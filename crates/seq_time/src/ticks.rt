@@ -1,10 +1,10 @@
 //! Charging ticks, and giving them back.
 
 ghost use Rattle.std.specs.Prelude.{◌≡◌, ◌<◌, ◌≤◌, ◌+◌, ◌^◌};
-ghost use Rattle.kernel_rules.specs.Rules.{outcome};
-ghost use Rattle.kernel_rules.specs.TimeCalls.{tick_rule};
-ghost use Rattle.kernel_rules.specs.Edits.{charge, with_budget, tcap_at, charging, given_back};
-ghost use Rattle.kernel_rules.specs.State.{outstanding};
+ghost use Rattle.seq_state.specs.kernel_rules.specs.Rules.{outcome};
+ghost use Rattle.seq_state.specs.kernel_rules.specs.TimeCalls.{tick_rule};
+ghost use Rattle.seq_state.specs.kernel_rules.specs.Edits.{charge, with_budget, tcap_at, charging, given_back};
+ghost use Rattle.seq_state.specs.kernel_rules.specs.State.{outstanding};
 ghost use Rattle.seq_state.specs.Maps.{state_of};
 ghost use Rattle.seq_state.specs.Representation.{Represents};
 ghost use Rattle.seq_lookups.specs.Carried.{IsCarriedOut};

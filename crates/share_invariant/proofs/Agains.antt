@@ -1,33 +1,23 @@
 -- The second load of the head of the second of two temporal capabilities: it has changed, or it is as it was read, and the call is decided.
-use Rattle.pair_invariant.proofs.Common.{◌≡◌, inl, inr, ℕ, ◌<◌, ◌≤◌, ◌==◌, not, nat_lt, nat_le, Bool, true, false, if◌then◌else◌, List}
-use Rattle.pair_invariant.proofs.Common.{[], ◌∷◌, length, Option, Some, None, arith, refl, sym, ◌∙◌, ap, subst, eq-eqb, eqb-true}
-use Rattle.pair_invariant.proofs.Common.{eqb-false, le-ltb, leb-false, lt-ltb, Setting, IsSetting, Reply, Value, word_of_head, Word}
-use Rattle.pair_invariant.proofs.Common.{EntryAt, LoadOf, State, Found, Refused, Does, RuleMay, IsFoundAnd, unless, first_of, first_cause}
-use Rattle.pair_invariant.proofs.Common.{tcap_at, is_short, are_unlike, are_many, rule_of, change_of, changed, counted, MayReply}
-use Rattle.pair_invariant.proofs.Common.{are_calls_spent, HasRacedHead, IsRaceLost, Step, Trace, state_after, last_left, ok_first}
-use Rattle.pair_invariant.proofs.Common.{refused_first, not_changed, in_order, same_list, again_end, by_alike, by_room, judged, Pair}
-use Rattle.pair_invariant.proofs.Common.{CompareB, AgainB, StoreA, PairWork, Act, took_shared, took_share, Undecided, ActiveCall, landed}
-use Rattle.pair_invariant.proofs.Common.{Core, holds_counts, KnowsUndecided, HasBoth, holds_in, holds_head, Invariant, TcapOf, amount_of}
-use Rattle.pair_invariant.specs.spk_nums.specs.Merging.{preempts_by}
-use Rattle.pair_invariant.specs.spk_nums.specs.declared.replies.Reply.TheVariants as reply
-use Rattle.pair_invariant.specs.spk_nums.specs.declared.replies.Value.TheVariants as value
-use Rattle.pair_invariant.specs.kernel_rules.specs.Access.{found as named_by}
-use Rattle.pair_invariant.specs.kernel_rules.specs.TimeCalls.{are_alike, merged_list, preemption, preempts}
-use Rattle.pair_invariant.specs.kernel_rules.specs.CallRelation.{begins_in as begun_by}
-use Rattle.pair_invariant.specs.stage_tcap.specs.Lists.{merge_of, merged_if}
-use Rattle.pair_invariant.specs.stage_tcap.specs.Pairs.{again_value, value_of, whole_b}
-use Rattle.pair_invariant.specs.spk_nums.specs.declared.steps.StageEnd.TheVariants as ends
+use Rattle.pair_invariant.specs.step_ways.proofs as low
+use low.{◌≡◌, inl, inr, ℕ, ◌<◌, ◌≤◌, ◌==◌, not, ltb as nat_lt, leb as nat_le, Bool, true, false, if◌then◌else◌, List, [], ◌∷◌, length}
+use low.{Option, Some, None, arith, refl, sym, ◌∙◌, ap, subst, eq-eqb, eqb-true, eqb-false, le-ltb, leb-false, lt-ltb, Setting, IsSetting}
+use low.{Reply, Value, word_of_head, Word, EntryAt, LoadOf, State, Found, Refused, Does, RuleMay, IsFoundAnd, unless, first_of, first_cause}
+use low.{tcap_at, is_short, are_unlike, are_many, rule_of, change_of, changed, counted, MayReply, are_calls_spent, HasRacedHead, Step}
+use low.{Trace, state_after, last_left, ok_first, refused_first, in_order, same_list, again_end, by_alike, by_room, judged, Pair, CompareB}
+use low.{AgainB, StoreA, PairWork, Act, took_shared, took_share, Undecided, ActiveCall, landed, Core, holds_counts, KnowsUndecided, HasBoth}
+use low.{holds_in, holds_head, Invariant, TcapOf, amount_of, found as named_by, Share as share_act, OnlyLooks, core_is, inner, GoodTook}
+use low.{not_spent, does, StageEnd}
+use Rattle.pair_invariant.specs.kernel_rules.specs.{are_alike, merged_list, preemption, preempts, begins_in as begun_by}
+use Rattle.pair_invariant.specs.stage_tcap.specs.{merge_of, merged_if, again_value, whole_b}
+use Rattle.pair_invariant.proofs.{AreRead, all_gone, causes_of, change_by}
 use Rattle.pair_invariant.specs.stage_tcap.specs.declared.pair.PairWork.TheVariants.{Transfer, Delegate, Test}
-use Rattle.pair_invariant.specs.act_states.specs.declared.work.Act.TheVariants.{Share as share_act}
-use Rattle.pair_invariant.specs.step_ways.proofs.Loads.{OnlyLooks, core_is, inner}
-use Rattle.pair_invariant.specs.step_ways.proofs.Refusals.{GoodTook, not_spent}
-use Rattle.pair_invariant.proofs.HeadsB.{owes_share}
+use Rattle.pair_invariant.proofs.{HeadsB.owes_share, ListsKnown.same_alike, ShareCalls.value_by, ShareCalls.edits_by, ShareSteps.loading}
+use Rattle.{pair_invariant.specs.kernel_history.specs.Justified.IsRaceLost, pair_invariant.specs.kernel_history.proofs.Laws.not_changed}
+use Rattle.{pair_invariant.specs.spk_nums.specs.Merging.preempts_by, pair_invariant.specs.stage_tcap.specs.Pairs.value_of}
+use Rattle.{pair_invariant.proofs.ShareSteps.load_decides}
 use Rattle.pair_invariant.proofs.ListsKnown as known
-use Rattle.pair_invariant.proofs.ListsKnown.{AreRead, same_alike, all_gone}
 use Rattle.pair_invariant.proofs.ShareCalls as calls
-use Rattle.pair_invariant.proofs.ShareCalls.{causes_of, value_by, edits_by, change_by}
-use Rattle.pair_invariant.proofs.ShareSteps.{loading, load_decides}
-use Rattle.pair_invariant.specs.kernel_rules.specs.Rules.{does}
 
 -- A list that has no room is one of more than 8.
 no_room : (xs : List (ℕ × ℕ)) → merged_if (nat_le (length xs) 8) xs ≡ None → nat_lt 8 (length xs) ≡ true
@@ -82,16 +72,16 @@ module _ (setup : Setting) (setting : IsSetting setup) (cores : ℕ → Core) (t
 
   abbrev Decides : Value → Reply → Type 0
   Decides v reply_is =
-      GoodTook setup cores t c (LoadOf at) (landed a (took_shared (record p { at = StoreA false v }) (ends.Decided reply_is)))
+      GoodTook setup cores t c (LoadOf at) (landed a (took_shared (record p { at = StoreA false v }) (StageEnd.Decided reply_is)))
 
   abbrev raced_e : Step
-  raced_e = inner setup setting cores t stands c here a active (LoadOf at) (Some reply.Raced) None
+  raced_e = inner setup setting cores t stands c here a active (LoadOf at) (Some Reply.Raced) None
 
   -- another word is found there than was read
-  lost_good : (was == old) ≡ false → Decides value.Nothing reply.Raced
+  lost_good : (was == old) ≡ false → Decides Value.Nothing Reply.Raced
   lost_good other lands =
-      load_decides setup setting cores t stands c here a active now_p stage_is has 8 both.a held (LoadOf at) load reply.Raced
-      (record p { at = StoreA false value.Nothing }) value.Nothing refl refl refl refl (sym held)
+      load_decides setup setting cores t stands c here a active now_p stage_is has 8 both.a held (LoadOf at) load Reply.Raced
+      (record p { at = StoreA false Value.Nothing }) Value.Nothing refl refl refl refl (sym held)
       (ap (λ x. counted x c) (owes_share s c a.call a.found now_p has.knows.knows.shares)) refl (λ x. refl) (λ x. refl) refl
       (unspent, tt) race
       (λ is_alone. absurd (not_changed setup t raced_e refl is_alone race.own race.has_read race.changed)) lands
@@ -142,35 +132,35 @@ module _ (setup : Setting) (setting : IsSetting setup) (cores : ℕ → Core) (t
       may_unlike : RuleMay s c
           (Does (causes_of s (Transfer m) (named_by is.a) (named_by is.b)) (value_by s (Transfer m) is.a.frame is.b.frame)
           (edits_by s (Transfer m) is.a.frame is.b.frame))
-          reply.Unlike
+          Reply.Unlike
       may_unlike = inr (inr (inl (ap not unlike_named, refl)))
 
       first_unlike : unless (first_cause s c (causes_of s (Transfer m) (named_by is.a) (named_by is.b)))
-          (change_by c s (Transfer m) is.a.frame is.b.frame) ≡ Refused reply.Unlike
+          (change_by c s (Transfer m) is.a.frame is.b.frame) ≡ Refused Reply.Unlike
       first_unlike =
-          ap (λ b. unless (first_of (if b then Some reply.Same else None)
+          ap (λ b. unless (first_of (if b then Some Reply.Same else None)
           (first_cause s c (is_short s (named_by is.a) m ∷ are_unlike s (named_by is.a) (named_by is.b) ∷ [])))
           (change_by c s (Transfer m) is.a.frame is.b.frame))
           (calls.not_same setup setting cores t stands c here a active now_p stage_is has)
-          ∙ ap (λ b. unless (first_of (if b then Some (reply.Short (tcap_at s is.a.frame).budget) else None)
+          ∙ ap (λ b. unless (first_of (if b then Some (Reply.Short (tcap_at s is.a.frame).budget) else None)
           (first_cause s c (are_unlike s (named_by is.a) (named_by is.b) ∷ []))) (change_by c s (Transfer m) is.a.frame is.b.frame))
           not_short
-          ∙ ap (λ b. unless (first_of (if not b then Some reply.Unlike else None) None) (change_by c s (Transfer m) is.a.frame is.b.frame))
+          ∙ ap (λ b. unless (first_of (if not b then Some Reply.Unlike else None) None) (change_by c s (Transfer m) is.a.frame is.b.frame))
           unlike_named
 
-      unlike_good : Decides value.Nothing reply.Unlike
+      unlike_good : Decides Value.Nothing Reply.Unlike
       unlike_good lands =
-          load_decides setup setting cores t stands c here a active now_p stage_is has 8 both.a held (LoadOf at) load reply.Unlike
-          (record p { at = StoreA false value.Nothing }) value.Nothing refl refl refl refl (sym held)
+          load_decides setup setting cores t stands c here a active now_p stage_is has 8 both.a held (LoadOf at) load Reply.Unlike
+          (record p { at = StoreA false Value.Nothing }) Value.Nothing refl refl refl refl (sym held)
           refl refl (λ x. refl) (λ x. refl) refl (
             unspent,
-            calls.may setup setting cores t stands c here a active now_p stage_is has reply.Unlike
+            calls.may setup setting cores t stands c here a active now_p stage_is has Reply.Unlike
                 (subst (λ w. RuleMay s c
                 (Does (causes_of s w (named_by is.a) (named_by is.b)) (value_by s w is.a.frame is.b.frame)
-                (edits_by s w is.a.frame is.b.frame)) reply.Unlike)
+                (edits_by s w is.a.frame is.b.frame)) Reply.Unlike)
                 (sym what_is) may_unlike),
           ) tt
-          (λ is_alone. refused_first s c a.call reply.Unlike has.acts unspent
+          (λ is_alone. refused_first s c a.call Reply.Unlike has.acts unspent
           (calls.change_is setup setting cores t stands c here a active now_p stage_is has
           ∙ ap (λ w. unless (first_cause s c (causes_of s w (named_by is.a) (named_by is.b))) (change_by c s w is.a.frame is.b.frame))
           what_is
@@ -196,34 +186,34 @@ module _ (setup : Setting) (setting : IsSetting setup) (cores : ℕ → Core) (t
       may_many : RuleMay s c
           (Does (causes_of s (Delegate m) (named_by is.a) (named_by is.b)) (value_by s (Delegate m) is.a.frame is.b.frame)
           (edits_by s (Delegate m) is.a.frame is.b.frame))
-          reply.TooMany
+          Reply.TooMany
       may_many = inr (inr (inl (many_named, refl)))
 
       first_many : unless (first_cause s c (causes_of s (Delegate m) (named_by is.a) (named_by is.b)))
-          (change_by c s (Delegate m) is.a.frame is.b.frame) ≡ Refused reply.TooMany
+          (change_by c s (Delegate m) is.a.frame is.b.frame) ≡ Refused Reply.TooMany
       first_many =
-          ap (λ b. unless (first_of (if b then Some reply.Same else None)
+          ap (λ b. unless (first_of (if b then Some Reply.Same else None)
           (first_cause s c (is_short s (named_by is.a) m ∷ are_many s (named_by is.a) (named_by is.b) ∷ [])))
           (change_by c s (Delegate m) is.a.frame is.b.frame))
           (calls.not_same setup setting cores t stands c here a active now_p stage_is has)
-          ∙ ap (λ b. unless (first_of (if b then Some (reply.Short (tcap_at s is.a.frame).budget) else None)
+          ∙ ap (λ b. unless (first_of (if b then Some (Reply.Short (tcap_at s is.a.frame).budget) else None)
           (first_cause s c (are_many s (named_by is.a) (named_by is.b) ∷ []))) (change_by c s (Delegate m) is.a.frame is.b.frame)) is_enough
-          ∙ ap (λ b. unless (first_of (if b then Some reply.TooMany else None) None)
+          ∙ ap (λ b. unless (first_of (if b then Some Reply.TooMany else None) None)
           (change_by c s (Delegate m) is.a.frame is.b.frame)) many_named
 
-      many_good : Decides value.Nothing reply.TooMany
+      many_good : Decides Value.Nothing Reply.TooMany
       many_good lands =
-          load_decides setup setting cores t stands c here a active now_p stage_is has 8 both.a held (LoadOf at) load reply.TooMany
-          (record p { at = StoreA false value.Nothing }) value.Nothing refl refl refl refl (sym held)
+          load_decides setup setting cores t stands c here a active now_p stage_is has 8 both.a held (LoadOf at) load Reply.TooMany
+          (record p { at = StoreA false Value.Nothing }) Value.Nothing refl refl refl refl (sym held)
           refl refl (λ x. refl) (λ x. refl) refl (
             unspent,
-            calls.may setup setting cores t stands c here a active now_p stage_is has reply.TooMany
+            calls.may setup setting cores t stands c here a active now_p stage_is has Reply.TooMany
                 (subst (λ w. RuleMay s c (Does (causes_of s w (named_by is.a) (named_by is.b)) (value_by s w is.a.frame is.b.frame)
                 (edits_by s w is.a.frame is.b.frame))
-                reply.TooMany)
+                Reply.TooMany)
                 (sym what_is) may_many),
           ) tt
-          (λ is_alone. refused_first s c a.call reply.TooMany has.acts unspent
+          (λ is_alone. refused_first s c a.call Reply.TooMany has.acts unspent
           (calls.change_is setup setting cores t stands c here a active now_p stage_is has
           ∙ ap (λ w. unless (first_cause s c (causes_of s w (named_by is.a) (named_by is.b))) (change_by c s w is.a.frame is.b.frame))
           what_is
@@ -235,7 +225,7 @@ module _ (setup : Setting) (setting : IsSetting setup) (cores : ℕ → Core) (t
       tells = preempts_by p.head_a.budget (in_order p.list_a) p.head_b.budget (in_order p.list_b)
 
       abbrev v : Value
-      v = if tells then value.Preempts else value.Stays
+      v = if tells then Value.Preempts else Value.Stays
 
       list_b_is : p.list_b ≡ Some (tcap_at s p.b).qualities
       list_b_is = both.whole ∙ ap (λ w. whole_b w (in_order p.list_a) (in_order both.read)) what_is
@@ -251,7 +241,7 @@ module _ (setup : Setting) (setting : IsSetting setup) (cores : ℕ → Core) (t
           ∙ ap (λ (f : ℕ). preempts (tcap_at s is.a.frame) (tcap_at s f)) is.shared.second
 
       no_cause : first_cause s c (causes_of s Test (named_by is.a) (named_by is.b)) ≡ None
-      no_cause = ap (λ b. first_of (if b then Some reply.Same else None) None)
+      no_cause = ap (λ b. first_of (if b then Some Reply.Same else None) None)
           (calls.not_same setup setting cores t stands c here a active now_p stage_is has)
 
       change_is : change_of s c a.call ≡ Found (does c s v [])
@@ -261,15 +251,15 @@ module _ (setup : Setting) (setting : IsSetting setup) (cores : ℕ → Core) (t
           ∙ ap (λ o. unless o (change_by c s Test is.a.frame is.b.frame)) no_cause
           ∙ ap (λ b. Found (does c s (preemption b) [])) (sym tells_is)
 
-      permitted : MayReply s c a.call (reply.Ok v)
+      permitted : MayReply s c a.call (Reply.Ok v)
       permitted = (unspent, (has.acts, subst (λ x. IsFoundAnd x (λ y. y.value ≡ v)) (sym change_is) refl))
 
       abbrev answer : Step
-      answer = inner setup setting cores t stands c here a active (LoadOf at) (Some (reply.Ok v)) None
+      answer = inner setup setting cores t stands c here a active (LoadOf at) (Some (Reply.Ok v)) None
 
-      answered_good : Decides v (reply.Ok v)
+      answered_good : Decides v (Reply.Ok v)
       answered_good lands =
-          load_decides setup setting cores t stands c here a active now_p stage_is has 8 both.a held (LoadOf at) load (reply.Ok v)
+          load_decides setup setting cores t stands c here a active now_p stage_is has 8 both.a held (LoadOf at) load (Reply.Ok v)
           (record p { at = StoreA false v }) v refl refl refl refl
           (ap (λ xs. holds_head now_p false (holds_counts (Some None) xs))
           (calls.no_counts setup setting cores t stands c here a active now_p stage_is has)
@@ -290,7 +280,7 @@ module _ (setup : Setting) (setting : IsSetting setup) (cores : ℕ → Core) (t
 
         by_lists : (b : Bool) → same_list (in_order p.list_a) (in_order p.list_b) ≡ b → Decides (value_of r) r
         by_lists true told = absurd (not_compare (sym (ap by_alike told) ∙ judges))
-        by_lists false told = subst (λ x. Decides (value_of x) x) (reply_of reply.Unlike r (sym (ap by_alike told) ∙ judges))
+        by_lists false told = subst (λ x. Decides (value_of x) x) (reply_of Reply.Unlike r (sym (ap by_alike told) ∙ judges))
             (unlike_good m what_is told)
     by_work (Delegate m) what_is judges = by_list p.list_b refl
       where
@@ -298,7 +288,7 @@ module _ (setup : Setting) (setting : IsSetting setup) (cores : ℕ → Core) (t
         not_compare h = cc
 
         by_list : (o : Option (List (ℕ × ℕ))) → p.list_b ≡ o → Decides (value_of r) r
-        by_list None none = subst (λ x. Decides (value_of x) x) (reply_of reply.TooMany r (sym (ap by_room none) ∙ judges))
+        by_list None none = subst (λ x. Decides (value_of x) x) (reply_of Reply.TooMany r (sym (ap by_room none) ∙ judges))
             (many_good m what_is none)
         by_list (Some xs) some = absurd (not_compare (sym (ap by_room some) ∙ judges))
     by_work Test what_is judges = subst (λ x. Decides (value_of x) x) (reply_of _ r judges) (answered_good what_is)

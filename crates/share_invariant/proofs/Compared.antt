@@ -1,27 +1,20 @@
 -- The compare of the head of the second of two temporal capabilities: it is lost, and the first is given back; and what the call knows of
 -- both where it is won.
-use Rattle.pair_invariant.proofs.Common.{◌≡◌, inl, inr, ℕ, ◌+◌, ◌-◌, ◌<◌, ◌≤◌, ◌^◌, ◌==◌, Bool, true, false, if◌then◌else◌, List, length}
-use Rattle.pair_invariant.proofs.Common.{Some, None, arith, refl, sym, ◌∙◌, ap, subst, min, eq-eqb, eqb-true, eqb-false, false≢true}
-use Rattle.pair_invariant.proofs.Common.{Setting, IsSetting, left_if, HeadFits, word_of_head, head_of_word, spelling, Word, EntryAt}
-use Rattle.pair_invariant.proofs.Common.{CountAt, same_word, Move, CompareOf, left_of, TcapFields, State, tcap_in, tcap_at, rule_of}
-use Rattle.pair_invariant.proofs.Common.{counted, changes_in_frame, HasRacedHead, IsRaceLost, marked_by, Step, Trace, state_after}
-use Rattle.pair_invariant.proofs.Common.{last_left, not_changed, debited, credited, amount_of, again_end, giving_back, Pair, CompareB}
-use Rattle.pair_invariant.proofs.Common.{Act, took_shared, Undecided, ActiveCall, landed, Core, holds_counts, KnowsUndecided, HasBoth}
-use Rattle.pair_invariant.proofs.Common.{holds_in, holds_head, Invariant, HeadIs, limits_of, TcapOf}
-use Rattle.pair_invariant.specs.spk_nums.specs.declared.replies.Reply.TheVariants as reply
-use Rattle.pair_invariant.specs.spk_nums.specs.declared.replies.Value.TheVariants as value
-use Rattle.pair_invariant.specs.word_map.proofs.WordLemmas.{same_word-true}
-use Rattle.pair_invariant.specs.stage_tcap.specs.quality_lists.specs.Rank.{rank}
-use Rattle.pair_invariant.specs.tcap_words.specs.declared.head_word.HeadWord.{HeadWord}
-use Rattle.pair_invariant.specs.stage_tcap.specs.Pairs.{PairFits, next_b}
-use Rattle.pair_invariant.specs.act_states.specs.declared.work.Act.TheVariants.{Share as share_act}
-use Rattle.pair_invariant.specs.step_ways.proofs.Loads.{IsOfCall, core_is, inner}
-use Rattle.pair_invariant.specs.step_ways.proofs.Refusals.{GoodTook, not_spent}
-use Rattle.pair_invariant.proofs.HeadsB.{owes_share}
+use Rattle.pair_invariant.specs.step_ways.proofs.{◌≡◌, inl, inr, ℕ, ◌+◌, ◌-◌, ◌<◌, ◌≤◌, ◌^◌, ◌==◌, Bool, true, false, if◌then◌else◌, List}
+use Rattle.pair_invariant.specs.step_ways.proofs.{length, Some, None, arith, refl, sym, ◌∙◌, ap, subst, min, eq-eqb, eqb-true, eqb-false}
+use Rattle.pair_invariant.specs.step_ways.proofs.{false≢true, Setting, IsSetting, left_if, HeadFits, word_of_head, head_of_word, spelling}
+use Rattle.pair_invariant.specs.step_ways.proofs.{Word, EntryAt, CountAt, same_word, Move, CompareOf, left_of, TcapFields, State, tcap_in}
+use Rattle.pair_invariant.specs.step_ways.proofs.{tcap_at, rule_of, counted, changes_in_frame, HasRacedHead, marked_by, Step, Trace}
+use Rattle.pair_invariant.specs.step_ways.proofs.{state_after, last_left, debited, credited, amount_of, again_end, Pair, CompareB, Act}
+use Rattle.pair_invariant.specs.step_ways.proofs.{took_shared, Undecided, ActiveCall, landed, Core, holds_counts, KnowsUndecided, HasBoth}
+use Rattle.pair_invariant.specs.step_ways.proofs.{holds_in, holds_head, Invariant, HeadIs, limits_of, TcapOf, rank, HeadWord}
+use Rattle.pair_invariant.specs.step_ways.proofs.{Share as share_act, IsOfCall, core_is, inner, GoodTook, not_spent, Reply, Value}
+use Rattle.pair_invariant.specs.stage_tcap.specs.{giving_back, PairFits}
+use Rattle.pair_invariant.proofs.{HeadsB.owes_share, ListsKnown.AreRead, ShareSteps.own_mark, ShareSteps.load_decides}
+use Rattle.{pair_invariant.specs.kernel_history.specs.Justified.IsRaceLost, pair_invariant.specs.kernel_history.proofs.Laws.not_changed}
+use Rattle.{pair_invariant.specs.word_map.proofs.WordLemmas.same_word-true, pair_invariant.specs.stage_tcap.specs.Pairs.next_b}
 use Rattle.pair_invariant.proofs.ListsKnown as known
-use Rattle.pair_invariant.proofs.ListsKnown.{AreRead}
 use Rattle.pair_invariant.proofs.ShareCalls as calls
-use Rattle.pair_invariant.proofs.ShareSteps.{own_mark, load_decides}
 
 module _ (setup : Setting) (setting : IsSetting setup) (cores : ℕ → Core) (t : Trace) (stands : Invariant setup cores t) (c : ℕ)
     (here : c < setup.cores)
@@ -74,16 +67,16 @@ module _ (setup : Setting) (setting : IsSetting setup) (cores : ℕ → Core) (t
   }
 
   abbrev raced_e : Step
-  raced_e = inner setup setting cores t stands c here a active compare (Some reply.Raced) None
+  raced_e = inner setup setting cores t stands c here a active compare (Some Reply.Raced) None
 
   -- another word is found there than was read
   pub lost_good : (was == old) ≡ false
       → GoodTook setup cores t c compare
-      (landed a (took_shared (record now_p { at = giving_back }) (again_end false (reply.Ok value.Nothing))))
+      (landed a (took_shared (record now_p { at = giving_back }) (again_end false (Reply.Ok Value.Nothing))))
   lost_good other lands =
       load_decides setup setting cores t stands c here a active now_p stage_is has 8 both.a held compare
-      (record { of_call = of_call; kept = kept; apart = λ d. refl }) reply.Raced
-      (record now_p { at = giving_back }) value.Nothing refl refl refl refl (sym held)
+      (record { of_call = of_call; kept = kept; apart = λ d. refl }) Reply.Raced
+      (record now_p { at = giving_back }) Value.Nothing refl refl refl refl (sym held)
       (ap (λ x. counted x c) (owes_share s c a.call a.found now_p has.knows.knows.shares)) refl (λ x. refl) (λ x. refl) refl
       (not_spent setup (cores c) t c (core_is setup setting cores t stands c here a active) room, tt) race
       (λ is_alone. absurd (not_changed setup t raced_e refl is_alone race.own race.has_read race.changed)) lands

@@ -1,43 +1,29 @@
 -- The compare of the head of the second of two temporal capabilities: it carries out a transfer, or is lost.
-use Rattle.pair_invariant.proofs.Common.{◌≡◌, ◌≢◌, inl, inr, ℕ, ◌+◌, ◌-◌, ◌<◌, ◌≤◌, ◌^◌, ◌==◌, not, nat_lt, Bool, true, false}
-use Rattle.pair_invariant.proofs.Common.{if◌then◌else◌, [], ◌∷◌, Some, None, refl, sym, ◌∙◌, ap, subst, le-ltb, Setting, IsSetting}
-use Rattle.pair_invariant.proofs.Common.{HeadFits, word_of_head, head_of_word, HeadWord, spelling, Word, EntryAt, CountAt, same_word}
-use Rattle.pair_invariant.proofs.Common.{Move, CompareOf, left_of, same_same, Kernel, Tcap, TcapFields, PlaceOf, FrameOf, State, put}
-use Rattle.pair_invariant.proofs.Common.{tcap_in, Found, IsFoundAnd, unless, first_of, first_cause, tcap_at, is_short}
-use Rattle.pair_invariant.proofs.Common.{are_unlike, change_of, changed, counted, MayReply, mark_of, head_mark, marked_by, ends_in}
-use Rattle.pair_invariant.proofs.Common.{flushes_in, stamp, Step, Trace, Open, phase, state_after, last_left, state_decided_in, ok_first}
-use Rattle.pair_invariant.proofs.Common.{debited, credited, in_order, same_list, again_end, by_alike, Pair, CompareB, AgainB, StoreA, Act}
-use Rattle.pair_invariant.proofs.Common.{took_shared, took_share, Stage, Undecided, Decided, ActiveCall, landed, Core, holds_counts}
-use Rattle.pair_invariant.proofs.Common.{KnowsUndecided, list_changed, TurnsHead, SparesTcap, HasTcap, HasBoth, holds_at, holds_in}
-use Rattle.pair_invariant.proofs.Common.{holds_head, holds, held_by, times_of, Invariant, IsFrameWord, WordIs, counts_bare}
-use Rattle.pair_invariant.proofs.Common.{IsUntimed, plain_begins, not_exclusive_head_word, sums_keep, TcapOf, ReadsAlike, StaysSaid}
-use Rattle.pair_invariant.proofs.Common.{others_settled, phase_at}
-use Rattle.pair_invariant.specs.spk_nums.specs.declared.replies.Reply.TheVariants as reply
-use Rattle.pair_invariant.specs.spk_nums.specs.declared.replies.Value.TheVariants as value
-use Rattle.pair_invariant.specs.kernel_rules.specs.Access.{found as named_by}
-use Rattle.pair_invariant.specs.kernel_rules.specs.TimeCalls.{are_alike}
-use Rattle.pair_invariant.specs.kernel_rules.specs.CallRelation.{begins_in as begun_by}
-use Rattle.pair_invariant.specs.kernel_history.specs.Stamps.{begins_in}
-use Rattle.pair_invariant.specs.stage_tcap.specs.quality_lists.specs.Rank.{rank}
-use Rattle.pair_invariant.specs.stage_tcap.specs.Pairs.{compared_after}
-use Rattle.pair_invariant.specs.stage_tcap.specs.declared.pair.PairWork.TheVariants.{Transfer}
-use Rattle.pair_invariant.specs.act_states.specs.declared.work.Act.TheVariants.{Share as share_act}
+use Rattle.pair_invariant.specs.step_ways.proofs.{◌≡◌, ◌≢◌, inl, inr, ℕ, ◌+◌, ◌-◌, ◌<◌, ◌≤◌, ◌^◌, ◌==◌, not, ltb as nat_lt, Bool, true}
+use Rattle.pair_invariant.specs.step_ways.proofs.{false, if◌then◌else◌, [], ◌∷◌, Some, None, refl, sym, ◌∙◌, ap, subst, le-ltb, Setting}
+use Rattle.pair_invariant.specs.step_ways.proofs.{IsSetting, HeadFits, word_of_head, head_of_word, HeadWord, spelling, Word, EntryAt}
+use Rattle.pair_invariant.specs.step_ways.proofs.{CountAt, same_word, Move, CompareOf, left_of, same_same, Kernel, Tcap, TcapFields}
+use Rattle.pair_invariant.specs.step_ways.proofs.{PlaceOf, FrameOf, State, put, tcap_in, Found, IsFoundAnd, unless, first_of, first_cause}
+use Rattle.pair_invariant.specs.step_ways.proofs.{tcap_at, is_short, are_unlike, change_of, changed, counted, MayReply, mark_of, head_mark}
+use Rattle.pair_invariant.specs.step_ways.proofs.{marked_by, ends_in, flushes_in, stamp, Step, Trace, Open, phase, state_after, last_left}
+use Rattle.pair_invariant.specs.step_ways.proofs.{state_decided_in, ok_first, debited, credited, in_order, same_list, again_end, by_alike}
+use Rattle.pair_invariant.specs.step_ways.proofs.{Pair, CompareB, AgainB, StoreA, Act, took_shared, took_share, Stage, Undecided, Decided}
+use Rattle.pair_invariant.specs.step_ways.proofs.{ActiveCall, landed, Core, holds_counts, KnowsUndecided, list_changed, TurnsHead}
+use Rattle.pair_invariant.specs.step_ways.proofs.{SparesTcap, HasTcap, HasBoth, holds_at, holds_in, holds_head, holds, held_by, times_of}
+use Rattle.pair_invariant.specs.step_ways.proofs.{Invariant, IsFrameWord, WordIs, counts_bare, IsUntimed, plain_begins}
+use Rattle.pair_invariant.specs.step_ways.proofs.{not_exclusive_head_word, sums_keep, TcapOf, ReadsAlike, StaysSaid, others_settled}
+use Rattle.pair_invariant.specs.step_ways.proofs.{phase_at, found as named_by, begins_in, rank, Share as share_act, next_at, core_in_call}
+use Rattle.pair_invariant.specs.step_ways.proofs.{core_is, inner, GoodTook, not_spent, spares_none, same_marks, decides_writing, does}
+use Rattle.pair_invariant.specs.step_ways.proofs.{Reply, Value}
+use Rattle.pair_invariant.proofs.{AreRead, all_gone, spares_one, causes_of, change_by, mark_is}
+use Rattle.pair_invariant.specs.kernel_rules.specs.{are_alike, begins_in as begun_by, Move as move_edit}
+use Rattle.pair_invariant.specs.stage_tcap.specs.{Pairs.compared_after, declared.pair.PairWork.TheVariants.Transfer}
 use Rattle.pair_invariant.specs.act_states.specs.declared.work.Tail.TheVariants.{Share as share_tail}
-use Rattle.pair_invariant.specs.step_ways.proofs.Loads.{next_at, core_in_call, core_is, inner}
-use Rattle.pair_invariant.specs.step_ways.proofs.Refusals.{GoodTook, not_spent}
-use Rattle.pair_invariant.specs.step_ways.proofs.Users.{spares_none}
-use Rattle.pair_invariant.specs.step_ways.proofs.Writes.{same_marks, decides_writing}
+use Rattle.pair_invariant.proofs.{ListsKnown.same_alike, Moved.IsMoved, Moved.with_both, ShareSteps.stores_a}
 use Rattle.share_invariant.proofs.Compared as compared
 use Rattle.pair_invariant.proofs.ListsKnown as known
-use Rattle.pair_invariant.proofs.ListsKnown.{AreRead, same_alike, all_gone}
-use Rattle.pair_invariant.proofs.MarksA.{spares_one}
 use Rattle.pair_invariant.proofs.Moved as moves
-use Rattle.pair_invariant.proofs.Moved.{IsMoved, with_both}
 use Rattle.pair_invariant.proofs.ShareCalls as calls
-use Rattle.pair_invariant.proofs.ShareCalls.{causes_of, change_by}
-use Rattle.pair_invariant.proofs.ShareSteps.{mark_is, stores_a}
-use Rattle.pair_invariant.specs.kernel_rules.specs.Edits.{Move as move_edit}
-use Rattle.pair_invariant.specs.kernel_rules.specs.Rules.{does}
 
 module _ (setup : Setting) (setting : IsSetting setup) (cores : ℕ → Core) (t : Trace) (stands : Invariant setup cores t) (c : ℕ)
     (here : c < setup.cores)
@@ -107,16 +93,16 @@ module _ (setup : Setting) (setting : IsSetting setup) (cores : ℕ → Core) (t
   -- The word is as it was read.
   module _ (equal : (was == old) ≡ true) where
     abbrev e : Step
-    e = inner setup setting cores t stands c here a active compare (Some (reply.Ok value.Nothing)) None
+    e = inner setup setting cores t stands c here a active compare (Some (Reply.Ok Value.Nothing)) None
 
     abbrev s' : State
     s' = state_after setup (e ∷ t)
 
     abbrev left_p : Pair
-    left_p = record now_p { at = StoreA true value.Nothing }
+    left_p = record now_p { at = StoreA true Value.Nothing }
 
     abbrev stage : Stage
-    stage = Decided (reply.Ok value.Nothing) None (share_tail left_p)
+    stage = Decided (Reply.Ok Value.Nothing) None (share_tail left_p)
 
     abbrev after : Core
     after = core_in_call (cores c) ((cores c).own.made + 1) (next_at a a.found stage)
@@ -151,7 +137,7 @@ module _ (setup : Setting) (setting : IsSetting setup) (cores : ℕ → Core) (t
     alike : same_list (in_order p.list_a) (in_order p.list_b) ≡ true
     alike = by (same_list (in_order p.list_a) (in_order p.list_b)) refl
       where
-        not_again : AgainB reply.Unlike ≡ CompareB → ⊥
+        not_again : AgainB Reply.Unlike ≡ CompareB → ⊥
         not_again h = cc
 
         by : (b : Bool) → same_list (in_order p.list_a) (in_order p.list_b) ≡ b → b ≡ true
@@ -166,29 +152,29 @@ module _ (setup : Setting) (setting : IsSetting setup) (cores : ℕ → Core) (t
 
     no_cause : first_cause s c (causes_of s (Transfer m) (named_by is.a) (named_by is.b)) ≡ None
     no_cause =
-        ap (λ b. first_of (if b then Some reply.Same else None)
+        ap (λ b. first_of (if b then Some Reply.Same else None)
         (first_cause s c (is_short s (named_by is.a) m ∷ are_unlike s (named_by is.a) (named_by is.b) ∷ [])))
         (calls.not_same setup setting cores t stands c here a active now_p stage_is has)
-        ∙ ap (λ (f : ℕ). first_of (if nat_lt (tcap_at s f).budget m then Some (reply.Short (tcap_at s is.a.frame).budget) else None)
+        ∙ ap (λ (f : ℕ). first_of (if nat_lt (tcap_at s f).budget m then Some (Reply.Short (tcap_at s is.a.frame).budget) else None)
         (first_cause s c (are_unlike s (named_by is.a) (named_by is.b) ∷ []))) (sym is.shared.first)
-        ∙ ap (λ b. first_of (if b then Some (reply.Short (tcap_at s is.a.frame).budget) else None)
+        ∙ ap (λ b. first_of (if b then Some (Reply.Short (tcap_at s is.a.frame).budget) else None)
         (first_cause s c (are_unlike s (named_by is.a) (named_by is.b) ∷ []))) not_short
         ∙ ap (λ (f : ℕ). first_of (if not (are_alike (tcap_at s f).qualities (tcap_at s is.b.frame).qualities)
-        then Some reply.Unlike else None) None)
+        then Some Reply.Unlike else None) None)
         (sym is.shared.first)
         ∙ ap (λ (f : ℕ). first_of (if not (are_alike (tcap_at s p.a).qualities (tcap_at s f).qualities)
-        then Some reply.Unlike else None) None)
+        then Some Reply.Unlike else None) None)
         (sym is.shared.second)
-        ∙ ap (λ b. first_of (if not b then Some reply.Unlike else None) None) lists_alike
+        ∙ ap (λ b. first_of (if not b then Some Reply.Unlike else None) None) lists_alike
       where
         not_short : nat_lt (tcap_at s p.a).budget m ≡ false
         not_short = ap (λ x. nat_lt (tcap_in x).budget m) tcap_a.is ∙ le-ltb qa.budget m enough
 
-    change_is : change_of s c a.call ≡ Found (does c s value.Nothing (move_edit p.a p.b m ∷ []))
+    change_is : change_of s c a.call ≡ Found (does c s Value.Nothing (move_edit p.a p.b m ∷ []))
     change_is = calls.change_is setup setting cores t stands c here a active now_p stage_is has
         ∙ ap (λ o. unless o (change_by c s (Transfer m) is.a.frame is.b.frame)) no_cause
-        ∙ ap (λ (f : ℕ). Found (does c s value.Nothing (move_edit f is.b.frame m ∷ []))) (sym is.shared.first)
-        ∙ ap (λ (f : ℕ). Found (does c s value.Nothing (move_edit p.a f m ∷ []))) (sym is.shared.second)
+        ∙ ap (λ (f : ℕ). Found (does c s Value.Nothing (move_edit f is.b.frame m ∷ []))) (sym is.shared.first)
+        ∙ ap (λ (f : ℕ). Found (does c s Value.Nothing (move_edit p.a f m ∷ []))) (sym is.shared.second)
 
     -- the state after it
     abbrev qa_less : TcapFields
@@ -198,15 +184,15 @@ module _ (setup : Setting) (setting : IsSetting setup) (cores : ℕ → Core) (t
     qb_more = record qb { budget = qb.budget + m }
 
     now : s' ≡ counted (with_both s p.a qa_less p.b qb_more) c
-    now = ap (λ ph. state_decided_in ph (reply.Ok value.Nothing) s c) is_open
+    now = ap (λ ph. state_decided_in ph (Reply.Ok Value.Nothing) s c) is_open
         ∙ ap (λ x. counted (changed s x) c) change_is
         ∙ ap (λ x. counted x c) (moves.moved_both s p.a p.b m qa qb differ tcap_a.is tcap_b.is)
 
     plain : IsUntimed setup t e
     plain = record {
-      begins = λ x. ap (λ ph. begins_in (Some (reply.Ok value.Nothing)) ph s c x) is_open ∙ ap (λ j. begun_by j x) change_is;
-      ends = λ x. ap (λ ph. ends_in (Some (reply.Ok value.Nothing)) ph x) is_open ∙ is.ends_none x;
-      flushes = ap (flushes_in (Some (reply.Ok value.Nothing))) is_open ∙ is.flush_none;
+      begins = λ x. ap (λ ph. begins_in (Some (Reply.Ok Value.Nothing)) ph s c x) is_open ∙ ap (λ j. begun_by j x) change_is;
+      ends = λ x. ap (λ ph. ends_in (Some (Reply.Ok Value.Nothing)) ph x) is_open ∙ is.ends_none x;
+      flushes = ap (flushes_in (Some (Reply.Ok Value.Nothing))) is_open ∙ is.flush_none;
       apart = λ d. refl;
       same = refl;
     }
@@ -270,10 +256,10 @@ module _ (setup : Setting) (setting : IsSetting setup) (cores : ℕ → Core) (t
         (subst (λ o. TurnsHead c (list_changed t p.b) o (Some new_head)) (sym shown)
         (inl both.b.head.bare, inr (refl, inl both.b.head.bare))))
 
-    permitted : MayReply s c a.call (reply.Ok value.Nothing)
+    permitted : MayReply s c a.call (Reply.Ok Value.Nothing)
     permitted = (
       not_spent setup (cores c) t c (core_is setup setting cores t stands c here a active) room,
-      (has.acts, subst (λ x. IsFoundAnd x (λ y. y.value ≡ value.Nothing)) (sym change_is) refl),
+      (has.acts, subst (λ x. IsFoundAnd x (λ y. y.value ≡ Value.Nothing)) (sym change_is) refl),
     )
 
     tcap_left : HasTcap s' c p.a
@@ -298,9 +284,9 @@ module _ (setup : Setting) (setting : IsSetting setup) (cores : ℕ → Core) (t
             ∙ sym (ap (λ h. h.marks w) held)
 
     pub won_good : GoodTook setup cores t c compare
-        (landed a (took_shared left_p (again_end true (reply.Ok value.Nothing))))
+        (landed a (took_shared left_p (again_end true (Reply.Ok Value.Nothing))))
     won_good lands =
-        decides_writing setup setting cores t stands c here a active compare ((cores c).own.made + 1) (reply.Ok value.Nothing) a.found stage
+        decides_writing setup setting cores t stands c here a active compare ((cores c).own.made + 1) (Reply.Ok Value.Nothing) a.found stage
         bare bare_now (subst (λ (n : ℕ). n < 2 ^ 64) (sym leaves_it) (spelling.small new_head new_fits))
         (compared.of_call setup setting cores t stands c here a active what_p stage_is has) lands opens refl
         (λ w. ap (λ b. if same_word w at_a then true else b) (same_marks (Some None) None a.counts w) ∙ sym (ap (λ h. h.marks w) held))
@@ -321,15 +307,15 @@ module _ (setup : Setting) (setting : IsSetting setup) (cores : ℕ → Core) (t
           permitted = permitted;
           justified = all_gone setup setting cores t stands c here a active now_p stage_is has e refl refl;
         })
-        (λ is_alone. ok_first s c a.call value.Nothing permitted)
+        (λ is_alone. ok_first s c a.call Value.Nothing permitted)
         (stores_a setup setting cores t stands c here a active now_p stage_is has 8 both.a held e refl refl refl apart_a tcap_left
-        left_p true value.Nothing refl refl refl refl)
+        left_p true Value.Nothing refl refl refl refl)
 
   pub compare_good : GoodTook setup cores t c compare (landed a (took_share now_p was))
   compare_good = by (was == old) refl
     where
       by : (equal : Bool) → (was == old) ≡ equal
           → GoodTook setup cores t c compare
-          (landed a (took_shared (record now_p { at = compared_after equal (Transfer m) }) (again_end equal (reply.Ok value.Nothing))))
+          (landed a (took_shared (record now_p { at = compared_after equal (Transfer m) }) (again_end equal (Reply.Ok Value.Nothing))))
       by true told = won_good told
       by false told = compared.lost_good setup setting cores t stands c here a active what_p stage_is has told

@@ -1,63 +1,42 @@
 -- The compare of the head of the second of two temporal capabilities carries out a delegation: it marks that head, and the call has
 -- still to store the merged list and both heads.
-use Rattle.pair_invariant.proofs.Common.{◌≡◌, ◌≢◌, inl, inr, ℕ, zero, suc, ◌+◌, ◌-◌, ◌<◌, ◌≤◌, ◌^◌, ◌==◌, ◌&&◌, not, nat_lt, nat_le, Bool}
-use Rattle.pair_invariant.proofs.Common.{true, false, if◌then◌else◌, List, [], ◌∷◌, length, slice_get, Option, Some, None, arith, refl}
-use Rattle.pair_invariant.proofs.Common.{sym, ◌∙◌, ap, subst, eq-eqb, eqb-true, ne_eqb, false≢true, le-leb, leb-true, le-ltb, Setting}
-use Rattle.pair_invariant.proofs.Common.{IsSetting, HeadFits}
-use Rattle.pair_invariant.proofs.Common.{word_of_head, head_of_word, quality_of_word, HeadWord, spelling, Word, EntryAt, CountAt}
-use Rattle.pair_invariant.proofs.Common.{same_word, Move, CompareOf, left_of, same_same, Kernel, Tcap, TcapFields, PlaceOf, FrameOf}
-use Rattle.pair_invariant.proofs.Common.{State, put, tcap_in, Found, IsFoundAnd, unless, first_of, first_cause, tcap_at, moved}
-use Rattle.pair_invariant.proofs.Common.{is_short, are_many, change_of, changed, counted, MayReply, IsInFootprint, mark_of, head_mark}
-use Rattle.pair_invariant.proofs.Common.{marked_by, ends_in, flushes_in, stamp, Step, Trace, Open, phase, state_after, last_left}
-use Rattle.pair_invariant.proofs.Common.{state_decided_in, WasAt, ok_first, was_stays, cases_word, same_word-other, last_left-here}
-use Rattle.pair_invariant.proofs.Common.{last_left-there, marked, debited, relisted, credited, in_order, same_list, again_end, by_room}
-use Rattle.pair_invariant.proofs.Common.{Pair, CompareB, AgainB}
-use Rattle.pair_invariant.proofs.Common.{StoreList, Act, took_shared, took_share, Stage, Undecided, Decided, ActiveCall, landed, Core}
-use Rattle.pair_invariant.proofs.Common.{holds_counts, settled, MarkIs, KnowsUndecided, list_changed, TurnsHead, SparesTcap, HasTcap}
-use Rattle.pair_invariant.proofs.Common.{HasBoth, StoresA, KnowsShared, holds_in, holds_head}
-use Rattle.pair_invariant.proofs.Common.{holds, held_by, times_of, IsExclusive, Invariant}
-use Rattle.pair_invariant.proofs.Common.{IsFrameWord, WordIs, counts_bare, IsUntimed, plain_begins, exclusive_free}
-use Rattle.pair_invariant.proofs.Common.{not_exclusive_head_word, marked_on, sums_keep, TcapOf, ReadsAlike, StaysSaid, marks_own, put_same}
-use Rattle.std.proofs.lemmas.Bool.{and_parts, and_from}
-use Rattle.pair_invariant.specs.spk_nums.specs.Merging.{merged}
-use Rattle.pair_invariant.specs.spk_nums.specs.Qualities.{IsQualityList}
-use Rattle.pair_invariant.specs.spk_nums.specs.declared.replies.Reply.TheVariants as reply
-use Rattle.pair_invariant.specs.spk_nums.specs.declared.replies.Value.TheVariants as value
-use Rattle.pair_invariant.specs.tcap_words.specs.Quality.{QualityFits, word_of_quality}
-use Rattle.pair_invariant.specs.tcap_words.proofs.QualityLemmas as qualities
-use Rattle.pair_invariant.specs.kernel_rules.specs.Access.{found as named_by}
-use Rattle.pair_invariant.specs.kernel_rules.specs.TimeCalls.{merged_list}
-use Rattle.pair_invariant.specs.kernel_rules.specs.Edits.{with_qualities, Move as move_edit, Merge as merge_edit}
-use Rattle.pair_invariant.specs.kernel_rules.specs.CallRelation.{begins_in as begun_by}
-use Rattle.pair_invariant.specs.kernel_laws.proofs.Lists.{merged_list_is}
-use Rattle.pair_invariant.specs.kernel_history.specs.Stamps.{begins_in}
-use Rattle.pair_invariant.specs.stage_tcap.specs.quality_lists.specs.Rank.{rank}
+use Rattle.pair_invariant.specs.step_ways.proofs.{◌≡◌, ◌≢◌, inl, inr, ℕ, zero, suc, ◌+◌, ◌-◌, ◌<◌, ◌≤◌, ◌^◌, ◌==◌, ◌&&◌, not, ltb as nat_lt}
+use Rattle.pair_invariant.specs.step_ways.proofs.{leb as nat_le, Bool, true, false, if◌then◌else◌, List, [], ◌∷◌, length, slice_get, Option}
+use Rattle.pair_invariant.specs.step_ways.proofs.{Some, None, arith, refl, sym, ◌∙◌, ap, subst, eq-eqb, eqb-true, ne_eqb, false≢true}
+use Rattle.pair_invariant.specs.step_ways.proofs.{le-leb, leb-true, le-ltb, Setting, IsSetting, HeadFits, word_of_head, head_of_word}
+use Rattle.pair_invariant.specs.step_ways.proofs.{quality_of_word, HeadWord, spelling, Word, EntryAt, CountAt, same_word, Move, CompareOf}
+use Rattle.pair_invariant.specs.step_ways.proofs.{left_of, same_same, Kernel, Tcap, TcapFields, PlaceOf, FrameOf, State, put, tcap_in}
+use Rattle.pair_invariant.specs.step_ways.proofs.{Found, IsFoundAnd, unless, first_of, first_cause, tcap_at, is_short, are_many, change_of}
+use Rattle.pair_invariant.specs.step_ways.proofs.{changed, counted, MayReply, IsInFootprint, mark_of, head_mark, marked_by, ends_in}
+use Rattle.pair_invariant.specs.step_ways.proofs.{flushes_in, stamp, Step, Trace, Open, phase, state_after, last_left, state_decided_in}
+use Rattle.pair_invariant.specs.step_ways.proofs.{WasAt, ok_first, was_stays, cases_word, same_word-other, last_left-here, last_left-there}
+use Rattle.pair_invariant.specs.step_ways.proofs.{marked, debited, credited, in_order, same_list, again_end, by_room, Pair, CompareB}
+use Rattle.pair_invariant.specs.step_ways.proofs.{AgainB, StoreList, Act, took_shared, took_share, Stage, Undecided, Decided, ActiveCall}
+use Rattle.pair_invariant.specs.step_ways.proofs.{landed, Core, holds_counts, settled, KnowsUndecided, list_changed, TurnsHead, SparesTcap}
+use Rattle.pair_invariant.specs.step_ways.proofs.{HasTcap, HasBoth, holds_in, holds_head, holds, held_by, times_of, Invariant, IsFrameWord}
+use Rattle.pair_invariant.specs.step_ways.proofs.{WordIs, counts_bare, IsUntimed, plain_begins, exclusive_free, not_exclusive_head_word}
+use Rattle.pair_invariant.specs.step_ways.proofs.{sums_keep, TcapOf, ReadsAlike, StaysSaid, marks_own, put_same, found as named_by}
+use Rattle.pair_invariant.specs.step_ways.proofs.{begins_in, rank, Share as share_act, next_at, core_in_call, core_is, inner}
+use Rattle.pair_invariant.specs.step_ways.proofs.{decides_changing, GoodTook, not_spent, spares_none, same_marks, does, Reply, Value}
+use Rattle.pair_invariant.specs.kernel_rules.proofs.{moved, and_from, merged, IsQualityList, merged_list, with_qualities, Move as move_edit}
+use Rattle.pair_invariant.specs.kernel_rules.proofs.{Merge as merge_edit, begins_in as begun_by}
+use Rattle.pair_invariant.proofs.{AreRead, all_gone, spares_one, causes_of, change_by, mark_is}
+use Rattle.pair_invariant.specs.core_invariant.specs.{MarkIs, StoresA, KnowsShared, IsExclusive, KeepsList}
+use Rattle.pair_invariant.specs.stage_tcap.specs.{relisted, merged_if, merge_of, word_of_list, compared_after}
+use Rattle.pair_invariant.specs.tcap_words.specs.{QualityFits, word_of_quality}
+use Rattle.pair_invariant.specs.kept_facts.proofs.{Pairs.marked_on, Exclusive.not_exclusive_list}
 use Rattle.pair_invariant.specs.stage_tcap.specs.quality_lists.proofs.Ranks.{Rises, merged_rises}
-use Rattle.pair_invariant.specs.core_invariant.specs.Shares.{KeepsList}
-use Rattle.pair_invariant.specs.stage_tcap.specs.Lists.{merged_if, merge_of}
-use Rattle.pair_invariant.specs.stage_tcap.specs.Pairs.{word_of_list, compared_after}
 use Rattle.pair_invariant.specs.stage_tcap.proofs.ListLemmas.{got_pair, pair_in_word, equal_lists, found_equal}
-use Rattle.pair_invariant.specs.stage_tcap.specs.declared.pair.PairWork.TheVariants.{Delegate}
-use Rattle.pair_invariant.specs.act_states.specs.declared.work.Act.TheVariants.{Share as share_act}
-use Rattle.pair_invariant.specs.act_states.specs.declared.work.Tail.TheVariants.{Share as share_tail}
-use Rattle.pair_invariant.specs.kept_facts.proofs.Exclusive.{not_exclusive_list}
-use Rattle.pair_invariant.specs.step_ways.proofs.Loads.{next_at, core_in_call, core_is, inner}
-use Rattle.pair_invariant.specs.step_ways.proofs.OwnChanges.{decides_changing}
-use Rattle.pair_invariant.specs.step_ways.proofs.Refusals.{GoodTook, not_spent}
-use Rattle.pair_invariant.specs.step_ways.proofs.Users.{spares_none}
-use Rattle.pair_invariant.specs.step_ways.proofs.Writes.{same_marks}
+use Rattle.pair_invariant.proofs.{Moved.IsMoved, Moved.with_both, ShareSteps.list_bare, ShareSteps.list_plain, ShareSteps.now_was}
+use Rattle.{std.proofs.lemmas.Bool.and_parts, pair_invariant.specs.kernel_laws.proofs.Lists.merged_list_is}
+use Rattle.{pair_invariant.specs.stage_tcap.specs.declared.pair.PairWork.TheVariants.Delegate}
+use Rattle.{pair_invariant.specs.act_states.specs.declared.work.Tail.TheVariants.Share as share_tail, share_invariant.proofs.Turned.IsTaken}
+use Rattle.pair_invariant.specs.tcap_words.proofs.QualityLemmas as qualities
 use Rattle.share_invariant.proofs.Compared as compared
 use Rattle.pair_invariant.proofs.ListsKnown as known
-use Rattle.pair_invariant.proofs.ListsKnown.{AreRead, all_gone}
-use Rattle.pair_invariant.proofs.MarksA.{spares_one}
 use Rattle.pair_invariant.proofs.Moved as moves
-use Rattle.pair_invariant.proofs.Moved.{IsMoved, with_both}
 use Rattle.pair_invariant.proofs.ShareCalls as calls
-use Rattle.pair_invariant.proofs.ShareCalls.{causes_of, change_by}
-use Rattle.pair_invariant.proofs.ShareSteps.{mark_is, list_bare, list_plain, now_was}
 use Rattle.share_invariant.proofs.Turned as turned
-use Rattle.share_invariant.proofs.Turned.{IsTaken}
-use Rattle.pair_invariant.specs.kernel_rules.specs.Rules.{does}
 
 -- A merged list that has room is kept, and has at most 8 pairs.
 kept_list : (xs ys zs : List (ℕ × ℕ)) → merge_of xs ys ≡ Some zs → (zs ≡ merged xs ys) × (length (merged xs ys) ≤ 8)
@@ -164,7 +143,7 @@ module _ (setup : Setting) (setting : IsSetting setup) (cores : ℕ → Core) (t
   -- The word is as it was read.
   module _ (equal : (was == old) ≡ true) where
     abbrev e : Step
-    e = inner setup setting cores t stands c here a active compare (Some (reply.Ok value.Nothing)) None
+    e = inner setup setting cores t stands c here a active compare (Some (Reply.Ok Value.Nothing)) None
 
     abbrev s' : State
     s' = state_after setup (e ∷ t)
@@ -173,7 +152,7 @@ module _ (setup : Setting) (setting : IsSetting setup) (cores : ℕ → Core) (t
     left_p = record now_p { at = StoreList 1 }
 
     abbrev stage : Stage
-    stage = Decided (reply.Ok value.Nothing) None (share_tail left_p)
+    stage = Decided (Reply.Ok Value.Nothing) None (share_tail left_p)
 
     abbrev after : Core
     after = core_in_call (cores c) ((cores c).own.made + 1) (next_at a a.found stage)
@@ -218,7 +197,7 @@ module _ (setup : Setting) (setting : IsSetting setup) (cores : ℕ → Core) (t
     some_list : (o : Option (List (ℕ × ℕ))) → p.list_b ≡ o → by_room o ≡ CompareB → o ≡ Some list
     some_list None list_is judges = absurd (not_again judges)
       where
-        not_again : AgainB reply.TooMany ≡ CompareB → ⊥
+        not_again : AgainB Reply.TooMany ≡ CompareB → ⊥
         not_again h = cc
     some_list (Some xs) list_is judges = ap (λ o. Some (in_order o)) (sym list_is)
 
@@ -289,30 +268,30 @@ module _ (setup : Setting) (setting : IsSetting setup) (cores : ℕ → Core) (t
     -- nothing refuses it
     no_cause : first_cause s c (causes_of s (Delegate m) (named_by is.a) (named_by is.b)) ≡ None
     no_cause =
-        ap (λ b. first_of (if b then Some reply.Same else None)
+        ap (λ b. first_of (if b then Some Reply.Same else None)
         (first_cause s c (is_short s (named_by is.a) m ∷ are_many s (named_by is.a) (named_by is.b) ∷ [])))
         (calls.not_same setup setting cores t stands c here a active now_p stage_is has)
-        ∙ ap (λ (f : ℕ). first_of (if nat_lt (tcap_at s f).budget m then Some (reply.Short (tcap_at s is.a.frame).budget) else None)
+        ∙ ap (λ (f : ℕ). first_of (if nat_lt (tcap_at s f).budget m then Some (Reply.Short (tcap_at s is.a.frame).budget) else None)
         (first_cause s c (are_many s (named_by is.a) (named_by is.b) ∷ []))) (sym is.shared.first)
-        ∙ ap (λ b. first_of (if b then Some (reply.Short (tcap_at s is.a.frame).budget) else None)
+        ∙ ap (λ b. first_of (if b then Some (Reply.Short (tcap_at s is.a.frame).budget) else None)
         (first_cause s c (are_many s (named_by is.a) (named_by is.b) ∷ []))) not_short
-        ∙ ap (λ (f : ℕ). first_of (if nat_lt 8 (length (merged_list s f is.b.frame)) then Some reply.TooMany else None) None)
+        ∙ ap (λ (f : ℕ). first_of (if nat_lt 8 (length (merged_list s f is.b.frame)) then Some Reply.TooMany else None) None)
         (sym is.shared.first)
-        ∙ ap (λ (f : ℕ). first_of (if nat_lt 8 (length (merged_list s p.a f)) then Some reply.TooMany else None) None)
+        ∙ ap (λ (f : ℕ). first_of (if nat_lt 8 (length (merged_list s p.a f)) then Some Reply.TooMany else None) None)
         (sym is.shared.second)
-        ∙ ap (λ b. first_of (if b then Some reply.TooMany else None) None) (le-ltb 8 (length (merged_list s p.a p.b)) few)
+        ∙ ap (λ b. first_of (if b then Some Reply.TooMany else None) None) (le-ltb 8 (length (merged_list s p.a p.b)) few)
       where
         not_short : nat_lt (tcap_at s p.a).budget m ≡ false
         not_short = ap (λ x. nat_lt (tcap_in x).budget m) tcap_a.is
             ∙ le-ltb qa.budget m (compared.enough setup setting cores t stands c here a active what_p stage_is has equal)
 
-    change_is : change_of s c a.call ≡ Found (does c s value.Nothing (move_edit p.a p.b m ∷ merge_edit p.b (merged_list s p.a p.b) ∷ []))
+    change_is : change_of s c a.call ≡ Found (does c s Value.Nothing (move_edit p.a p.b m ∷ merge_edit p.b (merged_list s p.a p.b) ∷ []))
     change_is = calls.change_is setup setting cores t stands c here a active now_p stage_is has
         ∙ ap (λ o. unless o (change_by c s (Delegate m) is.a.frame is.b.frame)) no_cause
-        ∙ ap (λ (f : ℕ). Found (does c s value.Nothing (move_edit f is.b.frame m ∷ merge_edit is.b.frame (merged_list s f is.b.frame)
+        ∙ ap (λ (f : ℕ). Found (does c s Value.Nothing (move_edit f is.b.frame m ∷ merge_edit is.b.frame (merged_list s f is.b.frame)
         ∷ [])))
         (sym is.shared.first)
-        ∙ ap (λ (f : ℕ). Found (does c s value.Nothing (move_edit p.a f m ∷ merge_edit f (merged_list s p.a f) ∷ [])))
+        ∙ ap (λ (f : ℕ). Found (does c s Value.Nothing (move_edit p.a f m ∷ merge_edit f (merged_list s p.a f) ∷ [])))
         (sym is.shared.second)
 
     -- the state after it
@@ -323,16 +302,16 @@ module _ (setup : Setting) (setting : IsSetting setup) (cores : ℕ → Core) (t
     qb_more = record { budget = qb.budget + m; qualities = list }
 
     now : s' ≡ counted (with_both s p.a qa_less p.b qb_more) c
-    now = ap (λ ph. state_decided_in ph (reply.Ok value.Nothing) s c) is_open
+    now = ap (λ ph. state_decided_in ph (Reply.Ok Value.Nothing) s c) is_open
         ∙ ap (λ x. counted (changed s x) c) change_is
         ∙ ap (λ xs. counted (with_qualities (moved s p.a p.b m) p.b xs) c) (sym list_is)
         ∙ ap (λ x. counted x c) (moves.listed_both s p.a p.b m qa qb differ tcap_a.is tcap_b.is list)
 
     plain : IsUntimed setup t e
     plain = record {
-      begins = λ x. ap (λ ph. begins_in (Some (reply.Ok value.Nothing)) ph s c x) is_open ∙ ap (λ j. begun_by j x) change_is;
-      ends = λ x. ap (λ ph. ends_in (Some (reply.Ok value.Nothing)) ph x) is_open ∙ is.ends_none x;
-      flushes = ap (flushes_in (Some (reply.Ok value.Nothing))) is_open ∙ is.flush_none;
+      begins = λ x. ap (λ ph. begins_in (Some (Reply.Ok Value.Nothing)) ph s c x) is_open ∙ ap (λ j. begun_by j x) change_is;
+      ends = λ x. ap (λ ph. ends_in (Some (Reply.Ok Value.Nothing)) ph x) is_open ∙ is.ends_none x;
+      flushes = ap (flushes_in (Some (Reply.Ok Value.Nothing))) is_open ∙ is.flush_none;
       apart = λ d. refl;
       same = refl;
     }
@@ -584,16 +563,16 @@ module _ (setup : Setting) (setting : IsSetting setup) (cores : ℕ → Core) (t
         (sym (compared.shown setup setting cores t stands c here a active what_p stage_is has equal))
         (inl both.b.head.bare, inr (refl, inl both.b.head.bare))))
 
-    permitted : MayReply s c a.call (reply.Ok value.Nothing)
+    permitted : MayReply s c a.call (Reply.Ok Value.Nothing)
     permitted = (
       not_spent setup (cores c) t c (core_is setup setting cores t stands c here a active) room,
-      (has.acts, subst (λ x. IsFoundAnd x (λ y. y.value ≡ value.Nothing)) (sym change_is) refl),
+      (has.acts, subst (λ x. IsFoundAnd x (λ y. y.value ≡ Value.Nothing)) (sym change_is) refl),
     )
 
     pub won_good : GoodTook setup cores t c compare
-        (landed a (took_shared left_p (again_end true (reply.Ok value.Nothing))))
+        (landed a (took_shared left_p (again_end true (Reply.Ok Value.Nothing))))
     won_good lands =
-        decides_changing setup setting cores t stands c here a active compare (reply.Ok value.Nothing)
+        decides_changing setup setting cores t stands c here a active compare (Reply.Ok Value.Nothing)
         (record (cores c).own { made = (cores c).own.made + 1 }) stage
         (record { core = refl; layout = refl; limit = refl; epochs = refl; exit = refl })
         (subst (λ (n : ℕ). n < 2 ^ 64) (sym leaves_it) (spelling.small new_head new_fits))
@@ -615,7 +594,7 @@ module _ (setup : Setting) (setting : IsSetting setup) (cores : ℕ → Core) (t
           permitted = permitted;
           justified = all_gone setup setting cores t stands c here a active now_p stage_is has e refl refl;
         })
-        (λ is_alone. ok_first s c a.call value.Nothing permitted)
+        (λ is_alone. ok_first s c a.call Value.Nothing permitted)
         left_known
 
   pub delegate_good : GoodTook setup cores t c compare (landed a (took_share now_p was))
@@ -623,6 +602,6 @@ module _ (setup : Setting) (setting : IsSetting setup) (cores : ℕ → Core) (t
     where
       by : (equal : Bool) → (was == old) ≡ equal
           → GoodTook setup cores t c compare
-          (landed a (took_shared (record now_p { at = compared_after equal (Delegate m) }) (again_end equal (reply.Ok value.Nothing))))
+          (landed a (took_shared (record now_p { at = compared_after equal (Delegate m) }) (again_end equal (Reply.Ok Value.Nothing))))
       by true told = won_good told
       by false told = compared.lost_good setup setting cores t stands c here a active what_p stage_is has told

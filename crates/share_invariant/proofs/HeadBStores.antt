@@ -1,15 +1,13 @@
 -- A delegation, whose list is stored, gives the head of the second of two temporal capabilities back with the ticks, and in the next version
 -- where the list is another.
-use Rattle.pair_invariant.proofs.Common.{◌≡◌, ◌≢◌, ◌⊎◌, inl, inr, ℕ, ◌<◌, Bool, true, false, if◌then◌else◌, Option, Some, None, arith, refl, sym, ◌∙◌, ap}
-use Rattle.pair_invariant.proofs.Common.{Setting, IsSetting, Reply, HeadFits, word_of_head, HeadWord, EntryAt, Move, StoreOf, Step, Trace}
-use Rattle.pair_invariant.proofs.Common.{same_word-other, marked, relisted, credited, list_changed, amount_of, Pair, StoreB, StoreA, Decided, ActiveCall}
-use Rattle.pair_invariant.proofs.Common.{went_with, GoesOn, Core, holds_counts, KnowsTail, done_by, Invariant, counts_bare}
-use Rattle.pair_invariant.specs.spk_nums.specs.declared.replies.Value.TheVariants as value
-use Rattle.pair_invariant.specs.act_states.specs.declared.work.Tail.TheVariants.{Share as share_tail}
-use Rattle.pair_invariant.specs.core_invariant.specs.Shares.{StoresB}
-use Rattle.pair_invariant.specs.step_ways.proofs.Loads.{inner}
-use Rattle.pair_invariant.specs.step_ways.proofs.Refusals.{GoodTook}
+use Rattle.pair_invariant.specs as low
+use low.step_ways.proofs.{◌≡◌, ◌≢◌, ◌⊎◌, inl, inr, ℕ, ◌<◌, Bool, true, false, if◌then◌else◌, Option, Some, None, arith, refl, sym, ◌∙◌, ap}
+use low.step_ways.proofs.{Setting, IsSetting, Reply, HeadFits, word_of_head, HeadWord, EntryAt, Move, StoreOf, Step, Trace, same_word-other}
+use low.step_ways.proofs.{marked, credited, list_changed, amount_of, Pair, StoreB, StoreA, Decided, ActiveCall, went_with, GoesOn, Core}
+use low.step_ways.proofs.{holds_counts, KnowsTail, done_by, Invariant, counts_bare, inner, GoodTook, Value}
 use Rattle.share_invariant.proofs.HeadStores.{counts_free, a_stored, shared_on, head_good}
+use low.{stage_tcap.specs.Heads.relisted, act_states.specs.declared.work.Tail.TheVariants.Share as share_tail}
+use low.{core_invariant.specs.Shares.StoresB}
 
 module _ (setup : Setting) (setting : IsSetting setup) (cores : ℕ → Core) (t : Trace) (stands : Invariant setup cores t) (c : ℕ)
     (here : c < setup.cores)
@@ -48,10 +46,10 @@ module _ (setup : Setting) (setting : IsSetting setup) (cores : ℕ → Core) (t
       same_frame f g h = cc
 
   pub store_b_good : GoodTook setup cores t c store
-      (GoesOn (went_with a a.counts (Decided r drawn (share_tail (record p { at = StoreA true value.Nothing })))))
+      (GoesOn (went_with a a.counts (Decided r drawn (share_tail (record p { at = StoreA true Value.Nothing })))))
   store_b_good =
       head_good setup setting cores t stands c here a active r drawn (share_tail (record p { at = StoreB }))
-      (share_tail (record p { at = StoreA true value.Nothing })) stage_is p.b p.head_b final (record {
+      (share_tail (record p { at = StoreA true Value.Nothing })) stage_is p.b p.head_b final (record {
         budgets = has.budgets;
         footprint = knows.footprint;
         tcap = knows.tcap;
@@ -65,5 +63,5 @@ module _ (setup : Setting) (setting : IsSetting setup) (cores : ℕ → Core) (t
             (same_word-other (EntryAt p.b 0) (EntryAt p.a 0) other_word) ∙ counts_free (done_by r drawn) a.counts p.b 0;
         none = counts_bare (done_by r drawn) a.counts;
       })
-      (shared_on setup t e c a.call (record p { at = StoreB }) (StoreA true value.Nothing) refl refl has
-      (a_stored setup t e (record p { at = StoreB }) (StoreA true value.Nothing) 0 refl knows.differ knows.a))
+      (shared_on setup t e c a.call (record p { at = StoreB }) (StoreA true Value.Nothing) refl refl has
+      (a_stored setup t e (record p { at = StoreB }) (StoreA true Value.Nothing) 0 refl knows.differ knows.a))

@@ -1,24 +1,19 @@
 -- A decided call gives the head of a temporal capability back that carries its core's mark: the word becomes what it stands for. What the
 -- call knows of the temporal capabilities it knows still.
-use Rattle.pair_invariant.proofs.Common.{◌≡◌, ◌≢◌, ◌⊎◌, ◌<◌, ◌==◌, ◌&&◌, not, ℕ, zero, suc, Bool, true, false, if◌then◌else◌, List, []}
-use Rattle.pair_invariant.proofs.Common.{◌∷◌, Option, Some, None, inl, inr, arith, refl, sym, ◌∙◌, ap, subst, cases_eq, ne_eqb, Setting}
-use Rattle.pair_invariant.proofs.Common.{IsSetting, Call, Reply, HeadFits, word_of_head, head_of_word, HeadWord, spelling, Word, EntryAt}
-use Rattle.pair_invariant.proofs.Common.{Move, StoreOf, word_of, left_of, same_same, State, put, put_same, put_other, changes_budgets}
-use Rattle.pair_invariant.proofs.Common.{changes_in_frame, IsInFootprint, mark_of, head_mark}
-use Rattle.pair_invariant.proofs.Common.{marked_by, Step, Trace, state_after, last_left}
-use Rattle.pair_invariant.proofs.Common.{WasAt, was_stays, same_word-other, last_left-there, Acquired, marked, Pair, PairAt, Tail}
-use Rattle.pair_invariant.proofs.Common.{Decided, ActiveCall, went_with, GoesOn, Core, Holding, keeps, holds_counts, settled_by}
-use Rattle.pair_invariant.proofs.Common.{KnowsTail, phase_at, list_changed, TurnsHead, SparesTcap, HasTcap, StoresA, KnowsStoresAt}
-use Rattle.pair_invariant.proofs.Common.{KnowsShared, done_by, holds_tail, holds_at, holds_in, holds, held_by, Invariant, as_none}
-use Rattle.pair_invariant.proofs.Common.{counts_on, not_exclusive_head_word, exclusive_free, TcapOf}
-use Rattle.pair_invariant.specs.core_invariant.specs.Shares.{turns_list}
-use Rattle.pair_invariant.specs.core_invariant.proofs.Bare.{IsNotKept, free_value}
+use Rattle.pair_invariant.specs.step_ways.proofs as low
+use low.{◌≡◌, ◌≢◌, ◌⊎◌, ◌<◌, ◌==◌, ◌&&◌, not, ℕ, zero, suc, Bool, true, false, if◌then◌else◌, List, [], ◌∷◌, Option, Some, None, inl, inr}
+use low.{arith, refl, sym, ◌∙◌, ap, subst, ne_eqb, Setting, IsSetting, Call, Reply, HeadFits, word_of_head, head_of_word, HeadWord}
+use low.{spelling, Word, EntryAt, Move, StoreOf, word_of, left_of, same_same, State, put, put_same, put_other, changes_budgets}
+use low.{changes_in_frame, IsInFootprint, mark_of, head_mark, marked_by, Step, Trace, state_after, last_left, WasAt, was_stays}
+use low.{same_word-other, last_left-there, Acquired, marked, Pair, PairAt, Tail, Decided, ActiveCall, went_with, GoesOn, Core, Holding}
+use low.{keeps, holds_counts, settled_by, KnowsTail, phase_at, list_changed, TurnsHead, SparesTcap, HasTcap, KnowsStoresAt, done_by}
+use low.{holds_tail, holds_at, holds_in, holds, held_by, Invariant, as_none, counts_on, not_exclusive_head_word, exclusive_free, TcapOf}
+use low.{IsOfCall, core_in_call, call_is, inner, GoodTook}
+use Rattle.pair_invariant.specs.core_invariant.specs.{StoresA, KnowsShared, turns_list}
+use Rattle.pair_invariant.proofs.{spares_one, mark_is}
+use Rattle.pair_invariant.specs.core_invariant.proofs.{IsNotKept, free_value}
+use Rattle.{std.proofs.lemmas.Bool.cases_eq, pair_invariant.specs.kept_facts.proofs.Tcaps.tcap_of}
 use Rattle.pair_invariant.specs.step_ways.proofs.Counting as counters
-use Rattle.pair_invariant.specs.step_ways.proofs.Loads.{IsOfCall, core_in_call, call_is, inner}
-use Rattle.pair_invariant.specs.step_ways.proofs.Refusals.{GoodTook}
-use Rattle.pair_invariant.specs.kept_facts.proofs.Tcaps.{tcap_of}
-use Rattle.pair_invariant.proofs.MarksA.{spares_one}
-use Rattle.pair_invariant.proofs.ShareSteps.{mark_is}
 
 -- No entry is a count.
 pub counts_free : (fate : Option (Option ℕ)) (xs : List Acquired) (f i : ℕ) → (holds_counts fate xs).marks (EntryAt f i) ≡ false

@@ -1,5 +1,3 @@
--- The names that most proofs use.
-pub use Rattle.pair_invariant.proofs.Common
 -- Its decision.
 pub mod Compared
 pub mod Turned

@@ -1,31 +1,25 @@
 -- A delegation stores a word of the second one's list, which its core keeps without a mark: the word becomes what it settles to.
-use Rattle.pair_invariant.proofs.Common.{◌≡◌, ◌≢◌, inl, inr, ℕ, zero, suc, ◌+◌, ◌-◌, ◌≤◌, ◌<◌, ◌==◌, ◌&&◌, nat_le, nat_lt, Bool, true}
-use Rattle.pair_invariant.proofs.Common.{false, if◌then◌else◌, ◌∷◌, Option, Some, None, slice_get, arith, refl, sym, ◌∙◌, ap, subst}
-use Rattle.pair_invariant.proofs.Common.{cases_eq, cases_lt, eq-eqb, ne_eqb, le-leb, lt-leb, leb-true, ltb-true, ltb-false, Setting}
-use Rattle.pair_invariant.proofs.Common.{IsSetting, Call, Reply, Word, EntryAt, Move, StoreOf, word_of, left_of, same_same, State, put, put_same}
-use Rattle.pair_invariant.proofs.Common.{put_other, changes_in_frame, IsInFootprint, mark_of}
-use Rattle.pair_invariant.proofs.Common.{marked_by, Step, Trace, state_after, last_left}
-use Rattle.pair_invariant.proofs.Common.{was_stays, same_word-other, last_left-there, in_order, Pair, PairAt, StoreList, StoreB, Tail}
-use Rattle.pair_invariant.proofs.Common.{Decided, ActiveCall, went_with, GoesOn, Core, Holding, holds_counts, settled_by, KnowsTail}
-use Rattle.pair_invariant.proofs.Common.{phase_at, SparesTcap, HasTcap, KnowsStoresAt, done_by, holds_head, holds_heads, holds_shared}
-use Rattle.pair_invariant.proofs.Common.{holds_at, holds_in, holds, held_by, Invariant, AsBefore, counts_bare, none_kept, counts_on}
-use Rattle.pair_invariant.proofs.Common.{TcapOf}
-use Rattle.std.proofs.Common.{IsSome}
-use Rattle.pair_invariant.specs.tcap_words.specs.Quality.{QualityFits}
-use Rattle.pair_invariant.specs.tcap_words.proofs.QualityLemmas.{spelling}
-use Rattle.pair_invariant.specs.stage_tcap.specs.Pairs.{word_of_list, store_next}
-use Rattle.pair_invariant.specs.act_states.specs.declared.work.Tail.TheVariants.{Share as share_tail}
-use Rattle.pair_invariant.specs.core_invariant.specs.Shares.{StoresB, KeepsList}
-use Rattle.pair_invariant.specs.core_invariant.specs.Invariant.{holds_list}
-use Rattle.pair_invariant.specs.step_ways.proofs.Counting as counters
-use Rattle.pair_invariant.specs.kept_facts.proofs.Exclusive.{one_keeper, own_value}
-use Rattle.pair_invariant.specs.step_ways.proofs.Loads.{IsOfCall, core_in_call, call_is, inner}
-use Rattle.pair_invariant.specs.step_ways.proofs.Refusals.{GoodTook}
-use Rattle.pair_invariant.specs.kept_facts.proofs.Pairs.{keeps_on_b}
-use Rattle.pair_invariant.specs.kept_facts.proofs.Tcaps.{tcap_of}
+use Rattle.pair_invariant.specs.step_ways.proofs.{◌≡◌, ◌≢◌, inl, inr, ℕ, zero, suc, ◌+◌, ◌-◌, ◌≤◌, ◌<◌, ◌==◌, ◌&&◌, leb as nat_le}
+use Rattle.pair_invariant.specs.step_ways.proofs.{ltb as nat_lt, Bool, true, false, if◌then◌else◌, ◌∷◌, Option, Some, None, slice_get}
+use Rattle.pair_invariant.specs.step_ways.proofs.{arith, refl, sym, ◌∙◌, ap, subst, eq-eqb, ne_eqb, le-leb, leb-true, ltb-true, ltb-false}
+use Rattle.pair_invariant.specs.step_ways.proofs.{Setting, IsSetting, Call, Reply, Word, EntryAt, Move, StoreOf, word_of, left_of}
+use Rattle.pair_invariant.specs.step_ways.proofs.{same_same, State, put, put_same, put_other, changes_in_frame, IsInFootprint, mark_of}
+use Rattle.pair_invariant.specs.step_ways.proofs.{marked_by, Step, Trace, state_after, last_left, was_stays, same_word-other}
+use Rattle.pair_invariant.specs.step_ways.proofs.{last_left-there, in_order, Pair, PairAt, StoreList, StoreB, Tail, Decided, ActiveCall}
+use Rattle.pair_invariant.specs.step_ways.proofs.{went_with, GoesOn, Core, Holding, holds_counts, settled_by, KnowsTail, phase_at}
+use Rattle.pair_invariant.specs.step_ways.proofs.{SparesTcap, HasTcap, KnowsStoresAt, done_by, holds_head, holds_shared, holds_at, holds_in}
+use Rattle.pair_invariant.specs.step_ways.proofs.{holds, held_by, Invariant, AsBefore, counts_bare, none_kept, counts_on, TcapOf, IsSome}
+use Rattle.pair_invariant.specs.step_ways.proofs.{IsOfCall, core_in_call, call_is, inner, GoodTook}
+use Rattle.std.proofs.lemmas.Bool.{cases_eq, cases_lt, lt-leb}
+use Rattle.pair_invariant.specs.core_invariant.specs.{holds_heads, StoresB, KeepsList}
+use Rattle.pair_invariant.specs.stage_tcap.specs.{word_of_list, store_next}
+use Rattle.pair_invariant.specs.kept_facts.proofs.{Exclusive.one_keeper, Exclusive.own_value, Pairs.keeps_on_b, Tcaps.tcap_of}
+use Rattle.pair_invariant.proofs.{MarksA.spares_one, ShareSteps.list_bare}
 use Rattle.share_invariant.proofs.HeadStores.{counts_free, a_stored, shared_on}
-use Rattle.pair_invariant.proofs.MarksA.{spares_one}
-use Rattle.pair_invariant.proofs.ShareSteps.{list_bare}
+use Rattle.{pair_invariant.specs.tcap_words.specs.Quality.QualityFits, pair_invariant.specs.tcap_words.proofs.QualityLemmas.spelling}
+use Rattle.{pair_invariant.specs.act_states.specs.declared.work.Tail.TheVariants.Share as share_tail}
+use Rattle.{pair_invariant.specs.core_invariant.specs.Invariant.holds_list}
+use Rattle.pair_invariant.specs.step_ways.proofs.Counting as counters
 
 none_some : (v : ℕ) → None ≡ Some v → ⊥
 none_some v h = cc

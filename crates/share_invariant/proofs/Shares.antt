@@ -1,23 +1,14 @@
 -- A step of a call on two temporal capabilities is good, and so is a step that gives the first one's head back.
-use Rattle.pair_invariant.proofs.Common.{◌≡◌, ℕ, zero, suc, ◌<◌, Option, Some, Setting, IsSetting, Reply, word_of, told_of, Trace}
-use Rattle.pair_invariant.proofs.Common.{last_left, judged, Pair, PairAt, LoadA, MarkA, ListA, LoadB, ListB, CompareB, AgainB, StoreList}
-use Rattle.pair_invariant.proofs.Common.{StoreB, StoreA, PairWork, Act, took_share, Undecided, Decided, ActiveCall, landed, went_with}
-use Rattle.pair_invariant.proofs.Common.{GoesOn, Core, KnowsUndecided, KnowsTail, Invariant}
-use Rattle.pair_invariant.specs.stage_tcap.specs.Pairs.{pair_move}
+use Rattle.pair_invariant.specs.step_ways.proofs.{◌≡◌, ℕ, zero, suc, ◌<◌, Option, Some, Setting, IsSetting, Reply, word_of, told_of, Trace}
+use Rattle.pair_invariant.specs.step_ways.proofs.{last_left, judged, Pair, PairAt, LoadA, MarkA, ListA, LoadB, ListB, CompareB, AgainB}
+use Rattle.pair_invariant.specs.step_ways.proofs.{StoreList, StoreB, StoreA, PairWork, Act, took_share, Undecided, Decided, ActiveCall}
+use Rattle.pair_invariant.specs.step_ways.proofs.{landed, went_with, GoesOn, Core, KnowsUndecided, KnowsTail, Invariant, Share as share_act}
 use Rattle.pair_invariant.specs.stage_tcap.specs.declared.pair.PairWork.TheVariants.{Transfer, Delegate, Test}
-use Rattle.pair_invariant.specs.act_states.specs.declared.work.Act.TheVariants.{Share as share_act}
-use Rattle.pair_invariant.specs.act_states.specs.declared.work.Tail.TheVariants.{Share as share_tail}
-use Rattle.pair_invariant.specs.act_states.specs.Shares.{after_share}
-use Rattle.pair_invariant.specs.step_ways.proofs.Refusals.{GoodTook}
-use Rattle.share_invariant.proofs.Agains.{again_good}
-use Rattle.share_invariant.proofs.Compares.{compare_good}
-use Rattle.share_invariant.proofs.Delegates.{delegate_good}
-use Rattle.pair_invariant.proofs.HeadsA.{load_a_good, list_a_good}
-use Rattle.pair_invariant.proofs.HeadsB.{load_b_good, list_b_good}
-use Rattle.share_invariant.proofs.HeadBStores.{store_b_good}
-use Rattle.share_invariant.proofs.ListStores.{store_list_good}
-use Rattle.pair_invariant.proofs.MarksA.{mark_a_good}
-use Rattle.share_invariant.proofs.Stores.{store_a_good}
+use Rattle.pair_invariant.specs.act_states.specs.{declared.work.Tail.TheVariants.Share as share_tail, Shares.after_share}
+use Rattle.pair_invariant.proofs.{HeadsA.load_a_good, HeadsA.list_a_good, HeadsB.load_b_good, HeadsB.list_b_good, MarksA.mark_a_good}
+use Rattle.share_invariant.proofs.{Agains.again_good, Compares.compare_good, Delegates.delegate_good, HeadBStores.store_b_good}
+use Rattle.share_invariant.proofs.{ListStores.store_list_good, Stores.store_a_good}
+use Rattle.{pair_invariant.specs.step_ways.proofs.GoodTook, pair_invariant.specs.stage_tcap.specs.Pairs.pair_move}
 
 module _ (setup : Setting) (setting : IsSetting setup) (cores : ℕ → Core) (t : Trace) (stands : Invariant setup cores t) (c : ℕ)
     (here : c < setup.cores) (a : ActiveCall) (active : (cores c).active ≡ Some a) where

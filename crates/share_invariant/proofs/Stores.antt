@@ -1,12 +1,11 @@
 -- A decided call gives the head of the first of two temporal capabilities back: less the ticks, or as it was found.
-use Rattle.pair_invariant.proofs.Common.{◌≡◌, ◌⊎◌, inl, inr, ℕ, ◌<◌, Bool, true, false, Option, Some, None, arith, refl, ◌∙◌, ap, Setting}
-use Rattle.pair_invariant.proofs.Common.{IsSetting, Reply, Value, HeadFits, word_of_head, HeadWord, EntryAt, StoreOf, Trace, marked}
-use Rattle.pair_invariant.proofs.Common.{amount_of, Pair, StoreA, Decided, ActiveCall, went_with, GoesOn, Core, KnowsTail, list_changed}
-use Rattle.pair_invariant.proofs.Common.{StoresA, done_by, Invariant, counts_bare}
-use Rattle.pair_invariant.specs.stage_tcap.specs.Pairs.{left_a}
-use Rattle.pair_invariant.specs.act_states.specs.declared.work.Tail.TheVariants.{Share as share_tail, Nothing as no_tail}
-use Rattle.pair_invariant.specs.step_ways.proofs.Refusals.{GoodTook}
+use Rattle.pair_invariant.specs.step_ways.proofs.{◌≡◌, ◌⊎◌, inl, inr, ℕ, ◌<◌, Bool, true, false, Option, Some, None, arith, refl, ◌∙◌, ap}
+use Rattle.pair_invariant.specs.step_ways.proofs.{Setting, IsSetting, Reply, Value, HeadFits, word_of_head, HeadWord, EntryAt, StoreOf}
+use Rattle.pair_invariant.specs.step_ways.proofs.{Trace, marked, amount_of, Pair, StoreA, Decided, ActiveCall, went_with, GoesOn, Core}
+use Rattle.pair_invariant.specs.step_ways.proofs.{KnowsTail, list_changed, done_by, Invariant, counts_bare, Nothing as no_tail, GoodTook}
 use Rattle.share_invariant.proofs.HeadStores.{counts_free, head_good}
+use Rattle.{pair_invariant.specs.core_invariant.specs.Shares.StoresA, pair_invariant.specs.stage_tcap.specs.Pairs.left_a}
+use Rattle.{pair_invariant.specs.act_states.specs.declared.work.Tail.TheVariants.Share as share_tail}
 
 module _ (setup : Setting) (setting : IsSetting setup) (cores : ℕ → Core) (t : Trace) (stands : Invariant setup cores t) (c : ℕ)
     (here : c < setup.cores)

@@ -1,11 +1,12 @@
 -- A decision that marks its word, after which its core keeps other words without a mark: the state has changed at once, and each of these
 -- words settles to what will be stored there.
-use Rattle.pair_invariant.proofs.Common.{◌≡◌, ◌≢◌, inl, inr, ℕ, ◌<◌, true, ◌∷◌, Option, Some, None, arith, refl, sym, ◌∙◌, ap, subst}
-use Rattle.pair_invariant.proofs.Common.{cases_eq, Setting, IsSetting, Word, EntryAt, FrameAt, CountAt, CoreAt, FlushAt, LiveAt, ClockAt}
-use Rattle.pair_invariant.proofs.Common.{word_of, left_of, put, put_same, put_other, mark_of, marked_by, Step, Trace, state_after}
-use Rattle.pair_invariant.proofs.Common.{last_left, cases_word, last_left-here, last_left-there, Core, Holding, settled_by, settled}
-use Rattle.pair_invariant.proofs.Common.{MarkIs, WordIs, holds, held_by, times_of, Invariant, ReadsAlike, StaysSaid}
-use Rattle.pair_invariant.specs.core_invariant.proofs.Bare.{own_kept, same_value, core_bare}
+use Rattle.pair_invariant.specs.step_ways.proofs.{◌≡◌, ◌≢◌, inl, inr, ℕ, ◌<◌, true, ◌∷◌, Option, Some, None, arith, refl, sym, ◌∙◌, ap}
+use Rattle.pair_invariant.specs.step_ways.proofs.{subst, Setting, IsSetting, Word, EntryAt, FrameAt, CountAt, CoreAt, FlushAt, LiveAt}
+use Rattle.pair_invariant.specs.step_ways.proofs.{ClockAt, word_of, left_of, put, put_same, put_other, mark_of, marked_by, Step, Trace}
+use Rattle.pair_invariant.specs.step_ways.proofs.{state_after, last_left, cases_word, last_left-here, last_left-there, Core, Holding}
+use Rattle.pair_invariant.specs.step_ways.proofs.{settled_by, settled, WordIs, holds, held_by, times_of, Invariant, ReadsAlike, StaysSaid}
+use Rattle.pair_invariant.specs.core_invariant.proofs.{MarkIs, own_kept, same_value, core_bare}
+use Rattle.std.proofs.lemmas.Bool.{cases_eq}
 
 none_some : (v : ℕ) → None ≡ Some v → ⊥
 none_some v h = cc

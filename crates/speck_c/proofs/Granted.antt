@@ -1,10 +1,9 @@
 -- What C grants, one core after another.
-use Rattle.std.proofs.Common.{◌≡◌, ℕ, ◌+◌, ◌<◌, ◌≤◌, List, [], ◌∷◌, ◌++◌, Bool, true, false, length, map, take, get_or, sym, ap, ◌∙◌, arith}
-use Rattle.std.specs.Prelude.{MatchBool}
-use Rattle.std.proofs.lemmas.List.{map_more, length-map, length-take-le}
-use Rattle.spk_nums.specs.declared.grants.Grant.{Grant}
-use Rattle.speck_c.specs.declared.boots.SpeckGrant.{SpeckGrant}
-use Rattle.speck_c.specs.Grants.{granted}
+use Rattle.end_ports.specs.core_machine.specs.core_kernel.specs.kernel_rules.proofs.{◌≡◌, ℕ, ◌+◌, ◌<◌, ◌≤◌, List, [], ◌∷◌, ◌++◌, Bool, true}
+use Rattle.end_ports.specs.core_machine.specs.core_kernel.specs.kernel_rules.proofs.{false, length, map, take, get_or, sym, ap, ◌∙◌, arith}
+use Rattle.end_ports.specs.core_machine.specs.core_kernel.specs.kernel_rules.proofs.{length-map, length-take-le, Grant}
+use Rattle.speck_c.specs.{declared.boots.SpeckGrant.SpeckGrant, Grants.granted}
+use Rattle.{std.specs.Prelude.MatchBool, std.proofs.lemmas.List.map_more}
 
 -- one more grant, for which there is room
 pub granted_more : (given : List SpeckGrant) (i : ℕ) (d : SpeckGrant) (item : Grant) (grants now : List Grant) (added : Bool) → i < length given

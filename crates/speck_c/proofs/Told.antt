@@ -1,14 +1,9 @@
 -- What is told of what the endpoints replied.
-use Rattle.std.proofs.Common.{◌≡◌, ℕ, Option, Some, None, sym, ap, ◌∙◌, subst}
-use Rattle.std.specs.Prelude.{MatchOption}
-use Rattle.end_ports.specs.async_ends.specs.declared.endpoint.EndOp.{EndOp}
-use Rattle.end_ports.specs.async_ends.specs.declared.endpoint.EndReply.{EndReply}
+use Rattle.std.proofs.Common.{◌≡◌, ℕ, Option, Some, None, sym, ap, ◌∙◌, subst, MatchOption}
+use Rattle.end_ports.specs.async_ends.specs.{declared.endpoint.EndOp.EndOp, declared.endpoint.EndReply.EndReply}
 use Rattle.end_ports.specs.Ports.{EndPortValue}
-use Rattle.speck_c.specs.declared.held.Held.{Held}
-use Rattle.speck_c.specs.declared.reply.SpeckReply.{SpeckReply}
-use Rattle.speck_c.specs.Asks.{HasReplied, IsAsked, IsTold, flat_end}
-use Rattle.speck_c.specs.Flat.{blank}
-use Rattle.speck_c.specs.Slots.{port_of}
+use Rattle.speck_c.specs.{declared.held.Held.Held, declared.reply.SpeckReply.SpeckReply, Asks.HasReplied, Asks.IsAsked, Asks.IsTold}
+use Rattle.speck_c.specs.{Asks.flat_end, Flat.blank, Slots.port_of}
 
 abbrev reply_in : EndReply → Option EndReply → EndReply
 reply_in d None = d

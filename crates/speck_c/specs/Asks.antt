@@ -1,16 +1,12 @@
 -- Sends and receives as C asks for them.
-use Rattle.std.specs.Prelude.{◌≡◌, ℕ, ◌<◌, ◌≤◌, nat_lt, if◌then◌else◌, Option, Some, MatchOption}
-use Rattle.spk_nums.specs.declared.replies.Reply.TheVariants.{Raced as raced, CallsSpent}
-use Rattle.spk_nums.specs.declared.replies.Value.TheVariants.{Nothing, Amount}
-use Rattle.end_ports.specs.async_ends.specs.declared.endpoint.EndOp.{EndOp}
-use Rattle.end_ports.specs.async_ends.specs.declared.endpoint.EndReply.{EndReply}
+use Rattle.end_ports.specs.core_machine.specs.core_kernel.specs.flight_laws.specs.core_invariant.specs.act_states.specs as low
+use low.{◌≡◌, ℕ, ◌<◌, ◌≤◌, ltb as nat_lt, if◌then◌else◌, Option, Some, MatchOption, Nothing, Amount}
 use Rattle.end_ports.specs.async_ends.specs.declared.endpoint.EndReply.TheVariants.{Sent, Taken, Raced, Refused}
-use Rattle.end_ports.specs.async_ends.specs.Running.{most_calls}
-use Rattle.end_ports.specs.Ports.{EndPortValue, HasAsked}
-use Rattle.speck_c.specs.declared.held.Held.{Held}
-use Rattle.speck_c.specs.declared.reply.SpeckReply.{SpeckReply}
-use Rattle.speck_c.specs.Flat.{blank, carried, flat}
-use Rattle.speck_c.specs.Slots.{port_held}
+use Rattle.speck_c.specs.{declared.held.Held.Held, declared.reply.SpeckReply.SpeckReply, Flat.blank, Flat.carried, Flat.flat}
+use Rattle.{spk_nums.specs.declared.replies.Reply.TheVariants.Raced as raced, spk_nums.specs.declared.replies.Reply.TheVariants.CallsSpent}
+use Rattle.{end_ports.specs.async_ends.specs.declared.endpoint.EndOp.EndOp}
+use Rattle.{end_ports.specs.async_ends.specs.declared.endpoint.EndReply.EndReply, end_ports.specs.async_ends.specs.Running.most_calls}
+use Rattle.{end_ports.specs.Ports.EndPortValue, end_ports.specs.Ports.HasAsked, speck_c.specs.Slots.port_held}
 
 -- a count as 32 bits hold it; none that a machine reaches is larger
 abbrev pub fitted : ℕ → ℕ

@@ -1,14 +1,10 @@
 -- How ports come back from C, and how a machine is finished there.
 use Rattle.std.specs.Prelude.{◌≡◌, ◌≢◌, ℕ, ◌<◌, ◌≤◌, ◌⊎◌, List, [], ◌∷◌, ◌++◌, length, take, drop, Option, Some, None, String, string_bytes}
-use Rattle.std.specs.Global.{Global}
-use Rattle.end_ports.specs.core_machine.specs.core_kernel.specs.kernel_history.specs.BootWords.{shape_of}
-use Rattle.end_ports.specs.core_machine.specs.core_kernel.specs.Calls.{EndsAt}
-use Rattle.end_ports.specs.Ports.{EndPortValue, EndSeatsValue}
-use Rattle.machine_image.specs.Views.{ImageOf}
-use Rattle.table_report.specs.Shown.{tables_shown}
-use Rattle.speck_c.specs.declared.held.Held.{Held}
-use Rattle.speck_c.specs.declared.held.What.{What}
+use Rattle.end_ports.specs.{EndPortValue, EndSeatsValue}
 use Rattle.speck_c.specs.declared.held.What.TheVariants.{Machine, Core, Told, Final, Tables}
+use Rattle.{std.specs.Global.Global, end_ports.specs.core_machine.specs.core_kernel.specs.kernel_history.specs.BootWords.shape_of}
+use Rattle.{end_ports.specs.core_machine.specs.core_kernel.specs.Calls.EndsAt, final_parts.specs.machine_image.specs.Views.ImageOf}
+use Rattle.{table_report.specs.Shown.tables_shown, speck_c.specs.declared.held.Held.Held, speck_c.specs.declared.held.What.What}
 
 -- what a finished machine has left, among what may be held
 abbrev pub final_of : What → Option ImageOf

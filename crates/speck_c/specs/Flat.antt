@@ -1,15 +1,10 @@
 -- A reply as C reads it: its number, what it carries, and what a caller may do about it.
-use Rattle.std.specs.Prelude.{ℕ}
-use Rattle.spk_nums.specs.Advices.{advice_of}
-use Rattle.spk_nums.specs.Names.{reply_code}
-use Rattle.spk_nums.specs.declared.advice.Advice.{Advice}
+use Rattle.end_ports.specs.core_machine.specs.core_kernel.specs.kernel_rules.specs.{ℕ, Reply, Value, Nothing, Cap, Page, Amount}
 use Rattle.spk_nums.specs.declared.advice.Advice.TheVariants.{Done, Change, GiveUp, Release, AwaitReturn, AwaitFlush, AwaitSwitch, Again}
-use Rattle.spk_nums.specs.declared.replies.Reply.{Reply}
 use Rattle.spk_nums.specs.declared.replies.Reply.TheVariants.{Ok as ok_reply, Quiescing, Unflushed, Referenced, Running, Short, Busy}
-use Rattle.spk_nums.specs.declared.replies.Value.{Value}
-use Rattle.spk_nums.specs.declared.replies.Value.TheVariants.{Nothing, Cap, Page, Amount, Preempts, Stays}
-use Rattle.final_parts.specs.Kinds.{kind_code}
-use Rattle.speck_c.specs.declared.reply.SpeckReply.{SpeckReply}
+use Rattle.spk_nums.specs.declared.replies.Value.TheVariants.{Preempts, Stays}
+use Rattle.{spk_nums.specs.Advices.advice_of, spk_nums.specs.Names.reply_code, spk_nums.specs.declared.advice.Advice.Advice}
+use Rattle.{final_parts.specs.Kinds.kind_code, speck_c.specs.declared.reply.SpeckReply.SpeckReply}
 
 -- the number of an advice, from 0 in the order of its declaration
 abbrev pub advice_code : Advice → ℕ

@@ -1,7 +1,5 @@
 -- What C grants each core.
-use Rattle.std.specs.Prelude.{ℕ, List, length, map}
-use Rattle.spk_nums.specs.declared.grants.Grant.{Grant}
-use Rattle.spk_nums.specs.Setting.{Setting}
+use Rattle.end_ports.specs.core_machine.specs.core_kernel.specs.kernel_history.specs.{ℕ, List, length, map, Grant, Setting}
 use Rattle.speck_c.specs.declared.boots.SpeckGrant.{SpeckGrant}
 
 abbrev pub granted : SpeckGrant → Grant

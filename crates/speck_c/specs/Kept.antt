@@ -1,11 +1,8 @@
 -- What a handle owns: where it is full, the box behind its pointer.
-use Rattle.std.specs.Prelude.{Option, Some, None}
+use Rattle.{std.specs.Prelude.Option, std.specs.Prelude.Some, std.specs.Prelude.None, std.specs.Box.Ownership.box_owns}
+use Rattle.{std.specs.Global.Global, std_heap.specs.contracts.GlobalAllocator.TheImpl.ghosts, speck_c.specs.contracts.held.Held.the_row}
 use base.Fml.{Fml, ftrue}
 use denote.RawPtr.{Ptr}
-use Rattle.std.specs.Box.Ownership.{box_owns}
-use Rattle.std.specs.Global.{Global}
-use Rattle.std_heap.specs.contracts.GlobalAllocator.TheImpl.{ghosts}
-use Rattle.speck_c.specs.contracts.held.Held.{the_row}
 
 -- the box that holds x, or nothing
 abbrev pub kept : Global → Ptr → Option the_row.Denot → Fml

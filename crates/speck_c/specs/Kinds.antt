@@ -1,11 +1,7 @@
 -- The kinds of frame by number.
-use Rattle.std.specs.Prelude.{ℕ, ◌==◌, if◌then◌else◌, Option, Some, None, MatchOption}
-use Rattle.spk_nums.specs.declared.calls.Call.TheVariants.{Retype}
-use Rattle.spk_nums.specs.declared.kinds.FrameKind.{FrameKind}
-use Rattle.spk_nums.specs.declared.kinds.FrameKind.TheVariants.{Untyped, User, Kernel}
-use Rattle.speck_c.specs.declared.held.Held.{Held}
-use Rattle.speck_c.specs.declared.reply.SpeckReply.{SpeckReply}
-use Rattle.speck_c.specs.Slots.{IsCalled, IsOutside}
+use Rattle.end_ports.specs.core_machine.specs.core_kernel.specs.flight_laws.specs.core_invariant.specs.stage_tcap.specs as low
+use low.{ℕ, ◌==◌, if◌then◌else◌, Option, Some, None, MatchOption, Retype, FrameKind, Untyped, User, Kernel}
+use Rattle.speck_c.specs.{declared.held.Held.Held, declared.reply.SpeckReply.SpeckReply, Slots.IsCalled, Slots.IsOutside}
 
 -- the kind of this number
 abbrev pub frame_kinds : ℕ → Option FrameKind

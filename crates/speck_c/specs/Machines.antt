@@ -1,16 +1,12 @@
 -- What the exports on machines, ports and notes make of what their slots hold.
-use Rattle.std.specs.Prelude.{◌≡◌, ℕ, ◌+◌, ◌≤◌, ◌⊎◌, Option, Some, None, []}
-use Rattle.spk_nums.specs.Setting.{Setting, IsSetting}
-use Rattle.spk_nums.specs.SetupFaults.{FaultOf}
-use Rattle.spk_nums.specs.declared.setup_fault.SetupFault.{SetupFault}
-use Rattle.spk_nums.specs.declared.setup_fault.SetupFault.TheVariants as fault
-use Rattle.end_ports.specs.core_machine.specs.core_kernel.specs.Kernel.{CoreNoteValue}
-use Rattle.end_ports.specs.core_machine.specs.core_kernel.specs.Calls.{Meets}
-use Rattle.end_ports.specs.Ports.{EndPortValue, EndSeatsValue, IsPortDealt}
-use Rattle.speck_c.specs.declared.held.Held.{Held}
-use Rattle.speck_c.specs.declared.held.What.{What}
-use Rattle.speck_c.specs.declared.held.What.TheVariants.{Machine, Core, Told, Final, Tables}
-use Rattle.speck_c.specs.Slots.{port_held}
+use Rattle.end_ports.specs.core_machine.specs.core_kernel.specs as low
+use low.flight_laws.specs.core_invariant.specs.{◌≡◌, ℕ, ◌+◌, ◌≤◌, ◌⊎◌, Option, Some, None, [], Setting, IsSetting}
+use Rattle.speck_c.specs.{declared.held.Held.Held, declared.held.What.What, declared.held.What.TheVariants.Machine}
+use Rattle.speck_c.specs.{declared.held.What.TheVariants.Core, declared.held.What.TheVariants.Told, declared.held.What.TheVariants.Final}
+use Rattle.{end_ports.specs.EndPortValue, end_ports.specs.EndSeatsValue, spk_nums.specs.SetupFaults.FaultOf}
+use Rattle.{spk_nums.specs.declared.setup_fault.SetupFault.SetupFault, end_ports.specs.Ports.IsPortDealt}
+use Rattle.{speck_c.specs.declared.held.What.TheVariants.Tables, speck_c.specs.Slots.port_held}
+use low.{Kernel.CoreNoteValue, Calls.Meets}
 
 -- the machine among what may be held
 abbrev pub machine_of : What → Option EndSeatsValue
@@ -48,12 +44,12 @@ HoldsNew setup (Some m) = IsNew setup m
 
 -- the number of what is wrong with a setup; there are as many cores as grants
 abbrev pub setup_code : SetupFault → ℕ
-setup_code fault.Cores = 241
-setup_code fault.Frames = 242
-setup_code fault.GrantCount = 241
-setup_code fault.Grant = 243
-setup_code fault.Calls = 249
-setup_code fault.Epochs = 250
+setup_code SetupFault.Cores = 241
+setup_code SetupFault.Frames = 242
+setup_code SetupFault.GrantCount = 241
+setup_code SetupFault.Grant = 243
+setup_code SetupFault.Calls = 249
+setup_code SetupFault.Epochs = 250
 
 -- 0 comes with a new machine held; 247, out of memory, with what was held before.
 abbrev pub Boots : Setting → Option Held → ℕ → Option Held → Type 0

@@ -1,8 +1,7 @@
 -- How C reads the parts of a finished machine.
 use Rattle.std.specs.Prelude.{◌≡◌, ℕ, Option, Some, None, Result, Ok, Err}
-use Rattle.machine_image.specs.Views.{ImageOf}
-use Rattle.final_parts.specs.Kinds.{fault_code}
-use Rattle.final_parts.specs.declared.parts.NoPart.{NoPart}
+use Rattle.final_parts.specs.machine_image.specs.Views.{ImageOf}
+use Rattle.final_parts.specs.{Kinds.fault_code, declared.parts.NoPart.NoPart}
 
 module _ {P : Type 0} where
   -- The part is written, and 0 answered; or the number of why there is none, and nothing is written.

@@ -1,15 +1,11 @@
 -- What a slot of C's holds, and what the exports make of it.
-use Rattle.std.specs.Prelude.{◌≡◌, Bool, true, false, Option, Some, None, MatchOption}
-use Rattle.spk_nums.specs.declared.calls.Call.{Call}
-use Rattle.spk_nums.specs.declared.replies.Reply.{Reply}
-use Rattle.end_ports.specs.core_machine.specs.core_kernel.specs.Calls.{MakesCall}
-use Rattle.end_ports.specs.Ports.{EndPortValue}
-use Rattle.speck_c.specs.declared.held.Held.{Held}
-use Rattle.speck_c.specs.declared.held.What.{What}
-use Rattle.speck_c.specs.declared.held.What.TheVariants.{Machine, Core, Told, Final, Tables}
-use Rattle.speck_c.specs.declared.reply.SpeckReply.{SpeckReply}
-use Rattle.speck_c.specs.declared.slot.Slot.{Slot}
-use Rattle.speck_c.specs.Flat.{flat, blank}
+use Rattle.end_ports.specs.core_machine.specs.core_kernel.specs.flight_laws.specs.core_invariant.specs as low
+use low.{◌≡◌, Bool, true, false, Option, Some, None, MatchOption, Call, Reply}
+use Rattle.speck_c.specs.{declared.held.Held.Held, declared.held.What.What, declared.held.What.TheVariants.Machine}
+use Rattle.speck_c.specs.{declared.held.What.TheVariants.Core, declared.held.What.TheVariants.Told, declared.held.What.TheVariants.Final}
+use Rattle.speck_c.specs.{declared.held.What.TheVariants.Tables, declared.reply.SpeckReply.SpeckReply, declared.slot.Slot.Slot, Flat.flat}
+use Rattle.{end_ports.specs.core_machine.specs.core_kernel.specs.Calls.MakesCall, end_ports.specs.Ports.EndPortValue}
+use Rattle.{speck_c.specs.Flat.blank}
 
 -- what the slot holds; nothing where it is not full
 abbrev pub held_if : Bool → Option Held → Option Held

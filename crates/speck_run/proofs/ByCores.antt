@@ -1,18 +1,13 @@
 -- Lists that are made by threads have the text of taken steps.
-use Rattle.std.proofs.Common.{◌≡◌, ℕ, zero, suc, ◌++◌, List, [], map, get_or, All, refl, sym, ◌∙◌, ap, Vec, Global, arith}
-use Rattle.std.proofs.lemmas.Grind.{flat_map-append}
-use Rattle.std.proofs.lemmas.List.{length-map, get_or-map}
-use Rattle.spk_nums.specs.Setting.{Setting}
-use Rattle.spk_nums.specs.declared.calls.Call.{Call}
-use Rattle.trace_run.specs.lone_kernel.specs.kernel_history.specs.Order.{list_of}
-use Rattle.trace_run.specs.lone_kernel.specs.kernel_history.specs.Tables.{tables_of, lines_below}
-use Rattle.trace_run.specs.lone_kernel.specs.kernel_history.specs.Text.{line_of, reply_lines, decisions_by}
-use Rattle.trace_run.specs.lone_kernel.specs.kernel_history.specs.Trace.{Trace, state_after, calls_of}
-use Rattle.ends_run.specs.core_runs.specs.declared.whole.Ran.{Ran}
-use Rattle.ends_run.specs.core_runs.specs.TakenSteps.{TakenSteps}
-use Rattle.ends_run.specs.core_runs.specs.Whole.{decisions_below, IsList, AreMade}
-use Rattle.trace_run.specs.lone_kernel.specs.Machine.{AreLists}
-use Rattle.speck_run.specs.Written.{lines_of}
+use Rattle.trace_run.specs.lone_kernel.specs.kernel_history.proofs.{◌≡◌, ℕ, zero, suc, ◌++◌, List, [], map, get_or, All, refl, sym, ◌∙◌, ap}
+use Rattle.trace_run.specs.lone_kernel.specs.kernel_history.proofs.{arith, length-map, get_or-map, Setting, Call, list_of, tables_of}
+use Rattle.trace_run.specs.lone_kernel.specs.kernel_history.proofs.{lines_below, state_after, calls_of}
+use Rattle.ends_run.specs.core_runs.specs.{decisions_below, IsList, AreMade}
+use Rattle.trace_run.specs.lone_kernel.specs.core_invariant.specs.{reply_lines, decisions_by, Trace}
+use Rattle.std.proofs.Common.{Vec, Global}
+use Rattle.ends_run.specs.core_runs.specs.{declared.whole.Ran.Ran, TakenSteps.TakenSteps}
+use Rattle.{std.proofs.lemmas.Grind.flat_map-append, trace_run.specs.lone_kernel.specs.kernel_history.specs.Text.line_of}
+use Rattle.{trace_run.specs.lone_kernel.specs.Machine.AreLists, speck_run.specs.Written.lines_of}
 
 -- the reply lines of the decisions, core by core
 pub lines_by_cores : (lists : List (List Call)) (t : Trace) → list_of lists ≡ calls_of t → (n : ℕ)

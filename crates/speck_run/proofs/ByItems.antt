@@ -1,20 +1,12 @@
 -- Moves one after another, by an order and then to the ends of the lists.
-use Rattle.std.proofs.Common.{◌≡◌, inl, inr, ℕ, suc, ◌+◌, ◌++◌, List, [], ◌∷◌, arith, refl, sym, ◌∙◌, subst}
-use Rattle.std.specs.Prelude.{Bool}
-use Rattle.std.proofs.lemmas.List.Elements.{All-nil, All-append}
-use Rattle.std.proofs.lemmas.List.{append_assoc}
-use Rattle.spk_nums.specs.declared.calls.Call.{Call}
-use Rattle.spk_nums.specs.declared.steps.Item.{Item}
-use Rattle.spk_nums.specs.declared.steps.How.TheVariants.{Return}
-use Rattle.trace_run.specs.lone_kernel.specs.kernel_history.specs.Trace.{Trace}
-use Rattle.trace_run.specs.lone_kernel.specs.kernel_history.specs.Order.{FollowsItem, FollowsItems, RunsOut, FollowsCores}
-use Rattle.trace_run.specs.lone_kernel.specs.flight.specs.Made.{ready_after}
-use Rattle.trace_run.specs.lone_kernel.specs.declared.lone.Moved.{Moved}
-use Rattle.trace_run.specs.lone_kernel.specs.declared.lone.Moved.TheVariants.{Idle, Went}
-use Rattle.trace_run.specs.lone_kernel.specs.Machine.{Machine}
-use Rattle.trace_run.specs.lone_kernel.specs.Stands.{StandsFor}
-use Rattle.trace_run.specs.lone_kernel.specs.Moves.{MovesBy, GoesBy}
-use Rattle.speck_run.specs.Orders.{GoesByItem, GoesByItems, GoesByCore, RunsCoreOut, RunsCoresOut}
+use Rattle.trace_run.specs.lone_kernel.specs.flight.proofs.{◌≡◌, inl, inr, ℕ, suc, ◌+◌, ◌++◌, List, [], ◌∷◌, arith, refl, sym, ◌∙◌, subst}
+use Rattle.trace_run.specs.lone_kernel.specs.flight.proofs.{Bool, append_assoc, Call, Item, Trace, ready_after}
+use Rattle.trace_run.specs.lone_kernel.specs.kernel_history.specs.{Return, FollowsItem, FollowsItems, RunsOut, FollowsCores}
+use Rattle.trace_run.specs.lone_kernel.specs.{declared.lone.Moved.Moved, declared.lone.Moved.TheVariants.Idle}
+use Rattle.trace_run.specs.lone_kernel.specs.{declared.lone.Moved.TheVariants.Went, Machine.Machine, Moves.MovesBy}
+use Rattle.speck_run.specs.Orders.{GoesByItem, GoesByCore, RunsCoreOut}
+use Rattle.{speck_run.specs.GoesByItems, speck_run.specs.RunsCoresOut, trace_run.specs.lone_kernel.specs.StandsFor}
+use Rattle.{trace_run.specs.lone_kernel.specs.GoesBy, std.proofs.lemmas.List.Elements.All-nil, std.proofs.lemmas.List.Elements.All-append}
 
 -- a move is the stretch of its item
 pub takes_item : (moved : Moved) (m m' : Machine) (item : Item) → MovesBy moved item.how m m' item.core → GoesByItem m m' item

@@ -1,28 +1,19 @@
 -- What is due is the status that the input has.
-use Rattle.std.proofs.Common.{◌≡◌, ◌⊎◌, ℕ, List, [], ◌∷◌, Option, Some, None, Result, Ok, Err}
-use Rattle.std.proofs.Common.{Bool, IfOk, refl, sym, ap, subst, ◌∙◌, arith, inl, inr, eqb, get_or}
-use Rattle.std.specs.Prelude.{◌≤◌, if◌then◌else◌, length, codes, string_bytes}
+use Rattle.speck_run.specs as low
+use Rattle.std.proofs.Common.{◌≡◌, ◌⊎◌, ℕ, List, [], ◌∷◌, Option, Some, None, Result, Ok, Err, Bool, IfOk, refl, sym, ap, subst, ◌∙◌, arith}
+use Rattle.std.proofs.Common.{inl, inr, eqb, get_or, ◌≤◌, if◌then◌else◌, length, codes, string_bytes}
+use low.declared.words.Command.TheVariants.{Replay, Trace, Draw, Run, Plain, Print, Ends, Sched, Check, Origins, Worlds, Explain}
+use low.declared.top.Status.TheVariants.{Done, Words, Script, ReadFault, WriteFault, Memory, TooLong, Stopped}
+use low.Script.{read_by, MadeBy, IsFaultOf, AreInput}
+use low.Top.{CommandLine, texts_of, Asked, Asks, AsksNumber, HasNumber, AsksMake, AsksLoad, IsReadingOf, IsExplainedAfter, IsCommand}
+use low.Top.{IsMake, IsLoad, IsUnderstood, IsNumberOf, IsNumberIn, IsDue, IsPageOf, IsCommandOf, IsDueOf, IsSummary, IsDone, InputMakes}
+use low.Top.{CarriesOut, IsStatusOf, Answers, IsAccepted, Writes, InputRuns, Finishes}
+use Rattle.{script_reader.specs.line_reader.specs.number_of, script_reader.specs.line_reader.specs.First_fault}
+use Rattle.{spk_nums.specs.declared.memory.Memory.Memory as Out_of_memory, byte_ends.specs.Ends.HasRisen, byte_ends.specs.Ends.Adds}
+use Rattle.{script_reader.specs.line_reader.specs.declared.cause.Cause.Cause, load_maker.specs.Loads.load_text}
+use Rattle.{explain_run.specs.line_forms.specs.declared.context.Reading.Reading, whole_ends.specs.Ends.GivesAll}
+use low.{declared.words.Command.Command, declared.answers.Answer.Answer, declared.top.Status.Status}
 use lib.Pointwise.{pointwise}
-use Rattle.spk_nums.specs.declared.memory.Memory.{Memory as Out_of_memory}
-use Rattle.byte_ends.specs.Ends.{HasRisen, Adds}
-use Rattle.line_reader.specs.Numerals.{number_of}
-use Rattle.line_reader.specs.declared.cause.Cause.{Cause}
-use Rattle.script_reader.specs.Readings.{First_fault}
-use Rattle.load_maker.specs.Loads.{load_text}
-use Rattle.speck_run.specs.declared.words.Command.{Command}
-use Rattle.speck_run.specs.declared.words.Command.TheVariants.{Replay, Trace, Draw, Run, Plain, Print, Ends, Sched}
-use Rattle.speck_run.specs.declared.words.Command.TheVariants.{Check, Origins, Worlds, Explain}
-use Rattle.explain_run.specs.line_forms.specs.declared.context.Reading.{Reading}
-use Rattle.explain_run.specs.line_forms.specs.declared.context.Reading.TheVariants as reading
-use Rattle.speck_run.specs.declared.answers.Answer.{Answer}
-use Rattle.speck_run.specs.declared.top.Status.{Status}
-use Rattle.speck_run.specs.declared.top.Status.TheVariants.{Done, Words, Script, ReadFault, WriteFault, Memory, TooLong, Stopped}
-use Rattle.whole_ends.specs.Ends.{GivesAll}
-use Rattle.speck_run.specs.Script.{read_by, MadeBy, IsFaultOf, AreInput}
-use Rattle.speck_run.specs.Top.{CommandLine, texts_of, Asked, Asks, AsksNumber, HasNumber, AsksMake, AsksLoad}
-use Rattle.speck_run.specs.Top.{IsReadingOf, IsExplainedAfter, IsCommand, IsMake, IsLoad, IsUnderstood, IsNumberOf, IsNumberIn, IsDue}
-use Rattle.speck_run.specs.Top.{IsPageOf, IsCommandOf, IsDueOf, IsSummary, IsDone}
-use Rattle.speck_run.specs.Top.{InputMakes, CarriesOut, IsStatusOf, Answers, IsAccepted, Writes, InputRuns, Finishes}
 
 same_fault : {A : Type 0} (f g : First_fault) (r : Result A First_fault) → r ≡ Err f → r ≡ Err g → f ≡ g
 same_fault f g r p q = cc
@@ -35,10 +26,10 @@ is_pair : List (List ℕ) → List ℕ → Bool
 is_pair texts subject = pointwise (λ x y. pointwise eqb x y) texts (codes "explain" ∷ subject ∷ [])
 
 explained : List (List ℕ) → Option Command
-explained texts = if is_pair texts (codes "print") then Some (Explain reading.Script)
-    else if is_pair texts (codes "ends") then Some (Explain reading.Ends)
-    else if is_pair texts (codes "sched") then Some (Explain reading.Sched)
-    else if is_pair texts (codes "check") then Some (Explain reading.History) else None
+explained texts = if is_pair texts (codes "print") then Some (Explain Reading.Script)
+    else if is_pair texts (codes "ends") then Some (Explain Reading.Ends)
+    else if is_pair texts (codes "sched") then Some (Explain Reading.Sched)
+    else if is_pair texts (codes "check") then Some (Explain Reading.History) else None
 
 told : List (List ℕ) → Option Command
 told texts = if is_word texts (codes "replay") then Some Replay else if is_word texts (codes "trace") then Some Trace
@@ -78,10 +69,10 @@ asked_by words Sched p = by_text words Sched (codes "sched" ∷ []) refl p
 asked_by words Check p = by_text words Check (codes "check" ∷ []) refl p
 asked_by words Origins p = by_text words Origins (codes "origins" ∷ []) refl p
 asked_by words Worlds p = by_text words Worlds (codes "worlds" ∷ []) refl p
-asked_by words (Explain reading.Script) p = by_text words (Explain reading.Script) (codes "explain" ∷ codes "print" ∷ []) refl p
-asked_by words (Explain reading.Ends) p = by_text words (Explain reading.Ends) (codes "explain" ∷ codes "ends" ∷ []) refl p
-asked_by words (Explain reading.Sched) p = by_text words (Explain reading.Sched) (codes "explain" ∷ codes "sched" ∷ []) refl p
-asked_by words (Explain reading.History) p = by_text words (Explain reading.History) (codes "explain" ∷ codes "check" ∷ []) refl p
+asked_by words (Explain Reading.Script) p = by_text words (Explain Reading.Script) (codes "explain" ∷ codes "print" ∷ []) refl p
+asked_by words (Explain Reading.Ends) p = by_text words (Explain Reading.Ends) (codes "explain" ∷ codes "ends" ∷ []) refl p
+asked_by words (Explain Reading.Sched) p = by_text words (Explain Reading.Sched) (codes "explain" ∷ codes "sched" ∷ []) refl p
+asked_by words (Explain Reading.History) p = by_text words (Explain Reading.History) (codes "explain" ∷ codes "check" ∷ []) refl p
 
 -- The text of such words of a number tells no command.
 draw_untold : (digits : List ℕ) → told (codes "draw" ∷ digits ∷ []) ≡ None

@@ -1,27 +1,14 @@
 -- Lists and endpoint calls that were made have the text of both histories.
-use Rattle.std.proofs.Common.{◌≡◌, ℕ, zero, suc, ◌+◌, ◌<◌, ◌≤◌, ◌^◌, ◌++◌, List, [], length, map, All, refl, sym, ◌∙◌, ap, subst, arith}
-use Rattle.std.proofs.Common.{Option, Some, append-nil, append_assoc}
-use Rattle.std.specs.Prelude.{slice_index_or, IfSome}
-use Rattle.std.specs.Global.{Vec}
-use Rattle.std.proofs.lemmas.List.{length-map, get_or-map}
-use Rattle.spk_nums.specs.Setting.{Setting}
-use Rattle.spk_nums.specs.declared.calls.Call.{Call}
-use Rattle.trace_run.specs.lone_kernel.specs.kernel_history.specs.Order.{list_of}
-use Rattle.trace_run.specs.lone_kernel.specs.kernel_history.specs.Tables.{lines_below}
-use Rattle.trace_run.specs.lone_kernel.specs.kernel_history.specs.Text.{reply_lines, decisions_by}
-use Rattle.trace_run.specs.lone_kernel.specs.kernel_history.specs.Trace.{calls_of}
-use Rattle.async_ends.specs.declared.asks.EndAsk.{EndAsk}
-use Rattle.async_ends.specs.declared.asks.EndDone.{EndDone}
-use Rattle.async_ends.specs.Events.{taken_at}
-use Rattle.script_reader.specs.Readings.{AtMost}
-use Rattle.ends_reader.specs.Inputs.{FewAsks as FewOfInput}
-use Rattle.ends_text.specs.Lines.{done_lines, count_lines, end_lines}
-use Rattle.ends_text.proofs.Counted.{counted}
-use Rattle.ends_run.specs.declared.whole.EndsRan.{EndsRan}
-use Rattle.ends_run.specs.Whole.{AreEnded, FewCalls, FewAsks}
-use Rattle.speck_run.specs.Ends.{EndsText}
-use Rattle.speck_run.specs.Written.{lines_of, core_lines}
-use Rattle.speck_run.proofs.ByCores.{lines_by_cores}
+use Rattle.trace_run.specs.lone_kernel.specs.kernel_history.proofs as low
+use low.{◌≡◌, ℕ, zero, suc, ◌+◌, ◌<◌, ◌≤◌, ◌^◌, ◌++◌, List, [], length, map, All, refl, sym, ◌∙◌, ap, subst, arith, Option, Some}
+use low.{append-nil, append_assoc, get_or as slice_index_or, IfSome, length-map, get_or-map, Setting, Call, list_of, lines_below, calls_of}
+use Rattle.ends_text.specs.{done_lines, count_lines, end_lines}
+use Rattle.speck_run.specs.{lines_of, core_lines}
+use Rattle.trace_run.specs.lone_kernel.specs.core_invariant.specs.{reply_lines, decisions_by}
+use Rattle.async_ends.specs.{declared.asks.EndAsk.EndAsk, declared.asks.EndDone.EndDone, Events.taken_at}
+use Rattle.ends_run.specs.{declared.whole.EndsRan.EndsRan, Whole.AreEnded, Whole.FewCalls, Whole.FewAsks}
+use Rattle.{std.specs.Global.Vec, script_reader.specs.Readings.AtMost, ends_reader.specs.Inputs.FewAsks as FewOfInput}
+use Rattle.{ends_text.proofs.Counted.counted, speck_run.specs.Ends.EndsText, speck_run.proofs.ByCores.lines_by_cores}
 
 -- lines that are the same below n
 lines_same : (a b : ℕ → List ℕ) (n : ℕ) → ((c : ℕ) → c < n → a c ≡ b c) → lines_below a n ≡ lines_below b n

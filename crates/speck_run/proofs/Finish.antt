@@ -1,44 +1,19 @@
 -- The machine at the end of a run: its cores are between calls, and its text is that of the trace for which it stands.
-use Rattle.std.proofs.Common.{◌≡◌, inl, inr, ℕ, ◌<◌, ◌++◌, List, [], length, sym, ◌∙◌, ap, subst, arith}
-use Rattle.std.specs.Prelude.{None}
-use Rattle.std.proofs.lemmas.Bool.{cases_lt}
-use Rattle.std.proofs.lemmas.List.{get_or_past}
-use Rattle.spk_nums.specs.Setting.{Setting, IsSetting}
-use Rattle.spk_nums.specs.declared.calls.Call.{Call}
-use Rattle.spk_nums.specs.declared.steps.Item.{Item}
-use Rattle.world_lines.specs.world_parts.specs.machine_image.specs.Views.{ImageOf}
-use Rattle.trace_run.specs.lone_kernel.specs.word_map.specs.Places.{Shape}
-use Rattle.trace_run.specs.lone_kernel.specs.kernel_rules.specs.Laws.{ticks}
-use Rattle.trace_run.specs.lone_kernel.specs.kernel_rules.specs.Runs.{after}
-use Rattle.trace_run.specs.lone_kernel.specs.kernel_history.specs.Trace.{Trace, state_after, calls_of, decisions_of}
-use Rattle.trace_run.specs.lone_kernel.specs.kernel_history.specs.Order.{IsIdle, HasCalls, FollowsItems, FollowsCores, Follows, list_of}
-use Rattle.trace_run.specs.lone_kernel.specs.kernel_history.specs.BootWords.{shape_of}
-use Rattle.trace_run.specs.lone_kernel.specs.kernel_history.specs.Events.{events_of, plain_phase}
-use Rattle.trace_run.specs.lone_kernel.specs.kernel_history.specs.FinalWords.{Represent, word_in, end_in}
-use Rattle.trace_run.specs.lone_kernel.specs.kernel_history.proofs.Events.{phase_is as plain_is}
-use Rattle.trace_run.specs.lone_kernel.specs.kernel_history.proofs.Laws.{legal_runs}
-use Rattle.trace_run.specs.lone_kernel.specs.kernel_history.specs.Tables.{tables_of}
-use Rattle.trace_run.specs.lone_kernel.specs.kernel_history.specs.Text.{reply_lines, text_of}
-use Rattle.trace_run.specs.lone_kernel.specs.trace_laws.proofs.Idle.{all_idle}
-use Rattle.trace_run.specs.lone_kernel.specs.flight.specs.Made.{ready_after, IsMade}
-use Rattle.trace_run.specs.lone_kernel.specs.flight_laws.specs.Histories.{IsHistory, MadeHistories}
-use Rattle.trace_run.specs.lone_kernel.specs.call_stages.specs.declared.stages.ActiveCall.{ActiveCall}
-use Rattle.trace_run.specs.lone_kernel.specs.flight.proofs.Phases.{made_of_its_cores}
-use Rattle.trace_run.specs.lone_kernel.specs.GivenSteps.{GivenSteps}
-use Rattle.trace_run.specs.lone_kernel.specs.Machine.{Machine, core_at}
-use Rattle.trace_run.specs.lone_kernel.specs.Stands.{StandsFor}
-use Rattle.trace_run.specs.lone_kernel.proofs.Advance.{phase_is}
-use Rattle.trace_run.specs.lone_kernel.proofs.Runs.{none_of}
-use Rattle.speck_run.specs.Orders.{GoesByItems, RunsCoresOut}
-use Rattle.load_summary.specs.Summaries.{summary_text}
-use Rattle.speck_run.specs.Summary.{GivenSummary}
-use Rattle.speck_run.specs.Worlds.{GivenWorlds}
-use Rattle.world_lines.specs.world_parts.specs.Sight.{sight_of}
-use Rattle.world_lines.specs.world_parts.specs.Last.{IsLast}
-use Rattle.world_lines.specs.world_parts.specs.Finest.{IsFinest}
-use Rattle.world_lines.specs.Lines.{worlds_text}
-use Rattle.world_lines.specs.Telling.{TellsIn, TellsWorlds}
-use Rattle.speck_run.specs.Written.{lines_of}
+use Rattle.trace_run.specs.lone_kernel.specs as low
+use low.kernel_history.proofs.{◌≡◌, inl, inr, ℕ, ◌<◌, ◌++◌, List, [], length, sym, ◌∙◌, ap, subst, arith, None, get_or_past, Setting}
+use low.kernel_history.proofs.{IsSetting, Call, Item, Shape, ticks, after, state_after, calls_of, decisions_of, IsIdle, HasCalls}
+use low.kernel_history.proofs.{FollowsCores, list_of, shape_of, events_of, plain_phase, Represent, word_in, end_in, phase_is as plain_is}
+use low.core_invariant.specs.{Trace, FollowsItems, Follows, reply_lines, ActiveCall}
+use Rattle.speck_run.specs.{GoesByItems, RunsCoresOut, lines_of}
+use Rattle.world_lines.specs.world_parts.specs.{sight_of, IsLast, IsFinest}
+use low.flight.proofs.{ready_after, IsMade, made_of_its_cores}
+use low.{kernel_history.proofs.tables_of, core_at, StandsFor, flight_laws.specs.IsHistory, flight_laws.specs.MadeHistories}
+use low.{kernel_history.proofs.Laws.legal_runs, kernel_history.specs.Text.text_of, trace_laws.proofs.Idle.all_idle, GivenSteps.GivenSteps}
+use low.{Machine.Machine}
+use Rattle.{world_lines.specs.worlds_text, world_lines.specs.TellsWorlds, std.proofs.lemmas.Bool.cases_lt}
+use Rattle.{world_lines.specs.world_parts.specs.machine_image.specs.Views.ImageOf, trace_run.specs.lone_kernel.proofs.Advance.phase_is}
+use Rattle.{trace_run.specs.lone_kernel.proofs.Runs.none_of, load_summary.specs.Summaries.summary_text, world_lines.specs.Telling.TellsIn}
+use Rattle.{speck_run.specs.Summary.GivenSummary, speck_run.specs.Worlds.GivenWorlds}
 
 -- a machine that stands for a trace in which its cores are idle
 module _ (m : Machine) (t : Trace) (setting : IsSetting m.setup) (stands : StandsFor m t) (idle : (c : ℕ)

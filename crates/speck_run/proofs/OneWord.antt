@@ -1,7 +1,8 @@
 -- Words that are one command alone, or one and its number.
-use Rattle.std.proofs.Common.{◌≡◌, ℕ, List, [], ◌∷◌, length, get_or, map, eqb, Bool, true, refl, sym, ◌∙◌, ap, arith}
+use Rattle.trace_run.specs.lone_kernel.specs.kernel_history.proofs.{◌≡◌, ℕ, List, [], ◌∷◌, length, get_or, map, eqb, Bool, true, refl, sym}
+use Rattle.trace_run.specs.lone_kernel.specs.kernel_history.proofs.{◌∙◌, ap, arith, and_from, eqb-true, eq-eqb, false≢true}
+use Rattle.std.proofs.lemmas.Bool.{and_parts}
 use lib.Pointwise.{pointwise}
-use Rattle.std.proofs.lemmas.Bool.{and_parts, and_from, eqb-true, eq-eqb, false≢true}
 
 -- bytes that compare alike are the same
 bytes_same : (xs ys : List ℕ) → pointwise eqb xs ys ≡ true → xs ≡ ys

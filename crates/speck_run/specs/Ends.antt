@@ -1,13 +1,8 @@
 -- The theorem on endpoint calls after lists.
-use Rattle.std.specs.Prelude.{◌≡◌, ◌++◌, ℕ, List}
-use Rattle.spk_nums.specs.declared.calls.Call.{Call}
-use Rattle.spk_nums.specs.Setting.{Setting}
-use Rattle.trace_run.specs.lone_kernel.specs.kernel_history.specs.Tables.{lines_below}
-use Rattle.trace_run.specs.lone_kernel.specs.kernel_history.specs.Text.{decisions_by, reply_lines}
-use Rattle.trace_run.specs.lone_kernel.specs.kernel_history.specs.Trace.{calls_of}
-use Rattle.async_ends.specs.declared.asks.EndAsk.{EndAsk}
-use Rattle.ends_text.specs.Lines.{done_lines, end_lines}
-use Rattle.ends_run.specs.Ends.{EndsHistory}
+use Rattle.trace_run.specs.lone_kernel.specs.kernel_history.specs.{◌≡◌, ◌++◌, ℕ, List, Call, Setting, lines_below, decisions_by}
+use Rattle.trace_run.specs.lone_kernel.specs.kernel_history.specs.{reply_lines, calls_of}
+use Rattle.ends_text.specs.{done_lines, end_lines}
+use Rattle.{async_ends.specs.declared.asks.EndAsk.EndAsk, ends_run.specs.Ends.EndsHistory}
 
 -- The reply lines of the lists' calls, core by core, then the lines of the endpoint calls, core by core, then those of the frames.
 abbrev pub ends_text : (setup : Setting) (lists : List (List Call)) (asks : List (List EndAsk)) → EndsHistory setup lists asks → List ℕ

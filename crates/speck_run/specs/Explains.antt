@@ -1,22 +1,19 @@
 -- What `explain` writes, beside what the command that it names writes of the same bytes.
 use Rattle.std.specs.Prelude.{◌≡◌, ◌++◌, ℕ, List}
-use Rattle.line_reader.specs.declared.cause.Cause.{Cause}
-use Rattle.explain_run.specs.history_options.specs.marked_history.specs.declared.marks.Verdict.TheVariants.{Legal}
-use Rattle.check_run.specs.Texts.{verdict_text}
-use Rattle.explain_run.specs.Explained.{accepted_text}
-use Rattle.explain_run.specs.line_forms.specs.declared.context.Reading.{Reading}
-use Rattle.explain_run.specs.line_forms.specs.declared.context.Reading.TheVariants as reading
-use Rattle.speck_run.specs.declared.words.Command.{Command}
 use Rattle.speck_run.specs.declared.words.Command.TheVariants.{Print, Ends, Sched, Check, Explain}
 use Rattle.speck_run.specs.Script.{MadeBy, AreInput, IsFaultOf}
-use Rattle.speck_run.specs.Top.{script_line}
+use Rattle.{script_reader.specs.line_reader.specs.declared.cause.Cause.Cause}
+use Rattle.{explain_run.specs.history_options.specs.marked_history.specs.declared.marks.Verdict.TheVariants.Legal}
+use Rattle.{check_run.specs.Texts.verdict_text, explain_run.specs.Explained.accepted_text}
+use Rattle.{explain_run.specs.line_forms.specs.declared.context.Reading.Reading, speck_run.specs.declared.words.Command.Command}
+use Rattle.{speck_run.specs.Top.script_line}
 
 -- The command that reads such bytes.
 abbrev pub named : Reading → Command
-named reading.Script = Print
-named reading.Ends = Ends
-named reading.Sched = Sched
-named reading.History = Check
+named Reading.Script = Print
+named Reading.Ends = Ends
+named Reading.Sched = Sched
+named Reading.History = Check
 
 -- The text begins so.
 pub record BeginsWith (front text : List ℕ) : Type 0 where
@@ -36,7 +33,7 @@ pub record TellsVerdict (bytes text : List ℕ) : Type 0 where
 
 -- Of bytes that it takes: that they are taken; of a given history the verdict.
 abbrev pub TellsTaken : Reading → List ℕ → List ℕ → Type 0
-TellsTaken reading.History bytes text = TellsVerdict bytes text
+TellsTaken Reading.History bytes text = TellsVerdict bytes text
 TellsTaken r bytes text = text ≡ accepted_text r
 
 -- What `explain` makes of bytes goes by what the command that it names makes of them.

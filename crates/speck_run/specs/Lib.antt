@@ -1,3 +1,9 @@
+-- What the crates above name through this one.
+pub use Rattle.whole_ends
+pub use Rattle.check_run
+pub use Rattle.explain_run
+pub use Rattle.ends_run
+-- Its own.
 pub mod Orders
 pub mod Written
 pub mod Ends
@@ -6,3 +12,5 @@ pub mod Script
 pub mod Summary
 pub mod Top
 pub mod Explains
+-- The names that are used most outside of this library.
+pub use Rattle.speck_run.specs.{Orders.GoesByItems, Orders.RunsCoresOut, Written.lines_of, Written.core_lines}

@@ -1,11 +1,7 @@
 -- How orders extend each trace for which a machine stood.
-use Rattle.std.specs.Prelude.{ℕ, List, ◌++◌}
-use Rattle.spk_nums.specs.declared.steps.Item.{Item}
-use Rattle.trace_run.specs.lone_kernel.specs.kernel_history.specs.Trace.{Trace}
-use Rattle.trace_run.specs.lone_kernel.specs.kernel_history.specs.Order.{AreOf, FollowsItem, FollowsItems, RunsOut, FollowsCores}
-use Rattle.trace_run.specs.lone_kernel.specs.Machine.{Machine}
-use Rattle.trace_run.specs.lone_kernel.specs.flight.specs.Made.{ready_after}
-use Rattle.trace_run.specs.lone_kernel.specs.Stands.{StandsFor}
+use Rattle.trace_run.specs.lone_kernel.specs as low
+use low.kernel_history.specs.{ℕ, List, ◌++◌, Item, AreOf, FollowsItem, FollowsItems, RunsOut, FollowsCores}
+use low.{kernel_history.specs.Trace.Trace, Machine.Machine, Stands.StandsFor, flight.specs.Made.ready_after}
 
 -- Each trace goes on by an item of the order.
 pub record TakesItem (m m' : Machine) (item : Item) (t : Trace) : Type 0 where

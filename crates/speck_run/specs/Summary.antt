@@ -1,18 +1,10 @@
 -- The theorem on the summary of given steps.
-use Rattle.std.specs.Prelude.{◌≡◌, ℕ, List, string_bytes}
-use Rattle.spk_nums.specs.declared.calls.Call.{Call}
-use Rattle.spk_nums.specs.declared.steps.Item.{Item}
-use Rattle.spk_nums.specs.Setting.{Setting}
-use Rattle.trace_run.specs.lone_kernel.specs.kernel_rules.specs.Laws.{ticks}
-use Rattle.trace_run.specs.lone_kernel.specs.kernel_history.specs.Trace.{Trace, state_after, decisions_of}
-use Rattle.trace_run.specs.lone_kernel.specs.kernel_history.specs.Order.{HasCalls, Follows}
-use Rattle.trace_run.specs.lone_kernel.specs.flight.specs.Made.{ready_after}
-use Rattle.trace_run.specs.lone_kernel.specs.flight_laws.specs.Histories.{IsHistory}
-use Rattle.script_reader.specs.Readings.{Meaning}
-use Rattle.load_summary.specs.Summaries.{summary_text}
-use Rattle.speck_run.specs.declared.summary.Summed.{Summed}
-use Rattle.speck_run.specs.declared.summary.Summed.TheVariants.{Done, NoScript}
-use Rattle.speck_run.specs.Script.{IsScript, IsFirstFault}
+use Rattle.trace_run.specs.lone_kernel.specs as low
+use low.core_invariant.specs.{◌≡◌, ℕ, List, string_bytes, Call, Item, Setting, Trace, state_after, decisions_of, HasCalls, Follows}
+use Rattle.speck_run.specs.{declared.summary.Summed.Summed, declared.summary.Summed.TheVariants.Done}
+use Rattle.speck_run.specs.{declared.summary.Summed.TheVariants.NoScript, Script.IsScript, Script.IsFirstFault}
+use low.{kernel_rules.specs.Laws.ticks, flight.specs.Made.ready_after, flight_laws.specs.Histories.IsHistory}
+use Rattle.{script_reader.specs.Readings.Meaning, load_summary.specs.Summaries.summary_text}
 
 -- There is one trace that is a history of the machine, has the calls of the lists once and in order, and follows the order; and the
 -- text is the summary of its decisions, with the total of the ticks in the state that it leaves.

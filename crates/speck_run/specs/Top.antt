@@ -1,22 +1,14 @@
 -- What the top call answers and writes, and why.
 use Rattle.std.specs.Prelude.{◌≡◌, ◌⊎◌, ◌++◌, ◌^◌, ℕ, ◌<◌, ◌≤◌, List, [], ◌∷◌, length, map, Option, Some, None, String, string_bytes, codes}
-use Rattle.std.specs.Fmt.{decimal}
-use Rattle.std.specs.Global.{Global, Vec}
-use Rattle.byte_ends.specs.Ends.{HasRisen, Adds}
-use Rattle.line_reader.specs.declared.cause.Cause.{Cause}
-use Rattle.line_reader.specs.Causes.{cause_text}
-use Rattle.line_reader.specs.Numerals.{number_of}
-use Rattle.explain_run.specs.line_forms.specs.declared.context.Reading.{Reading}
-use Rattle.explain_run.specs.line_forms.specs.declared.context.Reading.TheVariants as reading
-use Rattle.load_maker.specs.Loads.{script_made, load_text}
-use Rattle.speck_run.specs.declared.words.Command.{Command}
-use Rattle.speck_run.specs.declared.words.Command.TheVariants.{Replay, Trace, Draw, Run, Plain, Print, Ends, Sched}
-use Rattle.speck_run.specs.declared.words.Command.TheVariants.{Check, Origins, Worlds, Explain}
-use Rattle.speck_run.specs.declared.top.Status.{Status}
+use Rattle.script_reader.specs.line_reader.specs.{declared.cause.Cause.Cause, Causes.cause_text, Numerals.number_of}
+use Rattle.speck_run.specs.declared.words.Command.TheVariants.{Replay, Trace, Draw, Run, Plain, Print, Ends, Sched, Check, Origins, Worlds}
 use Rattle.speck_run.specs.declared.top.Status.TheVariants.{Done, Words, Script, ReadFault, WriteFault, Memory, TooLong, Stopped}
-use Rattle.whole_ends.specs.Ends.{Gives, GivesAll, AddsFront}
-use Rattle.speck_run.specs.Summary.{GivenSummary}
 use Rattle.speck_run.specs.Script.{MadeBy, IsFaultOf, AreInput, UsesThreads}
+use Rattle.{std.specs.Prelude.decimal, whole_ends.specs.Gives, whole_ends.specs.GivesAll, std.specs.Global.Global, std.specs.Global.Vec}
+use Rattle.{byte_ends.specs.Ends.HasRisen, byte_ends.specs.Ends.Adds, explain_run.specs.line_forms.specs.declared.context.Reading.Reading}
+use Rattle.{load_maker.specs.Loads.script_made, load_maker.specs.Loads.load_text, whole_ends.specs.Ends.AddsFront}
+use Rattle.{speck_run.specs.declared.words.Command.Command, speck_run.specs.declared.words.Command.TheVariants.Explain}
+use Rattle.{speck_run.specs.declared.top.Status.Status, speck_run.specs.Summary.GivenSummary}
 
 -- A command line: the words after the program's name.
 abbrev pub CommandLine : Type 0
@@ -27,10 +19,10 @@ texts_of words = map (λ word. string_bytes word) words.items
 
 -- The word of the command that reads such bytes.
 abbrev pub subject_of : Reading → List ℕ
-subject_of reading.Script = codes "print"
-subject_of reading.Ends = codes "ends"
-subject_of reading.Sched = codes "sched"
-subject_of reading.History = codes "check"
+subject_of Reading.Script = codes "print"
+subject_of Reading.Ends = codes "ends"
+subject_of Reading.Sched = codes "sched"
+subject_of Reading.History = codes "check"
 
 -- The word of a command, or the first of its words.
 abbrev pub word_of : Command → List ℕ

@@ -1,12 +1,7 @@
 -- The reply lines of a run.
-use Rattle.std.specs.Prelude.{ℕ, List, [], slice_index_or}
-use Rattle.spk_nums.specs.declared.calls.Call.{Call}
-use Rattle.spk_nums.specs.declared.replies.Decision.{Decision}
-use Rattle.trace_run.specs.lone_kernel.specs.kernel_history.specs.Order.{list_of}
-use Rattle.trace_run.specs.lone_kernel.specs.kernel_history.specs.Tables.{lines_below}
-use Rattle.trace_run.specs.lone_kernel.specs.kernel_history.specs.Text.{reply_lines}
-use Rattle.async_ends.specs.declared.asks.EndDone.{EndDone}
-use Rattle.ends_text.specs.Lines.{done_lines}
+use Rattle.trace_run.specs.lone_kernel.specs.kernel_history.specs.{ℕ, List, [], get_or as slice_index_or, Call, Decision, list_of}
+use Rattle.trace_run.specs.lone_kernel.specs.kernel_history.specs.{lines_below, reply_lines}
+use Rattle.{async_ends.specs.declared.asks.EndDone.EndDone, ends_text.specs.Lines.done_lines}
 
 -- The reply lines of the decisions, in the order decided, by the lists of the cores' calls.
 abbrev pub lines_of : List (List Call) → List Decision → List ℕ

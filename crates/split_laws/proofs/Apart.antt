@@ -1,56 +1,30 @@
 -- A decision of a core that works outside a world that is split leaves all of the world as it is, but that its flush passes grace periods.
-use Rattle.std.proofs.Common.{◌≡◌, ◌≢◌, ◌⊎◌, inl, inr, ℕ, ◌<◌, Bool, true, false, cond, refl, sym, ◌∙◌, ap, subst, arith, List, [], ◌∷◌}
-use Rattle.std.proofs.lemmas.Bool.{cases_eq, false≢true, eqb-true}
-use Rattle.world_laws.specs.spk_nums.specs.Setting.{Setting, IsSetting}
-use Rattle.world_laws.specs.spk_nums.specs.Capability.{Capability}
-use Rattle.world_laws.specs.spk_nums.specs.declared.kinds.Kind.TheVariants as kind
-use Rattle.world_laws.specs.spk_nums.specs.declared.kinds.FrameKind.TheVariants as frame_kind
-use Rattle.world_laws.specs.spk_nums.specs.declared.calls.Make.TheVariants as make
-use Rattle.world_laws.specs.spk_nums.specs.declared.calls.Call.{Call}
-use Rattle.world_laws.specs.spk_nums.specs.declared.calls.Call.TheVariants.{Retype, Make as make_call}
-use Rattle.world_laws.specs.spk_nums.specs.declared.replies.Reply.{Reply}
-use Rattle.world_laws.specs.spk_nums.specs.declared.replies.Reply.TheVariants as reply
-use Rattle.world_laws.specs.kernel_rules.specs.State.{Liveness, Live, Dead, Thing, PlaceOf, FrameOf, NumberOf, State, comp_in}
-use Rattle.world_laws.specs.kernel_rules.specs.Start.{no_grace}
-use Rattle.world_laws.specs.kernel_rules.specs.References.{place_names, frame_names, number_names, core_names, times}
-use Rattle.world_laws.specs.kernel_rules.specs.GracePeriods.{same_thing, new_grace}
-use Rattle.world_laws.specs.kernel_rules.specs.Rules.{Change, Judged, Refused, Found, IsFoundAnd}
-use Rattle.world_laws.specs.kernel_rules.specs.CapabilityCalls.{is_live, not_blank}
-use Rattle.world_laws.specs.kernel_rules.specs.Edits.{is_place_of, Edit, Fill, Component, Deaden, Merge, edited, after_edits}
-use Rattle.world_laws.specs.kernel_rules.specs.MemoryCalls.{not_retyped}
-use Rattle.world_laws.specs.kernel_rules.specs.Life.{is_live_in}
-use Rattle.world_laws.specs.kernel_rules.specs.CallRelation.{begins, ends, ends_by, flushes, rule_of, change_of, MayReply}
-use Rattle.world_laws.specs.kernel_rules.specs.Runs.{Event, Decides, after, is_open, IsRun}
-use Rattle.world_laws.specs.kernel_rules.proofs.Changes.{IfFound}
-use Rattle.world_laws.specs.kernel_invariant.proofs.Sound.{put_all}
-use Rattle.world_laws.specs.kernel_invariant.proofs.SoundSteps.{holds_quiescing}
-use Rattle.world_laws.specs.kernel_invariant.proofs.SoundCalls.{IsOpen}
-use Rattle.world_laws.specs.kernel_invariant.proofs.SoundRuns.{opened, open_is}
-use Rattle.world_laws.specs.kernel_invariant.proofs.Facts.{ChangesFrom, outcome_from}
-use Rattle.world_laws.specs.kernel_invariant.proofs.GraceChanges.{flushed_by, grace_is}
-use Rattle.world_laws.specs.kernel_invariant.proofs.Edited.{AreLater, Calm}
-use Rattle.world_laws.specs.authority_laws.specs.state_laws.specs.Lives.{IsCompOf}
-use Rattle.world_laws.specs.authority_laws.specs.state_laws.proofs.Lives.{live_numbers_fit}
-use Rattle.world_laws.specs.authority_laws.specs.Authority.{Part, PlaceIs, FrameIs, NumberIs, CoreIs, LivesBy, MayUse}
-use Rattle.world_laws.specs.authority_laws.specs.Graces.{names_of, HasCause}
-use Rattle.world_laws.specs.authority_laws.proofs.Acts.{InRange, By, EachBy}
-use Rattle.world_laws.specs.authority_laws.proofs.DecidedParts.{decided_from}
-use Rattle.world_laws.specs.authority_laws.proofs.Causes.{graces_have_cause}
-use Rattle.world_laws.specs.Worlds.{gates, IsSealed, LeavesAlone}
-use Rattle.world_laws.proofs.Living.{LivesFor, lives_for}
-use Rattle.world_laws.proofs.Outside.{WorksOutside, may_out, range_out}
-use Rattle.world_laws.proofs.Leaving.{outside, outside_leaves}
-use Rattle.split_laws.specs.Split.{World, IsSplit, side, is_of, MakesOwn}
-use Rattle.split_laws.proofs.Working.{WorksOn, works_on, comp_is, range_frame}
-use Rattle.split_laws.proofs.Splitting.{split_for_good}
-use Rattle.split_laws.proofs.Referring.{numbers_on, place_none, frame_none, core_none, number_none}
+use Rattle.same_changes.specs.kernel_laws.proofs as low
+use low.{◌≡◌, ◌≢◌, ◌⊎◌, inl, inr, ℕ, ◌<◌, Bool, true, false, cond, refl, sym, ◌∙◌, ap, subst, arith, List, [], ◌∷◌, false≢true, eqb-true}
+use low.{Setting, IsSetting, Capability, Call, Retype, Make as make_call, Reply, Liveness, Live, Dead, Thing, PlaceOf, FrameOf, NumberOf}
+use low.{State, comp_in, no_grace, place_names, frame_names, number_names, core_names, times, same_thing, new_grace, Change, Judged}
+use low.{Refused, Found, IsFoundAnd, is_live, not_blank, is_place_of, Edit, Fill, Component, Deaden, Merge, edited, after_edits}
+use low.{not_retyped, is_live_in, begins, ends, ends_by, flushes, rule_of, change_of, MayReply, Event, Decides, after, is_open, IsRun}
+use low.{IfFound, put_all, IsOpen, opened, open_is, ChangesFrom, outcome_from, flushed_by, grace_is, AreLater, Calm, Kind, FrameKind}
+use Rattle.world_laws.specs.authority_laws.specs.{Part, PlaceIs, FrameIs, NumberIs, CoreIs, MayUse}
+use Rattle.split_laws.specs.{World, IsSplit, side, MakesOwn}
+use Rattle.world_laws.specs.authority_laws.proofs.{InRange, By, EachBy, decided_from}
+use Rattle.world_laws.specs.{gates, IsSealed, LeavesAlone}
+use Rattle.world_laws.specs.authority_laws.specs.{Authority.LivesBy, Graces.names_of, Graces.HasCause}
+use Rattle.world_laws.proofs.{Living.LivesFor, Living.lives_for, Outside.WorksOutside, Outside.may_out, Outside.range_out, Leaving.outside}
+use Rattle.split_laws.proofs.{Working.WorksOn, Working.works_on, Working.comp_is, Working.range_frame, Splitting.split_for_good}
+use Rattle.split_laws.proofs.{Referring.numbers_on, Referring.place_none, Referring.frame_none, Referring.core_none, Referring.number_none}
+use Rattle.{std.proofs.lemmas.Bool.cases_eq, world_laws.specs.kernel_invariant.proofs.SoundSteps.holds_quiescing}
+use Rattle.{world_laws.specs.state_laws.specs.Lives.IsCompOf, world_laws.specs.state_laws.proofs.Lives.live_numbers_fit}
+use Rattle.{world_laws.specs.authority_laws.proofs.Causes.graces_have_cause, world_laws.proofs.Leaving.outside_leaves}
+use Rattle.{world_laws.specs.spk_nums.specs.declared.calls.Make.Make, split_laws.specs.Split.is_of}
 
 -- ---- what becomes of a liveness number
 
 module _ (call : Call) (s : State) (c : ℕ) where
   -- It is as it was; or its component is killed; or it is live for a frame of a range.
   abbrev Killed : ℕ → Type 0
-  Killed l = (k : Capability) × MayUse call s c k × (k.kind ≡ kind.Comp) × LivesBy s k.frame l
+  Killed l = (k : Capability) × MayUse call s c k × (k.kind ≡ Kind.Comp) × LivesBy s k.frame l
 
   abbrev Born : Liveness → Type 0
   Born x = (e : ℕ) × (f : ℕ) × (x ≡ Live e f) × InRange call s c f
@@ -152,7 +126,7 @@ module _ (setting : Setting) (lim : IsSetting setting) (events : List Event) (c 
       let lives : LivesFor s k.frame = lives_for setting lim events run.0 k.frame
       (subst (λ n. is_live_in (s.number n) (comp_in (s.frame k.frame)).epoch ≡ true) (sym by.0) by.1) in
       ap w.number (sym by.0) ∙ (split.comps k.frame (comp_in (s.frame k.frame)) (comp_is (s.frame k.frame) lives.comp)).2
-      ∙ may_out w.frame s c works k kind.Comp k.frame may is refl refl
+      ∙ may_out w.frame s c works k Kind.Comp k.frame may is refl refl
 
   born_out : (l : ℕ) → Born call s c (t.number l) → w.number l ≡ false
   born_out l (e, f, is, range) =
@@ -215,15 +189,15 @@ module _ (setting : Setting) (lim : IsSetting setting) (events : List Event) (c 
       (λ begun. no_cause x of (graces_have_cause setting lim events c call r run x begun))
 
   ended_out : (made : Call) (x : Thing) → is_of w x ≡ true → ends_by made x ≡ true → ChangesFrom (λ change. ⊥) s c (rule_of s c made)
-  ended_out (Retype n f frame_kind.Untyped) x of is = λ range e calm. within f
-      (range_frame w s c (side w s c) on n f range (not_retyped s f frame_kind.Untyped) e calm ∙ out) (thing_frame w x f is of)
-  ended_out (make_call make.Table n f a b) x of is = λ range e table g slot v calm. within f
+  ended_out (Retype n f FrameKind.Untyped) x of is = λ range e calm. within f
+      (range_frame w s c (side w s c) on n f range (not_retyped s f FrameKind.Untyped) e calm ∙ out) (thing_frame w x f is of)
+  ended_out (make_call Make.Table n f a b) x of is = λ range e table g slot v calm. within f
       (range_frame w s c (side w s c) on n f range (not_blank s f ∷ []) e calm ∙ out) (place_frame w x f is of)
-  ended_out (make_call make.Leaf n f a b) x of is = λ range e table g slot v calm. within f
+  ended_out (make_call Make.Leaf n f a b) x of is = λ range e table g slot v calm. within f
       (range_frame w s c (side w s c) on n f range (not_blank s f ∷ []) e calm ∙ out) (place_frame w x f is of)
-  ended_out (make_call make.Pages n f a b) x of is = λ range e table g slot v calm. within f
+  ended_out (make_call Make.Pages n f a b) x of is = λ range e table g slot v calm. within f
       (range_frame w s c (side w s c) on n f range (not_blank s f ∷ []) e calm ∙ out) (place_frame w x f is of)
-  ended_out (make_call make.Pleaf n f a b) x of is = λ range e table g slot v calm. within f
+  ended_out (make_call Make.Pleaf n f a b) x of is = λ range e table g slot v calm. within f
       (range_frame w s c (side w s c) on n f range (not_blank s f ∷ []) e calm ∙ out) (place_frame w x f is of)
   ended_out _ x of is = absurd (false≢true is)
 
@@ -231,7 +205,7 @@ module _ (setting : Setting) (lim : IsSetting setting) (events : List Event) (c 
   not_ended x of = by_reply r run.1.permitted
     where
       by_reply : (q : Reply) → MayReply s c call q → ends call q x ≡ false
-      by_reply (reply.Ok v) may = not_true (ends_by call x) (λ is. none_found (λ change. change.value ≡ v) (change_of s c call)
+      by_reply (Reply.Ok v) may = not_true (ends_by call x) (λ is. none_found (λ change. change.value ≡ v) (change_of s c call)
           (outcome_from (λ change. ⊥) s c (rule_of s c call) (ended_out call x of is)) may.1.1)
       by_reply _ may = refl
 

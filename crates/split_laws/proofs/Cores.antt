@@ -1,30 +1,15 @@
 -- What a decision makes of cores: it leaves all others as they are; its own counts a call, and stays on its side of a world that is split.
-use Rattle.std.proofs.Common.{◌≡◌, ◌≢◌, inl, inr, ℕ, ◌+◌, Bool, refl, sym, ◌∙◌, ap, arith, List, [], ◌∷◌}
-use Rattle.world_laws.specs.spk_nums.specs.Setting.{Setting, IsSetting}
-use Rattle.world_laws.specs.spk_nums.specs.Capability.{Capability}
-use Rattle.world_laws.specs.spk_nums.specs.declared.kinds.Kind.{Kind}
-use Rattle.world_laws.specs.spk_nums.specs.declared.kinds.Kind.TheVariants as kind
-use Rattle.world_laws.specs.spk_nums.specs.declared.calls.Call.{Call}
-use Rattle.world_laws.specs.spk_nums.specs.declared.calls.Call.TheVariants.{Tick}
-use Rattle.world_laws.specs.spk_nums.specs.declared.replies.Reply.{Reply}
-use Rattle.world_laws.specs.spk_nums.specs.declared.replies.Reply.TheVariants as reply
-use Rattle.world_laws.specs.kernel_rules.specs.State.{put, Core, State}
-use Rattle.world_laws.specs.kernel_rules.specs.Rules.{Change, Judged, Refused, Found, IsFoundAnd}
-use Rattle.world_laws.specs.kernel_rules.specs.CallRelation.{change_of, changed, counted, owed_by, state_by, MayReply}
-use Rattle.world_laws.specs.kernel_rules.specs.Laws.{calls_counted}
-use Rattle.world_laws.specs.kernel_rules.specs.Runs.{Event, Decides, after, is_open, IsRun}
-use Rattle.world_laws.specs.kernel_rules.proofs.Changes.{IfFound}
-use Rattle.world_laws.specs.kernel_rules.proofs.Within.{put_same}
-use Rattle.world_laws.specs.kernel_rules.specs.Edits.{Give, Edit, Fill, Switch, Cache, Flush, Charge, Merge, edited, after_edits}
-use Rattle.world_laws.specs.kernel_invariant.proofs.SoundCalls.{IsOpen}
-use Rattle.world_laws.specs.kernel_invariant.proofs.SoundRuns.{opened, open_is, open_limits}
-use Rattle.world_laws.specs.kernel_invariant.proofs.Edited.{AreLater, Calm, found_by}
-use Rattle.world_laws.specs.kernel_laws.proofs.Shapes.{ShapedBy, shaped_by}
-use Rattle.world_laws.specs.kernel_laws.proofs.RangesLaw.{runs_shape}
-use Rattle.world_laws.specs.authority_laws.specs.Authority.{CoreIs, Over}
-use Rattle.world_laws.specs.authority_laws.proofs.Acts.{By, EachBy}
-use Rattle.world_laws.specs.authority_laws.proofs.DecidedParts.{calls_change_their_own, decided_from}
-use Rattle.split_laws.specs.Split.{World, IsSplit, side}
+use Rattle.same_changes.specs.kernel_laws.proofs as low
+use low.{◌≡◌, ◌≢◌, inl, inr, ℕ, ◌+◌, Bool, refl, sym, ◌∙◌, ap, arith, List, [], ◌∷◌, Setting, IsSetting, Capability, Kind, Call, Tick}
+use low.{Reply, put, Core, State, Change, Judged, Refused, Found, IsFoundAnd, change_of, changed, counted, owed_by, state_by, MayReply}
+use low.{calls_counted, Event, Decides, after, is_open, IsRun, IfFound, put_same, Give, Edit, Fill, Cache, Charge, Merge, edited}
+use low.{after_edits, IsOpen, opened, open_is, open_limits, AreLater, Calm, found_by, runs_shape}
+use Rattle.split_laws.specs.{World, IsSplit, side}
+use Rattle.world_laws.specs.authority_laws.proofs.{By, EachBy, decided_from}
+use Rattle.world_laws.specs.authority_laws.specs.{CoreIs, Over}
+use Rattle.world_laws.specs.kernel_rules.specs.Edits.{Switch, Flush}
+use low.Shapes.{ShapedBy, shaped_by}
+use Rattle.world_laws.specs.authority_laws.proofs.DecidedParts.{calls_change_their_own}
 use Rattle.split_laws.proofs.Working.{WorksOn, works_on, named_frame}
 
 -- The side of a core's thread, after edits.
@@ -38,7 +23,7 @@ module _ (call : Call) (w : World) (s : State) (c : ℕ) (b : Bool) (on : WorksO
   edit_stays : (e : Edit) → By call s c e → Stays (edited c s e)
   edit_stays (Switch h q) by =
       ap (λ (x : Core). w.frame x.thread) (put_same s.core c (record (s.core c) { thread = h; tcap = q }) c refl)
-      ∙ ap w.frame (sym by.frame) ∙ named_frame w s c b on by.first kind.Thread by.thread refl by.names
+      ∙ ap w.frame (sym by.frame) ∙ named_frame w s c b on by.first Kind.Thread by.thread refl by.names
   edit_stays (Cache t) by = own_core s _ refl on.thread
   edit_stays Flush by = own_core s _ refl on.thread
   edit_stays (Charge n) by = own_core s _ refl on.thread
@@ -74,7 +59,7 @@ module _ (setting : Setting) (lim : IsSetting setting) (events : List Event) (c 
   ]
     where
       no_core : (j : Kind) (k : Capability) → Over s c j k (CoreIs d) → ⊥
-      no_core kind.Range k over = over
+      no_core Kind.Range k over = over
       no_core _ k over = over
 
   pub thread_stays : (w : World) → IsSplit w s → w.frame (t.core c).thread ≡ w.frame (s.core c).thread
@@ -107,9 +92,9 @@ module _ (setting : Setting) (lim : IsSetting setting) (events : List Event) (c 
       found P (Found change) by ok = by.own.counted
 
       by_reply : (q : Reply) → MayReply s c call q → ((state_by s c call q).core c).counted ≡ (s.core c).counted + calls_counted q
-      by_reply (reply.Ok v) may = count (changed s (change_of s c call))
+      by_reply (Reply.Ok v) may = count (changed s (change_of s c call))
           (found (λ change. change.value ≡ v) (change_of s c call) shaped may.1.1)
-      by_reply reply.CallsSpent may = omega arith
-      by_reply reply.Raced may = count (owed_by s c call) (owed call)
-      by_reply (reply.Busy d) may = count (owed_by s c call) (owed call)
+      by_reply Reply.CallsSpent may = omega arith
+      by_reply Reply.Raced may = count (owed_by s c call) (owed call)
+      by_reply (Reply.Busy d) may = count (owed_by s c call) (owed call)
       by_reply _ may = count s refl

@@ -1,27 +1,11 @@
 -- Worked examples, which the checker computes: states in which the world of frame 5 and number 1 is not split, and one in which a world is.
-use Rattle.std.proofs.Common.{◌≡◌, inl, inr, ℕ, arith, false, ◌==◌, nat_lt, refl, sym, ◌∙◌, ap, subst, [], ◌∷◌, Some, None}
-use Rattle.std.proofs.lemmas.Bool.{true≢false}
-use Rattle.std.specs.List.{AllByRecursion}
-use Rattle.world_laws.specs.spk_nums.specs.Capability.{Capability, cap_of}
-use Rattle.world_laws.specs.spk_nums.specs.Rights.{neither}
-use Rattle.world_laws.specs.spk_nums.specs.declared.kinds.Kind.{Kind}
-use Rattle.world_laws.specs.spk_nums.specs.declared.kinds.Kind.TheVariants as kind
-use Rattle.world_laws.specs.spk_nums.specs.declared.kinds.FrameKind.TheVariants as frame_kind
-use Rattle.world_laws.specs.spk_nums.specs.declared.calls.Call.TheVariants.{Retype}
-use Rattle.world_laws.specs.spk_nums.specs.declared.replies.Reply.TheVariants as reply
-use Rattle.world_laws.specs.spk_nums.specs.declared.translations.Translation.{Translation}
-use Rattle.world_laws.specs.kernel_rules.specs.State.{Free, Holds, Quiescing, CompFields, ThreadFields, Comp, Thread, Untyped, User, Kernel}
-use Rattle.world_laws.specs.kernel_rules.specs.State.{Unused, Core, State, with_place, with_frame, with_core, with_grace}
-use Rattle.world_laws.specs.kernel_rules.specs.Start.{plain_cap, no_grace}
-use Rattle.world_laws.specs.kernel_rules.specs.Access.{only, usable_in}
-use Rattle.world_laws.specs.kernel_rules.specs.Rules.{RuleMay}
-use Rattle.world_laws.specs.kernel_rules.specs.CallRelation.{rule_of}
-use Rattle.world_laws.specs.kernel_invariant.proofs.Sound.{put_all}
-use Rattle.world_laws.specs.kernel_invariant.proofs.SoundSteps.{place_all}
-use Rattle.world_laws.specs.kernel_invariant.proofs.Facts.{none_some, some_inj}
-use Rattle.world_laws.specs.Worlds.{LeadsTo}
-use Rattle.world_laws.proofs.Outside.{leads_plain}
-use Rattle.split_laws.specs.Split.{World, IsSplit}
+use Rattle.same_changes.specs.kernel_laws.proofs.{◌≡◌, inl, inr, ℕ, arith, false, ◌==◌, ltb as nat_lt, refl, sym, ◌∙◌, ap, subst, [], ◌∷◌}
+use Rattle.same_changes.specs.kernel_laws.proofs.{Some, None, true≢false, Capability, cap_of, Kind, Retype, Translation, Free, Holds}
+use Rattle.same_changes.specs.kernel_laws.proofs.{Quiescing, CompFields, ThreadFields, Comp, Thread, Untyped, User, Kernel, Unused, Core}
+use Rattle.same_changes.specs.kernel_laws.proofs.{State, with_place, with_frame, with_core, with_grace, plain_cap, no_grace, only}
+use Rattle.same_changes.specs.kernel_laws.proofs.{usable_in, RuleMay, rule_of, put_all, place_all, none_some, some_inj, FrameKind, Reply}
+use Rattle.{split_laws.specs.World, split_laws.specs.IsSplit, std.specs.List.AllByRecursion, world_laws.specs.spk_nums.specs.Rights.neither}
+use Rattle.{world_laws.specs.Worlds.LeadsTo, world_laws.proofs.Outside.leads_plain}
 
 -- The world of frame 5 and number 1, and a state without anything.
 abbrev five : World
@@ -41,26 +25,26 @@ nothing = record {
 }
 
 -- A place outside has a capability of any kind to frame 5, also a gate.
-held_crosses : (k : Kind) → only kind.Range k ≡ false → IsSplit five (with_place nothing 1 0 (Holds (plain_cap k 5))) → ⊥
+held_crosses : (k : Kind) → only Kind.Range k ≡ false → IsSplit five (with_place nothing 1 0 (Holds (plain_cap k 5))) → ⊥
 held_crosses k plain h = true≢false (h.places 1 0 0 5 (plain_cap k 5) refl (leads_plain k (plain_cap k 5) 5 plain refl))
 
-gate_crosses : IsSplit five (with_place nothing 1 0 (Holds (plain_cap kind.Gate 5))) → ⊥
-gate_crosses = held_crosses kind.Gate refl
+gate_crosses : IsSplit five (with_place nothing 1 0 (Holds (plain_cap Kind.Gate 5))) → ⊥
+gate_crosses = held_crosses Kind.Gate refl
 
 -- One without rights, and a range of the frames 4 to 6.
 abbrev dull : Capability
-dull = record { kind = kind.Comp; frame = 5; arg = 0; rights = neither }
+dull = record { kind = Kind.Comp; frame = 5; arg = 0; rights = neither }
 
 dull_crosses : IsSplit five (with_place nothing 1 0 (Holds dull)) → ⊥
 dull_crosses h = true≢false (h.places 1 0 0 5 dull refl refl)
 
-range_crosses : IsSplit five (with_place nothing 1 0 (Holds (cap_of kind.Range 4 3))) → ⊥
-range_crosses h = true≢false (h.places 1 0 0 5 (cap_of kind.Range 4 3) refl refl)
+range_crosses : IsSplit five (with_place nothing 1 0 (Holds (cap_of Kind.Range 4 3))) → ⊥
+range_crosses h = true≢false (h.places 1 0 0 5 (cap_of Kind.Range 4 3) refl refl)
 
 -- One that was removed, while core 2 is still in the call in which the removal met it.
 removed_crosses : IsSplit five
-    (with_grace (with_place nothing 1 0 (Quiescing (plain_cap kind.Comp 5))) (λ x. record no_grace { waits = λ d. d == 2 })) → ⊥
-removed_crosses h = true≢false (h.places 1 0 2 5 (plain_cap kind.Comp 5) refl refl)
+    (with_grace (with_place nothing 1 0 (Quiescing (plain_cap Kind.Comp 5))) (λ x. record no_grace { waits = λ d. d == 2 })) → ⊥
+removed_crosses h = true≢false (h.places 1 0 2 5 (plain_cap Kind.Comp 5) refl refl)
 
 -- A component outside has its table, its pages or its number there.
 abbrev fields : ℕ → ℕ → ℕ → CompFields
@@ -103,7 +87,7 @@ abbrev made : State
 made = with_frame outer 5 (Kernel (Comp (fields 6 7 1)))
 
 abbrev halves : State
-halves = with_place made 6 0 (Holds (plain_cap kind.Comp 5))
+halves = with_place made 6 0 (Holds (plain_cap Kind.Comp 5))
 
 -- Of a component, and of a thread, in a frame.
 abbrev Sided : ℕ → CompFields → Type 0
@@ -127,7 +111,7 @@ comp_thread k t e = cc
 sided : (f g : ℕ) (k j : CompFields) → f ≡ g → j ≡ k → Sided g j → Sided f k
 sided f g k j here same h = subst (λ n. Sided n k) (sym here) (subst (Sided g) same h)
 
-own_name : (f g : ℕ) (k : Capability) → f ≡ 6 → plain_cap kind.Comp 5 ≡ k → LeadsTo k.kind k g → upper.frame g ≡ upper.frame f
+own_name : (f g : ℕ) (k : Capability) → f ≡ 6 → plain_cap Kind.Comp 5 ≡ k → LeadsTo k.kind k g → upper.frame g ≡ upper.frame f
 own_name f g k here same leads =
     let to : g ≡ 5 = subst (λ (j : Capability). LeadsTo j.kind j g) (sym same) leads in
     ap upper.frame to ∙ ap upper.frame (sym here)
@@ -135,8 +119,8 @@ own_name f g k here same leads =
 halves_split : IsSplit upper halves
 halves_split = record {
   places = λ f i d g k. place_all (λ f i p. usable_in p false ≡ Some k → LeadsTo k.kind k g → upper.frame g ≡ upper.frame f)
-      made 6 0 (Holds (plain_cap kind.Comp 5)) f i
-      (λ here at e leads. own_name f g k here (some_inj (plain_cap kind.Comp 5) k e) leads)
+      made 6 0 (Holds (plain_cap Kind.Comp 5)) f i
+      (λ here at e leads. own_name f g k here (some_inj (plain_cap Kind.Comp 5) k e) leads)
       (λ e. absurd (none_some k e));
   comps = λ f k. put_all (λ f x. x ≡ Kernel (Comp k) → Sided f k) outer.frame 5 (Kernel (Comp (fields 6 7 1))) f
       (λ here e. sided f 5 k (fields 6 7 1) here (comp_inj (fields 6 7 1) k e) (refl, refl, refl))
@@ -155,10 +139,10 @@ halves_split = record {
 abbrev typed : State
 typed = with_frame halves 8 User
 
-frame_told : RuleMay typed 0 (rule_of typed 0 (Retype 0 8 frame_kind.Kernel)) reply.FrameKind
+frame_told : RuleMay typed 0 (rule_of typed 0 (Retype 0 8 FrameKind.Kernel)) Reply.FrameKind
 frame_told = inr (inr (inl (refl, refl)))
 
-none_told : RuleMay halves 0 (rule_of halves 0 (Retype 0 8 frame_kind.Kernel)) reply.FrameKind → ⊥
+none_told : RuleMay halves 0 (rule_of halves 0 (Retype 0 8 FrameKind.Kernel)) Reply.FrameKind → ⊥
 none_told (inl name) = name
 none_told (inr (inl range)) = true≢false (sym range.0)
 none_told (inr (inr (inl frame))) = true≢false (sym frame.0)

@@ -1,48 +1,28 @@
 -- Judged in order, a call is refused for the frame that it names by its number only where that is in a range that it names.
-use Rattle.std.proofs.Common.{◌≡◌, ℕ, Bool, true, false, not, refl, ap, subst, if◌then◌else◌, List, [], ◌∷◌, Option, Some}
-use Rattle.std.proofs.Common.{None}
-use Rattle.world_laws.specs.spk_nums.specs.Capability.{Capability}
-use Rattle.world_laws.specs.spk_nums.specs.Rights.{has_rights}
-use Rattle.world_laws.specs.spk_nums.specs.declared.kinds.Kind.TheVariants as kind
-use Rattle.world_laws.specs.spk_nums.specs.declared.kinds.PageFlags.{PageFlags}
-use Rattle.world_laws.specs.spk_nums.specs.declared.kinds.FrameKind.{FrameKind}
-use Rattle.world_laws.specs.spk_nums.specs.declared.calls.Make.{Make}
-use Rattle.world_laws.specs.spk_nums.specs.declared.calls.Make.TheVariants as make
-use Rattle.world_laws.specs.spk_nums.specs.declared.calls.Call.{Call}
-use Rattle.world_laws.specs.spk_nums.specs.declared.calls.Call.TheVariants.{Retype, Map, Make as make_call}
-use Rattle.world_laws.specs.spk_nums.specs.declared.replies.Value.{Value}
-use Rattle.world_laws.specs.spk_nums.specs.declared.replies.Reply.{Reply}
-use Rattle.world_laws.specs.spk_nums.specs.declared.replies.Reply.TheVariants as reply
-use Rattle.world_laws.specs.kernel_rules.specs.State.{Place, Free, Holds, Quiescing, Thing, PlaceOf, State}
-use Rattle.world_laws.specs.kernel_rules.specs.Access.{Slot, Want, to_use, only, found, Target, own, place_at, reached, usable}
-use Rattle.world_laws.specs.kernel_rules.specs.GracePeriods.{other_waiting, lowest, quiescing_by, unflushed_by}
-use Rattle.world_laws.specs.kernel_rules.specs.Rules.{Cause, Change, does, Rule, Name, Vacant, Held, Mapped, Does, Judged, Refused, Found}
-use Rattle.world_laws.specs.kernel_rules.specs.Rules.{and_then, unless, or_refuse, with_rights, of_kind, named, first_of, not_vacant}
-use Rattle.world_laws.specs.kernel_rules.specs.Rules.{vacant, first_cause, outcome}
-use Rattle.world_laws.specs.kernel_rules.specs.CapabilityCalls.{has_frame, outside, not_blank, not_taken, make_rule}
-use Rattle.world_laws.specs.kernel_rules.specs.MemoryCalls.{not_retyped, retype_rule, not_user, map_rule}
-use Rattle.world_laws.specs.kernel_rules.specs.Life.{acts}
-use Rattle.world_laws.specs.kernel_rules.specs.CallRelation.{are_calls_spent, change_of}
-use Rattle.world_laws.specs.kernel_rules.specs.Alone.{reply_in, first_reply, alone}
-use Rattle.world_laws.specs.kernel_rules.specs.Runs.{after, is_open}
-use Rattle.world_laws.specs.kernel_rules.proofs.Agrees.{IfRefused}
-use Rattle.world_laws.specs.kernel_invariant.proofs.Facts.{some_inj}
-use Rattle.world_laws.specs.kernel_invariant.proofs.SoundRuns.{opened, open_is}
-use Rattle.split_laws.specs.Split.{World, side, TellsOwn, FirstTellsOwn}
+use Rattle.world_laws.specs.kernel_rules.specs as low
+use low.{◌≡◌, ℕ, Bool, true, false, not, refl, if◌then◌else◌, List, [], ◌∷◌, Option, Some, None, Capability, has_rights, PageFlags}
+use low.{FrameKind, Make, Call, Retype, Map, Value, Reply, Place, Free, Holds, Quiescing, Thing, PlaceOf, Slot, Want, to_use, only, found}
+use low.{Target, own, place_at, reached, usable, other_waiting, lowest, quiescing_by, unflushed_by, Cause, Change, does, Rule, Name, Vacant}
+use low.{Held, Mapped, Does, Judged, Refused, Found, and_then, unless, or_refuse, with_rights, of_kind, named, first_of, not_vacant, vacant}
+use low.{first_cause, outcome, has_frame, outside, not_blank, not_taken, make_rule, not_retyped, retype_rule, not_user, map_rule, acts}
+use low.{are_calls_spent, change_of, reply_in, first_reply, alone, after, is_open, Kind}
+use Rattle.same_changes.specs.kernel_laws.proofs.{ap, subst, Make as make_call, State, some_inj, opened, open_is}
+use Rattle.split_laws.specs.{World, side, TellsOwn}
 use Rattle.split_laws.proofs.Working.{WorksOn, works_on, range_frame}
+use Rattle.{world_laws.specs.kernel_rules.proofs.Agrees.IfRefused, split_laws.specs.Split.FirstTellsOwn}
 
 -- P holds of each refusal at a name, and of each at a target that is to be free.
 record NamesHold (P : Reply → Type 0) : Type 0 where
-  no_slot : P reply.NoSlot
-  empty : P reply.Empty
-  wrong : P reply.WrongCap
-  no_right : P reply.NoRight
+  no_slot : P Reply.NoSlot
+  empty : P Reply.Empty
+  wrong : P Reply.WrongCap
+  no_right : P Reply.NoRight
 
 record TargetsHold (P : Reply → Type 0) : Type 0 where
-  no_slot : P reply.NoSlot
-  occupied : P reply.Occupied
-  quiescing : (e : ℕ) → P (reply.Quiescing e)
-  unflushed : (e : ℕ) → P (reply.Unflushed e)
+  no_slot : P Reply.NoSlot
+  occupied : P Reply.Occupied
+  quiescing : (e : ℕ) → P (Reply.Quiescing e)
+  unflushed : (e : ℕ) → P (Reply.Unflushed e)
 
 -- P holds of each refusal at a target and at an own cause of a rule that wants nothing held or mapped.
 abbrev CausesHold : (Reply → Type 0) → State → ℕ → Rule → Type 0
@@ -69,23 +49,23 @@ module _ (P : Reply → Type 0) (h : NamesHold P) (s : State) (c : ℕ) where
   kind_refused : (want : Want) (k : Capability) → IfRefused (of_kind want k) P
   kind_refused want k = by_kind (want.kinds k.kind)
     where
-      by_right : (b : Bool) → IfRefused (if b then Found k else Refused reply.NoRight) P
+      by_right : (b : Bool) → IfRefused (if b then Found k else Refused Reply.NoRight) P
       by_right true = tt
       by_right false = h.no_right
 
-      by_kind : (b : Bool) → IfRefused (if b then with_rights want.needs k else Refused reply.WrongCap) P
+      by_kind : (b : Bool) → IfRefused (if b then with_rights want.needs k else Refused Reply.WrongCap) P
       by_kind true = by_right (has_rights k.rights want.needs)
       by_kind false = h.wrong
 
   name_refused : (n : ℕ) (want : Want) → IfRefused (named s c n want) P
-  name_refused n want = then_refused (or_refuse (reached s c (own s c n)) reply.NoSlot) _ P
-      (or_refused (reached s c (own s c n)) reply.NoSlot P h.no_slot)
-      (λ at is. then_refused (or_refuse (usable s c at) reply.Empty) (λ k. of_kind want k) P
-      (or_refused (usable s c at) reply.Empty P h.empty) (λ k found. kind_refused want k))
+  name_refused n want = then_refused (or_refuse (reached s c (own s c n)) Reply.NoSlot) _ P
+      (or_refused (reached s c (own s c n)) Reply.NoSlot P h.no_slot)
+      (λ at is. then_refused (or_refuse (usable s c at) Reply.Empty) (λ k. of_kind want k) P
+      (or_refused (usable s c at) Reply.Empty P h.empty) (λ k found. kind_refused want k))
 
   vacant_refused : TargetsHold P → (target : Target) → IfRefused (vacant s c target) P
-  vacant_refused free target = then_refused (or_refuse (reached s c target) reply.NoSlot) _ P
-      (or_refused (reached s c target) reply.NoSlot P free.no_slot)
+  vacant_refused free target = then_refused (or_refuse (reached s c target) Reply.NoSlot) _ P
+      (or_refused (reached s c target) Reply.NoSlot P free.no_slot)
       (λ at is. by_place at (place_at s at))
     where
       by_core : (at : Slot) (o p : Option ℕ) → IfRefused (unless (first_of (quiescing_by o) (unflushed_by p)) at) P
@@ -112,31 +92,31 @@ module _ (P : Reply → Type 0) (h : NamesHold P) (s : State) (c : ℕ) where
 
 module _ (w : World) (s : State) (c : ℕ) (b : Bool) (on : WorksOn w s c b) where
   -- P holds of each refusal for a cause that comes after the frame is found in the range.
-  after_range : (P : Reply → Type 0) → P reply.OutOfRange → (f : ℕ) → (w.frame f ≡ b → (r : Reply) → P r) → (n : ℕ) (range : Capability)
-      → named s c n (to_use (only kind.Range)) ≡ Found range → (causes : List Cause) (r : Reply)
+  after_range : (P : Reply → Type 0) → P Reply.OutOfRange → (f : ℕ) → (w.frame f ≡ b → (r : Reply) → P r) → (n : ℕ) (range : Capability)
+      → named s c n (to_use (only Kind.Range)) ≡ Found range → (causes : List Cause) (r : Reply)
       → first_cause s c (outside (found range) f ∷ causes) ≡ Some r → P r
   after_range P out f all n range e causes = by_range (has_frame (found range) f) refl
     where
       by_range : (t : Bool) → has_frame (found range) f ≡ t → (r : Reply)
-          → first_of (if not t then Some reply.OutOfRange else None) (first_cause s c causes) ≡ Some r → P r
+          → first_of (if not t then Some Reply.OutOfRange else None) (first_cause s c causes) ≡ Some r → P r
       by_range true is r q =
-          all (range_frame w s c b on n f range [] e (ap (λ t. first_of (if not t then Some reply.OutOfRange else None) None) is)) r
-      by_range false is r q = subst P (some_inj reply.OutOfRange r q) out
+          all (range_frame w s c b on n f range [] e (ap (λ t. first_of (if not t then Some Reply.OutOfRange else None) None) is)) r
+      by_range false is r q = subst P (some_inj Reply.OutOfRange r q) out
 
   retype_tells : (n f : ℕ) (k : FrameKind) → w.frame f ≡ b → (r : Reply) → TellsOwn w.frame b (Retype n f k) r
-  retype_tells n f k of reply.FrameKind = of
-  retype_tells n f k of (reply.Referenced m) = of
-  retype_tells n f k of (reply.Quiescing e) = of
-  retype_tells n f k of (reply.Unflushed e) = of
-  retype_tells n f k of reply.NotEmpty = of
+  retype_tells n f k of Reply.FrameKind = of
+  retype_tells n f k of (Reply.Referenced m) = of
+  retype_tells n f k of (Reply.Quiescing e) = of
+  retype_tells n f k of (Reply.Unflushed e) = of
+  retype_tells n f k of Reply.NotEmpty = of
   retype_tells n f k of _ = tt
 
   make_tells : (what : Make) (n f t a : ℕ) → w.frame f ≡ b → (r : Reply) → TellsOwn w.frame b (make_call what n f t a) r
-  make_tells what n f t a of reply.FrameKind = of
+  make_tells what n f t a of Reply.FrameKind = of
   make_tells what n f t a of _ = tt
 
   map_tells : (p v n f : ℕ) (flags : PageFlags) → w.frame f ≡ b → (r : Reply) → TellsOwn w.frame b (Map p v n f flags) r
-  map_tells p v n f flags of reply.FrameKind = of
+  map_tells p v n f flags of Reply.FrameKind = of
   map_tells p v n f flags of _ = tt
 
   make_holds : (what : Make) (n f t a : ℕ) → CausesHold (TellsOwn w.frame b (make_call what n f t a)) s c (make_rule s what n f t a)
@@ -146,20 +126,20 @@ module _ (w : World) (s : State) (c : ℕ) (b : Bool) (on : WorksOn w s c b) whe
       (after_range P tt f (make_tells what n f t a) n)
     where
       by_what : (P : Reply → Type 0) → TargetsHold P → (made : Make)
-          → ((range : Capability) → named s c n (to_use (only kind.Range)) ≡ Found range → (causes : List Cause) (r : Reply)
+          → ((range : Capability) → named s c n (to_use (only Kind.Range)) ≡ Found range → (causes : List Cause) (r : Reply)
           → first_cause s c (outside (found range) f ∷ causes) ≡ Some r → P r)
           → CausesHold P s c (make_rule s made n f t a)
-      by_what P free make.Table done = λ range e table g. (free, λ at. done range e (not_blank s f ∷ []))
-      by_what P free make.Leaf done = λ range e table g. (free, λ at. done range e (not_blank s f ∷ []))
-      by_what P free make.Pages done = λ range e table g. (free, λ at. done range e (not_blank s f ∷ []))
-      by_what P free make.Pleaf done = λ range e table g. (free, λ at. done range e (not_blank s f ∷ []))
-      by_what P free (make.Thread comp) done = λ range e table g k d. (free, λ at. done range e (not_blank s f ∷ []))
-      by_what P free (make.Tcap sched quality) done = λ range e table g. (free, λ at. done range e (not_blank s f ∷ []))
-      by_what P free (make.Comp x p l) done =
+      by_what P free Make.Table done = λ range e table g. (free, λ at. done range e (not_blank s f ∷ []))
+      by_what P free Make.Leaf done = λ range e table g. (free, λ at. done range e (not_blank s f ∷ []))
+      by_what P free Make.Pages done = λ range e table g. (free, λ at. done range e (not_blank s f ∷ []))
+      by_what P free Make.Pleaf done = λ range e table g. (free, λ at. done range e (not_blank s f ∷ []))
+      by_what P free (Make.Thread comp) done = λ range e table g k d. (free, λ at. done range e (not_blank s f ∷ []))
+      by_what P free (Make.Tcap sched quality) done = λ range e table g. (free, λ at. done range e (not_blank s f ∷ []))
+      by_what P free (Make.Comp x p l) done =
           λ range e table g own_table d own_pages q. (free, λ at. done range e (not_blank s f ∷ not_taken s l))
 
-  replied : (call : Call) → (TellsOwn w.frame b call reply.CallsSpent) → TellsOwn w.frame b call reply.Dead
-      → ((v : Value) → TellsOwn w.frame b call (reply.Ok v)) → IfRefused (change_of s c call) (TellsOwn w.frame b call)
+  replied : (call : Call) → (TellsOwn w.frame b call Reply.CallsSpent) → TellsOwn w.frame b call Reply.Dead
+      → ((v : Value) → TellsOwn w.frame b call (Reply.Ok v)) → IfRefused (change_of s c call) (TellsOwn w.frame b call)
       → TellsOwn w.frame b call (alone s c call)
   replied call spent dead ok refused = by_spent (are_calls_spent s c)
     where
@@ -167,11 +147,11 @@ module _ (w : World) (s : State) (c : ℕ) (b : Bool) (on : WorksOn w s c b) whe
       by_change (Refused r) h = h
       by_change (Found change) h = ok change.value
 
-      by_life : (t : Bool) → TellsOwn w.frame b call (if t then reply_in (change_of s c call) else reply.Dead)
+      by_life : (t : Bool) → TellsOwn w.frame b call (if t then reply_in (change_of s c call) else Reply.Dead)
       by_life true = by_change (change_of s c call) refused
       by_life false = dead
 
-      by_spent : (t : Bool) → TellsOwn w.frame b call (if t then reply.CallsSpent else first_reply s c call)
+      by_spent : (t : Bool) → TellsOwn w.frame b call (if t then Reply.CallsSpent else first_reply s c call)
       by_spent true = spent
       by_spent false = by_life (acts s c call)
 

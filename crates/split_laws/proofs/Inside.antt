@@ -1,28 +1,15 @@
 -- A core that works inside a world that is split: where two states are one for the world, its call may be decided alike in both.
-use Rattle.std.proofs.Common.{◌≡◌, ℕ, ◌<◌, Bool, true, refl, sym, ◌∙◌, ap, subst, nat_le, inl, inr, Some}
-use Rattle.std.specs.List.{AllByRecursion}
-use Rattle.world_laws.specs.spk_nums.specs.Capability.{Capability}
-use Rattle.world_laws.specs.spk_nums.specs.declared.kinds.Kind.{Kind}
-use Rattle.world_laws.specs.spk_nums.specs.declared.kinds.Kind.TheVariants as kind
-use Rattle.world_laws.specs.spk_nums.specs.declared.calls.Make.TheVariants as make
-use Rattle.world_laws.specs.spk_nums.specs.declared.calls.Call.{Call}
-use Rattle.world_laws.specs.spk_nums.specs.declared.calls.Call.TheVariants.{Make as make_call}
-use Rattle.world_laws.specs.spk_nums.specs.declared.replies.Value.{Value}
-use Rattle.world_laws.specs.spk_nums.specs.declared.replies.Reply.{Reply}
-use Rattle.world_laws.specs.spk_nums.specs.declared.replies.Reply.TheVariants as reply
-use Rattle.world_laws.specs.kernel_rules.specs.State.{CompFields, Limits, Thing, PlaceOf, FrameOf, NumberOf, State, comp_of}
-use Rattle.world_laws.specs.kernel_rules.specs.Access.{Slot, usable}
-use Rattle.world_laws.specs.kernel_rules.specs.Life.{is_live_in, lives}
-use Rattle.world_laws.specs.kernel_rules.specs.Rules.{Change, Judged, Refused, Found, IsFoundAnd}
-use Rattle.world_laws.specs.kernel_rules.specs.CallRelation.{change_of, are_calls_spent, MayReply}
-use Rattle.world_laws.specs.Worlds.{LeadsTo}
-use Rattle.seq_state.specs.Representation.{HasIndex, SameGrace}
-use Rattle.same_changes.specs.Region.{Region, IsIn, AgreeOn, AgreeOutcome, LeadsIn, NamesIn, ReachesOnly}
-use Rattle.same_changes.proofs.Reaching.{TwinsOn, core_agree, comp_agree, number_in}
-use Rattle.same_changes.proofs.EveryCall.{call_agrees}
-use Rattle.split_laws.specs.Split.{World, is_of, MakesOwn, AgreeIn, TellsOwn}
-use Rattle.split_laws.proofs.Working.{WorksOn}
-use Rattle.split_laws.proofs.MayRules.{rule_may}
+use Rattle.same_changes.specs as low
+use low.kernel_laws.proofs.{◌≡◌, ℕ, ◌<◌, Bool, true, refl, sym, ◌∙◌, ap, subst, leb as nat_le, inl, inr, Some, Capability, Kind, Call}
+use low.kernel_laws.proofs.{Make as make_call, Value, Reply, CompFields, Limits, Thing, PlaceOf, FrameOf, NumberOf, State, comp_of, Slot}
+use low.kernel_laws.proofs.{usable, is_live_in, Change, Judged, Refused, Found, IsFoundAnd, change_of, are_calls_spent, MayReply}
+use Rattle.split_laws.specs.{World, MakesOwn, AgreeIn, TellsOwn}
+use low.{IsIn, AgreeOn, AgreeOutcome, NamesIn}
+use Rattle.same_changes.proofs.{Reaching.TwinsOn, Reaching.core_agree, Reaching.comp_agree, Reaching.number_in, EveryCall.call_agrees}
+use low.{seq_state.specs.HasIndex, seq_state.specs.SameGrace, Region.Region, Region.LeadsIn, Region.ReachesOnly}
+use Rattle.{world_laws.specs.kernel_rules.specs.lives, world_laws.specs.kernel_rules.specs.Make, std.specs.List.AllByRecursion}
+use Rattle.{world_laws.specs.Worlds.LeadsTo, split_laws.specs.Split.is_of, split_laws.proofs.Working.WorksOn}
+use Rattle.{split_laws.proofs.MayRules.rule_may}
 
 -- The region of a world, where this says which cores are of it.
 abbrev pub region : World → (ℕ → Bool) → Region
@@ -57,7 +44,7 @@ agree_in w cores t s a here there =
     }
 
 names_in : (w : World) (cores : ℕ → Bool) (call : Call) → MakesOwn w true call → NamesIn (region w cores) call
-names_in w cores (make_call (make.Comp table pages live) r f t b) own = own
+names_in w cores (make_call (Make.Comp table pages live) r f t b) own = own
 names_in w cores _ own = tt
 
 -- A core that works inside reaches nothing outside.
@@ -74,7 +61,7 @@ reaches_only w cores s c of on = record {
   where
     leads_in : (at : Slot) (k : Capability) → w.frame at.node ≡ true → usable s c at ≡ Some k → (j : Kind) → k.kind ≡ j
         → LeadsIn (region w cores) j k
-    leads_in at k here e kind.Range is = λ f has.
+    leads_in at k here e Kind.Range is = λ f has.
         on.split.places at.node at.index c f k e (subst (λ i. LeadsTo i k f) (sym is) has) ∙ here
     leads_in at k here e _ is = on.split.places at.node at.index c k.frame k e (subst (λ i. LeadsTo i k k.frame) (sym is) refl) ∙ here
 
@@ -100,21 +87,21 @@ module _ (w : World) (cores : ℕ → Bool) {t s : State} {o : ℕ → Bool} {c 
       ∙ ap (λ n. is_live_in n (comp_of s c).epoch) (l.agree.number (comp_of s c).number (number_in l))
 
   pub may_reply : (r : Reply) → TellsOwn w.frame true call r → MayReply s c call r → MayReply t c call r
-  may_reply (reply.Ok v) tells may = (
+  may_reply (Reply.Ok v) tells may = (
     spent_same ∙ may.0,
     (
       (call_agrees l call (names_in w cores call own)).0 ∙ may.1.0,
       value_same (region w cores) v (change_of t c call) (change_of s c call) outcome_agrees may.1.1,
     ),
   )
-  may_reply reply.CallsSpent tells may = spent_same ∙ may
-  may_reply reply.Raced tells may = (spent_same ∙ may.0, tt)
-  may_reply (reply.Busy d) tells may = (spent_same ∙ may.0, tt)
-  may_reply reply.Dead tells may = (
+  may_reply Reply.CallsSpent tells may = spent_same ∙ may
+  may_reply Reply.Raced tells may = (spent_same ∙ may.0, tt)
+  may_reply (Reply.Busy d) tells may = (spent_same ∙ may.0, tt)
+  may_reply Reply.Dead tells may = (
     spent_same ∙ may.0,
     elim may.1 [
       | inl dead ↦ inl (dead.0, lives_same ∙ dead.1)
-      | inr rule ↦ inr (rule_may l call reply.Dead (names_in w cores call own) tells rule)
+      | inr rule ↦ inr (rule_may l call Reply.Dead (names_in w cores call own) tells rule)
     ],
   )
   may_reply r tells may = (spent_same ∙ may.0, rule_may l call r (names_in w cores call own) tells may.1)

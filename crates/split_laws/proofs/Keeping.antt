@@ -1,20 +1,12 @@
 -- States that are one on a region stay so as a core enters a call, is decided alike, flushes or returns; and they stay one, whatever a core
 -- outside counts and owes.
-use Rattle.std.proofs.Common.{◌≡◌, ℕ, ◌+◌, ◌<◌, ◌==◌, Bool, true, false, refl, sym, ◌∙◌, ap, subst, if◌then◌else◌, []}
-use Rattle.std.proofs.lemmas.Bool.{false≢true, true≢false, eqb-true}
-use Rattle.world_laws.specs.spk_nums.specs.declared.calls.Call.{Call}
-use Rattle.world_laws.specs.spk_nums.specs.declared.calls.Call.TheVariants.{Tick, Flush}
-use Rattle.world_laws.specs.spk_nums.specs.declared.replies.Value.{Value}
-use Rattle.world_laws.specs.spk_nums.specs.declared.replies.Reply.{Reply}
-use Rattle.world_laws.specs.spk_nums.specs.declared.replies.Reply.TheVariants as reply
-use Rattle.world_laws.specs.kernel_rules.specs.State.{put, Core, Grace, Thing, Limits, State, with_core, with_grace}
-use Rattle.world_laws.specs.kernel_rules.specs.GracePeriods.{begun, entered, passed, returned, flushed}
-use Rattle.world_laws.specs.kernel_rules.specs.Rules.{Change, Judged, Refused, Found}
-use Rattle.world_laws.specs.kernel_rules.specs.CallRelation.{change_of, changed, counted, owed_by, state_by}
-use Rattle.world_laws.specs.kernel_rules.proofs.AloneLaw.{decided_stays}
-use Rattle.seq_state.specs.Representation.{SameGrace}
-use Rattle.same_changes.specs.Region.{Region, IsIn, AgreeOn, AgreeOutcome}
+use Rattle.world_laws.specs.kernel_rules.proofs.{◌≡◌, ℕ, ◌+◌, ◌<◌, ◌==◌, Bool, true, false, refl, sym, ◌∙◌, ap, subst, if◌then◌else◌, []}
+use Rattle.world_laws.specs.kernel_rules.proofs.{false≢true, true≢false, eqb-true, Call, Tick, Flush, Value, Reply, put, Core, Grace, Thing}
+use Rattle.world_laws.specs.kernel_rules.proofs.{Limits, with_core, with_grace, begun, entered, passed, returned, flushed, Change, Judged}
+use Rattle.world_laws.specs.kernel_rules.proofs.{Refused, Found, change_of, changed, counted, owed_by, state_by, decided_stays}
+use Rattle.same_changes.specs.{IsIn, AgreeOn, AgreeOutcome}
 use Rattle.same_changes.proofs.Agreeing.{agree_by, agree_then, agree_begun}
+use Rattle.{same_changes.specs.seq_state.specs.State, same_changes.specs.seq_state.specs.SameGrace, same_changes.specs.Region.Region}
 
 grace_back : (n : ℕ) (g h : Grace) → SameGrace n g h → SameGrace n h g
 grace_back n g h a = record {
@@ -120,8 +112,8 @@ owed_agree t s c _ a = a
 -- The same decision of a core, whose call has one outcome on the region.
 pub decided_agree : {w : Region} (t s : State) (c : ℕ) (call : Call) (r : Reply) → AgreeOn w t s
     → AgreeOutcome w (change_of t c call) (change_of s c call) → AgreeOn w (state_by t c call r) (state_by s c call r)
-decided_agree {w} t s c call (reply.Ok v) a same =
-    counted_agree _ _ c (by_outcome (change_of t c call) (change_of s c call) same (decided_stays s c call (reply.Ok v)).limits)
+decided_agree {w} t s c call (Reply.Ok v) a same =
+    counted_agree _ _ c (by_outcome (change_of t c call) (change_of s c call) same (decided_stays s c call (Reply.Ok v)).limits)
   where
     by_outcome : (x y : Judged Change) → AgreeOutcome w x y → (changed s y).limits ≡ s.limits → AgreeOn w (changed t x) (changed s y)
     by_outcome (Refused r) (Refused q) same limits = a
@@ -130,14 +122,14 @@ decided_agree {w} t s c call (reply.Ok v) a same =
         (agree_begun t s x.next y.next y.begins a same.next limits)
     by_outcome (Refused r) (Found y) same limits = absurd same
     by_outcome (Found x) (Refused q) same limits = absurd same
-decided_agree t s c call reply.CallsSpent a same = a
-decided_agree t s c call reply.Raced a same = counted_agree _ _ c (owed_agree t s c call a)
-decided_agree t s c call (reply.Busy d) a same = counted_agree _ _ c (owed_agree t s c call a)
+decided_agree t s c call Reply.CallsSpent a same = a
+decided_agree t s c call Reply.Raced a same = counted_agree _ _ c (owed_agree t s c call a)
+decided_agree t s c call (Reply.Busy d) a same = counted_agree _ _ c (owed_agree t s c call a)
 decided_agree t s c call _ a same = counted_agree t s c a
 
 -- A flush that is carried out in both.
 pub flush_agree : {w : Region} (t s : State) (c : ℕ) (v : Value) → AgreeOn w t s
-    → AgreeOn w (state_by t c Flush (reply.Ok v)) (state_by s c Flush (reply.Ok v))
+    → AgreeOn w (state_by t c Flush (Reply.Ok v)) (state_by s c Flush (Reply.Ok v))
 flush_agree t s c v a =
     let f = flushed_agree t s c a in
     counted_agree _ _ c (grace_agrees (flushed t c) (flushed s c) _ _ f f.grace)
@@ -178,5 +170,5 @@ pub owed_apart : {w : Region} (t : State) (c : ℕ) (call : Call) → w.core c �
 owed_apart t c (Tick n) out = core_apart t c _ out refl
 owed_apart t c _ out = agree_by t t refl
 
-pub raced_apart : {w : Region} (t : State) (c : ℕ) (call : Call) → w.core c ≡ false → AgreeOn w (state_by t c call reply.Raced) t
+pub raced_apart : {w : Region} (t : State) (c : ℕ) (call : Call) → w.core c ≡ false → AgreeOn w (state_by t c call Reply.Raced) t
 raced_apart t c call out = agree_then _ (owed_by t c call) t (counted_apart (owed_by t c call) c out) (owed_apart t c call out)

@@ -1,23 +1,17 @@
 -- What may be refused in one state may be refused in another in which core c finds the same.
-use Rattle.std.proofs.Common.{◌≡◌, inl, inr, ℕ, ◌/◌, ◌<◌, ◌≤◌, Bool, true, false, not, ◌&&◌, ◌||◌, refl, sym, ◌∙◌, ap, subst, arith}
-use Rattle.std.proofs.Common.{if◌then◌else◌, nat_lt, nat_le, IsFalse, IsSomeAnd, List, [], ◌∷◌, Option, Some, None, is_some}
-use Rattle.std.proofs.lemmas.Bool.{false≢true, leb-true, le-ltb, ltb-false}
-use Rattle.world_laws.specs.spk_nums.specs.Capability.{Capability}
-use Rattle.world_laws.specs.spk_nums.specs.declared.replies.Reply.{Reply}
-use Rattle.world_laws.specs.spk_nums.specs.declared.replies.Reply.TheVariants as reply
-use Rattle.world_laws.specs.kernel_rules.specs.State.{Limits, Thing, PlaceOf, State}
-use Rattle.world_laws.specs.kernel_rules.specs.Access.{Want, Slot, Named, capability, Target, Under, InRoot, root_at, place_at, held_in}
-use Rattle.world_laws.specs.kernel_rules.specs.Access.{usable, reached, root_slot, holds_link, has_no_slot, own}
-use Rattle.world_laws.specs.kernel_rules.specs.GracePeriods.{MayWait, MayBeUnflushed}
-use Rattle.world_laws.specs.kernel_rules.specs.Rules.{Cause, When, WaitedFor, Unflushed, Rule, Name, Vacant, Held, Mapped, Does, Judged}
-use Rattle.world_laws.specs.kernel_rules.specs.Rules.{Refused, Found, named, held, mapped, and_then, or_refuse, IsFoundAnd, ReachesNone}
-use Rattle.world_laws.specs.kernel_rules.specs.Rules.{ReachesHeld, ReachesOther, ReachesLacking, Lacks, NameMay, VacantMay, HeldMay}
-use Rattle.world_laws.specs.kernel_rules.specs.Rules.{MappedMay, WaitedMay, UnflushedMay, CauseMay, OneMay, name_of, slot_of, RuleMay}
-use Rattle.world_laws.specs.kernel_invariant.proofs.Facts.{none_some, or_found}
+use Rattle.world_laws.specs.kernel_rules.proofs as low
+use low.{◌≡◌, inl, inr, ℕ, ◌/◌, ◌<◌, ◌≤◌, Bool, true, false, not, ◌&&◌, ◌||◌, refl, sym, ◌∙◌, ap, subst, arith, if◌then◌else◌}
+use low.{ltb as nat_lt, leb as nat_le, IsFalse, IsSomeAnd, List, [], ◌∷◌, Option, Some, None, is_some, false≢true, leb-true, le-ltb}
+use low.{ltb-false, Capability, Reply, Limits, Thing, PlaceOf, Want, Slot, Named, Target, Under, InRoot, root_at, place_at, held_in, usable}
+use low.{reached, root_slot, holds_link, has_no_slot, own, MayWait, MayBeUnflushed, Cause, When, WaitedFor, Unflushed, Rule, Name, Vacant}
+use low.{Held, Mapped, Does, Judged, Refused, Found, named, held, mapped, and_then, or_refuse, IsFoundAnd, Lacks, NameMay, VacantMay}
+use low.{HeldMay, MappedMay, OneMay, name_of, RuleMay}
+use Rattle.world_laws.specs.kernel_rules.specs.{capability, ReachesNone, ReachesHeld, ReachesOther, ReachesLacking, WaitedMay, UnflushedMay}
+use Rattle.world_laws.specs.kernel_rules.specs.{CauseMay, slot_of}
+use Rattle.same_changes.specs.kernel_laws.proofs.{State, none_some, or_found}
 use Rattle.same_changes.specs.Region.{Region, IsIn}
 use Rattle.same_changes.proofs.Reaching.{TwinsOn, IsSlotIn, then_same, place_agree, usable_agree, reached_agree, slot_within, own_in}
-use Rattle.same_changes.proofs.Reaching.{own_agree}
-use Rattle.same_changes.proofs.Reaching.{named_agree, mapped_agree}
+use Rattle.same_changes.proofs.Reaching.{own_agree, named_agree, mapped_agree}
 
 -- The root of a target is in a region, where it was found.
 abbrev pub RootIf : Region → Target → Type 0
@@ -31,8 +25,8 @@ Led s c n want k = k.found ≡ true → named s c n want ≡ Found (capability k
 -- Where the second of two causes may stand with a reply, the first may.
 abbrev pub CauseAlike : Region → Reply → Cause → Cause → Type 0
 CauseAlike w r (When b p) (When d q) = d ≡ true → r ≡ q → (b ≡ true) × (p ≡ q)
-CauseAlike w r (WaitedFor x) (WaitedFor y) = (x ≡ y) × ((e : ℕ) → r ≡ reply.Quiescing e → IsIn w y)
-CauseAlike w r (Unflushed x) (Unflushed y) = (x ≡ y) × ((e : ℕ) → r ≡ reply.Unflushed e → IsIn w y)
+CauseAlike w r (WaitedFor x) (WaitedFor y) = (x ≡ y) × ((e : ℕ) → r ≡ Reply.Quiescing e → IsIn w y)
+CauseAlike w r (Unflushed x) (Unflushed y) = (x ≡ y) × ((e : ℕ) → r ≡ Reply.Unflushed e → IsIn w y)
 CauseAlike w r _ _ = ⊥
 
 abbrev pub CausesAlike : Region → State → ℕ → Reply → List Cause → List Cause → Type 0
@@ -88,10 +82,10 @@ module _ {w : Region} {t s : State} {o : ℕ → Bool} {c : ℕ} (l : TwinsOn w 
           else None) on) ∙ is))
 
   held_same : (x : Target) → RootIf w x → held t c x ≡ held s c x
-  held_same x root = then_same (or_refuse (reached t c x) reply.NoSlot) (or_refuse (reached s c x) reply.NoSlot) _ _
-      (ap (λ r. or_refuse r reply.NoSlot) (reached_same x root))
-      (λ at is. ap (λ p. and_then (or_refuse (held_in p) reply.Empty) λ k. Found (at, k))
-      (place_agree l at (slot_here x at root (or_found (reached s c x) reply.NoSlot at is))))
+  held_same x root = then_same (or_refuse (reached t c x) Reply.NoSlot) (or_refuse (reached s c x) Reply.NoSlot) _ _
+      (ap (λ r. or_refuse r Reply.NoSlot) (reached_same x root))
+      (λ at is. ap (λ p. and_then (or_refuse (held_in p) Reply.Empty) λ k. Found (at, k))
+      (place_agree l at (slot_here x at root (or_found (reached s c x) Reply.NoSlot at is))))
 
   no_slot : (x : Target) → RootIf w x → has_no_slot t x ≡ has_no_slot s x
   no_slot (Under table n) root = by_past (nat_lt 4095 n) refl
@@ -144,31 +138,31 @@ module _ {w : Region} {t s : State} {o : ℕ → Bool} {c : ℕ} (l : TwinsOn w 
   -- ---- names and targets that are refused
 
   name_may : (n : ℕ) (want : Want) (r : Reply) → NameMay s c n want r → NameMay t c n want r
-  name_may n want reply.NoSlot h = ap (has_no_slot t) (own_agree l n) ∙ no_slot (own s c n) (own_in l n) ∙ h
-  name_may n want reply.Empty h = subst (ReachesNone t c) (sym (own_agree l n)) (none_may (own s c n) (own_in l n) h)
-  name_may n want reply.WrongCap h = subst (λ x. ReachesOther t c x want) (sym (own_agree l n))
+  name_may n want Reply.NoSlot h = ap (has_no_slot t) (own_agree l n) ∙ no_slot (own s c n) (own_in l n) ∙ h
+  name_may n want Reply.Empty h = subst (ReachesNone t c) (sym (own_agree l n)) (none_may (own s c n) (own_in l n) h)
+  name_may n want Reply.WrongCap h = subst (λ x. ReachesOther t c x want) (sym (own_agree l n))
       (used_may (own s c n) (λ k. IsFalse (want.kinds k.kind)) (own_in l n) h)
-  name_may n want reply.NoRight h = subst (λ x. ReachesLacking t c x want) (sym (own_agree l n))
+  name_may n want Reply.NoRight h = subst (λ x. ReachesLacking t c x want) (sym (own_agree l n))
       (used_may (own s c n) (Lacks want) (own_in l n) h)
   name_may n want _ h = absurd h
 
   vacant_may : (x : Target) (r : Reply) → RootIf w x → VacantMay s c x r → VacantMay t c x r
-  vacant_may x reply.NoSlot root h = no_slot x root ∙ h
-  vacant_may x reply.Occupied root h = held_may x root h
-  vacant_may x (reply.Quiescing e) root h = some_and (reached t c x) (reached s c x) (reached_same x root)
+  vacant_may x Reply.NoSlot root h = no_slot x root ∙ h
+  vacant_may x Reply.Occupied root h = held_may x root h
+  vacant_may x (Reply.Quiescing e) root h = some_and (reached t c x) (reached s c x) (reached_same x root)
       (λ at is m. wait_may (PlaceOf at.node at.index) e (here x at root is) m) h
-  vacant_may x (reply.Unflushed e) root h = some_and (reached t c x) (reached s c x) (reached_same x root)
+  vacant_may x (Reply.Unflushed e) root h = some_and (reached t c x) (reached s c x) (reached_same x root)
       (λ at is m. unflushed_may (PlaceOf at.node at.index) e (here x at root is) m) h
   vacant_may x _ root h = absurd h
 
   unheld_may : (x : Target) (r : Reply) → RootIf w x → HeldMay s c x r → HeldMay t c x r
-  unheld_may x reply.NoSlot root h = no_slot x root ∙ h
-  unheld_may x reply.Empty root h = none_may x root h
+  unheld_may x Reply.NoSlot root h = no_slot x root ∙ h
+  unheld_may x Reply.Empty root h = none_may x root h
   unheld_may x _ root h = absurd h
 
   unmapped_may : (table v : ℕ) (r : Reply) → w.frame table ≡ true → MappedMay s c table v r → MappedMay t c table v r
-  unmapped_may table v reply.NoSlot root h = h
-  unmapped_may table v reply.Fault root h = (
+  unmapped_may table v Reply.NoSlot root h = h
+  unmapped_may table v Reply.Fault root h = (
     h.0,
     elim h.1 [
       | inl none ↦ inl (ap holds_link (place_agree l (root_slot table v)
@@ -180,12 +174,12 @@ module _ {w : Region} {t s : State} {o : ℕ → Bool} {c : ℕ} (l : TwinsOn w 
 
   -- ---- causes
 
-  waited_may : (r : Reply) (x : Thing) → ((e : ℕ) → r ≡ reply.Quiescing e → IsIn w x) → WaitedMay s c x r → WaitedMay t c x r
-  waited_may (reply.Quiescing e) x is h = wait_may x e (is e refl) h
+  waited_may : (r : Reply) (x : Thing) → ((e : ℕ) → r ≡ Reply.Quiescing e → IsIn w x) → WaitedMay s c x r → WaitedMay t c x r
+  waited_may (Reply.Quiescing e) x is h = wait_may x e (is e refl) h
   waited_may _ x is h = absurd h
 
-  flush_may : (r : Reply) (x : Thing) → ((e : ℕ) → r ≡ reply.Unflushed e → IsIn w x) → UnflushedMay s x r → UnflushedMay t x r
-  flush_may (reply.Unflushed e) x is h = unflushed_may x e (is e refl) h
+  flush_may : (r : Reply) (x : Thing) → ((e : ℕ) → r ≡ Reply.Unflushed e → IsIn w x) → UnflushedMay s x r → UnflushedMay t x r
+  flush_may (Reply.Unflushed e) x is h = unflushed_may x e (is e refl) h
   flush_may _ x is h = absurd h
 
   cause_may : (r : Reply) (x y : Cause) → CauseAlike w r x y → CauseMay s c y r → CauseMay t c x r

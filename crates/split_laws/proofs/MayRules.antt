@@ -1,45 +1,23 @@
 -- Each call of core c may be refused alike in a state in which it finds the same, but for a refusal that tells of a frame outside.
-use Rattle.std.proofs.Common.{◌≡◌, ℕ, ◌==◌, Bool, true, false, not, ◌&&◌, refl, sym, ◌∙◌, ap, subst, nat_lt, nat_le, length, min}
-use Rattle.std.proofs.Common.{inl, inr, Option, Some, None, IsTrue}
-use Rattle.std.proofs.lemmas.Bool.{false≢true}
-use Rattle.world_laws.specs.spk_nums.specs.Merging.{merged, covers}
-use Rattle.world_laws.specs.spk_nums.specs.declared.kinds.Kind.{Kind}
-use Rattle.world_laws.specs.spk_nums.specs.declared.kinds.Kind.TheVariants as kind
-use Rattle.world_laws.specs.spk_nums.specs.declared.kinds.FrameKind.{FrameKind}
-use Rattle.world_laws.specs.spk_nums.specs.declared.kinds.FrameKind.TheVariants as frame_kind
-use Rattle.world_laws.specs.spk_nums.specs.declared.kinds.PageFlags.{PageFlags}
-use Rattle.world_laws.specs.spk_nums.specs.declared.calls.Make.{Make}
-use Rattle.world_laws.specs.spk_nums.specs.declared.calls.Make.TheVariants as make
-use Rattle.world_laws.specs.spk_nums.specs.declared.calls.Call.{Call}
-use Rattle.world_laws.specs.spk_nums.specs.declared.calls.Call.TheVariants.{Look, Copy, Remove, Grow, Shrink, Retype, Make as make_call}
-use Rattle.world_laws.specs.spk_nums.specs.declared.calls.Call.TheVariants.{Map, Unmap, Touch, Flush, Gate, Kill, Call as call_gate}
-use Rattle.world_laws.specs.spk_nums.specs.declared.calls.Call.TheVariants.{Ret, Switch, Tick, Transfer, Delegate, Test, Part, Replenish}
-use Rattle.world_laws.specs.spk_nums.specs.declared.translations.Translation.{Translation}
-use Rattle.world_laws.specs.spk_nums.specs.declared.replies.Reply.{Reply}
-use Rattle.world_laws.specs.spk_nums.specs.declared.replies.Reply.TheVariants as reply
-use Rattle.world_laws.specs.kernel_rules.specs.State.{CompFields, ThreadFields, TcapFields, Object, Table, Leaf, Pages, Pleaf, Frame, Core}
-use Rattle.world_laws.specs.kernel_rules.specs.State.{Limits, outstanding, State, thread_in, comp_in, tcap_in, comp_of}
-use Rattle.world_laws.specs.kernel_rules.specs.References.{refs}
-use Rattle.world_laws.specs.kernel_rules.specs.Access.{only, root, to_use, Named, capability}
-use Rattle.world_laws.specs.kernel_rules.specs.Rules.{RuleMay}
-use Rattle.world_laws.specs.kernel_rules.specs.Life.{is_live_in}
-use Rattle.world_laws.specs.kernel_rules.specs.CapabilityCalls.{copy_rule, remove_rule, grow_rule, shrink_rule, part_rule, is_blank}
-use Rattle.world_laws.specs.kernel_rules.specs.CapabilityCalls.{make_node, make_thread, make_tcap, make_comp, make_rule, is_live, epoch_of}
-use Rattle.world_laws.specs.kernel_rules.specs.MemoryCalls.{is_untyped, is_user, is_empty, retype_rule, map_rule, unmap_rule}
-use Rattle.world_laws.specs.kernel_rules.specs.MemoryCalls.{translation_of, touch_by, touch_rule}
-use Rattle.world_laws.specs.kernel_rules.specs.InvocationCalls.{gate_rule, kill_rule, call_rule, ret_rule, switch_to, switch_rule}
-use Rattle.world_laws.specs.kernel_rules.specs.TimeCalls.{are_alike, transfer_rule, delegate_rule, test_rule, replenish_rule}
-use Rattle.world_laws.specs.kernel_rules.specs.Edits.{tcap_at}
-use Rattle.world_laws.specs.kernel_rules.specs.CallRelation.{rule_of}
-use Rattle.world_laws.specs.kernel_rules.specs.Fitting.{fits}
-use Rattle.world_laws.specs.kernel_invariant.proofs.Facts.{named_fit}
-use Rattle.same_changes.specs.Region.{Region, NamesIn}
-use Rattle.split_laws.specs.Split.{TellsOwn}
-use Rattle.same_changes.proofs.Reaching.{TwinsOn, is_some_kind, core_agree, thread_agree, comp_agree, comp_parts, pages_in, named_at}
-use Rattle.same_changes.proofs.Reaching.{found_part, number_part, root_within}
-use Rattle.same_changes.proofs.MemoryRules.{empty_agree}
-use Rattle.same_changes.proofs.TimeRules.{gate_comp}
+use Rattle.same_changes.specs.kernel_laws.proofs as low
+use low.{◌≡◌, ℕ, ◌==◌, Bool, true, false, not, ◌&&◌, refl, sym, ◌∙◌, ap, subst, ltb as nat_lt, leb as nat_le, length, min, inl, inr, Option}
+use low.{Some, None, IsTrue, false≢true, covers, Kind, FrameKind, PageFlags, Call, Look, Copy, Remove, Grow, Shrink, Retype}
+use low.{Make as make_call, Map, Unmap, Touch, Flush, Gate, Kill, Ret, Switch, Tick, Transfer, Delegate, Test, Part, Replenish, Translation}
+use low.{Reply, CompFields, ThreadFields, TcapFields, Object, Table, Leaf, Pages, Pleaf, Frame, Core, Limits, outstanding, State, thread_in}
+use low.{comp_in, tcap_in, comp_of, refs, only, root, to_use, Named, RuleMay, is_live_in, is_blank, make_rule, is_live, epoch_of}
+use low.{is_untyped, is_user, is_empty, retype_rule, translation_of, touch_by, switch_to, are_alike, tcap_at, rule_of, fits, named_fit}
+use Rattle.world_laws.specs.kernel_rules.specs.{merged, Make, capability, copy_rule, make_node, map_rule, call_rule, switch_rule}
+use Rattle.world_laws.specs.kernel_rules.specs.CapabilityCalls.{remove_rule, grow_rule, shrink_rule, part_rule, make_thread, make_tcap}
+use Rattle.world_laws.specs.kernel_rules.specs.InvocationCalls.{gate_rule, kill_rule, ret_rule}
+use Rattle.world_laws.specs.kernel_rules.specs.TimeCalls.{transfer_rule, delegate_rule, test_rule}
+use Rattle.same_changes.proofs.{Reaching.core_agree, Reaching.thread_agree, Reaching.comp_agree, Reaching.comp_parts, Reaching.pages_in}
+use Rattle.same_changes.proofs.{Reaching.named_at, Reaching.found_part, Reaching.number_part, Reaching.root_within, MemoryRules.empty_agree}
 use Rattle.split_laws.proofs.MayAlike.{Led, RuleAlike, may_alike}
+use Rattle.{world_laws.specs.kernel_rules.specs.replenish_rule, same_changes.proofs.TwinsOn, same_changes.proofs.is_some_kind}
+use Rattle.{world_laws.specs.spk_nums.specs.declared.calls.Call.TheVariants.Call as call_gate}
+use Rattle.{world_laws.specs.kernel_rules.specs.CapabilityCalls.make_comp, world_laws.specs.kernel_rules.specs.MemoryCalls.unmap_rule}
+use Rattle.{world_laws.specs.kernel_rules.specs.MemoryCalls.touch_rule, same_changes.specs.Region.Region, same_changes.specs.Region.NamesIn}
+use Rattle.{same_changes.proofs.TimeRules.gate_comp, split_laws.specs.Split.TellsOwn}
 
 -- What holds where something was found.
 where_found : (f x y : Bool) → (f ≡ true → x ≡ y) → (f && y) ≡ true → (f && x) ≡ true
@@ -56,10 +34,10 @@ module _ {w : Region} {t s : State} {o : ℕ → Bool} {c : ℕ} (l : TwinsOn w 
   led_root : (n : ℕ) (k : Named) → Led s c n (to_use root) k → k.found ≡ true → w.frame k.frame ≡ true
   led_root n k is on = root_within l n (capability k) (is on)
 
-  tcap_same : (n : ℕ) (k : Named) → Led s c n (to_use (only kind.Tcap)) k → k.found ≡ true → tcap_at t k.frame ≡ tcap_at s k.frame
-  tcap_same n k is on = ap tcap_in (l.agree.frame k.frame (led_frame n kind.Tcap k refl is on))
+  tcap_same : (n : ℕ) (k : Named) → Led s c n (to_use (only Kind.Tcap)) k → k.found ≡ true → tcap_at t k.frame ≡ tcap_at s k.frame
+  tcap_same n k is on = ap tcap_in (l.agree.frame k.frame (led_frame n Kind.Tcap k refl is on))
 
-  number_same : (n : ℕ) (j : Kind) (k : Named) → is_some_kind j ≡ true → ((x : Frame) → IsTrue (fits j x) → IsTrue (fits kind.Comp x))
+  number_same : (n : ℕ) (j : Kind) (k : Named) → is_some_kind j ≡ true → ((x : Frame) → IsTrue (fits j x) → IsTrue (fits Kind.Comp x))
       → Led s c n (to_use (only j)) k → k.found ≡ true
       → t.number (comp_in (t.frame k.frame)).number ≡ s.number (comp_in (s.frame k.frame)).number
   number_same n j k some comp is on =
@@ -81,7 +59,7 @@ module _ {w : Region} {t s : State} {o : ℕ → Bool} {c : ℕ} (l : TwinsOn w 
 
   copy_alike : (a x b rights : ℕ) → RuleAlike w s c r (copy_rule a x b rights) (copy_rule a x b rights)
   copy_alike a x b rights =
-      (refl, refl, λ k is. (refl, refl, λ table led. (refl, led_frame x kind.Table table refl led, λ at. λ none. none)))
+      (refl, refl, λ k is. (refl, refl, λ table led. (refl, led_frame x Kind.Table table refl led, λ at. λ none. none)))
 
   part_alike : (a f n x b : ℕ) → RuleAlike w s c r (part_rule a f n x b) (part_rule a f n x b)
   part_alike a f n x b = (
@@ -92,7 +70,7 @@ module _ {w : Region} {t s : State} {o : ℕ → Bool} {c : ℕ} (l : TwinsOn w 
       refl,
       λ table led. (
         refl,
-        led_frame x kind.Table table refl led,
+        led_frame x Kind.Table table refl led,
         λ at.
             ((λ on is. (on, refl)), λ none. none),
       ),
@@ -100,7 +78,7 @@ module _ {w : Region} {t s : State} {o : ℕ → Bool} {c : ℕ} (l : TwinsOn w 
   )
 
   remove_alike : (x b : ℕ) → RuleAlike w s c r (remove_rule x b) (remove_rule x b)
-  remove_alike x b = (refl, refl, λ table led. (refl, led_frame x kind.Table table refl led, λ at k. λ none. none))
+  remove_alike x b = (refl, refl, λ table led. (refl, led_frame x Kind.Table table refl led, λ at k. λ none. none))
 
   grow_alike : (x i a : ℕ) → RuleAlike w s c r (grow_rule x i a) (grow_rule x i a)
   grow_alike x i a = (refl, refl, λ table led. (refl, refl, λ leaf is. (refl, led_root x table led, λ at. λ none. none)))
@@ -111,8 +89,8 @@ module _ {w : Region} {t s : State} {o : ℕ → Bool} {c : ℕ} (l : TwinsOn w 
   -- ---- making
 
   module _ (what : Make) (range f x b : ℕ) (tells : TellsOwn w.frame true (make_call what range f x b) r) where
-    blank_alike : (nat_lt f s.limits.frames && not (is_blank (s.frame f))) ≡ true → r ≡ reply.FrameKind
-        → ((nat_lt f t.limits.frames && not (is_blank (t.frame f))) ≡ true) × (reply.FrameKind ≡ reply.FrameKind)
+    blank_alike : (nat_lt f s.limits.frames && not (is_blank (s.frame f))) ≡ true → r ≡ Reply.FrameKind
+        → ((nat_lt f t.limits.frames && not (is_blank (t.frame f))) ≡ true) × (Reply.FrameKind ≡ Reply.FrameKind)
     blank_alike on is =
         (frame_test f (λ y. not (is_blank y)) (subst (TellsOwn w.frame true (make_call what range f x b)) is tells) on, refl)
 
@@ -125,7 +103,7 @@ module _ {w : Region} {t s : State} {o : ℕ → Bool} {c : ℕ} (l : TwinsOn w 
         refl,
         λ table led. (
           refl,
-          led_frame x kind.Table table refl led,
+          led_frame x Kind.Table table refl led,
           λ at. ((λ on is. (on, refl)), (blank_alike, λ none. none)),
         ),
       ),
@@ -143,7 +121,7 @@ module _ {w : Region} {t s : State} {o : ℕ → Bool} {c : ℕ} (l : TwinsOn w 
           refl,
           λ comp is. (
             refl,
-            led_frame x kind.Table table refl led,
+            led_frame x Kind.Table table refl led,
             λ at. ((λ on is. (on, refl)), (blank_alike, λ none. none)),
           ),
         ),
@@ -159,7 +137,7 @@ module _ {w : Region} {t s : State} {o : ℕ → Bool} {c : ℕ} (l : TwinsOn w 
         refl,
         λ table led. (
           refl,
-          led_frame x kind.Table table refl led,
+          led_frame x Kind.Table table refl led,
           λ at. ((λ on is. (on, refl)), (blank_alike, λ none. none)),
         ),
       ),
@@ -180,7 +158,7 @@ module _ {w : Region} {t s : State} {o : ℕ → Bool} {c : ℕ} (l : TwinsOn w 
             refl,
             λ own_pages is. (
               refl,
-              led_frame x kind.Table table refl led,
+              led_frame x Kind.Table table refl led,
               λ at. (
                 (λ on is. (on, refl)),
                 (
@@ -203,36 +181,36 @@ module _ {w : Region} {t s : State} {o : ℕ → Bool} {c : ℕ} (l : TwinsOn w 
   make_alike : (what : Make) (range f x b : ℕ) → NamesIn w (make_call what range f x b)
       → TellsOwn w.frame true (make_call what range f x b) r
       → RuleAlike w s c r (make_rule t what range f x b) (make_rule s what range f x b)
-  make_alike make.Table range f x b names tells = node_alike make.Table range f x b tells Table kind.Table
-  make_alike make.Leaf range f x b names tells = node_alike make.Leaf range f x b tells Leaf kind.Leaf
-  make_alike make.Pages range f x b names tells = node_alike make.Pages range f x b tells Pages kind.Pages
-  make_alike make.Pleaf range f x b names tells = node_alike make.Pleaf range f x b tells Pleaf kind.Pleaf
-  make_alike (make.Thread n) range f x b names tells = thread_alike (make.Thread n) range f x b tells n
-  make_alike (make.Tcap sched quality) range f x b names tells = tcap_alike (make.Tcap sched quality) range f x b tells sched quality
-  make_alike (make.Comp y p n) range f x b names tells = comp_alike (make.Comp y p n) range f x b tells y p n names
+  make_alike Make.Table range f x b names tells = node_alike Make.Table range f x b tells Table Kind.Table
+  make_alike Make.Leaf range f x b names tells = node_alike Make.Leaf range f x b tells Leaf Kind.Leaf
+  make_alike Make.Pages range f x b names tells = node_alike Make.Pages range f x b tells Pages Kind.Pages
+  make_alike Make.Pleaf range f x b names tells = node_alike Make.Pleaf range f x b tells Pleaf Kind.Pleaf
+  make_alike (Make.Thread n) range f x b names tells = thread_alike (Make.Thread n) range f x b tells n
+  make_alike (Make.Tcap sched quality) range f x b names tells = tcap_alike (Make.Tcap sched quality) range f x b tells sched quality
+  make_alike (Make.Comp y p n) range f x b names tells = comp_alike (Make.Comp y p n) range f x b tells y p n names
 
   -- ---- memory
 
   retype_alike : (range f : ℕ) (k : FrameKind) → TellsOwn w.frame true (Retype range f k) r
       → RuleAlike w s c r (retype_rule t range f k) (retype_rule s range f k)
-  retype_alike range f frame_kind.Untyped tells = (
+  retype_alike range f FrameKind.Untyped tells = (
     refl,
     refl,
     λ k is. (
       (λ on is. (on, refl)),
       (
-        (λ on is. (frame_test f is_untyped (here reply.FrameKind is tells) on, refl)),
+        (λ on is. (frame_test f is_untyped (here Reply.FrameKind is tells) on, refl)),
         (
           (λ on is.
-              let same = l.referred f (here (reply.Referenced (refs s f)) is tells) in
-              (ap (nat_lt 0) same ∙ on, ap reply.Referenced same)),
+              let same = l.referred f (here (Reply.Referenced (refs s f)) is tells) in
+              (ap (nat_lt 0) same ∙ on, ap Reply.Referenced same)),
           (
-            (refl, λ e is. here (reply.Quiescing e) is tells),
+            (refl, λ e is. here (Reply.Quiescing e) is tells),
             (
-              (refl, λ e is. here (reply.Unflushed e) is tells),
+              (refl, λ e is. here (Reply.Unflushed e) is tells),
               (
                 (λ on is.
-                    let of = here reply.NotEmpty is tells in
+                    let of = here Reply.NotEmpty is tells in
                     (ap (λ x. not (is_empty t f x)) (l.agree.frame f of) ∙ ap not (empty_agree t s f (s.frame f) of l.agree) ∙ on, refl)),
                 λ none. none,
               ),
@@ -243,31 +221,31 @@ module _ {w : Region} {t s : State} {o : ℕ → Bool} {c : ℕ} (l : TwinsOn w 
     ),
   )
     where
-      here : (q : Reply) → r ≡ q → TellsOwn w.frame true (Retype range f frame_kind.Untyped) r
-          → TellsOwn w.frame true (Retype range f frame_kind.Untyped) q
-      here q is tells = subst (TellsOwn w.frame true (Retype range f frame_kind.Untyped)) is tells
-  retype_alike range f frame_kind.User tells = (
+      here : (q : Reply) → r ≡ q → TellsOwn w.frame true (Retype range f FrameKind.Untyped) r
+          → TellsOwn w.frame true (Retype range f FrameKind.Untyped) q
+      here q is tells = subst (TellsOwn w.frame true (Retype range f FrameKind.Untyped)) is tells
+  retype_alike range f FrameKind.User tells = (
     refl,
     refl,
     λ k is. (
       (λ on is. (on, refl)),
       (
         (λ on is. (
-          frame_test f (λ x. not (is_untyped x)) (subst (TellsOwn w.frame true (Retype range f frame_kind.User)) is tells) on,
+          frame_test f (λ x. not (is_untyped x)) (subst (TellsOwn w.frame true (Retype range f FrameKind.User)) is tells) on,
           refl,
         )),
         λ none. none,
       ),
     ),
   )
-  retype_alike range f frame_kind.Kernel tells = (
+  retype_alike range f FrameKind.Kernel tells = (
     refl,
     refl,
     λ k is. (
       (λ on is. (on, refl)),
       (
         (λ on is. (
-          frame_test f (λ x. not (is_untyped x)) (subst (TellsOwn w.frame true (Retype range f frame_kind.Kernel)) is tells) on,
+          frame_test f (λ x. not (is_untyped x)) (subst (TellsOwn w.frame true (Retype range f FrameKind.Kernel)) is tells) on,
           refl,
         )),
         λ none. none,
@@ -285,7 +263,7 @@ module _ {w : Region} {t s : State} {o : ℕ → Bool} {c : ℕ} (l : TwinsOn w 
       refl,
       λ k is. (
         refl,
-        led_frame p kind.Pages pages refl led,
+        led_frame p Kind.Pages pages refl led,
         λ at. (
           (λ on is. (on, refl)),
           (
@@ -298,7 +276,7 @@ module _ {w : Region} {t s : State} {o : ℕ → Bool} {c : ℕ} (l : TwinsOn w 
   )
 
   unmap_alike : (p v : ℕ) → RuleAlike w s c r (unmap_rule p v) (unmap_rule p v)
-  unmap_alike p v = (refl, refl, λ pages led. (refl, led_frame p kind.Pages pages refl led, λ at k. λ none. none))
+  unmap_alike p v = (refl, refl, λ pages led. (refl, led_frame p Kind.Pages pages refl led, λ at k. λ none. none))
 
   touched_alike : (v : ℕ) (x : Option Translation)
       → RuleAlike w s c r (touch_by (comp_of s c).pages v x) (touch_by (comp_of s c).pages v x)
@@ -316,7 +294,7 @@ module _ {w : Region} {t s : State} {o : ℕ → Bool} {c : ℕ} (l : TwinsOn w 
   -- ---- invocation
 
   gate_alike : (k x b : ℕ) → RuleAlike w s c r (gate_rule t k x b) (gate_rule s k x b)
-  gate_alike k x b = (refl, refl, λ comp is. (refl, refl, λ table led. (refl, led_frame x kind.Table table refl led, λ at. λ none. none)))
+  gate_alike k x b = (refl, refl, λ comp is. (refl, refl, λ table led. (refl, led_frame x Kind.Table table refl led, λ at. λ none. none)))
 
   kill_alike : (k : ℕ) → RuleAlike w s c r (kill_rule t k) (kill_rule s k)
   kill_alike k = (
@@ -326,8 +304,8 @@ module _ {w : Region} {t s : State} {o : ℕ → Bool} {c : ℕ} (l : TwinsOn w 
       (λ on is. (
         where_found comp.found (not (is_live_in (t.number (comp_in (t.frame comp.frame)).number) (comp_in (t.frame comp.frame)).epoch))
             (not (is_live_in (s.number (comp_in (s.frame comp.frame)).number) (comp_in (s.frame comp.frame)).epoch))
-            (λ f i. not (is_live_in (number_same k kind.Comp comp refl (λ x fit. fit) led f i)
-            (comp_in (l.agree.frame comp.frame (led_frame k kind.Comp comp refl led f) i)).epoch)) on,
+            (λ f i. not (is_live_in (number_same k Kind.Comp comp refl (λ x fit. fit) led f i)
+            (comp_in (l.agree.frame comp.frame (led_frame k Kind.Comp comp refl led f) i)).epoch)) on,
         refl,
       )),
       λ none. none,
@@ -344,7 +322,7 @@ module _ {w : Region} {t s : State} {o : ℕ → Bool} {c : ℕ} (l : TwinsOn w 
         (λ on is. (
           where_found gate.found (not (is_live_in (t.number (comp_in (t.frame gate.frame)).number) gate.arg))
               (not (is_live_in (s.number (comp_in (s.frame gate.frame)).number) gate.arg))
-              (λ f i. not (is_live_in (number_same g kind.Gate gate refl gate_comp led f i) gate.arg)) on,
+              (λ f i. not (is_live_in (number_same g Kind.Gate gate refl gate_comp led f i) gate.arg)) on,
           refl,
         )),
         λ none. none,
@@ -374,27 +352,27 @@ module _ {w : Region} {t s : State} {o : ℕ → Bool} {c : ℕ} (l : TwinsOn w 
   switch_alike : (h q : ℕ) → RuleAlike w s c r (switch_rule t h q) (switch_rule s h q)
   switch_alike h q = (refl, refl, λ thread led. (refl, refl, λ tcap is. by_found thread tcap led (thread.found) refl))
     where
-      by_found : (thread tcap : Named) → Led s c h (to_use (only kind.Thread)) thread → (b : Bool) → thread.found ≡ b
+      by_found : (thread tcap : Named) → Led s c h (to_use (only Kind.Thread)) thread → (b : Bool) → thread.found ≡ b
           → RuleAlike w s c r (switch_to thread tcap.frame (thread_in (t.frame thread.frame)).runs_on)
           (switch_to thread tcap.frame (thread_in (s.frame thread.frame)).runs_on)
       by_found thread tcap led true on = to_found thread tcap.frame (thread_in (t.frame thread.frame)).runs_on
           (thread_in (s.frame thread.frame)).runs_on
-          (ap (λ x. (thread_in x).runs_on) (l.agree.frame thread.frame (led_frame h kind.Thread thread refl led on)))
+          (ap (λ x. (thread_in x).runs_on) (l.agree.frame thread.frame (led_frame h Kind.Thread thread refl led on)))
       by_found thread tcap led false lost = to_lost thread tcap.frame _ _ lost
 
   -- ---- time
 
   -- the budget that is short
-  module _ (a m : ℕ) (k : Named) (led : Led s c a (to_use (only kind.Tcap)) k) where
+  module _ (a m : ℕ) (k : Named) (led : Led s c a (to_use (only Kind.Tcap)) k) where
     short_alike : (k.found && nat_lt (tcap_at s k.frame).budget m) ≡ true
         → ((k.found && nat_lt (tcap_at t k.frame).budget m) ≡ true)
-        × (reply.Short (tcap_at t k.frame).budget ≡ reply.Short (tcap_at s k.frame).budget)
+        × (Reply.Short (tcap_at t k.frame).budget ≡ Reply.Short (tcap_at s k.frame).budget)
     short_alike on =
         let same = ap (λ (q : TcapFields). q.budget) (tcap_same a k led (found_part k.found (nat_lt (tcap_at s k.frame).budget m) on)) in
-        (ap (λ n. k.found && nat_lt n m) same ∙ on, ap reply.Short same)
+        (ap (λ n. k.found && nat_lt n m) same ∙ on, ap Reply.Short same)
 
     -- a test of the temporal capabilities that two names have led to
-    both_alike : (b : ℕ) (j : Named) (other : Led s c b (to_use (only kind.Tcap)) j) (test : TcapFields → TcapFields → Bool)
+    both_alike : (b : ℕ) (j : Named) (other : Led s c b (to_use (only Kind.Tcap)) j) (test : TcapFields → TcapFields → Bool)
         → (k.found && (j.found && test (tcap_at s k.frame) (tcap_at s j.frame))) ≡ true
         → (k.found && (j.found && test (tcap_at t k.frame) (tcap_at t j.frame))) ≡ true
     both_alike b j other test on =
@@ -460,7 +438,7 @@ module _ {w : Region} {t s : State} {o : ℕ → Bool} {c : ℕ} (l : TwinsOn w 
       (
         (λ on is. (
           ap (λ (k : Core). nat_lt (outstanding k) m) (core_agree l) ∙ on,
-          ap (λ (k : Core). reply.Short (min (outstanding k) m)) (core_agree l),
+          ap (λ (k : Core). Reply.Short (min (outstanding k) m)) (core_agree l),
         )),
         λ none. none,
       ),

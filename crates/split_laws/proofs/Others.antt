@@ -1,8 +1,6 @@
 -- Where a world is split, so is the rest.
-use Rattle.std.proofs.Common.{◌≡◌, Bool, not, ap, List, [], ◌∷◌}
-use Rattle.std.specs.List.{AllByRecursion}
-use Rattle.world_laws.specs.spk_nums.specs.declared.translations.Translation.{Translation}
-use Rattle.split_laws.specs.Split.{SplitBothWays}
+use Rattle.same_changes.specs.kernel_laws.proofs.{◌≡◌, Bool, not, ap, List, [], ◌∷◌, Translation}
+use Rattle.{std.specs.List.AllByRecursion, split_laws.specs.Split.SplitBothWays}
 
 all_not : {A : Type 0} (p q : A → Bool) (xs : List A) → AllByRecursion (λ x. p x ≡ q x) xs → AllByRecursion (λ x. not (p x) ≡ not (q x)) xs
 all_not p q [] h = tt

@@ -1,13 +1,9 @@
 -- Histories in which each core is in the same phase, but for what its calls are answered.
-use Rattle.std.proofs.Common.{◌≡◌, inl, inr, ℕ, ◌<◌, ◌==◌, Bool, true, false, refl, sym, ◌∙◌, ap, subst, if◌then◌else◌, IsTrue, List, []}
-use Rattle.std.proofs.Common.{◌∷◌}
-use Rattle.std.proofs.lemmas.Bool.{cases_eq, false≢true}
-use Rattle.world_laws.specs.spk_nums.specs.Setting.{Setting}
-use Rattle.world_laws.specs.spk_nums.specs.declared.calls.Call.{Call}
-use Rattle.world_laws.specs.kernel_rules.specs.Runs.{Event, Enters, Decides, Returns, Phase, Out, Open, Decided, is_in, is_decided, core_of}
-use Rattle.world_laws.specs.kernel_rules.specs.Runs.{phase_by, phase_of}
-use Rattle.world_laws.specs.kernel_rules.specs.Runs.{MayFollow, IsRun}
-use Rattle.world_laws.specs.kernel_invariant.proofs.SoundRuns.{phase_other}
+use Rattle.world_laws.specs.kernel_rules.proofs.{◌≡◌, inl, inr, ℕ, ◌<◌, ◌==◌, Bool, true, false, refl, sym, ◌∙◌, ap, subst, if◌then◌else◌}
+use Rattle.world_laws.specs.kernel_rules.proofs.{IsTrue, List, [], ◌∷◌, false≢true, Setting, Call, Event, Enters, Decides, Returns, Phase}
+use Rattle.world_laws.specs.kernel_rules.proofs.{Out, Open, Decided, is_in, is_decided, core_of, phase_by, phase_of, IsRun}
+use Rattle.{std.proofs.lemmas.Bool.cases_eq, world_laws.specs.kernel_rules.specs.Runs.MayFollow}
+use Rattle.{world_laws.specs.kernel_invariant.proofs.SoundRuns.phase_other}
 
 -- Two phases are one, but for the reply.
 abbrev pub SamePhase : Phase → Phase → Type 0

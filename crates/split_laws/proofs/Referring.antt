@@ -1,25 +1,14 @@
 -- Where a world is split, what is outside has no reference to a frame of it.
-use Rattle.std.proofs.Common.{◌≡◌, ℕ, zero, suc, ◌+◌, ◌<◌, arith, Bool, true, false, cond, ◌==◌, refl, sym, ◌∙◌, ap, subst, List, [], ◌∷◌}
-use Rattle.std.proofs.lemmas.Bool.{false≢true, ne_eqb}
-use Rattle.std.specs.List.{AllByRecursion}
-use Rattle.world_laws.specs.spk_nums.specs.Setting.{Setting, IsSetting}
-use Rattle.world_laws.specs.spk_nums.specs.declared.kinds.Kind.{Kind}
-use Rattle.world_laws.specs.spk_nums.specs.declared.kinds.Kind.TheVariants as kind
-use Rattle.world_laws.specs.kernel_rules.specs.State.{Place, Free, Holds, Quiescing, Comp, Thread, Frame, Kernel, Liveness, Unused, Live}
-use Rattle.world_laws.specs.kernel_rules.specs.State.{Dead, PlaceOf, Limits, State, comp_in}
-use Rattle.world_laws.specs.kernel_rules.specs.References.{named_by, place_names, frame_names, number_names, core_names, sum_below, times}
-use Rattle.world_laws.specs.kernel_rules.specs.References.{node_refs, refs}
-use Rattle.world_laws.specs.kernel_rules.specs.Access.{usable_in}
-use Rattle.world_laws.specs.kernel_rules.specs.Runs.{Event, after, IsRun}
-use Rattle.world_laws.specs.kernel_invariant.proofs.Sums.{sum_same, times_cons}
-use Rattle.world_laws.specs.authority_laws.specs.state_laws.specs.Lives.{IsCompOf}
-use Rattle.world_laws.specs.authority_laws.specs.state_laws.proofs.Lives.{live_numbers_fit}
-use Rattle.world_laws.specs.Worlds.{LeadsTo}
-use Rattle.world_laws.specs.Time.{counted_if}
-use Rattle.split_laws.specs.Split.{World, IsSplit, AgreeIn, refs_inside, RefersInside}
-use Rattle.split_laws.proofs.Working.{comp_is}
-use Rattle.split_laws.proofs.Sides.{FrameOn}
-use Rattle.split_laws.proofs.Splitting.{sides_of}
+use Rattle.same_changes.specs.kernel_laws.proofs.{◌≡◌, ℕ, zero, suc, ◌+◌, ◌<◌, arith, Bool, true, false, cond, ◌==◌, refl, sym, ◌∙◌, ap}
+use Rattle.same_changes.specs.kernel_laws.proofs.{subst, List, [], ◌∷◌, false≢true, ne_eqb, Setting, IsSetting, Kind, Place, Free, Holds}
+use Rattle.same_changes.specs.kernel_laws.proofs.{Quiescing, Comp, Thread, Frame, Kernel, Liveness, Unused, Live, Dead, PlaceOf, Limits}
+use Rattle.same_changes.specs.kernel_laws.proofs.{State, comp_in, named_by, place_names, frame_names, number_names, core_names, sum_below}
+use Rattle.same_changes.specs.kernel_laws.proofs.{times, node_refs, refs, usable_in, Event, after, IsRun, times_cons}
+use Rattle.{split_laws.specs.World, split_laws.specs.IsSplit, split_laws.specs.AgreeIn, world_laws.specs.LeadsTo}
+use Rattle.{world_laws.specs.counted_if, std.specs.List.AllByRecursion, world_laws.specs.kernel_invariant.proofs.Sums.sum_same}
+use Rattle.{world_laws.specs.state_laws.specs.Lives.IsCompOf, world_laws.specs.state_laws.proofs.Lives.live_numbers_fit}
+use Rattle.{split_laws.specs.Split.refs_inside, split_laws.specs.Split.RefersInside, split_laws.proofs.Working.comp_is}
+use Rattle.{split_laws.proofs.Sides.FrameOn, split_laws.proofs.Splitting.sides_of}
 
 sum_none : (t : ℕ → ℕ) (n : ℕ) → ((i : ℕ) → t i ≡ 0) → sum_below t n ≡ 0
 unfolding sum_below
@@ -53,7 +42,7 @@ module _ (w : World) (s : State) (split : IsSplit w s) (numbers : NumbersOn w s)
   place_none g i out (Holds k) is = by_kind k.kind refl
     where
       by_kind : (j : Kind) → k.kind ≡ j → times f (named_by j k.frame) ≡ 0
-      by_kind kind.Range same = refl
+      by_kind Kind.Range same = refl
       by_kind _ same = none_of (w.frame g) out (k.frame ∷ []) (
         split.places g i 0 k.frame k (ap (λ p. usable_in p ((s.grace (PlaceOf g i)).waits 0)) is)
             (subst (λ j. LeadsTo j k k.frame) (sym same) refl),

@@ -1,33 +1,13 @@
 -- Frames and cores, each on one side with all that it names: a call that is carried out keeps them so.
-use Rattle.std.proofs.Common.{◌≡◌, ℕ, ◌+◌, ◌<◌, Bool, refl, sym, ◌∙◌, ap, subst, nat_lt, length, if◌then◌else◌, List, [], ◌∷◌, ◌++◌, drop}
-use Rattle.std.proofs.Common.{Option, Some, None, true, false}
-use Rattle.std.specs.List.{AllByRecursion}
-use Rattle.world_laws.specs.spk_nums.specs.Capability.{Capability}
-use Rattle.world_laws.specs.spk_nums.specs.declared.kinds.Kind.TheVariants as kind
-use Rattle.world_laws.specs.spk_nums.specs.declared.kinds.FrameKind.{FrameKind}
-use Rattle.world_laws.specs.spk_nums.specs.declared.kinds.FrameKind.TheVariants as frame_kind
-use Rattle.world_laws.specs.spk_nums.specs.declared.calls.Make.{Make}
-use Rattle.world_laws.specs.spk_nums.specs.declared.calls.Make.TheVariants as make
-use Rattle.world_laws.specs.spk_nums.specs.declared.calls.Call.{Call}
-use Rattle.world_laws.specs.spk_nums.specs.declared.calls.Call.TheVariants as call
-use Rattle.world_laws.specs.spk_nums.specs.declared.translations.Translation.{Translation}
-use Rattle.world_laws.specs.spk_nums.specs.declared.replies.Value.TheVariants.{Nothing}
-use Rattle.world_laws.specs.kernel_rules.specs.State.{CompFields, ThreadFields, TcapFields, Table, Leaf, Pages, Pleaf, Comp, Thread, Tcap}
-use Rattle.world_laws.specs.kernel_rules.specs.State.{Blank, Frame, Untyped, User, Kernel, Core, State, put, comp_of, thread_in, thread_of}
-use Rattle.world_laws.specs.kernel_rules.specs.Access.{found}
-use Rattle.world_laws.specs.kernel_rules.specs.Rules.{Change, does}
-use Rattle.world_laws.specs.kernel_rules.specs.CapabilityCalls.{not_blank, not_taken, epoch_of, make_rule}
-use Rattle.world_laws.specs.kernel_rules.specs.MemoryCalls.{retype_rule, touch_by, translation_of}
-use Rattle.world_laws.specs.kernel_rules.specs.Edits.{caching, with_thread, running, Switch, with_tcap}
-use Rattle.world_laws.specs.kernel_rules.specs.InvocationCalls.{switch_to}
-use Rattle.world_laws.specs.kernel_rules.specs.CallRelation.{rule_of}
-use Rattle.world_laws.specs.kernel_invariant.proofs.Sound.{put_all}
-use Rattle.world_laws.specs.kernel_invariant.proofs.SoundCalls.{IsOpen}
-use Rattle.world_laws.specs.kernel_invariant.proofs.Facts.{ChangesFrom}
-use Rattle.world_laws.specs.kernel_laws.proofs.NodeSteps.{IsFitted}
-use Rattle.world_laws.specs.kernel_laws.proofs.NodesLaw.{mapped_page}
-use Rattle.split_laws.specs.Split.{World, MakesOwn}
+use Rattle.same_changes.specs.kernel_laws.proofs as low
+use low.{◌≡◌, ℕ, ◌+◌, ◌<◌, Bool, refl, sym, ◌∙◌, ap, subst, ltb as nat_lt, length, if◌then◌else◌, List, [], ◌∷◌, ◌++◌, drop, Option, Some}
+use low.{None, true, false, Capability, FrameKind, Call, Translation, Nothing, CompFields, ThreadFields, TcapFields, Table, Leaf, Pages}
+use low.{Pleaf, Comp, Thread, Tcap, Blank, Frame, Untyped, User, Kernel, Core, State, put, comp_of, thread_in, thread_of, found, Change}
+use low.{does, not_blank, not_taken, epoch_of, make_rule, retype_rule, touch_by, translation_of, caching, with_thread, running, with_tcap}
+use low.{switch_to, rule_of, put_all, IsOpen, ChangesFrom, IsFitted, mapped_page, Kind}
 use Rattle.split_laws.proofs.Working.{WorksOn, named_frame, range_frame, mapped_on}
+use Rattle.{split_laws.specs.World, split_laws.specs.MakesOwn, std.specs.List.AllByRecursion}
+use Rattle.{world_laws.specs.spk_nums.specs.declared.calls.Make.Make, world_laws.specs.kernel_rules.specs.Edits.Switch}
 
 -- A frame's object is on the frame's side, with all that it names.
 abbrev pub FrameOn : World → ℕ → Frame → Type 0
@@ -119,29 +99,29 @@ module _ (w : World) (s : State) (c : ℕ) (o : ℕ → Bool) (open_call : IsOpe
   becomes f x = frame_sides w s.frame s.core n h f x
 
   retype_sides : (r f : ℕ) (k : FrameKind) → ChangesFrom (Next w s) s c (retype_rule s r f k)
-  retype_sides r f frame_kind.Untyped = λ range e calm. becomes f Untyped tt
-  retype_sides r f frame_kind.User = λ range e calm. becomes f User tt
-  retype_sides r f frame_kind.Kernel = λ range e calm. becomes f (Kernel Blank) tt
+  retype_sides r f FrameKind.Untyped = λ range e calm. becomes f Untyped tt
+  retype_sides r f FrameKind.User = λ range e calm. becomes f User tt
+  retype_sides r f FrameKind.Kernel = λ range e calm. becomes f (Kernel Blank) tt
 
-  make_sides : (what : Make) (r f t at : ℕ) → MakesOwn w b (call.Make what r f t at)
+  make_sides : (what : Make) (r f t at : ℕ) → MakesOwn w b (Call.Make what r f t at)
       → ChangesFrom (Next w s) s c (make_rule s what r f t at)
-  make_sides make.Table r f t at own = λ range e table g slot v calm. becomes f (Kernel Table) tt
-  make_sides make.Leaf r f t at own = λ range e table g slot v calm. becomes f (Kernel Leaf) tt
-  make_sides make.Pages r f t at own = λ range e table g slot v calm. becomes f (Kernel Pages) tt
-  make_sides make.Pleaf r f t at own = λ range e table g slot v calm. becomes f (Kernel Pleaf) tt
-  make_sides (make.Thread comp) r f t at own = λ range e table g k j slot v calm.
+  make_sides Make.Table r f t at own = λ range e table g slot v calm. becomes f (Kernel Table) tt
+  make_sides Make.Leaf r f t at own = λ range e table g slot v calm. becomes f (Kernel Leaf) tt
+  make_sides Make.Pages r f t at own = λ range e table g slot v calm. becomes f (Kernel Pages) tt
+  make_sides Make.Pleaf r f t at own = λ range e table g slot v calm. becomes f (Kernel Pleaf) tt
+  make_sides (Make.Thread comp) r f t at own = λ range e table g k j slot v calm.
       let here : w.frame f ≡ b = range_frame w s c b on r f range (not_blank s f ∷ []) e calm in
       becomes f (Kernel (Thread (record { stack = k.frame ∷ []; runs_on = None })))
-      (named_frame w s c b on comp kind.Comp k refl j ∙ sym here, tt)
-  make_sides (make.Tcap sched quality) r f t at own = λ range e table g slot v calm.
+      (named_frame w s c b on comp Kind.Comp k refl j ∙ sym here, tt)
+  make_sides (Make.Tcap sched quality) r f t at own = λ range e table g slot v calm.
       becomes f (Kernel (Tcap (record { budget = 0; qualities = (sched, quality) ∷ [] }))) tt
-  make_sides (make.Comp x p l) r f t at own = λ range e table g own_table a own_pages d slot v calm.
+  make_sides (Make.Comp x p l) r f t at own = λ range e table g own_table a own_pages d slot v calm.
       let here : w.frame f ≡ b = range_frame w s c b on r f range (not_blank s f ∷ not_taken s l) e calm in
       let fields : CompFields =
       record { table = own_table.frame; pages = own_pages.frame; number = l; epoch = epoch_of (s.number l) + 1 } in
       becomes f (Kernel (Comp fields)) (
-        named_frame w s c b on x kind.Table own_table refl a ∙ sym here,
-        named_frame w s c b on p kind.Pages own_pages refl d ∙ sym here,
+        named_frame w s c b on x Kind.Table own_table refl a ∙ sym here,
+        named_frame w s c b on p Kind.Pages own_pages refl d ∙ sym here,
         own ∙ sym here,
       )
 
@@ -186,38 +166,38 @@ module _ (w : World) (s : State) (c : ℕ) (o : ℕ → Bool) (open_call : IsOpe
 
   -- What each call makes of the frames and the cores where it is carried out.
   pub rule_sides : (made : Call) → MakesOwn w b made → ChangesFrom (Next w s) s c (rule_of s c made)
-  rule_sides (call.Look a) own = λ k e calm. h
-  rule_sides (call.Copy a t at rights) own = λ k e table g slot v calm. h
-  rule_sides (call.Remove t at) own = λ table e slot k g calm. h
-  rule_sides (call.Grow t i l) own = λ table e leaf f slot g calm. h
-  rule_sides (call.Shrink t i) own = λ table e slot k g calm. h
-  rule_sides (call.Retype r f k) own = retype_sides r f k
-  rule_sides (call.Make what r f t at) own = make_sides what r f t at own
-  rule_sides (call.Map p v r f flags) own = λ pages e range g slot u calm. h
-  rule_sides (call.Unmap p v) own = λ pages e slot k g calm. h
-  rule_sides (call.Touch v) own = touch_sides v (translation_of (s.core c).cached (comp_of s c).pages v)
-  rule_sides call.Flush own = λ calm.
+  rule_sides (Call.Look a) own = λ k e calm. h
+  rule_sides (Call.Copy a t at rights) own = λ k e table g slot v calm. h
+  rule_sides (Call.Remove t at) own = λ table e slot k g calm. h
+  rule_sides (Call.Grow t i l) own = λ table e leaf f slot g calm. h
+  rule_sides (Call.Shrink t i) own = λ table e slot k g calm. h
+  rule_sides (Call.Retype r f k) own = retype_sides r f k
+  rule_sides (Call.Make what r f t at) own = make_sides what r f t at own
+  rule_sides (Call.Map p v r f flags) own = λ pages e range g slot u calm. h
+  rule_sides (Call.Unmap p v) own = λ pages e slot k g calm. h
+  rule_sides (Call.Touch v) own = touch_sides v (translation_of (s.core c).cached (comp_of s c).pages v)
+  rule_sides Call.Flush own = λ calm.
       core_sides w s.frame s.core n h c (record (s.core c) { cached = [] }) (λ below. record { tcap = (h.cores c below).tcap; cached = tt })
-  rule_sides (call.Gate k t at) own = λ comp e table g slot v calm. h
-  rule_sides (call.Kill k) own = λ comp e calm. h
-  rule_sides (call.Call g) own = λ gate e calm.
+  rule_sides (Call.Gate k t at) own = λ comp e table g slot v calm. h
+  rule_sides (Call.Kill k) own = λ comp e calm. h
+  rule_sides (Call.Call g) own = λ gate e calm.
       stack_sides w s.frame s.core n h (s.core c).thread (gate.frame ∷ (thread_of s c).stack) (
-        named_frame w s c b on g kind.Gate gate refl e ∙ sym on.thread,
+        named_frame w s c b on g Kind.Gate gate refl e ∙ sym on.thread,
         stack_on w (s.core c).thread (s.frame (s.core c).thread) (h.frames (s.core c).thread),
       )
-  rule_sides call.Ret own = λ calm.
+  rule_sides Call.Ret own = λ calm.
       stack_sides w s.frame s.core n h (s.core c).thread (drop 1 (thread_of s c).stack)
       (all_drop _ (thread_of s c).stack (stack_on w (s.core c).thread (s.frame (s.core c).thread) (h.frames (s.core c).thread)))
-  rule_sides (call.Switch a q) own = λ j e k g.
-      switched j k (named_frame w s c b on q kind.Tcap k refl g ∙ sym (named_frame w s c b on a kind.Thread j refl e))
+  rule_sides (Call.Switch a q) own = λ j e k g.
+      switched j k (named_frame w s c b on q Kind.Tcap k refl g ∙ sym (named_frame w s c b on a Kind.Thread j refl e))
       (thread_in (s.frame j.frame)).runs_on
-  rule_sides (call.Tick m) own = λ calm.
+  rule_sides (Call.Tick m) own = λ calm.
       core_same w _ s.core n (tcap_sides w s.frame s.core n h (s.core c).tcap _) c _ refl refl refl
-  rule_sides (call.Transfer a d m) own = λ j e k f calm.
+  rule_sides (Call.Transfer a d m) own = λ j e k f calm.
       tcap_sides w _ s.core n (tcap_sides w s.frame s.core n h j.frame _) k.frame _
-  rule_sides (call.Delegate a d m) own = λ j e k f calm.
+  rule_sides (Call.Delegate a d m) own = λ j e k f calm.
       tcap_sides w _ s.core n (tcap_sides w _ s.core n (tcap_sides w s.frame s.core n h j.frame _) k.frame _) k.frame _
-  rule_sides (call.Test a d) own = λ j e k f calm. h
-  rule_sides (call.Replenish a m) own = λ j e calm.
+  rule_sides (Call.Test a d) own = λ j e k f calm. h
+  rule_sides (Call.Replenish a m) own = λ j e calm.
       core_same w _ s.core n (tcap_sides w s.frame s.core n h j.frame _) c _ refl refl refl
-  rule_sides (call.Part r f count t at) own = λ k e table g slot v calm. h
+  rule_sides (Call.Part r f count t at) own = λ k e table g slot v calm. h

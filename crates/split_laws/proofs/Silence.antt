@@ -1,57 +1,43 @@
 -- Where a world is split, the calls of the cores outside may be hushed: the history is still a run, and the world the same.
-use Rattle.std.proofs.Common.{◌≡◌, ◌⊎◌, inl, inr, ℕ, ◌+◌, ◌<◌, nat_le, Bool, true, false, refl, sym, ◌∙◌, ap, subst, arith, if◌then◌else◌}
-use Rattle.std.proofs.Common.{IsTrue, IsFalse, List, [], ◌∷◌, ◌++◌}
-use Rattle.std.proofs.lemmas.Bool.{cases_eq, false≢true}
-use Rattle.world_laws.specs.spk_nums.specs.Setting.{Setting, IsSetting}
-use Rattle.world_laws.specs.spk_nums.specs.declared.calls.Call.{Call}
-use Rattle.world_laws.specs.spk_nums.specs.declared.calls.Call.TheVariants.{Flush}
-use Rattle.world_laws.specs.spk_nums.specs.declared.replies.Value.{Value}
-use Rattle.world_laws.specs.spk_nums.specs.declared.replies.Reply.{Reply}
-use Rattle.world_laws.specs.spk_nums.specs.declared.replies.Reply.TheVariants as reply
-use Rattle.world_laws.specs.kernel_rules.specs.State.{put, Core, Limits, State}
-use Rattle.world_laws.specs.kernel_rules.specs.CallRelation.{flushes, are_calls_spent, state_by, MayReply}
-use Rattle.world_laws.specs.kernel_rules.specs.Laws.{calls_counted}
-use Rattle.world_laws.specs.kernel_rules.specs.Runs.{Event, Enters, Decides, Returns, after, Open, is_open, is_decided, phase_of, IsRun}
-use Rattle.world_laws.specs.kernel_rules.specs.Runs.{MayEnter, MayDecide}
-use Rattle.world_laws.specs.kernel_rules.proofs.AloneLaw.{decided_stays}
-use Rattle.world_laws.specs.kernel_invariant.proofs.Sound.{put_all}
-use Rattle.world_laws.specs.kernel_invariant.proofs.SoundCalls.{IsOpen}
-use Rattle.world_laws.specs.kernel_invariant.proofs.SoundRuns.{opened, open_is, limits_stay}
-use Rattle.seq_state.proofs.Same.{same_grace_by}
-use Rattle.same_changes.specs.Region.{AgreeOn}
-use Rattle.same_changes.proofs.Agreeing.{agree_by, agree_then}
-use Rattle.same_changes.proofs.Reaching.{TwinsOn}
-use Rattle.split_laws.specs.Split.{World, IsSplit, side, MakesOwn, KeepsNumbers, TellsOwn, TellsInside, hushed_reply, hushed}
-use Rattle.split_laws.specs.Split.{told_inside, OthersAreSilent}
-use Rattle.split_laws.proofs.Working.{WorksOn, works_on}
+use Rattle.same_changes.specs.kernel_laws.proofs.{◌≡◌, ◌⊎◌, inl, inr, ℕ, ◌+◌, ◌<◌, leb as nat_le, Bool, true, false, refl, sym, ◌∙◌, ap}
+use Rattle.same_changes.specs.kernel_laws.proofs.{subst, arith, if◌then◌else◌, IsTrue, IsFalse, List, [], ◌∷◌, ◌++◌, false≢true, Setting}
+use Rattle.same_changes.specs.kernel_laws.proofs.{IsSetting, Call, Flush, Value, Reply, put, Core, Limits, State, flushes, are_calls_spent}
+use Rattle.same_changes.specs.kernel_laws.proofs.{state_by, MayReply, calls_counted, Event, Enters, Decides, Returns, after, Open, is_open}
+use Rattle.same_changes.specs.kernel_laws.proofs.{is_decided, phase_of, IsRun, put_all, IsOpen, opened, open_is, limits_stay}
+use Rattle.split_laws.specs.{World, IsSplit, side, MakesOwn, TellsOwn}
+use Rattle.same_changes.proofs.{Agreeing.agree_by, Agreeing.agree_then, Reaching.TwinsOn}
+use Rattle.split_laws.specs.Split.{KeepsNumbers, TellsInside, hushed_reply, hushed, told_inside, OthersAreSilent}
 use Rattle.split_laws.proofs.Splitting.{split_for_good, split_entered, split_returned}
-use Rattle.split_laws.proofs.Referring.{numbers_on, same_refs}
 use Rattle.split_laws.proofs.Keeping.{agree_back, put_pair, entered_agree, returned_agree, decided_agree, flush_agree, raced_apart}
 use Rattle.split_laws.proofs.Phases.{SamePhase, phase_same, same_out, same_open, same_decided, decided_in, same_after, in_call_below}
 use Rattle.split_laws.proofs.Cores.{others_stay, thread_stays, counts_one}
 use Rattle.split_laws.proofs.Apart.{frame_stays, place_stays, number_stays, core_stays, grace_stays}
 use Rattle.split_laws.proofs.Inside.{region, thing_of, agree_in, reaches_only, outcome_agrees, may_reply}
+use Rattle.{std.proofs.lemmas.Bool.cases_eq, world_laws.specs.kernel_rules.specs.Runs.MayEnter}
+use Rattle.{world_laws.specs.kernel_rules.specs.Runs.MayDecide, world_laws.specs.kernel_rules.proofs.AloneLaw.decided_stays}
+use Rattle.{same_changes.specs.seq_state.proofs.Same.same_grace_by, same_changes.specs.Region.AgreeOn, split_laws.proofs.Working.WorksOn}
+use Rattle.{split_laws.proofs.Working.works_on, split_laws.proofs.Referring.numbers_on, split_laws.proofs.Referring.same_refs}
 
 -- What a call is hushed to: a flush that is carried out stays, and so does a call past its core's limit; any other does nothing.
 abbrev Hushes : Call → Reply → Type 0
 Hushes call r =
-    ((call ≡ Flush) × ((v : Value) × (r ≡ reply.Ok v)))
-    ⊎ ((r ≡ reply.CallsSpent) ⊎ ((hushed_reply call r ≡ reply.Raced) × (flushes call r ≡ false) × (calls_counted r ≡ 1)))
+    ((call ≡ Flush) × ((v : Value) × (r ≡ Reply.Ok v)))
+    ⊎ ((r ≡ Reply.CallsSpent) ⊎ ((hushed_reply call r ≡ Reply.Raced) × (flushes call r ≡ false) × (calls_counted r ≡ 1)))
 
 hushes : (call : Call) (r : Reply) → Hushes call r
-hushes Flush (reply.Ok v) = inl (refl, (v, refl))
-hushes Flush reply.CallsSpent = inr (inl refl)
+hushes Flush (Reply.Ok v) = inl (refl, (v, refl))
+hushes Flush Reply.CallsSpent = inr (inl refl)
 hushes Flush _ = inr (inr (refl, refl, refl))
-hushes _ (reply.Ok v) = inr (inr (refl, refl, refl))
-hushes _ reply.CallsSpent = inr (inl refl)
+hushes _ (Reply.Ok v) = inr (inr (refl, refl, refl))
+hushes _ Reply.CallsSpent = inr (inl refl)
 hushes _ _ = inr (inr (refl, refl, refl))
 
-hushed_spent : (call : Call) → hushed_reply call reply.CallsSpent ≡ reply.CallsSpent
+hushed_spent : (call : Call) → hushed_reply call Reply.CallsSpent ≡ Reply.CallsSpent
 hushed_spent Flush = refl
 hushed_spent _ = refl
 
 not_spent : (s : State) (c : ℕ) (call : Call) (r : Reply) → calls_counted r ≡ 1 → MayReply s c call r → IsFalse (are_calls_spent s c)
-not_spent s c call reply.CallsSpent one may = absurd (omega (arith, one))
+not_spent s c call Reply.CallsSpent one may = absurd (omega (arith, one))
 not_spent s c call _ one may = may.0
 
 module _ (setting : Setting) (lim : IsSetting setting) (w : World) (cores : ℕ → Bool) where
@@ -219,24 +205,24 @@ module _ (setting : Setting) (lim : IsSetting setting) (w : World) (cores : ℕ 
           owns = subst (λ b. MakesOwn w b call) (sym away) own
 
           -- a flush that is carried out
-          by_flush : (made : Call) (v : Value) → made ≡ Flush → call ≡ made → r ≡ reply.Ok v
-              → MayReply t c made (reply.Ok v) × AgreeOn (region w cores) (state_by t c made (reply.Ok v)) (state_by s c made (reply.Ok v))
-          by_flush made v is same answer = subst (λ m. MayReply t c m (reply.Ok v)
-              × AgreeOn (region w cores) (state_by t c m (reply.Ok v)) (state_by s c m (reply.Ok v))) (sym is)
-              (let p : MayReply s c Flush (reply.Ok v) = subst (λ m. MayReply s c m (reply.Ok v)) (same ∙ is)
+          by_flush : (made : Call) (v : Value) → made ≡ Flush → call ≡ made → r ≡ Reply.Ok v
+              → MayReply t c made (Reply.Ok v) × AgreeOn (region w cores) (state_by t c made (Reply.Ok v)) (state_by s c made (Reply.Ok v))
+          by_flush made v is same answer = subst (λ m. MayReply t c m (Reply.Ok v)
+              × AgreeOn (region w cores) (state_by t c m (Reply.Ok v)) (state_by s c m (Reply.Ok v))) (sym is)
+              (let p : MayReply s c Flush (Reply.Ok v) = subst (λ m. MayReply s c m (Reply.Ok v)) (same ∙ is)
               (subst (MayReply s c call) answer may.permitted) in
               ((spent_same c ∙ p.0, (refl, p.1.1)), flush_agree t s c v h.agree))
 
           by_hush : Hushes call r → Silent (Decides c call r ∷ events) (Decides c call (hushed_reply call r) ∷ other)
           by_hush (inl (is, (v, answer))) =
               let both = by_flush call v is refl answer in
-              let same : hushed_reply call r ≡ reply.Ok v = (λ i. hushed_reply (is i) (answer i)) in
+              let same : hushed_reply call r ≡ Reply.Ok v = (λ i. hushed_reply (is i) (answer i)) in
               decides (hushed_reply call r) owns (subst (MayReply t c call) (sym same) both.0)
               (ap calls_counted same ∙ ap calls_counted (sym answer))
               (subst (λ q. AgreeOn (region w cores) (state_by t c call (hushed_reply call r)) (state_by s c call q)) (sym answer)
-              (subst (λ q. AgreeOn (region w cores) (state_by t c call q) (state_by s c call (reply.Ok v))) (sym same) both.1))
+              (subst (λ q. AgreeOn (region w cores) (state_by t c call q) (state_by s c call (Reply.Ok v))) (sym same) both.1))
           by_hush (inr (inl spent)) =
-              let same : hushed_reply call r ≡ reply.CallsSpent = ap (hushed_reply call) spent ∙ hushed_spent call in
+              let same : hushed_reply call r ≡ Reply.CallsSpent = ap (hushed_reply call) spent ∙ hushed_spent call in
               decides (hushed_reply call r) owns
               (subst (MayReply t c call) (sym same) (spent_same c ∙ subst (MayReply s c call) spent may.permitted))
               (ap calls_counted same ∙ ap calls_counted (sym spent))
@@ -247,7 +233,7 @@ module _ (setting : Setting) (lim : IsSetting setting) (w : World) (cores : ℕ 
               (subst (MayReply t c call) (sym same) (spent_same c ∙ not_spent s c call r one may.permitted, tt))
               (ap calls_counted same ∙ sym one)
               (subst (λ q. AgreeOn (region w cores) (state_by t c call q) (state_by s c call r)) (sym same)
-              (agree_then (state_by t c call reply.Raced) t (state_by s c call r) (raced_apart t c call apart)
+              (agree_then (state_by t c call Reply.Raced) t (state_by s c call r) (raced_apart t c call apart)
               (agree_then t s (state_by s c call r) h.agree (agree_back (state_by s c call r) s (outside_agrees away own none apart)))))
 
       decides_either : (b : Bool) → side w s c ≡ b → MakesOwn w (side w s c) call → (side w s c ≡ true → TellsOwn w.frame true call r)

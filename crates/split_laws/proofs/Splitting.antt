@@ -1,30 +1,14 @@
 -- What is split stays split.
-use Rattle.std.proofs.Common.{◌≡◌, inl, inr, ℕ, Bool, refl, sym, ◌∙◌, ap, subst, [], ◌∷◌, ◌++◌, Some}
-use Rattle.world_laws.specs.spk_nums.specs.Capability.{Capability}
-use Rattle.world_laws.specs.spk_nums.specs.declared.calls.Call.{Call}
-use Rattle.world_laws.specs.spk_nums.specs.declared.calls.Call.TheVariants.{Tick}
-use Rattle.world_laws.specs.spk_nums.specs.declared.replies.Value.{Value}
-use Rattle.world_laws.specs.spk_nums.specs.declared.replies.Reply.{Reply}
-use Rattle.world_laws.specs.spk_nums.specs.declared.replies.Reply.TheVariants as reply
-use Rattle.world_laws.specs.kernel_rules.specs.State.{Comp, Thread, Frame, Kernel, Limits, State}
-use Rattle.world_laws.specs.kernel_rules.specs.Access.{usable}
-use Rattle.world_laws.specs.kernel_rules.specs.GracePeriods.{entered, returned}
-use Rattle.world_laws.specs.kernel_rules.specs.Rules.{Change, Judged, Refused, Found, IsFoundAnd}
-use Rattle.world_laws.specs.kernel_rules.specs.CallRelation.{rule_of, change_of, changed, counted, owed_by, state_by, MayReply}
-use Rattle.world_laws.specs.kernel_rules.specs.Runs.{Enters, Decides, Returns, after, is_open}
-use Rattle.world_laws.specs.kernel_rules.proofs.Changes.{IfFound}
-use Rattle.world_laws.specs.kernel_rules.proofs.AloneLaw.{decided_stays}
-use Rattle.world_laws.specs.kernel_invariant.proofs.Facts.{outcome_from}
-use Rattle.world_laws.specs.kernel_invariant.proofs.SoundCalls.{IsOpen}
-use Rattle.world_laws.specs.kernel_invariant.proofs.SoundRuns.{opened, open_is}
-use Rattle.world_laws.specs.kernel_laws.proofs.NodeSteps.{IsFitted}
-use Rattle.world_laws.specs.kernel_laws.proofs.NodesLaw.{runs_fit}
-use Rattle.world_laws.specs.Worlds.{LeadsTo}
-use Rattle.world_laws.proofs.Puts.{usable_from}
-use Rattle.world_laws.proofs.Links.{returned_uses}
-use Rattle.split_laws.specs.Split.{World, IsSplit, side, MakesOwn, SplitForGood}
+use Rattle.same_changes.specs.kernel_laws.proofs.{◌≡◌, inl, inr, ℕ, Bool, refl, sym, ◌∙◌, ap, subst, [], ◌∷◌, ◌++◌, Some, Capability, Call}
+use Rattle.same_changes.specs.kernel_laws.proofs.{Tick, Value, Reply, Comp, Thread, Frame, Kernel, Limits, State, usable, entered, returned}
+use Rattle.same_changes.specs.kernel_laws.proofs.{Change, Judged, Refused, Found, IsFoundAnd, rule_of, change_of, changed, counted, owed_by}
+use Rattle.same_changes.specs.kernel_laws.proofs.{state_by, MayReply, Enters, Decides, Returns, after, is_open, IfFound, outcome_from}
+use Rattle.same_changes.specs.kernel_laws.proofs.{IsOpen, opened, open_is, IsFitted, runs_fit}
+use Rattle.split_laws.specs.{World, IsSplit, side, MakesOwn}
 use Rattle.split_laws.proofs.Working.{WorksOn, works_on, node_on, put_on}
 use Rattle.split_laws.proofs.Sides.{FrameOn, Sides, core_same, Next, rule_sides}
+use Rattle.{world_laws.specs.kernel_rules.proofs.AloneLaw.decided_stays, world_laws.specs.Worlds.LeadsTo}
+use Rattle.{world_laws.proofs.Puts.usable_from, world_laws.proofs.Links.returned_uses, split_laws.specs.Split.SplitForGood}
 
 -- What each place has leads to its side.
 abbrev Places : World → State → Type 0
@@ -89,12 +73,12 @@ module _ (w : World) (s : State) (c : ℕ) (o : ℕ → Bool) (open_call : IsOpe
   changed_on v (Found change) next ok = next
 
   by_reply : (q : Reply) → MayReply s c call q → On (state_by s c call q)
-  by_reply (reply.Ok v) m = counted_on (changed s (change_of s c call)) (changed_on v (change_of s c call)
+  by_reply (Reply.Ok v) m = counted_on (changed s (change_of s c call)) (changed_on v (change_of s c call)
       (outcome_from (Next w s) s c (rule_of s c call)
       (rule_sides w s c o open_call fitted b on sided call own)) m.1.1)
-  by_reply reply.CallsSpent m = sided
-  by_reply reply.Raced m = counted_on (owed_by s c call) (owed_on call)
-  by_reply (reply.Busy d) m = counted_on (owed_by s c call) (owed_on call)
+  by_reply Reply.CallsSpent m = sided
+  by_reply Reply.Raced m = counted_on (owed_by s c call) (owed_on call)
+  by_reply (Reply.Busy d) m = counted_on (owed_by s c call) (owed_on call)
   by_reply _ m = counted_on s sided
 
   abbrev t : State

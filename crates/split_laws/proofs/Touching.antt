@@ -1,24 +1,13 @@
 -- Where a world is split, a touch answers a frame of the side of its core.
-use Rattle.std.proofs.Common.{◌≡◌, ℕ, Bool, true, false, ◌&&◌, ◌==◌, cond, refl, sym, ◌∙◌, ap, List, [], ◌∷◌, Option, Some, None}
-use Rattle.std.proofs.lemmas.Bool.{and_parts, eqb-true}
-use Rattle.std.specs.List.{AllByRecursion}
-use Rattle.world_laws.specs.spk_nums.specs.Setting.{Setting, IsSetting}
-use Rattle.world_laws.specs.spk_nums.specs.declared.calls.Call.TheVariants.{Touch}
-use Rattle.world_laws.specs.spk_nums.specs.declared.kinds.PageFlags.{PageFlags}
-use Rattle.world_laws.specs.spk_nums.specs.declared.translations.Translation.{Translation}
-use Rattle.world_laws.specs.spk_nums.specs.declared.replies.Value.TheVariants.{Page}
-use Rattle.world_laws.specs.spk_nums.specs.declared.replies.Reply.TheVariants as reply
-use Rattle.world_laws.specs.kernel_rules.specs.State.{State, comp_of}
-use Rattle.world_laws.specs.kernel_rules.specs.Rules.{Change, Judged, Refused, Found, IsFoundAnd, outcome}
-use Rattle.world_laws.specs.kernel_rules.specs.MemoryCalls.{touch_by, translation_of}
-use Rattle.world_laws.specs.kernel_rules.specs.Runs.{Event, Decides, after, is_open, IsRun}
-use Rattle.world_laws.specs.kernel_rules.proofs.Changes.{IfFound}
-use Rattle.world_laws.specs.kernel_invariant.proofs.Facts.{ChangesFrom, outcome_from, none_some, some_inj}
-use Rattle.world_laws.specs.kernel_invariant.proofs.SoundCalls.{IsOpen}
-use Rattle.world_laws.specs.kernel_invariant.proofs.SoundRuns.{opened, open_is}
-use Rattle.world_laws.specs.kernel_laws.proofs.NodesLaw.{runs_fit, mapped_page}
-use Rattle.split_laws.specs.Split.{World, IsSplit, side, TouchesOwn}
+use Rattle.same_changes.specs.kernel_laws.proofs.{◌≡◌, ℕ, Bool, true, false, ◌&&◌, ◌==◌, cond, refl, sym, ◌∙◌, ap, List, [], ◌∷◌, Option}
+use Rattle.same_changes.specs.kernel_laws.proofs.{Some, None, eqb-true, Setting, IsSetting, Touch, PageFlags, Translation, State, comp_of}
+use Rattle.same_changes.specs.kernel_laws.proofs.{Change, Judged, Refused, Found, IsFoundAnd, outcome, touch_by, translation_of, Event}
+use Rattle.same_changes.specs.kernel_laws.proofs.{Decides, after, is_open, IsRun, IfFound, ChangesFrom, outcome_from, none_some, some_inj}
+use Rattle.same_changes.specs.kernel_laws.proofs.{IsOpen, opened, open_is, runs_fit, mapped_page, Reply}
+use Rattle.split_laws.specs.{World, IsSplit, side}
 use Rattle.split_laws.proofs.Working.{WorksOn, works_on, mapped_on}
+use Rattle.{std.proofs.lemmas.Bool.and_parts, std.specs.List.AllByRecursion}
+use Rattle.{world_laws.specs.spk_nums.specs.declared.replies.Value.TheVariants.Page, split_laws.specs.Split.TouchesOwn}
 
 answer_frame : (t : Translation) (f : ℕ) (flags : PageFlags) → Page t.frame t.flags ≡ Page f flags → t.frame ≡ f
 answer_frame t f flags e = cc
@@ -39,7 +28,7 @@ cached_on w pages v (y ∷ ys) x all e =
     by false is q rest = rest q
 
 module _ (setting : Setting) (lim : IsSetting setting) (events : List Event) (c v f : ℕ) (flags : PageFlags)
-    (run : IsRun setting (Decides c (Touch v) (reply.Ok (Page f flags)) ∷ events)) (w : World)
+    (run : IsRun setting (Decides c (Touch v) (Reply.Ok (Page f flags)) ∷ events)) (w : World)
     (split : IsSplit w (after setting events)) where
   abbrev s : State
   s = after setting events

@@ -1,25 +1,11 @@
 -- Worlds that are split: nothing crosses, not even a gate. Of the others a world sees no more than when they enter calls, return and flush.
-use Rattle.std.specs.Prelude.{◌≡◌, ◌<◌, ℕ, ◌+◌, Bool, true, not, if◌then◌else◌, List, [], ◌∷◌, ◌++◌, Some}
-use Rattle.std.specs.List.{AllByRecursion}
-use Rattle.world_laws.specs.spk_nums.specs.Capability.{Capability}
-use Rattle.world_laws.specs.spk_nums.specs.Setting.{Setting, IsSetting}
-use Rattle.world_laws.specs.spk_nums.specs.declared.calls.Call.{Call}
-use Rattle.world_laws.specs.spk_nums.specs.declared.calls.Call.TheVariants.{Retype, Map, Touch, Flush, Make as make_call}
-use Rattle.world_laws.specs.spk_nums.specs.declared.calls.Make.TheVariants as make
-use Rattle.world_laws.specs.spk_nums.specs.declared.kinds.PageFlags.{PageFlags}
-use Rattle.world_laws.specs.spk_nums.specs.declared.replies.Value.TheVariants.{Page}
-use Rattle.world_laws.specs.spk_nums.specs.declared.replies.Reply.{Reply}
-use Rattle.world_laws.specs.spk_nums.specs.declared.replies.Reply.TheVariants as reply
-use Rattle.world_laws.specs.spk_nums.specs.declared.translations.Translation.{Translation}
-use Rattle.world_laws.specs.kernel_rules.specs.State.{CompFields, ThreadFields, Comp, Thread, Kernel, Thing, PlaceOf, FrameOf, NumberOf}
-use Rattle.world_laws.specs.kernel_rules.specs.State.{State}
-use Rattle.world_laws.specs.kernel_rules.specs.References.{frame_names, number_names, core_names, sum_below, times, node_refs, refs}
-use Rattle.world_laws.specs.kernel_rules.specs.Access.{usable}
-use Rattle.world_laws.specs.kernel_rules.specs.Alone.{alone}
-use Rattle.world_laws.specs.kernel_rules.specs.Runs.{Event, Enters, Decides, Returns, Open, after, phase_of, IsRun}
-use Rattle.seq_state.specs.Representation.{HasIndex, SameGrace}
-use Rattle.world_laws.specs.Worlds.{LeadsTo, works_in}
-use Rattle.world_laws.specs.Time.{counted_if}
+use Rattle.world_laws.specs.kernel_rules.specs.{◌≡◌, ◌<◌, ℕ, ◌+◌, Bool, true, not, if◌then◌else◌, List, [], ◌∷◌, ◌++◌, Some, Capability}
+use Rattle.world_laws.specs.kernel_rules.specs.{Setting, IsSetting, Call, Retype, Map, Touch, Flush, PageFlags, Page, Reply, Translation}
+use Rattle.world_laws.specs.kernel_rules.specs.{CompFields, ThreadFields, Comp, Thread, Kernel, Thing, PlaceOf, FrameOf, NumberOf}
+use Rattle.world_laws.specs.kernel_rules.specs.{frame_names, number_names, core_names, sum_below, times, node_refs, refs, usable, alone}
+use Rattle.world_laws.specs.kernel_rules.specs.{Event, Enters, Decides, Returns, Open, after, phase_of, IsRun, Make}
+use Rattle.same_changes.specs.seq_state.specs.{Make as make_call, State, HasIndex, SameGrace}
+use Rattle.{world_laws.specs.LeadsTo, world_laws.specs.works_in, world_laws.specs.counted_if, std.specs.List.AllByRecursion}
 
 -- A world: its frames and its liveness numbers. All others are on the other side.
 pub record World : Type 0 where
@@ -52,7 +38,7 @@ side w s c = w.frame (works_in s c)
 
 -- A component that is made takes a number of this side.
 abbrev pub MakesOwn : World → Bool → Call → Type 0
-MakesOwn w b (make_call (make.Comp table pages live) r f t at) = w.number live ≡ b
+MakesOwn w b (make_call (Make.Comp table pages live) r f t at) = w.number live ≡ b
 MakesOwn w b call = Unit {0}
 
 -- Each component that is made after `before` takes a number of its core's side.
@@ -90,9 +76,9 @@ pub record AgreeIn (w : World) (s t : State) : Type 0 where
 
 -- The reply of a call that is hushed: `raced`, by which it does nothing. But a flush stays, and so does a call past its core's limit.
 abbrev pub hushed_reply : Call → Reply → Reply
-hushed_reply Flush (reply.Ok v) = reply.Ok v
-hushed_reply call reply.CallsSpent = reply.CallsSpent
-hushed_reply call r = reply.Raced
+hushed_reply Flush (Reply.Ok v) = Reply.Ok v
+hushed_reply call Reply.CallsSpent = Reply.CallsSpent
+hushed_reply call r = Reply.Raced
 
 -- The later events of a run, in which each call of a core that works outside the world is hushed.
 abbrev pub hushed : World → Setting → List Event → List Event → List Event
@@ -114,13 +100,13 @@ told_inside w setting (Returns c ∷ later) before = told_inside w setting later
 -- A call is refused for what a frame is that it names by its number, for the references to it, or for who may still use it: only where the
 -- frame is on this side.
 abbrev pub TellsOwn : (ℕ → Bool) → Bool → Call → Reply → Type 0
-TellsOwn w b (Retype r f k) reply.FrameKind = w f ≡ b
-TellsOwn w b (Retype r f k) (reply.Referenced n) = w f ≡ b
-TellsOwn w b (Retype r f k) (reply.Quiescing e) = w f ≡ b
-TellsOwn w b (Retype r f k) (reply.Unflushed e) = w f ≡ b
-TellsOwn w b (Retype r f k) reply.NotEmpty = w f ≡ b
-TellsOwn w b (make_call what r f t at) reply.FrameKind = w f ≡ b
-TellsOwn w b (Map p v r f flags) reply.FrameKind = w f ≡ b
+TellsOwn w b (Retype r f k) Reply.FrameKind = w f ≡ b
+TellsOwn w b (Retype r f k) (Reply.Referenced n) = w f ≡ b
+TellsOwn w b (Retype r f k) (Reply.Quiescing e) = w f ≡ b
+TellsOwn w b (Retype r f k) (Reply.Unflushed e) = w f ≡ b
+TellsOwn w b (Retype r f k) Reply.NotEmpty = w f ≡ b
+TellsOwn w b (make_call what r f t at) Reply.FrameKind = w f ≡ b
+TellsOwn w b (Map p v r f flags) Reply.FrameKind = w f ≡ b
 TellsOwn w b call r = Unit {0}
 
 -- Each call after `before` of a core that works inside is refused so only for a frame inside. The relation of calls lets a call be refused
@@ -168,11 +154,11 @@ RefersInside = (setting : Setting) → IsSetting setting → (events : List Even
 -- In every run, where a world is split, `running e` names a core that works on the side of the core that it is told.
 abbrev pub RepliesTell : Type 0
 RepliesTell = (setting : Setting) → IsSetting setting → (events : List Event) (c e : ℕ) (call : Call)
-    → IsRun setting (Decides c call (reply.Running e) ∷ events)
+    → IsRun setting (Decides c call (Reply.Running e) ∷ events)
     → (w : World) → IsSplit w (after setting events) → side w (after setting events) e ≡ side w (after setting events) c
 
 -- In every run, where a world is split, a touch answers a frame of the side of its core.
 abbrev pub TouchesOwn : Type 0
 TouchesOwn = (setting : Setting) → IsSetting setting → (events : List Event) (c v f : ℕ) (flags : PageFlags)
-    → IsRun setting (Decides c (Touch v) (reply.Ok (Page f flags)) ∷ events)
+    → IsRun setting (Decides c (Touch v) (Reply.Ok (Page f flags)) ∷ events)
     → (w : World) → IsSplit w (after setting events) → w.frame f ≡ side w (after setting events) c

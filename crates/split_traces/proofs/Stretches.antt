@@ -1,18 +1,10 @@
 -- The laws of split worlds, said of legal traces by their events.
-use Rattle.std.proofs.Common.{◌≡◌, ℕ, refl, sym, ◌∙◌, ap, subst, List, [], ◌∷◌, ◌++◌, Option, Some, None}
-use Rattle.split_laws.specs.world_laws.specs.spk_nums.specs.Setting.{Setting, IsSetting}
-use Rattle.split_laws.specs.world_laws.specs.spk_nums.specs.declared.calls.Call.{Call}
-use Rattle.split_laws.specs.world_laws.specs.spk_nums.specs.declared.replies.Reply.{Reply}
-use Rattle.split_laws.specs.world_laws.specs.kernel_rules.specs.State.{State}
-use Rattle.split_laws.specs.world_laws.specs.kernel_rules.specs.Runs.{Event, Enters, Decides, Returns, after, IsRun}
-use Rattle.kernel_history.specs.Trace.{Trace, Phase, Out, Open, Decided, phase, after_enter, state_after}
-use Rattle.kernel_history.specs.Events.{with_entry, with_decision, with_return, events_of}
-use Rattle.kernel_history.specs.Legal.{IsLegal}
-use Rattle.kernel_history.proofs.Events.{state_is, run_of}
-use Rattle.split_laws.specs.Split.{IsSplit, AgreeIn}
-use Rattle.split_laws.proofs.Splitting.{split_for_good}
-use Rattle.split_laws.proofs.Silence.{others_are_silent}
+use Rattle.kernel_history.proofs.{◌≡◌, ℕ, refl, sym, ◌∙◌, ap, subst, List, [], ◌∷◌, ◌++◌, Option, Some, None, Setting, IsSetting, Call}
+use Rattle.kernel_history.proofs.{Reply, State, Event, Enters, Decides, Returns, after, IsRun, Phase, Out, Decided, phase, after_enter}
+use Rattle.kernel_history.proofs.{state_after, with_entry, with_decision, with_return, events_of, IsLegal, state_is, run_of}
 use Rattle.split_traces.specs.Traces.{events_since, StretchesStaySplit, hushed_since, StretchesAreSilent}
+use Rattle.{split_laws.specs.IsSplit, split_laws.specs.AgreeIn, kernel_history.specs.Trace.Trace, kernel_history.specs.Trace.Open}
+use Rattle.{split_laws.proofs.Splitting.split_for_good, split_laws.proofs.Silence.others_are_silent}
 
 -- ---- the events of a longer trace are those since a shorter one, and the shorter one's
 

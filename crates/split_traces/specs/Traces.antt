@@ -1,11 +1,8 @@
 -- Split worlds in legal traces: what stays so over any stretch of steps of all cores, and what the others leave of it.
-use Rattle.std.specs.Prelude.{◌≡◌, List, [], ◌∷◌, ◌++◌}
-use Rattle.split_laws.specs.world_laws.specs.spk_nums.specs.Setting.{Setting, IsSetting}
-use Rattle.split_laws.specs.world_laws.specs.kernel_rules.specs.Runs.{Event, after, IsRun}
-use Rattle.kernel_history.specs.Trace.{Trace, phase, after_enter, state_after}
-use Rattle.kernel_history.specs.Events.{with_entry, with_decision, with_return, events_of}
-use Rattle.kernel_history.specs.Legal.{IsLegal}
-use Rattle.split_laws.specs.Split.{World, IsSplit, KeepsNumbers, TellsInside, AgreeIn, hushed, told_inside}
+use Rattle.kernel_history.specs.{◌≡◌, List, [], ◌∷◌, ◌++◌, Setting, IsSetting, Event, after, IsRun, phase, after_enter, state_after}
+use Rattle.kernel_history.specs.{with_entry, with_decision, with_return, events_of, IsLegal}
+use Rattle.split_laws.specs.Split.{KeepsNumbers, TellsInside, hushed, told_inside}
+use Rattle.{split_laws.specs.World, split_laws.specs.IsSplit, split_laws.specs.AgreeIn, kernel_history.specs.Trace.Trace}
 
 -- The events of the steps u, made after t, the newest first.
 abbrev pub events_since : Trace → Trace → List Event

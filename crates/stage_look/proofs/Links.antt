@@ -1,12 +1,8 @@
 -- The word of a link to a frame of the machine shows that link.
-use Rattle.std.proofs.Common.{◌≡◌, ℕ, ◌+◌, ◌/◌, ◌%◌, ◌<◌, ◌≤◌, Some, refl, arith}
-use Rattle.std.proofs.lemmas.Bool.{le-leb}
-use Rattle.spk_nums.specs.Capability.{cap_of}
-use Rattle.spk_nums.specs.declared.kinds.Kind.TheVariants.{Link}
-use Rattle.entry_words.specs.EntryWord.{EntryFits, word_of_entry, entry_of_word}
-use Rattle.entry_words.specs.declared.entry.Entry.TheVariants.{Held}
-use Rattle.entry_words.proofs.Spelling.{entry_reads}
-use Rattle.stage_look.specs.Shown.{shown_in}
+use Rattle.std.proofs.Common.{◌≡◌, ℕ, ◌+◌, ◌/◌, ◌%◌, ◌<◌, ◌≤◌, Some, refl, arith, le-leb}
+use Rattle.{entry_words.specs.EntryFits, entry_words.specs.word_of_entry, entry_words.specs.entry_of_word, spk_nums.specs.Capability.cap_of}
+use Rattle.{spk_nums.specs.declared.kinds.Kind.TheVariants.Link, entry_words.specs.declared.entry.Entry.TheVariants.Held}
+use Rattle.{entry_words.proofs.Spelling.entry_reads, stage_look.specs.Shown.shown_in}
 
 -- its word has the number of its kind, and its leaf above that
 word_of_link : (leaf word : ℕ) → word % 64 ≡ 37 → leaf ≡ word / 64 → word_of_entry (Held (cap_of Link leaf 0)) ≡ word

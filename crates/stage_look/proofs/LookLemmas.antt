@@ -1,18 +1,13 @@
 -- A look-up stays on the frames of the machine, whatever words it finds.
-use Rattle.std.proofs.Common.{◌≡◌, ℕ, ◌%◌, ◌<◌, ◌≤◌, Bool, true, false, nat_le, Option, Some, None, IfSome, refl, arith}
-use Rattle.std.proofs.lemmas.Bool.{leb-true}
-use Rattle.spk_nums.specs.Capability.{Capability}
-use Rattle.spk_nums.specs.declared.kinds.Kind.{Kind}
-use Rattle.spk_nums.specs.declared.kinds.Kind.TheVariants.{Link}
-use Rattle.entry_words.specs.EntryWord.{entry_of_word}
-use Rattle.entry_words.specs.declared.entry.Entry.{Entry}
+use Rattle.std.proofs.Common.{◌≡◌, ℕ, ◌%◌, ◌<◌, ◌≤◌, Bool, true, false, nat_le, Option, Some, None, IfSome, refl, arith, leb-true}
+use Rattle.stage_look.specs.{end_of_frames, CapNames, EntryNames, held_if, entry_within, shown_in, is_link, LookFits, look_move}
+use Rattle.stage_look.specs.{end_by_link, place_end, look_end, after_link, look_after}
+use Rattle.word_map.specs.{Shape, IsIn, word_of}
+use Rattle.spk_nums.specs.{Capability.Capability, declared.kinds.Kind.Kind, declared.kinds.Kind.TheVariants.Link}
 use Rattle.entry_words.specs.declared.entry.Entry.TheVariants.{Free, Held, Closing, Quiescing}
-use Rattle.word_map.specs.Places.{Shape, IsIn}
-use Rattle.word_map.specs.Moves.{word_of}
-use Rattle.stage_look.specs.Shown.{end_of_frames, CapNames, EntryNames, held_if, entry_within, shown_in, is_link}
-use Rattle.stage_look.specs.Lookup.{LookFits, look_move, end_by_link, place_end, look_end, after_link, look_after, EndFits}
-use Rattle.stage_look.specs.declared.look.Look.{Look}
-use Rattle.stage_look.specs.declared.look.Look.TheVariants.{AtRoot, AtLeaf, AtEntry}
+use Rattle.stage_look.specs.{Lookup.EndFits, declared.look.Look.Look, declared.look.Look.TheVariants.AtRoot}
+use Rattle.stage_look.specs.{declared.look.Look.TheVariants.AtLeaf, declared.look.Look.TheVariants.AtEntry}
+use Rattle.{entry_words.specs.EntryWord.entry_of_word, entry_words.specs.declared.entry.Entry.Entry}
 
 held_names : (within : Bool) (frames : ℕ) (k : Capability)
     → within ≡ nat_le (end_of_frames k.kind k.frame k.arg) frames → IfSome (held_if within k) (EntryNames frames)

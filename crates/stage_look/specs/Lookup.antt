@@ -1,17 +1,12 @@
 -- The steps of a look-up, and what each takes from the word that it finds.
 use Rattle.std.specs.Prelude.{ℕ, ◌/◌, ◌%◌, ◌<◌, ◌≤◌, ◌==◌, ◌&&◌, nat_lt, is_some, Bool, false, Option, Some, None, if◌then◌else◌}
-use Rattle.spk_nums.specs.declared.replies.Reply.TheVariants as reply
-use Rattle.spk_nums.specs.declared.steps.StageEnd.{StageEnd}
+use Rattle.word_map.specs.{EntryAt, Shape, Move, LoadOf}
 use Rattle.spk_nums.specs.declared.steps.StageEnd.TheVariants.{Going, Decided, Done, Refuse}
-use Rattle.entry_words.specs.declared.entry.Entry.{Entry}
 use Rattle.entry_words.specs.declared.entry.Entry.TheVariants.{Free, Held, Closing, Quiescing}
-use Rattle.word_map.specs.Word.{EntryAt}
-use Rattle.word_map.specs.Places.{Shape}
-use Rattle.word_map.specs.Moves.{Move, LoadOf}
-use Rattle.stage_look.specs.Shown.{EntryNames, is_link}
-use Rattle.stage_look.specs.declared.look.Look.{Look}
-use Rattle.stage_look.specs.declared.look.Look.TheVariants.{AtRoot, AtLeaf, AtEntry}
-use Rattle.stage_look.specs.declared.look.Found.{Found}
+use Rattle.stage_look.specs.{Shown.EntryNames, Shown.is_link, declared.look.Look.Look, declared.look.Look.TheVariants.AtRoot}
+use Rattle.stage_look.specs.{declared.look.Look.TheVariants.AtLeaf, declared.look.Look.TheVariants.AtEntry, declared.look.Found.Found}
+use Rattle.{spk_nums.specs.declared.steps.StageEnd.StageEnd, spk_nums.specs.declared.replies.Reply.Reply}
+use Rattle.{entry_words.specs.declared.entry.Entry.Entry}
 
 -- a look-up names a frame of the machine; its number has a root entry, its root entry is one of the node's
 abbrev pub LookFits : Shape → Look → Type 0
@@ -27,15 +22,15 @@ look_move (AtEntry root entry) = LoadOf (EntryAt root entry)
 
 -- after a root entry that holds a link the leaf is loaded; one that holds another capability leads to no slot
 abbrev pub end_by_link : Bool → StageEnd Found
-end_by_link linked = if linked then Going else Refuse reply.NoSlot
+end_by_link linked = if linked then Going else Refuse Reply.NoSlot
 
 -- what the word of a root entry leads to
 abbrev pub root_end : Option Entry → StageEnd Found
-root_end None = Refuse reply.Raced
-root_end (Some Free) = Refuse reply.NoSlot
+root_end None = Refuse Reply.Raced
+root_end (Some Free) = Refuse Reply.NoSlot
 root_end (Some (Held k)) = end_by_link (is_link k.kind)
-root_end (Some (Closing by)) = Refuse (reply.Busy by)
-root_end (Some (Quiescing stamp)) = Refuse reply.NoSlot
+root_end (Some (Closing by)) = Refuse (Reply.Busy by)
+root_end (Some (Quiescing stamp)) = Refuse Reply.NoSlot
 
 -- the place that was looked for, and what its word shows
 abbrev pub found_at : ℕ → ℕ → ℕ → Entry → Found
@@ -43,10 +38,10 @@ found_at node entry word value = record { node = node; entry = entry; word = wor
 
 -- what the word of the place that is looked for leads to
 abbrev pub place_end : ℕ → ℕ → ℕ → Option Entry → StageEnd Found
-place_end node entry word None = Refuse reply.Raced
+place_end node entry word None = Refuse Reply.Raced
 place_end node entry word (Some Free) = Done (found_at node entry word Free)
 place_end node entry word (Some (Held k)) = Done (found_at node entry word (Held k))
-place_end node entry word (Some (Closing by)) = Refuse (reply.Busy by)
+place_end node entry word (Some (Closing by)) = Refuse (Reply.Busy by)
 place_end node entry word (Some (Quiescing stamp)) = Done (found_at node entry word (Quiescing stamp))
 
 -- what a step leads to that finds this word, which shows this

@@ -1,11 +1,9 @@
 -- The counts that a call has acquired stay counts of the machine, and so do their commits.
 use Rattle.std.proofs.Common.{ℕ, Bool, true, false, Option, List, [], ◌∷◌, ◌++◌, length, nat_lt, IfSome}
-use Rattle.std.proofs.lemmas.Bool.{cond_both}
+use Rattle.stage_pins.specs.{pushed, commit_of, AcquiredFits, AllFit}
 use Rattle.std.proofs.lemmas.List.Elements.{All-nil, All-head, All-tail, All-push}
-use Rattle.word_map.specs.Places.{Shape}
-use Rattle.stage_pins.specs.Commit.{SettleFits}
-use Rattle.stage_pins.specs.Held.{pushed, first_of, rest_of, commit_of, AcquiredFits, AllFit}
-use Rattle.stage_pins.specs.declared.held.Acquired.{Acquired}
+use Rattle.stage_pins.specs.{Commit.SettleFits, Held.first_of, Held.rest_of, declared.held.Acquired.Acquired}
+use Rattle.{std.proofs.lemmas.Bool.cond_both, word_map.specs.Places.Shape}
 
 -- none is acquired at first
 pub none_fit : (s : Shape) → AllFit s []

@@ -1,30 +1,20 @@
 -- Acquiring a count stays on its word and within its range, whatever words are found.
 use Rattle.std.proofs.Common.{◌≡◌, ℕ, ℤ, pos, negsuc, ◌+ℤ◌, ◌<◌, ◌∙◌, Option, Some, None, refl, ap, sym, arith}
-use Rattle.std.proofs.lemmas.Int.{ints}
-use Rattle.spk_nums.specs.declared.steps.StageEnd.TheVariants.{Going}
-use Rattle.frame_words.specs.Count.{NumberFits, word_of_count, count_of_word}
-use Rattle.frame_words.specs.declared.count_word.CountWord.{CountWord}
-use Rattle.frame_words.specs.declared.count_word.Hold.{Hold}
-use Rattle.frame_words.specs.declared.count_word.Hold.TheVariants as hold
-use Rattle.frame_words.specs.Residue.{wrapped}
+use Rattle.stage_pins.specs.{unheld, changed, PinFits, pinned_at, pin_move, pin_after, pin_end, load_end, end_by_hold, after_load}
+use Rattle.word_map.specs.{CountAt, Shape, IsIn, word_of, StoreOf}
+use Rattle.frame_words.specs.{NumberFits, word_of_count, count_of_word, wrapped}
+use Rattle.frame_words.specs.{declared.count_word.CountWord.CountWord, declared.count_word.Hold.Hold}
+use Rattle.stage_pins.specs.{Acquire.expected_by, Acquire.after_hold, Commit.SettleFits, declared.pin.Pin.Pin}
+use Rattle.stage_pins.specs.{declared.pin.Pin.TheVariants.AtLoad, declared.pin.Pin.TheVariants.AtCompare, declared.settle.Settle.Settle}
+use Rattle.{stage_pins.specs.settle_move, std.proofs.lemmas.Int.ints, spk_nums.specs.declared.steps.StageEnd.TheVariants.Going}
+use Rattle.{frame_words.proofs.ResidueLemmas.wrapped_same}
 use Rattle.frame_words.proofs.CountLemmas as counts
-use Rattle.frame_words.proofs.ResidueLemmas.{wrapped_same}
-use Rattle.word_map.specs.Word.{CountAt}
-use Rattle.word_map.specs.Places.{Shape, IsIn}
-use Rattle.word_map.specs.Moves.{word_of, StoreOf}
-use Rattle.stage_pins.specs.Counts.{unheld, changed}
-use Rattle.stage_pins.specs.Acquire.{PinFits, pinned_at, pin_move, expected_by, pin_after}
-use Rattle.stage_pins.specs.Acquire.{pin_end, load_end, end_by_hold, after_hold, after_load}
-use Rattle.stage_pins.specs.Commit.{SettleFits, settle_move}
-use Rattle.stage_pins.specs.declared.pin.Pin.{Pin}
-use Rattle.stage_pins.specs.declared.pin.Pin.TheVariants.{AtLoad, AtCompare}
-use Rattle.stage_pins.specs.declared.settle.Settle.{Settle}
 
 after_hold_fits : (s : Shape) (frame core : ℕ) (count : ℤ) (stamp : ℕ) (h : Hold)
     → NumberFits count → frame < s.frames → core < s.cores → PinFits s (after_hold frame core count stamp h)
-after_hold_fits s frame core count stamp hold.Unheld n f c = (f, c, n)
-after_hold_fits s frame core count stamp (hold.Pinned by) n f c = (f, c)
-after_hold_fits s frame core count stamp (hold.Closed by) n f c = (f, c)
+after_hold_fits s frame core count stamp Hold.Unheld n f c = (f, c, n)
+after_hold_fits s frame core count stamp (Hold.Pinned by) n f c = (f, c)
+after_hold_fits s frame core count stamp (Hold.Closed by) n f c = (f, c)
 
 after_load_fits : (s : Shape) (frame core found : ℕ) (o : Option CountWord) → count_of_word found ≡ o
     → frame < s.frames → core < s.cores → PinFits s (after_load frame core o)
@@ -48,10 +38,10 @@ settle_is_in s c h = (h.frame, h.core)
 
 expects_by_hold : (frame core found : ℕ) (v : CountWord) (h : Hold) → v.hold ≡ h → word_of_count v ≡ found → end_by_hold h ≡ Going
     → expected_by (pin_move (after_hold frame core v.count v.stamp h)) ≡ Some found
-expects_by_hold frame core found v hold.Unheld is spells goes =
+expects_by_hold frame core found v Hold.Unheld is spells goes =
     ap (λ k. Some (word_of_count (record { hold = k; count = v.count; stamp = v.stamp }))) (sym is) ∙ ap Some spells
-expects_by_hold frame core found v (hold.Pinned by) is spells goes = absurd (cc)
-expects_by_hold frame core found v (hold.Closed by) is spells goes = absurd (cc)
+expects_by_hold frame core found v (Hold.Pinned by) is spells goes = absurd (cc)
+expects_by_hold frame core found v (Hold.Closed by) is spells goes = absurd (cc)
 
 expects_by_load : (frame core found : ℕ) (o : Option CountWord) → count_of_word found ≡ o → load_end o ≡ Going
     → expected_by (pin_move (after_load frame core o)) ≡ Some found

@@ -1,19 +1,12 @@
 -- The steps by which a core acquires its count of a frame, and what each takes from the word that it finds.
 use Rattle.std.specs.Prelude.{ℕ, ℤ, ◌<◌, ◌==◌, Bool, Option, Some, None, if◌then◌else◌}
-use Rattle.spk_nums.specs.declared.replies.Reply.TheVariants as reply
-use Rattle.spk_nums.specs.declared.steps.StageEnd.{StageEnd}
+use Rattle.word_map.specs.{CountAt, Shape, Move, LoadOf, CompareOf, StoreOf, AddOf}
+use Rattle.frame_words.specs.{NumberFits, word_of_count, count_of_word}
 use Rattle.spk_nums.specs.declared.steps.StageEnd.TheVariants.{Going, Decided, Done, Refuse}
-use Rattle.frame_words.specs.Count.{NumberFits, word_of_count, count_of_word}
-use Rattle.frame_words.specs.declared.count_word.CountWord.{CountWord}
-use Rattle.frame_words.specs.declared.count_word.Hold.{Hold}
-use Rattle.frame_words.specs.declared.count_word.Hold.TheVariants as hold
-use Rattle.word_map.specs.Word.{CountAt}
-use Rattle.word_map.specs.Places.{Shape}
-use Rattle.word_map.specs.Moves.{Move, LoadOf, CompareOf, StoreOf, AddOf}
-use Rattle.stage_pins.specs.Counts.{unheld, acquired}
-use Rattle.stage_pins.specs.declared.pin.Pin.{Pin}
-use Rattle.stage_pins.specs.declared.pin.Pin.TheVariants.{AtLoad, AtCompare}
-use Rattle.stage_pins.specs.declared.pin.Pinned.{Pinned}
+use Rattle.frame_words.specs.{declared.count_word.CountWord.CountWord, declared.count_word.Hold.Hold}
+use Rattle.stage_pins.specs.{Counts.unheld, Counts.acquired, declared.pin.Pin.Pin, declared.pin.Pin.TheVariants.AtLoad}
+use Rattle.stage_pins.specs.{declared.pin.Pin.TheVariants.AtCompare, declared.pin.Pinned.Pinned}
+use Rattle.{spk_nums.specs.declared.steps.StageEnd.StageEnd, spk_nums.specs.declared.replies.Reply.Reply}
 
 -- a count that was found is within its range
 abbrev pub PinCounts : Pin → Type 0
@@ -40,13 +33,13 @@ expected_by (AddOf w by) = None
 
 -- a word that a core holds is busy
 abbrev pub end_by_hold : Hold → StageEnd Pinned
-end_by_hold hold.Unheld = Going
-end_by_hold (hold.Pinned by) = Refuse (reply.Busy by)
-end_by_hold (hold.Closed by) = Refuse (reply.Busy by)
+end_by_hold Hold.Unheld = Going
+end_by_hold (Hold.Pinned by) = Refuse (Reply.Busy by)
+end_by_hold (Hold.Closed by) = Refuse (Reply.Busy by)
 
 -- what the loaded word leads to
 abbrev pub load_end : Option CountWord → StageEnd Pinned
-load_end None = Refuse reply.Raced
+load_end None = Refuse Reply.Raced
 load_end (Some v) = end_by_hold v.hold
 
 -- the count that a core has acquired: the word as it was found, held by no core
@@ -55,7 +48,7 @@ pinned_at frame core count stamp = record { frame = frame; core = core; word = u
 
 -- what the compare leads to, where it did or did not find the word that was loaded
 abbrev pub compare_end : Bool → Pinned → StageEnd Pinned
-compare_end same pin = if same then Done pin else Refuse reply.Raced
+compare_end same pin = if same then Done pin else Refuse Reply.Raced
 
 -- what a step leads to that finds this word
 abbrev pub pin_end : Pin → ℕ → StageEnd Pinned
@@ -65,9 +58,9 @@ pin_end (AtCompare frame core count stamp) found =
 
 -- where it stands after a load of a word that is held thus
 abbrev pub after_hold : ℕ → ℕ → ℤ → ℕ → Hold → Pin
-after_hold frame core count stamp hold.Unheld = AtCompare frame core count stamp
-after_hold frame core count stamp (hold.Pinned by) = AtLoad frame core
-after_hold frame core count stamp (hold.Closed by) = AtLoad frame core
+after_hold frame core count stamp Hold.Unheld = AtCompare frame core count stamp
+after_hold frame core count stamp (Hold.Pinned by) = AtLoad frame core
+after_hold frame core count stamp (Hold.Closed by) = AtLoad frame core
 
 -- where it stands after a load of this word
 abbrev pub after_load : ℕ → ℕ → Option CountWord → Pin

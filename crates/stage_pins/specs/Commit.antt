@@ -1,12 +1,7 @@
 -- The step that commits an acquired count.
-use Rattle.frame_words.specs.Count.{word_of_count}
-use Rattle.frame_words.specs.declared.count_word.CountWord.{CountWord}
-use Rattle.word_map.specs.Word.{CountAt}
-use Rattle.word_map.specs.Places.{Shape}
-use Rattle.word_map.specs.Moves.{Move, StoreOf}
-use Rattle.stage_pins.specs.Counts.{unheld, changed, later}
-use Rattle.stage_pins.specs.Acquire.{PinnedFits}
-use Rattle.stage_pins.specs.declared.settle.Settle.{Settle}
+use Rattle.word_map.specs.{CountAt, Shape, Move, StoreOf}
+use Rattle.frame_words.specs.{Count.word_of_count, declared.count_word.CountWord.CountWord}
+use Rattle.stage_pins.specs.{Counts.unheld, Counts.changed, Counts.later, Acquire.PinnedFits, declared.settle.Settle.Settle}
 
 -- the count to be committed is that of a frame and a core of the machine, and within its range
 abbrev pub SettleFits : Shape → Settle → Type 0

@@ -1,8 +1,7 @@
 -- Count words that are held by no core, or acquired by one, and how a count changes.
 use Rattle.std.specs.Prelude.{ℕ, ℤ, ◌+ℤ◌, max, Option, Some, None}
-use Rattle.frame_words.specs.Residue.{wrapped}
-use Rattle.frame_words.specs.declared.count_word.CountWord.{CountWord}
-use Rattle.frame_words.specs.declared.count_word.Hold.TheVariants.{Unheld, Pinned}
+use Rattle.frame_words.specs.{Residue.wrapped, declared.count_word.CountWord.CountWord, declared.count_word.Hold.TheVariants.Unheld}
+use Rattle.frame_words.specs.{declared.count_word.Hold.TheVariants.Pinned}
 
 -- the count word that no core holds
 abbrev pub unheld : ℤ → ℕ → CountWord

@@ -1,10 +1,7 @@
 -- The counts that a call has acquired, the earliest first, and the commit of each.
-use Rattle.std.specs.Prelude.{ℕ, ℤ, pos, negsuc, Bool, true, false, nat_lt, Option, Some}
-use Rattle.std.specs.Prelude.{None, List, [], ◌∷◌, ◌++◌, length, All, if◌then◌else◌}
-use Rattle.word_map.specs.Places.{Shape}
-use Rattle.stage_pins.specs.Acquire.{PinnedFits}
-use Rattle.stage_pins.specs.declared.held.Acquired.{Acquired}
-use Rattle.stage_pins.specs.declared.settle.Settle.{Settle}
+use Rattle.std.specs.Prelude.{ℕ, ℤ, pos, negsuc, Bool, true, false, nat_lt, Option, Some, None, List, [], ◌∷◌, ◌++◌, length, All}
+use Rattle.stage_pins.specs.{Acquire.PinnedFits, declared.held.Acquired.Acquired, declared.settle.Settle.Settle}
+use Rattle.{std.specs.Prelude.if◌then◌else◌, word_map.specs.Places.Shape}
 
 -- the counts after one more is acquired; four stay as they are
 abbrev pub pushed : List Acquired → Acquired → List Acquired

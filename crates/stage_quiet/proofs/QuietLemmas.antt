@@ -1,21 +1,12 @@
 -- The scans and the steps of a removal and of a flush stay on the words of the machine, whatever words are found.
-use Rattle.std.proofs.Common.{◌≡◌, ◌≢◌, ℕ, ◌+◌, ◌==◌, ◌<◌, ◌≤◌, ◌^◌, Bool, true, false}
-use Rattle.std.proofs.Common.{nat_lt, Option, Some, None, IfSome, if◌then◌else◌, refl, arith}
-use Rattle.std.proofs.lemmas.Bool.{ltb-true}
-use Rattle.spk_nums.specs.declared.replies.Reply.{Reply}
-use Rattle.word_map.specs.Places.{Shape, IsIn}
-use Rattle.word_map.specs.Moves.{word_of}
-use Rattle.stage_quiet.specs.Clocks.{stamp_of_clock, drawn_stamp}
-use Rattle.stage_quiet.specs.Scan.{QuietFits, quiet_move, first_other, next_other, flush_scan, core_scan}
-use Rattle.stage_quiet.specs.Scan.{quiet_scan, quiet_next, quiet_refuses, scan_after, quiet_after}
-use Rattle.stage_quiet.specs.Removal.{CloseFits, close_move, close_at, close_after}
-use Rattle.stage_quiet.specs.Flushing.{FlushMarkFits, flush_move, flush_after}
-use Rattle.stage_quiet.specs.declared.quiet.Quiet.{Quiet}
-use Rattle.stage_quiet.specs.declared.quiet.Quiet.TheVariants.{AtCore, AtFlush}
-use Rattle.stage_quiet.specs.declared.close.Close.{Close}
-use Rattle.stage_quiet.specs.declared.close.Close.TheVariants as close
-use Rattle.stage_quiet.specs.declared.flush_mark.FlushMark.{FlushMark}
-use Rattle.stage_quiet.specs.declared.flush_mark.FlushMark.TheVariants as mark
+use Rattle.std.proofs.Common.{◌≡◌, ◌≢◌, ℕ, ◌+◌, ◌==◌, ◌<◌, ◌≤◌, ◌^◌, Bool, true, false, nat_lt, Option, Some, None, IfSome, if◌then◌else◌}
+use Rattle.stage_quiet.specs.{stamp_of_clock, drawn_stamp, QuietFits, quiet_move, first_other, next_other, flush_scan, core_scan}
+use Rattle.stage_quiet.specs.{quiet_scan, quiet_next, quiet_refuses, scan_after, quiet_after, CloseFits, close_move, close_at, close_after}
+use Rattle.stage_quiet.specs.{Flushing.FlushMarkFits, Flushing.flush_after, declared.quiet.Quiet.Quiet}
+use Rattle.stage_quiet.specs.{declared.quiet.Quiet.TheVariants.AtCore, declared.quiet.Quiet.TheVariants.AtFlush, declared.close.Close.Close}
+use Rattle.{std.proofs.Common.refl, std.proofs.Common.arith, std.proofs.Common.ltb-true, stage_quiet.specs.flush_move, word_map.specs.Shape}
+use Rattle.{word_map.specs.IsIn, word_map.specs.word_of, spk_nums.specs.declared.replies.Reply.Reply}
+use Rattle.{stage_quiet.specs.declared.flush_mark.FlushMark.FlushMark}
 
 -- the next step of a scan is on a word of the machine
 pub quiet_is_in : (s : Shape) (q : Quiet) → QuietFits s q → IsIn s (word_of (quiet_move q))
@@ -66,9 +57,9 @@ quiet_after_fits s q found h = scan_after_fits s q (quiet_refuses q found) (quie
 
 -- each step of a removal is on a word of the machine
 pub close_is_in : (s : Shape) (c : Close) → CloseFits s c → IsIn s (word_of (close_move c))
-close_is_in s (close.AtCompare node entry word core) h = h
-close_is_in s (close.AtDraw node entry) h = tt
-close_is_in s (close.AtStore node entry stamp) h = (h.0, h.1)
+close_is_in s (Close.AtCompare node entry word core) h = h
+close_is_in s (Close.AtDraw node entry) h = tt
+close_is_in s (Close.AtStore node entry stamp) h = (h.0, h.1)
 
 -- a drawn stamp is within its range, and is the clock itself where that is
 pub drawn_in_range : (clock : ℕ) → (1 ≤ drawn_stamp clock) × (drawn_stamp clock < 2 ^ 43)
@@ -90,15 +81,15 @@ close_compared_fits s true node entry word core h = h
 close_compared_fits s false node entry word core h = h
 
 pub close_after_fits : (s : Shape) (c : Close) (found : ℕ) → CloseFits s c → CloseFits s (close_after c found)
-close_after_fits s (close.AtCompare node entry word core) found h = close_compared_fits s (found == word) node entry word core h
-close_after_fits s (close.AtDraw node entry) found h = (h.0, h.1, (drawn_in_range found).0)
-close_after_fits s (close.AtStore node entry stamp) found h = h
+close_after_fits s (Close.AtCompare node entry word core) found h = close_compared_fits s (found == word) node entry word core h
+close_after_fits s (Close.AtDraw node entry) found h = (h.0, h.1, (drawn_in_range found).0)
+close_after_fits s (Close.AtStore node entry stamp) found h = h
 
 -- each step of the noting of a flush is on a word of the machine
 pub flush_is_in : (s : Shape) (m : FlushMark) → FlushMarkFits s m → IsIn s (word_of (flush_move m))
-flush_is_in s (mark.AtLoad core) h = tt
-flush_is_in s (mark.AtStore core stamp) h = h
+flush_is_in s (FlushMark.AtLoad core) h = tt
+flush_is_in s (FlushMark.AtStore core stamp) h = h
 
 pub flush_after_fits : (s : Shape) (m : FlushMark) (found : ℕ) → FlushMarkFits s m → FlushMarkFits s (flush_after m found)
-flush_after_fits s (mark.AtLoad core) found h = h
-flush_after_fits s (mark.AtStore core stamp) found h = h
+flush_after_fits s (FlushMark.AtLoad core) found h = h
+flush_after_fits s (FlushMark.AtStore core stamp) found h = h

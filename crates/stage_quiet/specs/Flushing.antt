@@ -1,16 +1,11 @@
 -- The steps by which a core notes that it has flushed.
+use Rattle.word_map.specs.{FlushAt, ClockAt, Shape, Move, LoadOf, StoreOf}
 use Rattle.std.specs.Prelude.{ℕ, ◌<◌}
-use Rattle.spk_nums.specs.declared.replies.Reply.TheVariants as reply
-use Rattle.spk_nums.specs.declared.replies.Value.TheVariants as value
-use Rattle.spk_nums.specs.declared.steps.StageEnd.{StageEnd}
-use Rattle.spk_nums.specs.declared.steps.StageEnd.TheVariants.{Decided, Done}
+use Rattle.spk_nums.specs.{declared.steps.StageEnd.StageEnd, declared.steps.StageEnd.TheVariants.Decided}
+use Rattle.spk_nums.specs.{declared.steps.StageEnd.TheVariants.Done, declared.replies.Reply.Reply, declared.replies.Value.Value}
 use Rattle.frame_words.specs.Flush.{word_of_flush}
-use Rattle.word_map.specs.Word.{FlushAt, ClockAt}
-use Rattle.word_map.specs.Places.{Shape}
-use Rattle.word_map.specs.Moves.{Move, LoadOf, StoreOf}
-use Rattle.stage_quiet.specs.Clocks.{stamp_of_clock}
-use Rattle.stage_quiet.specs.declared.flush_mark.FlushMark.{FlushMark}
-use Rattle.stage_quiet.specs.declared.flush_mark.FlushMark.TheVariants.{AtLoad, AtStore}
+use Rattle.stage_quiet.specs.{Clocks.stamp_of_clock, declared.flush_mark.FlushMark.FlushMark}
+use Rattle.stage_quiet.specs.{declared.flush_mark.FlushMark.TheVariants.AtLoad, declared.flush_mark.FlushMark.TheVariants.AtStore}
 
 -- the core is one of the machine
 abbrev pub FlushMarkFits : Shape → FlushMark → Type 0
@@ -24,7 +19,7 @@ flush_move (AtStore core stamp) = StoreOf (FlushAt core) (word_of_flush (record 
 
 -- what a step leads to: the load decides the flush
 abbrev pub flush_end : FlushMark → StageEnd (Unit {0})
-flush_end (AtLoad core) = Decided (reply.Ok value.Nothing)
+flush_end (AtLoad core) = Decided (Reply.Ok Value.Nothing)
 flush_end (AtStore core stamp) = Done tt
 
 -- where it stands after a step that finds this word

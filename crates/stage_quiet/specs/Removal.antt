@@ -1,17 +1,12 @@
 -- The steps of a removal, from the compare of the entry to the store of the quiescing one.
+use Rattle.word_map.specs.{EntryAt, ClockAt, Shape, Move, CompareOf, StoreOf, AddOf}
 use Rattle.std.specs.Prelude.{ℕ, ◌<◌, ◌≤◌, ◌==◌, Bool, if◌then◌else◌}
-use Rattle.spk_nums.specs.declared.replies.Reply.TheVariants as reply
-use Rattle.spk_nums.specs.declared.replies.Value.TheVariants as value
-use Rattle.spk_nums.specs.declared.steps.StageEnd.{StageEnd}
-use Rattle.spk_nums.specs.declared.steps.StageEnd.TheVariants.{Going, Decided, Done, Refuse}
-use Rattle.entry_words.specs.EntryWord.{word_of_entry}
-use Rattle.entry_words.specs.declared.entry.Entry.TheVariants.{Closing, Quiescing}
-use Rattle.word_map.specs.Word.{EntryAt, ClockAt}
-use Rattle.word_map.specs.Places.{Shape}
-use Rattle.word_map.specs.Moves.{Move, CompareOf, StoreOf, AddOf}
-use Rattle.stage_quiet.specs.Clocks.{drawn_stamp}
-use Rattle.stage_quiet.specs.declared.close.Close.{Close}
-use Rattle.stage_quiet.specs.declared.close.Close.TheVariants.{AtCompare, AtDraw, AtStore}
+use Rattle.spk_nums.specs.{declared.steps.StageEnd.StageEnd, declared.steps.StageEnd.TheVariants.Going}
+use Rattle.spk_nums.specs.{declared.steps.StageEnd.TheVariants.Decided, declared.steps.StageEnd.TheVariants.Done}
+use Rattle.spk_nums.specs.{declared.steps.StageEnd.TheVariants.Refuse, declared.replies.Reply.Reply, declared.replies.Value.Value}
+use Rattle.entry_words.specs.{EntryWord.word_of_entry, declared.entry.Entry.TheVariants.Closing, declared.entry.Entry.TheVariants.Quiescing}
+use Rattle.stage_quiet.specs.{Clocks.drawn_stamp, declared.close.Close.Close, declared.close.Close.TheVariants.AtCompare}
+use Rattle.stage_quiet.specs.{declared.close.Close.TheVariants.AtDraw, declared.close.Close.TheVariants.AtStore}
 
 -- the entry is that of a node of the machine, and a stamp that was drawn is at least 1
 abbrev pub CloseFits : Shape → Close → Type 0
@@ -27,12 +22,12 @@ close_move (AtStore node entry stamp) = StoreOf (EntryAt node entry) (word_of_en
 
 -- what the compare leads to, where it did or did not find the entry
 abbrev pub close_compared : Bool → StageEnd ℕ
-close_compared same = if same then Going else Refuse reply.Raced
+close_compared same = if same then Going else Refuse Reply.Raced
 
 -- what a step leads to that finds this word: the draw decides the removal
 abbrev pub close_end : Close → ℕ → StageEnd ℕ
 close_end (AtCompare node entry word core) found = close_compared (found == word)
-close_end (AtDraw node entry) found = Decided (reply.Ok value.Nothing)
+close_end (AtDraw node entry) found = Decided (Reply.Ok Value.Nothing)
 close_end (AtStore node entry stamp) found = Done stamp
 
 -- where it stands after the compare, which did or did not find the entry

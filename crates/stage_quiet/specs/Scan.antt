@@ -1,18 +1,11 @@
 -- The scan of the other cores' words, and of all flush words, for a stamp.
 use Rattle.std.specs.Prelude.{ℕ, ◌+◌, ◌<◌, ◌≢◌, ◌==◌, ◌&&◌, nat_lt, nat_le, Bool, true, false, Option, Some, None, if◌then◌else◌}
-use Rattle.spk_nums.specs.declared.replies.Reply.{Reply}
-use Rattle.spk_nums.specs.declared.replies.Reply.TheVariants as reply
-use Rattle.spk_nums.specs.declared.steps.StageEnd.{StageEnd}
-use Rattle.spk_nums.specs.declared.steps.StageEnd.TheVariants.{Going, Done, Refuse}
-use Rattle.frame_words.specs.Core.{core_of_word}
-use Rattle.frame_words.specs.Flush.{flush_of_word}
-use Rattle.frame_words.specs.declared.core_word.CoreWord.{CoreWord}
-use Rattle.frame_words.specs.declared.flush_word.FlushWord.{FlushWord}
-use Rattle.word_map.specs.Word.{CoreAt, FlushAt}
-use Rattle.word_map.specs.Places.{Shape}
-use Rattle.word_map.specs.Moves.{Move, LoadOf}
-use Rattle.stage_quiet.specs.declared.quiet.Quiet.{Quiet}
-use Rattle.stage_quiet.specs.declared.quiet.Quiet.TheVariants.{AtCore, AtFlush}
+use Rattle.word_map.specs.{CoreAt, FlushAt, Shape, Move, LoadOf}
+use Rattle.frame_words.specs.{core_of_word, flush_of_word}
+use Rattle.spk_nums.specs.{declared.replies.Reply.Reply, declared.steps.StageEnd.StageEnd, declared.steps.StageEnd.TheVariants.Going}
+use Rattle.spk_nums.specs.{declared.steps.StageEnd.TheVariants.Done, declared.steps.StageEnd.TheVariants.Refuse}
+use Rattle.frame_words.specs.{declared.core_word.CoreWord.CoreWord, declared.flush_word.FlushWord.FlushWord}
+use Rattle.stage_quiet.specs.{declared.quiet.Quiet.Quiet, declared.quiet.Quiet.TheVariants.AtCore, declared.quiet.Quiet.TheVariants.AtFlush}
 
 -- the core that is scanned next is one of the machine, and not the one that scans
 abbrev pub QuietFits : Shape → Quiet → Type 0
@@ -52,13 +45,13 @@ quiet_next cores (AtFlush stamp at) = if nat_lt (at + 1) cores then Some (AtFlus
 
 -- a core that is inside a call which it entered no later than the stamp is still waited for
 abbrev pub core_refuses : ℕ → ℕ → Option CoreWord → Option Reply
-core_refuses stamp at None = Some reply.Raced
-core_refuses stamp at (Some v) = if v.inside && nat_le v.stamp stamp then Some (reply.Quiescing at) else None
+core_refuses stamp at None = Some Reply.Raced
+core_refuses stamp at (Some v) = if v.inside && nat_le v.stamp stamp then Some (Reply.Quiescing at) else None
 
 -- a core that has flushed no later than the stamp is still waited for
 abbrev pub flush_refuses : ℕ → ℕ → Option FlushWord → Option Reply
-flush_refuses stamp at None = Some reply.Raced
-flush_refuses stamp at (Some v) = if nat_le v.stamp stamp then Some (reply.Unflushed at) else None
+flush_refuses stamp at None = Some Reply.Raced
+flush_refuses stamp at (Some v) = if nat_le v.stamp stamp then Some (Reply.Unflushed at) else None
 
 -- the refusal to which a word leads, if it does to one
 abbrev pub quiet_refuses : Quiet → ℕ → Option Reply

@@ -1,15 +1,10 @@
 -- Lists of count words keep their counts within their ranges.
-use Rattle.std.proofs.Common.{◌≡◌, ℕ, ◌+◌, ◌<◌, ◌≤◌, List, [], ◌∷◌, ◌++◌, length, take, get_or, zero, suc, None, arith}
-use Rattle.std.proofs.lemmas.Option.{slice_get_past}
-use Rattle.std.specs.Prelude.{slice_set, slice_get}
-use Rattle.std.proofs.lemmas.List.{take_more_set, get_or-take}
-use Rattle.spk_nums.specs.Listed.{length-listed}
-use Rattle.spk_nums.proofs.Cells.{added}
-use Rattle.frame_words.specs.Count.{NumberFits}
-use Rattle.frame_words.specs.declared.count_word.CountWord.{CountWord}
-use Rattle.stage_sweep.specs.Counters.{CountsFit}
-use Rattle.stage_sweep.specs.CountLists.{AreCounts, blank_count}
-use Rattle.stage_sweep.specs.declared.count_words.CountWords.TheInside.{Inside}
+use Rattle.std.proofs.Common.{◌≡◌, ℕ, ◌+◌, ◌<◌, ◌≤◌, List, [], ◌∷◌, ◌++◌, length, take, get_or, zero, suc, None, arith, slice_set}
+use Rattle.stage_sweep.specs.{Counters.CountsFit, CountLists.AreCounts, CountLists.blank_count}
+use Rattle.{std.proofs.Common.slice_get, std.proofs.Common.get_or-take, std.proofs.lemmas.Option.slice_get_past}
+use Rattle.{std.proofs.lemmas.List.take_more_set, spk_nums.specs.Listed.length-listed, spk_nums.proofs.Cells.added}
+use Rattle.{stage_pins.specs.frame_words.specs.Count.NumberFits, stage_pins.specs.frame_words.specs.declared.count_word.CountWord.CountWord}
+use Rattle.{stage_sweep.specs.declared.count_words.CountWords.TheInside.Inside}
 
 counts_more : (xs : List CountWord) (v : CountWord) → CountsFit xs → NumberFits v.count → CountsFit (xs ++ v ∷ [])
 counts_more [] v h n = (n, tt)

@@ -1,30 +1,21 @@
 -- A sweep stays on the words of the machine while it goes on, whatever words are found.
-use Rattle.std.proofs.Common.{◌≡◌, ℕ, ◌+◌, ◌==◌, ◌<◌, ◌≤◌, Bool, true, false, nat_lt, List, [], ◌∷◌, ◌++◌}
-use Rattle.std.proofs.Common.{length, Option, Some, None, IfSome, MatchBool, if◌then◌else◌, refl, arith}
-use Rattle.std.proofs.lemmas.Bool.{ltb-true}
-use Rattle.spk_nums.specs.declared.kinds.Obj.{Obj}
-use Rattle.spk_nums.specs.declared.kinds.Obj.TheVariants as object
-use Rattle.spk_nums.specs.declared.replies.Reply.{Reply}
-use Rattle.spk_nums.specs.declared.steps.StageEnd.{StageEnd}
-use Rattle.spk_nums.specs.declared.steps.StageEnd.TheVariants.{Going, Decided, Done, Refuse}
-use Rattle.frame_words.specs.Count.{count_of_word}
-use Rattle.frame_words.specs.declared.count_word.CountWord.{CountWord}
-use Rattle.frame_words.specs.declared.frame_word.FrameWord.{FrameWord}
-use Rattle.frame_words.proofs.CountLemmas as counts
-use Rattle.word_map.specs.Places.{Shape, IsShape, IsIn}
-use Rattle.word_map.specs.Moves.{word_of}
-use Rattle.stage_quiet.specs.Scan.{QuietFits, quiet_end, quiet_after}
-use Rattle.stage_quiet.specs.declared.quiet.Quiet.{Quiet}
+use Rattle.stage_sweep.specs as low
+use Rattle.std.proofs.Common.{◌≡◌, ℕ, ◌+◌, ◌==◌, ◌<◌, ◌≤◌, Bool, true, false, nat_lt, List, [], ◌∷◌, ◌++◌, length, Option, Some, None}
+use Rattle.std.proofs.Common.{IfSome, MatchBool, if◌then◌else◌, refl, arith, ltb-true}
+use low.{counters_of, loads_of, may_be_cached, AtFits, SweepFits, move_at, sweep_move, frozen_at, kept_with, load_next, empty_next}
+use low.{scan_next, compare_next, scan_goes, at_after, sweep_refuses, sweep_next, sweep_kept, sweep_after, end_by, sweep_end}
+use Rattle.stage_look.specs.word_map.specs.{Shape, IsShape, IsIn, word_of}
+use Rattle.stage_quiet.specs.{QuietFits, quiet_end, quiet_after}
+use Rattle.spk_nums.specs.{declared.kinds.Obj.Obj, declared.replies.Reply.Reply, declared.steps.StageEnd.StageEnd}
+use Rattle.spk_nums.specs.{declared.steps.StageEnd.TheVariants.Going, declared.steps.StageEnd.TheVariants.Decided}
+use Rattle.spk_nums.specs.{declared.steps.StageEnd.TheVariants.Done, declared.steps.StageEnd.TheVariants.Refuse}
+use Rattle.stage_pins.specs.frame_words.specs.{Count.count_of_word, declared.count_word.CountWord.CountWord}
 use Rattle.stage_quiet.proofs.QuietLemmas.{quiet_scan_fits, quiet_after_fits, quiet_is_in}
-use Rattle.stage_sweep.specs.Counters.{counters_of}
-use Rattle.stage_sweep.specs.Emptiness.{loads_of, may_be_cached}
-use Rattle.stage_sweep.specs.Freeze.{AtFits, SweepFits, StepFits, KeepFits, TookFits, move_at, sweep_move, frozen_at}
-use Rattle.stage_sweep.specs.Freeze.{kept_with, load_next, empty_next, scan_next, compare_next, scan_goes, next_at}
-use Rattle.stage_sweep.specs.Freeze.{at_after, sweep_refuses, sweep_next, sweep_kept, sweep_after, end_by, sweep_end}
-use Rattle.stage_sweep.specs.declared.sweep.Sweep.{Sweep}
-use Rattle.stage_sweep.specs.declared.sweep.SweepAt.{SweepAt}
-use Rattle.stage_sweep.specs.declared.sweep.SweepAt.TheVariants.{Load, Compare, Scan, Empty}
-use Rattle.stage_sweep.specs.declared.sweep.Swept.{Swept}
+use low.{Freeze.StepFits, Freeze.KeepFits, Freeze.TookFits, Freeze.next_at, declared.sweep.Sweep.Sweep, declared.sweep.SweepAt.SweepAt}
+use low.{declared.sweep.SweepAt.TheVariants.Load, declared.sweep.SweepAt.TheVariants.Compare, declared.sweep.SweepAt.TheVariants.Scan}
+use low.{declared.sweep.SweepAt.TheVariants.Empty, declared.sweep.Swept.Swept}
+use Rattle.{stage_pins.specs.frame_words.specs.declared.frame_word.FrameWord.FrameWord, stage_quiet.specs.declared.quiet.Quiet.Quiet}
+use Rattle.stage_pins.specs.frame_words.proofs.CountLemmas as counts
 
 pub took_fits : (s : Shape) (kept : List CountWord) (at : SweepAt) → AtFits s kept at → TookFits s at
 took_fits s kept Load h = tt
@@ -114,14 +105,14 @@ scan_goes_fits s kept o (Done u) q h = empty_next_fits s kept o
 scan_goes_fits s kept o (Refuse r) q h = tt
 
 loads_most : (o : Obj) → loads_of o ≤ 64
-loads_most object.Blank = omega arith
-loads_most object.Table = omega arith
-loads_most object.Leaf = omega arith
-loads_most object.Pages = omega arith
-loads_most object.Pleaf = omega arith
-loads_most object.Comp = omega arith
-loads_most object.Thread = omega arith
-loads_most object.Tcap = omega arith
+loads_most Obj.Blank = omega arith
+loads_most Obj.Table = omega arith
+loads_most Obj.Leaf = omega arith
+loads_most Obj.Pages = omega arith
+loads_most Obj.Pleaf = omega arith
+loads_most Obj.Comp = omega arith
+loads_most Obj.Thread = omega arith
+loads_most Obj.Tcap = omega arith
 
 entry_fits : (s : Shape) (kept : List CountWord) (o : Obj) (entry : ℕ) (more : Bool)
     → more ≡ nat_lt (entry + 1) (loads_of o) → IfSome (if more then Some (Empty (entry + 1)) else None) (AtFits s kept)

@@ -1,9 +1,7 @@
 use Rattle.std.specs.Prelude.{◌≡◌, pos, List, length, take}
 use Rattle.spk_nums.specs.Listed.{IsListed, padded, padded-listed, length-listed}
-use Rattle.frame_words.specs.declared.count_word.CountWord.{CountWord}
-use Rattle.stage_pins.specs.Counts.{unheld}
-use Rattle.stage_sweep.specs.Counters.{CountsFit}
-use Rattle.stage_sweep.specs.declared.count_words.CountWords.TheInside.{Inside}
+use Rattle.stage_sweep.specs.{Counters.CountsFit, declared.count_words.CountWords.TheInside.Inside}
+use Rattle.{stage_pins.specs.frame_words.specs.declared.count_word.CountWord.CountWord, stage_pins.specs.Counts.unheld}
 
 -- an unused cell
 abbrev pub blank_count : CountWord

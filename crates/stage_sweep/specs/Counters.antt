@@ -1,8 +1,7 @@
 -- The counters of a frame, in their order, and what their count words say together.
 use Rattle.std.specs.Prelude.{ℕ, ℤ, pos, ◌+ℤ◌, max, List, [], ◌∷◌, fold}
-use Rattle.frame_words.specs.Count.{NumberFits}
-use Rattle.frame_words.specs.declared.count_word.CountWord.{CountWord}
-use Rattle.word_map.specs.Places.{Shape}
+use Rattle.stage_pins.specs.frame_words.specs.{Count.NumberFits, declared.count_word.CountWord.CountWord}
+use Rattle.stage_look.specs.word_map.specs.Places.{Shape}
 
 -- how many counters a frame has: one for each core
 unfoldable pub counters_of : Shape → ℕ

@@ -1,25 +1,16 @@
 -- Whether the object in a frame is empty, judged by one of its words after another.
 use Rattle.std.specs.Prelude.{ℕ, ◌==◌, nat_lt, Bool, true, false, Option, Some, None, if◌then◌else◌}
-use Rattle.spk_nums.specs.declared.kinds.FrameKind.{FrameKind}
+use Rattle.tcap_words.specs.{head_of_word, stack_of_word, thread_of_word}
 use Rattle.spk_nums.specs.declared.kinds.FrameKind.TheVariants.{Untyped, User, Kernel}
-use Rattle.spk_nums.specs.declared.kinds.Obj.{Obj}
 use Rattle.spk_nums.specs.declared.kinds.Obj.TheVariants.{Blank, Table, Leaf, Pages, Pleaf, Comp, Thread, Tcap}
-use Rattle.spk_nums.specs.declared.replies.Reply.{Reply}
-use Rattle.spk_nums.specs.declared.replies.Reply.TheVariants as reply
-use Rattle.spk_nums.specs.declared.steps.StageEnd.{StageEnd}
 use Rattle.spk_nums.specs.declared.steps.StageEnd.TheVariants.{Going, Decided, Done, Refuse}
-use Rattle.entry_words.specs.declared.entry.Entry.{Entry}
-use Rattle.entry_words.specs.declared.entry.Entry.TheVariants as entry
-use Rattle.tcap_words.specs.Head.{head_of_word}
-use Rattle.tcap_words.specs.Stack.{stack_of_word}
-use Rattle.tcap_words.specs.Thread.{thread_of_word}
-use Rattle.tcap_words.specs.declared.head_word.HeadWord.{HeadWord}
-use Rattle.tcap_words.specs.declared.stack_word.StackWord.{StackWord}
-use Rattle.tcap_words.specs.declared.thread_word.ThreadWord.{ThreadWord}
-use Rattle.tcap_words.specs.declared.thread_word.ThreadWord.TheVariants.{Idle, Running, Claimed}
-use Rattle.stage_look.specs.Shown.{shown_in}
-use Rattle.stage_look.specs.declared.look.Found.{Found}
-use Rattle.stage_sweep.specs.declared.empty.Owned.{Owned}
+use Rattle.tcap_words.specs.{declared.head_word.HeadWord.HeadWord, declared.stack_word.StackWord.StackWord}
+use Rattle.tcap_words.specs.{declared.thread_word.ThreadWord.ThreadWord, declared.thread_word.ThreadWord.TheVariants.Idle}
+use Rattle.tcap_words.specs.{declared.thread_word.ThreadWord.TheVariants.Running, declared.thread_word.ThreadWord.TheVariants.Claimed}
+use Rattle.stage_look.specs.{Shown.shown_in, declared.look.Found.Found}
+use Rattle.{spk_nums.specs.declared.kinds.FrameKind.FrameKind, spk_nums.specs.declared.kinds.Obj.Obj}
+use Rattle.{spk_nums.specs.declared.replies.Reply.Reply, spk_nums.specs.declared.steps.StageEnd.StageEnd}
+use Rattle.{stage_look.specs.entry_words.specs.declared.entry.Entry.Entry, stage_sweep.specs.declared.empty.Owned.Owned}
 
 -- how many words of an object are looked at: a node's entries, a component's table and pages, a thread and its bottom component, a temporal
 -- capability's head
@@ -46,15 +37,15 @@ may_be_cached Kernel object = is_page_node object
 
 -- a node is empty where none of its entries holds anything
 abbrev pub entry_refuses : Option Entry → Option Reply
-entry_refuses None = Some reply.Raced
-entry_refuses (Some entry.Free) = None
-entry_refuses (Some (entry.Held k)) = Some reply.NotEmpty
-entry_refuses (Some (entry.Closing by)) = Some (reply.Busy by)
-entry_refuses (Some (entry.Quiescing stamp)) = None
+entry_refuses None = Some Reply.Raced
+entry_refuses (Some Entry.Free) = None
+entry_refuses (Some (Entry.Held k)) = Some Reply.NotEmpty
+entry_refuses (Some (Entry.Closing by)) = Some (Reply.Busy by)
+entry_refuses (Some (Entry.Quiescing stamp)) = None
 
 -- the refusal of a look-up of such an entry, or of what it found
 abbrev pub held_refuses : Entry → Option Reply
-held_refuses (entry.Held k) = Some reply.NotEmpty
+held_refuses (Entry.Held k) = Some Reply.NotEmpty
 held_refuses _ = None
 
 abbrev pub refusal_by : StageEnd Found → Option Reply
@@ -65,17 +56,17 @@ refusal_by (Refuse r) = Some r
 
 -- a field of a component names a frame of the machine
 abbrev pub field_refuses : Bool → Option Reply
-field_refuses within = if within then None else Some reply.Raced
+field_refuses within = if within then None else Some Reply.Raced
 
 -- a thread is empty at depth 1
 abbrev pub depth_refuses : ℕ → Option Reply
-depth_refuses depth = if depth == 1 then None else Some reply.NotEmpty
+depth_refuses depth = if depth == 1 then None else Some Reply.NotEmpty
 
 abbrev pub thread_refuses : Option ThreadWord → Option Reply
-thread_refuses None = Some reply.Raced
+thread_refuses None = Some Reply.Raced
 thread_refuses (Some (Idle depth)) = depth_refuses depth
 thread_refuses (Some (Running core depth)) = depth_refuses depth
-thread_refuses (Some (Claimed core depth)) = Some (reply.Busy core)
+thread_refuses (Some (Claimed core depth)) = Some (Reply.Busy core)
 
 -- its bottom component is a frame of the machine, where it has one
 abbrev pub place_refuses : ℕ → Option ℕ → Option Reply
@@ -83,16 +74,16 @@ place_refuses frames None = None
 place_refuses frames (Some f) = field_refuses (nat_lt f frames)
 
 abbrev pub stack_refuses : ℕ → Option StackWord → Option Reply
-stack_refuses frames None = Some reply.Raced
+stack_refuses frames None = Some Reply.Raced
 stack_refuses frames (Some v) = place_refuses frames v.0
 
 -- a temporal capability is empty where it has no budget
 abbrev pub head_by_mark : ℕ → Option ℕ → Option Reply
-head_by_mark budget None = if budget == 0 then None else Some reply.NotEmpty
-head_by_mark budget (Some by) = Some (reply.Busy by)
+head_by_mark budget None = if budget == 0 then None else Some Reply.NotEmpty
+head_by_mark budget (Some by) = Some (Reply.Busy by)
 
 abbrev pub head_refuses : Option HeadWord → Option Reply
-head_refuses None = Some reply.Raced
+head_refuses None = Some Reply.Raced
 head_refuses (Some v) = head_by_mark v.budget v.mark
 
 abbrev pub by_turn : Bool → Option Reply → Option Reply → Option Reply

@@ -1,31 +1,21 @@
 -- The steps of a sweep: it freezes the counters of a frame in order, judges their sum, scans for the latest of their stamps, and looks
 -- whether the object is empty.
-use Rattle.std.specs.Prelude.{ℕ, ℤ, ◌+◌, ◌<◌, ◌==◌, nat_lt, Bool}
-use Rattle.std.specs.Prelude.{Option, Some, None, List, [], ◌∷◌, ◌++◌, length, if◌then◌else◌}
-use Rattle.spk_nums.specs.declared.kinds.Obj.{Obj}
-use Rattle.spk_nums.specs.declared.replies.Reply.{Reply}
-use Rattle.spk_nums.specs.declared.replies.Reply.TheVariants as reply
-use Rattle.spk_nums.specs.declared.steps.StageEnd.{StageEnd}
-use Rattle.spk_nums.specs.declared.steps.StageEnd.TheVariants.{Going, Decided, Done, Refuse}
-use Rattle.frame_words.specs.Count.{NumberFits, word_of_count, count_of_word}
-use Rattle.frame_words.specs.Residue.{residue}
-use Rattle.frame_words.specs.declared.count_word.CountWord.{CountWord}
-use Rattle.frame_words.specs.declared.count_word.Hold.{Hold}
-use Rattle.frame_words.specs.declared.count_word.Hold.TheVariants.{Unheld, Pinned, Closed}
-use Rattle.frame_words.specs.declared.frame_word.FrameWord.{FrameWord}
-use Rattle.word_map.specs.Word.{CountAt, EntryAt}
-use Rattle.word_map.specs.Places.{Shape}
-use Rattle.word_map.specs.Moves.{Move, LoadOf, CompareOf}
-use Rattle.stage_pins.specs.Counts.{unheld}
-use Rattle.stage_quiet.specs.Scan.{QuietFits, quiet_move, quiet_scan, quiet_end, quiet_after}
-use Rattle.stage_quiet.specs.declared.quiet.Quiet.{Quiet}
-use Rattle.stage_sweep.specs.Counters.{counters_of, sum_of_counts, latest_stamp}
-use Rattle.stage_sweep.specs.Emptiness.{loads_of, may_be_cached, empty_refuses, owned_after}
-use Rattle.stage_sweep.specs.declared.empty.Owned.{Owned}
-use Rattle.stage_sweep.specs.declared.sweep.Sweep.{Sweep}
-use Rattle.stage_sweep.specs.declared.sweep.SweepAt.{SweepAt}
-use Rattle.stage_sweep.specs.declared.sweep.SweepAt.TheVariants.{Load, Compare, Scan, Empty}
-use Rattle.stage_sweep.specs.declared.sweep.Swept.{Swept}
+use Rattle.std.specs.Prelude.{ℕ, ℤ, ◌+◌, ◌<◌, ◌==◌, nat_lt, Bool, Option, Some, None, List, [], ◌∷◌, ◌++◌, length, if◌then◌else◌}
+use Rattle.stage_look.specs.word_map.specs.{CountAt, EntryAt, Shape, Move, LoadOf, CompareOf}
+use Rattle.stage_quiet.specs.{QuietFits, quiet_move, quiet_scan, quiet_end, quiet_after}
+use Rattle.stage_pins.specs.frame_words.specs.{NumberFits, word_of_count, count_of_word, residue}
+use Rattle.spk_nums.specs.{declared.kinds.Obj.Obj, declared.replies.Reply.Reply, declared.steps.StageEnd.StageEnd}
+use Rattle.spk_nums.specs.{declared.steps.StageEnd.TheVariants.Going, declared.steps.StageEnd.TheVariants.Decided}
+use Rattle.spk_nums.specs.{declared.steps.StageEnd.TheVariants.Done, declared.steps.StageEnd.TheVariants.Refuse}
+use Rattle.stage_pins.specs.frame_words.specs.{declared.count_word.CountWord.CountWord, declared.count_word.Hold.Hold}
+use Rattle.stage_pins.specs.frame_words.specs.{declared.count_word.Hold.TheVariants.Unheld, declared.count_word.Hold.TheVariants.Pinned}
+use Rattle.stage_pins.specs.frame_words.specs.{declared.count_word.Hold.TheVariants.Closed, declared.frame_word.FrameWord.FrameWord}
+use Rattle.stage_sweep.specs.{Counters.counters_of, Counters.sum_of_counts, Counters.latest_stamp, Emptiness.loads_of}
+use Rattle.stage_sweep.specs.{Emptiness.may_be_cached, Emptiness.empty_refuses, Emptiness.owned_after, declared.empty.Owned.Owned}
+use Rattle.stage_sweep.specs.{declared.sweep.Sweep.Sweep, declared.sweep.SweepAt.SweepAt, declared.sweep.SweepAt.TheVariants.Load}
+use Rattle.stage_sweep.specs.{declared.sweep.SweepAt.TheVariants.Compare, declared.sweep.SweepAt.TheVariants.Scan}
+use Rattle.stage_sweep.specs.{declared.sweep.SweepAt.TheVariants.Empty, declared.sweep.Swept.Swept}
+use Rattle.{stage_pins.specs.Counts.unheld, stage_quiet.specs.declared.quiet.Quiet.Quiet}
 
 -- a count word that a core has frozen
 abbrev pub frozen : ℕ → ℤ → ℕ → CountWord
@@ -73,23 +63,23 @@ kept_with kept (Some v) = kept ++ v ∷ []
 -- a counter that a core holds is busy
 abbrev pub hold_refuses : Hold → Option Reply
 hold_refuses Unheld = None
-hold_refuses (Pinned by) = Some (reply.Busy by)
-hold_refuses (Closed by) = Some (reply.Busy by)
+hold_refuses (Pinned by) = Some (Reply.Busy by)
+hold_refuses (Closed by) = Some (Reply.Busy by)
 
 abbrev pub load_refuses : Option CountWord → Option Reply
-load_refuses None = Some reply.Raced
+load_refuses None = Some Reply.Raced
 load_refuses (Some v) = hold_refuses v.hold
 
 -- a sum that is not 0, modulo 2 ^ 16, is the number of references that stand
 abbrev pub some_referenced : Bool → ℕ → Option Reply
-some_referenced none n = if none then None else Some (reply.Referenced n)
+some_referenced none n = if none then None else Some (Reply.Referenced n)
 
 abbrev pub sum_refuses : ℤ → Option Reply
 sum_refuses sum = some_referenced (residue sum == 0) (residue sum)
 
 -- a compare is lost, or the last counter is frozen and references stand
 abbrev pub compare_refuses : Bool → Bool → ℤ → Option Reply
-compare_refuses same more sum = if same then (if more then None else sum_refuses sum) else Some reply.Raced
+compare_refuses same more sum = if same then (if more then None else sum_refuses sum) else Some Reply.Raced
 
 -- the refusal of a scan
 abbrev pub refusal_of : StageEnd (Unit {0}) → Option Reply

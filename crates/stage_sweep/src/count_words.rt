@@ -1,7 +1,7 @@
 //! The count words of a frame that is being retyped, as they were found.
 
 ghost use Rattle.std.specs.Prelude.{◌≡◌, ◌<◌, ◌≤◌, [], ◌∷◌, ◌++◌, length, slice_get, MatchBool, IfSome};
-ghost use Rattle.frame_words.specs.Count.{NumberFits};
+ghost use Rattle.stage_pins.specs.frame_words.specs.Count.{NumberFits};
 ghost use Rattle.stage_sweep.specs.Counters.{sum_of_counts, latest_stamp};
 ghost use Rattle.stage_sweep.specs.CountLists.{blank_count};
 
@@ -19,7 +19,7 @@ pub struct CountWords {
 
 impl Model for CountWords {
     ghost use Rattle.std.specs.Prelude.{List};
-    ghost use Rattle.frame_words.specs.declared.count_word.CountWord.{CountWord};
+    ghost use Rattle.stage_pins.specs.frame_words.specs.declared.count_word.CountWord.{CountWord};
 
     ghost Value = { List CountWord };
 

@@ -16,10 +16,10 @@
 ghost use Rattle.std.specs.Prelude.{◌≡◌, ◌+◌, ◌<◌, ◌≤◌, ◌==◌, nat_lt, if◌then◌else◌, length, [], None, Some, IfSome};
 ghost use Rattle.spk_nums.specs.declared.steps.StageEnd.TheVariants.{Going};
 ghost use Rattle.spk_nums.specs.WordSteps.{place_in};
-ghost use Rattle.frame_words.specs.Count.{NumberFits, word_of_count, count_of_word};
-ghost use Rattle.word_map.specs.Places.{place_of, size_of};
-ghost use Rattle.word_map.specs.Word.{CountAt};
-ghost use Rattle.word_map.specs.Moves.{op_of};
+ghost use Rattle.stage_pins.specs.frame_words.specs.Count.{NumberFits, word_of_count, count_of_word};
+ghost use Rattle.stage_look.specs.word_map.specs.Places.{place_of, size_of};
+ghost use Rattle.stage_look.specs.word_map.specs.Word.{CountAt};
+ghost use Rattle.stage_look.specs.word_map.specs.Moves.{op_of};
 ghost use Rattle.stage_pins.specs.Counts.{unheld};
 ghost use Rattle.stage_quiet.specs.Scan.{quiet_scan, QuietFits, quiet_end, quiet_after};
 ghost use Rattle.stage_sweep.specs.Counters.{counters_of, sum_of_counts, latest_stamp};

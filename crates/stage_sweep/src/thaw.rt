@@ -6,9 +6,9 @@
 
 ghost use Rattle.std.specs.Prelude.{◌≡◌, ◌<◌, ◌≤◌, ◌+◌, nat_lt, length, slice_get, IfSome};
 ghost use Rattle.spk_nums.specs.WordSteps.{place_in};
-ghost use Rattle.frame_words.specs.Count.{NumberFits, word_of_count};
-ghost use Rattle.word_map.specs.Places.{Shape, size_of};
-ghost use Rattle.word_map.specs.Moves.{op_of};
+ghost use Rattle.stage_pins.specs.frame_words.specs.Count.{NumberFits, word_of_count};
+ghost use Rattle.stage_look.specs.word_map.specs.Places.{Shape, size_of};
+ghost use Rattle.stage_look.specs.word_map.specs.Moves.{op_of};
 ghost use Rattle.stage_sweep.specs.Counters.{counters_of};
 ghost use Rattle.stage_sweep.specs.Release.{ThawFits, released, thaw_move, thaw_end, thaw_after, thaw_of};
 

@@ -1,13 +1,10 @@
 -- Lists of qualities: when two are equal, and that each pair of one is within its range.
-use Rattle.std.proofs.Common.{rules, ◌≡◌, ◌↔◌, ℕ, ◌==◌, ◌≤◌, Bool, true, false, ◌&&◌, IsTrue, List, [], ◌∷◌}
-use Rattle.std.proofs.Common.{length, zero, suc, Option, Some, None, IfSome, nat_le, refl, sym, ap, ◌∙◌}
-use Rattle.std.specs.Prelude.{slice_get}
-use Rattle.std.specs.Option.{SomeIff}
-use Rattle.std.proofs.lemmas.Bool.{and_parts, and_from, eqb-true, eq-eqb, leb-true, le-leb}
-use Rattle.spk_nums.specs.Merging.{merged}
-use Rattle.spk_nums.specs.Qualities.{IsQualityList, PairFits}
+use Rattle.std.proofs.Common.{rules, ◌≡◌, ◌↔◌, ℕ, ◌==◌, ◌≤◌, Bool, true, false, ◌&&◌, IsTrue, List, [], ◌∷◌, length, zero, suc, Option}
+use Rattle.std.proofs.Common.{Some, None, IfSome, nat_le, refl, sym, ap, ◌∙◌, slice_get, SomeIff, eqb-true, eq-eqb, leb-true, le-leb}
+use Rattle.stage_tcap.specs.{same_list, merged_if, merge_of}
+use Rattle.std.proofs.lemmas.Bool.{and_parts, and_from}
+use Rattle.spk_nums.specs.{Merging.merged, Qualities.IsQualityList, Qualities.PairFits}
 use Rattle.tcap_words.specs.Quality as words
-use Rattle.stage_tcap.specs.Lists.{same_list, merged_if, merge_of}
 
 pub equal_lists : (xs ys : List (ℕ × ℕ)) → same_list xs ys ≡ true → xs ≡ ys
 equal_lists [] [] h = refl

@@ -1,31 +1,20 @@
 -- Charges and calls on two temporal capabilities stay on the words of the machine, whatever words are found.
-use Rattle.std.proofs.Common.{◌≡◌, ℕ, ◌+◌, ◌==◌, ◌<◌, ◌^◌, Bool, true, false, nat_lt, List, Option, Some, None, refl, sym, arith}
-use Rattle.std.proofs.lemmas.Bool.{ltb-true}
-use Rattle.tcap_words.specs.Head.{word_of_head, head_of_word}
-use Rattle.tcap_words.specs.Quality.{quality_of_word}
-use Rattle.tcap_words.specs.declared.head_word.HeadWord.{HeadWord}
-use Rattle.tcap_words.specs.declared.quality_word.QualityWord.{QualityWord}
+use Rattle.stage_tcap.specs as low
+use low.{◌≡◌, ℕ, ◌+◌, ◌==◌, ◌<◌, ◌^◌, Bool, true, false, ltb as nat_lt, List, Option, Some, None, refl, word_of_head, head_of_word}
+use low.{quality_of_word, HeadWord, QualityWord, Shape, IsIn, word_of, ChargeFits, charge_move, after_mark, after_head, charge_after}
+use low.{PairFits, move_at, pair_move, noted, noted_by, giving_back, by_alike, by_room, judged, at_by_mark, at_by_head, at_marked, at_read}
+use low.declared.pair.PairAt.TheVariants.{LoadA, MarkA, ListA, LoadB, ListB, CompareB, AgainB, StoreList, StoreB, StoreA}
+use low.{a_next, b_next, store_next, at_decided, compared_after, pair_after, Heads.VersionFits, Pairs.EntryFits, Pairs.AtFits}
+use low.{Pairs.head_a_after, Pairs.head_b_after, Pairs.at_by_budget, Pairs.at_after, declared.charge.Charge.Charge, declared.pair.Pair.Pair}
+use low.{declared.pair.PairAt.PairAt, declared.pair.PairWork.PairWork, declared.pair.PairWork.TheVariants.Transfer}
+use low.{declared.pair.PairWork.TheVariants.Delegate, declared.pair.PairWork.TheVariants.Test}
+use Rattle.{std.proofs.Common.sym, std.proofs.Common.arith, std.proofs.Common.ltb-true}
 use Rattle.tcap_words.proofs.HeadLemmas as heads
-use Rattle.word_map.specs.Places.{Shape, IsIn}
-use Rattle.word_map.specs.Moves.{word_of}
-use Rattle.stage_tcap.specs.Heads.{VersionFits}
-use Rattle.stage_tcap.specs.Charging.{ChargeFits, charge_move, after_mark, after_head, charge_after}
-use Rattle.stage_tcap.specs.Pairs.{EntryFits, AtFits, PairFits, move_at, pair_move, noted, head_a_after, head_b_after, noted_by}
-use Rattle.stage_tcap.specs.Pairs.{giving_back, by_alike, by_room, judged, at_by_mark, at_by_head, at_by_budget, at_marked}
-use Rattle.stage_tcap.specs.Pairs.{at_read, a_next, b_next, store_next, at_decided, compared_after, at_after, pair_after}
-use Rattle.stage_tcap.specs.declared.charge.Charge.{Charge}
-use Rattle.stage_tcap.specs.declared.charge.Charge.TheVariants as charge
-use Rattle.stage_tcap.specs.declared.pair.Pair.{Pair}
-use Rattle.stage_tcap.specs.declared.pair.PairAt.{PairAt}
-use Rattle.stage_tcap.specs.declared.pair.PairAt.TheVariants.{LoadA, MarkA, ListA, LoadB, ListB, CompareB}
-use Rattle.stage_tcap.specs.declared.pair.PairAt.TheVariants.{AgainB, StoreList, StoreB, StoreA}
-use Rattle.stage_tcap.specs.declared.pair.PairWork.{PairWork}
-use Rattle.stage_tcap.specs.declared.pair.PairWork.TheVariants.{Transfer, Delegate, Test}
 
 -- the next step of a charge is on a word of the machine
 pub charge_is_in : (s : Shape) (c : Charge) → ChargeFits s c → IsIn s (word_of (charge_move c))
-charge_is_in s (charge.AtLoad t ticks) h = (h, omega arith)
-charge_is_in s (charge.AtCompare t ticks budget version) h = (h.0, omega arith)
+charge_is_in s (Charge.AtLoad t ticks) h = (h, omega arith)
+charge_is_in s (Charge.AtCompare t ticks budget version) h = (h.0, omega arith)
 
 after_mark_fits : (s : Shape) (t ticks budget version : ℕ) (mark : Option ℕ)
     → t < s.frames → version < 2 ^ 28 → ChargeFits s (after_mark t ticks budget version mark)
@@ -39,8 +28,8 @@ after_head_fits s t ticks found (Some v) is h = after_mark_fits s t ticks v.budg
 
 -- and it stays so
 pub charge_after_fits : (s : Shape) (c : Charge) (found : ℕ) → ChargeFits s c → ChargeFits s (charge_after c found)
-charge_after_fits s (charge.AtLoad t ticks) found h = after_head_fits s t ticks found (head_of_word found) refl h
-charge_after_fits s (charge.AtCompare t ticks budget version) found h = h
+charge_after_fits s (Charge.AtLoad t ticks) found h = after_head_fits s t ticks found (head_of_word found) refl h
+charge_after_fits s (Charge.AtCompare t ticks budget version) found h = h
 
 -- the next step of a call on two of them is on a word of the machine
 pub pair_is_in : (s : Shape) (p : Pair) → PairFits s p → IsIn s (word_of (pair_move p))

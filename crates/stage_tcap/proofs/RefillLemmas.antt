@@ -1,21 +1,12 @@
 -- The giving back of ticks stays on the words of the machine, whatever words are found.
-use Rattle.std.proofs.Common.{◌≡◌, ℕ, ◌+◌, ◌<◌, ◌^◌, Bool, true, false, nat_lt, Option, Some, None, refl, sym, arith}
-use Rattle.std.proofs.lemmas.Bool.{ltb-true}
-use Rattle.spk_nums.specs.Merging.{covers}
-use Rattle.tcap_words.specs.Head.{head_of_word}
-use Rattle.tcap_words.specs.Quality.{quality_of_word}
-use Rattle.tcap_words.specs.declared.head_word.HeadWord.{HeadWord}
-use Rattle.tcap_words.specs.declared.quality_word.QualityWord.{QualityWord}
-use Rattle.word_map.specs.Places.{Shape, IsIn}
-use Rattle.word_map.specs.Moves.{word_of}
-use Rattle.stage_tcap.specs.Heads.{VersionFits}
-use Rattle.stage_tcap.specs.Lists.{in_order}
-use Rattle.stage_tcap.specs.Pairs.{EntryFits}
-use Rattle.stage_tcap.specs.Refilling.{RefillAtFits, RefillFits, refill_move, refill_move_at, refill_head_after, refill_noted}
-use Rattle.stage_tcap.specs.Refilling.{from_mark, from_head, weighed_at, next_in, from_word, refill_at_after, refill_after}
-use Rattle.stage_tcap.specs.declared.refill.Refill.{Refill}
-use Rattle.stage_tcap.specs.declared.refill.RefillAt.{RefillAt}
-use Rattle.stage_tcap.specs.declared.refill.RefillAt.TheVariants.{Load, List as at_list, Compare, Again}
+use Rattle.stage_tcap.specs.{◌≡◌, ℕ, ◌+◌, ◌<◌, ◌^◌, Bool, true, false, ltb as nat_lt, Option, Some, None, refl, covers, head_of_word}
+use Rattle.stage_tcap.specs.{quality_of_word, HeadWord, QualityWord, Shape, IsIn, word_of, in_order, RefillFits, refill_move}
+use Rattle.stage_tcap.specs.{refill_move_at, refill_noted, from_mark, from_head, weighed_at, next_in, from_word, refill_after}
+use Rattle.std.proofs.Common.{sym, arith, ltb-true}
+use Rattle.stage_tcap.specs.{Heads.VersionFits, Pairs.EntryFits, Refilling.RefillAtFits, Refilling.refill_head_after}
+use Rattle.stage_tcap.specs.{Refilling.refill_at_after, declared.refill.Refill.Refill, declared.refill.RefillAt.RefillAt}
+use Rattle.stage_tcap.specs.{declared.refill.RefillAt.TheVariants.Load, declared.refill.RefillAt.TheVariants.List as at_list}
+use Rattle.stage_tcap.specs.{declared.refill.RefillAt.TheVariants.Compare, declared.refill.RefillAt.TheVariants.Again}
 use Rattle.stage_tcap.proofs.PairLemmas.{noted_fits, first_fits, more_fits}
 
 -- the next step is on a word of the machine

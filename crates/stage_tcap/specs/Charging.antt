@@ -1,18 +1,11 @@
 -- The steps by which ticks are charged to a temporal capability.
 use Rattle.std.specs.Prelude.{ℕ, ◌<◌, ◌==◌, ◌^◌, min, Bool, Option, Some, None, if◌then◌else◌}
-use Rattle.spk_nums.specs.declared.replies.Reply.TheVariants as reply
-use Rattle.spk_nums.specs.declared.replies.Value.{Value}
-use Rattle.spk_nums.specs.declared.replies.Value.TheVariants as value
-use Rattle.spk_nums.specs.declared.steps.StageEnd.{StageEnd}
-use Rattle.spk_nums.specs.declared.steps.StageEnd.TheVariants.{Going, Done, Refuse}
-use Rattle.tcap_words.specs.Head.{word_of_head, head_of_word}
-use Rattle.tcap_words.specs.declared.head_word.HeadWord.{HeadWord}
-use Rattle.word_map.specs.Word.{EntryAt}
-use Rattle.word_map.specs.Places.{Shape}
-use Rattle.word_map.specs.Moves.{Move, LoadOf, CompareOf}
-use Rattle.stage_tcap.specs.Heads.{head, debited}
-use Rattle.stage_tcap.specs.declared.charge.Charge.{Charge}
-use Rattle.stage_tcap.specs.declared.charge.Charge.TheVariants.{AtLoad, AtCompare}
+use Rattle.word_map.specs.{EntryAt, Shape, Move, LoadOf, CompareOf}
+use Rattle.spk_nums.specs.{declared.replies.Value.Value, declared.steps.StageEnd.StageEnd, declared.steps.StageEnd.TheVariants.Going}
+use Rattle.spk_nums.specs.{declared.steps.StageEnd.TheVariants.Done, declared.steps.StageEnd.TheVariants.Refuse}
+use Rattle.stage_tcap.specs.{Heads.head, Heads.debited, declared.charge.Charge.Charge, declared.charge.Charge.TheVariants.AtLoad}
+use Rattle.{tcap_words.specs.word_of_head, tcap_words.specs.head_of_word, spk_nums.specs.declared.replies.Reply.Reply}
+use Rattle.{tcap_words.specs.declared.head_word.HeadWord.HeadWord, stage_tcap.specs.declared.charge.Charge.TheVariants.AtCompare}
 
 -- a version that was found is within its range
 abbrev pub ChargePacks : Charge → Type 0
@@ -33,15 +26,15 @@ charge_move (AtCompare t ticks budget version) =
 -- a head that a core has marked is busy
 abbrev pub end_by_mark : Option ℕ → StageEnd Value
 end_by_mark None = Going
-end_by_mark (Some by) = Refuse (reply.Busy by)
+end_by_mark (Some by) = Refuse (Reply.Busy by)
 
 abbrev pub head_end : Option HeadWord → StageEnd Value
-head_end None = Refuse reply.Raced
+head_end None = Refuse Reply.Raced
 head_end (Some h) = end_by_mark h.mark
 
 -- what the compare leads to, where it did or did not find the head
 abbrev pub charged_end : Bool → ℕ → StageEnd Value
-charged_end same charged = if same then Done (value.Amount charged) else Refuse reply.Raced
+charged_end same charged = if same then Done (Value.Amount charged) else Refuse Reply.Raced
 
 -- what a step leads to that finds this word
 abbrev pub charge_end : Charge → ℕ → StageEnd Value

@@ -1,28 +1,18 @@
 -- The steps of a call on two temporal capabilities, and what each takes from the word that it finds.
-use Rattle.std.specs.Prelude.{ℕ, ◌+◌, ◌-◌, ◌<◌, ◌≤◌, ◌==◌, ◌&&◌, nat_lt, is_none, not, Bool, true, false, Option, Some, None, List, slice_get, if◌then◌else◌}
-use Rattle.spk_nums.specs.Merging.{preempts_by}
-use Rattle.spk_nums.specs.declared.replies.Reply.{Reply}
-use Rattle.spk_nums.specs.declared.replies.Reply.TheVariants as reply
-use Rattle.spk_nums.specs.declared.replies.Value.{Value}
-use Rattle.spk_nums.specs.declared.replies.Value.TheVariants as value
-use Rattle.spk_nums.specs.declared.steps.StageEnd.{StageEnd}
-use Rattle.spk_nums.specs.declared.steps.StageEnd.TheVariants.{Going, Decided, Done, Refuse}
-use Rattle.tcap_words.specs.Head.{word_of_head, head_of_word}
-use Rattle.tcap_words.specs.Quality.{word_of_quality, quality_of_word}
-use Rattle.tcap_words.specs.declared.head_word.HeadWord.{HeadWord}
-use Rattle.tcap_words.specs.declared.quality_word.QualityWord.{QualityWord}
-use Rattle.word_map.specs.Word.{EntryAt}
-use Rattle.word_map.specs.Places.{Shape}
-use Rattle.word_map.specs.Moves.{Move, LoadOf, CompareOf, StoreOf}
+use Rattle.std.specs.Prelude.{ℕ, ◌+◌, ◌-◌, ◌<◌, ◌≤◌, ◌==◌, ◌&&◌, nat_lt, is_none, not, Bool, true, false, Option, Some, None, List}
+use Rattle.word_map.specs.{EntryAt, Shape, Move, LoadOf, CompareOf, StoreOf}
+use Rattle.tcap_words.specs.{word_of_head, head_of_word, word_of_quality, quality_of_word}
+use Rattle.spk_nums.specs.{Merging.preempts_by, declared.replies.Reply.Reply, declared.replies.Value.Value}
+use Rattle.spk_nums.specs.{declared.steps.StageEnd.StageEnd, declared.steps.StageEnd.TheVariants.Going}
+use Rattle.spk_nums.specs.{declared.steps.StageEnd.TheVariants.Decided, declared.steps.StageEnd.TheVariants.Done}
 use Rattle.stage_tcap.specs.Heads.{head, marked, relisted, debited, credited, VersionFits}
 use Rattle.stage_tcap.specs.Lists.{read_word, in_order, same_list, merge_of}
-use Rattle.stage_tcap.specs.Charging.{head_end}
-use Rattle.stage_tcap.specs.declared.pair.Pair.{Pair}
-use Rattle.stage_tcap.specs.declared.pair.PairAt.{PairAt}
-use Rattle.stage_tcap.specs.declared.pair.PairAt.TheVariants.{LoadA, MarkA, ListA, LoadB, ListB, CompareB}
-use Rattle.stage_tcap.specs.declared.pair.PairAt.TheVariants.{AgainB, StoreList, StoreB, StoreA}
-use Rattle.stage_tcap.specs.declared.pair.PairWork.{PairWork}
+use Rattle.stage_tcap.specs.declared.pair.PairAt.TheVariants.{LoadA, MarkA, ListA, LoadB, ListB, CompareB, AgainB, StoreList, StoreB}
 use Rattle.stage_tcap.specs.declared.pair.PairWork.TheVariants.{Transfer, Delegate, Test}
+use Rattle.{std.specs.Prelude.slice_get, std.specs.Prelude.if◌then◌else◌, spk_nums.specs.declared.steps.StageEnd.TheVariants.Refuse}
+use Rattle.{tcap_words.specs.declared.head_word.HeadWord.HeadWord, tcap_words.specs.declared.quality_word.QualityWord.QualityWord}
+use Rattle.{stage_tcap.specs.Charging.head_end, stage_tcap.specs.declared.pair.Pair.Pair, stage_tcap.specs.declared.pair.PairAt.PairAt}
+use Rattle.{stage_tcap.specs.declared.pair.PairAt.TheVariants.StoreA, stage_tcap.specs.declared.pair.PairWork.PairWork}
 
 -- a word of a list is one of its eight
 abbrev pub EntryFits : ℕ → Type 0
@@ -142,18 +132,18 @@ noted_by p found = record {
 
 -- head A is given back as it was
 abbrev pub giving_back : PairAt
-giving_back = StoreA false value.Nothing
+giving_back = StoreA false Value.Nothing
 
 -- after the last word of list B: lists that differ, and a merged list with no room, are refused where head B is still the same
 abbrev pub by_alike : Bool → PairAt
-by_alike same = if same then CompareB else AgainB reply.Unlike
+by_alike same = if same then CompareB else AgainB Reply.Unlike
 
 abbrev pub by_room : Option (List (ℕ × ℕ)) → PairAt
-by_room None = AgainB reply.TooMany
+by_room None = AgainB Reply.TooMany
 by_room (Some xs) = CompareB
 
 abbrev pub by_preempting : Bool → PairAt
-by_preempting preempts = AgainB (reply.Ok (if preempts then value.Preempts else value.Stays))
+by_preempting preempts = AgainB (Reply.Ok (if preempts then Value.Preempts else Value.Stays))
 
 abbrev pub judged : PairWork → Pair → PairAt
 judged (Transfer ticks) p = by_alike (same_list (in_order p.list_a) (in_order p.list_b))
@@ -195,7 +185,7 @@ store_next more entry = if more then StoreList (entry + 1) else StoreB
 
 -- after the compare of head B
 abbrev pub at_decided : PairWork → PairAt
-at_decided (Transfer ticks) = StoreA true value.Nothing
+at_decided (Transfer ticks) = StoreA true Value.Nothing
 at_decided (Delegate ticks) = StoreList 1
 at_decided Test = giving_back
 
@@ -204,12 +194,12 @@ compared_after same what = if same then at_decided what else giving_back
 
 -- the value of a reply
 abbrev pub value_of : Reply → Value
-value_of (reply.Ok v) = v
-value_of _ = value.Nothing
+value_of (Reply.Ok v) = v
+value_of _ = Value.Nothing
 
 -- the value of a reply that is decided where head B is still the same
 abbrev pub again_value : Bool → Reply → Value
-again_value same r = if same then value_of r else value.Nothing
+again_value same r = if same then value_of r else Value.Nothing
 
 -- where it stands after a step that finds this word; `p` has what is known then
 abbrev pub at_after : Pair → PairAt → ℕ → PairAt
@@ -221,7 +211,7 @@ at_after p (ListB entry) found = at_read (quality_of_word found) (b_next (nat_lt
 at_after p CompareB found = compared_after (found == word_of_head p.head_b) p.what
 at_after p (AgainB r) found = StoreA false (again_value (found == word_of_head p.head_b) r)
 at_after p (StoreList entry) found = store_next (nat_lt entry 8) entry
-at_after p StoreB found = StoreA true value.Nothing
+at_after p StoreB found = StoreA true Value.Nothing
 at_after p (StoreA moved v) found = StoreA moved v
 
 -- where it stands after a step that finds this word
@@ -252,27 +242,27 @@ is_passed _ found = false
 
 -- the compare that marks head A: a budget that is too small is told there
 abbrev pub end_by_budget : Bool → ℕ → StageEnd Value
-end_by_budget short budget = if short then Decided (reply.Short budget) else Going
+end_by_budget short budget = if short then Decided (Reply.Short budget) else Going
 
 abbrev pub marked_end : Bool → Bool → ℕ → StageEnd Value
-marked_end same short budget = if same then end_by_budget short budget else Refuse reply.Raced
+marked_end same short budget = if same then end_by_budget short budget else Refuse Reply.Raced
 
 -- after it a refusal decides, since head A is still to be given back
 abbrev pub decided_by_mark : Option ℕ → StageEnd Value
 decided_by_mark None = Going
-decided_by_mark (Some by) = Decided (reply.Busy by)
+decided_by_mark (Some by) = Decided (Reply.Busy by)
 
 abbrev pub b_end : Option HeadWord → StageEnd Value
-b_end None = Decided reply.Raced
+b_end None = Decided Reply.Raced
 b_end (Some h) = decided_by_mark h.mark
 
 abbrev pub list_end : Option QualityWord → StageEnd Value
-list_end None = Decided reply.Raced
+list_end None = Decided Reply.Raced
 list_end (Some v) = Going
 
 -- the deciding step, where head B is still the same or not
 abbrev pub again_end : Bool → Reply → StageEnd Value
-again_end same r = if same then Decided r else Decided reply.Raced
+again_end same r = if same then Decided r else Decided Reply.Raced
 
 -- what a step leads to that finds this word; `p` has what is known then
 abbrev pub end_at : Pair → PairAt → ℕ → StageEnd Value
@@ -281,7 +271,7 @@ end_at p MarkA found = marked_end (found == word_of_head p.head_a) (nat_lt p.hea
 end_at p (ListA entry) found = list_end (quality_of_word found)
 end_at p LoadB found = b_end (head_of_word found)
 end_at p (ListB entry) found = list_end (quality_of_word found)
-end_at p CompareB found = again_end (found == word_of_head p.head_b) (reply.Ok value.Nothing)
+end_at p CompareB found = again_end (found == word_of_head p.head_b) (Reply.Ok Value.Nothing)
 end_at p (AgainB r) found = again_end (found == word_of_head p.head_b) r
 end_at p (StoreList entry) found = Going
 end_at p StoreB found = Going

@@ -1,25 +1,15 @@
 -- The steps by which ticks are given back to a temporal capability.
 use Rattle.std.specs.Prelude.{ℕ, ◌+◌, ◌<◌, ◌==◌, ◌&&◌, nat_lt, not, Bool, Option, Some, None, if◌then◌else◌, List, []}
-use Rattle.spk_nums.specs.Merging.{covers}
-use Rattle.spk_nums.specs.declared.replies.Reply.TheVariants as reply
-use Rattle.spk_nums.specs.declared.replies.Value.{Value}
-use Rattle.spk_nums.specs.declared.replies.Value.TheVariants as value
-use Rattle.spk_nums.specs.declared.steps.StageEnd.{StageEnd}
-use Rattle.spk_nums.specs.declared.steps.StageEnd.TheVariants.{Going, Done, Refuse}
-use Rattle.tcap_words.specs.Head.{word_of_head, head_of_word}
-use Rattle.tcap_words.specs.Quality.{quality_of_word}
-use Rattle.tcap_words.specs.declared.head_word.HeadWord.{HeadWord}
-use Rattle.tcap_words.specs.declared.quality_word.QualityWord.{QualityWord}
-use Rattle.word_map.specs.Word.{EntryAt}
-use Rattle.word_map.specs.Places.{Shape}
-use Rattle.word_map.specs.Moves.{Move, LoadOf, CompareOf}
-use Rattle.stage_tcap.specs.Heads.{head, credited, VersionFits}
-use Rattle.stage_tcap.specs.Lists.{read_word, in_order}
-use Rattle.stage_tcap.specs.Charging.{head_end}
-use Rattle.stage_tcap.specs.Pairs.{EntryFits, noted}
-use Rattle.stage_tcap.specs.declared.refill.Refill.{Refill}
-use Rattle.stage_tcap.specs.declared.refill.RefillAt.{RefillAt}
-use Rattle.stage_tcap.specs.declared.refill.RefillAt.TheVariants.{Load, List as at_list, Compare, Again}
+use Rattle.word_map.specs.{EntryAt, Shape, Move, LoadOf, CompareOf}
+use Rattle.tcap_words.specs.{word_of_head, head_of_word, quality_of_word}
+use Rattle.spk_nums.specs.{Merging.covers, declared.replies.Value.Value, declared.steps.StageEnd.StageEnd}
+use Rattle.spk_nums.specs.{declared.steps.StageEnd.TheVariants.Going, declared.steps.StageEnd.TheVariants.Done}
+use Rattle.spk_nums.specs.{declared.steps.StageEnd.TheVariants.Refuse, declared.replies.Reply.Reply}
+use Rattle.tcap_words.specs.{declared.head_word.HeadWord.HeadWord, declared.quality_word.QualityWord.QualityWord}
+use Rattle.stage_tcap.specs.{Heads.head, Heads.credited, Heads.VersionFits, Lists.read_word, Lists.in_order, Charging.head_end}
+use Rattle.stage_tcap.specs.{Pairs.EntryFits, Pairs.noted, declared.refill.Refill.Refill, declared.refill.RefillAt.RefillAt}
+use Rattle.stage_tcap.specs.{declared.refill.RefillAt.TheVariants.Load, declared.refill.RefillAt.TheVariants.List as at_list}
+use Rattle.stage_tcap.specs.{declared.refill.RefillAt.TheVariants.Compare, declared.refill.RefillAt.TheVariants.Again}
 
 -- a word of the list is one of its eight
 abbrev pub RefillAtFits : RefillAt → Type 0
@@ -105,21 +95,21 @@ refill_after r found = record {
 
 -- behind the last word a core is told where it has too few ticks left, unless the list is to be refused
 abbrev pub weighed : Bool → ℕ → StageEnd Value
-weighed less left = if less then Refuse (reply.Short left) else Going
+weighed less left = if less then Refuse (Reply.Short left) else Going
 
 abbrev pub at_word : Bool → Refill → StageEnd Value
 at_word more r = weighed (not more && (covers (in_order r.list) r.grant && nat_lt r.left r.ticks)) r.left
 
 abbrev pub word_end : Option QualityWord → StageEnd Value → StageEnd Value
-word_end None next = Refuse reply.Raced
+word_end None next = Refuse Reply.Raced
 word_end (Some v) next = next
 
 -- the compare of the head, and its second load, which found it the same or not
 abbrev pub won : Bool → StageEnd Value
-won same = if same then Done value.Nothing else Refuse reply.Raced
+won same = if same then Done Value.Nothing else Refuse Reply.Raced
 
 abbrev pub again : Bool → StageEnd Value
-again same = if same then Refuse reply.Unlike else Refuse reply.Raced
+again same = if same then Refuse Reply.Unlike else Refuse Reply.Raced
 
 -- what a step leads to that finds this word; `r` has what is known then
 abbrev pub refill_end_at : Refill → RefillAt → ℕ → StageEnd Value

@@ -1,18 +1,12 @@
 -- The steps by which a core asks whether a component lives, and what each takes from the word that it finds.
 use Rattle.std.specs.Prelude.{ℕ, ◌<◌, ◌==◌, Bool, Option, Some, None, if◌then◌else◌}
-use Rattle.spk_nums.specs.declared.replies.Reply.TheVariants as reply
-use Rattle.spk_nums.specs.declared.steps.StageEnd.{StageEnd}
+use Rattle.word_map.specs.{EntryAt, LiveAt, Shape, Move, LoadOf}
+use Rattle.frame_words.specs.{CompFits, comp_of_word, live_of_word}
 use Rattle.spk_nums.specs.declared.steps.StageEnd.TheVariants.{Going, Done, Refuse}
-use Rattle.frame_words.specs.Comp.{CompFits, comp_of_word}
-use Rattle.frame_words.specs.Live.{live_of_word}
-use Rattle.frame_words.specs.declared.comp_word.CompWord.{CompWord}
-use Rattle.frame_words.specs.declared.live_word.LiveWord.{LiveWord}
 use Rattle.frame_words.specs.declared.live_word.LiveWord.TheVariants.{Free, Live, Closing, Dead}
-use Rattle.word_map.specs.Word.{EntryAt, LiveAt}
-use Rattle.word_map.specs.Places.{Shape}
-use Rattle.word_map.specs.Moves.{Move, LoadOf}
-use Rattle.stage_thread.specs.declared.alive.Alive.{Alive}
-use Rattle.stage_thread.specs.declared.alive.Alive.TheVariants.{AtComp, AtLive}
+use Rattle.stage_thread.specs.{declared.alive.Alive.Alive, declared.alive.Alive.TheVariants.AtComp, declared.alive.Alive.TheVariants.AtLive}
+use Rattle.{spk_nums.specs.declared.steps.StageEnd.StageEnd, spk_nums.specs.declared.replies.Reply.Reply}
+use Rattle.{frame_words.specs.declared.comp_word.CompWord.CompWord, frame_words.specs.declared.live_word.LiveWord.LiveWord}
 
 -- the component is a frame of the machine, and its number a number of it
 abbrev pub AliveFits : Shape → Alive → Type 0
@@ -26,22 +20,22 @@ alive_move (AtLive life) = LoadOf (LiveAt life.number)
 
 -- it is done where the number is live in the component's epoch
 abbrev pub lives_end : Bool → StageEnd (Unit {0})
-lives_end lives = if lives then Done tt else Refuse reply.Dead
+lives_end lives = if lives then Done tt else Refuse Reply.Dead
 
 -- a number that a core is closing is refused, and so is one that is not live in this epoch
 abbrev pub number_end : ℕ → LiveWord → StageEnd (Unit {0})
-number_end epoch Free = Refuse reply.Dead
+number_end epoch Free = Refuse Reply.Dead
 number_end epoch (Live now frame) = lives_end (now == epoch)
-number_end epoch (Closing now by) = Refuse (reply.Busy by)
-number_end epoch (Dead now stamp) = Refuse reply.Dead
+number_end epoch (Closing now by) = Refuse (Reply.Busy by)
+number_end epoch (Dead now stamp) = Refuse Reply.Dead
 
 abbrev pub live_end : ℕ → Option LiveWord → StageEnd (Unit {0})
-live_end epoch None = Refuse reply.Raced
+live_end epoch None = Refuse Reply.Raced
 live_end epoch (Some number) = number_end epoch number
 
 -- the component's word names a number to be asked
 abbrev pub comp_end : Option CompWord → StageEnd (Unit {0})
-comp_end None = Refuse reply.Raced
+comp_end None = Refuse Reply.Raced
 comp_end (Some life) = Going
 
 -- what a step leads to that finds this word

@@ -1,40 +1,19 @@
 -- Where each copy keeps both rights, every capability has both, and no name lacks a right.
-use Rattle.std.proofs.Common.{◌≡◌, ℕ, Bool, true, false, List, [], ◌∷◌, Option, Some, None, IsTrue, IsFalse, IsSomeAnd}
-use Rattle.std.proofs.Common.{inl, inr, refl, sym, ap, ◌∙◌, subst, ◌==◌, nat_lt, ◌+◌, if◌then◌else◌}
-use Rattle.std.proofs.lemmas.Bool.{false≢true}
-use Rattle.spk_nums.proofs.KeptRights.{both_kept}
-use Rattle.spk_nums.specs.Capability.{Capability, cap_of}
-use Rattle.spk_nums.specs.Rights.{both, has_rights, kept, part_of}
-use Rattle.spk_nums.specs.Setting.{Setting}
-use Rattle.spk_nums.specs.declared.kinds.Kind.TheVariants as kind
-use Rattle.spk_nums.specs.declared.kinds.FrameKind.{FrameKind}
-use Rattle.spk_nums.specs.declared.kinds.FrameKind.TheVariants as frame_kind
-use Rattle.spk_nums.specs.declared.calls.Make.{Make}
-use Rattle.spk_nums.specs.declared.calls.Make.TheVariants as make
-use Rattle.spk_nums.specs.declared.calls.Call.{Call}
-use Rattle.spk_nums.specs.declared.calls.Call.TheVariants.{Look, Copy, Remove, Grow, Shrink, Retype, Make as make_call}
-use Rattle.spk_nums.specs.declared.calls.Call.TheVariants.{Map, Unmap, Touch, Flush, Gate, Kill, Call as call_gate}
-use Rattle.spk_nums.specs.declared.calls.Call.TheVariants.{Ret, Switch, Tick, Transfer, Delegate, Test, Part, Replenish}
-use Rattle.spk_nums.specs.declared.translations.Translation.{Translation}
-use Rattle.spk_nums.specs.declared.replies.Reply.{Reply}
-use Rattle.spk_nums.specs.declared.replies.Reply.TheVariants as reply
-use Rattle.kernel_rules.specs.State.{Place, Free, Holds, Quiescing, PlaceOf, State, put, with_place, thread_in, comp_of}
-use Rattle.kernel_rules.specs.Start.{plain_cap, start_cap, place_with, start}
-use Rattle.kernel_rules.specs.Access.{Slot, Named, Want, Under, InRoot, found, place_at, usable_in, usable, reached, own, any, only}
-use Rattle.kernel_rules.specs.Access.{to_copy, to_part}
-use Rattle.kernel_rules.specs.Rules.{Change, Judged, Refused, Found, named, held}
-use Rattle.kernel_rules.specs.CapabilityCalls.{make_rule}
-use Rattle.kernel_rules.specs.MemoryCalls.{retype_rule, touch_by, translation_of}
-use Rattle.kernel_rules.specs.InvocationCalls.{switch_to}
-use Rattle.kernel_rules.specs.CallRelation.{rule_of, change_of, changed, owed_by, state_by}
-use Rattle.kernel_rules.specs.Runs.{Event, Enters, Decides, Returns, after}
-use Rattle.kernel_rules.proofs.Changes.{IfFound}
-use Rattle.kernel_invariant.proofs.Sound.{put_all}
-use Rattle.kernel_invariant.proofs.Facts.{ChangesFrom, outcome_from, held_facts, suits}
-use Rattle.found_stays.proofs.Stays.{name_parts}
-use Rattle.kernel_laws.specs.Causes.{OneIs, used_at, leads, Name, names_made, names_of}
-use Rattle.kernel_laws.proofs.Causes.{causes_stand}
+use Rattle.kernel_laws.proofs.{◌≡◌, ℕ, Bool, true, false, List, [], ◌∷◌, Option, Some, None, IsTrue, IsFalse, IsSomeAnd, inl, inr, refl}
+use Rattle.kernel_laws.proofs.{sym, ap, ◌∙◌, subst, ◌==◌, ltb as nat_lt, ◌+◌, if◌then◌else◌, false≢true, Capability, cap_of, both}
+use Rattle.kernel_laws.proofs.{has_rights, kept, part_of, Setting, FrameKind, Call, Look, Copy, Remove, Grow, Shrink, Retype}
+use Rattle.kernel_laws.proofs.{Make as make_call, Map, Unmap, Touch, Flush, Gate, Kill, Ret, Switch, Tick, Transfer, Delegate, Test, Part}
+use Rattle.kernel_laws.proofs.{Replenish, Translation, Reply, Place, Free, Holds, Quiescing, PlaceOf, State, put, with_place, thread_in}
+use Rattle.kernel_laws.proofs.{comp_of, plain_cap, start_cap, place_with, start, Slot, Named, Want, Under, InRoot, found, place_at}
+use Rattle.kernel_laws.proofs.{usable_in, usable, reached, own, any, only, to_copy, Change, Judged, Refused, Found, named, held, make_rule}
+use Rattle.kernel_laws.proofs.{retype_rule, touch_by, translation_of, switch_to, rule_of, change_of, changed, owed_by, state_by, Event}
+use Rattle.kernel_laws.proofs.{Enters, Decides, Returns, after, IfFound, put_all, ChangesFrom, outcome_from, suits, name_parts, Kind}
+use Rattle.kernel_laws.specs.Causes.{OneIs, Name, names_made, names_of}
 use Rattle.state_laws.specs.Rights.{KeepsBoth, KeepBoth, BothStay, NoRightLacks}
+use Rattle.{kernel_laws.specs.used_at, kernel_laws.specs.leads, kernel_laws.specs.kernel_rules.specs.Make}
+use Rattle.{kernel_laws.specs.kernel_rules.specs.to_part, kernel_laws.specs.spk_nums.proofs.KeptRights.both_kept}
+use Rattle.{kernel_laws.specs.spk_nums.specs.declared.calls.Call.TheVariants.Call as call_gate}
+use Rattle.{kernel_laws.specs.kernel_invariant.proofs.Facts.held_facts, kernel_laws.proofs.Causes.causes_stand}
 
 -- What a place holds or held has both rights; and so in each place.
 abbrev HasBoth : Place → Type 0
@@ -78,23 +57,23 @@ module _ (s : State) (c : ℕ) (h : AllBoth s) where
   removed at k is = placed s.place at.node at.index (Quiescing k) (subst HasBoth is (h at.node at.index)) h
 
   make_both : (what : Make) (r f t b : ℕ) → ChangesFrom Keeps s c (make_rule s what r f t b)
-  make_both make.Table r f t b = λ range e table g at v calm.
-      placed (put s.place f (λ j. Free)) at.node at.index (Holds (plain_cap kind.Table f)) refl (cleared_both f)
-  make_both make.Leaf r f t b = λ range e table g at v calm.
-      placed (put s.place f (λ j. Free)) at.node at.index (Holds (plain_cap kind.Leaf f)) refl (cleared_both f)
-  make_both make.Pages r f t b = λ range e table g at v calm.
-      placed (put s.place f (λ j. Free)) at.node at.index (Holds (plain_cap kind.Pages f)) refl (cleared_both f)
-  make_both make.Pleaf r f t b = λ range e table g at v calm.
-      placed (put s.place f (λ j. Free)) at.node at.index (Holds (plain_cap kind.Pleaf f)) refl (cleared_both f)
-  make_both (make.Thread comp) r f t b = λ range e table g k j at v calm.
-      placed s.place at.node at.index (Holds (plain_cap kind.Thread f)) refl h
-  make_both (make.Tcap sched quality) r f t b = λ range e table g at v calm.
-      placed s.place at.node at.index (Holds (plain_cap kind.Tcap f)) refl h
-  make_both (make.Comp x p l) r f t b = λ range e table g own_table a own_pages d at v calm.
-      placed s.place at.node at.index (Holds (plain_cap kind.Comp f)) refl h
+  make_both Make.Table r f t b = λ range e table g at v calm.
+      placed (put s.place f (λ j. Free)) at.node at.index (Holds (plain_cap Kind.Table f)) refl (cleared_both f)
+  make_both Make.Leaf r f t b = λ range e table g at v calm.
+      placed (put s.place f (λ j. Free)) at.node at.index (Holds (plain_cap Kind.Leaf f)) refl (cleared_both f)
+  make_both Make.Pages r f t b = λ range e table g at v calm.
+      placed (put s.place f (λ j. Free)) at.node at.index (Holds (plain_cap Kind.Pages f)) refl (cleared_both f)
+  make_both Make.Pleaf r f t b = λ range e table g at v calm.
+      placed (put s.place f (λ j. Free)) at.node at.index (Holds (plain_cap Kind.Pleaf f)) refl (cleared_both f)
+  make_both (Make.Thread comp) r f t b = λ range e table g k j at v calm.
+      placed s.place at.node at.index (Holds (plain_cap Kind.Thread f)) refl h
+  make_both (Make.Tcap sched quality) r f t b = λ range e table g at v calm.
+      placed s.place at.node at.index (Holds (plain_cap Kind.Tcap f)) refl h
+  make_both (Make.Comp x p l) r f t b = λ range e table g own_table a own_pages d at v calm.
+      placed s.place at.node at.index (Holds (plain_cap Kind.Comp f)) refl h
 
   retype_both : (r f : ℕ) (k : FrameKind) → ChangesFrom Keeps s c (retype_rule s r f k)
-  retype_both r f frame_kind.Untyped = λ range e calm. h
+  retype_both r f FrameKind.Untyped = λ range e calm. h
   retype_both r f _ = λ range e calm. h
 
   touch_both : (pages v : ℕ) (t : Option Translation) → ChangesFrom Keeps s c (touch_by pages v t)
@@ -110,15 +89,15 @@ module _ (s : State) (c : ℕ) (h : AllBoth s) where
   rule_both (Copy a t b rights) keep = λ k e table f at v calm.
       placed s.place at.node at.index (Holds (kept k rights.0)) (both_kept k.kind k.rights rights.0 (named_both a (to_copy any) k e) keep) h
   rule_both (Remove t b) keep = λ table e at k g calm. removed at k (held_facts s c (Under (found table) b) at k g).1
-  rule_both (Grow t i l) keep = λ table e leaf f at v calm. placed s.place at.node at.index (Holds (plain_cap kind.Link leaf.frame)) refl h
+  rule_both (Grow t i l) keep = λ table e leaf f at v calm. placed s.place at.node at.index (Holds (plain_cap Kind.Link leaf.frame)) refl h
   rule_both (Shrink t i) keep = λ table e at k g calm. removed at k (held_facts s c (InRoot (found table) i) at k g).1
   rule_both (Retype r f k) keep = retype_both r f k
   rule_both (make_call what r f t b) keep = make_both what r f t b
-  rule_both (Map p v r f w) keep = λ pages e range g at u calm. placed s.place at.node at.index (Holds (cap_of kind.Page f w.0)) refl h
+  rule_both (Map p v r f w) keep = λ pages e range g at u calm. placed s.place at.node at.index (Holds (cap_of Kind.Page f w.0)) refl h
   rule_both (Unmap p v) keep = λ pages e at k g calm. removed at k (held_facts s c (Under (found pages) v) at k g).1
   rule_both (Touch v) keep = touch_both (comp_of s c).pages v (translation_of (s.core c).cached (comp_of s c).pages v)
   rule_both Flush keep = λ calm. h
-  rule_both (Gate k t b) keep = λ comp e table f at v calm. placed s.place at.node at.index (Holds (cap_of kind.Gate comp.frame _)) refl h
+  rule_both (Gate k t b) keep = λ comp e table f at v calm. placed s.place at.node at.index (Holds (cap_of Kind.Gate comp.frame _)) refl h
   rule_both (Kill k) keep = λ comp e calm. h
   rule_both (call_gate g) keep = λ gate e calm. h
   rule_both Ret keep = λ calm. h
@@ -129,7 +108,7 @@ module _ (s : State) (c : ℕ) (h : AllBoth s) where
   rule_both (Test a b) keep = λ j e k f calm. h
   rule_both (Replenish a m) keep = λ j e calm. h
   rule_both (Part r f n t b) keep = λ k e table g at v calm.
-      placed s.place at.node at.index (Holds (part_of k f n)) (named_both r (to_part (only kind.Range)) k e) h
+      placed s.place at.node at.index (Holds (part_of k f n)) (named_both r (to_part (only Kind.Range)) k e) h
 
   change_both : (x : Judged Change) → IfFound x Keeps → AllBoth (changed s x)
   change_both (Refused r) by = h
@@ -140,11 +119,11 @@ module _ (s : State) (c : ℕ) (h : AllBoth s) where
   owed_both _ = h
 
   decided_both : (call : Call) (r : Reply) → KeepsBoth call → AllBoth (state_by s c call r)
-  decided_both call (reply.Ok v) keep =
+  decided_both call (Reply.Ok v) keep =
       change_both (change_of s c call) (outcome_from Keeps s c (rule_of s c call) (rule_both call keep))
-  decided_both call reply.CallsSpent keep = h
-  decided_both call reply.Raced keep = owed_both call
-  decided_both call (reply.Busy e) keep = owed_both call
+  decided_both call Reply.CallsSpent keep = h
+  decided_both call Reply.Raced keep = owed_both call
+  decided_both call (Reply.Busy e) keep = owed_both call
   decided_both call _ keep = h
 
 -- The capabilities of the start have both.
@@ -194,8 +173,8 @@ AreMet [] = Unit {0}
 AreMet (n ∷ names) = (has_rights both n.want.needs ≡ true) × AreMet names
 
 made_met : (what : Make) → AreMet (names_made what)
-made_met (make.Thread comp) = (refl, tt)
-made_met (make.Comp table pages live) = (refl, (refl, tt))
+made_met (Make.Thread comp) = (refl, tt)
+made_met (Make.Comp table pages live) = (refl, (refl, tt))
 made_met _ = tt
 
 met : (s : State) (c : ℕ) (call : Call) → AreMet (names_of s c call)
@@ -240,4 +219,4 @@ module _ (s : State) (c : ℕ) (h : AllBoth s) where
 pub no_right_lacks : NoRightLacks
 no_right_lacks setting events keep c call may =
     no_name (after setting events) c (after_both setting events keep) (names_of (after setting events) c call)
-    (met (after setting events) c call) (causes_stand (after setting events) c call reply.NoRight may)
+    (met (after setting events) c call) (causes_stand (after setting events) c call Reply.NoRight may)

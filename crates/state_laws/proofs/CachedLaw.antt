@@ -1,45 +1,25 @@
 -- In every state that a run reaches, what a core has cached stands.
-use Rattle.std.proofs.Common.{◌≡◌, ◌≢◌, ◌⊎◌, inl, inr, ℕ, ◌<◌, ◌≤◌, ◌/◌, ◌%◌, arith, Bool, true, false, refl, sym, ◌∙◌, ap, ◌||◌}
-use Rattle.std.proofs.Common.{subst, nat_lt, nat_le, if◌then◌else◌, IsTrue, List, [], ◌∷◌, ◌++◌, length, Option, Some, None}
-use Rattle.std.proofs.lemmas.Bool.{cases_eq, false≢true, ltb-false}
-use Rattle.std.specs.List.{AllByRecursion}
-use Rattle.spk_nums.specs.Setting.{Setting, IsSetting}
-use Rattle.spk_nums.specs.CallLimits.{InLimits}
-use Rattle.spk_nums.specs.Capability.{Capability}
-use Rattle.spk_nums.specs.declared.kinds.Kind.TheVariants as kind
-use Rattle.spk_nums.specs.declared.calls.Call.{Call}
-use Rattle.spk_nums.specs.declared.calls.Call.TheVariants.{Tick}
-use Rattle.spk_nums.specs.declared.translations.Translation.{Translation}
-use Rattle.spk_nums.specs.declared.replies.Reply.{Reply}
-use Rattle.spk_nums.specs.declared.replies.Reply.TheVariants as reply
-use Rattle.kernel_rules.specs.State.{Place, Free, Holds, Quiescing, Pages, Pleaf, Frame, User, Kernel, Core}
-use Rattle.kernel_rules.specs.State.{Thing, PlaceOf, FrameOf, State, put, with_core, comp_of}
-use Rattle.kernel_rules.specs.References.{named_by, times, refs}
-use Rattle.kernel_rules.specs.Access.{Slot, root_at, Under, place_at, held_in, usable_in, usable, linked, slot_in, reached, root_slot}
-use Rattle.kernel_rules.specs.GracePeriods.{is_paging, is_translated, needs_flush, entered, returned}
-use Rattle.kernel_rules.specs.Rules.{Found, and_then, or_refuse, unless, mapped}
-use Rattle.kernel_rules.specs.Edits.{caching, Edit, Fill, Merge, Give, Switch, Cache, Flush, Charge, edited, after_edits}
-use Rattle.kernel_rules.specs.CallRelation.{change_of, changed, owed_by, state_by, MayReply, flushes, flushes_by}
-use Rattle.kernel_rules.specs.Fitting.{fits, IsGood}
-use Rattle.kernel_rules.specs.Relies.{IsGuarded}
-use Rattle.kernel_rules.specs.Runs.{Event, Enters, Decides, Returns, after, is_in, is_open, IsRun}
-use Rattle.kernel_rules.proofs.Within.{put_same, put_other}
-use Rattle.kernel_rules.proofs.AloneLaw.{waits_inside, decided_stays}
-use Rattle.kernel_invariant.proofs.Sums.{times_first}
-use Rattle.kernel_invariant.proofs.Sound.{only_is, put_all}
-use Rattle.kernel_invariant.proofs.SoundCalls.{IsOpen}
-use Rattle.kernel_invariant.proofs.SoundRuns.{opened, open_is, open_limits, inside_is, limits_stay}
-use Rattle.found_stays.proofs.SparesRuns.{core_same_refs}
-use Rattle.kernel_invariant.proofs.Refs.{grace_refs}
-use Rattle.kernel_invariant.specs.Edits.{is_flush, flush_in}
-use Rattle.kernel_invariant.proofs.Edited.{Tested, Each, AreLater, later_core, Calm, after_ok}
-use Rattle.kernel_invariant.proofs.Facts.{then_parts, or_found, some_inj, none_some, found_inj, refused_found}
-use Rattle.found_stays.proofs.Stays.{link_of, fields, pages_relies, usable_guarded, place_named}
+use Rattle.kernel_laws.proofs.{◌≡◌, ◌≢◌, ◌⊎◌, inl, inr, ℕ, ◌<◌, ◌≤◌, ◌/◌, ◌%◌, arith, Bool, true, false, refl, sym, ◌∙◌, ap, ◌||◌, subst}
+use Rattle.kernel_laws.proofs.{ltb as nat_lt, leb as nat_le, if◌then◌else◌, IsTrue, List, [], ◌∷◌, ◌++◌, length, Option, Some, None}
+use Rattle.kernel_laws.proofs.{false≢true, ltb-false, Setting, IsSetting, InLimits, Capability, Call, Tick, Translation, Reply, Place, Free}
+use Rattle.kernel_laws.proofs.{Holds, Quiescing, Pages, Pleaf, Frame, User, Kernel, Core, Thing, PlaceOf, FrameOf, State, put, with_core}
+use Rattle.kernel_laws.proofs.{comp_of, named_by, times, refs, Slot, root_at, Under, place_at, held_in, usable_in, usable, linked, slot_in}
+use Rattle.kernel_laws.proofs.{reached, root_slot, is_paging, is_translated, entered, returned, Found, and_then, or_refuse, unless, mapped}
+use Rattle.kernel_laws.proofs.{caching, Edit, Fill, Merge, Give, Cache, Charge, edited, after_edits, change_of, changed, owed_by, state_by}
+use Rattle.kernel_laws.proofs.{MayReply, flushes, flushes_by, fits, IsGood, IsGuarded, Event, Enters, Decides, Returns, after, is_in}
+use Rattle.kernel_laws.proofs.{is_open, IsRun, put_same, put_other, waits_inside, times_first, only_is, put_all, IsOpen, opened, open_is}
+use Rattle.kernel_laws.proofs.{open_limits, inside_is, limits_stay, core_same_refs, grace_refs, Tested, Each, AreLater, Calm, after_ok}
+use Rattle.kernel_laws.proofs.{then_parts, or_found, some_inj, none_some, IsFitted, runs_fit, held_is, mapped_page, phase_own, phase_other}
+use Rattle.kernel_laws.specs.found_stays.proofs.{pages_relies, usable_guarded}
+use Rattle.kernel_laws.specs.kernel_rules.proofs.{needs_flush, decided_stays}
+use Rattle.kernel_laws.specs.kernel_rules.specs.Edits.{Switch, Flush}
+use Rattle.kernel_laws.specs.kernel_invariant.specs.Edits.{is_flush, flush_in}
+use Rattle.kernel_laws.specs.kernel_invariant.proofs.{Edited.later_core, Facts.found_inj, Facts.refused_found, SoundRuns.decided_opened}
+use Rattle.kernel_laws.specs.found_stays.proofs.Stays.{link_of, fields, place_named}
+use Rattle.kernel_laws.proofs.NodesLaw.{leaf_fits, pages_leaf, fit_node}
 use Rattle.state_laws.specs.Cached.{IsStillThere, IsLinkTo, IsMappingOf, IsOrWas, Stands, TranslationsStand}
-use Rattle.kernel_laws.proofs.NodeSteps.{IsFitted}
-use Rattle.kernel_laws.proofs.NodesLaw.{runs_fit, leaf_fits, pages_leaf, fit_node, held_is, mapped_page}
-use Rattle.kernel_invariant.proofs.SoundRuns.{phase_own, phase_other, decided_opened}
 use Rattle.state_laws.proofs.Flushes.{frame_stays, there_stays, place_unflushed, place_holds, IsWaited, decided_waited}
+use Rattle.{kernel_laws.proofs.Kind, std.proofs.lemmas.Bool.cases_eq, std.specs.List.AllByRecursion}
 
 -- All of a list.
 all_map : {A : Type 0} (P Q : A → Type 0) (xs : List A) → ((x : A) → P x → Q x) → AllByRecursion P xs → AllByRecursion Q xs
@@ -122,7 +102,7 @@ module _ (s : State) (o : ℕ → Bool) (c : ℕ) (h : IsOpen s o c) (w : IsFitt
 
   -- A link that core c may use.
   entry_of : (f i : ℕ) (j : Capability) (leaf : ℕ) → IsTrue (is_paging (s.frame f)) → usable s c (record { node = f; index = i }) ≡ Some j
-      → j.kind ≡ kind.Link → j.frame ≡ leaf
+      → j.kind ≡ Kind.Link → j.frame ≡ leaf
       → IsOrWas s c (IsLinkTo leaf) f i
   entry_of f i j leaf is e link same = by_place (s.place f i) refl e
     where
@@ -136,10 +116,10 @@ module _ (s : State) (o : ℕ → Bool) (c : ℕ) (h : IsOpen s o c) (w : IsFitt
       by_place (Holds m) at q = inl (subst (IsLinkTo leaf) (sym (at ∙ ap Holds (some_inj m j q))) (link, same))
       by_place (Quiescing m) at q = inr (u.unflushed (PlaceOf f i) c h.is (by_wait m ((s.grace (PlaceOf f i)).waits c) refl q) is)
 
-  user_of : (k : Capability) → k.kind ≡ kind.Page → IsGood s k → s.frame k.frame ≡ User
+  user_of : (k : Capability) → k.kind ≡ Kind.Page → IsGood s k → s.frame k.frame ≡ User
   user_of k is good = by_frame (s.frame k.frame) (subst (λ j. IsTrue (fits j (s.frame k.frame))) is good.fit)
     where
-      by_frame : (x : Frame) → IsTrue (fits kind.Page x) → x ≡ User
+      by_frame : (x : Frame) → IsTrue (fits Kind.Page x) → x ≡ User
       by_frame User fit = refl
       by_frame _ fit = absurd (false≢true fit)
 
@@ -147,27 +127,27 @@ module _ (s : State) (o : ℕ → Bool) (c : ℕ) (h : IsOpen s o c) (w : IsFitt
       → Stands s c (record { pages = (comp_of s c).pages; page = v; frame = k.frame; flags = record { 0 = k.arg } })
   touched v k e =
       let pages : ℕ = (comp_of s c).pages in
-      let a = then_parts (unless (if nat_lt 4095 v then Some reply.NoSlot else None) v)
-      (λ v. and_then (or_refuse (reached s c (Under (root_at pages) v)) reply.Fault)
-      λ at. or_refuse (held_in (place_at s at)) reply.Fault) k e in
-      let b = then_parts (or_refuse (reached s c (Under (root_at pages) a.0)) reply.Fault)
-      (λ at. or_refuse (held_in (place_at s at)) reply.Fault) k a.2 in
+      let a = then_parts (unless (if nat_lt 4095 v then Some Reply.NoSlot else None) v)
+      (λ v. and_then (or_refuse (reached s c (Under (root_at pages) v)) Reply.Fault)
+      λ at. or_refuse (held_in (place_at s at)) Reply.Fault) k e in
+      let b = then_parts (or_refuse (reached s c (Under (root_at pages) a.0)) Reply.Fault)
+      (λ at. or_refuse (held_in (place_at s at)) Reply.Fault) k a.2 in
       let small : v ≤ 4095 = by_test (nat_lt 4095 v) refl a.1 in
       let v_is : v ≡ a.0 = page_is (nat_lt 4095 v) a.1 in
       let r0 : reached s c (Under (root_at pages) a.0) ≡ Some b.0 =
-      or_found (reached s c (Under (root_at pages) a.0)) reply.Fault b.0 b.1 in
+      or_found (reached s c (Under (root_at pages) a.0)) Reply.Fault b.0 b.1 in
       let r : reached s c (Under (root_at pages) v) ≡ Some b.0 = ap (λ n. reached s c (Under (root_at pages) n)) v_is ∙ r0 in
       let l = link_of (usable s c (root_slot pages v)) (nat_le v 4095) (v % 64) b.0 r in
       let index : v % 64 ≡ b.0.index = index_of (linked (usable s c (root_slot pages v))) (nat_le v 4095) (v % 64) b.0 r in
-      let fit : IsTrue (fits kind.Pages (s.frame pages)) = (fields s o c h.sound h.is).1 in
+      let fit : IsTrue (fits Kind.Pages (s.frame pages)) = (fields s o c h.sound h.is).1 in
       let root : s.frame pages ≡ Kernel Pages = pages_root (s.frame pages) fit in
       let leaf : s.frame b.0.node ≡ Kernel Pleaf =
       pages_leaf s o c h w (s.frame pages) fit (s.frame b.0.node)
-      (leaf_fits s o c h w (root_at pages) v b.0 ((fit_node s o c h w kind.Pages (s.frame pages) fit).1 refl) r) in
+      (leaf_fits s o c h w (root_at pages) v b.0 ((fit_node s o c h w Kind.Pages (s.frame pages) fit).1 refl) r) in
       let held : s.place b.0.node b.0.index ≡ Holds k =
-      held_is s o c h w (place_at s b.0) k (or_found (held_in (place_at s b.0)) reply.Fault k b.2) in
-      let page : k.kind ≡ kind.Page = mapped_page s o c h w v k e in
-      let link : l.0.kind ≡ kind.Link = only_is kind.Link l.0.kind l.2 in
+      held_is s o c h w (place_at s b.0) k (or_found (held_in (place_at s b.0)) Reply.Fault k b.2) in
+      let page : k.kind ≡ Kind.Page = mapped_page s o c h w v k e in
+      let link : l.0.kind ≡ Kind.Link = only_is Kind.Link l.0.kind l.2 in
       let user : s.frame k.frame ≡ User = user_of k page (h.sound.held b.0.node b.0.index k held) in
       record {
         leaf = b.0.node;
@@ -192,15 +172,15 @@ module _ (s : State) (o : ℕ → Bool) (c : ℕ) (h : IsOpen s o c) (w : IsFitt
             )));
       }
     where
-      by_test : (t : Bool) → nat_lt 4095 v ≡ t → {n : ℕ} → unless (if t then Some reply.NoSlot else None) v ≡ Found n → v ≤ 4095
+      by_test : (t : Bool) → nat_lt 4095 v ≡ t → {n : ℕ} → unless (if t then Some Reply.NoSlot else None) v ≡ Found n → v ≤ 4095
       by_test false is e = ltb-false 4095 v is
-      by_test true is {n = n} e = absurd (refused_found reply.NoSlot n e)
+      by_test true is {n = n} e = absurd (refused_found Reply.NoSlot n e)
 
-      page_is : (t : Bool) → {n : ℕ} → unless (if t then Some reply.NoSlot else None) v ≡ Found n → v ≡ n
+      page_is : (t : Bool) → {n : ℕ} → unless (if t then Some Reply.NoSlot else None) v ≡ Found n → v ≡ n
       page_is false {n = n} e = found_inj v n e
-      page_is true {n = n} e = absurd (refused_found reply.NoSlot n e)
+      page_is true {n = n} e = absurd (refused_found Reply.NoSlot n e)
 
-      pages_root : (x : Frame) → IsTrue (fits kind.Pages x) → x ≡ Kernel Pages
+      pages_root : (x : Frame) → IsTrue (fits Kind.Pages x) → x ≡ Kernel Pages
       pages_root (Kernel Pages) fit = refl
       pages_root _ fit = absurd (false≢true fit)
 
@@ -276,14 +256,14 @@ owed_lists s c _ below all = none_flushed s c all
 decided_lists : (s : State) (o : ℕ → Bool) (c : ℕ) (call : Call) (r : Reply) → IsOpen s o c → MayReply s c call r → IsFitted s o
     → IsWaited s o → AllStand s s.core
     → Lists s (state_by s c call r) c (flushes call r)
-decided_lists s o c call (reply.Ok v) h may w u all =
+decided_lists s o c call (Reply.Ok v) h may w u all =
     same_lists s (changed s (change_of s c call)) c (flushes_by call) _ (h.sound.inside c h.is).1 refl
     (after_ok s c call v (λ t. Lists s t c (flushes_by call)) may (λ es e.
     subst (λ b. Caches s c b (after_edits c s es).core) (sym e.agrees.1) (edits_cache s o c h w u all es e.calm e.tested)))
-decided_lists s o c call reply.CallsSpent h may w u all = none_flushed s c all
-decided_lists s o c call reply.Raced h may w u all =
+decided_lists s o c call Reply.CallsSpent h may w u all = none_flushed s c all
+decided_lists s o c call Reply.Raced h may w u all =
     same_lists s (owed_by s c call) c false _ (h.sound.inside c h.is).1 refl (owed_lists s c call (h.sound.inside c h.is).1 all)
-decided_lists s o c call (reply.Busy e) h may w u all =
+decided_lists s o c call (Reply.Busy e) h may w u all =
     same_lists s (owed_by s c call) c false _ (h.sound.inside c h.is).1 refl (owed_lists s c call (h.sound.inside c h.is).1 all)
 decided_lists s o c call _ h may w u all = same_lists s s c false _ (h.sound.inside c h.is).1 refl (none_flushed s c all)
 

@@ -1,35 +1,17 @@
 -- No two components have one liveness number and one epoch: a component is made in a later epoch than the last of its number.
-use Rattle.std.proofs.Common.{◌≡◌, ◌≢◌, inl, inr, ℕ, ◌+◌, ◌-◌, ◌*◌, ◌≤◌, arith, Bool, true, false, refl}
-use Rattle.std.proofs.Common.{sym, ◌∙◌, ap, subst, ◌==◌, nat_lt, IsTrue, List, [], ◌∷◌, None}
-use Rattle.std.proofs.lemmas.Bool.{false≢true, cases_eq, eqb-true}
-use Rattle.spk_nums.specs.Setting.{Setting}
-use Rattle.spk_nums.specs.CallLimits.{InLimits}
-use Rattle.spk_nums.specs.declared.kinds.Kind.TheVariants as kind
-use Rattle.spk_nums.specs.declared.calls.Call.{Call}
-use Rattle.spk_nums.specs.declared.calls.Call.TheVariants.{Tick}
-use Rattle.spk_nums.specs.declared.replies.Reply.{Reply}
-use Rattle.spk_nums.specs.declared.replies.Reply.TheVariants as reply
-use Rattle.kernel_rules.specs.State.{CompFields, ThreadFields, TcapFields, Comp, Thread, Tcap, Frame}
-use Rattle.kernel_rules.specs.State.{Untyped, Kernel, Liveness, Live, Dead, State, put, comp_in}
-use Rattle.kernel_rules.specs.Start.{start}
-use Rattle.kernel_rules.specs.CapabilityCalls.{epoch_of}
-use Rattle.kernel_rules.specs.Life.{is_live_in}
-use Rattle.kernel_rules.specs.Edits.{with_thread, running, with_tcap, with_budget, tcap_at, Edit, Node, Become, Untype, Component, Deaden}
-use Rattle.kernel_rules.specs.Edits.{Push, Pop, Switch, Charge, Move, Merge, Give, edited, after_edits}
-use Rattle.kernel_rules.specs.CallRelation.{owed_by, state_by, MayReply}
-use Rattle.kernel_rules.specs.Fitting.{fits}
-use Rattle.kernel_rules.specs.Relies.{is_node}
-use Rattle.kernel_rules.specs.Runs.{Event, Enters, Decides, Returns, after, IsRun}
-use Rattle.kernel_rules.proofs.Within.{put_same, put_other}
-use Rattle.kernel_invariant.proofs.Sound.{put_all}
-use Rattle.kernel_invariant.proofs.SoundStart.{choose}
-use Rattle.kernel_invariant.proofs.SoundRuns.{open_limits}
-use Rattle.kernel_invariant.proofs.Edited.{Tested, Limited, Each, after_ok}
-use Rattle.state_laws.specs.Lives.{CompsApart}
+use Rattle.kernel_laws.proofs.{◌≡◌, ◌≢◌, inl, inr, ℕ, ◌+◌, ◌-◌, ◌*◌, ◌≤◌, arith, Bool, true, false, refl, sym, ◌∙◌, ap, subst, ◌==◌}
+use Rattle.kernel_laws.proofs.{ltb as nat_lt, IsTrue, List, [], ◌∷◌, None, false≢true, eqb-true, Setting, InLimits, Call, Tick, Reply}
+use Rattle.kernel_laws.proofs.{CompFields, ThreadFields, TcapFields, Comp, Thread, Tcap, Frame, Untyped, Kernel, Liveness, Live, Dead}
+use Rattle.kernel_laws.proofs.{State, put, comp_in, start, epoch_of, is_live_in, with_thread, running, with_tcap, with_budget, tcap_at}
+use Rattle.kernel_laws.proofs.{Edit, Node, Become, Untype, Component, Deaden, Push, Pop, Charge, Move, Merge, Give, edited, after_edits}
+use Rattle.kernel_laws.proofs.{owed_by, state_by, MayReply, fits, is_node, Event, Enters, Decides, Returns, after, IsRun, put_same}
+use Rattle.kernel_laws.proofs.{put_other, put_all, open_limits, Tested, Each, after_ok, Kind}
+use Rattle.kernel_laws.specs.kernel_invariant.proofs.{SoundStart.choose, Edited.Limited}
+use Rattle.{std.proofs.lemmas.Bool.cases_eq, kernel_laws.specs.kernel_rules.specs.Edits.Switch, state_laws.specs.Lives.CompsApart}
 
 -- Whether a frame has a component.
 abbrev pub is_comp : Frame → Bool
-is_comp x = fits kind.Comp x
+is_comp x = fits Kind.Comp x
 
 -- Each component was made in an epoch of its number that is no later than the last, and no two in one.
 pub record CompsAre (frame : ℕ → Frame) (number : ℕ → Liveness) : Type 0 where
@@ -195,11 +177,11 @@ owed_apart s c _ w = w
 
 decided_apart : (s : State) (c : ℕ) (call : Call) (r : Reply) → InLimits call → MayReply s c call r → Apart s
     → Apart (state_by s c call r)
-decided_apart s c call (reply.Ok v) lim may w =
+decided_apart s c call (Reply.Ok v) lim may w =
     after_ok s c call v Apart may (λ es e. edits_apart c s es e.tested (e.limited lim) w)
-decided_apart s c call reply.CallsSpent lim may w = w
-decided_apart s c call reply.Raced lim may w = owed_apart s c call w
-decided_apart s c call (reply.Busy e) lim may w = owed_apart s c call w
+decided_apart s c call Reply.CallsSpent lim may w = w
+decided_apart s c call Reply.Raced lim may w = owed_apart s c call w
+decided_apart s c call (Reply.Busy e) lim may w = owed_apart s c call w
 decided_apart s c call _ lim may w = w
 
 -- The component of the start is the only one.

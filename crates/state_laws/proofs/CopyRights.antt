@@ -1,23 +1,10 @@
 -- A copy that is carried out puts what its first name leads to, with no right that this lacks.
-use Rattle.std.proofs.Common.{◌≡◌, ℕ, [], ◌∷◌, Some, refl, sym, ap, ◌∙◌, subst}
-use Rattle.spk_nums.proofs.KeptRights.{kept_has}
-use Rattle.spk_nums.specs.Capability.{Capability}
-use Rattle.spk_nums.specs.Rights.{kept}
-use Rattle.spk_nums.specs.declared.kinds.Kind.TheVariants as kind
-use Rattle.spk_nums.specs.declared.calls.Call.TheVariants.{Copy}
-use Rattle.kernel_rules.specs.State.{Place, Holds, put}
-use Rattle.kernel_rules.specs.Access.{Slot, Named, Under, found, any, only, reached, to_copy, to_use}
-use Rattle.spk_nums.specs.declared.replies.Value.TheVariants.{Nothing}
-use Rattle.kernel_rules.specs.Edits.{Fill}
-use Rattle.kernel_rules.specs.Rules.{Change, does, Judged, Refused, Found, IsFoundAnd, named, name_of, vacant, outcome}
-use Rattle.kernel_rules.specs.CapabilityCalls.{copy_rule}
-use Rattle.kernel_rules.specs.CallRelation.{change_of, changed}
-use Rattle.kernel_rules.proofs.Within.{put_same}
-use Rattle.kernel_invariant.proofs.Facts.{then_parts, vacant_facts, suits}
-use Rattle.found_stays.proofs.Stays.{name_parts}
-use Rattle.kernel_laws.specs.Causes.{used_at}
-use Rattle.kernel_laws.proofs.Causes.{leads_is}
-use Rattle.state_laws.specs.Rights.{CopiesPutNoMore}
+use Rattle.kernel_laws.proofs.{◌≡◌, ℕ, [], ◌∷◌, Some, refl, sym, ap, ◌∙◌, subst, Capability, kept, Copy, Place, Holds, put, Slot, Named}
+use Rattle.kernel_laws.proofs.{Under, found, any, only, reached, to_copy, to_use, Nothing, Fill, Change, does, Judged, Refused, Found}
+use Rattle.kernel_laws.proofs.{IsFoundAnd, named, name_of, vacant, outcome, change_of, changed, put_same, then_parts, suits, name_parts}
+use Rattle.{kernel_laws.proofs.leads_is, kernel_laws.proofs.Kind, kernel_laws.specs.spk_nums.proofs.KeptRights.kept_has}
+use Rattle.{kernel_laws.specs.kernel_rules.specs.CapabilityCalls.copy_rule, kernel_laws.specs.kernel_invariant.proofs.Facts.vacant_facts}
+use Rattle.{kernel_laws.specs.Causes.used_at, state_laws.specs.Rights.CopiesPutNoMore}
 
 -- What is found, of what is found and has a property.
 record Has (j : Judged Change) : Type 0 where
@@ -35,19 +22,19 @@ pub copies_put_no_more : CopiesPutNoMore
 copies_put_no_more s c a u b rights v may =
     let done : Has (outcome s c (copy_rule a u b rights.0)) = has (outcome s c (copy_rule a u b rights.0)) _ may.1.1 in
     let first = then_parts (named s c a (to_copy any)) _ done.change done.is in
-    let second = then_parts (named s c u (to_use (only kind.Table))) _ done.change first.2 in
+    let second = then_parts (named s c u (to_use (only Kind.Table))) _ done.change first.2 in
     let target = then_parts (vacant s c (Under (found second.0) b)) _ done.change second.2 in
     let k : Capability = first.0 in
     let at : Slot = target.0 in
     let parts = name_parts s c a (to_copy any) k first.1 in
-    let table : name_of (named s c u (to_use (only kind.Table))) ≡ found second.0 = ap name_of second.1 in
+    let table : name_of (named s c u (to_use (only Kind.Table))) ≡ found second.0 = ap name_of second.1 in
     let change_is : change_of s c (Copy a u b rights) ≡ Found (does c s Nothing (Fill at (kept k rights.0) ∷ [])) =
     done.is ∙ ap (λ (x : Change). Found x) (sym (found_inj (does c s Nothing (Fill at (kept k rights.0) ∷ [])) done.change target.2)) in
     record {
       source = k;
       leads_there = ap (used_at s c) parts.1 ∙ parts.3 ∙ ap (λ (x : Capability). Some x) (suits (to_copy any) parts.2 k parts.4).is;
       at = at;
-      reaches = subst (λ (x : Named). reached s c (Under x b) ≡ Some at) (sym table ∙ leads_is s c (only kind.Table) u)
+      reaches = subst (λ (x : Named). reached s c (Under x b) ≡ Some at) (sym table ∙ leads_is s c (only Kind.Table) u)
           (vacant_facts s c (Under (found second.0) b) at target.1).0;
       put = kept k rights.0;
       holds = ap (λ x. (changed s x).place at.node at.index) change_is

@@ -1,40 +1,19 @@
 -- What decisions make of who has to flush: whoever waits for a thing that translations reach, has not flushed it; and what is
 -- referenced, or not yet flushed by a core, stays so until that core flushes.
-use Rattle.std.proofs.Common.{◌≡◌, ◌≢◌, ◌⊎◌, inl, inr, ℕ, zero, suc, ◌<◌, arith, Bool, true, false, not}
-use Rattle.std.proofs.Common.{refl, sym, ◌∙◌, ap, subst, cond, IsTrue, List, [], ◌∷◌, Option, Some, None}
-use Rattle.std.proofs.lemmas.Bool.{false≢true, eqb-true}
-use Rattle.spk_nums.specs.Capability.{Capability}
-use Rattle.spk_nums.specs.CallLimits.{InLimits}
-use Rattle.spk_nums.specs.declared.calls.Call.{Call}
-use Rattle.spk_nums.specs.declared.calls.Call.TheVariants.{Tick}
-use Rattle.spk_nums.specs.declared.replies.Value.{Value}
-use Rattle.spk_nums.specs.declared.replies.Reply.{Reply}
-use Rattle.spk_nums.specs.declared.replies.Reply.TheVariants as reply
-use Rattle.kernel_rules.specs.State.{Holds, Pages, Pleaf, Frame, User, Kernel, Grace, Thing, PlaceOf, FrameOf, NumberOf, State, put}
-use Rattle.kernel_rules.specs.Start.{no_grace}
-use Rattle.kernel_rules.specs.References.{refs}
-use Rattle.kernel_rules.specs.GracePeriods.{new_grace, begun, lowest, unflushed_by, needs_flush, is_paging, is_translated}
-use Rattle.kernel_rules.specs.Rules.{Change, Unflushed, Judged, Refused, Found, IsFoundAnd, flushes_of}
-use Rattle.kernel_rules.specs.CallRelation.{change_of, changed, counted, owed_by, state_by, MayReply, begins, begins_in, ends, flushes}
-use Rattle.kernel_rules.specs.Relies.{is_node}
-use Rattle.kernel_rules.proofs.Changes.{IfFound}
-use Rattle.kernel_rules.proofs.Within.{put_same, put_other}
-use Rattle.kernel_invariant.proofs.Facts.{some_none}
-use Rattle.kernel_invariant.proofs.SoundRemovals.{find_not}
-use Rattle.kernel_invariant.proofs.SoundCalls.{IsOpen}
-use Rattle.kernel_invariant.proofs.Refs.{RefsBy, refs_by, grace_refs}
-use Rattle.kernel_invariant.specs.Edits.{ends_in, ends_all}
-use Rattle.kernel_rules.specs.Edits.{Edit, Untype}
-use Rattle.kernel_invariant.proofs.Edited.{Tested, Each, Calm, found_by}
-use Rattle.kernel_invariant.proofs.RefsLaw.{counted_refs}
-use Rattle.found_stays.proofs.SparesRuns.{among, core_same_refs}
-use Rattle.kernel_invariant.proofs.GraceChanges.{grace_by, grace_is, flushed_by}
-use Rattle.kernel_invariant.proofs.FrameTurns.{is_typed, TurnsIn, decided_turns}
-use Rattle.kernel_invariant.proofs.Releases.{begins_typed, ends_begins}
-use Rattle.kernel_invariant.proofs.Ends.{found_fact, ends_by_rule}
+use Rattle.kernel_laws.proofs.{◌≡◌, ◌≢◌, ◌⊎◌, inl, inr, ℕ, zero, suc, ◌<◌, arith, Bool, true, false, not, refl, sym, ◌∙◌, ap, subst, cond}
+use Rattle.kernel_laws.proofs.{IsTrue, List, [], ◌∷◌, Option, Some, None, false≢true, eqb-true, Capability, InLimits, Call, Tick, Value}
+use Rattle.kernel_laws.proofs.{Reply, Holds, Pages, Pleaf, Frame, User, Kernel, Grace, Thing, PlaceOf, FrameOf, NumberOf, State, put}
+use Rattle.kernel_laws.proofs.{no_grace, refs, new_grace, begun, lowest, unflushed_by, is_paging, is_translated, Change, Unflushed, Judged}
+use Rattle.kernel_laws.proofs.{Refused, Found, IsFoundAnd, flushes_of, change_of, changed, counted, owed_by, state_by, MayReply, begins}
+use Rattle.kernel_laws.proofs.{begins_in, ends, flushes, is_node, IfFound, put_same, put_other, IsOpen, grace_refs, Edit, Untype, Tested}
+use Rattle.kernel_laws.proofs.{Each, Calm, found_by, core_same_refs, grace_is, flushed_by, ends_by_rule}
+use Rattle.kernel_laws.specs.kernel_invariant.proofs.{some_none, RefsBy, is_typed, TurnsIn, decided_turns, begins_typed}
+use Rattle.kernel_laws.specs.kernel_invariant.specs.{ends_in, ends_all}
+use Rattle.kernel_laws.specs.kernel_invariant.proofs.{SoundRemovals.find_not, Refs.refs_by, RefsLaw.counted_refs, GraceChanges.grace_by}
+use Rattle.kernel_laws.specs.kernel_invariant.proofs.{Releases.ends_begins, Ends.found_fact}
 use Rattle.state_laws.specs.Cached.{IsUnflushedBy, IsStillThere}
-use Rattle.state_laws.proofs.Kept.{is_kept, Kept, decided_kept}
-use Rattle.state_laws.proofs.Gates.{waited}
+use Rattle.state_laws.proofs.{Kept.is_kept, Kept.Kept, Kept.decided_kept, Gates.waited}
+use Rattle.{kernel_laws.specs.kernel_rules.specs.GracePeriods.needs_flush, kernel_laws.specs.found_stays.proofs.SparesRuns.among}
 
 -- Where no core is found that has not flushed a thing, none has not.
 none_unflushed : (s : State) (x : Thing) → flushes_of s x ≡ None → (d : ℕ) → d < s.limits.cores → (s.grace x).unflushed d ≡ false
@@ -43,7 +22,7 @@ none_unflushed s x h d below =
   where
     not_found : (w : Option ℕ) → unflushed_by w ≡ None → w ≡ None
     not_found None e = refl
-    not_found (Some e) q = absurd (some_none (reply.Unflushed e) q)
+    not_found (Some e) q = absurd (some_none (Reply.Unflushed e) q)
 
 -- A frame whose grace period a decision ends is flushed by all cores.
 AreFlushed : State → Thing → Type 0
@@ -62,7 +41,7 @@ edits_flushed d s (e ∷ es) calm tested f is = edit_flushed d s e tested.0 f (s
 
 frame_ends : (s : State) (d : ℕ) (call : Call) (r : Reply) (f : ℕ) → MayReply s d call r → ends call r (FrameOf f) ≡ true
     → AreFlushed s (FrameOf f)
-frame_ends s d call (reply.Ok v) f may is =
+frame_ends s d call (Reply.Ok v) f may is =
     found_fact (change_of s d call) (λ k. k.value ≡ v) (found_by s d call (λ change. AreFlushed s (FrameOf f))
     (λ v es e. edits_flushed d s es e.calm e.tested f (sym (e.agrees.0 (FrameOf f)) ∙ is))) may.1.1
 frame_ends s d call _ f may is = absurd (false≢true is)
@@ -96,12 +75,12 @@ pub decided_refs : (s : State) (o : ℕ → Bool) (c : ℕ) (call : Call) (r : R
     → IsOpen s o c → InLimits call → MayReply s c call r → (f : ℕ)
     → 0 < refs s f
     → (0 < refs (state_by s c call r) f) ⊎ (begins s c call r (FrameOf f) ≡ true)
-decided_refs s o c call (reply.Ok v) h lim may f some =
+decided_refs s o c call (Reply.Ok v) h lim may f some =
     found_refs s c v (change_of s c call) (found_by s c call (RefsBy s) (refs_by s o c h call lim)) may.1.1 f some
-decided_refs s o c call reply.CallsSpent h lim may f some = inl some
-decided_refs s o c call reply.Raced h lim may f some =
+decided_refs s o c call Reply.CallsSpent h lim may f some = inl some
+decided_refs s o c call Reply.Raced h lim may f some =
     let a = counted_refs (owed_by s c call) c f in let b = owed_refs s c call f in inl (omega (arith, some, a, b))
-decided_refs s o c call (reply.Busy e) h lim may f some =
+decided_refs s o c call (Reply.Busy e) h lim may f some =
     let a = counted_refs (owed_by s c call) c f in let b = owed_refs s c call f in inl (omega (arith, some, a, b))
 decided_refs s o c call _ h lim may f some = let a = counted_refs s c f in inl (omega (arith, some, a))
 

@@ -1,56 +1,23 @@
 -- A gate's epoch is that in which its component was made.
-use Rattle.std.proofs.Common.{◌≡◌, ◌≢◌, ◌⊎◌, inl, inr, ℕ, ◌+◌, ◌≤◌, arith, Bool, true, false, not, refl, sym, ◌∙◌, ap}
-use Rattle.std.proofs.Common.{subst, cond, ◌==◌, nat_lt, if◌then◌else◌, IsTrue, List, [], ◌∷◌, Option, Some, None, is_some}
-use Rattle.std.proofs.lemmas.Bool.{cases_eq, false≢true}
-use Rattle.spk_nums.specs.Setting.{Setting, IsSetting}
-use Rattle.spk_nums.specs.Capability.{Capability, cap_of}
-use Rattle.spk_nums.specs.Rights.{kept as kept_rights, part_of}
-use Rattle.spk_nums.specs.declared.kinds.Kind.{Kind}
-use Rattle.spk_nums.specs.declared.kinds.Kind.TheVariants as kind
-use Rattle.spk_nums.specs.declared.kinds.FrameKind.{FrameKind}
-use Rattle.spk_nums.specs.declared.kinds.FrameKind.TheVariants as frame_kind
-use Rattle.spk_nums.specs.declared.calls.Make.{Make}
-use Rattle.spk_nums.specs.declared.calls.Make.TheVariants as make
-use Rattle.spk_nums.specs.declared.calls.Call.{Call}
-use Rattle.spk_nums.specs.declared.calls.Call.TheVariants.{Look, Copy, Remove as remove_call, Grow, Shrink, Retype, Make as make_call}
-use Rattle.spk_nums.specs.declared.calls.Call.TheVariants.{Map, Unmap, Touch, Flush, Gate, Kill, Call as call_gate}
-use Rattle.spk_nums.specs.declared.calls.Call.TheVariants.{Ret, Switch, Tick, Transfer, Delegate, Test, Part, Replenish}
-use Rattle.spk_nums.specs.declared.translations.Translation.{Translation}
-use Rattle.spk_nums.specs.declared.replies.Value.{Value}
-use Rattle.spk_nums.specs.declared.replies.Value.TheVariants.{Nothing}
-use Rattle.spk_nums.specs.declared.replies.Reply.{Reply}
-use Rattle.spk_nums.specs.declared.replies.Reply.TheVariants as reply
-use Rattle.kernel_rules.specs.State.{Place, Free, Holds, Quiescing, Object, Thing, PlaceOf}
-use Rattle.kernel_rules.specs.State.{FrameOf, State, Grace, put, comp_in, comp_of, thread_in}
-use Rattle.kernel_rules.specs.Start.{start, no_grace, plain_cap, start_cap, place_with}
-use Rattle.kernel_rules.specs.References.{named_by, times}
-use Rattle.kernel_rules.specs.Access.{Want, any, to_copy, Slot, Named, found, place_at, held_in, usable_in, usable, only}
-use Rattle.kernel_rules.specs.GracePeriods.{new_grace}
-use Rattle.kernel_rules.specs.Rules.{Change, does, Judged, Refused, Found, IsFoundAnd, named}
-use Rattle.kernel_rules.specs.CapabilityCalls.{make_rule}
-use Rattle.kernel_rules.specs.Edits.{Fill, Remove, Node, cleared, edited}
-use Rattle.kernel_rules.specs.MemoryCalls.{retype_rule, touch_by, translation_of}
-use Rattle.kernel_rules.specs.InvocationCalls.{switch_to}
-use Rattle.kernel_rules.specs.CallRelation.{rule_of, change_of, changed, owed_by, state_by, begins, ends, flushes, MayReply}
-use Rattle.kernel_rules.specs.Fitting.{fits, IsGood}
-use Rattle.kernel_rules.specs.Runs.{Event, Enters, Decides, Returns, after, is_in, is_open, IsRun}
-use Rattle.kernel_rules.proofs.Changes.{IfFound}
-use Rattle.kernel_rules.proofs.Within.{put_same, put_other}
-use Rattle.kernel_rules.proofs.AloneLaw.{waits_inside}
-use Rattle.kernel_invariant.proofs.Sums.{times_first}
-use Rattle.kernel_invariant.proofs.Sound.{WaitsForAll, put_all}
-use Rattle.kernel_invariant.proofs.SoundSteps.{place_all, free_holds, holds_inj, quiescing_holds}
-use Rattle.kernel_invariant.proofs.SoundStart.{choose}
-use Rattle.kernel_invariant.proofs.SoundCalls.{IsOpen, gate_comp}
-use Rattle.kernel_invariant.proofs.SoundRuns.{opened, open_is, inside_is}
-use Rattle.kernel_invariant.proofs.Facts.{ChangesFrom, outcome_from, suits, some_inj, none_some}
-use Rattle.kernel_invariant.proofs.GraceChanges.{grace_by, grace_is, flushed_by}
-use Rattle.kernel_invariant.proofs.Ends.{ends_by_rule}
-use Rattle.found_stays.proofs.Stays.{name_parts, place_named}
+use Rattle.kernel_laws.proofs as low
+use low.{◌≡◌, ◌≢◌, ◌⊎◌, inl, inr, ℕ, ◌+◌, ◌≤◌, arith, Bool, true, false, not, refl, sym, ◌∙◌, ap, subst, cond, ◌==◌, ltb as nat_lt}
+use low.{if◌then◌else◌, IsTrue, List, [], ◌∷◌, Option, Some, None, is_some, false≢true, Setting, IsSetting, Capability, cap_of}
+use low.{kept as kept_rights, part_of, Kind, FrameKind, Call, Look, Copy, Remove as remove_call, Grow, Shrink, Retype, Make as make_call}
+use low.{Map, Unmap, Touch, Flush, Gate, Kill, Ret, Switch, Tick, Transfer, Delegate, Test, Part, Replenish, Translation, Value, Nothing}
+use low.{Reply, Place, Free, Holds, Quiescing, Object, Thing, PlaceOf, FrameOf, State, Grace, put, comp_in, comp_of, thread_in, start}
+use low.{no_grace, plain_cap, start_cap, place_with, named_by, times, Want, any, to_copy, Slot, Named, found, place_at, held_in, usable_in}
+use low.{usable, only, new_grace, Change, does, Judged, Refused, Found, IsFoundAnd, named, make_rule, Fill, Node, edited, retype_rule}
+use low.{touch_by, translation_of, switch_to, rule_of, change_of, changed, owed_by, state_by, begins, ends, flushes, MayReply, fits, IsGood}
+use low.{Event, Enters, Decides, Returns, after, is_in, is_open, IsRun, IfFound, put_same, put_other, waits_inside, times_first, put_all}
+use low.{place_all, IsOpen, opened, open_is, inside_is, ChangesFrom, outcome_from, suits, some_inj, none_some, grace_is, flushed_by}
+use low.{ends_by_rule, name_parts, phase_own, phase_other}
+use Rattle.kernel_laws.specs.kernel_invariant.proofs.{WaitsForAll, free_holds, holds_inj, quiescing_holds, choose, decided_opened}
+use Rattle.kernel_laws.specs.kernel_rules.specs.{Make, cleared}
+use Rattle.kernel_laws.specs.kernel_invariant.proofs.{SoundCalls.gate_comp, GraceChanges.grace_by}
 use Rattle.state_laws.specs.Lives.{IsOfEpoch, GatesFit}
-use Rattle.kernel_invariant.proofs.SoundRuns.{phase_own, phase_other, decided_opened}
-use Rattle.state_laws.proofs.Kept.{is_kept, Kept, decided_kept}
-use Rattle.state_laws.proofs.Lives.{comp_kept}
+use Rattle.state_laws.proofs.{Kept.is_kept, Kept.Kept, Kept.decided_kept, Lives.comp_kept}
+use Rattle.{std.proofs.lemmas.Bool.cases_eq, kernel_laws.specs.spk_nums.specs.declared.calls.Call.TheVariants.Call as call_gate}
+use Rattle.{kernel_laws.specs.kernel_rules.specs.Edits.Remove, kernel_laws.specs.found_stays.proofs.Stays.place_named}
 
 -- The gates that places hold, and those that open cores may still use, have their component's epoch.
 pub record AreGates (s : State) (o : ℕ → Bool) : Type 0 where
@@ -73,8 +40,8 @@ usable_gate s o c at k w q e = by_place (place_at s at) refl e
         let p = by_wait j ((s.grace (PlaceOf at.node at.index)).waits c) e in
         w.waiting at.node at.index k c (is ∙ ap Quiescing p.1) q p.0
 
-no_gate : (s : State) (k : Capability) → only kind.Gate k.kind ≡ false → IsOfEpoch s k
-no_gate s k none is = absurd (false≢true (sym none ∙ ap (only kind.Gate) is))
+no_gate : (s : State) (k : Capability) → only Kind.Gate k.kind ≡ false → IsOfEpoch s k
+no_gate s k none is = absurd (false≢true (sym none ∙ ap (only Kind.Gate) is))
 
 -- What a change makes of held gates: they were held, or have the epoch of their component.
 record NewGates (s : State) (change : Change) : Type 0 where
@@ -96,7 +63,7 @@ filled s t change at k old next epoch = record {
 other : (s t : State) (change : Change) (at : Slot) (k : Capability)
     → ((f i : ℕ) (j : Capability) → t.place f i ≡ Holds j → s.place f i ≡ Holds j)
     → ((f i : ℕ) → change.next.place f i ≡ put t.place at.node (put (t.place at.node) at.index (Holds k)) f i)
-    → only kind.Gate k.kind ≡ false → NewGates s change
+    → only Kind.Gate k.kind ≡ false → NewGates s change
 other s t change at k old next none = filled s t change at k old next (no_gate change.next k none)
 
 removed : (s : State) (c : ℕ) (at : Slot) (k : Capability) → NewGates s (does c s Nothing (Remove at k ∷ []))
@@ -111,7 +78,7 @@ was_held : (s : State) (f g i : ℕ) (k : Capability) → put s.place f (λ i. F
 was_held s f g i k =
     put_all (λ g r. r i ≡ Holds k → s.place g i ≡ Holds k) s.place f (λ i. Free) g (λ same e. absurd (free_holds k e)) (λ other e. e)
 
-node_made : (s : State) (c f : ℕ) (object : Object) (k : Kind) (at : Slot) → only kind.Gate k ≡ false
+node_made : (s : State) (c f : ℕ) (object : Object) (k : Kind) (at : Slot) → only Kind.Gate k ≡ false
     → NewGates s (does c s Nothing (Node f object ∷ Fill at (plain_cap k f) ∷ []))
 node_made s c f object k at none = other s (cleared s f) _ at (plain_cap k f) (was_held s f) (λ g i. refl) none
 
@@ -122,19 +89,19 @@ module _ (s : State) (o : ℕ → Bool) (c : ℕ) (h : IsOpen s o c) (w : AreGat
       subst (IsOfEpoch s) (suits wanted p.2 k p.4).is (usable_gate s o c p.0 p.2 w h.is p.3)
 
   make_gates : (what : Make) (r f t b : ℕ) → ChangesFrom (NewGates s) s c (make_rule s what r f t b)
-  make_gates make.Table r f t b = λ range e table g at v calm. node_made s c f _ kind.Table at refl
-  make_gates make.Leaf r f t b = λ range e table g at v calm. node_made s c f _ kind.Leaf at refl
-  make_gates make.Pages r f t b = λ range e table g at v calm. node_made s c f _ kind.Pages at refl
-  make_gates make.Pleaf r f t b = λ range e table g at v calm. node_made s c f _ kind.Pleaf at refl
-  make_gates (make.Thread comp) r f t b = λ range e table g k j at v calm.
-      other s s _ at (plain_cap kind.Thread f) (λ f i j e. e) (λ g i. refl) refl
-  make_gates (make.Tcap sched quality) r f t b = λ range e table g at v calm.
-      other s s _ at (plain_cap kind.Tcap f) (λ f i j e. e) (λ g i. refl) refl
-  make_gates (make.Comp x p l) r f t b = λ range e table g own_table a own_pages d at v calm.
-      other s s _ at (plain_cap kind.Comp f) (λ f i j e. e) (λ g i. refl) refl
+  make_gates Make.Table r f t b = λ range e table g at v calm. node_made s c f _ Kind.Table at refl
+  make_gates Make.Leaf r f t b = λ range e table g at v calm. node_made s c f _ Kind.Leaf at refl
+  make_gates Make.Pages r f t b = λ range e table g at v calm. node_made s c f _ Kind.Pages at refl
+  make_gates Make.Pleaf r f t b = λ range e table g at v calm. node_made s c f _ Kind.Pleaf at refl
+  make_gates (Make.Thread comp) r f t b = λ range e table g k j at v calm.
+      other s s _ at (plain_cap Kind.Thread f) (λ f i j e. e) (λ g i. refl) refl
+  make_gates (Make.Tcap sched quality) r f t b = λ range e table g at v calm.
+      other s s _ at (plain_cap Kind.Tcap f) (λ f i j e. e) (λ g i. refl) refl
+  make_gates (Make.Comp x p l) r f t b = λ range e table g own_table a own_pages d at v calm.
+      other s s _ at (plain_cap Kind.Comp f) (λ f i j e. e) (λ g i. refl) refl
 
   retype_gates : (r f : ℕ) (k : FrameKind) → ChangesFrom (NewGates s) s c (retype_rule s r f k)
-  retype_gates r f frame_kind.Untyped = λ range e calm. stays s _ (λ f i. refl)
+  retype_gates r f FrameKind.Untyped = λ range e calm. stays s _ (λ f i. refl)
   retype_gates r f _ = λ range e calm. stays s _ (λ f i. refl)
 
   touch_gates : (pages v : ℕ) (t : Option Translation) → ChangesFrom (NewGates s) s c (touch_by pages v t)
@@ -152,12 +119,12 @@ module _ (s : State) (o : ℕ → Bool) (c : ℕ) (h : IsOpen s o c) (w : AreGat
       (named_gate a (to_copy any) k e)
   rule_gates (remove_call t b) = λ table e at k g calm. removed s c at k
   rule_gates (Grow t i l) = λ table e leaf f at v calm.
-      other s s _ at (plain_cap kind.Link leaf.frame) (λ f i j e. e) (λ f i. refl) refl
+      other s s _ at (plain_cap Kind.Link leaf.frame) (λ f i j e. e) (λ f i. refl) refl
   rule_gates (Shrink t i) = λ table e at k g calm. removed s c at k
   rule_gates (Retype r f k) = retype_gates r f k
   rule_gates (make_call what r f t b) = make_gates what r f t b
   rule_gates (Map p v r f w) = λ pages e range g at u calm.
-      other s s _ at (cap_of kind.Page f w.0) (λ f i j e. e) (λ f i. refl) refl
+      other s s _ at (cap_of Kind.Page f w.0) (λ f i j e. e) (λ f i. refl) refl
   rule_gates (Unmap p v) = λ pages e at k g calm. removed s c at k
   rule_gates (Touch v) = touch_gates (comp_of s c).pages v (translation_of (s.core c).cached (comp_of s c).pages v)
   rule_gates Flush = λ calm. stays s _ (λ f i. refl)
@@ -188,11 +155,11 @@ owed_gates s c _ = λ f i k e. inl e
 
 decided_new : (s : State) (o : ℕ → Bool) (c : ℕ) (call : Call) (r : Reply) → IsOpen s o c → MayReply s c call r → AreGates s o
     → DecidedGates s (state_by s c call r)
-decided_new s o c call (reply.Ok v) h may w =
+decided_new s o c call (Reply.Ok v) h may w =
     found_gates s v (change_of s c call) (outcome_from (NewGates s) s c (rule_of s c call) (rule_gates s o c h w call)) may.1.1
-decided_new s o c call reply.CallsSpent h may w = λ f i k e. inl e
-decided_new s o c call reply.Raced h may w = owed_gates s c call
-decided_new s o c call (reply.Busy e) h may w = owed_gates s c call
+decided_new s o c call Reply.CallsSpent h may w = λ f i k e. inl e
+decided_new s o c call Reply.Raced h may w = owed_gates s c call
+decided_new s o c call (Reply.Busy e) h may w = owed_gates s c call
 decided_new s o c call _ h may w = λ f i k e. inl e
 
 -- Who waits for a thing whose grace period has not just begun, waited before.
@@ -217,11 +184,11 @@ module _ (s : State) (o : ℕ → Bool) (c : ℕ) (call : Call) (r : Reply)
   kept : Kept s c call r
   kept = decided_kept s o c call r h may
 
-  gate_frame : (k : Capability) → k.kind ≡ kind.Gate → IsGood s k → IsTrue (is_kept (s.frame k.frame))
+  gate_frame : (k : Capability) → k.kind ≡ Kind.Gate → IsGood s k → IsTrue (is_kept (s.frame k.frame))
   gate_frame k is good =
       comp_kept (s.frame k.frame) (gate_comp (s.frame k.frame) (subst (λ j. IsTrue (fits j (s.frame k.frame))) is good.fit))
 
-  gate_named : (k : Capability) → k.kind ≡ kind.Gate → named_by k.kind k.frame ≡ k.frame ∷ []
+  gate_named : (k : Capability) → k.kind ≡ Kind.Gate → named_by k.kind k.frame ≡ k.frame ∷ []
   gate_named k is = ap (λ j. named_by j k.frame) is
 
   -- A gate that a place holds keeps its component.
@@ -279,7 +246,7 @@ module _ (s : State) (o : ℕ → Bool) (c : ℕ) (call : Call) (r : Reply)
 -- The start has no gate.
 abbrev NoGate : Option Capability → Type 0
 NoGate None = Unit {0}
-NoGate (Some k) = only kind.Gate k.kind ≡ false
+NoGate (Some k) = only Kind.Gate k.kind ≡ false
 
 start_none : (setting : Setting) (i : ℕ) → NoGate (start_cap setting i)
 start_none setting i =
@@ -292,17 +259,17 @@ start_none setting i =
     choose NoGate (nat_lt i 12) _ _ (λ e. tt) λ e.
     choose NoGate (nat_lt i (12 + setting.cores)) _ _ (λ e. refl) λ e. tt
 
-place_none : (o : Option Capability) (k : Capability) → NoGate o → place_with o ≡ Holds k → only kind.Gate k.kind ≡ false
+place_none : (o : Option Capability) (k : Capability) → NoGate o → place_with o ≡ Holds k → only Kind.Gate k.kind ≡ false
 place_none None k none e = absurd (free_holds k e)
-place_none (Some j) k none e = ap (λ (n : Capability). only kind.Gate n.kind) (sym (holds_inj j k e)) ∙ none
+place_none (Some j) k none e = ap (λ (n : Capability). only Kind.Gate n.kind) (sym (holds_inj j k e)) ∙ none
 
 start_gates : (setting : Setting) → AreGates (start setting) (opened [])
 start_gates setting = record {
   held = λ f i k.
       choose (λ p. p ≡ Holds k → IsOfEpoch (start setting) k) (f == 0) _ _
       (λ is. choose (λ p. p ≡ Holds k → IsOfEpoch (start setting) k) (i == 0) _ _
-      (λ first at. no_gate (start setting) k (ap (λ (n : Capability). only kind.Gate n.kind)
-      (sym (holds_inj (plain_cap kind.Link 1) k at)))) (λ none at. absurd (free_holds k at)))
+      (λ first at. no_gate (start setting) k (ap (λ (n : Capability). only Kind.Gate n.kind)
+      (sym (holds_inj (plain_cap Kind.Link 1) k at)))) (λ none at. absurd (free_holds k at)))
       (λ other. choose (λ p. p ≡ Holds k → IsOfEpoch (start setting) k) (f == 1) _ _
       (λ is at. no_gate (start setting) k (place_none (start_cap setting i) k (start_none setting i) at))
       (λ none at. absurd (free_holds k at)));

@@ -1,33 +1,19 @@
 -- What a call that is carried out makes of frames and places: a user frame, a node or a component stays but for the end of its
 -- frame's grace period, and what a place holds stays but for the start or the end of the place's.
-use Rattle.std.proofs.Common.{◌≡◌, ◌⊎◌, inl, inr, ℕ, ◌-◌, Bool, true, false, ◌&&◌, ◌||◌, refl, sym, ◌∙◌, ap}
-use Rattle.std.proofs.Common.{subst, ◌==◌, if◌then◌else◌, IsTrue, List, [], ◌∷◌, take, Some, None, is_some}
-use Rattle.std.proofs.lemmas.Bool.{false≢true, eq-eqb, eqb-true, or_left, and_parts, and_from}
-use Rattle.std.specs.List.{list_any}
-use Rattle.spk_nums.specs.Capability.{Capability}
-use Rattle.spk_nums.specs.declared.calls.Call.{Call}
-use Rattle.spk_nums.specs.declared.calls.Call.TheVariants.{Tick}
-use Rattle.spk_nums.specs.declared.replies.Value.{Value}
-use Rattle.spk_nums.specs.declared.replies.Reply.{Reply}
-use Rattle.spk_nums.specs.declared.replies.Reply.TheVariants as reply
-use Rattle.kernel_rules.specs.State.{Place, Free, Holds, Quiescing, ThreadFields, TcapFields, Blank, Table, Leaf, Pages, Pleaf, Comp}
-use Rattle.kernel_rules.specs.State.{Thread, Tcap, Frame, Untyped, User, Kernel, Thing, PlaceOf, FrameOf, State, put, thread_of}
-use Rattle.kernel_rules.specs.References.{place_names, frame_names, number_names}
-use Rattle.kernel_rules.specs.Access.{held_in}
-use Rattle.kernel_rules.specs.GracePeriods.{same_thing}
-use Rattle.kernel_rules.specs.Rules.{Change, does, Judged, Refused, Found, IsFoundAnd}
-use Rattle.kernel_rules.specs.Edits.{frames_of, with_thread, running, with_tcap, with_budget, tcap_at, moved, Edit, Fill, Remove, Node}
-use Rattle.kernel_rules.specs.Edits.{Become, Untype, Component, Deaden, Push, Pop, Switch, Charge, Move, Merge, Give, edited, after_edits}
-use Rattle.kernel_rules.specs.Edits.{begins_in, begins_all}
-use Rattle.kernel_rules.specs.CallRelation.{change_of, changed, owed_by, state_by, begins, ends, ends_by, MayReply, begins_in as begun_in}
-use Rattle.kernel_rules.proofs.Changes.{IfFound}
-use Rattle.kernel_invariant.specs.Edits.{ends_in, ends_all}
-use Rattle.kernel_invariant.proofs.Sound.{put_all}
-use Rattle.kernel_invariant.proofs.SoundSteps.{place_all, free_quiescing, holds_quiescing, quiescing_inj}
-use Rattle.kernel_invariant.proofs.SoundRemovals.{frames_no_place}
-use Rattle.kernel_invariant.proofs.SoundCalls.{IsOpen}
-use Rattle.kernel_invariant.proofs.Facts.{some_none}
-use Rattle.kernel_invariant.proofs.Edited.{is_bare, Known, Each, AreLater, Calm, Edits, found_by}
+use Rattle.kernel_laws.proofs.{◌≡◌, ◌⊎◌, inl, inr, ℕ, ◌-◌, Bool, true, false, ◌&&◌, ◌||◌, refl, sym, ◌∙◌, ap, subst, ◌==◌, if◌then◌else◌}
+use Rattle.kernel_laws.proofs.{IsTrue, List, [], ◌∷◌, take, Some, None, is_some, false≢true, eq-eqb, eqb-true, and_from, Capability, Call}
+use Rattle.kernel_laws.proofs.{Tick, Value, Reply, Place, Free, Holds, Quiescing, ThreadFields, TcapFields, Blank, Table, Leaf, Pages}
+use Rattle.kernel_laws.proofs.{Pleaf, Comp, Thread, Tcap, Frame, Untyped, User, Kernel, Thing, PlaceOf, FrameOf, State, put, thread_of}
+use Rattle.kernel_laws.proofs.{place_names, frame_names, number_names, held_in, same_thing, Change, does, Judged, Refused, Found}
+use Rattle.kernel_laws.proofs.{IsFoundAnd, frames_of, with_thread, running, with_tcap, with_budget, tcap_at, Edit, Fill, Node, Become}
+use Rattle.kernel_laws.proofs.{Untype, Component, Deaden, Push, Pop, Charge, Move, Merge, Give, edited, after_edits, begins_all, change_of}
+use Rattle.kernel_laws.proofs.{changed, owed_by, state_by, begins, ends, ends_by, MayReply, begins_in as begun_in, IfFound, put_all}
+use Rattle.kernel_laws.proofs.{place_all, IsOpen, is_bare, Each, AreLater, Calm, Edits, found_by}
+use Rattle.kernel_laws.specs.kernel_invariant.proofs.{free_quiescing, holds_quiescing, frames_no_place, some_none, Known}
+use Rattle.std.proofs.lemmas.Bool.{or_left, and_parts}
+use Rattle.kernel_laws.specs.kernel_invariant.specs.{ends_in, ends_all}
+use Rattle.kernel_laws.specs.kernel_rules.specs.Edits.{moved, Remove, Switch, begins_in}
+use Rattle.{std.specs.List.list_any, kernel_laws.specs.kernel_invariant.proofs.SoundSteps.quiescing_inj}
 
 -- Whether a frame is what no call changes but a retype: a user frame, a node or a component.
 abbrev pub is_kept : Frame → Bool
@@ -272,10 +258,10 @@ owed_place s c (Tick n) f i = refl
 owed_place s c _ f i = refl
 
 pub decided_kept : (s : State) (o : ℕ → Bool) (c : ℕ) (call : Call) (r : Reply) → IsOpen s o c → MayReply s c call r → Kept s c call r
-decided_kept s o c call (reply.Ok v) h may =
+decided_kept s o c call (Reply.Ok v) h may =
     let k = found_kept s call v (change_of s c call) (found_by s c call (KeepsBy s call) (keeps_by s o c h call)) may.1.1 in
     record { frame = k.frame; holds = k.holds; quiescing = k.quiescing; removed = k.removed }
-decided_kept s o c call reply.CallsSpent h may = refused_kept s c call reply.CallsSpent (λ f. refl) (λ f i. refl) (λ x. refl)
-decided_kept s o c call reply.Raced h may = refused_kept s c call reply.Raced (owed_frame s c call) (owed_place s c call) (λ x. refl)
-decided_kept s o c call (reply.Busy e) h may = refused_kept s c call (reply.Busy e) (owed_frame s c call) (owed_place s c call) (λ x. refl)
+decided_kept s o c call Reply.CallsSpent h may = refused_kept s c call Reply.CallsSpent (λ f. refl) (λ f i. refl) (λ x. refl)
+decided_kept s o c call Reply.Raced h may = refused_kept s c call Reply.Raced (owed_frame s c call) (owed_place s c call) (λ x. refl)
+decided_kept s o c call (Reply.Busy e) h may = refused_kept s c call (Reply.Busy e) (owed_frame s c call) (owed_place s c call) (λ x. refl)
 decided_kept s o c call r h may = refused_kept s c call r (λ f. refl) (λ f i. refl) (λ x. refl)

@@ -1,28 +1,17 @@
 -- A component that was killed and whose core has left its call makes no further `ok` but `ret`, `flush` and `tick`: its epoch stays past,
 -- and the core waits in the grace period of its liveness number no more while the number is dead in that epoch.
-use Rattle.std.proofs.Common.{◌≡◌, ◌≢◌, inl, inr, ℕ, ◌<◌, Bool, true, false, not, ◌&&◌, ◌||◌, ◌==◌, refl, sym, ◌∙◌, ap, subst, arith}
-use Rattle.std.proofs.Common.{if◌then◌else◌, IsFalse, List, [], ◌∷◌, ◌++◌, take}
-use Rattle.std.proofs.lemmas.Bool.{cases_eq, false≢true, true≢false, ne_eqb, eqb-true, or_from}
-use Rattle.std.specs.List.{list_any}
-use Rattle.spk_nums.specs.Setting.{Setting}
-use Rattle.spk_nums.specs.declared.calls.Call.{Call}
-use Rattle.spk_nums.specs.declared.calls.Call.TheVariants.{Tick}
-use Rattle.spk_nums.specs.declared.replies.Reply.{Reply}
-use Rattle.spk_nums.specs.declared.replies.Reply.TheVariants as reply
-use Rattle.kernel_rules.specs.State.{CompFields, Liveness, Unused, Live, Dead, Grace, Thing, NumberOf, State, thread_of, comp_of}
-use Rattle.kernel_rules.specs.References.{place_names, frame_names, number_names}
-use Rattle.kernel_rules.specs.GracePeriods.{same_thing, new_grace, begun}
-use Rattle.kernel_rules.specs.Life.{is_live_in, is_dead_in, asks_life}
-use Rattle.kernel_rules.specs.Edits.{frames_of, Edit, Node, Remove, Untype, Component, Deaden, Pop, Switch, edited, after_edits, begins_in}
-use Rattle.kernel_rules.specs.CallRelation.{change_of, changed, owed_by, state_by, MayReply}
-use Rattle.kernel_rules.specs.Runs.{Event, Enters, Decides, Returns, Out, after, is_in, phase_of, IsRun}
-use Rattle.kernel_rules.proofs.Within.{put_same, put_other}
-use Rattle.kernel_rules.proofs.AloneLaw.{waits_inside}
-use Rattle.kernel_rules.specs.Edits.{begins_all}
-use Rattle.kernel_invariant.proofs.SoundRuns.{inside_is}
-use Rattle.kernel_invariant.proofs.Edited.{Tested, Each, Calm, later_number, after_ok}
-use Rattle.state_laws.specs.Looking.{KilledStop}
+use Rattle.kernel_laws.proofs.{◌≡◌, ◌≢◌, inl, inr, ℕ, ◌<◌, Bool, true, false, not, ◌&&◌, ◌||◌, ◌==◌, refl, sym, ◌∙◌, ap, subst, arith}
+use Rattle.kernel_laws.proofs.{if◌then◌else◌, IsFalse, List, [], ◌∷◌, ◌++◌, take, false≢true, true≢false, ne_eqb, eqb-true, Setting, Call}
+use Rattle.kernel_laws.proofs.{Tick, Reply, CompFields, Liveness, Unused, Live, Dead, Grace, Thing, NumberOf, State, thread_of, comp_of}
+use Rattle.kernel_laws.proofs.{place_names, frame_names, number_names, same_thing, new_grace, begun, is_live_in, asks_life, frames_of, Edit}
+use Rattle.kernel_laws.proofs.{Node, Untype, Component, Deaden, Pop, edited, after_edits, change_of, changed, owed_by, state_by, MayReply}
+use Rattle.kernel_laws.proofs.{Event, Enters, Decides, Returns, Out, after, is_in, phase_of, IsRun, put_same, put_other, waits_inside}
+use Rattle.kernel_laws.proofs.{begins_all, inside_is, Tested, Each, Calm, after_ok}
+use Rattle.std.proofs.lemmas.Bool.{cases_eq, or_from}
+use Rattle.kernel_laws.specs.kernel_rules.specs.{Life.is_dead_in, Edits.Remove, Edits.Switch, Edits.begins_in}
 use Rattle.state_laws.proofs.Lives.{IsPast, edits_numbers}
+use Rattle.{std.specs.List.list_any, kernel_laws.specs.kernel_invariant.proofs.Edited.later_number, state_laws.specs.Looking.KilledStop}
+use Rattle.kernel_laws.specs.spk_nums.specs.declared.replies.Reply.TheVariants as reply
 
 -- The epoch e of a liveness number is over for core c: it is past, and while the number is dead after it, c does not wait.
 record IsOver (s : State) (c l e : ℕ) : Type 0 where
@@ -70,7 +59,7 @@ module _ (d : ℕ) (s : State) (c l e : ℕ) (h : IsOver s c l e) where
     | inr other ↦ kept [] w refl same (sym (put_other s.number k.number (Live k.epoch f) l other) ∙ dead)
   ]
   edit_left (Remove at k) w tested same dead =
-      kept (begins_in d s (Remove at k)) w (frames_no_number l (place_names (Rattle.kernel_rules.specs.State.Holds k))) same dead
+      kept (begins_in d s (Remove at k)) w (frames_no_number l (place_names (Rattle.kernel_laws.specs.kernel_rules.specs.State.Holds k))) same dead
   edit_left (Untype f) w tested same dead = kept (begins_in d s (Untype f)) w (frames_no_number l (frame_names (s.frame f))) same dead
   edit_left Pop w tested same dead = kept (begins_in d s Pop) w (frames_no_number l (take 1 (thread_of s d).stack)) same dead
   edit_left (Switch f q) w tested same dead =

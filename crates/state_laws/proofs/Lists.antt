@@ -1,21 +1,10 @@
 -- What a core has cached stays in its list, in order, till it flushes.
-use Rattle.std.proofs.Common.{◌≡◌, ◌≢◌, ℕ, Bool, true, false, ◌||◌, refl, sym, ◌∙◌, ap, subst, nat_lt}
-use Rattle.std.proofs.Common.{if◌then◌else◌, List, [], ◌∷◌, ◌++◌, length}
-use Rattle.std.proofs.lemmas.Bool.{false≢true}
-use Rattle.spk_nums.specs.declared.calls.Call.{Call}
-use Rattle.spk_nums.specs.declared.calls.Call.TheVariants.{Tick}
-use Rattle.spk_nums.specs.declared.translations.Translation.{Translation}
-use Rattle.spk_nums.specs.declared.replies.Reply.{Reply}
-use Rattle.spk_nums.specs.declared.replies.Reply.TheVariants as reply
-use Rattle.kernel_rules.specs.State.{Core, State, put}
-use Rattle.spk_nums.specs.declared.replies.Value.{Value}
-use Rattle.kernel_rules.specs.Rules.{Change, does, Judged, Refused, Found}
-use Rattle.kernel_rules.specs.Edits.{caching, Edit, Switch, Cache, Flush, Charge, Give, edited, after_edits}
-use Rattle.kernel_rules.specs.CallRelation.{change_of, changed, counted, owed_by, state_by, flushes, flushes_by}
-use Rattle.kernel_rules.proofs.Changes.{IfFound}
-use Rattle.kernel_invariant.specs.Edits.{is_flush, flush_in}
-use Rattle.kernel_invariant.proofs.Sound.{put_all}
-use Rattle.kernel_invariant.proofs.Edited.{Edits, found_by}
+use Rattle.kernel_laws.proofs.{◌≡◌, ◌≢◌, ℕ, Bool, true, false, ◌||◌, refl, sym, ◌∙◌, ap, subst, ltb as nat_lt, if◌then◌else◌, List, [], ◌∷◌}
+use Rattle.kernel_laws.proofs.{◌++◌, length, false≢true, Call, Tick, Translation, Reply, Core, State, put, Value, Change, does, Judged}
+use Rattle.kernel_laws.proofs.{Refused, Found, caching, Edit, Cache, Charge, Give, edited, after_edits, change_of, changed, counted}
+use Rattle.kernel_laws.proofs.{owed_by, state_by, flushes, flushes_by, IfFound, put_all, Edits, found_by}
+use Rattle.kernel_laws.specs.kernel_rules.specs.Edits.{Switch, Flush}
+use Rattle.kernel_laws.specs.kernel_invariant.specs.Edits.{is_flush, flush_in}
 use Rattle.state_laws.specs.Cached.{Begins}
 
 pub begins_same : (xs : List Translation) → Begins xs xs
@@ -103,9 +92,9 @@ module _ (s : State) (c : ℕ) where
   owed_keeps _ = stay s c false
 
   pub decided_keeps : (call : Call) (r : Reply) → GoOn s c (flushes call r) (state_by s c call r).core
-  decided_keeps call (reply.Ok v) = counts (changed s (change_of s c call)) (flushes_by call)
+  decided_keeps call (Reply.Ok v) = counts (changed s (change_of s c call)) (flushes_by call)
       (changed_keeps call (change_of s c call) (found_by s c call (Keeps call) (keeps_by call)))
-  decided_keeps call reply.CallsSpent = stay s c false
-  decided_keeps call reply.Raced = counts (owed_by s c call) false (owed_keeps call)
-  decided_keeps call (reply.Busy d) = counts (owed_by s c call) false (owed_keeps call)
+  decided_keeps call Reply.CallsSpent = stay s c false
+  decided_keeps call Reply.Raced = counts (owed_by s c call) false (owed_keeps call)
+  decided_keeps call (Reply.Busy d) = counts (owed_by s c call) false (owed_keeps call)
   decided_keeps call _ = counts s false (stay s c false)

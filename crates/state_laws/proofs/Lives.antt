@@ -1,30 +1,12 @@
 -- The frame of a live number has its component; gates have their component's epoch; a dead epoch never lives again.
-use Rattle.std.proofs.Common.{◌≡◌, ◌⊎◌, inl, inr, ℕ, ◌+◌, ◌<◌, ◌≤◌, arith, Bool, true, false, refl, sym, ◌∙◌}
-use Rattle.std.proofs.Common.{ap, subst, ◌==◌, if◌then◌else◌, IsTrue, List, [], ◌∷◌, ◌++◌}
-use Rattle.std.proofs.lemmas.Bool.{false≢true, eqb-true}
-use Rattle.spk_nums.specs.Setting.{Setting, IsSetting}
-use Rattle.spk_nums.specs.declared.kinds.Kind.TheVariants as kind
-use Rattle.spk_nums.specs.declared.calls.Call.{Call}
-use Rattle.spk_nums.specs.declared.calls.Call.TheVariants.{Tick}
-use Rattle.spk_nums.specs.declared.replies.Reply.{Reply}
-use Rattle.spk_nums.specs.declared.replies.Reply.TheVariants as reply
-use Rattle.kernel_rules.specs.State.{TcapFields, Tcap, Comp, Frame, Kernel, Liveness, Unused, Live, Dead, FrameOf, State, put}
-use Rattle.kernel_rules.specs.Start.{start}
-use Rattle.kernel_rules.specs.References.{number_names, times, refs}
-use Rattle.kernel_rules.specs.CapabilityCalls.{is_live, epoch_of}
-use Rattle.kernel_rules.specs.Life.{is_live_in}
-use Rattle.kernel_rules.specs.Edits.{with_tcap, Edit, Fill, Component, Deaden, Merge, edited, after_edits}
-use Rattle.kernel_rules.specs.CallRelation.{owed_by, state_by, ends, MayReply}
-use Rattle.kernel_rules.specs.Fitting.{fits}
-use Rattle.kernel_rules.specs.Runs.{Event, Enters, Decides, Returns, after, is_open, IsRun}
-use Rattle.kernel_rules.proofs.Within.{put_same}
-use Rattle.kernel_invariant.proofs.Sums.{times_first}
-use Rattle.kernel_invariant.proofs.Sound.{IsSound, put_all}
-use Rattle.kernel_invariant.proofs.SoundRemovals.{unnamed}
-use Rattle.kernel_invariant.proofs.SoundCalls.{IsOpen}
-use Rattle.kernel_invariant.proofs.SoundRuns.{opened, open_is}
-use Rattle.kernel_invariant.proofs.Edited.{Tested, Each, AreLater, later_number, Calm, after_ok}
-use Rattle.kernel_invariant.proofs.Ends.{ends_by_rule}
+use Rattle.kernel_laws.proofs.{◌≡◌, ◌⊎◌, inl, inr, ℕ, ◌+◌, ◌<◌, ◌≤◌, arith, Bool, true, false, refl, sym, ◌∙◌, ap, subst, ◌==◌}
+use Rattle.kernel_laws.proofs.{if◌then◌else◌, IsTrue, List, [], ◌∷◌, ◌++◌, false≢true, eqb-true, Setting, IsSetting, Call, Tick, Reply}
+use Rattle.kernel_laws.proofs.{TcapFields, Tcap, Comp, Frame, Kernel, Liveness, Unused, Live, Dead, FrameOf, State, put, start}
+use Rattle.kernel_laws.proofs.{number_names, times, refs, is_live, epoch_of, is_live_in, with_tcap, Edit, Fill, Component, Deaden, Merge}
+use Rattle.kernel_laws.proofs.{edited, after_edits, owed_by, state_by, ends, MayReply, fits, Event, Enters, Decides, Returns, after}
+use Rattle.kernel_laws.proofs.{is_open, IsRun, put_same, times_first, IsSound, put_all, IsOpen, opened, open_is, Tested, Each, AreLater}
+use Rattle.kernel_laws.proofs.{Calm, after_ok, ends_by_rule, Kind}
+use Rattle.kernel_laws.specs.kernel_invariant.proofs.{unnamed, later_number}
 use Rattle.state_laws.specs.Lives.{IsCompOf, LiveNumbersFit, DeadStays}
 use Rattle.state_laws.proofs.Kept.{is_kept, decided_kept}
 
@@ -125,17 +107,17 @@ owed_number s c (Tick n) l = refl
 owed_number s c _ l = refl
 
 decided_numbers : (s : State) (c : ℕ) (call : Call) (r : Reply) → MayReply s c call r → DecidedNumbers s (state_by s c call r)
-decided_numbers s c call (reply.Ok v) may =
+decided_numbers s c call (Reply.Ok v) may =
     let n = after_ok s c call v (DecidedNumbers s) may (λ es e.
     let n = edits_numbers c s es e.calm e.tested in record { live = n.live; past = n.past }) in
     record { live = n.live; past = n.past }
-decided_numbers s c call reply.CallsSpent may = unchanged s _ (λ l. refl)
-decided_numbers s c call reply.Raced may = unchanged s _ (owed_number s c call)
-decided_numbers s c call (reply.Busy e) may = unchanged s _ (owed_number s c call)
+decided_numbers s c call Reply.CallsSpent may = unchanged s _ (λ l. refl)
+decided_numbers s c call Reply.Raced may = unchanged s _ (owed_number s c call)
+decided_numbers s c call (Reply.Busy e) may = unchanged s _ (owed_number s c call)
 decided_numbers s c call _ may = unchanged s _ (λ l. refl)
 
 -- The frames of live numbers are referenced, so they stay.
-pub comp_kept : (x : Frame) → IsTrue (fits kind.Comp x) → IsTrue (is_kept x)
+pub comp_kept : (x : Frame) → IsTrue (fits Kind.Comp x) → IsTrue (is_kept x)
 comp_kept (Kernel (Comp k)) h = refl
 comp_kept _ h = absurd (false≢true h)
 

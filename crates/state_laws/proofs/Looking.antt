@@ -1,16 +1,10 @@
 -- What a core in an open call has found stays found while other cores go on.
-use Rattle.std.proofs.Common.{◌≡◌, inl, inr, ℕ, Bool, refl, sym, ◌∙◌, ap, subst, IsTrue, List, [], ◌∷◌, ◌++◌}
-use Rattle.std.proofs.lemmas.Bool.{false≢true}
-use Rattle.spk_nums.specs.Setting.{Setting, IsSetting}
-use Rattle.spk_nums.specs.declared.kinds.Kind.{Kind}
-use Rattle.spk_nums.specs.declared.kinds.Kind.TheVariants as kind
-use Rattle.kernel_rules.specs.State.{Table, Leaf, Pages, Pleaf, Frame, Kernel, State}
-use Rattle.kernel_rules.specs.Relies.{is_node, is_fixed, Relies}
-use Rattle.kernel_rules.specs.Runs.{Event, after, is_open, phase_of, IsRun}
-use Rattle.kernel_invariant.proofs.SoundCalls.{IsOpen}
-use Rattle.kernel_invariant.proofs.SoundRuns.{opened, open_is}
-use Rattle.found_stays.proofs.Stays.{Stay, stay_same, stay_then, names_node, usable_relies, table_relies, pages_relies, event_stay}
-use Rattle.kernel_invariant.proofs.SoundRuns.{phase_other}
+use Rattle.kernel_laws.proofs.{◌≡◌, inl, inr, ℕ, Bool, refl, sym, ◌∙◌, ap, subst, IsTrue, List, [], ◌∷◌, ◌++◌, false≢true, Setting}
+use Rattle.kernel_laws.proofs.{IsSetting, Kind, Table, Leaf, Pages, Pleaf, Frame, Kernel, State, is_node, Relies, Event, after, is_open}
+use Rattle.kernel_laws.proofs.{phase_of, IsRun, IsOpen, opened, open_is, phase_other}
+use Rattle.kernel_laws.specs.found_stays.proofs.{names_node, table_relies, pages_relies}
+use Rattle.kernel_laws.specs.kernel_rules.specs.Relies.{is_fixed}
+use Rattle.kernel_laws.specs.found_stays.proofs.Stays.{Stay, stay_same, stay_then, usable_relies, event_stay}
 use Rattle.state_laws.specs.Looking.{names_nodes, LooksThrough, AreOfOthers, FoundStays, ActingStays}
 
 -- A core stays open through events of others.
@@ -29,11 +23,11 @@ stays setting lim (e ∷ later) earlier run c others is =
     (event_stay setting lim e (later ++ earlier) run c others.0 (ap is_open (open_still later earlier c others.1) ∙ is))
 
 node_kind : (k : Kind) → IsTrue (names_nodes k) → IsTrue (names_node k)
-node_kind kind.Table h = refl
-node_kind kind.Leaf h = refl
-node_kind kind.Pages h = refl
-node_kind kind.Pleaf h = refl
-node_kind kind.Link h = refl
+node_kind Kind.Table h = refl
+node_kind Kind.Leaf h = refl
+node_kind Kind.Pages h = refl
+node_kind Kind.Pleaf h = refl
+node_kind Kind.Link h = refl
 node_kind _ h = absurd (false≢true h)
 
 node_fixed : (x : Frame) → IsTrue (is_node x) → IsTrue (is_fixed x)

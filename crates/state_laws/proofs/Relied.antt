@@ -1,18 +1,8 @@
 -- A core that decides its call relies on the nodes on which it relied, but for a frame that the call makes untyped.
-use Rattle.std.proofs.Common.{◌≡◌, inl, inr, ℕ, Bool, true, false, cond, refl, sym, ◌∙◌, ap, subst, IsTrue}
-use Rattle.std.proofs.lemmas.Bool.{false≢true}
-use Rattle.spk_nums.specs.CallLimits.{InLimits}
-use Rattle.spk_nums.specs.declared.calls.Call.{Call}
-use Rattle.spk_nums.specs.declared.replies.Reply.{Reply}
-use Rattle.kernel_rules.specs.State.{Table, Leaf, Pages, Pleaf, Frame, Kernel, Grace, FrameOf, State}
-use Rattle.kernel_rules.specs.Start.{no_grace}
-use Rattle.kernel_rules.specs.GracePeriods.{new_grace}
-use Rattle.kernel_rules.specs.Relies.{is_node, IsGuarded, Relies}
-use Rattle.kernel_rules.specs.CallRelation.{MayReply, state_by, begins, ends, flushes}
-use Rattle.kernel_invariant.proofs.GraceChanges.{flushed_by, grace_is}
-use Rattle.kernel_invariant.proofs.SoundCalls.{IsOpen}
-use Rattle.state_laws.proofs.Flushes.{decided_refs}
-use Rattle.state_laws.proofs.Kept.{is_kept, decided_kept}
+use Rattle.kernel_laws.proofs.{◌≡◌, inl, inr, ℕ, Bool, true, false, cond, refl, sym, ◌∙◌, ap, subst, IsTrue, false≢true, InLimits, Call}
+use Rattle.kernel_laws.proofs.{Reply, Table, Leaf, Pages, Pleaf, Frame, Kernel, Grace, FrameOf, State, no_grace, new_grace, is_node}
+use Rattle.kernel_laws.proofs.{IsGuarded, Relies, MayReply, state_by, begins, ends, flushes, flushed_by, grace_is, IsOpen}
+use Rattle.state_laws.proofs.{Flushes.decided_refs, Kept.is_kept, Kept.decided_kept}
 
 node_kept : (x : Frame) → IsTrue (is_node x) → IsTrue (is_kept x)
 node_kept (Kernel Table) is = refl

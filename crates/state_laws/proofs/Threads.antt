@@ -1,28 +1,14 @@
 -- A thread runs on a core exactly where it is that core's current one.
-use Rattle.std.proofs.Common.{◌≡◌, ◌≢◌, inl, inr, ℕ, ◌+◌, ◌-◌, ◌*◌, ◌<◌, ◌≤◌, arith, Bool, refl}
-use Rattle.std.proofs.Common.{sym, ◌∙◌, ap, subst, ◌==◌, nat_lt, List, [], ◌∷◌, drop, Option, Some, None}
-use Rattle.std.proofs.lemmas.Bool.{cases_eq, eqb-false, ltb-true}
-use Rattle.spk_nums.specs.Setting.{Setting, IsSetting}
-use Rattle.spk_nums.specs.declared.calls.Call.{Call}
-use Rattle.spk_nums.specs.declared.calls.Call.TheVariants.{Tick}
-use Rattle.spk_nums.specs.declared.replies.Reply.{Reply}
-use Rattle.spk_nums.specs.declared.replies.Reply.TheVariants as reply
-use Rattle.kernel_rules.specs.State.{ThreadFields, TcapFields, Comp, Thread, Tcap}
-use Rattle.kernel_rules.specs.State.{Frame, Untyped, Kernel, Core, State, put, thread_in, thread_of}
-use Rattle.kernel_rules.specs.Start.{start}
-use Rattle.kernel_rules.specs.Edits.{with_thread, running, with_tcap, with_budget, tcap_at, charge, Edit, Node, Become, Untype, Component}
-use Rattle.kernel_rules.specs.Edits.{Push, Pop, Switch, Cache, Flush, Charge, Move, Merge, Give, edited, after_edits}
-use Rattle.kernel_rules.specs.CallRelation.{change_of, changed, counted, owed_by, state_by, MayReply}
-use Rattle.kernel_rules.specs.Runs.{Event, Enters, Decides, Returns, after, is_open, IsRun}
-use Rattle.kernel_rules.proofs.Within.{put_same, put_other}
-use Rattle.kernel_invariant.proofs.Sound.{put_all}
-use Rattle.kernel_invariant.proofs.SoundStart.{choose}
-use Rattle.kernel_invariant.proofs.SoundCalls.{IsOpen}
-use Rattle.kernel_invariant.proofs.SoundRuns.{opened, open_is}
-use Rattle.kernel_invariant.proofs.Facts.{some_inj, none_some}
-use Rattle.kernel_invariant.proofs.Edited.{Known, Each, after_ok}
-use Rattle.found_stays.proofs.SparesRuns.{runs_of}
-use Rattle.state_laws.specs.Lives.{ThreadsRun}
+use Rattle.kernel_laws.proofs.{◌≡◌, ◌≢◌, inl, inr, ℕ, ◌+◌, ◌-◌, ◌*◌, ◌<◌, ◌≤◌, arith, Bool, refl, sym, ◌∙◌, ap, subst, ◌==◌, ltb as nat_lt}
+use Rattle.kernel_laws.proofs.{List, [], ◌∷◌, drop, Option, Some, None, eqb-false, ltb-true, Setting, IsSetting, Call, Tick, Reply}
+use Rattle.kernel_laws.proofs.{ThreadFields, TcapFields, Comp, Thread, Tcap, Frame, Untyped, Kernel, Core, State, put, thread_in, thread_of}
+use Rattle.kernel_laws.proofs.{start, with_thread, running, with_tcap, with_budget, tcap_at, charge, Edit, Node, Become, Untype, Component}
+use Rattle.kernel_laws.proofs.{Push, Pop, Cache, Charge, Move, Merge, Give, edited, after_edits, change_of, changed, counted, owed_by}
+use Rattle.kernel_laws.proofs.{state_by, MayReply, Event, Enters, Decides, Returns, after, is_open, IsRun, put_same, put_other, put_all}
+use Rattle.kernel_laws.proofs.{IsOpen, opened, open_is, some_inj, none_some, Each, after_ok}
+use Rattle.kernel_laws.specs.kernel_invariant.proofs.{choose, Known}
+use Rattle.kernel_laws.specs.kernel_rules.specs.Edits.{Switch, Flush}
+use Rattle.{std.proofs.lemmas.Bool.cases_eq, kernel_laws.specs.found_stays.proofs.SparesRuns.runs_of, state_laws.specs.Lives.ThreadsRun}
 
 -- The core on which the thread of a frame runs, if it has one that runs.
 abbrev pub runs_at : Frame → Option ℕ
@@ -141,12 +127,12 @@ owed_back s c _ h = h
 
 decided_back : (s : State) (o : ℕ → Bool) (c : ℕ) (call : Call) (r : Reply) → IsOpen s o c → MayReply s c call r → Back s
     → Back (state_by s c call r)
-decided_back s o c call (reply.Ok v) h may w =
+decided_back s o c call (Reply.Ok v) h may w =
     counted_back (changed s (change_of s c call)) c
     (after_ok s c call v Back may (λ es e. edits_back c s es (e.known o h) w))
-decided_back s o c call reply.CallsSpent h may w = w
-decided_back s o c call reply.Raced h may w = counted_back (owed_by s c call) c (owed_back s c call w)
-decided_back s o c call (reply.Busy e) h may w = counted_back (owed_by s c call) c (owed_back s c call w)
+decided_back s o c call Reply.CallsSpent h may w = w
+decided_back s o c call Reply.Raced h may w = counted_back (owed_by s c call) c (owed_back s c call w)
+decided_back s o c call (Reply.Busy e) h may w = counted_back (owed_by s c call) c (owed_back s c call w)
 decided_back s o c call _ h may w = counted_back s c w
 
 -- Each core's thread of the start runs on it.

@@ -1,29 +1,14 @@
 -- A touch that answers a frame and flags has them cached from then on.
-use Rattle.std.specs.Option.{option_or}
-use Rattle.std.proofs.Common.{◌≡◌, ◌⊎◌, ◌+◌, inl, inr, ℕ, ◌≤◌, Bool, true, false, refl, sym, ◌∙◌, ap, subst, ◌==◌}
-use Rattle.std.proofs.Common.{◌&&◌, nat_lt, if◌then◌else◌, cond, List, [], ◌∷◌, ◌++◌, length, find, Option, Some, None}
-use Rattle.std.proofs.lemmas.Bool.{and_parts, eq-eqb, eqb-true, ltb-false}
-use Rattle.std.proofs.lemmas.List.Folds.{find-append}
-use Rattle.std.specs.List.{AllByRecursion}
-use Rattle.spk_nums.specs.Capability.{Capability}
-use Rattle.spk_nums.specs.declared.kinds.PageFlags.{PageFlags}
-use Rattle.spk_nums.specs.declared.translations.Translation.{Translation}
-use Rattle.spk_nums.specs.declared.replies.Value.TheVariants.{Page}
-use Rattle.spk_nums.specs.declared.replies.Reply.TheVariants as reply
-use Rattle.kernel_rules.specs.State.{Core, State, with_core, comp_of}
-use Rattle.kernel_rules.specs.Rules.{Change, does, Judged, Refused, Found, IsFoundAnd, and_then, unless, first_of, mapped, outcome}
-use Rattle.kernel_rules.specs.MemoryCalls.{translation_of, translated, caches, touch_by}
-use Rattle.kernel_rules.specs.Edits.{caching}
-use Rattle.kernel_rules.specs.CallRelation.{changed, counted}
-use Rattle.kernel_rules.specs.Runs.{after, is_open as is_open_phase}
-use Rattle.kernel_invariant.proofs.SoundCalls.{IsOpen}
-use Rattle.kernel_invariant.proofs.SoundRuns.{opened, open_is}
-use Rattle.kernel_rules.proofs.Within.{put_same}
-use Rattle.kernel_laws.proofs.NodeSteps.{IsFitted}
-use Rattle.kernel_laws.proofs.NodesLaw.{runs_fit}
-use Rattle.state_laws.proofs.CachedLaw.{translations_stand, runs_waited, touched}
-use Rattle.state_laws.proofs.Flushes.{IsWaited}
-use Rattle.state_laws.specs.Cached.{Stands, Answers, TouchesCache}
+use Rattle.kernel_laws.proofs.{◌≡◌, ◌⊎◌, ◌+◌, inl, inr, ℕ, ◌≤◌, Bool, true, false, refl, sym, ◌∙◌, ap, subst, ◌==◌, ◌&&◌, ltb as nat_lt}
+use Rattle.kernel_laws.proofs.{if◌then◌else◌, cond, List, [], ◌∷◌, ◌++◌, length, find, Option, Some, None, eq-eqb, eqb-true, ltb-false}
+use Rattle.kernel_laws.proofs.{Capability, PageFlags, Translation, Core, State, with_core, comp_of, Change, does, Judged, Refused, Found}
+use Rattle.kernel_laws.proofs.{IsFoundAnd, and_then, unless, first_of, mapped, outcome, translation_of, touch_by, caching, changed, counted}
+use Rattle.kernel_laws.proofs.{after, is_open as is_open_phase, IsOpen, opened, open_is, put_same, IsFitted, runs_fit, Reply}
+use Rattle.state_laws.proofs.{CachedLaw.translations_stand, CachedLaw.runs_waited, CachedLaw.touched, Flushes.IsWaited}
+use Rattle.{state_laws.specs.Stands, state_laws.specs.Answers, kernel_laws.specs.kernel_rules.specs.Page}
+use Rattle.{kernel_laws.specs.kernel_rules.specs.translated, std.specs.Option.option_or, std.proofs.lemmas.Bool.and_parts}
+use Rattle.{std.proofs.lemmas.List.Folds.find-append, std.specs.List.AllByRecursion}
+use Rattle.{kernel_laws.specs.kernel_rules.specs.MemoryCalls.caches, state_laws.specs.Cached.TouchesCache}
 
 some_same : {A : Type 0} (x y : A) → Some x ≡ Some y → x ≡ y
 some_same x y h = cc
@@ -87,7 +72,7 @@ module _ (s : State) (o : ℕ → Bool) (c : ℕ) (h : IsOpen s o c) (w : IsFitt
   by_some t found_it is = by (nat_lt 4095 v) is
     where
       judged : Bool → Judged Change
-      judged b = unless (first_of (if b then Some reply.NoSlot else None) None) (does c s (translated t) [])
+      judged b = unless (first_of (if b then Some Reply.NoSlot else None) None) (does c s (translated t) [])
 
       by : (b : Bool) → IsFoundAnd (judged b) IsIt → Answers s (after_it (judged b)) c x
       by true is = absurd is

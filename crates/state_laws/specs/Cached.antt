@@ -1,17 +1,9 @@
 -- Cached translations in the states that runs reach.
-use Rattle.std.specs.Prelude.{◌≡◌, ◌⊎◌, ◌<◌, ◌≤◌, ◌++◌, ℕ, ◌/◌, ◌%◌, List, ◌∷◌, length, Some, IsTrue}
-use Rattle.std.specs.List.{AllByRecursion}
-use Rattle.spk_nums.specs.Setting.{Setting, IsSetting}
-use Rattle.spk_nums.specs.declared.kinds.Kind.TheVariants as kind
-use Rattle.spk_nums.specs.declared.translations.Translation.{Translation}
-use Rattle.spk_nums.specs.declared.kinds.PageFlags.{PageFlags}
-use Rattle.spk_nums.specs.declared.calls.Call.TheVariants.{Touch}
-use Rattle.spk_nums.specs.declared.replies.Value.TheVariants.{Page}
-use Rattle.spk_nums.specs.declared.replies.Reply.TheVariants.{Ok}
-use Rattle.kernel_rules.specs.State.{Place, Free, Holds, Quiescing, Pages, Pleaf, User, Kernel, Thing, PlaceOf, FrameOf, State, comp_of}
-use Rattle.kernel_rules.specs.References.{refs}
-use Rattle.kernel_rules.specs.MemoryCalls.{translation_of}
-use Rattle.kernel_rules.specs.Runs.{Event, Decides, after, MayDecide, IsRun}
+use Rattle.kernel_laws.specs.kernel_rules.specs as low
+use low.{◌≡◌, ◌⊎◌, ◌<◌, ◌≤◌, ◌++◌, ℕ, ◌/◌, ◌%◌, List, ◌∷◌, length, Some, IsTrue, Setting, IsSetting, Translation, PageFlags, Touch, Page}
+use low.{Place, Free, Holds, Quiescing, Pages, Pleaf, User, Kernel, Thing, PlaceOf, FrameOf, comp_of, refs, translation_of, Event, Decides}
+use low.{after, MayDecide, IsRun, Kind, State.State}
+use Rattle.{std.specs.List.AllByRecursion, kernel_laws.specs.spk_nums.specs.declared.replies.Reply.TheVariants.Ok}
 
 -- Core c has decided no flush since the grace period of a thing began.
 abbrev pub IsUnflushedBy : State → ℕ → Thing → Type 0
@@ -24,13 +16,13 @@ IsStillThere s c f = (0 < refs s f) ⊎ IsUnflushedBy s c (FrameOf f)
 -- A place holds a link to a leaf.
 abbrev pub IsLinkTo : ℕ → Place → Type 0
 IsLinkTo leaf Free = ⊥
-IsLinkTo leaf (Holds k) = (k.kind ≡ kind.Link) × (k.frame ≡ leaf)
+IsLinkTo leaf (Holds k) = (k.kind ≡ Kind.Link) × (k.frame ≡ leaf)
 IsLinkTo leaf (Quiescing k) = ⊥
 
 -- A place holds the mapping that a translation tells.
 abbrev pub IsMappingOf : Translation → Place → Type 0
 IsMappingOf t Free = ⊥
-IsMappingOf t (Holds k) = (k.kind ≡ kind.Page) × (k.frame ≡ t.frame) × (k.arg ≡ t.flags.0)
+IsMappingOf t (Holds k) = (k.kind ≡ Kind.Page) × (k.frame ≡ t.frame) × (k.arg ≡ t.flags.0)
 IsMappingOf t (Quiescing k) = ⊥
 
 -- A place is as P says, or core c has decided no flush since its removal.

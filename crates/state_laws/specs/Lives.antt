@@ -1,16 +1,11 @@
 -- Liveness numbers, gates and threads in the states that runs reach.
-use Rattle.std.specs.Prelude.{◌≡◌, ◌<◌, ℕ, List, ◌++◌, Some, IsTrue}
-use Rattle.spk_nums.specs.Setting.{Setting, IsSetting}
-use Rattle.spk_nums.specs.Capability.{Capability}
-use Rattle.spk_nums.specs.declared.kinds.Kind.TheVariants as kind
-use Rattle.kernel_rules.specs.State.{Holds, Frame, Live, Dead, State, comp_in, thread_in}
-use Rattle.kernel_rules.specs.Access.{Slot, usable}
-use Rattle.kernel_rules.specs.Fitting.{fits}
-use Rattle.kernel_rules.specs.Runs.{Event, after, is_open, phase_of, IsRun}
+use Rattle.kernel_laws.specs.kernel_rules.specs.{◌≡◌, ◌<◌, ℕ, List, ◌++◌, Some, IsTrue, Setting, IsSetting, Capability, Holds, Frame, Live}
+use Rattle.kernel_laws.specs.kernel_rules.specs.{Dead, comp_in, thread_in, Slot, usable, fits, Event, after, is_open, phase_of, IsRun, Kind}
+use Rattle.kernel_laws.specs.kernel_rules.specs.State.{State}
 
 -- A frame has a component of this liveness number and epoch.
 pub record IsCompOf (x : Frame) (l e : ℕ) : Type 0 where
-  pub comp : IsTrue (fits kind.Comp x)
+  pub comp : IsTrue (fits Kind.Comp x)
   pub number : (comp_in x).number ≡ l
   pub epoch : (comp_in x).epoch ≡ e
 
@@ -22,13 +17,13 @@ LiveNumbersFit = (setting : Setting) → IsSetting setting → (events : List Ev
 -- No two frames have components of one liveness number and one epoch.
 abbrev pub CompsApart : Type 0
 CompsApart = (setting : Setting) → IsSetting setting → (events : List Event) → IsRun setting events → (f g : ℕ)
-    → IsTrue (fits kind.Comp ((after setting events).frame f)) → IsTrue (fits kind.Comp ((after setting events).frame g))
+    → IsTrue (fits Kind.Comp ((after setting events).frame f)) → IsTrue (fits Kind.Comp ((after setting events).frame g))
     → (comp_in ((after setting events).frame f)).number ≡ (comp_in ((after setting events).frame g)).number
     → (comp_in ((after setting events).frame f)).epoch ≡ (comp_in ((after setting events).frame g)).epoch → f ≡ g
 
 -- A gate's epoch is that in which its component was made.
 abbrev pub IsOfEpoch : State → Capability → Type 0
-IsOfEpoch s k = k.kind ≡ kind.Gate → k.arg ≡ (comp_in (s.frame k.frame)).epoch
+IsOfEpoch s k = k.kind ≡ Kind.Gate → k.arg ≡ (comp_in (s.frame k.frame)).epoch
 
 -- So it is of each gate that a place holds, and of each that a core in an open call may use.
 pub record GatesAre (setting : Setting) (events : List Event) : Type 0 where

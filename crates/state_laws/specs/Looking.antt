@@ -1,26 +1,17 @@
 -- What a core in an open call has found, and the nodes through which it looks, while other cores go on.
-use Rattle.std.specs.Prelude.{◌≡◌, ◌≢◌, ◌⊎◌, ℕ, Bool, true, false, List, [], ◌∷◌, ◌++◌, Some, IsTrue}
-use Rattle.spk_nums.specs.Setting.{Setting, IsSetting}
-use Rattle.spk_nums.specs.Capability.{Capability}
-use Rattle.spk_nums.specs.declared.kinds.Kind.{Kind}
-use Rattle.spk_nums.specs.declared.kinds.Kind.TheVariants as kind
-use Rattle.spk_nums.specs.declared.calls.Call.{Call}
-use Rattle.spk_nums.specs.declared.replies.Value.{Value}
-use Rattle.spk_nums.specs.declared.replies.Reply.TheVariants.{Ok}
-use Rattle.kernel_rules.specs.State.{CompFields, Dead, State, comp_of}
-use Rattle.kernel_rules.specs.Life.{may_act, asks_life}
-use Rattle.kernel_rules.specs.Access.{Want, Slot, Named, Under, usable, reached}
-use Rattle.kernel_rules.specs.Rules.{Found, named}
-use Rattle.kernel_rules.specs.Relies.{is_node}
-use Rattle.kernel_rules.specs.Runs.{Event, Decides, Out, after, core_of, is_open, phase_of, IsRun}
+use Rattle.kernel_laws.specs.kernel_rules.specs.{◌≡◌, ◌≢◌, ◌⊎◌, ℕ, Bool, true, false, List, [], ◌∷◌, ◌++◌, Some, IsTrue, Setting, IsSetting}
+use Rattle.kernel_laws.specs.kernel_rules.specs.{Capability, Kind, Call, Value, CompFields, Dead, comp_of, may_act, asks_life, Want, Slot}
+use Rattle.kernel_laws.specs.kernel_rules.specs.{Named, Under, usable, reached, Found, named, is_node, Event, Decides, Out, after, core_of}
+use Rattle.kernel_laws.specs.kernel_rules.specs.{is_open, phase_of, IsRun}
+use Rattle.{kernel_laws.specs.spk_nums.specs.declared.replies.Reply.TheVariants.Ok, kernel_laws.specs.kernel_rules.specs.State.State}
 
 -- Whether capabilities of a kind name nodes.
 abbrev pub names_nodes : Kind → Bool
-names_nodes kind.Table = true
-names_nodes kind.Leaf = true
-names_nodes kind.Pages = true
-names_nodes kind.Pleaf = true
-names_nodes kind.Link = true
+names_nodes Kind.Table = true
+names_nodes Kind.Leaf = true
+names_nodes Kind.Pages = true
+names_nodes Kind.Pleaf = true
+names_nodes Kind.Link = true
 names_nodes _ = false
 
 -- Core c may look through a node: a root of the component that it works in, or one named by a capability or link that it may use.

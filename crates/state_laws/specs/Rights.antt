@@ -1,19 +1,10 @@
 -- Rights: a copy puts none that its source lacks, and where each copy keeps both, every capability has both.
-use Rattle.std.specs.Prelude.{◌≡◌, ℕ, List, [], ◌∷◌, Some, IsTrue}
-use Rattle.spk_nums.specs.Capability.{Capability}
-use Rattle.spk_nums.specs.Rights.{both, has_rights}
-use Rattle.spk_nums.specs.Setting.{Setting}
-use Rattle.spk_nums.specs.declared.kinds.Kind.TheVariants.{Table}
-use Rattle.spk_nums.specs.declared.rights.Rights.{Rights}
-use Rattle.spk_nums.specs.declared.calls.Call.{Call}
-use Rattle.spk_nums.specs.declared.calls.Call.TheVariants.{Copy}
-use Rattle.spk_nums.specs.declared.replies.Value.{Value}
-use Rattle.spk_nums.specs.declared.replies.Reply.TheVariants.{Ok as ok_reply, NoRight}
-use Rattle.kernel_rules.specs.State.{Holds, State}
-use Rattle.kernel_rules.specs.Access.{Slot, Under, place_at, only, usable, reached}
-use Rattle.kernel_rules.specs.CallRelation.{MayReply, state_by}
-use Rattle.kernel_rules.specs.Runs.{Event, Enters, Decides, Returns, after}
-use Rattle.kernel_laws.specs.Causes.{leads, leads_as}
+use Rattle.kernel_laws.specs as low
+use low.kernel_rules.specs.{◌≡◌, ℕ, List, [], ◌∷◌, Some, IsTrue, Capability, both, has_rights, Setting, Call, Copy, Value, Holds, Slot}
+use low.kernel_rules.specs.{Under, place_at, only, usable, reached, MayReply, state_by, Event, Enters, Decides, Returns, after}
+use low.spk_nums.specs.{declared.kinds.Kind.TheVariants.Table, declared.rights.Rights.Rights}
+use low.{leads, leads_as, spk_nums.specs.declared.replies.Reply.TheVariants.Ok as ok_reply}
+use low.{spk_nums.specs.declared.replies.Reply.TheVariants.NoRight, kernel_rules.specs.State.State}
 
 -- From state s to state t core c has put, at the place b of the table u, what its number a leads to, with no right that this lacks.
 pub record PutsNoMore (s t : State) (c a u b : ℕ) : Type 0 where

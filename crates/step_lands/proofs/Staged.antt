@@ -1,10 +1,8 @@
 -- Where a step takes a call does not depend on the stage that it leaves.
-use Rattle.std.proofs.Common.{◌≡◌, refl}
-use Rattle.call_stages.specs.act_states.specs.declared.work.WorkStep.{WorkStep}
+use Rattle.call_stages.specs.{landed, told, call_after}
 use Rattle.call_stages.specs.act_states.specs.declared.work.WorkStep.TheVariants.{Goes, Acquires, Refuses, Answers, Changes as work_changes}
-use Rattle.call_stages.specs.declared.stages.ActiveCall.{ActiveCall}
-use Rattle.call_stages.specs.declared.stages.Stage.{Stage}
-use Rattle.call_stages.specs.Steps.{landed, told, call_after}
+use Rattle.{std.proofs.Common.◌≡◌, std.proofs.Common.refl, call_stages.specs.act_states.specs.declared.work.WorkStep.WorkStep}
+use Rattle.{call_stages.specs.declared.stages.ActiveCall.ActiveCall, call_stages.specs.declared.stages.Stage.Stage}
 
 pub told_from : (a : ActiveCall) (s : Stage) (step : WorkStep) → told (landed (record a { stage = s }) step) ≡ told (landed a step)
 told_from a s (Goes work) = refl

@@ -1,28 +1,14 @@
 -- Where a call stands that makes a step after its look-ups, and what a step leads to that ends a scan or the acquiring of a count.
-use Rattle.std.specs.Prelude.{◌+◌, length}
-use Rattle.call_stages.specs.stage_pins.specs.declared.pin.Pinned.{Pinned}
-use Rattle.call_stages.specs.stage_pins.specs.declared.held.Acquired.{Acquired}
-use Rattle.call_stages.specs.act_states.specs.declared.own.Own.{Own}
-use Rattle.call_stages.specs.act_states.specs.declared.refusals.Refusal.{Refusal}
-use Rattle.call_stages.specs.act_states.specs.declared.refusals.Refusal.TheVariants.{Raced}
-use Rattle.spk_nums.specs.declared.replies.Value.{Value}
-use Rattle.spk_nums.specs.declared.steps.StageEnd.{StageEnd}
-use Rattle.spk_nums.specs.declared.steps.StageEnd.TheVariants as ends
-use Rattle.call_stages.specs.stage_look.specs.declared.look.Found.{Found}
-use Rattle.call_stages.specs.call_plans.specs.After.{next_of}
-use Rattle.call_stages.specs.act_states.specs.Refusals.{refusal_of}
-use Rattle.call_stages.specs.act_states.specs.declared.work.Act.TheVariants.{Invoke, Remove, Return, Share, Switch, Tick}
-use Rattle.call_stages.specs.act_states.specs.declared.work.Tail.TheVariants.{Share as share_tail}
-use Rattle.call_stages.specs.act_states.specs.declared.work.Work.TheVariants.{Lookup, Read, Scan, Acquire, Act}
-use Rattle.call_stages.specs.act_states.specs.declared.work.WorkStep.TheVariants.{Acquires}
-use Rattle.call_stages.specs.act_states.specs.WorkSteps.{refuse}
-use Rattle.call_stages.specs.act_states.specs.Acts.{next_work, starts}
-use Rattle.call_stages.specs.act_states.specs.Shares.{took_shared}
-use Rattle.call_stages.specs.declared.stages.ActiveCall.{ActiveCall}
-use Rattle.call_stages.specs.declared.stages.Stage.{Stage}
-use Rattle.call_stages.specs.declared.stages.Stage.TheVariants.{Living, Undecided, Decided}
-use Rattle.call_stages.specs.Steps.{Took, GoesOn, went, landed, next_by, took_found, gives_up}
-use Rattle.call_stages.specs.call_plans.specs.PlanOf.{plan_for}
+use Rattle.call_stages.specs.act_states.specs as low
+use low.{◌+◌, length, Pinned, Acquired, Value, StageEnd, next_of, refusal_of, refuse, next_work, starts, took_shared, plan_for}
+use Rattle.call_stages.specs.{Took, GoesOn, went, landed, next_by, took_found, gives_up}
+use low.declared.work.Act.TheVariants.{Invoke, Remove, Return, Share, Switch, Tick}
+use low.declared.work.Work.TheVariants.{Lookup, Read, Scan, Acquire, Act}
+use Rattle.call_stages.specs.{declared.stages.ActiveCall.ActiveCall, declared.stages.Stage.Stage, declared.stages.Stage.TheVariants.Living}
+use Rattle.call_stages.specs.{declared.stages.Stage.TheVariants.Undecided, declared.stages.Stage.TheVariants.Decided}
+use low.{declared.own.Own.Own, declared.refusals.Refusal.Refusal, declared.refusals.Refusal.TheVariants.Raced}
+use low.{declared.work.Tail.TheVariants.Share as share_tail, declared.work.WorkStep.TheVariants.Acquires}
+use Rattle.{call_stages.specs.stage_look.specs.declared.look.Found.Found}
 
 -- the call makes its act
 abbrev pub IsActing : Stage → Type 0
@@ -91,17 +77,17 @@ IsStoringShare _ = ⊥
 
 -- what a call takes from a step of a look-up, which stands here after it
 abbrev pub looked_to : Own → ActiveCall → StageEnd Found → Took
-looked_to own a ends.Going = GoesOn (went a a.stage)
-looked_to own a (ends.Decided r) = landed a (refuse (refusal_of r))
-looked_to own a (ends.Done f) = took_found own a (next_of (plan_for a.call) a.found) f
-looked_to own a (ends.Refuse r) = landed a (refuse (refusal_of r))
+looked_to own a StageEnd.Going = GoesOn (went a a.stage)
+looked_to own a (StageEnd.Decided r) = landed a (refuse (refusal_of r))
+looked_to own a (StageEnd.Done f) = took_found own a (next_of (plan_for a.call) a.found) f
+looked_to own a (StageEnd.Refuse r) = landed a (refuse (refusal_of r))
 
 -- what a call takes from a step of the question whether its component lives, which stands here after it
 abbrev pub asked_to : Own → ActiveCall → StageEnd (Unit {0}) → Took
-asked_to own a ends.Going = GoesOn (went a a.stage)
-asked_to own a (ends.Decided r) = landed a (refuse (refusal_of r))
-asked_to own a (ends.Done x) = landed a (next_by own a)
-asked_to own a (ends.Refuse r) = landed a (refuse (refusal_of r))
+asked_to own a StageEnd.Going = GoesOn (went a a.stage)
+asked_to own a (StageEnd.Decided r) = landed a (refuse (refusal_of r))
+asked_to own a (StageEnd.Done x) = landed a (next_by own a)
+asked_to own a (StageEnd.Refuse r) = landed a (refuse (refusal_of r))
 
 -- what a call on two temporal capabilities, which stands here, takes from its step
 abbrev pub shared_to : ActiveCall → Stage → StageEnd Value → Took

@@ -1,14 +1,8 @@
 -- What the plan of a call asks first, and what is looked up next of one or two names, by how many have led to capabilities.
-use Rattle.std.proofs.Common.{◌≡◌, ⊥, length, List, [], ◌∷◌, refl}
-use Rattle.spk_nums.specs.Capability.{Capability}
-use Rattle.spk_nums.specs.declared.calls.Call.{Call}
-use Rattle.step_starts.specs.kernel_rules.specs.Life.{asks_life}
-use Rattle.step_starts.specs.call_plans.specs.PlanOf.{plan_for}
-use Rattle.step_starts.specs.call_plans.proofs.Lives.{lives}
-use Rattle.step_starts.specs.call_plans.specs.declared.plans.Name.{Name}
-use Rattle.step_starts.specs.call_plans.specs.declared.plans.Target.{Target}
-use Rattle.step_starts.specs.call_plans.specs.GoesBy.{want_of}
-use Rattle.step_starts.specs.call_plans.specs.After.{names_after, next_in, next_target, with_found, NextName}
+use Rattle.step_starts.specs.act_states.specs.{◌≡◌, length, List, [], ◌∷◌, refl, Capability, Call, asks_life, plan_for, Name, want_of}
+use Rattle.step_starts.specs.act_states.specs.{names_after, next_in, with_found, NextName}
+use Rattle.step_starts.specs.call_plans.specs.{declared.plans.Target.Target, After.next_target}
+use Rattle.{std.proofs.Common.⊥, step_starts.specs.call_plans.proofs.Lives.lives}
 
 pub living : (call : Call) → (plan_for call).living ≡ asks_life call
 living = lives

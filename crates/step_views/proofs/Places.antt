@@ -1,11 +1,7 @@
 -- The name of a word by its place.
-use Rattle.std.proofs.Common.{◌≡◌, ℕ, ◌+◌, ◌*◌, ◌/◌, ◌<◌, ◌≤◌, ◌∙◌, sym, ap, arith}
-use Rattle.std.proofs.Math.Nat.{mul-le-mul_left}
-use Rattle.word_map.specs.Word.{Word}
-use Rattle.word_map.specs.Places.{Shape, IsShape, IsIn, core_words, place_of}
-use Rattle.word_map.proofs.PlaceLemmas.{has_places}
-use Rattle.step_views.specs.declared.names.WordName.{WordName}
-use Rattle.step_views.specs.Names.{named, IsNamed}
+use Rattle.kernel_history.proofs.{◌≡◌, ℕ, ◌+◌, ◌*◌, ◌/◌, ◌<◌, ◌≤◌, ◌∙◌, sym, ap, arith, Word, Shape, IsShape, IsIn, place_of, has_places}
+use Rattle.step_views.specs.{declared.names.WordName.WordName, Names.named, Names.IsNamed}
+use Rattle.{std.proofs.Math.Nat.mul-le-mul_left, word_map.specs.Places.core_words}
 
 -- the word of a place is the one that has this name
 pub only_named : (s : Shape) (name : WordName) (place : ℕ) (w : Word) → IsShape s → IsNamed s name place → IsIn s w

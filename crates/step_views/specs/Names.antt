@@ -1,7 +1,5 @@
 -- The words of the table by the names that the code has for them.
-use Rattle.std.specs.Prelude.{◌≡◌, ℕ}
-use Rattle.word_map.specs.Word.{Word, EntryAt, FrameAt, CountAt, CoreAt, FlushAt, LiveAt, ClockAt}
-use Rattle.word_map.specs.Places.{Shape, IsIn, place_of}
+use Rattle.kernel_history.specs.{◌≡◌, ℕ, Word, EntryAt, FrameAt, CountAt, CoreAt, FlushAt, LiveAt, ClockAt, Shape, IsIn, place_of}
 use Rattle.step_views.specs.declared.names.WordName.{WordName}
 use Rattle.step_views.specs.declared.names.WordName.TheVariants.{Entry, Frame, Count, Core, Flush, Live, Clock}
 

@@ -1,22 +1,16 @@
 -- The way in which a call makes a step by which its core marks a word or gives it back; and what the counts are that it then holds.
-use Rattle.kept_facts.proofs.Common.{◌≡◌, ◌≢◌, ℕ, ◌+◌, ◌++◌, ◌^◌, ◌<◌, Bool, true, false, if◌then◌else◌, List, [], ◌∷◌, Option, Some}
-use Rattle.kept_facts.proofs.Common.{None, arith, refl, sym, ◌∙◌, ap, All, false≢true, Setting, IsSetting, Word, CountAt, FlushAt}
-use Rattle.kept_facts.proofs.Common.{ClockAt, same_word, Move, word_of, left_of, same_same, FrameOf, put, Step, Trace, state_after}
-use Rattle.kept_facts.proofs.Common.{last_left, mark_of, marked_by, MayFollow, Carries, same_word-other, phase-own, steps_in_call-own}
-use Rattle.kept_facts.proofs.Common.{last_left-there, Acquired, ActiveCall, Core, count_of, committed, holds_counts, AreApart, settled_by}
-use Rattle.kept_facts.proofs.Common.{settled, phase_at, Knows, IsCount, CoreIs, flushing_in, holds_in, holds, held_by, Invariant}
-use Rattle.kept_facts.proofs.Common.{marks_own, sums_stay, calm_words, none_stored, IsUntimed, plain_time, plain_exit, AsBefore}
-use Rattle.kept_facts.proofs.Common.{SparesExclusive}
-use Rattle.kept_facts.specs.trace_laws.proofs.Carries.{carries_own}
-use Rattle.kept_facts.specs.kernel_history.proofs.Names.{same_word-same}
-use Rattle.kept_facts.proofs.WordFrames.{hold_marks, hold_words, settled_stays}
-use Rattle.kept_facts.proofs.Calm.{calm_same, plain_flushed}
-use Rattle.step_ways.proofs.Flushing.{still_flushed}
-use Rattle.kept_facts.proofs.Exclusive.{keeps_given, exclusive_still}
-use Rattle.step_ways.proofs.Good.{IsGood, SparesBlanks}
-use Rattle.step_ways.proofs.Users.{spares_none}
-use Rattle.step_ways.proofs.Loads.{Lands, IsOfCall, core_in_call, core_is, call_is, in_call}
-use Rattle.step_ways.proofs.Loads.{inner, inner_within, inner_disciplined, inner_footprint}
+use Rattle.kept_facts.proofs.{◌≡◌, ◌≢◌, ℕ, ◌+◌, ◌++◌, ◌^◌, ◌<◌, Bool, true, false, if◌then◌else◌, List, [], ◌∷◌, Option, Some, None, arith}
+use Rattle.kept_facts.proofs.{refl, sym, ◌∙◌, ap, All, false≢true, Setting, IsSetting, Word, CountAt, FlushAt, ClockAt, same_word, Move}
+use Rattle.kept_facts.proofs.{word_of, left_of, same_same, FrameOf, put, Step, Trace, state_after, last_left, mark_of, marked_by, MayFollow}
+use Rattle.kept_facts.proofs.{same_word-other, phase-own, steps_in_call-own, last_left-there, Acquired, ActiveCall, Core, count_of}
+use Rattle.kept_facts.proofs.{committed, holds_counts, AreApart, settled_by, settled, phase_at, Knows, IsCount, CoreIs, flushing_in}
+use Rattle.kept_facts.proofs.{holds_in, holds, held_by, Invariant, marks_own, sums_stay, calm_words, none_stored, IsUntimed, plain_time}
+use Rattle.kept_facts.proofs.{plain_exit, AsBefore, SparesExclusive, hold_marks, hold_words, settled_stays, calm_same, exclusive_still}
+use Rattle.step_ways.proofs.{Flushing.still_flushed, Good.IsGood, Good.SparesBlanks, Users.spares_none, Loads.Lands, Loads.IsOfCall}
+use Rattle.step_ways.proofs.{Loads.core_in_call, Loads.core_is, Loads.call_is, Loads.in_call, Loads.inner, Loads.inner_within}
+use Rattle.{kept_facts.specs.trace_laws.proofs.Carries.Carries, kept_facts.specs.trace_laws.proofs.Carries.carries_own}
+use Rattle.{kept_facts.specs.kernel_history.proofs.Names.same_word-same, kept_facts.proofs.Calm.plain_flushed}
+use Rattle.{kept_facts.proofs.Exclusive.keeps_given, step_ways.proofs.Loads.inner_disciplined, step_ways.proofs.Loads.inner_footprint}
 
 -- A step of a call, within it, on the word of a count, of an entry or of a frame: what the core holds of other words stays, no other core
 -- has marked the word, and what the word stands for stays too.

@@ -1,18 +1,14 @@
 -- The way in which a call draws a stamp by raising the clock, and is decided: grace periods begin at the stamp.
-use Rattle.kept_facts.proofs.Common.{◌≡◌, ◌≢◌, ℕ, ◌+◌, ◌%◌, ◌^◌, ◌<◌, ◌≤◌, true, false, if◌then◌else◌, ◌∷◌, Some, None, IsTrue, inl}
-use Rattle.kept_facts.proofs.Common.{arith, refl, sym, ◌∙◌, ap, subst, Setting, IsSetting, Reply, Word, EntryAt, ClockAt, AddOf, Move}
-use Rattle.kept_facts.proofs.Common.{put, alone, Step, Trace, Open, phase, after_decide, state_after, IsAlone, IsFirst, raises_clock}
-use Rattle.kept_facts.proofs.Common.{MayDecide, marked_by, flushes_at, clock, flush_of, phase-own, steps_in_call-own, flush_of-own}
-use Rattle.kept_facts.proofs.Common.{flush_stored-own, Stage, ActiveCall, Core, WordIs, phase_at, Knows, WorksIn, CoreIs, flushing_in}
-use Rattle.kept_facts.proofs.Common.{holds, held_by, times_of, counted_in, SumIs, Invariant, ReadsAlike, StaysSaid, marks_own}
-use Rattle.kept_facts.proofs.Common.{carry_marks, carry_words, plain_exit, exclusive_open, exclusive_elsewhere, counts_on}
-use Rattle.kept_facts.specs.kernel_history.specs.Trace.{Decided}
-use Rattle.step_ways.proofs.Flushing.{open_flushed}
-use Rattle.step_ways.proofs.Good.{IsGood, spares_other}
-use Rattle.step_ways.proofs.Users.{SparesBy, spared}
-use Rattle.step_ways.proofs.Writes.{clock_small}
-use Rattle.step_ways.proofs.Loads.{Lands, core_in_call, next_at, core_is, call_is, in_call}
-use Rattle.step_ways.proofs.Loads.{inner, inner_within, inner_disciplined, inner_footprint}
+use Rattle.kept_facts.proofs.{◌≡◌, ◌≢◌, ℕ, ◌+◌, ◌%◌, ◌^◌, ◌<◌, ◌≤◌, true, false, if◌then◌else◌, ◌∷◌, Some, None, IsTrue, inl, arith, refl}
+use Rattle.kept_facts.proofs.{sym, ◌∙◌, ap, subst, Setting, IsSetting, Reply, Word, EntryAt, ClockAt, AddOf, Move, put, alone, Step, Trace}
+use Rattle.kept_facts.proofs.{Open, phase, after_decide, state_after, IsAlone, IsFirst, raises_clock, MayDecide, marked_by, flushes_at}
+use Rattle.kept_facts.proofs.{clock, flush_of, phase-own, steps_in_call-own, flush_stored-own, Stage, ActiveCall, Core, WordIs, phase_at}
+use Rattle.kept_facts.proofs.{Knows, WorksIn, CoreIs, flushing_in, holds, held_by, times_of, counted_in, SumIs, Invariant, ReadsAlike}
+use Rattle.kept_facts.proofs.{StaysSaid, marks_own, carry_marks, carry_words, plain_exit, exclusive_open, exclusive_elsewhere, counts_on}
+use Rattle.kept_facts.specs.kernel_history.proofs.{flush_of-own, Decided}
+use Rattle.step_ways.proofs.{Flushing.open_flushed, Good.IsGood, Good.spares_other, Users.SparesBy, Users.spared, Writes.clock_small}
+use Rattle.step_ways.proofs.{Loads.Lands, Loads.core_in_call, Loads.next_at, Loads.core_is, Loads.call_is, Loads.in_call, Loads.inner}
+use Rattle.step_ways.proofs.{Loads.inner_within, Loads.inner_disciplined, Loads.inner_footprint}
 
 module _ (setup : Setting) (setting : IsSetting setup) (cores : ℕ → Core) (t : Trace) (stands : Invariant setup cores t) (c : ℕ)
     (here : c < setup.cores)

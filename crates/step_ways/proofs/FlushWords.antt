@@ -1,7 +1,9 @@
 -- What a core's flush word shows: the flush that the core has stored, which is not later than its last.
-use Rattle.kept_facts.proofs.Common.{Core, Invariant, FlushWord, flush_of_word, stamp, awaits_flushes, flush_of, flush_stored, Trace}
-use Rattle.kept_facts.proofs.Common.{state_after, last_left, MayBeUnflushed, Thing, Setting, ◌≡◌, ℕ, ◌<◌, ◌≤◌, true, Some, arith, sym}
-use Rattle.kept_facts.proofs.Common.{◌∙◌, ap, subst, limits_of, FlushAt}
+use Rattle.kept_facts.proofs.{Core, Invariant, stamp, flush_of, flush_stored, Trace, state_after, last_left, Thing, Setting, ◌≡◌, ℕ, ◌<◌}
+use Rattle.kept_facts.proofs.{◌≤◌, true, Some, arith, sym, ◌∙◌, ap, subst, limits_of, FlushAt}
+use Rattle.kept_facts.specs.kernel_history.specs.{flush_of_word, awaits_flushes}
+use Rattle.kept_facts.specs.frame_words.specs.declared.flush_word.FlushWord.{FlushWord}
+use Rattle.kept_facts.specs.kernel_rules.specs.GracePeriods.{MayBeUnflushed}
 use Rattle.kept_facts.specs.trace_laws.proofs.Waiting.{Flushed, later_flushed, may_be_unflushed}
 
 module _ (setup : Setting) (cores : ℕ → Core) (t : Trace) (stands : Invariant setup cores t) (c : ℕ) (shown : FlushWord)

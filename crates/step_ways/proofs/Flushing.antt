@@ -1,36 +1,23 @@
 -- Flushes that are decided and still to be stored. What a core holds stands for nothing at a flush word, but there: so where a step
 -- leaves what it stands for at its core's flush word, the core has its last flush stored if it had before.
-use Rattle.kept_facts.proofs.Common.{KillingAt, LoadComp, LoadLive, MakingAt, Mark, Store, Fill, Outside, Untype, MakeComp, Invoke}
-use Rattle.kept_facts.proofs.Common.{Return, CompMaking, CompAt, Tail, Nothing, Quiesce, Unmark, StoreDead, StoreFlush, StoreLive, Push}
-use Rattle.kept_facts.proofs.Common.{Pop, Release, Share, StoreRunning, StoreIdle, Work, Lookup, Read, Scan, Acquire, ActiveCall, Stage}
-use Rattle.kept_facts.proofs.Common.{Enter, Living, Undecided, Decided, Leave, swept_of, release_of, UntypingAt, holds_untyping, Holding}
-use Rattle.kept_facts.proofs.Common.{holds_counts, is_flushing, flushing_in, phase_at, KnowsAt, is_done, holds_making, holds_killing}
-use Rattle.kept_facts.proofs.Common.{holds_comp, holds_act, holds_tail, holds_work, holds_at, holds_share, holds_shared, Pair, PairAt}
-use Rattle.kept_facts.proofs.Common.{LoadA, MarkA, ListA, LoadB, ListB, CompareB, AgainB, StoreList, StoreB, StoreA, Trace, Phase, Out}
-use Rattle.kept_facts.proofs.Common.{Open, Reply, Capability, Call, Setting, Acquired, Close, AtCompare, AtDraw, AtStore, ◌≡◌, ℕ, ◌≤◌}
-use Rattle.kept_facts.proofs.Common.{Bool, true, false, if◌then◌else◌, List, [], ◌∷◌, Option, Some, None, ◌⊎◌, inl, inr, arith, refl, sym}
-use Rattle.kept_facts.proofs.Common.{◌∙◌, ap, subst, false≢true, same_same, FlushAt}
-use Rattle.kept_facts.specs.act_states.specs.declared.kills.KillingAt.TheVariants.{Close as kill_close}
-use Rattle.kept_facts.specs.act_states.specs.declared.kills.KillingAt.TheVariants.{Draw as kill_draw}
-use Rattle.kept_facts.specs.act_states.specs.declared.makings.MakingAt.TheVariants.{Load, Fill as making_fill}
-use Rattle.kept_facts.specs.act_states.specs.declared.work.Act.{Act as ActOf}
-use Rattle.kept_facts.specs.act_states.specs.declared.work.Act.TheVariants.{Remove, Retype, Make, Map, Tick, Flush, Kill}
-use Rattle.kept_facts.specs.act_states.specs.declared.work.Act.TheVariants.{Touch, Share as share_act, Refill as refill_act}
-use Rattle.kept_facts.specs.act_states.specs.declared.work.Act.TheVariants.{Switch as switch_act}
-use Rattle.kept_facts.specs.act_states.specs.declared.comps.CompAt.TheVariants as comp_at
-use Rattle.kept_facts.specs.act_states.specs.declared.work.Work.TheVariants.{Act as act_work}
-use Rattle.kept_facts.specs.act_states.specs.declared.untypings.UntypingAt.TheVariants as untype
-use Rattle.kept_facts.specs.core_invariant.proofs.Freezing.{release_flush}
-use Rattle.kept_facts.specs.core_invariant.specs.Holding.{holds_closed, holds_drawn}
-use Rattle.kept_facts.specs.core_invariant.specs.Knows.{flushes_tail}
-use Rattle.kept_facts.specs.core_invariant.proofs.ThreadHolds.{switching_flush}
-use Rattle.kept_facts.specs.core_invariant.specs.Invariant.{holds_stage, holds_push, holds_pop}
-use Rattle.kept_facts.specs.stage_thread.specs.declared.stack.Push.{Push as PushOf}
-use Rattle.kept_facts.specs.stage_thread.specs.declared.stack.Push.TheVariants as push
-use Rattle.kept_facts.specs.stage_thread.specs.declared.stack.Pop.{Pop as PopOf}
-use Rattle.kept_facts.specs.stage_thread.specs.declared.stack.Pop.TheVariants as pop
+use Rattle.kept_facts.specs.core_invariant.proofs as low
+use low.{KillingAt, LoadComp, LoadLive, MakingAt, Mark, Store, Fill, Outside, Untype, MakeComp, Invoke, Return, CompMaking, CompAt, Tail}
+use low.{Nothing, Quiesce, Unmark, StoreDead, StoreFlush, StoreLive, Push, Pop, Release, StoreRunning, StoreIdle, Work, Lookup, Read, Scan}
+use low.{Acquire, ActiveCall, Stage, Enter, Living, Undecided, Decided, Leave, swept_of, release_of, UntypingAt, holds_untyping}
+use low.{holds_counts, flushing_in, phase_at, KnowsAt, is_done, holds_making, holds_killing, holds_comp, holds_act, holds_tail, holds_work}
+use low.{holds_at, holds_share, holds_shared, Pair, PairAt, LoadA, MarkA, ListA, LoadB, ListB, CompareB, AgainB, StoreList, StoreB, StoreA}
+use low.{Trace, Phase, Out, Open, Reply, Capability, Call, Setting, Acquired, AtCompare, AtDraw, AtStore, ◌≡◌, ℕ, ◌≤◌, Bool, true, false}
+use low.{if◌then◌else◌, List, [], ◌∷◌, Option, Some, None, ◌⊎◌, inl, inr, arith, refl, sym, ◌∙◌, ap, subst, false≢true, same_same, FlushAt}
+use low.{Close as kill_close, Draw as kill_draw, Load, Remove, Retype, Make, Map, Tick, Flush, Kill, Touch, Share as share_act}
+use low.{Refill as refill_act, Switch as switch_act, Act as act_work, IfSome}
+use Rattle.kept_facts.specs.act_states.specs.{Close, Push as PushOf, Pop as PopOf}
+use Rattle.kept_facts.specs.core_invariant.specs.{is_flushing, holds_stage}
+use Rattle.kept_facts.specs.act_states.specs.{declared.work.Tail.TheVariants.Share}
+use Rattle.kept_facts.specs.act_states.specs.{declared.makings.MakingAt.TheVariants.Fill as making_fill, declared.work.Act.Act as ActOf}
+use Rattle.kept_facts.specs.core_invariant.specs.{Holding.Holding, Holding.holds_closed, Holding.holds_drawn, Knows.flushes_tail}
+use Rattle.kept_facts.specs.core_invariant.specs.{Invariant.holds_push, Invariant.holds_pop}
+use low.{Freezing.release_flush, ThreadHolds.switching_flush}
 use Rattle.kept_facts.specs.kernel_history.specs.Trace.{Decided as Decided_phase}
-use Rattle.std.proofs.Common.{IfSome}
 
 counts_flush : (fate : Option (Option ℕ)) (xs : List Acquired) (c : ℕ) → (holds_counts fate xs).stands (FlushAt c) ≡ 0
 counts_flush fate [] c = refl
@@ -60,13 +47,13 @@ killing_flush (kill_close life word) h c = refl
 killing_flush (kill_draw life word) h c = refl
 
 comp_flush : (m : CompMaking) (at : CompAt) (h : Holding) (c : ℕ) → (holds_comp m at h).stands (FlushAt c) ≡ h.stands (FlushAt c)
-comp_flush m comp_at.Load h c = refl
-comp_flush m (comp_at.Mark word) h c = refl
-comp_flush m (comp_at.LoadLive word) h c = refl
-comp_flush m (comp_at.Scan word last q) h c = refl
-comp_flush m (comp_at.Close word last) h c = refl
-comp_flush m (comp_at.Store word last entry) h c = refl
-comp_flush m (comp_at.Fill word last) h c = refl
+comp_flush m CompAt.Load h c = refl
+comp_flush m (CompAt.Mark word) h c = refl
+comp_flush m (CompAt.LoadLive word) h c = refl
+comp_flush m (CompAt.Scan word last q) h c = refl
+comp_flush m (CompAt.Close word last) h c = refl
+comp_flush m (CompAt.Store word last entry) h c = refl
+comp_flush m (CompAt.Fill word last) h c = refl
 
 share_flush : (p : Pair) (at : PairAt) (h : Holding) (c : ℕ) → (holds_share p at h).stands (FlushAt c) ≡ h.stands (FlushAt c)
 share_flush p LoadA h c = refl
@@ -106,10 +93,10 @@ act_flush (Kill m) h c = killing_flush m.at h c
 act_flush (Untype m) h c = by m.at
   where
     by : (at : UntypingAt) → (holds_untyping m.frame at h).stands (FlushAt c) ≡ h.stands (FlushAt c)
-    by untype.Load = refl
-    by (untype.Mark word v) = refl
-    by (untype.Sweep word w) = (release_flush (release_of m.frame word (swept_of w) false) h c).1
-    by (untype.Draw word w) = (release_flush (release_of m.frame word w false) h c).1
+    by UntypingAt.Load = refl
+    by (UntypingAt.Mark word v) = refl
+    by (UntypingAt.Sweep word w) = (release_flush (release_of m.frame word (swept_of w) false) h c).1
+    by (UntypingAt.Draw word w) = (release_flush (release_of m.frame word w false) h c).1
 act_flush (Invoke m) h c = refl
 act_flush (Return m) h c = refl
 act_flush (MakeComp m) h c = comp_flush m m.at h c
@@ -125,12 +112,12 @@ work_flush (Acquire pin change act) h c = act_flush act h c
 work_flush (act_work act) h c = act_flush act h c
 
 push_flush : (p : PushOf) (h : Holding) (c : ℕ) → (holds_push p h).stands (FlushAt c) ≡ h.stands (FlushAt c)
-push_flush (push.AtStack f core depth comp) h c = refl
-push_flush (push.AtThread f core depth) h c = refl
+push_flush (PushOf.AtStack f core depth comp) h c = refl
+push_flush (PushOf.AtThread f core depth) h c = refl
 
 pop_flush : (p : PopOf) (h : Holding) (c : ℕ) → (holds_pop p h).stands (FlushAt c) ≡ h.stands (FlushAt c)
-pop_flush (pop.AtThread f core depth) h c = refl
-pop_flush (pop.AtStack f depth) h c = refl
+pop_flush (PopOf.AtThread f core depth) h c = refl
+pop_flush (PopOf.AtStack f depth) h c = refl
 
 tail_flush : (tail : Tail) (h : Holding) (c : ℕ) → flushes_tail tail ≡ false → (holds_tail tail h).stands (FlushAt c) ≡ h.stands (FlushAt c)
 tail_flush Nothing h c none = refl

@@ -1,67 +1,41 @@
 -- What a step must show, and why the cores then stand for the trace with it. Calls are not looked at here.
-use Rattle.kept_facts.proofs.Common.{FrameWord, NewObject, CompAt, CompMaking, Mark, Store, MakingAt, Lookup, Read, Scan, Acquire, Work}
-use Rattle.kept_facts.proofs.Common.{Outside, AtCore, AtFlush, Plan, cases_word, frame_value, is_node, same_same, word_of, left_of}
-use Rattle.kept_facts.proofs.Common.{frame_of_word, Capability, suc, zero, ◌≡◌, ◌≢◌, inl, inr, ℕ, ◌+◌, ◌<◌, ◌≤◌, ◌∷◌, length, Option}
-use Rattle.kept_facts.proofs.Common.{Some, None, arith, sym, ◌∙◌, ap, subst, ◌⊎◌, ◌&&◌, ◌==◌, not, Bool, true, false, List, IsTrue}
-use Rattle.kept_facts.proofs.Common.{if◌then◌else◌, refl, cases_eq, eqb-true, false≢true, Setting, IsSetting, Call, Word, EntryAt}
-use Rattle.kept_facts.proofs.Common.{FrameAt, LiveAt, put, first_of_stack, Frame, Untyped, User, Kernel, Blank, Table, Leaf, Pages, Pleaf}
-use Rattle.kept_facts.proofs.Common.{Comp, Thread, Tcap, put_same, put_other, Step, Trace, Out, Open, phase, state_after}
-use Rattle.kept_facts.proofs.Common.{last_left, marked_by, IsInFootprint, MayFollow, is_in, clock, phase-other, flush_stored-other}
-use Rattle.kept_facts.proofs.Common.{last_left-here, last_left-there, KeepsTime, Carries, was_stays, Stage, Enter, Living, Undecided}
-use Rattle.kept_facts.proofs.Common.{Decided}
-use Rattle.kept_facts.proofs.Common.{Leave, ActiveCall, Own, Nothing, Quiesce, Unmark, StoreDead, StoreFlush, Release, StoreLive, Push}
-use Rattle.kept_facts.proofs.Common.{Pop, Share, StoreRunning, StoreIdle, Core, HasThread, holds_switching, claimed_by, is_claimed}
-use Rattle.kept_facts.proofs.Common.{settled, MarkIs, Holding, keeps, holds_counts, settled_by, WordIs, SparesTcap, phase_at, CallIs}
-use Rattle.kept_facts.proofs.Common.{KnowsAt, WorksIn, CoreIs, blank_word, KnowsMakingAt, KnowsAct, KnowsWork, KnowsCompAt, held_by}
-use Rattle.kept_facts.proofs.Common.{times_of, counted_in, SumIs, Invariant, is_done, holds_making, holds_act, holds_work, holds_at}
-use Rattle.kept_facts.proofs.Common.{holds_in, holds, holds_comp, IsExclusive, marker_inside, counts_on, latest_stamp, swept_of, Sweep}
-use Rattle.kept_facts.proofs.Common.{SweepAt, Swept, release_of, UntypingAt, holds_release, holds_untyping, AreFrozen, AreKept, IsQuiet}
-use Rattle.kept_facts.proofs.Common.{KnowsSweep, KnowsSwept, KnowsUntypingAt, SaysTyped, HoldsSwept, release_swept, SparesExclusive}
-use Rattle.kept_facts.specs.act_states.specs.declared.comps.CompAt.TheVariants as comp_at
-use Rattle.kept_facts.specs.act_states.specs.Comps.{comp_is_marked}
-use Rattle.kept_facts.specs.act_states.specs.Makings.{is_marked}
-use Rattle.kept_facts.specs.act_states.specs.declared.makings.MakingAt.TheVariants.{Load as making_load, Fill as making_fill}
-use Rattle.kept_facts.specs.act_states.specs.declared.work.Work.TheVariants.{Act as act_work}
-use Rattle.kept_facts.specs.act_states.specs.declared.work.Act.TheVariants.{Fill as fill_act, Remove as remove_act, Retype as type_act}
-use Rattle.kept_facts.specs.act_states.specs.declared.work.Act.TheVariants.{Make as make_act, Tick as tick_act, Flush as flush_act}
-use Rattle.kept_facts.specs.act_states.specs.declared.work.Act.TheVariants.{Kill as kill_act, Untype as untype_act, Map as map_act}
-use Rattle.kept_facts.specs.act_states.specs.declared.work.Act.TheVariants.{MakeComp as comp_act, Invoke as invoke_act}
-use Rattle.kept_facts.specs.act_states.specs.declared.work.Act.TheVariants.{Return as return_act}
-use Rattle.kept_facts.specs.act_states.specs.declared.work.Act.TheVariants.{Touch as touch_act, Share as share_act, Refill as refill_act}
-use Rattle.kept_facts.specs.act_states.specs.declared.work.Act.TheVariants.{Switch as switch_act}
-use Rattle.kept_facts.specs.act_states.specs.declared.work.Act.{Act as ActOf}
-use Rattle.std.proofs.lemmas.Bool.{true≢false}
-use Rattle.kept_facts.specs.kernel_history.specs.Bounds.{IsWithin}
-use Rattle.kept_facts.specs.kernel_history.specs.Discipline.{IsDisciplined}
-use Rattle.kept_facts.specs.kernel_history.specs.Footprint.{StepsInFootprint}
-use Rattle.kept_facts.specs.kernel_history.specs.Alone.{AnswersAlone}
-use Rattle.kept_facts.specs.kernel_history.specs.Legal.{MayEnter}
-use Rattle.kept_facts.specs.kernel_history.proofs.Steps.{calls_of-other, steps_in_call-other, own_read-other, exit_of-other}
-use Rattle.kept_facts.specs.kernel_history.proofs.Steps.{flush_of-other}
-use Rattle.kept_facts.specs.kernel_history.specs.Graces.{LeavesBy}
-use Rattle.kept_facts.specs.found_stays.proofs.Stays.{OwnStay}
-use Rattle.kept_facts.specs.trace_laws.proofs.Stays.{own_stays_other, stays_in_other}
-use Rattle.kept_facts.specs.kernel_history.proofs.Inside.{inside_is}
-use Rattle.kept_facts.specs.trace_laws.proofs.GraceSteps.{grace_on, times_on}
-use Rattle.kept_facts.specs.trace_laws.proofs.Waiting.{leave_on, passed_on, flushed_on}
-use Rattle.kept_facts.specs.kernel_history.proofs.Markings.{marked_on}
-use Rattle.kept_facts.specs.trace_laws.proofs.Carries.{carries_other}
-use Rattle.kept_facts.specs.core_invariant.specs.Threads.{KnowsIdle, KnowsRunning}
-use Rattle.kept_facts.specs.core_invariant.proofs.ThreadHolds.{IsIdleIn, claimed_idle}
-use Rattle.kept_facts.proofs.Claimed.{guarded_thread, claimed_rests}
+use Rattle.kept_facts.specs.core_invariant.proofs as low
+use low.{FrameWord, NewObject, CompAt, CompMaking, Mark, Store, MakingAt, Lookup, Read, Scan, Acquire, Work, Outside, AtCore, AtFlush, Plan}
+use low.{cases_word, frame_value, is_node, same_same, word_of, left_of, frame_of_word, Capability, suc, zero, ◌≡◌, ◌≢◌, inl, inr, ℕ, ◌+◌}
+use low.{◌<◌, ◌≤◌, ◌∷◌, length, Option, Some, None, arith, sym, ◌∙◌, ap, subst, ◌⊎◌, ◌&&◌, ◌==◌, not, Bool, true, false, List, IsTrue}
+use low.{if◌then◌else◌, refl, eqb-true, false≢true, Setting, IsSetting, Call, Word, EntryAt, FrameAt, LiveAt, put, first_of_stack, Frame}
+use low.{Untyped, User, Kernel, Blank, Table, Leaf, Pages, Pleaf, Comp, Thread, Tcap, put_same, put_other, Step, Trace, Out, Open, phase}
+use low.{state_after, last_left, marked_by, IsInFootprint, MayFollow, is_in, clock, phase-other, flush_stored-other, last_left-here}
+use low.{last_left-there, KeepsTime, Stage, Enter, Living, Undecided, Decided, Leave, ActiveCall, Own, Nothing, Quiesce, Unmark, StoreDead}
+use low.{StoreFlush, Release, StoreLive, Push, Pop, StoreRunning, StoreIdle, Core, HasThread, holds_switching, claimed_by, is_claimed}
+use low.{settled, MarkIs, keeps, holds_counts, settled_by, WordIs, SparesTcap, phase_at, CallIs, KnowsAt, WorksIn, CoreIs, blank_word}
+use low.{KnowsMakingAt, KnowsAct, KnowsWork, KnowsCompAt, held_by, times_of, counted_in, SumIs, is_done, holds_making, holds_act}
+use low.{holds_work, holds_at, holds_in, holds, holds_comp, IsExclusive, marker_inside, latest_stamp, swept_of, Sweep, SweepAt, Swept}
+use low.{release_of, UntypingAt, holds_release, holds_untyping, AreFrozen, AreKept, IsQuiet, KnowsSweep, KnowsUntypingAt, SaysTyped}
+use low.{Load as making_load, Act as act_work, Fill as fill_act, Remove as remove_act, Retype as type_act, Make as make_act}
+use low.{Tick as tick_act, Flush as flush_act, Kill as kill_act, Untype as untype_act, Map as map_act, MakeComp as comp_act}
+use low.{Invoke as invoke_act, Return as return_act, Touch as touch_act, Share as share_act, Refill as refill_act, Switch as switch_act}
+use low.{true≢false, MayEnter, calls_of-other, inside_is, IsIdleIn, Compare as sweep_compare, Empty as sweep_empty, plan_for}
+use Rattle.kept_facts.proofs.{was_stays, Holding, Invariant, counts_on, HoldsSwept, release_swept, SparesExclusive, KeepsUsers}
+use Rattle.kept_facts.specs.core_invariant.specs.{KnowsSwept, KnowsIdle, KnowsRunning, is_start, KnowsSweepAt}
+use Rattle.kept_facts.specs.act_states.specs.{comp_is_marked, is_marked, Load as sweep_load, Scan as sweep_scan}
+use Rattle.kept_facts.specs.kernel_history.specs.{IsWithin, IsDisciplined, StepsInFootprint}
+use Rattle.kept_facts.specs.kernel_history.proofs.{own_read-other, exit_of-other, flush_of-other}
+use Rattle.kept_facts.specs.trace_laws.proofs.{Carries.Carries, Carries.carries_other, Stays.own_stays_other, Stays.stays_in_other}
+use Rattle.kept_facts.specs.trace_laws.proofs.{GraceSteps.grace_on, GraceSteps.times_on, Waiting.leave_on, Waiting.passed_on}
+use Rattle.kept_facts.specs.act_states.specs.{declared.work.Tail.TheVariants.Share}
+use Rattle.kept_facts.specs.act_states.specs.{declared.makings.MakingAt.TheVariants.Fill as making_fill, declared.work.Act.Act as ActOf}
+use Rattle.kept_facts.specs.kernel_history.specs.{Alone.AnswersAlone, Graces.LeavesBy}
+use Rattle.kept_facts.specs.kernel_history.proofs.{Steps.steps_in_call-other, Markings.marked_on}
+use Rattle.kept_facts.proofs.{Claimed.guarded_thread, Claimed.claimed_rests, Carries.alive_on, Carries.undecided_on, Carries.store_on}
+use Rattle.kept_facts.proofs.{Carries.dead_on, Carries.live_on, KeptReads.stores_in, KeptReads.stores_of, KeptReads.looks_at}
+use Rattle.kept_facts.proofs.{KeptReads.looks_in, KeptReads.looked_in, KeptReads.looked_of, KeptReads.claimed_in, KeptReads.claimed_of}
+use Rattle.kept_facts.proofs.{KeptReads.KeepsThreads, Swept.LeavesFrame, Swept.kernel_is, Swept.swept_rests, SharesOn.SharesStay}
+use Rattle.kept_facts.proofs.{SharesOn.shares_other, Exclusive.exclusive_other}
 use Rattle.step_ways.proofs.Users.{SparesCounted, users_stay}
-use Rattle.kept_facts.specs.core_invariant.specs.Knows.{is_start}
-use Rattle.kept_facts.proofs.Carries.{alive_on}
-use Rattle.kept_facts.proofs.Carries.{KeepsUsers, undecided_on, store_on, stores_in, stores_of, dead_on, live_on}
-use Rattle.kept_facts.proofs.Carries.{looks_at, looks_in, looked_in, looked_of, claimed_in, claimed_of, KeepsThreads}
-use Rattle.kept_facts.specs.stage_sweep.specs.declared.sweep.SweepAt.TheVariants.{Load as sweep_load, Compare as sweep_compare}
-use Rattle.kept_facts.specs.stage_sweep.specs.declared.sweep.SweepAt.TheVariants.{Scan as sweep_scan, Empty as sweep_empty}
-use Rattle.kept_facts.specs.act_states.specs.declared.untypings.UntypingAt.TheVariants as untype
-use Rattle.kept_facts.specs.core_invariant.specs.Sweeps.{KnowsSweepAt}
-use Rattle.kept_facts.proofs.Swept.{LeavesFrame, kernel_is, swept_rests}
-use Rattle.kept_facts.proofs.SharesOn.{SharesStay, shares_other}
-use Rattle.kept_facts.proofs.Exclusive.{exclusive_other}
-use Rattle.kept_facts.specs.act_states.specs.call_plans.specs.PlanOf.{plan_for}
+use Rattle.{std.proofs.lemmas.Bool.cases_eq, kept_facts.specs.trace_laws.proofs.Waiting.flushed_on}
+use Rattle.{kept_facts.specs.found_stays.proofs.Stays.OwnStay}
+use low.{ThreadHolds.claimed_idle}
 
 -- A step changes a word of a blank frame only where its core has marked the frame, and a word of a temporal capability as `SparesTcap`
 -- says.
@@ -162,13 +136,13 @@ filled_two f g l word live h same says =
 
 filled_comp : (setup : Setting) (t : Trace) (c f : ℕ) (m : CompMaking) (at : CompAt) (h : Holding) → KnowsCompAt setup t c m at
     → (comp_is_marked at && f == m.frame) ≡ true → IsFilled (holds_comp m at h) f
-filled_comp setup t c f m comp_at.Load h knows is = absurd (false≢true is)
-filled_comp setup t c f m (comp_at.Mark word) h knows is = absurd (false≢true is)
-filled_comp setup t c f m (comp_at.LoadLive word) h knows is = filled_here f m.frame word h is knows
-filled_comp setup t c f m (comp_at.Scan word last q) h knows is = filled_here f m.frame word h is knows.0
-filled_comp setup t c f m (comp_at.Close word last) h knows is = filled_here f m.frame word h is knows.0
-filled_comp setup t c f m (comp_at.Store word last n) h knows is = filled_two f m.frame m.number word last.word h is knows.0
-filled_comp setup t c f m (comp_at.Fill word last) h knows is = filled_two f m.frame m.number word last.word h is knows.0
+filled_comp setup t c f m CompAt.Load h knows is = absurd (false≢true is)
+filled_comp setup t c f m (CompAt.Mark word) h knows is = absurd (false≢true is)
+filled_comp setup t c f m (CompAt.LoadLive word) h knows is = filled_here f m.frame word h is knows
+filled_comp setup t c f m (CompAt.Scan word last q) h knows is = filled_here f m.frame word h is knows.0
+filled_comp setup t c f m (CompAt.Close word last) h knows is = filled_here f m.frame word h is knows.0
+filled_comp setup t c f m (CompAt.Store word last n) h knows is = filled_two f m.frame m.number word last.word h is knows.0
+filled_comp setup t c f m (CompAt.Fill word last) h knows is = filled_two f m.frame m.number word last.word h is knows.0
 
 filled_act : (setup : Setting) (t : Trace) (c f : ℕ) (call : Call) (plan : Plan) (ks : List Capability) (act : ActOf) (h : Holding)
     → KnowsAct setup t c call plan ks setup.cores act → stores_in act f ≡ true → IsFilled (holds_act act h) f
@@ -349,23 +323,23 @@ module _ (setup : Setting) (setting : IsSetting setup) (cores : ℕ → Core) (t
           (swept_rests setup cores t stands c m.frame word w.words (holds_act (untype_act m) h) held swept kept frozen setting e follows
           other v met (typed m.frame swept.marks) quiet)
 
-      by_sweep : (word : ℕ) (w : Sweep) → m.at ≡ untype.Sweep word w → KnowsSweep setup t c m.frame word w → (at : SweepAt) → w.at ≡ at
+      by_sweep : (word : ℕ) (w : Sweep) → m.at ≡ UntypingAt.Sweep word w → KnowsSweep setup t c m.frame word w → (at : SweepAt) → w.at ≡ at
           → KnowsSweepAt setup t c m.frame w at → Goal
       by_sweep word w at_is knows sweep_load is at = unlooked (ap looks_in at_is ∙ ap looks_at is)
       by_sweep word w at_is knows (sweep_compare count stamp) is at = unlooked (ap looks_in at_is ∙ ap looks_at is)
       by_sweep word w at_is knows (sweep_scan q) is at = unlooked (ap looks_in at_is ∙ ap looks_at is)
       by_sweep word w at_is knows (sweep_empty entry) is at =
-          rests (untype.Sweep word w) at_is word (swept_of w) w.word refl knows.frame knows.met knows.kept at.frozen at.quiet
+          rests (UntypingAt.Sweep word w) at_is word (swept_of w) w.word refl knows.frame knows.met knows.kept at.frozen at.quiet
 
       by_at : (at : UntypingAt) → m.at ≡ at → Goal
-      by_at untype.Load at_is = unlooked (ap looks_in at_is)
-      by_at (untype.Mark word v) at_is = unlooked (ap looks_in at_is)
-      by_at (untype.Sweep word w) at_is =
+      by_at UntypingAt.Load at_is = unlooked (ap looks_in at_is)
+      by_at (UntypingAt.Mark word v) at_is = unlooked (ap looks_in at_is)
+      by_at (UntypingAt.Sweep word w) at_is =
           let knows : KnowsSweep setup t c m.frame word w = subst (KnowsUntypingAt setup t c m.frame) at_is has.at in
           by_sweep word w at_is knows w.at refl knows.at
-      by_at (untype.Draw word w) at_is =
+      by_at (UntypingAt.Draw word w) at_is =
           let knows : KnowsSwept setup t c m.frame word w = subst (KnowsUntypingAt setup t c m.frame) at_is has.at in
-          rests (untype.Draw word w) at_is word w knows.shown refl knows.frame knows.met knows.kept knows.swept.frozen knows.swept.quiet
+          rests (UntypingAt.Draw word w) at_is word w knows.shown refl knows.frame knows.met knows.kept knows.swept.frozen knows.swept.quiet
   act_looked follows c other call plan ks upto act h held typed has f is = absurd (false≢true is)
 
   looked_stays : MayFollow setup t e → (c table : ℕ) → c ≢ e.core → (a : ActiveCall) (work : Work) (h : Holding)

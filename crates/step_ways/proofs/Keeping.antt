@@ -1,13 +1,13 @@
 -- A decision after which its core keeps words of its thread without a mark, which it has still to store: the state has changed at once, and
 -- each of these words settles to what will be stored there.
-use Rattle.kept_facts.proofs.Common.{◌≡◌, ◌≢◌, inl, inr, ℕ, ◌<◌, ◌∷◌, Option, Some, None, arith, refl, sym, ◌∙◌, ap, subst, cases_eq}
-use Rattle.kept_facts.proofs.Common.{Setting, IsSetting, Word, EntryAt, FrameAt, CountAt, CoreAt, FlushAt, LiveAt, ClockAt, word_of}
-use Rattle.kept_facts.proofs.Common.{left_of, put, thread_in, put_same, put_other, mark_of, marked_by, Step, Trace, state_after}
-use Rattle.kept_facts.proofs.Common.{last_left, cases_word, last_left-here, last_left-there, Core, settled_by, settled, WordIs, holds}
-use Rattle.kept_facts.proofs.Common.{held_by, times_of, Invariant, runs_on_own, ReadsAlike, StaysSaid, others_settled, own_settled}
-use Rattle.kept_facts.specs.core_invariant.specs.Holding.{bare_value}
-use Rattle.kept_facts.specs.core_invariant.proofs.Bare.{own_kept, same_value, core_bare, free_value}
-use Rattle.kept_facts.proofs.Exclusive.{runs_no_tcap, exclusive_thread}
+use Rattle.kept_facts.proofs.{◌≡◌, ◌≢◌, inl, inr, ℕ, ◌<◌, ◌∷◌, Option, Some, None, arith, refl, sym, ◌∙◌, ap, subst, Setting, IsSetting}
+use Rattle.kept_facts.proofs.{Word, EntryAt, FrameAt, CountAt, CoreAt, FlushAt, LiveAt, ClockAt, word_of, left_of, put, thread_in, put_same}
+use Rattle.kept_facts.proofs.{put_other, mark_of, marked_by, Step, Trace, state_after, last_left, cases_word, last_left-here}
+use Rattle.kept_facts.proofs.{last_left-there, Core, settled_by, settled, WordIs, holds, held_by, times_of, Invariant, runs_on_own}
+use Rattle.kept_facts.proofs.{ReadsAlike, StaysSaid, others_settled, own_settled, exclusive_thread}
+use Rattle.kept_facts.specs.core_invariant.proofs.{own_kept, same_value, core_bare, free_value}
+use Rattle.{std.proofs.lemmas.Bool.cases_eq, kept_facts.specs.core_invariant.specs.Holding.bare_value}
+use Rattle.{kept_facts.proofs.Exclusive.runs_no_tcap}
 
 none_some : (v : ℕ) → None ≡ Some v → ⊥
 none_some v h = cc

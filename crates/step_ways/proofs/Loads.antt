@@ -1,36 +1,23 @@
 -- The ways in which a call in flight makes a step that leaves its word as found: it goes on undecided, or it is decided with a
 -- reply that leaves all as it was but the count of calls.
-use Rattle.kept_facts.proofs.Common.{Tail, ◌≡◌, ◌≢◌, ◌⊎◌, ℕ, ◌+◌, ◌^◌, ◌<◌, ◌≤◌, false, List, ◌∷◌, Option, Some, None, arith, refl, sym}
-use Rattle.kept_facts.proofs.Common.{◌∙◌, ap, subst, Capability, Setting, IsSetting, Call, Reply, Word, CountAt, FlushAt, ClockAt}
-use Rattle.kept_facts.proofs.Common.{same_word, Move, word_of, left_of, Thing, FrameOf, put, MayReply, state_by, counted, begins, ends}
-use Rattle.kept_facts.proofs.Common.{flushes, alone, calls_counted, put_same, decided-inside, Step, Trace, Out, Open, phase, after_decide}
-use Rattle.kept_facts.proofs.Common.{after_return, state_after, state_decided_in, last_left}
-use Rattle.kept_facts.proofs.Common.{WasAt, shape_of, IsInFootprint, IsAlone, IsFirst}
-use Rattle.kept_facts.proofs.Common.{IsJustified, MayFollow, Carries, ends_in, flushes_in, flush_stored, last_small, phase-own}
-use Rattle.kept_facts.proofs.Common.{steps_in_call-own, Stage, Nothing, Enter, Living, Undecided, Decided, Leave, ActiveCall, Core}
-use Rattle.kept_facts.proofs.Common.{phase_at}
-use Rattle.kept_facts.proofs.Common.{Knows, CallIs, WorksIn, CoreIs, KnowsTail, is_flushing, flushing_in, done_by, holds_at, holds_in}
-use Rattle.kept_facts.proofs.Common.{holds, held_by, Invariant, marks_own, settled_on, sums_stay, counts_on, holds_counts, IsCalm}
-use Rattle.kept_facts.proofs.Common.{calm_counted, calm_words, counted_rises, IsUntimed, plain_time, plain_exit, BeginsNone, plain_begins}
-use Rattle.kept_facts.proofs.Common.{exclusive_open, exclusive_kept}
-use Rattle.kept_facts.specs.spk_nums.specs.Bounds.{bound_of}
-use Rattle.kept_facts.specs.word_map.specs.Places.{IsIn as IsInShape}
-use Rattle.kept_facts.specs.kernel_history.specs.Trace.{steps_in_call}
-use Rattle.kept_facts.specs.kernel_history.specs.Discipline.{MayMove, MarksOwn, KeepsMarked, IsDisciplined}
-use Rattle.kept_facts.specs.kernel_history.specs.Footprint.{StepsInFootprint}
-use Rattle.kept_facts.specs.kernel_history.specs.Bounds.{call_in, IsWithin}
-use Rattle.kept_facts.specs.trace_laws.proofs.Carries.{carries_own}
-use Rattle.kept_facts.specs.kernel_history.specs.Stamps.{begins_in}
-use Rattle.kept_facts.specs.call_stages.specs.Fits.{IsCore, IsActive, CallFits, left_at}
-use Rattle.kept_facts.specs.core_invariant.specs.Knows.{IsIn}
+use Rattle.kept_facts.proofs as low
+use low.{Tail, ◌≡◌, ◌≢◌, ◌⊎◌, ℕ, ◌+◌, ◌^◌, ◌<◌, ◌≤◌, false, List, ◌∷◌, Option, Some, None, arith, refl, sym, ◌∙◌, ap, subst, Capability}
+use low.{Setting, IsSetting, Call, Reply, Word, CountAt, FlushAt, ClockAt, same_word, Move, word_of, left_of, Thing, FrameOf, put, MayReply}
+use low.{state_by, counted, begins, ends, flushes, alone, calls_counted, put_same, decided-inside, Step, Trace, Out, Open, phase}
+use low.{after_decide, after_return, state_after, state_decided_in, last_left, WasAt, shape_of, IsInFootprint, IsAlone, IsFirst}
+use low.{IsJustified, MayFollow, ends_in, flushes_in, flush_stored, last_small, phase-own, steps_in_call-own, Stage, Nothing, Enter, Living}
+use low.{Undecided, Decided, Leave, ActiveCall, Core, phase_at, Knows, CallIs, WorksIn, CoreIs, KnowsTail, flushing_in, done_by, holds_at}
+use low.{holds_in, holds, held_by, Invariant, marks_own, settled_on, sums_stay, counts_on, holds_counts, IsCalm, calm_counted, calm_words}
+use low.{counted_rises, IsUntimed, plain_time, plain_exit, BeginsNone, plain_begins, exclusive_open, exclusive_kept, IsIn as IsInShape}
+use low.{begins_in, IsCore, CallFits, load_keeps, load_marks, load_words, calm_same, none_flushed, exclusive_still}
+use Rattle.kept_facts.specs.kernel_history.specs.{bound_of, steps_in_call, MayMove, MarksOwn, KeepsMarked, IsDisciplined, StepsInFootprint}
+use Rattle.kept_facts.specs.kernel_history.specs.{call_in, IsWithin}
+use Rattle.kept_facts.specs.call_stages.specs.{IsActive, left_at}
+use Rattle.kept_facts.specs.trace_laws.proofs.Carries.{Carries, carries_own}
+use Rattle.kept_facts.specs.core_invariant.specs.Knows.{is_flushing, IsIn}
 use Rattle.kept_facts.specs.core_invariant.proofs.Markers.{phase_in, phase_call}
-use Rattle.kept_facts.proofs.WordFrames.{load_keeps, load_marks, load_words}
-use Rattle.step_ways.proofs.Flushing.{still_flushed, open_flushed}
-use Rattle.step_ways.proofs.Good.{IsGood, spares_kept}
-use Rattle.step_ways.proofs.Users.{spares_none}
-use Rattle.kept_facts.proofs.Calm.{calm_same, calm_own, stored_by}
-use Rattle.kept_facts.proofs.Calm.{none_flushed}
-use Rattle.kept_facts.proofs.Exclusive.{keeps_loads, exclusive_still}
+use low.{Calm.calm_own, Calm.stored_by, Exclusive.keeps_loads}
+use Rattle.step_ways.proofs.{Flushing.still_flushed, Flushing.open_flushed, Good.IsGood, Good.spares_kept, Users.spares_none}
 
 -- A step of core c.
 abbrev pub step_to : ℕ → Option Call → Move → ℕ → Option Reply → Option Reply → Step

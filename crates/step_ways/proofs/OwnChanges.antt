@@ -1,19 +1,16 @@
 -- A decision that changes what its core has of its own, beside the calls that it has counted: of whatever reply, and of whatever it makes
 -- of its word. What it leaves of marks, words and sums is its own to show.
-use Rattle.kept_facts.proofs.Common.{◌≡◌, ℕ, ◌+◌, ◌^◌, ◌<◌, ◌≤◌, false, ◌∷◌, Some, None, arith, refl, sym, ◌∙◌, ap, subst, Setting}
-use Rattle.kept_facts.proofs.Common.{IsSetting, Reply, Word, Move, word_of, left_of, put, alone, Step, Trace, Open, phase, after_decide}
-use Rattle.kept_facts.proofs.Common.{state_after, last_left, IsAlone, IsFirst, KeepsTime, MayDecide, clock, flush_of, flush_stored}
-use Rattle.kept_facts.proofs.Common.{phase-own, steps_in_call-own, Own, Stage, ActiveCall, Core, MarkIs, settled, WordIs, phase_at, Knows}
-use Rattle.kept_facts.proofs.Common.{WorksIn, CoreIs, is_flushing, flushing_in, held_by, times_of, counted_in, SumIs, Invariant, holds}
-use Rattle.kept_facts.proofs.Common.{IsExclusive, BeginsNone, plain_exit, counts_on, SparesExclusive}
-use Rattle.kept_facts.specs.kernel_history.specs.Trace.{Decided}
-use Rattle.kept_facts.specs.kernel_history.specs.Discipline.{MarksOwn, KeepsMarked}
-use Rattle.kept_facts.proofs.Calm.{none_time, none_flushed}
-use Rattle.step_ways.proofs.Flushing.{open_flushed}
-use Rattle.step_ways.proofs.Good.{IsGood, SparesBlanks}
-use Rattle.step_ways.proofs.Users.{SparesBy, spared}
-use Rattle.step_ways.proofs.Loads.{Lands, IsOfCall, next_at, core_is, call_is}
-use Rattle.step_ways.proofs.Loads.{in_call, inner, inner_within, inner_disciplined, inner_footprint}
+use Rattle.kept_facts.proofs.{◌≡◌, ℕ, ◌+◌, ◌^◌, ◌<◌, ◌≤◌, false, ◌∷◌, Some, None, arith, refl, sym, ◌∙◌, ap, subst, Setting, IsSetting}
+use Rattle.kept_facts.proofs.{Reply, Word, Move, word_of, left_of, put, alone, Step, Trace, Open, phase, after_decide, state_after}
+use Rattle.kept_facts.proofs.{last_left, IsAlone, IsFirst, KeepsTime, MayDecide, clock, flush_of, flush_stored, phase-own}
+use Rattle.kept_facts.proofs.{steps_in_call-own, Own, Stage, ActiveCall, Core, settled, WordIs, phase_at, Knows, WorksIn, CoreIs}
+use Rattle.kept_facts.proofs.{flushing_in, held_by, times_of, counted_in, SumIs, Invariant, holds, IsExclusive, BeginsNone, plain_exit}
+use Rattle.kept_facts.proofs.{counts_on, SparesExclusive, none_time, none_flushed}
+use Rattle.kept_facts.specs.kernel_history.specs.{Decided, MarksOwn, KeepsMarked}
+use Rattle.kept_facts.specs.core_invariant.specs.{MarkIs, is_flushing}
+use Rattle.step_ways.proofs.{Flushing.open_flushed, Good.IsGood, Good.SparesBlanks, Users.SparesBy, Users.spared, Loads.Lands}
+use Rattle.step_ways.proofs.{Loads.IsOfCall, Loads.next_at, Loads.core_is, Loads.call_is, Loads.in_call, Loads.inner, Loads.inner_within}
+use Rattle.step_ways.proofs.{Loads.inner_disciplined, Loads.inner_footprint}
 
 -- A core is where it was, on its machine.
 pub record IsSameCore (own own' : Own) : Type 0 where

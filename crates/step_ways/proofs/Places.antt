@@ -1,10 +1,9 @@
 -- What the word of a place of a node is: it carries the mark of a core that is in a call, or says what the place is.
-use Rattle.kept_facts.proofs.Common.{◌≡◌, ◌⊎◌, inl, inr, ℕ, ◌<◌, Option, Some, None, refl, sym, ◌∙◌, ap, subst, IsTrue}
-use Rattle.kept_facts.proofs.Common.{false≢true, Setting, Entry, Held, Closing, entry_of_word, EntryAt, Place, Frame, Kernel, Table, Leaf}
-use Rattle.kept_facts.proofs.Common.{Pages, Pleaf, PlaceOf, is_node, entry_mark, mark_in_frame, Trace, state_after, last_left, stamp}
-use Rattle.kept_facts.proofs.Common.{Core, marked_by, settled_by, PlaceIs, IsFrameWord, held_by, Invariant, limits_of}
-use Rattle.kept_facts.proofs.Common.{not_exclusive_value, node_keeps_none}
-use Rattle.kept_facts.specs.entry_words.specs.declared.entry.Entry.TheVariants.{Free, Quiescing}
+use Rattle.kept_facts.proofs.{◌≡◌, ◌⊎◌, inl, inr, ℕ, ◌<◌, Option, Some, None, refl, sym, ◌∙◌, ap, subst, IsTrue, false≢true, Setting, Entry}
+use Rattle.kept_facts.proofs.{Held, entry_of_word, EntryAt, Place, Frame, Kernel, Table, Leaf, Pages, Pleaf, PlaceOf, is_node, entry_mark}
+use Rattle.kept_facts.proofs.{mark_in_frame, Trace, state_after, last_left, stamp, Core, marked_by, settled_by, PlaceIs, IsFrameWord}
+use Rattle.kept_facts.proofs.{held_by, Invariant, limits_of, not_exclusive_value, node_keeps_none}
+use Rattle.kept_facts.specs.entry_words.specs.declared.entry.Entry.TheVariants.{Closing, Free, Quiescing}
 
 -- The word of a place carries the mark of a core.
 pub record IsMarked (setup : Setting) (t : Trace) (f i : ℕ) : Type 0 where

@@ -1,34 +1,24 @@
 -- The refusals of a call at a load: each leaves all as it was, but counts the call.
-use Rattle.kept_facts.proofs.Common.{Tail, ◌≡◌, ◌≢◌, ℕ, ◌+◌, ◌<◌, Option, Bool, true, false, Some, None, arith, refl, sym, ◌∙◌, ap, subst}
-use Rattle.kept_facts.proofs.Common.{List, [], ◌∷◌, false≢true, lt-leb, Setting, IsSetting, Call, Copy, Remove, Shrink, Unmap}
-use Rattle.kept_facts.proofs.Common.{Retype, Tick, Gate, Kill, Ret, Grow, Flush, Map, Touch, Transfer, Delegate, Test, Switch, Reply}
-use Rattle.kept_facts.proofs.Common.{Move, word_of, Thing, State, RuleMay, Refused, rule_of, change_of, are_calls_spent, counted}
-use Rattle.kept_facts.proofs.Common.{state_by, alone, Step, Trace, Open, state_after, state_decided_in, last_left, IsRaceLost, IsAlone}
-use Rattle.kept_facts.proofs.Common.{refused_first, nobody_waits, not_inside, not_changed, reads_of, ActiveCall, Stage, Plan, plan_for}
-use Rattle.kept_facts.proofs.Common.{next_of, Capability, AtCompare, AtDraw, AtStore, AtCore, AtFlush, Outside, Work, Lookup, Read, Scan}
-use Rattle.kept_facts.proofs.Common.{Acquire, Act, Core, calls_counted, Nothing, Enter, Living, Undecided, Decided, Leave, Took, core_after}
-use Rattle.kept_facts.proofs.Common.{told_by, marked_by, holds_counts, phase_at, CoreIs, KnowsTail, NamesAre, LooksFor, KnowsAct}
-use Rattle.kept_facts.proofs.Common.{KnowsUndecided, KnowsAt, holds_in, held_by, Invariant, holds_tail, decided_in, returned_in}
-use Rattle.kept_facts.proofs.Common.{limits_of, marker_inside, acts, asks_life, lives, inl, inr, IsTrue}
-use Rattle.kept_facts.specs.trace_laws.proofs.AloneCalls.{dead_first}
-use Rattle.kept_facts.specs.spk_nums.specs.declared.calls.Call.TheVariants.{Look, Make, Part, Replenish}
-use Rattle.kept_facts.specs.spk_nums.specs.declared.calls.Call.TheVariants.{Call as call_gate}
-use Rattle.kept_facts.specs.spk_nums.specs.declared.replies.Reply.TheVariants as reply
-use Rattle.kept_facts.specs.kernel_rules.specs.CallRelation.{owed_by}
-use Rattle.kept_facts.specs.kernel_history.specs.Justified.{IsOnWay, IsHeldUp}
-use Rattle.kept_facts.specs.stage_look.specs.declared.look.Look.{Look as LookOf}
-use Rattle.kept_facts.specs.act_states.specs.declared.work.Act.{Act as ActOf}
-use Rattle.kept_facts.specs.act_states.specs.declared.work.Act.TheVariants.{Fill as fill_act, Remove as remove_act, Retype as type_act}
-use Rattle.kept_facts.specs.act_states.specs.declared.work.Act.TheVariants.{Make as make_act, Tick as tick_act, Flush as flush_act}
-use Rattle.kept_facts.specs.act_states.specs.declared.work.Act.TheVariants.{Kill as kill_act, Untype as untype_act, Map as map_act}
-use Rattle.kept_facts.specs.act_states.specs.declared.work.Act.TheVariants.{MakeComp as comp_act, Invoke as invoke_act}
-use Rattle.kept_facts.specs.act_states.specs.declared.work.Act.TheVariants.{Return as return_act}
-use Rattle.kept_facts.specs.act_states.specs.declared.work.Act.TheVariants.{Touch as touch_act, Share as share_act, Refill as refill_act}
-use Rattle.kept_facts.specs.act_states.specs.declared.work.Act.TheVariants.{Switch as switch_act}
-use Rattle.step_ways.proofs.Good.{IsGood}
-use Rattle.step_ways.proofs.Loads.{Lands, OnlyLooks, step_to, next_at, core_in_call, core_is}
-use Rattle.step_ways.proofs.Loads.{call_is, inner, decides_on, decides_with}
-use Rattle.kept_facts.specs.act_states.specs.call_plans.specs.PlanOf.{plan_for}
+use Rattle.kept_facts.proofs as low
+use low.{Tail, ◌≡◌, ◌≢◌, ℕ, ◌+◌, ◌<◌, Option, Bool, true, false, Some, None, arith, refl, sym, ◌∙◌, ap, subst, List, [], ◌∷◌, false≢true}
+use low.{Setting, IsSetting, Call, Copy, Shrink, Unmap, Retype, Gate, Ret, Grow, Transfer, Delegate, Test, Reply, Move, word_of, Thing}
+use low.{State, RuleMay, Refused, rule_of, change_of, are_calls_spent, counted, state_by, alone, Step, Trace, Open, state_after}
+use low.{state_decided_in, last_left, IsAlone, refused_first, not_inside, not_changed, reads_of, ActiveCall, Stage, Plan, plan_for, next_of}
+use low.{Capability, AtCompare, AtDraw, AtStore, AtCore, AtFlush, Outside, Work, Lookup, Read, Scan, Acquire, Act, Core, calls_counted}
+use low.{Nothing, Enter, Living, Undecided, Decided, Leave, Took, core_after, told_by, marked_by, holds_counts, phase_at, CoreIs, KnowsTail}
+use low.{NamesAre, LooksFor, KnowsAct, KnowsUndecided, KnowsAt, holds_in, held_by, Invariant, holds_tail, decided_in, returned_in}
+use low.{limits_of, marker_inside, acts, inl, inr, IsTrue, Make, Part, Replenish, Look as LookOf, Fill as fill_act, Remove as remove_act}
+use low.{Tick as tick_act, Flush as flush_act, Kill as kill_act, Untype as untype_act, Map as map_act, MakeComp as comp_act}
+use low.{Invoke as invoke_act, Return as return_act, Touch as touch_act, Share as share_act, Refill as refill_act, Switch as switch_act}
+use Rattle.kept_facts.specs.kernel_history.specs.{Remove, Tick, Kill, Flush, Map, Touch, Switch, IsRaceLost, asks_life, Look, owed_by}
+use Rattle.kept_facts.specs.core_invariant.specs.{Retype as type_act, Make as make_act}
+use Rattle.kept_facts.specs.kernel_rules.proofs.{lt-leb, lives}
+use Rattle.kept_facts.specs.trace_laws.proofs.AloneCalls.{nobody_waits, dead_first}
+use Rattle.step_ways.proofs.Loads.{Lands, OnlyLooks, step_to, next_at, core_in_call, core_is, call_is, inner, decides_on, decides_with}
+use Rattle.{kept_facts.specs.kernel_history.specs.IsHeldUp}
+use Rattle.{kept_facts.specs.spk_nums.specs.declared.calls.Call.TheVariants.Call as call_gate}
+use Rattle.{kept_facts.specs.kernel_history.specs.Justified.IsOnWay, kept_facts.specs.act_states.specs.declared.work.Act.Act as ActOf}
+use Rattle.{step_ways.proofs.Good.IsGood}
 
 -- The step of core c from which this was taken.
 abbrev pub step_with : ℕ → Move → ℕ → Took → Step
@@ -219,60 +209,60 @@ module _ (setup : Setting) (setting : IsSetting setup) (cores : ℕ → Core) (t
   first_of r may_act first is_alone = refused_first (state_after setup t) c a.call r may_act unspent (first (nobody r is_alone))
 
   pub refuses_no_slot : IsTrue (acts (state_after setup t) c a.call)
-      → RuleMay (state_after setup t) c (rule_of (state_after setup t) c a.call) reply.NoSlot → IsFirstCause reply.NoSlot
-      → RefusedWith reply.NoSlot
+      → RuleMay (state_after setup t) c (rule_of (state_after setup t) c a.call) Reply.NoSlot → IsFirstCause Reply.NoSlot
+      → RefusedWith Reply.NoSlot
   refuses_no_slot may_act may first lands =
-      decides_on setup setting cores t stands c here a active move reply.NoSlot a.found looks lands (still None refl) opens refl refl
+      decides_on setup setting cores t stands c here a active move Reply.NoSlot a.found looks lands (still None refl) opens refl refl
       (λ x. refl) (λ x. refl) refl (unspent, may) tt
-      (first_of reply.NoSlot may_act first)
+      (first_of Reply.NoSlot may_act first)
 
   pub refuses_empty : IsTrue (acts (state_after setup t) c a.call)
-      → RuleMay (state_after setup t) c (rule_of (state_after setup t) c a.call) reply.Empty → IsFirstCause reply.Empty
-      → RefusedWith reply.Empty
+      → RuleMay (state_after setup t) c (rule_of (state_after setup t) c a.call) Reply.Empty → IsFirstCause Reply.Empty
+      → RefusedWith Reply.Empty
   refuses_empty may_act may first lands =
-      decides_on setup setting cores t stands c here a active move reply.Empty a.found looks lands (still None refl) opens refl refl
+      decides_on setup setting cores t stands c here a active move Reply.Empty a.found looks lands (still None refl) opens refl refl
       (λ x. refl) (λ x. refl) refl (unspent, may) tt
-      (first_of reply.Empty may_act first)
+      (first_of Reply.Empty may_act first)
 
   pub refuses_wrong : IsTrue (acts (state_after setup t) c a.call)
-      → RuleMay (state_after setup t) c (rule_of (state_after setup t) c a.call) reply.WrongCap
-      → IsFirstCause reply.WrongCap → RefusedWith reply.WrongCap
+      → RuleMay (state_after setup t) c (rule_of (state_after setup t) c a.call) Reply.WrongCap
+      → IsFirstCause Reply.WrongCap → RefusedWith Reply.WrongCap
   refuses_wrong may_act may first lands =
-      decides_on setup setting cores t stands c here a active move reply.WrongCap a.found looks lands (still None refl) opens refl refl
+      decides_on setup setting cores t stands c here a active move Reply.WrongCap a.found looks lands (still None refl) opens refl refl
       (λ x. refl) (λ x. refl) refl (unspent, may) tt
-      (first_of reply.WrongCap may_act first)
+      (first_of Reply.WrongCap may_act first)
 
   pub refuses_right : IsTrue (acts (state_after setup t) c a.call)
-      → RuleMay (state_after setup t) c (rule_of (state_after setup t) c a.call) reply.NoRight
-      → IsFirstCause reply.NoRight → RefusedWith reply.NoRight
+      → RuleMay (state_after setup t) c (rule_of (state_after setup t) c a.call) Reply.NoRight
+      → IsFirstCause Reply.NoRight → RefusedWith Reply.NoRight
   refuses_right may_act may first lands =
-      decides_on setup setting cores t stands c here a active move reply.NoRight a.found looks lands (still None refl) opens refl refl
+      decides_on setup setting cores t stands c here a active move Reply.NoRight a.found looks lands (still None refl) opens refl refl
       (λ x. refl) (λ x. refl) refl (unspent, may) tt
-      (first_of reply.NoRight may_act first)
+      (first_of Reply.NoRight may_act first)
 
   pub refuses_occupied : IsTrue (acts (state_after setup t) c a.call)
-      → RuleMay (state_after setup t) c (rule_of (state_after setup t) c a.call) reply.Occupied
-      → IsFirstCause reply.Occupied → RefusedWith reply.Occupied
+      → RuleMay (state_after setup t) c (rule_of (state_after setup t) c a.call) Reply.Occupied
+      → IsFirstCause Reply.Occupied → RefusedWith Reply.Occupied
   refuses_occupied may_act may first lands =
-      decides_on setup setting cores t stands c here a active move reply.Occupied a.found looks lands (still None refl) opens refl refl
+      decides_on setup setting cores t stands c here a active move Reply.Occupied a.found looks lands (still None refl) opens refl refl
       (λ x. refl) (λ x. refl) refl (unspent, may) tt
-      (first_of reply.Occupied may_act first)
+      (first_of Reply.Occupied may_act first)
 
   pub refuses_frame_kind : IsTrue (acts (state_after setup t) c a.call)
-      → RuleMay (state_after setup t) c (rule_of (state_after setup t) c a.call) reply.FrameKind
-      → IsFirstCause reply.FrameKind → RefusedWith reply.FrameKind
+      → RuleMay (state_after setup t) c (rule_of (state_after setup t) c a.call) Reply.FrameKind
+      → IsFirstCause Reply.FrameKind → RefusedWith Reply.FrameKind
   refuses_frame_kind may_act may first lands =
-      decides_on setup setting cores t stands c here a active move reply.FrameKind a.found looks lands (still None refl) opens refl refl
+      decides_on setup setting cores t stands c here a active move Reply.FrameKind a.found looks lands (still None refl) opens refl refl
       (λ x. refl) (λ x. refl) refl (unspent, may) tt
-      (first_of reply.FrameKind may_act first)
+      (first_of Reply.FrameKind may_act first)
 
   pub refuses_fault : IsTrue (acts (state_after setup t) c a.call)
-      → RuleMay (state_after setup t) c (rule_of (state_after setup t) c a.call) reply.Fault
-      → IsFirstCause reply.Fault → RefusedWith reply.Fault
+      → RuleMay (state_after setup t) c (rule_of (state_after setup t) c a.call) Reply.Fault
+      → IsFirstCause Reply.Fault → RefusedWith Reply.Fault
   refuses_fault may_act may first lands =
-      decides_on setup setting cores t stands c here a active move reply.Fault a.found looks lands (still None refl) opens refl refl
+      decides_on setup setting cores t stands c here a active move Reply.Fault a.found looks lands (still None refl) opens refl refl
       (λ x. refl) (λ x. refl) refl (unspent, may) tt
-      (first_of reply.Fault may_act first)
+      (first_of Reply.Fault may_act first)
 
   -- and owes no ticks, where it charges none
   owes_none : ticks_at a.stage ≡ false → owed_by (state_after setup t) c a.call ≡ state_after setup t
@@ -281,67 +271,67 @@ module _ (setup : Setting) (setting : IsSetting setup) (cores : ℕ → Core) (t
       (call_is setup setting cores t stands c here a active).knows opens plain)
 
   pub refuses_dead : IsTrue (acts (state_after setup t) c a.call)
-      → RuleMay (state_after setup t) c (rule_of (state_after setup t) c a.call) reply.Dead → IsFirstCause reply.Dead
-      → RefusedWith reply.Dead
+      → RuleMay (state_after setup t) c (rule_of (state_after setup t) c a.call) Reply.Dead → IsFirstCause Reply.Dead
+      → RefusedWith Reply.Dead
   refuses_dead may_act may first lands =
-      decides_on setup setting cores t stands c here a active move reply.Dead a.found looks lands (still None refl) opens refl refl
+      decides_on setup setting cores t stands c here a active move Reply.Dead a.found looks lands (still None refl) opens refl refl
       (λ x. refl) (λ x. refl) refl (unspent, inr may) tt
-      (first_of reply.Dead may_act first)
+      (first_of Reply.Dead may_act first)
 
   pub refuses_unlike : IsTrue (acts (state_after setup t) c a.call)
-      → RuleMay (state_after setup t) c (rule_of (state_after setup t) c a.call) reply.Unlike → IsFirstCause reply.Unlike
-      → RefusedWith reply.Unlike
+      → RuleMay (state_after setup t) c (rule_of (state_after setup t) c a.call) Reply.Unlike → IsFirstCause Reply.Unlike
+      → RefusedWith Reply.Unlike
   refuses_unlike may_act may first lands =
-      decides_on setup setting cores t stands c here a active move reply.Unlike a.found looks lands (still None refl) opens refl refl
+      decides_on setup setting cores t stands c here a active move Reply.Unlike a.found looks lands (still None refl) opens refl refl
       (λ x. refl) (λ x. refl) refl (unspent, may) tt
-      (first_of reply.Unlike may_act first)
+      (first_of Reply.Unlike may_act first)
 
   pub refuses_short : (n : ℕ) → IsTrue (acts (state_after setup t) c a.call)
-      → RuleMay (state_after setup t) c (rule_of (state_after setup t) c a.call) (reply.Short n) → IsFirstCause (reply.Short n)
-      → RefusedWith (reply.Short n)
+      → RuleMay (state_after setup t) c (rule_of (state_after setup t) c a.call) (Reply.Short n) → IsFirstCause (Reply.Short n)
+      → RefusedWith (Reply.Short n)
   refuses_short n may_act may first lands =
-      decides_on setup setting cores t stands c here a active move (reply.Short n) a.found looks lands (still None refl) opens refl refl
+      decides_on setup setting cores t stands c here a active move (Reply.Short n) a.found looks lands (still None refl) opens refl refl
       (λ x. refl) (λ x. refl) refl (unspent, may) tt
-      (first_of (reply.Short n) may_act first)
+      (first_of (Reply.Short n) may_act first)
 
   pub refuses_running : (d : ℕ) → IsTrue (acts (state_after setup t) c a.call)
-      → RuleMay (state_after setup t) c (rule_of (state_after setup t) c a.call) (reply.Running d)
-      → IsFirstCause (reply.Running d) → RefusedWith (reply.Running d)
+      → RuleMay (state_after setup t) c (rule_of (state_after setup t) c a.call) (Reply.Running d)
+      → IsFirstCause (Reply.Running d) → RefusedWith (Reply.Running d)
   refuses_running d may_act may first lands =
-      decides_on setup setting cores t stands c here a active move (reply.Running d) a.found looks lands (still None refl) opens refl refl
+      decides_on setup setting cores t stands c here a active move (Reply.Running d) a.found looks lands (still None refl) opens refl refl
       (λ x. refl) (λ x. refl) refl (unspent, may) tt
-      (first_of (reply.Running d) may_act first)
+      (first_of (Reply.Running d) may_act first)
 
   -- a call that asks first whether its core may act, where its component does not live
-  pub refuses_asking : IsTrue (asks_life a.call) → lives (state_after setup t) c ≡ false → RefusedWith reply.Dead
+  pub refuses_asking : IsTrue (asks_life a.call) → lives (state_after setup t) c ≡ false → RefusedWith Reply.Dead
   refuses_asking asks dead lands =
-      decides_on setup setting cores t stands c here a active move reply.Dead a.found looks lands (still None refl) opens refl refl
+      decides_on setup setting cores t stands c here a active move Reply.Dead a.found looks lands (still None refl) opens refl refl
       (λ x. refl) (λ x. refl) refl (unspent, inl (asks, dead)) tt
-      (λ is_alone. dead_first (state_after setup t) c a.call unspent asks dead (λ x. nobody reply.Dead is_alone x c))
+      (λ is_alone. dead_first (state_after setup t) c a.call unspent asks dead (λ x. nobody Reply.Dead is_alone x c))
 
   -- a word that has changed since the call's last step on it
   pub refuses_raced : ticks_at a.stage ≡ false
-      → IsRaceLost t (inner setup setting cores t stands c here a active move (Some reply.Raced) None) (state_after setup t)
-      (rule_of (state_after setup t) c a.call) → RefusedWith reply.Raced
+      → IsRaceLost t (inner setup setting cores t stands c here a active move (Some Reply.Raced) None) (state_after setup t)
+      (rule_of (state_after setup t) c a.call) → RefusedWith Reply.Raced
   refuses_raced plain lost lands =
-      decides_on setup setting cores t stands c here a active move reply.Raced a.found looks lands (still None refl) opens
+      decides_on setup setting cores t stands c here a active move Reply.Raced a.found looks lands (still None refl) opens
       (ap (λ s. counted s c) (owes_none plain))
       refl (λ x. refl) (λ x. refl) refl (unspent, tt) lost
-      (λ is_alone. absurd (not_changed setup t (inner setup setting cores t stands c here a active move (Some reply.Raced) None) refl
+      (λ is_alone. absurd (not_changed setup t (inner setup setting cores t stands c here a active move (Some Reply.Raced) None) refl
       is_alone lost.own lost.has_read lost.changed))
 
   -- another core's mark
   pub refuses_busy : ticks_at a.stage ≡ false → (d : ℕ)
       → (holds_counts None a.counts).marks (word_of move) ≡ false → marked_by setup t (word_of move) ≡ Some d
-      → IsOnWay (state_after setup t) c (rule_of (state_after setup t) c a.call) (word_of move) → RefusedWith (reply.Busy d)
+      → IsOnWay (state_after setup t) c (rule_of (state_after setup t) c a.call) (word_of move) → RefusedWith (Reply.Busy d)
   refuses_busy plain d bare mark on_way lands =
-      decides_on setup setting cores t stands c here a active move (reply.Busy d) a.found looks lands (still None refl) opens
+      decides_on setup setting cores t stands c here a active move (Reply.Busy d) a.found looks lands (still None refl) opens
       (ap (λ s. counted s c) (owes_none plain))
       refl (λ x. refl) (λ x. refl) refl (unspent, tt) blocked
-      (λ is_alone. absurd (not_inside setup t (inner setup setting cores t stands c here a active move (Some (reply.Busy d)) None) refl
+      (λ is_alone. absurd (not_inside setup t (inner setup setting cores t stands c here a active move (Some (Reply.Busy d)) None) refl
       is_alone d blocked.other blocked.is_inside))
     where
-      blocked : IsHeldUp setup t (inner setup setting cores t stands c here a active move (Some (reply.Busy d)) None)
+      blocked : IsHeldUp setup t (inner setup setting cores t stands c here a active move (Some (Reply.Busy d)) None)
           (state_after setup t) (rule_of (state_after setup t) c a.call) d
       blocked = record {
         marked = mark;
@@ -389,30 +379,30 @@ module _ (setup : Setting) (setting : IsSetting setup) (cores : ℕ → Core) (t
   }
 
   pub raced_knowing : ticks_at a.stage ≡ false
-      → IsRaceLost t (inner setup setting cores t stands c here a active move (Some reply.Raced) None) (state_after setup t)
-      (rule_of (state_after setup t) c a.call) → RefusedLeaving reply.Raced
+      → IsRaceLost t (inner setup setting cores t stands c here a active move (Some Reply.Raced) None) (state_after setup t)
+      (rule_of (state_after setup t) c a.call) → RefusedLeaving Reply.Raced
   raced_knowing plain lost lands =
-      decides_with setup setting cores t stands c here a active move reply.Raced tail a.found looks lands same opens
+      decides_with setup setting cores t stands c here a active move Reply.Raced tail a.found looks lands same opens
       (ap (λ s. counted s c) (owes_not plain))
       refl (λ x. refl) (λ x. refl) refl (unspent_here, tt) lost
-      (λ is_alone. absurd (not_changed setup t (inner setup setting cores t stands c here a active move (Some reply.Raced) None) refl
+      (λ is_alone. absurd (not_changed setup t (inner setup setting cores t stands c here a active move (Some Reply.Raced) None) refl
       is_alone lost.own lost.has_read lost.changed))
-      (left (inner setup setting cores t stands c here a active move (Some reply.Raced) None)
-      (refusing reply.Raced (ap (λ s. counted s c) (owes_not plain))))
+      (left (inner setup setting cores t stands c here a active move (Some Reply.Raced) None)
+      (refusing Reply.Raced (ap (λ s. counted s c) (owes_not plain))))
 
   pub busy_knowing : ticks_at a.stage ≡ false → (d : ℕ)
       → (holds_in (Some a)).marks (word_of move) ≡ false → marked_by setup t (word_of move) ≡ Some d
-      → IsOnWay (state_after setup t) c (rule_of (state_after setup t) c a.call) (word_of move) → RefusedLeaving (reply.Busy d)
+      → IsOnWay (state_after setup t) c (rule_of (state_after setup t) c a.call) (word_of move) → RefusedLeaving (Reply.Busy d)
   busy_knowing plain d bare mark on_way lands =
-      decides_with setup setting cores t stands c here a active move (reply.Busy d) tail a.found looks lands same opens
+      decides_with setup setting cores t stands c here a active move (Reply.Busy d) tail a.found looks lands same opens
       (ap (λ s. counted s c) (owes_not plain))
       refl (λ x. refl) (λ x. refl) refl (unspent_here, tt) blocked
-      (λ is_alone. absurd (not_inside setup t (inner setup setting cores t stands c here a active move (Some (reply.Busy d)) None) refl
+      (λ is_alone. absurd (not_inside setup t (inner setup setting cores t stands c here a active move (Some (Reply.Busy d)) None) refl
       is_alone d blocked.other blocked.is_inside))
-      (left (inner setup setting cores t stands c here a active move (Some (reply.Busy d)) None)
-      (refusing (reply.Busy d) (ap (λ s. counted s c) (owes_not plain))))
+      (left (inner setup setting cores t stands c here a active move (Some (Reply.Busy d)) None)
+      (refusing (Reply.Busy d) (ap (λ s. counted s c) (owes_not plain))))
     where
-      blocked : IsHeldUp setup t (inner setup setting cores t stands c here a active move (Some (reply.Busy d)) None)
+      blocked : IsHeldUp setup t (inner setup setting cores t stands c here a active move (Some (Reply.Busy d)) None)
           (state_after setup t) (rule_of (state_after setup t) c a.call) d
       blocked = record {
         marked = mark;
@@ -431,16 +421,16 @@ module _ (setup : Setting) (setting : IsSetting setup) (cores : ℕ → Core) (t
     (left : (e : Step) → KnowsTail setup (e ∷ t) c a.call a.counts tail)
     (room : (cores c).own.made < (cores c).own.limit) (move : Move) (looks : OnlyLooks setup t c a.call move) where
   pub raced_leaving : ticks_at a.stage ≡ false
-      → IsRaceLost t (inner setup setting cores t stands c here a active move (Some reply.Raced) None) (state_after setup t)
+      → IsRaceLost t (inner setup setting cores t stands c here a active move (Some Reply.Raced) None) (state_after setup t)
       (rule_of (state_after setup t) c a.call)
-      → RefusedLeaving setup setting cores t stands c here a active opens tail same (λ e is. left e) room move looks reply.Raced
+      → RefusedLeaving setup setting cores t stands c here a active opens tail same (λ e is. left e) room move looks Reply.Raced
   raced_leaving plain lost lands =
       raced_knowing setup setting cores t stands c here a active opens tail same (λ e is. left e) room move looks plain lost lands
 
   pub busy_leaving : ticks_at a.stage ≡ false → (d : ℕ)
       → (holds_in (Some a)).marks (word_of move) ≡ false → marked_by setup t (word_of move) ≡ Some d
       → IsOnWay (state_after setup t) c (rule_of (state_after setup t) c a.call) (word_of move)
-      → RefusedLeaving setup setting cores t stands c here a active opens tail same (λ e is. left e) room move looks (reply.Busy d)
+      → RefusedLeaving setup setting cores t stands c here a active opens tail same (λ e is. left e) room move looks (Reply.Busy d)
   busy_leaving plain d bare mark on_way lands =
       busy_knowing setup setting cores t stands c here a active opens tail
       same (λ e is. left e) room move looks plain d bare mark on_way lands

@@ -1,24 +1,16 @@
 -- A user frame stays one while a call holds its count of it: only a retype to untyped makes it another, and that by the core which holds
 -- all counters of the frame.
-use Rattle.kept_facts.proofs.Common.{◌≡◌, ◌≢◌, ◌⊎◌, ◌<◌, ℕ, inl, inr, Bool, true, false, ◌∷◌, Option, Some, None, refl, sym, ◌∙◌, ap}
-use Rattle.kept_facts.proofs.Common.{subst, IsTrue, All, false≢true, Setting, IsSetting, Call, Retype, Reply, count_of_word, CountAt}
-use Rattle.kept_facts.proofs.Common.{word_of, Frame, User, Kernel, Blank, Pages, Pleaf, FrameOf, PlaceOf, State}
-use Rattle.kept_facts.proofs.Common.{is_translated, is_node, MayReply, ends_by, ends, opened, counters, MayDecide, MayFollow, IsLegal}
-use Rattle.kept_facts.proofs.Common.{marked_by, count_mark, ends_at, ends_in, Step, Trace, Phase, Out, Open, phase, after_enter}
-use Rattle.kept_facts.proofs.Common.{state_after, state_entered, state_decided, state_returned, state_before, last_left, cases_word}
-use Rattle.kept_facts.proofs.Common.{open_inj, last_left-here, last_left-there, untypes}
-use Rattle.kept_facts.specs.spk_nums.specs.declared.calls.Call.TheVariants.{Make as make_call}
-use Rattle.kept_facts.specs.spk_nums.specs.declared.calls.Make.TheVariants as make
-use Rattle.kept_facts.specs.spk_nums.specs.declared.kinds.FrameKind.TheVariants as frame_kind
-use Rattle.kept_facts.specs.spk_nums.specs.declared.replies.Reply.TheVariants as reply
-use Rattle.kept_facts.specs.kernel_invariant.proofs.Ends.{ends_by_rule}
-use Rattle.kept_facts.specs.kernel_invariant.proofs.FrameTurns.{is_typed, TurnsIn, decided_turns}
-use Rattle.kept_facts.specs.kernel_history.specs.Discipline.{KeepsMarked}
+use Rattle.kept_facts.proofs.{◌≡◌, ◌≢◌, ◌⊎◌, ◌<◌, ℕ, inl, inr, Bool, true, false, ◌∷◌, Option, Some, None, refl, sym, ◌∙◌, ap, subst}
+use Rattle.kept_facts.proofs.{IsTrue, All, false≢true, Setting, IsSetting, Call, Retype, Reply, count_of_word, CountAt, word_of, Frame}
+use Rattle.kept_facts.proofs.{User, Kernel, Blank, Pages, Pleaf, FrameOf, PlaceOf, State, is_node, MayReply, ends_by, ends, opened}
+use Rattle.kept_facts.proofs.{counters, MayDecide, MayFollow, IsLegal, marked_by, count_mark, ends_at, ends_in, Step, Trace, Phase, Out}
+use Rattle.kept_facts.proofs.{Open, phase, after_enter, state_after, state_entered, state_decided, state_returned, state_before, last_left}
+use Rattle.kept_facts.proofs.{cases_word, open_inj, last_left-here, last_left-there, untypes, Make as make_call, entered_events, KeepsUsers}
+use Rattle.kept_facts.specs.kernel_invariant.proofs.{ends_by_rule, is_typed, TurnsIn, decided_turns}
+use Rattle.kept_facts.specs.kernel_history.proofs.{KeepsMarked, counter_all, Make}
+use Rattle.{kept_facts.proofs.FrameKind, kept_facts.specs.kernel_rules.specs.GracePeriods.is_translated}
+use Rattle.{kept_facts.specs.trace_laws.proofs.Opens.opens}
 use Rattle.kept_facts.specs.kernel_history.specs.Trace as history
-use Rattle.kept_facts.specs.kernel_history.proofs.Events.{entered_events}
-use Rattle.kept_facts.specs.trace_laws.proofs.Opens.{opens}
-use Rattle.kept_facts.proofs.Carries.{KeepsUsers}
-use Rattle.kept_facts.proofs.CountSums.{counter_all}
 
 -- A step that ends the grace period of a frame, and so makes it untyped, is by a core that holds all counters of the frame.
 abbrev pub SparesCounted : Setting → Trace → Step → Type 0
@@ -31,20 +23,20 @@ spares_none setup t e none f is = absurd (false≢true (sym (none f) ∙ is))
 
 -- A call that makes no frame untyped ends the grace period of no frame.
 ends_none : (call : Call) → untypes call ≡ false → (f : ℕ) → ends_by call (FrameOf f) ≡ false
-ends_none (Retype r g frame_kind.Untyped) other f = absurd (false≢true (sym other))
-ends_none (Retype r g frame_kind.User) other f = refl
-ends_none (Retype r g frame_kind.Kernel) other f = refl
-ends_none (make_call make.Table r g u b) other f = refl
-ends_none (make_call make.Leaf r g u b) other f = refl
-ends_none (make_call make.Pages r g u b) other f = refl
-ends_none (make_call make.Pleaf r g u b) other f = refl
-ends_none (make_call (make.Thread comp) r g u b) other f = refl
-ends_none (make_call (make.Tcap sched quality) r g u b) other f = refl
-ends_none (make_call (make.Comp table pages live) r g u b) other f = refl
+ends_none (Retype r g FrameKind.Untyped) other f = absurd (false≢true (sym other))
+ends_none (Retype r g FrameKind.User) other f = refl
+ends_none (Retype r g FrameKind.Kernel) other f = refl
+ends_none (make_call Make.Table r g u b) other f = refl
+ends_none (make_call Make.Leaf r g u b) other f = refl
+ends_none (make_call Make.Pages r g u b) other f = refl
+ends_none (make_call Make.Pleaf r g u b) other f = refl
+ends_none (make_call (Make.Thread comp) r g u b) other f = refl
+ends_none (make_call (Make.Tcap sched quality) r g u b) other f = refl
+ends_none (make_call (Make.Comp table pages live) r g u b) other f = refl
 ends_none call other f = refl
 
 ends_no_frame : (call : Call) (r : Reply) → untypes call ≡ false → (f : ℕ) → ends call r (FrameOf f) ≡ false
-ends_no_frame call (reply.Ok v) other f = ends_none call other f
+ends_no_frame call (Reply.Ok v) other f = ends_none call other f
 ends_no_frame call r other f = refl
 
 ends_nothing : (o : Option Reply) (call : Call) → untypes call ≡ false → (f : ℕ) → ends_in o (Open call) (FrameOf f) ≡ false

@@ -1,38 +1,30 @@
 -- The ways in which a core makes a step that writes its word: a decided call writes an entry; a call enters or leaves, and the
 -- core's own word is stored.
-use Rattle.kept_facts.proofs.Common.{Carries, ◌≡◌, ◌≢◌, ℕ, zero, suc, ◌+◌, ◌-◌, ◌*◌, ◌^◌, ◌<◌, ◌≤◌, Bool, true, false, if◌then◌else◌, List, []}
-use Rattle.kept_facts.proofs.Common.{◌∷◌, Option, Some, None, arith, refl, sym, ◌∙◌, ap, subst, inl, inr, cases_eq, eq-eqb, Capability}
-use Rattle.kept_facts.proofs.Common.{InLimits, Setting, IsSetting, Call, Reply, core_of_word, Word, EntryAt, CountAt, CoreAt, same_word}
-use Rattle.kept_facts.proofs.Common.{FlushAt, ClockAt, Move, StoreOf, word_of, left_of, FrameOf, put, sum_below, alone, put_same, Step}
-use Rattle.kept_facts.proofs.Common.{Trace, Out, Open, phase, after_decide, state_after, last_left, IsAlone, IsFirst, MayDecide}
-use Rattle.kept_facts.proofs.Common.{MayFollow, mark_of, clock, exit_of, decided-inside, phase-own, steps_in_call-own, last_left-there}
-use Rattle.kept_facts.proofs.Common.{Stage, Decided, Leave, ActiveCall, Core, core_word, fresh, marked_by, WordIs, limits_of}
-use Rattle.kept_facts.proofs.Common.{phase_at, KnowsAt, Knows, IsCount, CallIs, WorksIn, CoreIs, is_flushing, flushing_in, is_done}
-use Rattle.kept_facts.proofs.Common.{holds_at, holds_in, holds, held_by, times_of, counted_in, SumIs, Invariant, marks_own, settled_on}
-use Rattle.kept_facts.proofs.Common.{ReadsAlike, reads_alike, StaysSaid, word_stays, carry_marks, carry_words, sums_stay, counts_bare}
-use Rattle.kept_facts.proofs.Common.{exclusive_open, exclusive_none, exclusive_free, exclusive_elsewhere}
-use Rattle.kept_facts.proofs.Common.{nothing, count_of, holds_counts, settled, Acquired}
-use Rattle.kept_facts.proofs.Common.{CountsAt, All-nil, IsCalm, calm_words, counted_rises, none_stored, IsUntimed, plain_time, plain_exit}
-use Rattle.kept_facts.proofs.Common.{BeginsNone, plain_begins}
-use Rattle.kept_facts.specs.trace_laws.proofs.Carries.{carries_own}
-use Rattle.kept_facts.specs.spk_nums.specs.Bounds.{bound_of}
-use Rattle.kept_facts.specs.frame_words.proofs.CoreLemmas.{spelling}
-use Rattle.kept_facts.specs.kernel_rules.specs.GracePeriods.{returned}
-use Rattle.kept_facts.specs.kernel_history.specs.Trace.{Decided}
-use Rattle.kept_facts.specs.kernel_history.specs.Trace.{steps_in_call}
-use Rattle.kept_facts.specs.kernel_history.specs.Graces.{IsLeave}
-use Rattle.kept_facts.specs.kernel_history.proofs.Inside.{inside-own, inside-other}
-use Rattle.kept_facts.specs.kernel_history.proofs.Steps.{exit_of-own, exit_of-other}
-use Rattle.kept_facts.proofs.WordFrames.{write_marks, write_words}
-use Rattle.kept_facts.specs.core_invariant.proofs.Bare.{IsNotKept, free_value}
-use Rattle.kept_facts.proofs.Exclusive.{keeps_there, exclusive_still}
-use Rattle.step_ways.proofs.Flushing.{still_flushed, open_flushed}
+use Rattle.kept_facts.proofs.{◌≡◌, ◌≢◌, ℕ, zero, suc, ◌+◌, ◌-◌, ◌*◌, ◌^◌, ◌<◌, ◌≤◌, Bool, true, false, if◌then◌else◌, List, [], ◌∷◌, Option}
+use Rattle.kept_facts.proofs.{Some, None, arith, refl, sym, ◌∙◌, ap, subst, inl, inr, eq-eqb, Capability, InLimits, Setting, IsSetting}
+use Rattle.kept_facts.proofs.{Call, Reply, core_of_word, Word, EntryAt, CountAt, CoreAt, same_word, FlushAt, ClockAt, Move, StoreOf}
+use Rattle.kept_facts.proofs.{word_of, left_of, FrameOf, put, alone, put_same, Step, Trace, Out, Open, phase, after_decide, state_after}
+use Rattle.kept_facts.proofs.{last_left, IsAlone, IsFirst, MayDecide, MayFollow, mark_of, clock, exit_of, decided-inside, phase-own}
+use Rattle.kept_facts.proofs.{steps_in_call-own, last_left-there, Stage, Leave, ActiveCall, Core, fresh, marked_by, WordIs, limits_of}
+use Rattle.kept_facts.proofs.{phase_at, KnowsAt, Knows, IsCount, CallIs, WorksIn, CoreIs, flushing_in, is_done, holds_at, holds_in, holds}
+use Rattle.kept_facts.proofs.{held_by, times_of, counted_in, SumIs, Invariant, marks_own, settled_on, ReadsAlike, reads_alike, StaysSaid}
+use Rattle.kept_facts.proofs.{word_stays, carry_marks, carry_words, sums_stay, counts_bare, exclusive_open, exclusive_none, exclusive_free}
+use Rattle.kept_facts.proofs.{exclusive_elsewhere, count_of, holds_counts, settled, Acquired, CountsAt, IsCalm, calm_words, counted_rises}
+use Rattle.kept_facts.proofs.{none_stored, IsUntimed, plain_time, plain_exit, BeginsNone, plain_begins, exclusive_still, none_time}
+use Rattle.kept_facts.specs.kernel_history.specs.{sum_below, Decided, bound_of, steps_in_call, IsLeave}
+use Rattle.kept_facts.proofs.{WordFrames.write_marks, WordFrames.write_words, Exclusive.keeps_there, Calm.calm_returned, Calm.calm_own}
 use Rattle.step_ways.proofs.Good.{IsGood, SparesBlanks, spares_other}
 use Rattle.step_ways.proofs.Users.{SparesBy, spared, spares_none}
-use Rattle.kept_facts.proofs.Calm.{calm_returned, calm_own}
-use Rattle.kept_facts.proofs.Calm.{plain_flushed, none_time, calm_same}
-use Rattle.step_ways.proofs.Loads.{Lands, IsOfCall, step_to, next_at, core_in_call, some_left, core_is, call_is, in_call}
-use Rattle.step_ways.proofs.Loads.{inner, inner_within, inner_disciplined, inner_footprint, inner_works, inner_own, is_active}
+use Rattle.step_ways.proofs.Loads.{Lands, IsOfCall, step_to, next_at, core_in_call, some_left, core_is, call_is, in_call, inner}
+use Rattle.step_ways.proofs.Loads.{inner_within, inner_disciplined, inner_footprint, inner_works, inner_own, is_active}
+use Rattle.{kept_facts.proofs.calm_same, kept_facts.specs.core_invariant.specs.is_flushing, kept_facts.specs.core_invariant.specs.nothing}
+use Rattle.{kept_facts.specs.core_invariant.proofs.IsNotKept, kept_facts.specs.core_invariant.proofs.free_value}
+use Rattle.{kept_facts.specs.kernel_history.proofs.exit_of-own, kept_facts.specs.kernel_history.proofs.exit_of-other}
+use Rattle.{kept_facts.specs.trace_laws.proofs.Carries.Carries, kept_facts.specs.trace_laws.proofs.Carries.carries_own}
+use Rattle.{std.proofs.lemmas.Bool.cases_eq, std.proofs.lemmas.List.Elements.All-nil, kept_facts.specs.call_stages.specs.Steps.core_word}
+use Rattle.{kept_facts.specs.frame_words.proofs.CoreLemmas.spelling, kept_facts.specs.kernel_rules.specs.GracePeriods.returned}
+use Rattle.{kept_facts.specs.kernel_history.proofs.Inside.inside-own, kept_facts.specs.kernel_history.proofs.Inside.inside-other}
+use Rattle.{kept_facts.proofs.Calm.plain_flushed, step_ways.proofs.Flushing.still_flushed, step_ways.proofs.Flushing.open_flushed}
 
 -- The clock fits a stamp: each stamp was drawn by a call that was counted.
 

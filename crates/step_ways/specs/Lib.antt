@@ -1,4 +1,7 @@
 -- What the crates above name through this one.
+pub use Rattle.kept_facts.specs.quality_lists
+pub use Rattle.kept_facts.specs.boot_words
+pub use Rattle.kept_facts.specs.kernel_laws
 pub use Rattle.kept_facts.specs.found_stays
 pub use Rattle.kept_facts.specs.trace_laws
 pub use Rattle.kept_facts.specs.stage_look

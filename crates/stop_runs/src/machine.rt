@@ -1,7 +1,7 @@
 //! The machine for given orders, with the plain kernel beside it.
 
 ghost use Rattle.std.specs.Prelude.{◌≡◌, length};
-ghost use Rattle.lone_kernel.specs.word_map.specs.Places.{size_of};
+ghost use Rattle.lone_checks.specs.lone_kernel.specs.word_map.specs.Places.{size_of};
 
 use crate::fault::Fault;
 use crate::judge::Judge;

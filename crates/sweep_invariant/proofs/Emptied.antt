@@ -1,19 +1,14 @@
 -- Of a frame that was swept: its object is empty, and the references that it names itself are due to be released, once each.
-use Rattle.freeze_invariant.proofs.Common.{is_some, list_any, ◌≡◌, ◌≢◌, inl, inr, ℕ, zero, suc, ◌+◌, ◌<◌, ◌≤◌, ◌==◌, ◌&&◌}
-use Rattle.freeze_invariant.proofs.Common.{◌||◌, length, Bool, true, false, cond, List, [], ◌∷◌, map, Option, Some, None, arith}
-use Rattle.freeze_invariant.proofs.Common.{refl, sym, ◌∙◌, ap, false≢true, eq-eqb, ne_eqb, le-leb, All-nil, All-cons}
-use Rattle.freeze_invariant.proofs.Common.{All-head, All-tail, Blank, Table, Leaf, Pages, Pleaf, Comp, Thread, Tcap, Frame, Untyped, User}
-use Rattle.freeze_invariant.proofs.Common.{Kernel, State, held_in, is_empty, times, frame_value, Acquired, loads_of, Owned, released_dues}
-use Rattle.freeze_invariant.proofs.Common.{Due, Word, CountAt, cases_word, same_word-other, count_of, holds_counts, due_of}
-use Rattle.freeze_invariant.proofs.Common.{IsLookedAt, names_of}
-use Rattle.std.specs.Prelude.{if◌then◌else◌, not}
-use Rattle.std.specs.List.{range_with_len}
-use Rattle.std.proofs.Common.{All}
-use Rattle.freeze_invariant.specs.kernel_rules.specs.MemoryCalls.{holds_nothing}
+use Rattle.freeze_invariant.specs.step_ways.proofs as low
+use low.{is_some, ◌≡◌, ◌≢◌, inl, inr, ℕ, zero, suc, ◌+◌, ◌<◌, ◌≤◌, ◌==◌, ◌&&◌, ◌||◌, length, Bool, true, false, cond, List, [], ◌∷◌, map}
+use low.{Option, Some, None, arith, refl, sym, ◌∙◌, ap, false≢true, eq-eqb, ne_eqb, le-leb, Blank, Table, Leaf, Pages, Pleaf, Comp, Thread}
+use low.{Tcap, Frame, Untyped, User, Kernel, State, held_in, is_empty, times, frame_value, Acquired, loads_of, Owned, Due, Word, CountAt}
+use low.{cases_word, same_word-other, count_of, holds_counts, due_of, IsLookedAt, names_of, if◌then◌else◌, not, All}
+use Rattle.std.proofs.lemmas.List.Elements.{All-nil, All-cons, All-head, All-tail}
+use Rattle.{freeze_invariant.specs.act_states.specs.released_dues, freeze_invariant.specs.act_states.specs.holds_nothing}
+use Rattle.{std.specs.List.list_any, std.specs.List.range_with_len, freeze_invariant.specs.act_states.specs.Untypings.released_one}
+use Rattle.{freeze_invariant.specs.core_invariant.specs.Sweeps.HoldsNone, sweep_invariant.proofs.OwnedFrames.Differ}
 use Rattle.freeze_invariant.specs.kernel_invariant.proofs.Sums as sums
-use Rattle.freeze_invariant.specs.act_states.specs.Untypings.{released_one}
-use Rattle.freeze_invariant.specs.core_invariant.specs.Sweeps.{HoldsNone}
-use Rattle.sweep_invariant.proofs.OwnedFrames.{Differ}
 
 -- No number of a range passes a test.
 none_passes : (p : ℕ → Bool) (a n : ℕ) → ((i : ℕ) → a ≤ i → i < a + n → p i ≡ false) → list_any p (range_with_len a n) ≡ false

@@ -1,47 +1,26 @@
 -- No core holds or keeps a word of the object in a frame to which nothing refers, and for which no other core waits: who holds one, relies
 -- on its frame.
-use Rattle.freeze_invariant.proofs.Common.{◌≡◌, ◌≢◌, inl, inr, ℕ, zero, suc, ◌<◌, ◌≤◌, ◌==◌, ◌&&◌, Bool, true, false, List, []}
-use Rattle.freeze_invariant.proofs.Common.{◌∷◌, Option, Some, None, arith, refl, sym, ◌∙◌, ap, subst, cases_eq, cases_lt, false≢true}
-use Rattle.freeze_invariant.proofs.Common.{ne_eqb, Setting, IsSetting, Capability, Call, AtStack, Pair}
-use Rattle.freeze_invariant.proofs.Common.{PairAt, LoadA, MarkA, ListA, LoadB, ListB, CompareB, AgainB, StoreList, StoreB, StoreA}
-use Rattle.freeze_invariant.proofs.Common.{Acquired, EntryAt, State, FrameOf, refs, times, IsGuarded, marked_by, Trace, Open, phase}
-use Rattle.freeze_invariant.proofs.Common.{state_after, last_left, Plan, Close, AtCompare, AtDraw, AtStore, MakingAt, CompMaking, CompAt}
-use Rattle.freeze_invariant.proofs.Common.{KillingAt, UntypingAt, Switching, SwitchAt, Fill, Outside, Untype, MakeComp, Invoke, Return}
-use Rattle.freeze_invariant.proofs.Common.{Tail, Nothing, Quiesce, Unmark, StoreDead, StoreFlush, Release, StoreLive, Push, Pop}
-use Rattle.freeze_invariant.proofs.Common.{StoreRunning, StoreIdle, Work, Lookup, Read, Scan, Acquire, ActiveCall, Stage, Enter, Living}
-use Rattle.freeze_invariant.proofs.Common.{Undecided, Decided, Leave, release_of, swept_of, Core, Holding, holds_counts, settled}
-use Rattle.freeze_invariant.proofs.Common.{settled_by, holds_untyping, KnowsAct, KnowsAt, KnowsTail, KnowsWork, CallIs, phase_at}
-use Rattle.freeze_invariant.proofs.Common.{KnowsStoresAt, Invariant, holds, held_by, holds_act, holds_comp}
-use Rattle.freeze_invariant.proofs.Common.{holds_heads, holds_in, holds_killing, holds_making, holds_share, holds_shared}
-use Rattle.freeze_invariant.proofs.Common.{holds_tail, holds_work, is_done, holds_switching, slot_relies, release_entry, limits_of}
-use Rattle.freeze_invariant.proofs.Common.{claimed_by}
-use Rattle.std.specs.Prelude.{if◌then◌else◌}
+use Rattle.freeze_invariant.specs.step_ways.proofs as low
+use low.{◌≡◌, ◌≢◌, inl, inr, ℕ, zero, suc, ◌<◌, ◌≤◌, ◌==◌, ◌&&◌, Bool, true, false, List, [], ◌∷◌, Option, Some, None, arith, refl, sym}
+use low.{◌∙◌, ap, subst, false≢true, ne_eqb, Setting, IsSetting, Capability, Call, Pair, PairAt, LoadA, MarkA, ListA, LoadB, ListB}
+use low.{CompareB, AgainB, StoreList, StoreB, StoreA, Acquired, EntryAt, State, FrameOf, refs, times, IsGuarded, marked_by, Trace, Open}
+use low.{phase, state_after, last_left, Plan, AtCompare, AtDraw, AtStore, MakingAt, CompMaking, CompAt, KillingAt, UntypingAt, Switching}
+use low.{SwitchAt, Fill, Outside, Untype, MakeComp, Invoke, Return, Tail, Nothing, Quiesce, Unmark, StoreDead, StoreFlush, Release}
+use low.{StoreLive, Push, Pop, StoreRunning, StoreIdle, Work, Lookup, Read, Scan, Acquire, ActiveCall, Stage, Enter, Living, Undecided}
+use low.{Decided, Leave, release_of, swept_of, Core, Holding, holds_counts, settled, settled_by, holds_untyping, KnowsAct, KnowsAt}
+use low.{KnowsTail, KnowsWork, CallIs, phase_at, KnowsStoresAt, Invariant, holds, held_by, holds_act, holds_comp, holds_in, holds_killing}
+use low.{holds_making, holds_share, holds_shared, holds_tail, holds_work, is_done, holds_switching, slot_relies, release_entry, limits_of}
+use low.{claimed_by, if◌then◌else◌, Remove, Tick, Flush, Kill, Map as map_act, Touch, Share, Refill, Switch, Act as act_work, plan_for}
+use Rattle.freeze_invariant.specs.core_invariant.specs.{holds_heads, Retype, Make, KnowsClose, KnowsStore, holds_stage}
+use Rattle.freeze_invariant.specs.act_states.specs.{AtStack, Close, Push as PushOf, Pop as PopOf}
+use Rattle.std.proofs.lemmas.Bool.{cases_eq, cases_lt}
+use Rattle.freeze_invariant.specs.kept_facts.specs.kernel_laws.proofs.{core_names, times_first}
 use Rattle.freeze_invariant.specs.stage_thread.specs.declared.claim.Claim.TheVariants.{AtLoad, AtCompare as claim_compare}
-use Rattle.freeze_invariant.specs.stage_thread.specs.declared.stack.Push.{Push as PushOf}
-use Rattle.freeze_invariant.specs.stage_thread.specs.declared.stack.Push.TheVariants as push
-use Rattle.freeze_invariant.specs.stage_thread.specs.declared.stack.Pop.{Pop as PopOf}
-use Rattle.freeze_invariant.specs.stage_thread.specs.declared.stack.Pop.TheVariants as pop
-use Rattle.freeze_invariant.specs.kernel_rules.specs.References.{core_names}
 use Rattle.freeze_invariant.specs.kernel_invariant.proofs.SoundRemovals.{unnamed}
-use Rattle.freeze_invariant.specs.kernel_invariant.proofs.Sums.{times_first}
-use Rattle.freeze_invariant.specs.act_states.specs.declared.makings.MakingAt.TheVariants as making_at
-use Rattle.freeze_invariant.specs.act_states.specs.declared.comps.CompAt.TheVariants as comp_at
-use Rattle.freeze_invariant.specs.act_states.specs.declared.kills.KillingAt.TheVariants as kill_at
-use Rattle.freeze_invariant.specs.act_states.specs.declared.untypings.UntypingAt.TheVariants as untype_at
-use Rattle.freeze_invariant.specs.act_states.specs.declared.switches.SwitchAt.TheVariants as switch_at
-use Rattle.freeze_invariant.specs.act_states.specs.declared.work.Act.{Act as ActOf}
-use Rattle.freeze_invariant.specs.act_states.specs.declared.work.Act.TheVariants.{Remove, Retype, Make, Tick, Flush, Kill}
-use Rattle.freeze_invariant.specs.act_states.specs.declared.work.Act.TheVariants.{Map as map_act, Touch, Share, Refill}
-use Rattle.freeze_invariant.specs.act_states.specs.declared.work.Act.TheVariants.{Switch}
-use Rattle.freeze_invariant.specs.act_states.specs.declared.work.Tail.TheVariants.{Share as share_tail}
-use Rattle.freeze_invariant.specs.act_states.specs.declared.work.Work.TheVariants.{Act as act_work}
-use Rattle.freeze_invariant.specs.core_invariant.specs.Holding.{holds_closed, holds_drawn, kept_below}
-use Rattle.freeze_invariant.specs.core_invariant.specs.Knows.{KnowsClose, KnowsStore}
+use Rattle.freeze_invariant.specs.act_states.specs.{declared.work.Act.Act as ActOf, declared.work.Tail.TheVariants.Share as share_tail}
+use Rattle.freeze_invariant.specs.core_invariant.specs.Holding.{holds_closed, holds_drawn, kept_below, kept_or}
 use Rattle.freeze_invariant.specs.core_invariant.specs.Invariant.{holds_pop, holds_push}
-use Rattle.freeze_invariant.specs.core_invariant.specs.Invariant.{holds_stage}
 use Rattle.freeze_invariant.specs.kept_facts.proofs.Exclusive.{exclusive_unmarked}
-use Rattle.freeze_invariant.specs.core_invariant.specs.Holding.{kept_or}
-use Rattle.freeze_invariant.specs.act_states.specs.call_plans.specs.PlanOf.{plan_for}
 
 none_some : (x : ℕ) → None ≡ Some x → ⊥
 none_some x h = cc
@@ -59,39 +38,39 @@ module _ (f i : ℕ) where
   Same h k = h.marks (EntryAt f i) ≡ k.marks (EntryAt f i)
 
   making_entry : (g : ℕ) (at : MakingAt) (h : Holding) → Same (holds_making g at h) h
-  making_entry g making_at.Load h = refl
-  making_entry g (making_at.Mark word) h = refl
-  making_entry g (making_at.Store word entry) h = refl
-  making_entry g (making_at.Fill word) h = refl
+  making_entry g MakingAt.Load h = refl
+  making_entry g (MakingAt.Mark word) h = refl
+  making_entry g (MakingAt.Store word entry) h = refl
+  making_entry g (MakingAt.Fill word) h = refl
 
   comp_entry : (m : CompMaking) (at : CompAt) (h : Holding) → Same (holds_comp m at h) h
-  comp_entry m comp_at.Load h = refl
-  comp_entry m (comp_at.Mark word) h = refl
-  comp_entry m (comp_at.LoadLive word) h = refl
-  comp_entry m (comp_at.Scan word last q) h = refl
-  comp_entry m (comp_at.Close word last) h = refl
-  comp_entry m (comp_at.Store word last entry) h = refl
-  comp_entry m (comp_at.Fill word last) h = refl
+  comp_entry m CompAt.Load h = refl
+  comp_entry m (CompAt.Mark word) h = refl
+  comp_entry m (CompAt.LoadLive word) h = refl
+  comp_entry m (CompAt.Scan word last q) h = refl
+  comp_entry m (CompAt.Close word last) h = refl
+  comp_entry m (CompAt.Store word last entry) h = refl
+  comp_entry m (CompAt.Fill word last) h = refl
 
   killing_entry : (at : KillingAt) (h : Holding) → Same (holds_killing at h) h
-  killing_entry kill_at.LoadComp h = refl
-  killing_entry (kill_at.LoadLive life) h = refl
-  killing_entry (kill_at.Close life word) h = refl
-  killing_entry (kill_at.Draw life word) h = refl
+  killing_entry KillingAt.LoadComp h = refl
+  killing_entry (KillingAt.LoadLive life) h = refl
+  killing_entry (KillingAt.Close life word) h = refl
+  killing_entry (KillingAt.Draw life word) h = refl
 
   untyping_entry : (g : ℕ) (at : UntypingAt) (h : Holding) → Same (holds_untyping g at h) h
-  untyping_entry g untype_at.Load h = refl
-  untyping_entry g (untype_at.Mark word v) h = refl
-  untyping_entry g (untype_at.Sweep word w) h = (release_entry (release_of g word (swept_of w) false) h f i).0
-  untyping_entry g (untype_at.Draw word w) h = (release_entry (release_of g word w false) h f i).0
+  untyping_entry g UntypingAt.Load h = refl
+  untyping_entry g (UntypingAt.Mark word v) h = refl
+  untyping_entry g (UntypingAt.Sweep word w) h = (release_entry (release_of g word (swept_of w) false) h f i).0
+  untyping_entry g (UntypingAt.Draw word w) h = (release_entry (release_of g word w false) h f i).0
 
   push_entry : (p : PushOf) (h : Holding) → Same (holds_push p h) h
-  push_entry (push.AtStack g core depth comp) h = refl
-  push_entry (push.AtThread g core depth) h = refl
+  push_entry (PushOf.AtStack g core depth comp) h = refl
+  push_entry (PushOf.AtThread g core depth) h = refl
 
   pop_entry : (p : PopOf) (h : Holding) → Same (holds_pop p h) h
-  pop_entry (pop.AtThread g core depth) h = refl
-  pop_entry (pop.AtStack g depth) h = refl
+  pop_entry (PopOf.AtThread g core depth) h = refl
+  pop_entry (PopOf.AtStack g depth) h = refl
 
   share_entry : (p : Pair) (at : PairAt) (h : Holding) → p.a ≢ f → Same (holds_share p at h) h
   share_entry p LoadA h other = refl
@@ -107,13 +86,13 @@ module _ (f i : ℕ) where
 
   switch_entry : (m : Switching) (at : SwitchAt) (h : Holding) → m.old ≢ f → claimed_by at ≢ f
       → Same (holds_switching m at h) h
-  switch_entry m (switch_at.Claim (AtLoad g core)) h old new = refl
-  switch_entry m (switch_at.Claim (claim_compare g core depth)) h old new = refl
-  switch_entry m (switch_at.Claim (AtStack g depth)) h old new = keep_other g 0 (h.marks (EntryAt f i)) f i new
-  switch_entry m (switch_at.LoadTable to) h old new = keep_other to.thread 0 (h.marks (EntryAt f i)) f i new
-  switch_entry m (switch_at.LoadPages to table) h old new = keep_other to.thread 0 (h.marks (EntryAt f i)) f i new
-  switch_entry m (switch_at.Leave to table pages) h old new = keep_other to.thread 0 (h.marks (EntryAt f i)) f i new
-  switch_entry m (switch_at.Draw to table pages) h old new =
+  switch_entry m (SwitchAt.Claim (AtLoad g core)) h old new = refl
+  switch_entry m (SwitchAt.Claim (claim_compare g core depth)) h old new = refl
+  switch_entry m (SwitchAt.Claim (AtStack g depth)) h old new = keep_other g 0 (h.marks (EntryAt f i)) f i new
+  switch_entry m (SwitchAt.LoadTable to) h old new = keep_other to.thread 0 (h.marks (EntryAt f i)) f i new
+  switch_entry m (SwitchAt.LoadPages to table) h old new = keep_other to.thread 0 (h.marks (EntryAt f i)) f i new
+  switch_entry m (SwitchAt.Leave to table pages) h old new = keep_other to.thread 0 (h.marks (EntryAt f i)) f i new
+  switch_entry m (SwitchAt.Draw to table pages) h old new =
       keep_other to.thread 0 (if f == m.old && i == 0 then true else h.marks (EntryAt f i)) f i new
       ∙ keep_other m.old 0 (h.marks (EntryAt f i)) f i old
 

@@ -1,5 +1,3 @@
--- The names that most proofs use.
-pub use Rattle.freeze_invariant.proofs.Common
 -- What such a call knows of its rule, and how it is refused.
 pub mod OwnedFrames
 -- The scans.

@@ -1,38 +1,28 @@
 -- The step of a retype to untyped that looks at a word of the object in its frame: what it finds is what the object is, and it goes on, or
 -- the object is not empty.
-use Rattle.freeze_invariant.proofs.Common.{◌≡◌, ◌≢◌, inl, inr, ℕ, ◌+◌, ◌<◌, ◌≤◌, nat_lt}
-use Rattle.freeze_invariant.proofs.Common.{Bool, true, false, List, ◌∷◌, Option, Some, None, arith, refl, sym, ◌∙◌, ap, subst}
-use Rattle.freeze_invariant.proofs.Common.{ltb-false, Setting}
-use Rattle.freeze_invariant.proofs.Common.{IsSetting, Reply, CountWord, FrameWord}
-use Rattle.freeze_invariant.proofs.Common.{EntryAt, Move, LoadOf, State, Thing, FrameOf, PlaceOf, is_untyped}
-use Rattle.freeze_invariant.proofs.Common.{is_empty}
-use Rattle.freeze_invariant.proofs.Common.{frame_value}
-use Rattle.freeze_invariant.proofs.Common.{stamp, Step, Trace, Open, phase}
-use Rattle.freeze_invariant.proofs.Common.{state_after, last_left, refused_first}
-use Rattle.freeze_invariant.proofs.Common.{latest_stamp, loads_of}
-use Rattle.freeze_invariant.proofs.Common.{at_after, end_by, swept_of, Owned, Sweep, SweepAt, Empty}
-use Rattle.freeze_invariant.proofs.Common.{took_sweep, next_work, release_of, UntypingFits, Untyping, Draw, Swept, Act}
-use Rattle.freeze_invariant.proofs.Common.{Undecided, ActiveCall, landed, Core, holds_counts}
-use Rattle.freeze_invariant.proofs.Common.{KnowsUndecided, holds_in, Invariant, holds}
-use Rattle.freeze_invariant.proofs.Common.{IsQuiet, KnowsSweep, IsLookedAt, names_of, names_on}
-use Rattle.freeze_invariant.proofs.Common.{quiet_frame_on, limits_of, refs, frame_names, opened, events_of, sound_of}
-use Rattle.freeze_invariant.proofs.Common.{IsFrameWord, release_entry, OwnedBy, IsInFootprint}
-use Rattle.std.specs.Prelude.{if◌then◌else◌, not}
-use Rattle.freeze_invariant.specs.spk_nums.specs.declared.replies.Reply.TheVariants as reply
-use Rattle.freeze_invariant.specs.act_states.specs.Untypings.{owned_dues}
-use Rattle.freeze_invariant.specs.act_states.specs.declared.work.Act.TheVariants.{Untype as untype_act}
-use Rattle.freeze_invariant.specs.core_invariant.specs.Sweeps.{IsSwept}
-use Rattle.freeze_invariant.specs.step_ways.proofs.Loads.{OnlyLooks, step_to, inner, loads_on, decides_with}
-use Rattle.freeze_invariant.specs.step_ways.proofs.Refusals.{GoodTook}
+use Rattle.freeze_invariant.specs.step_ways.proofs.{◌≡◌, ◌≢◌, inl, inr, ℕ, ◌+◌, ◌<◌, ◌≤◌, ltb as nat_lt, Bool, true, false, List, ◌∷◌}
+use Rattle.freeze_invariant.specs.step_ways.proofs.{Option, Some, None, arith, refl, sym, ◌∙◌, ap, subst, ltb-false, Setting, IsSetting}
+use Rattle.freeze_invariant.specs.step_ways.proofs.{Reply, CountWord, FrameWord, EntryAt, Move, LoadOf, State, Thing, FrameOf, PlaceOf}
+use Rattle.freeze_invariant.specs.step_ways.proofs.{is_untyped, is_empty, frame_value, stamp, Step, Trace, Open, phase, state_after}
+use Rattle.freeze_invariant.specs.step_ways.proofs.{last_left, refused_first, latest_stamp, loads_of, at_after, end_by, swept_of, Owned}
+use Rattle.freeze_invariant.specs.step_ways.proofs.{Sweep, SweepAt, Empty, took_sweep, next_work, release_of, UntypingFits, Untyping, Swept}
+use Rattle.freeze_invariant.specs.step_ways.proofs.{Act, Undecided, ActiveCall, landed, Core, holds_counts, KnowsUndecided, holds_in}
+use Rattle.freeze_invariant.specs.step_ways.proofs.{Invariant, holds, IsQuiet, KnowsSweep, IsLookedAt, names_of, names_on, limits_of, refs}
+use Rattle.freeze_invariant.specs.step_ways.proofs.{frame_names, opened, events_of, sound_of, IsFrameWord, release_entry, IsInFootprint}
+use Rattle.freeze_invariant.specs.step_ways.proofs.{if◌then◌else◌, not, Untype as untype_act, OnlyLooks, step_to, inner, loads_on}
+use Rattle.freeze_invariant.specs.step_ways.proofs.{decides_with, GoodTook, plan_for}
+use Rattle.freeze_invariant.specs.act_states.specs.{OwnedBy, owned_dues}
+use Rattle.freeze_invariant.proofs.{sweeping, untyping_by}
 use Rattle.freeze_invariant.specs.place_invariant.proofs.Vacancy.{none_waits, none_unflushed}
-use Rattle.freeze_invariant.proofs.Counters.{sweeping, untyping_by, sweep_knows, sweep_held, sweep_counts}
-use Rattle.freeze_invariant.proofs.Counters.{sweep_frame, sweep_refs, sweep_since, undo_with, undo_known}
-use Rattle.freeze_invariant.proofs.UntypeCalls as calls
+use Rattle.freeze_invariant.proofs.Counters.{sweep_knows, sweep_held, sweep_counts, sweep_frame, sweep_refs, sweep_since, undo_with}
 use Rattle.freeze_invariant.proofs.UntypeCalls.{untypes_on, typed_is}
-use Rattle.freeze_invariant.proofs.Continuing as going
 use Rattle.sweep_invariant.proofs.FreeEntries.{counts_entry, entry_settles}
 use Rattle.sweep_invariant.proofs.OwnedFrames.{OwnedApart, owned_apart, names_differ}
-use Rattle.freeze_invariant.specs.act_states.specs.call_plans.specs.PlanOf.{plan_for}
+use Rattle.{freeze_invariant.specs.act_states.specs.declared.untypings.UntypingAt.TheVariants.Draw}
+use Rattle.{freeze_invariant.specs.kept_facts.proofs.Carries.quiet_frame_on, freeze_invariant.specs.core_invariant.specs.Sweeps.IsSwept}
+use Rattle.{freeze_invariant.proofs.Counters.undo_known}
+use Rattle.freeze_invariant.proofs.UntypeCalls as calls
+use Rattle.freeze_invariant.proofs.Continuing as going
 
 module _ (setup : Setting) (setting : IsSetting setup) (cores : ℕ → Core) (t : Trace) (stands : Invariant setup cores t) (c : ℕ)
     (here : c < setup.cores)
@@ -126,28 +116,28 @@ module _ (setup : Setting) (setting : IsSetting setup) (cores : ℕ → Core) (t
     Result owned r = Took owned r (if nat_lt (i + 1) (loads_of v.object) then Some (Empty (i + 1)) else None)
 
     -- The object is not empty.
-    pub holds_some : (owned : Owned) → is_empty s f (s.frame f) ≡ false → Result owned (Some reply.NotEmpty)
+    pub holds_some : (owned : Owned) → is_empty s f (s.frame f) ≡ false → Result owned (Some Reply.NotEmpty)
     holds_some owned full lands =
-        let e : Step = inner setup setting cores t stands c here a active load (Some reply.NotEmpty) None in
+        let e : Step = inner setup setting cores t stands c here a active load (Some Reply.NotEmpty) None in
         let unspent = calls.unspent setup setting cores t stands c here a active m stage_is has in
         let known : is_untyped (s.frame f) ≡ false = typed_is (s.frame f) v object_frame knows.met.kind in
-        decides_with setup setting cores t stands c here a active load reply.NotEmpty
+        decides_with setup setting cores t stands c here a active load Reply.NotEmpty
         (undo_with setup setting cores t stands c here a active f core word w stage_is has kept) a.found looks lands
         (sym (sweep_held setup setting cores t stands c here a active f core word w stage_is has))
         (calls.opens setup setting cores t stands c here a active m stage_is has) refl refl
         (λ y. refl) (λ y. refl) refl (
           unspent,
-          calls.may_refuse setup setting cores t stands c here a active m stage_is has reply.NotEmpty
+          calls.may_refuse setup setting cores t stands c here a active m stage_is has Reply.NotEmpty
               (inr (inr (inr (inr (inr (inl (is_full, refl))))))),
         )
         tt
-        (λ is_alone. refused_first s c a.call reply.NotEmpty has.acts unspent
-        (calls.by_causes setup setting cores t stands c here a active m stage_is has None None None None (Some reply.NotEmpty)
+        (λ is_alone. refused_first s c a.call Reply.NotEmpty has.acts unspent
+        (calls.by_causes setup setting cores t stands c here a active m stage_is has None None None None (Some Reply.NotEmpty)
         (calls.kind_none setup setting cores t stands c here a active m stage_is has known)
         (calls.refs_none setup setting cores t stands c here a active m stage_is has zero_refs)
         (none_waits s c thing (λ d low other. quiet d (below_cores d low) other))
         (none_unflushed s thing (λ d low. swept.quiet.flushed d (below_cores d low) since))
-        (ap (λ x. if x then Some reply.NotEmpty else None) is_full)))
+        (ap (λ x. if x then Some Reply.NotEmpty else None) is_full)))
         (undo_known setup setting cores t stands c here a active f core word w stage_is has (e ∷ t) kept)
       where
         is_full : not (is_empty s f (s.frame f)) ≡ true

@@ -1,31 +1,22 @@
 -- Whether the object in a frame that is made untyped is empty: by one word of it after another.
-use Rattle.freeze_invariant.proofs.Common.{◌≡◌, inl, inr, ℕ, zero, suc, ◌+◌, ◌<◌, ◌≤◌, ◌==◌, nat_lt, nat_le, length, Bool, true}
-use Rattle.freeze_invariant.proofs.Common.{false, List, [], ◌∷◌, Option, Some, None, IsTrue, arith, refl, sym, ◌∙◌, ap, subst, cases_eq}
-use Rattle.freeze_invariant.proofs.Common.{cases_lt, false≢true, eqb-true, eqb-false, lt-ltb, leb-true, Capability, Setting, IsSetting}
-use Rattle.freeze_invariant.proofs.Common.{Obj, Kind, Reply, Entry, CountWord, FrameWord, head_of_word, stack_of_word, thread_of_word}
-use Rattle.freeze_invariant.proofs.Common.{EntryAt, Blank, Table, Leaf, Pages, Pleaf, Comp, Thread, Tcap, CompFields}
-use Rattle.freeze_invariant.proofs.Common.{ThreadFields, TcapFields, Frame, Untyped, User, Kernel, Holds, PlaceOf}
-use Rattle.freeze_invariant.proofs.Common.{State, held_in, fits, is_empty, frame_names, IsSound, IsObjectGood, IsStack, opened, events_of}
-use Rattle.freeze_invariant.proofs.Common.{frame_value, thread_value, at_height, stamp, Trace, state_after, last_left}
-use Rattle.freeze_invariant.proofs.Common.{sound_of, shown_in, loads_of, Owned, Empty, OwnedBy, Act, ActiveCall, Undecided, Core}
-use Rattle.freeze_invariant.proofs.Common.{KnowsUndecided, Invariant, IsLookedAt, names_of, HeadIs, IsFrameWord, PlaceIs}
-use Rattle.freeze_invariant.proofs.Common.{limits_of, entry_of_word}
-use Rattle.std.specs.Prelude.{if◌then◌else◌}
-use Rattle.freeze_invariant.specs.spk_nums.specs.declared.kinds.Obj.TheVariants as obj
-use Rattle.freeze_invariant.specs.spk_nums.specs.declared.kinds.Kind.TheVariants as kind
-use Rattle.freeze_invariant.specs.spk_nums.specs.declared.replies.Reply.TheVariants as reply
-use Rattle.freeze_invariant.specs.entry_words.specs.declared.entry.Entry.TheVariants as entry
-use Rattle.freeze_invariant.specs.kernel_rules.specs.MemoryCalls.{holds_nothing}
-use Rattle.freeze_invariant.specs.kernel_invariant.proofs.SoundCalls.{nothing_held}
-use Rattle.freeze_invariant.specs.stage_sweep.specs.Emptiness.{empty_refuses, entry_refuses, field_refuses, head_refuses}
-use Rattle.freeze_invariant.specs.stage_sweep.specs.Emptiness.{owned_after, owns, frame_if}
-use Rattle.freeze_invariant.specs.stage_sweep.specs.Emptiness.{stack_owned, stack_refuses, thread_refuses, depth_refuses}
-use Rattle.freeze_invariant.specs.act_states.specs.declared.work.Act.TheVariants.{Untype as untype_act}
+use Rattle.freeze_invariant.specs.step_ways.proofs as low
+use low.{◌≡◌, inl, inr, ℕ, zero, suc, ◌+◌, ◌<◌, ◌≤◌, ◌==◌, ltb as nat_lt, leb as nat_le, length, Bool, true, false, List, [], ◌∷◌, Option}
+use low.{Some, None, IsTrue, arith, refl, sym, ◌∙◌, ap, subst, false≢true, eqb-true, eqb-false, lt-ltb, leb-true, Capability, Setting}
+use low.{IsSetting, Obj, Kind, Reply, Entry, CountWord, FrameWord, head_of_word, stack_of_word, thread_of_word, EntryAt, Blank, Table, Leaf}
+use low.{Pages, Pleaf, Comp, Thread, Tcap, CompFields, ThreadFields, TcapFields, Frame, Untyped, User, Kernel, Holds, PlaceOf, State}
+use low.{held_in, fits, is_empty, frame_names, IsSound, IsObjectGood, opened, events_of, frame_value, thread_value, at_height, stamp, Trace}
+use low.{state_after, last_left, sound_of, shown_in, loads_of, Owned, Empty, Act, ActiveCall, Undecided, Core, KnowsUndecided, Invariant}
+use low.{IsLookedAt, names_of, HeadIs, IsFrameWord, PlaceIs, limits_of, entry_of_word, if◌then◌else◌, Untype as untype_act}
+use Rattle.freeze_invariant.specs.stage_sweep.specs.Emptiness.{field_refuses, head_refuses, owned_after, owns, frame_if, stack_owned}
+use Rattle.freeze_invariant.specs.stage_sweep.specs.Emptiness.{stack_refuses, thread_refuses, depth_refuses}
 use Rattle.freeze_invariant.specs.core_invariant.specs.Sweeps.{HoldsNone, NamesBottom, NamesFields}
 use Rattle.freeze_invariant.specs.count_invariant.proofs.Lookups.{IsShown, Shows, shown_of}
-use Rattle.freeze_invariant.proofs.Counters.{sweeping, untyping_by}
-use Rattle.sweep_invariant.proofs.ObjectLoads.{Result, entry_below, goes_on, holds_some}
-use Rattle.sweep_invariant.proofs.ObjectLoads.{looked_so_far, object_frame, object_says, owned_fits}
+use Rattle.sweep_invariant.proofs.ObjectLoads.{Result, entry_below, goes_on, holds_some, looked_so_far, object_frame, object_says}
+use Rattle.{std.proofs.lemmas.Bool.cases_eq, std.proofs.lemmas.Bool.cases_lt, freeze_invariant.specs.act_states.specs.OwnedBy}
+use Rattle.{freeze_invariant.specs.act_states.specs.holds_nothing, freeze_invariant.specs.stage_sweep.specs.empty_refuses}
+use Rattle.{freeze_invariant.specs.stage_sweep.specs.entry_refuses, freeze_invariant.proofs.sweeping, freeze_invariant.proofs.untyping_by}
+use Rattle.{freeze_invariant.specs.kernel_invariant.proofs.Sound.IsStack}
+use Rattle.{freeze_invariant.specs.kernel_invariant.proofs.SoundCalls.nothing_held, sweep_invariant.proofs.ObjectLoads.owned_fits}
 
 -- A frame that fits a kind is one of the machine.
 section_below : (s : State) (o : ℕ → Bool) → IsSound s o → (k : Kind) → fits k Untyped ≡ false → (f : ℕ) → IsTrue (fits k (s.frame f))
@@ -61,7 +52,7 @@ module _ (setup : Setting) (setting : IsSetting setup) (cores : ℕ → Core) (t
     sound : IsSound s (opened (events_of t))
     sound = sound_of setup setting t stands.legal
 
-    full : (owned : Owned) → is_empty s f (s.frame f) ≡ false → Good owned (Some reply.NotEmpty)
+    full : (owned : Owned) → is_empty s f (s.frame f) ≡ false → Good owned (Some Reply.NotEmpty)
     full owned = holds_some setup setting cores t stands c here a active f core word g v b kept o i stage_is has owned
 
     on : (owned : Owned) → IsLookedAt s f (s.frame f) (i + 1) owned
@@ -101,7 +92,7 @@ module _ (setup : Setting) (setting : IsSetting setup) (cores : ℕ → Core) (t
         | inr apart ↦ before j (omega (arith, under, apart))
       ])) (λ last. names)
 
-      held : (k : Capability) → s.place f i ≡ Holds k → Good o (Some reply.NotEmpty)
+      held : (k : Capability) → s.place f i ≡ Holds k → Good o (Some Reply.NotEmpty)
       held k is = full o (empty_is ∙ by (holds_nothing s f) refl)
         where
           by : (x : Bool) → holds_nothing s f ≡ x → x ≡ false
@@ -112,16 +103,16 @@ module _ (setup : Setting) (setting : IsSetting setup) (cores : ℕ → Core) (t
       node_good = subst (λ x. Good o (entry_refuses x)) (sym shows.shown) (by shows.value shows.shows)
         where
           by : (x : Entry) → Shows n (s.place f i) x → Good o (entry_refuses (Some x))
-          by entry.Free is = none_here (ap held_in is)
-          by (entry.Held k) is = held k is.holds
-          by (entry.Closing d) is = absurd is
-          by (entry.Quiescing x) is = none_here (ap held_in is.removed)
+          by Entry.Free is = none_here (ap held_in is)
+          by (Entry.Held k) is = held k is.holds
+          by (Entry.Closing d) is = absurd is
+          by (Entry.Quiescing x) is = none_here (ap held_in is.removed)
 
     object_is : (x : Frame) → s.frame f ≡ x → v.object ≡ (frame_value x).object
     object_is x at = ap (λ y. y.object) shown ∙ ap (λ y. (frame_value y).object) at
 
     -- A component: its table, and its pages.
-    comp_good : (k : CompFields) → s.frame f ≡ Kernel (Comp k) → Judged obj.Comp
+    comp_good : (k : CompFields) → s.frame f ≡ Kernel (Comp k) → Judged Obj.Comp
     comp_good k at = by i refl
       where
         good : IsObjectGood s (Kernel (Comp k))
@@ -133,15 +124,15 @@ module _ (setup : Setting) (setting : IsSetting setup) (cores : ℕ → Core) (t
         look : (owned : Owned) → NamesFields k.table k.pages (i + 1) owned → IsLookedAt s f (s.frame f) (i + 1) owned
         look owned named = subst (λ x. IsLookedAt s f x (i + 1) owned) (sym at) named
 
-        within : (d : ℕ) → was ≡ d → nat_lt d n ≡ true → Good (owns (i == 0) (Some d) o) None → Judged obj.Comp
+        within : (d : ℕ) → was ≡ d → nat_lt d n ≡ true → Good (owns (i == 0) (Some d) o) None → Judged Obj.Comp
         within d is true_is good = subst (λ (x : ℕ). Good (owns (i == 0) (frame_if (nat_lt x n) x) o) (field_refuses (nat_lt x n))) (sym is)
             (subst (λ x. Good (owns (i == 0) (frame_if x d) o) (field_refuses x)) (sym true_is) good)
 
-        by : (j : ℕ) → i ≡ j → Judged obj.Comp
+        by : (j : ℕ) → i ≡ j → Judged Obj.Comp
         by zero is = within k.table
             (subst (λ x. IsFrameWord n x (s.place f zero) (stamp setup t (PlaceOf f zero)) zero was) at
             (subst (λ (j : ℕ). IsFrameWord n (s.frame f) (s.place f j) (stamp setup t (PlaceOf f j)) j was) is says))
-            (field_below kind.Table refl k.table good.0)
+            (field_below Kind.Table refl k.table good.0)
             (subst (λ x. Good (owns x (Some k.table) o) None) (sym (ap (λ (j : ℕ). j == 0) is))
             (on (record { first = Some k.table; second = o.second })
             (look (record { first = Some k.table; second = o.second })
@@ -151,7 +142,7 @@ module _ (setup : Setting) (setting : IsSetting setup) (cores : ℕ → Core) (t
         by (suc zero) is = within k.pages
             (subst (λ x. IsFrameWord n x (s.place f 1) (stamp setup t (PlaceOf f 1)) 1 was) at
             (subst (λ (j : ℕ). IsFrameWord n (s.frame f) (s.place f j) (stamp setup t (PlaceOf f j)) j was) is says))
-            (field_below kind.Pages refl k.pages good.1)
+            (field_below Kind.Pages refl k.pages good.1)
             (subst (λ x. Good (owns x (Some k.pages) o) None) (sym (ap (λ (j : ℕ). j == 0) is))
             (on (record { first = o.first; second = Some k.pages })
             (look (record { first = o.first; second = Some k.pages })
@@ -161,7 +152,7 @@ module _ (setup : Setting) (setting : IsSetting setup) (cores : ℕ → Core) (t
             absurd (let l : i < 2 = subst (λ x. i < loads_of x) (object_is (Kernel (Comp k)) at) below in omega (arith, l, is))
 
     -- A thread: its depth, and the bottom of its stack.
-    thread_good : (k : ThreadFields) → s.frame f ≡ Kernel (Thread k) → Judged obj.Thread
+    thread_good : (k : ThreadFields) → s.frame f ≡ Kernel (Thread k) → Judged Obj.Thread
     thread_good k at = by i refl
       where
         good : IsStack s k.stack
@@ -181,7 +172,7 @@ module _ (setup : Setting) (setting : IsSetting setup) (cores : ℕ → Core) (t
         some_depth [] is = absurd is
         some_depth (x ∷ fs) is = omega arith
 
-        by_depth : (single : Bool) → (length k.stack == 1) ≡ single → i ≡ 0 → Good o (if single then None else Some reply.NotEmpty)
+        by_depth : (single : Bool) → (length k.stack == 1) ≡ single → i ≡ 0 → Good o (if single then None else Some Reply.NotEmpty)
         by_depth true one is = on o (look o (record {
           single = λ some. eqb-true (length k.stack) 1 one;
           bottom = 0;
@@ -203,19 +194,19 @@ module _ (setup : Setting) (setting : IsSetting setup) (cores : ℕ → Core) (t
         by_runs None = refl
         by_runs (Some d) = refl
 
-        bottom_of : (fs : List ℕ) → length fs ≡ 1 → IsStack s fs → (d : ℕ) × (fs ≡ d ∷ []) × IsTrue (fits kind.Comp (s.frame d))
+        bottom_of : (fs : List ℕ) → length fs ≡ 1 → IsStack s fs → (d : ℕ) × (fs ≡ d ∷ []) × IsTrue (fits Kind.Comp (s.frame d))
         bottom_of [] one is = absurd is
         bottom_of (d ∷ []) one is = (d, refl, is.0)
         bottom_of (d ∷ e ∷ fs) one is = absurd (omega (arith, one))
 
-        first_word : i ≡ 0 → Judged obj.Thread
+        first_word : i ≡ 0 → Judged Obj.Thread
         first_word is =
             subst (λ x. Good (if x then o else owns true (stack_owned n (stack_of_word was)) o)
             (if x then thread_refuses (thread_of_word was) else stack_refuses n (stack_of_word was))) (sym (ap (λ (j : ℕ). j == 0) is))
             (subst (Good o) (sym (ap thread_refuses (word_at 0 is) ∙ by_runs k.runs_on))
             (by_depth (length k.stack == 1) refl is))
 
-        second_word : i ≡ 1 → Judged obj.Thread
+        second_word : i ≡ 1 → Judged Obj.Thread
         second_word is =
             let found = bottom_of k.stack (before.single (omega (arith, is))) good in
             let d : ℕ = found.0 in
@@ -225,7 +216,7 @@ module _ (setup : Setting) (setting : IsSetting setup) (cores : ℕ → Core) (t
             subst (λ x. Good (if x then o else owns true (stack_owned n (stack_of_word was)) o)
             (if x then thread_refuses (thread_of_word was) else stack_refuses n (stack_of_word was))) (sym (ap (λ (j : ℕ). j == 0) is))
             (subst (λ x. Good (owns true (stack_owned n x) o) (stack_refuses n x)) (sym word_is)
-            (subst (λ x. Good (owns true (frame_if x d) o) (field_refuses x)) (sym (field_below kind.Comp refl d found.2))
+            (subst (λ x. Good (owns true (frame_if x d) o) (field_refuses x)) (sym (field_below Kind.Comp refl d found.2))
             (on owned (look owned (record {
               single = λ some. before.single (omega (arith, is));
               bottom = d;
@@ -235,14 +226,14 @@ module _ (setup : Setting) (setting : IsSetting setup) (cores : ℕ → Core) (t
             (λ last. ap (names_of (Some d)) (subst (λ x. OwnedBy x o) (object_is (Kernel (Thread k)) at) owned_are)
             ∙ sym (ap frame_names at ∙ found.1)))))
 
-        by : (j : ℕ) → i ≡ j → Judged obj.Thread
+        by : (j : ℕ) → i ≡ j → Judged Obj.Thread
         by zero is = first_word is
         by (suc zero) is = second_word is
         by (suc (suc j)) is =
             absurd (let l : i < 2 = subst (λ x. i < loads_of x) (object_is (Kernel (Thread k)) at) below in omega (arith, l, is))
 
     -- A temporal capability: its budget.
-    tcap_good : (q : TcapFields) → s.frame f ≡ Kernel (Tcap q) → Judged obj.Tcap
+    tcap_good : (q : TcapFields) → s.frame f ≡ Kernel (Tcap q) → Judged Obj.Tcap
     tcap_good q at = subst (λ x. Good o (head_refuses x)) (sym head.says) (by (q.budget == 0) refl)
       where
         first : i ≡ 0
@@ -255,7 +246,7 @@ module _ (setup : Setting) (setting : IsSetting setup) (cores : ℕ → Core) (t
         none : (o.first ≡ None) × (o.second ≡ None)
         none = subst (λ x. OwnedBy x o) (object_is (Kernel (Tcap q)) at) owned_are
 
-        by : (x : Bool) → (q.budget == 0) ≡ x → Good o (if x then None else Some reply.NotEmpty)
+        by : (x : Bool) → (q.budget == 0) ≡ x → Good o (if x then None else Some Reply.NotEmpty)
         by true is = on o (subst (λ x. IsLookedAt s f x (i + 1) o) (sym at) (λ some. eqb-true q.budget 0 is))
             (λ last. ap (λ x. names_of x o.second) none.0 ∙ ap (names_of None) none.1 ∙ sym (ap frame_names at))
         by false is = full o (ap (is_empty s f) at ∙ is)
@@ -269,36 +260,36 @@ module _ (setup : Setting) (setting : IsSetting setup) (cores : ℕ → Core) (t
     small_by : (object : Obj) → v.object ≡ object → loads_of object ≡ 64 → i < 64
     small_by object is loads = let l : i < loads_of object = subst (λ x. i < loads_of x) is below in omega (arith, l, loads)
 
-    table_good : s.frame f ≡ Kernel Table → Judged obj.Table
+    table_good : s.frame f ≡ Kernel Table → Judged Obj.Table
     table_good at =
         let is = object_is (Kernel Table) at in
-        let small = small_by obj.Table is refl in
+        let small = small_by Obj.Table is refl in
         node_good small (ap (is_empty s f) at) (λ h. subst (λ x. IsLookedAt s f x (i + 1) o) (sym at) h)
-        (subst (λ x. IsLookedAt s f x i o) at looked) (none_named obj.Table is (λ x h. h) ∙ sym (ap frame_names at))
+        (subst (λ x. IsLookedAt s f x i o) at looked) (none_named Obj.Table is (λ x h. h) ∙ sym (ap frame_names at))
         (subst (λ x. IsFrameWord n x (s.place f i) (stamp setup t (PlaceOf f i)) i was) at says small)
 
-    leaf_good : s.frame f ≡ Kernel Leaf → Judged obj.Leaf
+    leaf_good : s.frame f ≡ Kernel Leaf → Judged Obj.Leaf
     leaf_good at =
         let is = object_is (Kernel Leaf) at in
-        let small = small_by obj.Leaf is refl in
+        let small = small_by Obj.Leaf is refl in
         node_good small (ap (is_empty s f) at) (λ h. subst (λ x. IsLookedAt s f x (i + 1) o) (sym at) h)
-        (subst (λ x. IsLookedAt s f x i o) at looked) (none_named obj.Leaf is (λ x h. h) ∙ sym (ap frame_names at))
+        (subst (λ x. IsLookedAt s f x i o) at looked) (none_named Obj.Leaf is (λ x h. h) ∙ sym (ap frame_names at))
         (subst (λ x. IsFrameWord n x (s.place f i) (stamp setup t (PlaceOf f i)) i was) at says small)
 
-    pages_good : s.frame f ≡ Kernel Pages → Judged obj.Pages
+    pages_good : s.frame f ≡ Kernel Pages → Judged Obj.Pages
     pages_good at =
         let is = object_is (Kernel Pages) at in
-        let small = small_by obj.Pages is refl in
+        let small = small_by Obj.Pages is refl in
         node_good small (ap (is_empty s f) at) (λ h. subst (λ x. IsLookedAt s f x (i + 1) o) (sym at) h)
-        (subst (λ x. IsLookedAt s f x i o) at looked) (none_named obj.Pages is (λ x h. h) ∙ sym (ap frame_names at))
+        (subst (λ x. IsLookedAt s f x i o) at looked) (none_named Obj.Pages is (λ x h. h) ∙ sym (ap frame_names at))
         (subst (λ x. IsFrameWord n x (s.place f i) (stamp setup t (PlaceOf f i)) i was) at says small)
 
-    pleaf_good : s.frame f ≡ Kernel Pleaf → Judged obj.Pleaf
+    pleaf_good : s.frame f ≡ Kernel Pleaf → Judged Obj.Pleaf
     pleaf_good at =
         let is = object_is (Kernel Pleaf) at in
-        let small = small_by obj.Pleaf is refl in
+        let small = small_by Obj.Pleaf is refl in
         node_good small (ap (is_empty s f) at) (λ h. subst (λ x. IsLookedAt s f x (i + 1) o) (sym at) h)
-        (subst (λ x. IsLookedAt s f x i o) at looked) (none_named obj.Pleaf is (λ x h. h) ∙ sym (ap frame_names at))
+        (subst (λ x. IsLookedAt s f x i o) at looked) (none_named Obj.Pleaf is (λ x h. h) ∙ sym (ap frame_names at))
         (subst (λ x. IsFrameWord n x (s.place f i) (stamp setup t (PlaceOf f i)) i was) at says small)
 
     none_loaded : (x : Frame) → s.frame f ≡ x → loads_of (frame_value x).object ≡ 0 → Judged v.object

@@ -1,15 +1,15 @@
 -- The frames that an object itself names differ from one another, and from its own: so their counts may be acquired while its own counters
 -- are frozen.
-use Rattle.freeze_invariant.proofs.Common.{All, ◌≡◌, ◌≢◌, ℕ, ◌≤◌, Bool, List, [], ◌∷◌, length, Option, Some, None}
-use Rattle.freeze_invariant.proofs.Common.{IsTrue, arith, refl, sym, ◌∙◌, ap, subst, false≢true, All-nil, All-cons, All-head, All-tail}
-use Rattle.freeze_invariant.proofs.Common.{CompFields, ThreadFields, Blank, Table, Leaf, Pages, Pleaf, Comp, Thread, Tcap, Frame}
-use Rattle.freeze_invariant.proofs.Common.{Untyped, User, Kernel, State, fits, frame_names, IsSound, IsObjectGood, IsStack, frame_value}
-use Rattle.freeze_invariant.proofs.Common.{loads_of, Owned, Due, released_dues, AreDuesApart, IsLookedAt, names_of}
-use Rattle.freeze_invariant.specs.spk_nums.specs.declared.kinds.Kind.TheVariants as kind
-use Rattle.freeze_invariant.specs.act_states.specs.Untypings.{released_one}
+use Rattle.freeze_invariant.specs.step_ways.proofs as low
+use low.{All, ◌≡◌, ◌≢◌, ℕ, ◌≤◌, Bool, List, [], ◌∷◌, length, Option, Some, None, IsTrue, arith, refl, sym, ◌∙◌, ap, subst, false≢true}
+use low.{CompFields, ThreadFields, Blank, Table, Leaf, Pages, Pleaf, Comp, Thread, Tcap, Frame, Untyped, User, Kernel, State, fits}
+use low.{frame_names, IsSound, IsObjectGood, frame_value, loads_of, Owned, Due, AreDuesApart, IsLookedAt, names_of, Kind}
+use Rattle.std.proofs.lemmas.List.Elements.{All-nil, All-cons, All-head, All-tail}
+use Rattle.freeze_invariant.specs.kernel_invariant.proofs.Sound.{IsStack}
+use Rattle.freeze_invariant.specs.act_states.specs.Untypings.{released_dues, released_one}
 
 -- No frame is the root of a table of capabilities and of a page table.
-both_fit : (x : Frame) → IsTrue (fits kind.Table x) → IsTrue (fits kind.Pages x) → ⊥
+both_fit : (x : Frame) → IsTrue (fits Kind.Table x) → IsTrue (fits Kind.Pages x) → ⊥
 both_fit (Kernel Table) first second = false≢true second
 both_fit _ first second = false≢true first
 
@@ -26,13 +26,13 @@ module _ (s : State) (o : ℕ → Bool) (h : IsSound s o) (f : ℕ) where
   comp_differs k at =
       let good : IsObjectGood s (Kernel (Comp k)) = subst (IsObjectGood s) at (h.objects f) in record {
         two = λ x y same both. both_fit (s.frame k.table) good.0
-            (subst (λ (n : ℕ). IsTrue (fits kind.Pages (s.frame n)))
+            (subst (λ (n : ℕ). IsTrue (fits Kind.Pages (s.frame n)))
             (sym (first k.table x k.pages y same ∙ both ∙ sym (second k.table x k.pages y same)))
             good.1);
         own = All-cons (λ g. g ≢ f) k.table (k.pages ∷ [])
-            (λ same. false≢true (sym (ap (fits kind.Table) (ap s.frame same ∙ at)) ∙ good.0))
+            (λ same. false≢true (sym (ap (fits Kind.Table) (ap s.frame same ∙ at)) ∙ good.0))
             (All-cons (λ g. g ≢ f) k.pages []
-            (λ same. false≢true (sym (ap (fits kind.Pages) (ap s.frame same ∙ at)) ∙ good.1)) (All-nil (λ g. g ≢ f)));
+            (λ same. false≢true (sym (ap (fits Kind.Pages) (ap s.frame same ∙ at)) ∙ good.1)) (All-nil (λ g. g ≢ f)));
       }
     where
       first : (a x b y : ℕ) → a ∷ b ∷ [] ≡ x ∷ y ∷ [] → a ≡ x
@@ -49,7 +49,7 @@ module _ (s : State) (o : ℕ → Bool) (h : IsSound s o) (f : ℕ) where
       by (g ∷ []) single stack = record {
         two = λ x y same. absurd (cc);
         own = All-cons (λ n. n ≢ f) g []
-            (λ same. false≢true (sym (ap (fits kind.Comp) (ap s.frame same ∙ at)) ∙ stack.0)) (All-nil (λ n. n ≢ f));
+            (λ same. false≢true (sym (ap (fits Kind.Comp) (ap s.frame same ∙ at)) ∙ stack.0)) (All-nil (λ n. n ≢ f));
       }
       by (g ∷ i ∷ fs) single stack = absurd (omega (arith, single))
 

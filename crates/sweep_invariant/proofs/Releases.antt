@@ -1,45 +1,38 @@
 -- The stores of a call that has swept a frame: after its decision it commits its counts, then it gives back the frame's counters, as they
 -- were found or cleared, and at last the frame's word.
-use Rattle.freeze_invariant.proofs.Common.{◌≡◌, ◌≢◌, inl, inr, ℕ, ◌+◌, ◌^◌, ◌<◌, ◌≤◌, ◌==◌, ◌&&◌, nat_lt, nat_le, length, Bool, true}
-use Rattle.freeze_invariant.proofs.Common.{false, List, [], ◌∷◌, Option, Some, None, IsTrue, arith, refl, sym, ◌∙◌, ap, subst, cases_eq}
-use Rattle.freeze_invariant.proofs.Common.{ne_eqb, le-leb, leb-true, leb-false, ltb-true, ltb-false, All-head}
-use Rattle.freeze_invariant.proofs.Common.{All-tail, Setting, IsSetting, Reply, count_of_word, word_of_count, Word, EntryAt}
-use Rattle.freeze_invariant.proofs.Common.{FrameAt, CountAt, CoreAt, FlushAt, LiveAt, ClockAt, same_word, Move, StoreOf, word_of, told_of}
-use Rattle.freeze_invariant.proofs.Common.{State, put, IsInFootprint, footprint_frames, is_one_of, marked_by, count_mark, Step, Trace}
-use Rattle.freeze_invariant.proofs.Common.{state_after, last_left, same_word-other, Acquired, Thaw, Nothing, StageFits, ActiveCall}
-use Rattle.freeze_invariant.proofs.Common.{Decided, GoesOn, went_with, Core, holds_release, holds_thaw, AreApart, Holding}
-use Rattle.freeze_invariant.proofs.Common.{committed, count_of, holds_counts, settled, settled_by, IsCount, KnowsTail, KnowsUnmark}
-use Rattle.freeze_invariant.proofs.Common.{phase_at, Invariant, done_by, held_by, holds, holds_at, holds_in, ThawsFrame, SaysCount}
-use Rattle.freeze_invariant.proofs.Common.{as_none, counts_bare, counts_on, exclusive_elsewhere}
-use Rattle.std.specs.Prelude.{if◌then◌else◌, slice_get}
-use Rattle.std.proofs.Common.{All}
-use Rattle.freeze_invariant.specs.spk_nums.specs.declared.replies.Reply.TheVariants as reply
-use Rattle.freeze_invariant.specs.frame_words.proofs.CountLemmas as counts
-use Rattle.freeze_invariant.specs.kernel_history.specs.Discipline.{may_count}
+use Rattle.freeze_invariant.specs.step_ways.proofs.{◌≡◌, ◌≢◌, inl, inr, ℕ, ◌+◌, ◌^◌, ◌<◌, ◌≤◌, ◌==◌, ◌&&◌, ltb as nat_lt, leb as nat_le}
+use Rattle.freeze_invariant.specs.step_ways.proofs.{length, Bool, true, false, List, [], ◌∷◌, Option, Some, None, IsTrue, arith, refl, sym}
+use Rattle.freeze_invariant.specs.step_ways.proofs.{◌∙◌, ap, subst, ne_eqb, le-leb, leb-true, leb-false, ltb-true, ltb-false, Setting}
+use Rattle.freeze_invariant.specs.step_ways.proofs.{IsSetting, Reply, count_of_word, word_of_count, Word, EntryAt, FrameAt, CountAt, CoreAt}
+use Rattle.freeze_invariant.specs.step_ways.proofs.{FlushAt, LiveAt, ClockAt, same_word, Move, StoreOf, word_of, told_of, State, put}
+use Rattle.freeze_invariant.specs.step_ways.proofs.{IsInFootprint, footprint_frames, is_one_of, marked_by, count_mark, Step, Trace}
+use Rattle.freeze_invariant.specs.step_ways.proofs.{state_after, last_left, same_word-other, Acquired, Thaw, Nothing, StageFits, ActiveCall}
+use Rattle.freeze_invariant.specs.step_ways.proofs.{Decided, GoesOn, went_with, Core, holds_release, holds_thaw, Holding, committed}
+use Rattle.freeze_invariant.specs.step_ways.proofs.{count_of, holds_counts, settled, settled_by, IsCount, KnowsTail, KnowsUnmark, phase_at}
+use Rattle.freeze_invariant.specs.step_ways.proofs.{Invariant, done_by, held_by, holds, holds_at, holds_in, SaysCount, as_none, counts_bare}
+use Rattle.freeze_invariant.specs.step_ways.proofs.{counts_on, exclusive_elsewhere, if◌then◌else◌, slice_get, All, released}
+use Rattle.freeze_invariant.specs.step_ways.proofs.{Release as release_tail, is_ok, tail_move, took_tail, spares_other, call_is}
+use Rattle.freeze_invariant.specs.step_ways.proofs.{core_in_call, inner, is_active, GoodTook, same_marks}
+use Rattle.freeze_invariant.specs.core_invariant.proofs.{AreApart, SameAt, release_away, release_bare, release_frame, thaw_here}
+use Rattle.freeze_invariant.specs.act_states.specs.{commit_of, ThawFits, thaw_left_by}
+use Rattle.std.proofs.{lemmas.Bool.cases_eq, lemmas.List.Elements.All-head, lemmas.List.Elements.All-tail}
+use Rattle.freeze_invariant.specs.core_invariant.specs.Sweeps.{ThawsFrame, KnowsRelease}
 use Rattle.freeze_invariant.specs.kernel_history.proofs.OwnCounts.{own_counts, untype_counts}
-use Rattle.freeze_invariant.specs.stage_pins.specs.Held.{commit_of}
-use Rattle.freeze_invariant.specs.stage_pins.specs.Commit.{settled_word}
-use Rattle.freeze_invariant.specs.stage_sweep.specs.Release.{ThawFits, at_next, more_end, released, thaw_after, thaw_end, thaw_move}
-use Rattle.freeze_invariant.specs.act_states.specs.Untypings.{thaw_left_by}
-use Rattle.freeze_invariant.specs.act_states.specs.declared.untypings.Release.{Release}
-use Rattle.freeze_invariant.specs.act_states.specs.declared.work.Tail.TheVariants.{Release as release_tail}
-use Rattle.freeze_invariant.specs.call_stages.specs.Tails.{is_ok, tail_counts, tail_move, took_tail}
-use Rattle.freeze_invariant.specs.core_invariant.specs.Sweeps.{KnowsRelease}
+use Rattle.freeze_invariant.specs.stage_sweep.specs.Release.{at_next, more_end, thaw_after, thaw_end, thaw_move}
+use Rattle.freeze_invariant.specs.core_invariant.proofs.Freezing.{is_count, release_over, thaw_plain}
+use Rattle.{freeze_invariant.specs.kernel_history.specs.Discipline.may_count, freeze_invariant.specs.stage_pins.specs.Commit.settled_word}
+use Rattle.{freeze_invariant.specs.act_states.specs.declared.untypings.Release.Release}
+use Rattle.{freeze_invariant.specs.call_stages.specs.Tails.tail_counts}
+use Rattle.{freeze_invariant.specs.count_invariant.proofs.MakingCounts.argument_footprint}
+use Rattle.freeze_invariant.specs.frame_words.proofs.CountLemmas as counts
 use Rattle.freeze_invariant.specs.step_ways.proofs.Counting as counting
-use Rattle.freeze_invariant.specs.core_invariant.proofs.Freezing.{SameAt, is_count, release_away, release_bare, release_frame}
-use Rattle.freeze_invariant.specs.core_invariant.proofs.Freezing.{release_over, thaw_here, thaw_plain}
-use Rattle.freeze_invariant.specs.step_ways.proofs.Good.{spares_other}
-use Rattle.freeze_invariant.specs.step_ways.proofs.Loads.{call_is, core_in_call, inner, is_active}
-use Rattle.freeze_invariant.specs.step_ways.proofs.Refusals.{GoodTook}
-use Rattle.freeze_invariant.specs.step_ways.proofs.Writes.{same_marks}
-use Rattle.freeze_invariant.specs.count_invariant.proofs.MakingCounts.{argument_footprint}
 
 some_inj : (x y : ℕ) → Some x ≡ Some y → x ≡ y
 some_inj x y h = cc
 
 stored_by : (r : Reply) (drawn : Option ℕ) (x : Acquired)
     → committed (done_by r drawn) x ≡ word_of_count (settled_word (commit_of (is_ok r) drawn x))
-stored_by (reply.Ok v) drawn x = refl
+stored_by (Reply.Ok v) drawn x = refl
 stored_by r drawn x = refl
 
 no_frame : (fate : Option (Option ℕ)) (xs : List Acquired) (f : ℕ) → (holds_counts fate xs).marks (FrameAt f) ≡ false

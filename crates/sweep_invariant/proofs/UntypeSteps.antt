@@ -1,23 +1,15 @@
 -- The step of a call that makes a frame untyped, wherever it stands.
-use Rattle.freeze_invariant.proofs.Common.{◌≡◌, ℕ, ◌<◌, List, Some}
-use Rattle.freeze_invariant.proofs.Common.{refl, sym, subst, Setting, IsSetting}
-use Rattle.freeze_invariant.proofs.Common.{CountWord, FrameWord, word_of, told_of, Shape, Trace}
-use Rattle.freeze_invariant.proofs.Common.{last_left, AtCore, AtFlush, Owned, SweepAt, Compare, Empty}
-use Rattle.freeze_invariant.proofs.Common.{Untyping, UntypingAt, Draw, Act, ActiveCall, Undecided, landed, Core}
-use Rattle.freeze_invariant.proofs.Common.{KnowsUndecided, Invariant}
-use Rattle.freeze_invariant.specs.stage_sweep.specs.declared.sweep.SweepAt.TheVariants.{Load as sweep_load, Scan}
-use Rattle.freeze_invariant.specs.act_states.specs.Acts.{took_untyping}
-use Rattle.freeze_invariant.specs.act_states.specs.Untypings.{untyping_move}
-use Rattle.freeze_invariant.specs.act_states.specs.declared.untypings.UntypingAt.TheVariants.{Load, Mark, Sweep as sweep_at}
-use Rattle.freeze_invariant.specs.act_states.specs.declared.work.Act.TheVariants.{Untype as untype_act}
-use Rattle.freeze_invariant.specs.step_ways.proofs.Refusals.{GoodTook}
-use Rattle.freeze_invariant.proofs.Counters.{counter_load_good, sweeping, untyping_by}
-use Rattle.freeze_invariant.proofs.FrameCores.{core_scan_good}
-use Rattle.freeze_invariant.proofs.FrameFlushes.{flush_scan_good}
-use Rattle.freeze_invariant.proofs.Freezes.{compare_good}
-use Rattle.freeze_invariant.proofs.Marking.{load_good, mark_good}
-use Rattle.sweep_invariant.proofs.Objects.{object_good}
-use Rattle.sweep_invariant.proofs.Untyped.{untyped_good}
+use Rattle.freeze_invariant.specs.step_ways.proofs.{◌≡◌, ℕ, ◌<◌, List, Some, refl, sym, subst, Setting, IsSetting, CountWord, FrameWord}
+use Rattle.freeze_invariant.specs.step_ways.proofs.{word_of, told_of, Shape, Trace, last_left, AtCore, AtFlush, Owned, SweepAt, Empty}
+use Rattle.freeze_invariant.specs.step_ways.proofs.{Untyping, UntypingAt, Act, ActiveCall, Undecided, landed, Core, KnowsUndecided}
+use Rattle.freeze_invariant.specs.step_ways.proofs.{Invariant, Untype as untype_act, GoodTook}
+use Rattle.freeze_invariant.specs.act_states.specs.{Compare, Load as sweep_load, Scan}
+use Rattle.freeze_invariant.proofs.{sweeping, untyping_by}
+use Rattle.freeze_invariant.specs.act_states.specs.declared.untypings.UntypingAt.TheVariants.{Draw, Load, Mark, Sweep as sweep_at}
+use Rattle.freeze_invariant.proofs.{Counters.counter_load_good, FrameCores.core_scan_good, FrameFlushes.flush_scan_good}
+use Rattle.freeze_invariant.proofs.{Freezes.compare_good, Marking.load_good, Marking.mark_good}
+use Rattle.sweep_invariant.proofs.{Objects.object_good, Untyped.untyped_good}
+use Rattle.{freeze_invariant.specs.act_states.specs.Taking.took_untyping, freeze_invariant.specs.act_states.specs.Untypings.untyping_move}
 
 module _ (setup : Setting) (setting : IsSetting setup) (cores : ℕ → Core) (t : Trace) (stands : Invariant setup cores t) (c : ℕ)
     (here : c < setup.cores)

@@ -1,74 +1,59 @@
 -- The draw of a retype to untyped: the call is carried out, and the frame is untyped from then on. Nothing referred to it, and nobody
 -- waited for it; its grace period is ended, and the references of its object are released.
-use Rattle.freeze_invariant.proofs.Common.{Want, IsSome, list_any, ◌≡◌, ◌≢◌, inl, inr, ℕ, pos, negsuc, ◌+ℤ◌, max, length, ◌+◌, ◌^◌, ◌<◌}
-use Rattle.freeze_invariant.proofs.Common.{◌≤◌, Bool, true, false, List, [], ◌∷◌, Option, Some, None}
-use Rattle.freeze_invariant.proofs.Common.{arith, refl, sym, ◌∙◌, ap, subst, cases_eq, eq-eqb, eqb-true, ne_eqb, false≢true, All-nil}
-use Rattle.freeze_invariant.proofs.Common.{Capability, Setting, IsSetting, Reply, CountFits, count_of_word}
-use Rattle.freeze_invariant.proofs.Common.{word_of_count, FrameFits, frame_of_word, word_of_frame, CountWord, FrameWord, Word, EntryAt}
-use Rattle.freeze_invariant.proofs.Common.{FrameAt, CountAt, CoreAt, FlushAt, LiveAt, ClockAt, same_word, AddOf}
-use Rattle.freeze_invariant.proofs.Common.{Untyped, Thing, PlaceOf, FrameOf, NumberOf, State, put, comp_in}
-use Rattle.freeze_invariant.proofs.Common.{thread_in, with_frame, Slot, own, Change, Found, IsFoundAnd, frames_of}
-use Rattle.freeze_invariant.proofs.Common.{is_empty, retypes, frame_names, times, refs, MayReply, rule_of, ends_by, flushes_by, changed}
-use Rattle.freeze_invariant.proofs.Common.{change_of, counted, begins_in, same_thing, new_grace, calls_counted, frame_refs, grace_refs}
-use Rattle.freeze_invariant.proofs.Common.{opened, put_same, put_other, counters, count_in, count_sum, events_of, HasReached, marked_by}
-use Rattle.freeze_invariant.proofs.Common.{mark_of, mark_in_frame, frame_value, ends_in, flushes_in, begins_at, ends_at, flushes_at}
-use Rattle.freeze_invariant.proofs.Common.{stamp, clock, flush_stored, Step, Trace, Open, phase, state_after, state_decided_in, last_left}
-use Rattle.freeze_invariant.proofs.Common.{own_left, way_to, ways, ok_first, decided-inside, cases_word, same_word-other, sound_of}
-use Rattle.freeze_invariant.proofs.Common.{stamp-begins, stamp-kept, flush_stored-own, flush_stored-other, last_left-there, drawn_stamp}
-use Rattle.freeze_invariant.proofs.Common.{later, unheld, Acquired, latest_stamp, thaw_of, Swept, own_pages, LeadsIn}
-use Rattle.freeze_invariant.proofs.Common.{leads_by, release_of, Untyping, Draw, Due, Act, Stage, Undecided, Decided, ActiveCall, landed}
-use Rattle.freeze_invariant.proofs.Common.{Core, stamp_in, holds_release, holds_thaw, is_frozen, Holding, holds_counts, settled_by}
-use Rattle.freeze_invariant.proofs.Common.{settled, WordIs, HasFound, KnowsUndecided, WorksIn, own_in, holds}
-use Rattle.freeze_invariant.proofs.Common.{held_by, times_of, counted_in, count_shown, SumIs, Invariant, KnowsSwept}
-use Rattle.freeze_invariant.proofs.Common.{ThawsFrame, names_of, counts_bare, calm_counted, plain_exit, counted_refs}
-use Rattle.freeze_invariant.proofs.Common.{release_entry, thaws_own, limits_of, HoldsSwept, release_swept, ReadsAlike, StaysSaid}
-use Rattle.freeze_invariant.proofs.Common.{own_settled, word_stays, own_kept, phase_at, IsFrameWord, frame_mark, first_of_stack}
-use Rattle.freeze_invariant.proofs.Common.{thread_of, stamp_of_change, loads_of}
-use Rattle.std.specs.Prelude.{if◌then◌else◌}
-use Rattle.std.proofs.Common.{All}
-use Rattle.std.proofs.Math.IntN.{pos-+ℤ-pos, +ℤ_assoc, +ℤ_invr, +ℤ_idr}
-use Rattle.freeze_invariant.specs.spk_nums.specs.declared.kinds.FrameKind.TheVariants as kind
-use Rattle.freeze_invariant.specs.spk_nums.specs.declared.replies.Reply.TheVariants as reply
-use Rattle.freeze_invariant.specs.spk_nums.specs.declared.replies.Value.TheVariants as value
-use Rattle.freeze_invariant.specs.frame_words.specs.Residue.{residue}
-use Rattle.freeze_invariant.specs.frame_words.proofs.CountLemmas as counts
-use Rattle.freeze_invariant.specs.frame_words.proofs.FrameLemmas as frames
-use Rattle.freeze_invariant.specs.kernel_rules.specs.Start.{no_grace}
-use Rattle.freeze_invariant.specs.kernel_rules.specs.GracePeriods.{begun}
-use Rattle.freeze_invariant.specs.kernel_invariant.proofs.SoundRemovals.{frames_no_place}
-use Rattle.freeze_invariant.specs.found_stays.proofs.Stays.{comp_named}
-use Rattle.freeze_invariant.specs.kernel_history.specs.Stamps.{begins_in as begins_then}
-use Rattle.freeze_invariant.specs.kernel_history.proofs.Counters.{all_counters}
-use Rattle.freeze_invariant.specs.kernel_history.proofs.Steps.{stamp-ends}
-use Rattle.freeze_invariant.specs.plan_ways.proofs.Ways.{all_ways}
-use Rattle.freeze_invariant.specs.act_states.specs.Acts.{drawn_untyped}
-use Rattle.freeze_invariant.specs.act_states.specs.Typings.{typed}
-use Rattle.freeze_invariant.specs.act_states.specs.Untypings.{owned_dues}
-use Rattle.freeze_invariant.specs.act_states.specs.declared.untypings.Release.{Release}
-use Rattle.freeze_invariant.specs.act_states.specs.declared.work.Act.TheVariants.{Untype as untype_act}
-use Rattle.freeze_invariant.specs.act_states.specs.declared.work.Tail.TheVariants.{Release as release_tail}
-use Rattle.freeze_invariant.specs.core_invariant.specs.CountWords.{newest_of}
-use Rattle.freeze_invariant.specs.kept_facts.proofs.Calm.{counts as calm_counts, same_works}
-use Rattle.freeze_invariant.specs.kept_facts.proofs.Calm.{counted_grows}
-use Rattle.freeze_invariant.specs.step_ways.proofs.Draws as drawing
-use Rattle.freeze_invariant.specs.core_invariant.proofs.Freezing.{IsFrozenWord, frozen_word, release_away, release_bare}
-use Rattle.freeze_invariant.specs.core_invariant.proofs.Freezing.{release_frame, thaw_all, thaw_from}
-use Rattle.freeze_invariant.specs.step_ways.proofs.Refusals.{GoodTook}
-use Rattle.freeze_invariant.specs.kept_facts.proofs.Swept.{frame_says, no_refs, release_counter, stamp_is}
+use Rattle.freeze_invariant.specs.kept_facts.proofs.{Want, IsSome, ◌≡◌, ◌≢◌, inl, inr, ℕ, pos, negsuc, ◌+ℤ◌, max, length, ◌+◌, ◌^◌, ◌<◌}
+use Rattle.freeze_invariant.specs.kept_facts.proofs.{◌≤◌, Bool, true, false, List, [], ◌∷◌, Option, Some, None, arith, refl, sym, ◌∙◌, ap}
+use Rattle.freeze_invariant.specs.kept_facts.proofs.{subst, eq-eqb, eqb-true, ne_eqb, false≢true, Capability, Setting, IsSetting, Reply}
+use Rattle.freeze_invariant.specs.kept_facts.proofs.{CountFits, count_of_word, word_of_count, FrameFits, frame_of_word, word_of_frame}
+use Rattle.freeze_invariant.specs.kept_facts.proofs.{CountWord, FrameWord, Word, EntryAt, FrameAt, CountAt, CoreAt, FlushAt, LiveAt}
+use Rattle.freeze_invariant.specs.kept_facts.proofs.{ClockAt, same_word, AddOf, Untyped, Thing, PlaceOf, FrameOf, NumberOf, State, put}
+use Rattle.freeze_invariant.specs.kept_facts.proofs.{comp_in, thread_in, with_frame, Slot, own, Change, Found, IsFoundAnd, frames_of}
+use Rattle.freeze_invariant.specs.kept_facts.proofs.{is_empty, frame_names, times, refs, MayReply, rule_of, ends_by, flushes_by, changed}
+use Rattle.freeze_invariant.specs.kept_facts.proofs.{change_of, counted, same_thing, new_grace, calls_counted, frame_refs, grace_refs}
+use Rattle.freeze_invariant.specs.kept_facts.proofs.{opened, put_same, put_other, counters, count_in, count_sum, events_of, HasReached}
+use Rattle.freeze_invariant.specs.kept_facts.proofs.{marked_by, mark_of, mark_in_frame, frame_value, ends_in, flushes_in, begins_at}
+use Rattle.freeze_invariant.specs.kept_facts.proofs.{ends_at, flushes_at, stamp, clock, flush_stored, Step, Trace, Open, phase, state_after}
+use Rattle.freeze_invariant.specs.kept_facts.proofs.{state_decided_in, last_left, own_left, way_to, ways, ok_first, decided-inside}
+use Rattle.freeze_invariant.specs.kept_facts.proofs.{cases_word, same_word-other, sound_of, stamp-begins, stamp-kept, flush_stored-own}
+use Rattle.freeze_invariant.specs.kept_facts.proofs.{flush_stored-other, last_left-there, drawn_stamp, later, unheld, Acquired}
+use Rattle.freeze_invariant.specs.kept_facts.proofs.{latest_stamp, thaw_of, own_pages, LeadsIn, leads_by, release_of, Untyping, Due, Act}
+use Rattle.freeze_invariant.specs.kept_facts.proofs.{Stage, Undecided, Decided, ActiveCall, landed, Core, holds_release, holds_thaw}
+use Rattle.freeze_invariant.specs.kept_facts.proofs.{Holding, holds_counts, settled_by, settled, WordIs, HasFound, KnowsUndecided, WorksIn}
+use Rattle.freeze_invariant.specs.kept_facts.proofs.{own_in, holds, held_by, times_of, counted_in, count_shown, SumIs, Invariant, names_of}
+use Rattle.freeze_invariant.specs.kept_facts.proofs.{counts_bare, calm_counted, plain_exit, counted_refs, release_entry, limits_of}
+use Rattle.freeze_invariant.specs.kept_facts.proofs.{HoldsSwept, release_swept, ReadsAlike, StaysSaid, own_settled, word_stays, own_kept}
+use Rattle.freeze_invariant.specs.kept_facts.proofs.{phase_at, IsFrameWord, frame_mark, first_of_stack, thread_of, stamp_of_change}
+use Rattle.freeze_invariant.specs.kept_facts.proofs.{loads_of, if◌then◌else◌, All, residue, begins_in as begins_then, Untype as untype_act}
+use Rattle.freeze_invariant.specs.kept_facts.proofs.{Release as release_tail, counts as calm_counts, same_works, counted_grows, no_refs}
+use Rattle.freeze_invariant.specs.kept_facts.proofs.{does, plan_for, Value}
+use Rattle.freeze_invariant.specs.core_invariant.proofs.{Swept, stamp_in, thaws_own, newest_of, release_away, release_bare, release_frame}
+use Rattle.freeze_invariant.specs.core_invariant.proofs.{thaw_all, thaw_from}
+use Rattle.freeze_invariant.specs.kernel_rules.specs.{retypes, begins_in, no_grace, begun, Nothing as no_value}
+use Rattle.freeze_invariant.specs.core_invariant.specs.{is_frozen, KnowsSwept, ThawsFrame}
+use Rattle.freeze_invariant.specs.count_invariant.proofs.{own_is, found_named, way_gone}
+use Rattle.freeze_invariant.specs.step_ways.proofs.{GoodTook, clock_small, same_marks}
+use Rattle.freeze_invariant.specs.act_states.specs.{typed, owned_dues}
+use Rattle.freeze_invariant.specs.kernel_history.proofs.{all_counters, stamp-ends}
+use Rattle.std.proofs.{lemmas.Bool.cases_eq, lemmas.List.Elements.All-nil, Math.IntN.pos-+ℤ-pos, Math.IntN.+ℤ_assoc, Math.IntN.+ℤ_invr}
+use Rattle.freeze_invariant.specs.act_states.specs.{declared.untypings.UntypingAt.TheVariants.Draw, Taking.drawn_untyped}
+use Rattle.freeze_invariant.specs.core_invariant.proofs.Freezing.{IsFrozenWord, frozen_word}
+use Rattle.freeze_invariant.specs.kept_facts.proofs.Swept.{frame_says, release_counter, stamp_is}
 use Rattle.freeze_invariant.specs.kept_facts.proofs.FrozenSums.{cleared_sum, counters_length}
-use Rattle.freeze_invariant.specs.step_ways.proofs.Writes.{clock_small, same_marks}
 use Rattle.freeze_invariant.specs.count_invariant.proofs.CountChanges.{spared_commit, spared_sum}
-use Rattle.freeze_invariant.specs.count_invariant.proofs.Findings.{own_is, found_named, way_gone}
 use Rattle.freeze_invariant.specs.place_invariant.proofs.Removals.{frame_none, frame_some}
 use Rattle.freeze_invariant.specs.place_invariant.proofs.Vacancy.{none_unflushed, none_waits}
 use Rattle.sweep_invariant.proofs.Emptied.{acquired_all, acquired_away, count_word, due_each, due_none, looked_empty}
 use Rattle.sweep_invariant.proofs.FreeEntries.{counts_entry, entry_unmarked, no_thread}
 use Rattle.sweep_invariant.proofs.OwnedFrames.{Differ, OwnedApart, names_differ, owned_apart}
+use Rattle.{std.specs.List.list_any, std.proofs.Math.IntN.+ℤ_idr}
+use Rattle.{freeze_invariant.specs.act_states.specs.declared.untypings.Release.Release}
+use Rattle.{freeze_invariant.specs.kernel_invariant.proofs.SoundRemovals.frames_no_place}
+use Rattle.{freeze_invariant.specs.found_stays.proofs.Stays.comp_named, freeze_invariant.specs.plan_ways.proofs.Ways.all_ways}
+use Rattle.{freeze_invariant.proofs.UntypeCalls.typed_is}
+use Rattle.freeze_invariant.specs.spk_nums.specs.declared.kinds.FrameKind.TheVariants as kind
+use Rattle.freeze_invariant.specs.frame_words.proofs.CountLemmas as counts
+use Rattle.freeze_invariant.specs.frame_words.proofs.FrameLemmas as frames
+use Rattle.freeze_invariant.specs.step_ways.proofs.Draws as drawing
 use Rattle.freeze_invariant.proofs.UntypeCalls as calls
-use Rattle.freeze_invariant.proofs.UntypeCalls.{typed_is}
-use Rattle.freeze_invariant.specs.kernel_rules.specs.Rules.{does}
-use Rattle.freeze_invariant.specs.spk_nums.specs.declared.replies.Value.TheVariants.{Nothing as no_value}
-use Rattle.freeze_invariant.specs.act_states.specs.call_plans.specs.PlanOf.{plan_for}
 
 -- A count that falls by one.
 one_less : (m n : ℕ) → n + 1 ≡ m → pos n ≡ pos m +ℤ negsuc 0
@@ -120,7 +105,7 @@ module _ (setup : Setting) (setting : IsSetting setup) (cores : ℕ → Core) (t
   x = clock setup t
 
   abbrev r : Reply
-  r = reply.Ok value.Nothing
+  r = Reply.Ok Value.Nothing
 
   abbrev ds : List Due
   ds = owned_dues w.owned
@@ -204,7 +189,7 @@ module _ (setup : Setting) (setting : IsSetting setup) (cores : ℕ → Core) (t
       (calls.refs_none setup setting cores t stands c here a active m stage_is has zero_refs)
       (none_waits s c thing (λ d low other. quiet d (below_cores d low) other))
       (none_unflushed s thing (λ d low. knows.swept.quiet.flushed d (below_cores d low) since))
-      (ap (λ b. if Rattle.std.specs.Prelude.not b then Some reply.NotEmpty else None) empty)
+      (ap (λ b. if Rattle.std.specs.Prelude.not b then Some Reply.NotEmpty else None) empty)
 
   abbrev untyped : State
   untyped = counted (begun s change.begins change.next) c
@@ -568,7 +553,7 @@ module _ (setup : Setting) (setting : IsSetting setup) (cores : ℕ → Core) (t
     permitted : MayReply s c a.call r
     permitted = (
       calls.unspent setup setting cores t stands c here a active m stage_is has,
-      (has.acts, subst (λ y. IsFoundAnd y (λ z. z.value ≡ value.Nothing)) (sym is_change) refl),
+      (has.acts, subst (λ y. IsFoundAnd y (λ z. z.value ≡ Value.Nothing)) (sym is_change) refl),
     )
 
     draw_at : GoodTook setup cores t c (AddOf ClockAt 1) (landed a (drawn_untyped f w now_at))
@@ -580,7 +565,7 @@ module _ (setup : Setting) (setting : IsSetting setup) (cores : ℕ → Core) (t
         opens refl alike (inr spares) grows works
         no_flush stays held_now sums
         (record { call = a.call; is_open = is_open; permitted = permitted; justified = gone })
-        (λ is_alone. ok_first s c a.call value.Nothing permitted) (
+        (λ is_alone. ok_first s c a.call Value.Nothing permitted) (
           record {
             changes = calls.untype_changes a.call a.found f (calls.is setup setting cores t stands c here a active m stage_is has);
             argument = calls.untype_argument a.call a.found f (calls.is setup setting cores t stands c here a active m stage_is has);

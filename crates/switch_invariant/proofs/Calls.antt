@@ -1,35 +1,24 @@
 -- What a call that switches knows of its rule: what is left of it after its names, and what refuses it; and of the two threads.
-use Rattle.thread_invariant.proofs.Common.{◌≡◌, ◌≢◌, inl, ℕ, ◌<◌, ◌++◌, ◌||◌, map, true, false, List, [], ◌∷◌, Option, Some}
-use Rattle.thread_invariant.proofs.Common.{None, IsTrue, refl, sym, ◌∙◌, ap, subst, eq-eqb, flat_map, Capability, Setting}
-use Rattle.thread_invariant.proofs.Common.{IsSetting, Switch, EntryAt, Move, LoadOf, word_of, Thread, Kernel, State, thread_in, found}
-use Rattle.thread_invariant.proofs.Common.{fits, frame_names, named_by, Rule, Change, Judged, Refused, Found, RuleMay, outcome, rule_of}
-use Rattle.thread_invariant.proofs.Common.{change_of, named_fit, IsSound, opened, changes_in_frame, changes_threads, raises_clock}
-use Rattle.thread_invariant.proofs.Common.{events_of, is_one_of, frames_named, footprint_frames, frames_own, frame_argument, frame_at_slot}
-use Rattle.thread_invariant.proofs.Common.{Step, Trace, Open, phase, state_after, last_left, target_of, wide_ways, opened_is}
-use Rattle.thread_invariant.proofs.Common.{sound_of, calls_go, First, plan_for, GoesBy, own_pages, rule_after, Leads, LeadsIn}
-use Rattle.thread_invariant.proofs.Common.{outcome_left, left_may, dues, Switching, SwitchAt, Act, Goes, Undecided, ActiveCall, StageFits}
-use Rattle.thread_invariant.proofs.Common.{HasRoom, landed, Core, holds_counts, due_of, KnowsUndecided, phase_at, holds, holds_at}
-use Rattle.thread_invariant.proofs.Common.{holds_in, Invariant, HasThread, SwitchesBy, claimed_by, holds_switching, counts_bare, names_on}
-use Rattle.thread_invariant.proofs.Common.{limits_of, at_place, Call}
-use Rattle.thread_invariant.specs.spk_nums.specs.declared.kinds.Kind.TheVariants as kind
-use Rattle.thread_invariant.specs.spk_nums.specs.declared.replies.Reply.TheVariants as reply
-use Rattle.thread_invariant.specs.kernel_rules.specs.InvocationCalls.{switch_to}
-use Rattle.thread_invariant.specs.kernel_rules.specs.Edits.{Switch as switch_edit}
-use Rattle.thread_invariant.specs.kernel_history.specs.Footprint.{frames_about}
-use Rattle.thread_invariant.specs.plan_ways.proofs.InFootprint.{named_footprint, one_left, one_right}
-use Rattle.thread_invariant.specs.act_states.specs.Switches.{SwitchingFits, switching_dues}
-use Rattle.thread_invariant.specs.act_states.specs.declared.work.Act.TheVariants.{Switch as switch_act}
-use Rattle.thread_invariant.specs.core_invariant.specs.Threads.{KnowsSwitch, KnowsSwitchAt}
-use Rattle.thread_invariant.specs.step_ways.proofs.Loads.{OnlyLooks, step_to, call_is, is_active, loads_on}
-use Rattle.thread_invariant.specs.step_ways.proofs.Refusals.{GoodTook, ticks_at}
-use Rattle.thread_invariant.specs.core_invariant.proofs.ThreadHolds.{switching_bare}
-use Rattle.thread_invariant.specs.count_invariant.proofs.Acquiring.{plan_leads, goes_by}
-use Rattle.thread_invariant.specs.count_invariant.proofs.SwitchCounts.{IsSwitch, switch_of, thread_kind, thread_footprint, old_footprint}
-use Rattle.thread_invariant.specs.live_invariant.proofs.Numbers.{one_of_many}
-use Rattle.switch_invariant.proofs.ThreadWords.{thread_is}
-use Rattle.thread_invariant.specs.kernel_rules.specs.Rules.{does}
-use Rattle.thread_invariant.specs.spk_nums.specs.declared.replies.Value.TheVariants.{Nothing as no_value}
-use Rattle.thread_invariant.specs.act_states.specs.call_plans.specs.PlanOf.{plan_for}
+use Rattle.thread_invariant.specs as low
+use low.step_ways.proofs.{◌≡◌, ◌≢◌, inl, ℕ, ◌<◌, ◌++◌, ◌||◌, map, true, false, List, [], ◌∷◌, Option, Some, None, IsTrue, refl, sym, ◌∙◌}
+use low.step_ways.proofs.{ap, subst, eq-eqb, flat_map, Capability, Setting, IsSetting, EntryAt, Move, LoadOf, word_of, Thread, Kernel}
+use low.step_ways.proofs.{State, thread_in, found, fits, frame_names, named_by, Rule, Change, Judged, Refused, Found, RuleMay, outcome}
+use low.step_ways.proofs.{rule_of, change_of, named_fit, IsSound, opened, changes_in_frame, changes_threads, raises_clock, events_of}
+use low.step_ways.proofs.{is_one_of, frames_named, footprint_frames, frames_own, frame_argument, frame_at_slot, Step, Trace, Open, phase}
+use low.step_ways.proofs.{state_after, last_left, target_of, wide_ways, opened_is, sound_of, calls_go, First, plan_for, GoesBy, own_pages}
+use low.step_ways.proofs.{rule_after, Leads, LeadsIn, outcome_left, left_may, dues, Switching, SwitchAt, Act, Goes, Undecided, ActiveCall}
+use low.step_ways.proofs.{StageFits, HasRoom, landed, Core, holds_counts, due_of, KnowsUndecided, phase_at, holds, holds_at, holds_in}
+use low.step_ways.proofs.{Invariant, claimed_by, holds_switching, counts_bare, names_on, limits_of, at_place, Call, Switch as switch_act}
+use low.step_ways.proofs.{OnlyLooks, step_to, call_is, is_active, loads_on, GoodTook, ticks_at, does, Kind, Reply}
+use low.act_states.specs.{Switch, SwitchingFits, switching_dues, Nothing as no_value}
+use low.core_invariant.specs.{HasThread, SwitchesBy, KnowsSwitchAt}
+use low.count_invariant.proofs.SwitchCounts.{IsSwitch, switch_of, thread_kind, thread_footprint, old_footprint}
+use low.{count_invariant.proofs.plan_leads, count_invariant.proofs.goes_by, plan_ways.proofs.one_left, plan_ways.proofs.one_right}
+use low.{kernel_rules.specs.InvocationCalls.switch_to, kernel_rules.specs.Edits.Switch as switch_edit}
+use low.{kernel_history.specs.Footprint.frames_about, plan_ways.proofs.InFootprint.named_footprint}
+use low.{core_invariant.specs.Threads.KnowsSwitch, core_invariant.proofs.ThreadHolds.switching_bare}
+use low.{live_invariant.proofs.Numbers.one_of_many}
+use Rattle.{switch_invariant.proofs.ThreadWords.thread_is}
 
 -- The thread to which its first name has led is one of the frames that the call is about.
 thread_about : (s : State) (c : ℕ) (call : Call) (ks : List Capability) (f q : ℕ)
@@ -105,22 +94,22 @@ module _ (setup : Setting) (setting : IsSetting setup) (cores : ℕ → Core) (t
       ≡ Kernel (Thread (thread_in ((state_after setup t).frame (claimed_by m.at))))
   holds_thread = thread_is (s.frame f) knows.thread.thread
 
-  pub own_thread : IsTrue (fits kind.Thread ((state_after setup t).frame m.old))
-  own_thread = subst (λ (n : ℕ). IsTrue (fits kind.Thread (s.frame n))) (sym knows.leaves.thread) (sound.cores c core_below).0
+  pub own_thread : IsTrue (fits Kind.Thread ((state_after setup t).frame m.old))
+  own_thread = subst (λ (n : ℕ). IsTrue (fits Kind.Thread (s.frame n))) (sym knows.leaves.thread) (sound.cores c core_below).0
 
-  pub own_tcap : IsTrue (fits kind.Tcap ((state_after setup t).frame m.old_tcap))
-  own_tcap = subst (λ (n : ℕ). IsTrue (fits kind.Tcap (s.frame n))) (sym knows.leaves.tcap) (sound.cores c core_below).1
+  pub own_tcap : IsTrue (fits Kind.Tcap ((state_after setup t).frame m.old_tcap))
+  own_tcap = subst (λ (n : ℕ). IsTrue (fits Kind.Tcap (s.frame n))) (sym knows.leaves.tcap) (sound.cores c core_below).1
 
   -- the second name has led to a temporal capability
-  pub named_tcap : IsTrue (fits kind.Tcap ((state_after setup t).frame m.tcap))
-  named_tcap = subst (λ (n : ℕ). IsTrue (fits kind.Tcap (s.frame n))) (sym is_switch.tcap_is)
-      (named_fit s (opened (events_of t)) c is_switch.other kind.Tcap is_switch.tcap sound
+  pub named_tcap : IsTrue (fits Kind.Tcap ((state_after setup t).frame m.tcap))
+  named_tcap = subst (λ (n : ℕ). IsTrue (fits Kind.Tcap (s.frame n))) (sym is_switch.tcap_is)
+      (named_fit s (opened (events_of t)) c is_switch.other Kind.Tcap is_switch.tcap sound
       (opened_is t c a.call is_open)
       (subst (λ x. Leads (LeadsIn s c) (plan_for x).names [] (is_switch.thread ∷ is_switch.tcap ∷ [])) is_switch.call_is
       (subst (λ ks. Leads (LeadsIn s c) (plan_for a.call).names [] ks) is_switch.found_is call_leads)).1.0)
 
   -- a thread's words are changed by the call
-  pub changes_it : (g : ℕ) → IsTrue (fits kind.Thread ((state_after setup t).frame g))
+  pub changes_it : (g : ℕ) → IsTrue (fits Kind.Thread ((state_after setup t).frame g))
       → IsTrue (changes_in_frame a.call ((state_after setup t).frame g))
   changes_it g thread = subst (λ x. IsTrue (changes_in_frame a.call x)) (sym (thread_is (s.frame g) thread)) threads_change
 
@@ -138,7 +127,7 @@ module _ (setup : Setting) (setting : IsSetting setup) (cores : ℕ → Core) (t
 
   abbrev pub outcome_by : Option ℕ → Judged Change
   outcome_by None = Found (does c (state_after setup t) no_value (switch_edit is_switch.thread.frame is_switch.tcap.frame ∷ []))
-  outcome_by (Some e) = Refused (reply.Running e)
+  outcome_by (Some e) = Refused (Reply.Running e)
 
   pub by_runs : (o : Option ℕ) → (thread_in ((state_after setup t).frame (claimed_by m.at))).runs_on ≡ o
       → change_of (state_after setup t) c a.call ≡ outcome_by o
@@ -151,9 +140,9 @@ module _ (setup : Setting) (setting : IsSetting setup) (cores : ℕ → Core) (t
       last (Some e) = refl
 
   pub may_run : (e : ℕ) → (thread_in ((state_after setup t).frame (claimed_by m.at))).runs_on ≡ Some e
-      → RuleMay (state_after setup t) c (rule_of (state_after setup t) c a.call) (reply.Running e)
-  may_run e so = left_may s c (own_pages s c) (plan_for a.call) (rule_of s c a.call) a.found by_plan leads (reply.Running e)
-      (subst (λ x. RuleMay s c x (reply.Running e)) (sym (left ∙ ap left_rule so)) (inl (refl, refl)))
+      → RuleMay (state_after setup t) c (rule_of (state_after setup t) c a.call) (Reply.Running e)
+  may_run e so = left_may s c (own_pages s c) (plan_for a.call) (rule_of s c a.call) a.found by_plan leads (Reply.Running e)
+      (subst (λ x. RuleMay s c x (Reply.Running e)) (sym (left ∙ ap left_rule so)) (inl (refl, refl)))
 
   -- the thread is in the footprint, and the core's own, and the components of its stack
   pub footprint : is_one_of (claimed_by m.at) (footprint_frames (state_after setup t) c a.call) ≡ true

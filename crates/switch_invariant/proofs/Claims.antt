@@ -1,41 +1,35 @@
 -- The steps by which a call that switches claims a thread are good: the load of the thread's word, which refuses a thread that runs or that
 -- another core has claimed; the compare, which is lost or holds the word for the call; and the load of the top of the stack.
-use Rattle.thread_invariant.proofs.Common.{◌≡◌, ◌≢◌, ◌<◌, ◌^◌, ◌-◌, ◌==◌, inl, inr, ℕ, suc, length, Bool, true, false, if◌then◌else◌}
-use Rattle.thread_invariant.proofs.Common.{Option, Some, None, IsTrue, arith, refl, sym, ◌∙◌, ap, subst, eqb-true, eqb-false, eq-eqb}
-use Rattle.thread_invariant.proofs.Common.{lt-ltb, Setting, IsSetting, left_if, stack_of_word, DepthFits, ThreadFits, word_of_thread}
-use Rattle.thread_invariant.proofs.Common.{thread_of_word, ThreadWord, Idle, Running, Claimed, Word, EntryAt, Move, LoadOf, CompareOf}
-use Rattle.thread_invariant.proofs.Common.{left_of, word_of, same_same, State, first_of_stack, put, thread_in, fits, put_same, is_one_of}
-use Rattle.thread_invariant.proofs.Common.{footprint_frames, thread_mark, marked_by, thread_value, Step, Trace, state_after, last_left}
-use Rattle.thread_invariant.proofs.Common.{own_read, same_word-other, own_read-here, AtStack, Switching, LoadTable, Act, Goes, Undecided}
-use Rattle.thread_invariant.proofs.Common.{ActiveCall, GoesOn, landed, went, Core, holds_counts, settled_by, KnowsUndecided, holds}
-use Rattle.thread_invariant.proofs.Common.{held_by, holds_in, Invariant, HasComp, claimed_by, holds_idle, as_none, counts_bare, none_kept}
-use Rattle.thread_invariant.proofs.Common.{names_on, counts_on, exclusive_free}
-use Rattle.thread_invariant.specs.spk_nums.specs.declared.kinds.Kind.TheVariants as kind
-use Rattle.thread_invariant.specs.tcap_words.proofs.ThreadLemmas as words
-use Rattle.thread_invariant.specs.stage_thread.specs.Claiming.{claim_compared, claimed_within, compared_after, stack_end, thread_after}
-use Rattle.thread_invariant.specs.stage_thread.specs.Claiming.{thread_end}
+use Rattle.thread_invariant.specs.step_ways.proofs.{◌≡◌, ◌≢◌, ◌<◌, ◌^◌, ◌-◌, ◌==◌, inl, inr, ℕ, suc, length, Bool, true, false}
+use Rattle.thread_invariant.specs.step_ways.proofs.{if◌then◌else◌, Option, Some, None, IsTrue, arith, refl, sym, ◌∙◌, ap, subst, eqb-true}
+use Rattle.thread_invariant.specs.step_ways.proofs.{eqb-false, eq-eqb, lt-ltb, Setting, IsSetting, left_if, stack_of_word, ThreadFits}
+use Rattle.thread_invariant.specs.step_ways.proofs.{word_of_thread, thread_of_word, Idle, Running, Word, EntryAt, Move, LoadOf, CompareOf}
+use Rattle.thread_invariant.specs.step_ways.proofs.{left_of, word_of, same_same, State, first_of_stack, put, thread_in, fits, put_same}
+use Rattle.thread_invariant.specs.step_ways.proofs.{is_one_of, footprint_frames, thread_mark, marked_by, thread_value, Step, Trace}
+use Rattle.thread_invariant.specs.step_ways.proofs.{state_after, last_left, own_read, same_word-other, own_read-here, Switching, Act, Goes}
+use Rattle.thread_invariant.specs.step_ways.proofs.{Undecided, ActiveCall, GoesOn, landed, went, Core, holds_counts, settled_by}
+use Rattle.thread_invariant.specs.step_ways.proofs.{KnowsUndecided, holds, held_by, holds_in, Invariant, HasComp, claimed_by, as_none}
+use Rattle.thread_invariant.specs.step_ways.proofs.{counts_bare, none_kept, names_on, counts_on, exclusive_free, Claimed as ClaimedOf}
+use Rattle.thread_invariant.specs.step_ways.proofs.{Switch as switch_act, Spared, SparesBlanks, IsOfCall, core_in_call, inner, call_is}
+use Rattle.thread_invariant.specs.step_ways.proofs.{GoodTook, refuses_raced, refuses_busy, plan_for, Kind}
+use Rattle.thread_invariant.specs.stage_thread.specs.{claim_compared, claimed_within, compared_after, stack_end, thread_after, thread_end}
+use Rattle.thread_invariant.specs.act_states.specs.{ThreadWord, AtStack, SwitchAtFits, took_claim}
+use Rattle.thread_invariant.specs.core_invariant.specs.{holds_idle, IsTop}
+use Rattle.thread_invariant.specs.act_states.specs.stage_tcap.specs.{DepthFits, Claimed}
+use Rattle.thread_invariant.specs.act_states.specs.declared.switches.SwitchAt.TheVariants.{LoadTable, Claim}
 use Rattle.thread_invariant.specs.stage_thread.specs.declared.claim.Claim.TheVariants.{AtLoad, AtCompare}
-use Rattle.thread_invariant.specs.stage_thread.specs.declared.claim.Claimed.{Claimed as ClaimedOf}
-use Rattle.thread_invariant.specs.act_states.specs.Switches.{SwitchAtFits, took_claim}
-use Rattle.thread_invariant.specs.act_states.specs.declared.switches.SwitchAt.TheVariants.{Claim}
-use Rattle.thread_invariant.specs.act_states.specs.declared.work.Act.TheVariants.{Switch as switch_act}
-use Rattle.thread_invariant.specs.core_invariant.specs.Threads.{IsTop}
-use Rattle.thread_invariant.specs.core_invariant.proofs.Bare.{IsNotKept}
-use Rattle.thread_invariant.specs.step_ways.proofs.Counting as counters
-use Rattle.thread_invariant.specs.step_ways.proofs.Good.{Spared, SparesBlanks}
-use Rattle.thread_invariant.specs.step_ways.proofs.Loads.{IsOfCall, core_in_call, inner, call_is}
-use Rattle.thread_invariant.specs.step_ways.proofs.Refusals.{GoodTook, refuses_raced, refuses_busy, refuses_running}
-use Rattle.thread_invariant.proofs.CompWords.{comp_below}
-use Rattle.thread_invariant.proofs.EntryMarks.{counts_apart}
-use Rattle.switch_invariant.proofs.Calls as calls
-use Rattle.switch_invariant.proofs.ThreadWords.{none_some, same_value, thread_is, first_mark}
-use Rattle.switch_invariant.proofs.ThreadWords.{stack_mark, no_node, raced_head, idle_value, top_height}
+use Rattle.thread_invariant.proofs.{CompWords.comp_below, EntryMarks.counts_apart}
+use Rattle.switch_invariant.proofs.ThreadWords.{none_some, same_value, thread_is, first_mark, stack_mark, no_node, raced_head, idle_value}
 use Rattle.switch_invariant.proofs.Words.{ShowsRun, shows, idle_unkept, plain_says, marked_says, top_comp}
-use Rattle.thread_invariant.specs.act_states.specs.call_plans.specs.PlanOf.{plan_for}
+use Rattle.{thread_invariant.specs.core_invariant.proofs.Bare.IsNotKept, thread_invariant.specs.step_ways.proofs.Refusals.refuses_running}
+use Rattle.{switch_invariant.proofs.ThreadWords.top_height}
+use Rattle.thread_invariant.specs.tcap_words.proofs.ThreadLemmas as words
+use Rattle.thread_invariant.specs.step_ways.proofs.Counting as counters
+use Rattle.switch_invariant.proofs.Calls as calls
 
 -- A step on a word of a thread spares blank frames and temporal capabilities.
 pub spares_thread : (setup : Setting) (t : Trace) (e : Step) (f i : ℕ) → word_of e.move ≡ EntryAt f i
-    → IsTrue (fits kind.Thread ((state_after setup t).frame f))
+    → IsTrue (fits Kind.Thread ((state_after setup t).frame f))
     → SparesBlanks setup t e
 spares_thread setup t e f i at thread g j here =
     subst (λ (n : ℕ). Spared setup t e n j ((state_after setup t).frame n)) (same f i g j (sym at ∙ here))
@@ -68,8 +62,8 @@ module _ (setup : Setting) (setting : IsSetting setup) (cores : ℕ → Core) (t
     abbrev was : ℕ
     was = last_left setup t (EntryAt f 0)
 
-    thread_at : IsTrue (fits kind.Thread ((state_after setup t).frame f))
-    thread_at = subst (λ at. IsTrue (fits kind.Thread (s.frame (claimed_by at)))) is has.knows.knows.thread.thread
+    thread_at : IsTrue (fits Kind.Thread ((state_after setup t).frame f))
+    thread_at = subst (λ at. IsTrue (fits Kind.Thread (s.frame (claimed_by at)))) is has.knows.knows.thread.thread
 
     footprint_it : is_one_of f (footprint_frames s c a.call) ≡ true
     footprint_it = subst (λ at. is_one_of (claimed_by at)
@@ -175,8 +169,8 @@ module _ (setup : Setting) (setting : IsSetting setup) (cores : ℕ → Core) (t
     abbrev compare : Move
     compare = CompareOf (EntryAt f 0) (word_of_thread (Idle depth)) (word_of_thread (Claimed by depth))
 
-    is_thread : IsTrue (fits kind.Thread (s.frame f))
-    is_thread = subst (λ x. IsTrue (fits kind.Thread (s.frame (claimed_by x)))) is has.knows.knows.thread.thread
+    is_thread : IsTrue (fits Kind.Thread (s.frame f))
+    is_thread = subst (λ x. IsTrue (fits Kind.Thread (s.frame (claimed_by x)))) is has.knows.knows.thread.thread
 
     is_in_it : is_one_of f (footprint_frames s c a.call) ≡ true
     is_in_it = subst (λ x. is_one_of (claimed_by x) (footprint_frames s c a.call) ≡ true) is
@@ -315,8 +309,8 @@ module _ (setup : Setting) (setting : IsSetting setup) (cores : ℕ → Core) (t
 
   -- the load of the top of its stack
   module _ (f depth : ℕ) (is : m.at ≡ Claim (AtStack f depth)) where
-    fit : IsTrue (fits kind.Thread (s.frame f))
-    fit = subst (λ x. IsTrue (fits kind.Thread (s.frame (claimed_by x)))) is has.knows.knows.thread.thread
+    fit : IsTrue (fits Kind.Thread (s.frame f))
+    fit = subst (λ x. IsTrue (fits Kind.Thread (s.frame (claimed_by x)))) is has.knows.knows.thread.thread
 
     abbrev top : ℕ
     top = first_of_stack (thread_in (s.frame f)).stack

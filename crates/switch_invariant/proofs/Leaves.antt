@@ -1,28 +1,21 @@
 -- The store of the core's own thread as claimed is good: no other core has marked or keeps its word, and the core holds it then.
-use Rattle.thread_invariant.proofs.Common.{◌≡◌, ◌≢◌, ◌<◌, ◌≤◌, ◌+◌, ◌^◌, inl, inr, ℕ, length, true, false, if◌then◌else◌}
-use Rattle.thread_invariant.proofs.Common.{Some, None, IsTrue, arith, refl, sym, ◌∙◌, ap, subst, cases_eq, Setting, IsSetting, ThreadFits}
-use Rattle.thread_invariant.proofs.Common.{word_of_thread, thread_of_word, Idle, Running, Claimed, Word, EntryAt, same_word, Move}
-use Rattle.thread_invariant.proofs.Common.{StoreOf, same_same, State, put, thread_in, fits, put_same, thread_mark, marked_by}
-use Rattle.thread_invariant.proofs.Common.{thread_value, Step, Trace, state_after, last_left, same_word-other, Switching, Act, Undecided}
-use Rattle.thread_invariant.proofs.Common.{ActiveCall, landed, went, Core, Holding, holds_counts, settled_by, KnowsUndecided, holds}
-use Rattle.thread_invariant.proofs.Common.{holds_in, held_by, Invariant, claimed_by, holds_idle, is_claimed, as_none, counts_bare}
-use Rattle.thread_invariant.proofs.Common.{none_kept, names_on, counts_on, exclusive_free, runs_on_own}
-use Rattle.thread_invariant.specs.spk_nums.specs.declared.kinds.Kind.TheVariants as kind
-use Rattle.thread_invariant.specs.tcap_words.proofs.ThreadLemmas as words
-use Rattle.thread_invariant.specs.stage_thread.specs.declared.claim.Claimed.{Claimed as ClaimedOf}
-use Rattle.thread_invariant.specs.act_states.specs.Switches.{switch_goes}
+use Rattle.thread_invariant.specs.step_ways.proofs as low
+use low.{◌≡◌, ◌≢◌, ◌<◌, ◌≤◌, ◌+◌, ◌^◌, inl, inr, ℕ, length, true, false, if◌then◌else◌, Some, None, IsTrue, arith, refl, sym, ◌∙◌, ap}
+use low.{subst, Setting, IsSetting, ThreadFits, word_of_thread, thread_of_word, Idle, Running, Word, EntryAt, same_word, Move, StoreOf}
+use low.{same_same, State, put, thread_in, fits, put_same, thread_mark, marked_by, thread_value, Step, Trace, state_after, last_left}
+use low.{same_word-other, Switching, Act, Undecided, ActiveCall, landed, went, Core, Holding, holds_counts, settled_by, KnowsUndecided}
+use low.{holds, holds_in, held_by, Invariant, claimed_by, as_none, counts_bare, none_kept, names_on, counts_on, exclusive_free, runs_on_own}
+use low.{Claimed as ClaimedOf, Switch as switch_act, core_in_call, inner, call_is, GoodTook, plan_for, Kind}
+use Rattle.thread_invariant.specs.core_invariant.specs.{holds_idle, is_claimed}
 use Rattle.thread_invariant.specs.act_states.specs.declared.switches.SwitchAt.TheVariants.{Leave, Draw}
-use Rattle.thread_invariant.specs.act_states.specs.declared.work.Act.TheVariants.{Switch as switch_act}
-use Rattle.thread_invariant.specs.step_ways.proofs.Counting as counters
-use Rattle.thread_invariant.specs.step_ways.proofs.Loads.{core_in_call, inner, call_is}
-use Rattle.thread_invariant.specs.step_ways.proofs.Refusals.{GoodTook}
 use Rattle.thread_invariant.proofs.EntryMarks.{counts_apart, thread_unmarked}
+use Rattle.switch_invariant.proofs.{Claims.not_kept, Claims.spares_thread, ThreadWords.first_mark, ThreadWords.none_some}
+use Rattle.switch_invariant.proofs.{ThreadWords.same_some, Tops.apart_own, Words.no_keeper, Words.plain_says}
+use Rattle.{std.proofs.lemmas.Bool.cases_eq, thread_invariant.specs.tcap_words.specs.declared.thread_word.ThreadWord.TheVariants.Claimed}
+use Rattle.{thread_invariant.specs.act_states.specs.Switches.switch_goes}
+use Rattle.thread_invariant.specs.tcap_words.proofs.ThreadLemmas as words
+use Rattle.thread_invariant.specs.step_ways.proofs.Counting as counters
 use Rattle.switch_invariant.proofs.Calls as calls
-use Rattle.switch_invariant.proofs.Claims.{not_kept, spares_thread}
-use Rattle.switch_invariant.proofs.ThreadWords.{first_mark, none_some, same_some}
-use Rattle.switch_invariant.proofs.Tops.{apart_own}
-use Rattle.switch_invariant.proofs.Words.{no_keeper, plain_says}
-use Rattle.thread_invariant.specs.act_states.specs.call_plans.specs.PlanOf.{plan_for}
 
 module _ (setup : Setting) (setting : IsSetting setup) (cores : ℕ → Core) (t : Trace) (stands : Invariant setup cores t) (c : ℕ)
     (here : c < setup.cores)
@@ -53,7 +46,7 @@ module _ (setup : Setting) (setting : IsSetting setup) (cores : ℕ → Core) (t
   abbrev rest : Holding
   rest = holds_counts None a.counts
 
-  own : IsTrue (fits kind.Thread (s.frame m.old))
+  own : IsTrue (fits Kind.Thread (s.frame m.old))
   own = calls.own_thread setup setting cores t stands c here a active m stage_is has
 
   held_is : holds (cores c) ≡ holds_idle to.thread to.depth (holds_counts None a.counts)

@@ -1,5 +1,3 @@
--- The names that most proofs use.
-pub use Rattle.thread_invariant.proofs.Common
 pub mod ThreadWords
 pub mod Calls
 pub mod Words

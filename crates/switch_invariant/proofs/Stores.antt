@@ -1,26 +1,21 @@
 -- The stores after the decision of a switch are good: the word of the thread to which the core went on, as running, and that of a thread
 -- that it gives back, as idle.
-use Rattle.thread_invariant.proofs.Common.{◌≡◌, ◌≢◌, ◌<◌, ◌^◌, ◌∷◌, inr, ℕ, true, false, if◌then◌else◌, Option, Some, None, IsTrue}
-use Rattle.thread_invariant.proofs.Common.{arith, refl, sym, ◌∙◌, ap, subst, Setting, IsSetting, Reply, DepthFits, ThreadFits}
-use Rattle.thread_invariant.proofs.Common.{word_of_thread, ThreadWord, Idle, Running, Word, EntryAt, same_word, Move, StoreOf, same_same}
-use Rattle.thread_invariant.proofs.Common.{State, put, fits, changes_in_frame, changes_threads, IsInFootprint, thread_mark, marked_by, Step}
-use Rattle.thread_invariant.proofs.Common.{Trace, WasAt, state_after, last_left, was_stays, same_word-other, Tail, Nothing, StoreRunning}
-use Rattle.thread_invariant.proofs.Common.{StoreIdle, StageFits, Decided, ActiveCall, GoesOn, went_with, Core, Holding, holds_counts}
-use Rattle.thread_invariant.proofs.Common.{settled_by, KnowsTail, phase_at, done_by, holds, holds_at, holds_in, holds_tail}
-use Rattle.thread_invariant.proofs.Common.{held_by, Invariant, as_none, counts_bare, none_kept, counts_on, exclusive_free}
-use Rattle.thread_invariant.specs.spk_nums.specs.declared.kinds.Kind.TheVariants as kind
-use Rattle.thread_invariant.specs.tcap_words.proofs.ThreadLemmas as words
-use Rattle.thread_invariant.specs.act_states.specs.Switches.{idle_move, running_move}
-use Rattle.thread_invariant.specs.call_stages.specs.Fits.{TailFits}
-use Rattle.thread_invariant.specs.core_invariant.specs.Threads.{KnowsIdle, KnowsRunning}
-use Rattle.thread_invariant.specs.core_invariant.proofs.Bare.{core_bare}
-use Rattle.thread_invariant.specs.step_ways.proofs.Counting as counters
-use Rattle.thread_invariant.specs.step_ways.proofs.Loads.{core_in_call, inner, call_is, is_active}
-use Rattle.thread_invariant.specs.step_ways.proofs.Refusals.{GoodTook}
-use Rattle.thread_invariant.proofs.EntryMarks.{counts_apart}
-use Rattle.thread_invariant.proofs.OwnStack.{own_thread}
+use Rattle.thread_invariant.specs.step_ways.proofs as low
+use low.{◌≡◌, ◌≢◌, ◌<◌, ◌^◌, ◌∷◌, inr, ℕ, true, false, if◌then◌else◌, Option, Some, None, IsTrue, arith, refl, sym, ◌∙◌, ap, subst, Setting}
+use low.{IsSetting, Reply, ThreadFits, word_of_thread, Idle, Running, Word, EntryAt, same_word, Move, StoreOf, same_same, State, put, fits}
+use low.{changes_in_frame, changes_threads, IsInFootprint, thread_mark, marked_by, Step, Trace, WasAt, state_after, last_left, was_stays}
+use low.{same_word-other, Tail, Nothing, StoreRunning, StoreIdle, StageFits, Decided, ActiveCall, GoesOn, went_with, Core, Holding}
+use low.{holds_counts, settled_by, KnowsTail, phase_at, done_by, holds, holds_at, holds_in, holds_tail, held_by, Invariant, as_none}
+use low.{counts_bare, none_kept, counts_on, exclusive_free, core_in_call, inner, call_is, is_active, GoodTook, Kind}
+use Rattle.thread_invariant.specs.act_states.specs.{ThreadWord, idle_move, running_move}
+use Rattle.thread_invariant.specs.core_invariant.specs.{KnowsIdle, KnowsRunning}
+use Rattle.thread_invariant.proofs.{counts_apart, own_thread}
 use Rattle.switch_invariant.proofs.Claims.{not_kept, spares_thread}
 use Rattle.switch_invariant.proofs.ThreadWords.{first_mark, none_some, thread_is}
+use Rattle.{thread_invariant.specs.tcap_words.specs.Thread.DepthFits, thread_invariant.specs.call_stages.specs.Fits.TailFits}
+use Rattle.{thread_invariant.specs.core_invariant.proofs.Bare.core_bare}
+use Rattle.thread_invariant.specs.tcap_words.proofs.ThreadLemmas as words
+use Rattle.thread_invariant.specs.step_ways.proofs.Counting as counters
 
 -- A word of a thread that its core has marked, and that is now stored as what it stands for.
 module _ (setup : Setting) (setting : IsSetting setup) (cores : ℕ → Core) (t : Trace) (stands : Invariant setup cores t) (c : ℕ)
@@ -28,7 +23,7 @@ module _ (setup : Setting) (setting : IsSetting setup) (cores : ℕ → Core) (t
     (a : ActiveCall) (active : (cores c).active ≡ Some a) (r : Reply) (drawn : Option ℕ) (tail left : Tail)
     (stage_is : a.stage ≡ Decided r drawn tail) (f : ℕ) (v : ThreadWord)
     (threads : changes_threads a.call ≡ true) (footprint : WasAt (IsInFootprint c a.call (EntryAt f 0)) setup t c)
-    (thread : IsTrue (fits kind.Thread ((state_after setup t).frame f))) (v_fits : ThreadFits v) (unmarked : thread_mark (Some v) ≡ None)
+    (thread : IsTrue (fits Kind.Thread ((state_after setup t).frame f))) (v_fits : ThreadFits v) (unmarked : thread_mark (Some v) ≡ None)
     (before : (w : Word) → (holds_tail tail (holds_counts (done_by r drawn) a.counts)).marks w
     ≡ (if same_word w (EntryAt f 0) then true else (holds_tail left (holds_counts (done_by r drawn) a.counts)).marks w))
     (before_stands : (w : Word) → (holds_tail tail (holds_counts (done_by r drawn) a.counts)).stands w
@@ -158,9 +153,9 @@ module _ (setup : Setting) (setting : IsSetting setup) (cores : ℕ → Core) (t
           same_frame : (g h : ℕ) → EntryAt g 0 ≡ EntryAt h 0 → g ≡ h
           same_frame g h same = cc
 
-      thread : IsTrue (fits kind.Thread ((state_after setup t).frame f))
-      thread = subst (λ (g : ℕ). IsTrue (fits kind.Thread ((state_after setup t).frame g))) (sym knows.own)
-          (subst (λ x. IsTrue (fits kind.Thread x)) (sym (own_thread setup setting t stands.legal c here)) refl)
+      thread : IsTrue (fits Kind.Thread ((state_after setup t).frame f))
+      thread = subst (λ (g : ℕ). IsTrue (fits Kind.Thread ((state_after setup t).frame g))) (sym knows.own)
+          (subst (λ x. IsTrue (fits Kind.Thread x)) (sym (own_thread setup setting t stands.legal c here)) refl)
 
       depth_fits : DepthFits depth
       depth_fits = (is_small (StoreRunning f core depth old old_depth) stage_is).1

@@ -1,20 +1,14 @@
 -- A switch begins where its names have led to a thread and to a temporal capability.
-use Rattle.thread_invariant.proofs.Common.{acts, IsTrue}
-use Rattle.thread_invariant.proofs.Common.{Want, to_use, ◌≡◌, ℕ, ◌<◌, if◌then◌else◌, map, true, List, [], ◌∷◌, Some, None}
-use Rattle.thread_invariant.proofs.Common.{refl, sym, ◌∙◌, ap, subst, Capability, Setting, IsSetting, Kind, Call, Switch, Move, word_of}
-use Rattle.thread_invariant.proofs.Common.{State, only, suits, named_by, Found, named, named_fit, only_is, opened, name_parts}
-use Rattle.thread_invariant.proofs.Common.{events_of, IsLegal, Step, Trace, Open, phase, state_after, last_left, Carries, sound_of}
-use Rattle.thread_invariant.proofs.Common.{opened_is, guarded_usable, Name, Plan, Leads, LeadsIn, names_after, plan_for, of_kind}
-use Rattle.thread_invariant.proofs.Common.{Acquired, act_begun, Act, Undecided, ActiveCall, landed, found_more, Core, holds_counts}
-use Rattle.thread_invariant.proofs.Common.{due_of, NamesAre, phase_at, holds_in, Invariant, HasThread, SwitchesBy}
-use Rattle.thread_invariant.specs.spk_nums.specs.declared.kinds.Kind.TheVariants as kind
+use Rattle.thread_invariant.specs.step_ways.proofs as low
+use low.{acts, IsTrue, Want, to_use, ◌≡◌, ℕ, ◌<◌, if◌then◌else◌, map, true, List, [], ◌∷◌, Some, None, refl, sym, ◌∙◌, ap, subst}
+use low.{Capability, Setting, IsSetting, Kind, Call, Move, word_of, State, only, suits, named_by, Found, named, named_fit, only_is, opened}
+use low.{name_parts, events_of, IsLegal, Step, Trace, Open, phase, state_after, last_left, Carries, sound_of, opened_is, Name, Plan, Leads}
+use low.{LeadsIn, names_after, plan_for, of_kind, Acquired, act_begun, Act, Undecided, ActiveCall, landed, found_more, Core, holds_counts}
+use low.{due_of, NamesAre, phase_at, holds_in, Invariant, Switch as switch_act, OnlyLooks, step_to, call_is, loads_on, GoodTook}
+use Rattle.thread_invariant.specs.core_invariant.specs.{HasThread, SwitchesBy}
+use Rattle.thread_invariant.specs.kernel_history.specs.{Switch, of_kind as has_kind}
+use Rattle.{thread_invariant.specs.trace_laws.proofs.Stays.guarded_usable, thread_invariant.specs.act_states.specs.Acts.switching}
 use Rattle.thread_invariant.specs.spk_nums.specs.declared.replies.Reply.TheVariants as reply
-use Rattle.thread_invariant.specs.kernel_rules.specs.Rules.{of_kind as has_kind}
-use Rattle.thread_invariant.specs.act_states.specs.Acts.{switching}
-use Rattle.thread_invariant.specs.act_states.specs.declared.work.Act.TheVariants.{Switch as switch_act}
-use Rattle.thread_invariant.specs.step_ways.proofs.Loads.{OnlyLooks, step_to, call_is, loads_on}
-use Rattle.thread_invariant.specs.step_ways.proofs.Refusals.{GoodTook}
-use Rattle.thread_invariant.specs.act_states.specs.call_plans.specs.PlanOf.{plan_for}
 
 -- What a name leads to is of a wanted kind, and is what was found.
 same_found : (wanted : Want) (j k : Capability) → has_kind wanted j ≡ Found k → (j ≡ k) × (wanted.kinds k.kind ≡ true)
@@ -24,16 +18,16 @@ same_found wanted j k h =
 
 -- A thread that an open call has named is there, and no other core may retype it.
 thread_named : (setup : Setting) → IsSetting setup → (t : Trace) → IsLegal setup t → (c : ℕ) (call : Call) → phase t c ≡ Open call
-    → (n : ℕ) (k : Capability) → named (state_after setup t) c n (to_use (only kind.Thread)) ≡ Found k
+    → (n : ℕ) (k : Capability) → named (state_after setup t) c n (to_use (only Kind.Thread)) ≡ Found k
     → HasThread (state_after setup t) c k.frame
 thread_named setup setting t legal c call is n k found =
     let s : State = state_after setup t in
-    let parts = name_parts s c n (to_use (only kind.Thread)) k found in
-    let same = same_found (to_use (only kind.Thread)) parts.2 k parts.4 in
+    let parts = name_parts s c n (to_use (only Kind.Thread)) k found in
+    let same = same_found (to_use (only Kind.Thread)) parts.2 k parts.4 in
     record {
-      thread = named_fit s (opened (events_of t)) c n kind.Thread k (sound_of setup setting t legal) (opened_is t c call is) found;
+      thread = named_fit s (opened (events_of t)) c n Kind.Thread k (sound_of setup setting t legal) (opened_is t c call is) found;
       guarded = guarded_usable setup setting t legal c call is parts.0 k
-          (ap (λ (j : Kind). named_by j k.frame) (only_is kind.Thread k.kind same.1))
+          (ap (λ (j : Kind). named_by j k.frame) (only_is Kind.Thread k.kind same.1))
           (parts.3 ∙ ap (λ (j : Capability). Some j) same.0);
     }
 
@@ -42,10 +36,10 @@ record TwoLed (s : State) (c x y : ℕ) (ks : List Capability) : Type 0 where
   first : Capability
   second : Capability
   both : ks ≡ first ∷ second ∷ []
-  first_led : named s c x (to_use (only kind.Thread)) ≡ Found first
+  first_led : named s c x (to_use (only Kind.Thread)) ≡ Found first
 
 abbrev two_names : ℕ → ℕ → List Name
-two_names x y = of_kind kind.Thread x ∷ of_kind kind.Tcap y ∷ []
+two_names x y = of_kind Kind.Thread x ∷ of_kind Kind.Tcap y ∷ []
 
 two_led : (s : State) (c x y : ℕ) (ks : List Capability) → Leads (LeadsIn s c) (two_names x y) [] ks → names_after (two_names x y) ks ≡ []
     → TwoLed s c x y ks

@@ -1,73 +1,51 @@
 -- The draw of a stamp by which a core switches: the call is decided, and the core goes on as the thread that it has claimed, with the
 -- temporal capability. The references to what it leaves are released at the stamp.
-use Rattle.thread_invariant.proofs.Common.{list_any, IsSome, ◌≡◌, ◌≢◌, ◌⊎◌, inl, inr, ℕ, zero, suc, ◌+ℤ◌, map}
-use Rattle.thread_invariant.proofs.Common.{length, ◌+◌, ◌*◌, ◌^◌, ◌<◌, ◌≤◌, ◌==◌, ◌||◌, Bool, true, false, if◌then◌else◌, List, [], ◌∷◌}
-use Rattle.thread_invariant.proofs.Common.{Option, Some, None, IsTrue, arith, refl, sym, ◌∙◌, ap, subst, cases_eq, eq-eqb}
-use Rattle.thread_invariant.proofs.Common.{false≢true, All-nil, InLimits, Capability, Setting, IsSetting, Reply}
-use Rattle.thread_invariant.proofs.Common.{DepthFits, ThreadFits, word_of_thread, thread_of_word, Idle, Running, Word, EntryAt, FrameAt}
-use Rattle.thread_invariant.proofs.Common.{CountAt, CoreAt, FlushAt, LiveAt, ClockAt, same_word, Move, AddOf, same_same, Slot}
-use Rattle.thread_invariant.proofs.Common.{CompFields, Frame, ThreadFields, Comp, Thread, Kernel, Thing, PlaceOf, FrameOf, NumberOf}
-use Rattle.thread_invariant.proofs.Common.{Grace, State, first_of_stack, comp_in, comp_of, thread_in, thread_of, put, fits}
-use Rattle.thread_invariant.proofs.Common.{Found, IsFoundAnd, frames_of, times, refs, MayReply, rule_of, change_of}
-use Rattle.thread_invariant.proofs.Common.{changed, counted, begins_in, ends_by, flushes_by, same_thing, new_grace, grace_refs}
-use Rattle.thread_invariant.proofs.Common.{opened, sum_one, events_of, IsInFootprint, KeepsTime, HasReached}
-use Rattle.thread_invariant.proofs.Common.{marked_by, mark_in_frame, frame_value, thread_value, ends_in, flushes_in, begins_at, ends_at}
-use Rattle.thread_invariant.proofs.Common.{flushes_at, stamp, clock, flush_of, flush_stored, Step, Trace, Open, WasAt, phase, state_after}
-use Rattle.thread_invariant.proofs.Common.{state_decided_in, last_left, own_left, way_to, ways, ok_first, was_stays, cases_word}
-use Rattle.thread_invariant.proofs.Common.{same_word-other, opened_is, stamp-begins, stamp-kept, flush_of-own, flush_stored-own}
-use Rattle.thread_invariant.proofs.Common.{flush_stored-other, LeadsIn, own_pages, leads_by, later}
-use Rattle.thread_invariant.proofs.Common.{own_changed, Own, Switching, Tail, StoreRunning, Act, own_decided}
-use Rattle.thread_invariant.proofs.Common.{Stage, Undecided, Decided, ActiveCall, landed, Core, Holding, holds_counts, settled}
-use Rattle.thread_invariant.proofs.Common.{IsFrameWord, IsThreadWord, WordIs, HasFound, due_of, flushing_in, KnowsUndecided}
-use Rattle.thread_invariant.proofs.Common.{own_in, WorksIn, holds, holds_in, held_by, times_of, counted_in, SumIs, Invariant}
-use Rattle.thread_invariant.proofs.Common.{claimed_by, is_claimed, counts_bare, plain_exit, decided-inside, own_kept}
-use Rattle.thread_invariant.proofs.Common.{exclusive_elsewhere, exclusive_none, ReadsAlike, SameFor, StaysSaid, word_stays}
-use Rattle.thread_invariant.proofs.Common.{marks_own, carry_marks, carry_words, holds_switching}
-use Rattle.thread_invariant.specs.spk_nums.specs.declared.kinds.Kind.TheVariants as kind
-use Rattle.thread_invariant.specs.spk_nums.specs.declared.replies.Reply.TheVariants as reply
-use Rattle.thread_invariant.specs.spk_nums.specs.declared.replies.Value.TheVariants as value
-use Rattle.thread_invariant.specs.tcap_words.proofs.ThreadLemmas as words
-use Rattle.thread_invariant.specs.kernel_rules.specs.Edits.{edited, Switch as switch_edit}
-use Rattle.thread_invariant.specs.kernel_rules.specs.Laws.{released}
-use Rattle.thread_invariant.specs.kernel_rules.specs.GracePeriods.{begun}
-use Rattle.thread_invariant.specs.kernel_rules.proofs.Changes.{IfFound}
-use Rattle.thread_invariant.specs.kernel_invariant.proofs.Facts.{outcome_from}
-use Rattle.thread_invariant.specs.kernel_invariant.proofs.Refs.{RefsBy, rule_refs}
-use Rattle.thread_invariant.specs.kernel_invariant.proofs.RefsLaw.{counted_refs}
-use Rattle.thread_invariant.specs.kernel_history.specs.Stamps.{begins_in as begins_then}
-use Rattle.thread_invariant.specs.trace_laws.proofs.Carries.{open_inside}
-use Rattle.thread_invariant.specs.plan_ways.proofs.Ways.{all_ways}
-use Rattle.thread_invariant.specs.stage_thread.specs.declared.claim.Claimed.{Claimed as ClaimedOf}
-use Rattle.thread_invariant.specs.act_states.specs.Switches.{switched}
-use Rattle.thread_invariant.specs.act_states.specs.declared.own.OwnChange.TheVariants.{Switches}
-use Rattle.thread_invariant.specs.act_states.specs.declared.switches.SwitchAt.TheVariants.{Draw}
-use Rattle.thread_invariant.specs.act_states.specs.declared.work.Act.TheVariants.{Switch as switch_act}
-use Rattle.thread_invariant.specs.core_invariant.specs.Threads.{HasRoots, KnowsRunning}
-use Rattle.thread_invariant.specs.step_ways.proofs.Draws.{raised}
-use Rattle.thread_invariant.specs.step_ways.proofs.Flushing.{open_flushed}
-use Rattle.thread_invariant.specs.step_ways.proofs.Good.{spares_other}
-use Rattle.thread_invariant.specs.step_ways.proofs.Loads.{inner, next_at}
-use Rattle.thread_invariant.specs.step_ways.proofs.OwnChanges.{decides_timed}
-use Rattle.thread_invariant.specs.step_ways.proofs.Refusals.{GoodTook, not_spent}
-use Rattle.thread_invariant.specs.step_ways.proofs.Users.{spares_none}
-use Rattle.thread_invariant.specs.step_ways.proofs.Writes.{same_marks, clock_small}
-use Rattle.thread_invariant.specs.count_invariant.proofs.CountChanges.{dues_commit, dues_sum}
-use Rattle.thread_invariant.specs.count_invariant.proofs.SwitchCounts.{was_here}
-use Rattle.thread_invariant.specs.count_invariant.proofs.Findings.{own_is, found_named, way_gone}
-use Rattle.thread_invariant.proofs.CompWords.{holds_comp}
-use Rattle.thread_invariant.proofs.OwnStack.{own_thread}
-use Rattle.switch_invariant.proofs.Calls as calls
-use Rattle.switch_invariant.proofs.Switchings.{switched_to, frame_new, frame_old, frame_away, core_new, core_away}
-use Rattle.switch_invariant.proofs.Switchings.{AreApart, takes, releases, all_dues, frames_kept, frames_changed}
+use Rattle.thread_invariant.specs.step_ways.proofs.{IsSome, ◌≡◌, ◌≢◌, ◌⊎◌, inl, inr, ℕ, zero, suc, ◌+ℤ◌, map, length, ◌+◌, ◌*◌, ◌^◌, ◌<◌}
+use Rattle.thread_invariant.specs.step_ways.proofs.{◌≤◌, ◌==◌, ◌||◌, Bool, true, false, if◌then◌else◌, List, [], ◌∷◌, Option, Some, None}
+use Rattle.thread_invariant.specs.step_ways.proofs.{IsTrue, arith, refl, sym, ◌∙◌, ap, subst, eq-eqb, false≢true, InLimits, Capability}
+use Rattle.thread_invariant.specs.step_ways.proofs.{Setting, IsSetting, Reply, ThreadFits, word_of_thread, thread_of_word, Idle, Running}
+use Rattle.thread_invariant.specs.step_ways.proofs.{Word, EntryAt, FrameAt, CountAt, CoreAt, FlushAt, LiveAt, ClockAt, same_word, Move}
+use Rattle.thread_invariant.specs.step_ways.proofs.{AddOf, same_same, Slot, CompFields, Frame, ThreadFields, Comp, Thread, Kernel, Thing}
+use Rattle.thread_invariant.specs.step_ways.proofs.{PlaceOf, FrameOf, NumberOf, Grace, State, first_of_stack, comp_in, comp_of, thread_in}
+use Rattle.thread_invariant.specs.step_ways.proofs.{thread_of, put, fits, Found, IsFoundAnd, frames_of, times, refs, MayReply, rule_of}
+use Rattle.thread_invariant.specs.step_ways.proofs.{change_of, changed, counted, ends_by, flushes_by, same_thing, new_grace, grace_refs}
+use Rattle.thread_invariant.specs.step_ways.proofs.{opened, sum_one, events_of, IsInFootprint, HasReached, marked_by, mark_in_frame}
+use Rattle.thread_invariant.specs.step_ways.proofs.{frame_value, thread_value, ends_in, flushes_in, begins_at, ends_at, flushes_at, stamp}
+use Rattle.thread_invariant.specs.step_ways.proofs.{clock, flush_of, flush_stored, Step, Trace, Open, WasAt, phase, state_after}
+use Rattle.thread_invariant.specs.step_ways.proofs.{state_decided_in, last_left, own_left, way_to, ways, ok_first, was_stays, cases_word}
+use Rattle.thread_invariant.specs.step_ways.proofs.{same_word-other, opened_is, stamp-begins, stamp-kept, flush_stored-own}
+use Rattle.thread_invariant.specs.step_ways.proofs.{flush_stored-other, LeadsIn, own_pages, leads_by, later, own_changed, Own, Switching}
+use Rattle.thread_invariant.specs.step_ways.proofs.{Tail, StoreRunning, Act, own_decided, Stage, Undecided, Decided, ActiveCall, landed}
+use Rattle.thread_invariant.specs.step_ways.proofs.{Core, Holding, holds_counts, settled, IsFrameWord, IsThreadWord, WordIs, HasFound}
+use Rattle.thread_invariant.specs.step_ways.proofs.{due_of, KnowsUndecided, own_in, WorksIn, holds, holds_in, held_by, times_of, counted_in}
+use Rattle.thread_invariant.specs.step_ways.proofs.{SumIs, Invariant, claimed_by, counts_bare, plain_exit, decided-inside, own_kept}
+use Rattle.thread_invariant.specs.step_ways.proofs.{exclusive_elsewhere, exclusive_none, ReadsAlike, SameFor, StaysSaid, word_stays}
+use Rattle.thread_invariant.specs.step_ways.proofs.{marks_own, carry_marks, holds_switching, begins_in as begins_then, Claimed as ClaimedOf}
+use Rattle.thread_invariant.specs.step_ways.proofs.{Switch as switch_act, open_flushed, spares_other, inner, next_at, GoodTook, not_spent}
+use Rattle.thread_invariant.specs.step_ways.proofs.{spares_none, same_marks, clock_small, Want, own as own_of_access, does, plan_for, Kind}
+use Rattle.thread_invariant.specs.kept_facts.specs.kernel_laws.proofs.{begins_in, edited, begun, IfFound, outcome_from}
+use Rattle.thread_invariant.specs.kept_facts.specs.kernel_laws.proofs.{Switch as CallSwitch, Nothing as no_value}
+use Rattle.thread_invariant.specs.count_invariant.proofs.{dues_commit, dues_sum, own_is, found_named, way_gone}
+use Rattle.thread_invariant.specs.core_invariant.specs.{KeepsTime, flushing_in, is_claimed, KnowsRunning}
+use Rattle.std.proofs.{lemmas.Bool.cases_eq, lemmas.List.Elements.All-nil}
+use Rattle.thread_invariant.specs.kernel_rules.specs.{Edits.Switch as switch_edit, Laws.released}
+use Rattle.thread_invariant.specs.kernel_invariant.proofs.{Refs.RefsBy, Refs.rule_refs, RefsLaw.counted_refs}
+use Rattle.thread_invariant.specs.act_states.specs.{Switches.switched, Switches.SwitchAtFits, declared.own.OwnChange.TheVariants.Switches}
+use Rattle.thread_invariant.specs.step_ways.proofs.{Draws.raised, OwnChanges.decides_timed}
+use Rattle.thread_invariant.proofs.{CompWords.holds_comp, OwnStack.own_thread}
+use Rattle.switch_invariant.proofs.Switchings.{switched_to, frame_new, frame_old, frame_away, core_new, core_away, AreApart, takes}
+use Rattle.switch_invariant.proofs.Switchings.{releases, all_dues, frames_kept, frames_changed}
 use Rattle.switch_invariant.proofs.ThreadWords.{idle_value, none_some, same_value, thread_is}
 use Rattle.switch_invariant.proofs.Tops.{apart_own, apart_tcap, is_idle, to_tcap}
-use Rattle.switch_invariant.proofs.Words.{marked_says}
-use Rattle.thread_invariant.specs.act_states.specs.Switches.{SwitchAtFits}
-use Rattle.thread_invariant.specs.kernel_rules.specs.Access.{Want, own as own_of_access}
-use Rattle.thread_invariant.specs.spk_nums.specs.declared.calls.Call.TheVariants.{Switch as CallSwitch}
-use Rattle.thread_invariant.specs.kernel_rules.specs.Rules.{does}
-use Rattle.thread_invariant.specs.spk_nums.specs.declared.replies.Value.TheVariants.{Nothing as no_value}
-use Rattle.thread_invariant.specs.act_states.specs.call_plans.specs.PlanOf.{plan_for}
+use Rattle.{thread_invariant.specs.step_ways.proofs.Value, std.specs.List.list_any}
+use Rattle.{thread_invariant.specs.tcap_words.specs.Thread.DepthFits, thread_invariant.specs.kernel_history.proofs.Steps.flush_of-own}
+use Rattle.{thread_invariant.specs.kept_facts.proofs.WordFrames.carry_words, thread_invariant.specs.trace_laws.proofs.Carries.open_inside}
+use Rattle.{thread_invariant.specs.plan_ways.proofs.Ways.all_ways}
+use Rattle.{thread_invariant.specs.act_states.specs.declared.switches.SwitchAt.TheVariants.Draw}
+use Rattle.{thread_invariant.specs.core_invariant.specs.Threads.HasRoots}
+use Rattle.{thread_invariant.specs.count_invariant.proofs.SwitchCounts.was_here, switch_invariant.proofs.Words.marked_says}
+use Rattle.thread_invariant.specs.tcap_words.proofs.ThreadLemmas as words
+use Rattle.switch_invariant.proofs.Calls as calls
 
 comp_no_thread : (k : CompFields) (u : ThreadFields) → Kernel (Comp k) ≡ Kernel (Thread u) → ⊥
 comp_no_thread k u h = cc
@@ -84,7 +62,7 @@ module _ (setup : Setting) (setting : IsSetting setup) (cores : ℕ → Core) (t
   x = clock setup t
 
   abbrev r : Reply
-  r = reply.Ok value.Nothing
+  r = Reply.Ok Value.Nothing
 
   abbrev move : Move
   move = AddOf ClockAt 1
@@ -137,8 +115,8 @@ module _ (setup : Setting) (setting : IsSetting setup) (cores : ℕ → Core) (t
   claimed_is : claimed_by m.at ≡ to.thread
   claimed_is = ap claimed_by is
 
-  fit : IsTrue (fits kind.Thread (s.frame to.thread))
-  fit = subst (λ (g : ℕ). IsTrue (fits kind.Thread (s.frame g))) claimed_is has.knows.knows.thread.thread
+  fit : IsTrue (fits Kind.Thread (s.frame to.thread))
+  fit = subst (λ (g : ℕ). IsTrue (fits Kind.Thread (s.frame g))) claimed_is has.knows.knows.thread.thread
 
   new_is : s.frame to.thread ≡ Kernel (Thread (thread_in (s.frame to.thread)))
   new_is = thread_is (s.frame to.thread) fit
@@ -159,9 +137,9 @@ module _ (setup : Setting) (setting : IsSetting setup) (cores : ℕ → Core) (t
   all_away : AreApart to.thread (s.core c).thread m.tcap (s.core c).tcap
   all_away =
       let tcap = to_tcap setup setting cores t stands c here a active m stage_is has in
-      let own_tcap = subst (λ (g : ℕ). IsTrue (fits kind.Tcap (s.frame g))) has.knows.knows.leaves.tcap
+      let own_tcap = subst (λ (g : ℕ). IsTrue (fits Kind.Tcap (s.frame g))) has.knows.knows.leaves.tcap
       (calls.own_tcap setup setting cores t stands c here a active m stage_is has) in
-      let own = subst (λ (g : ℕ). IsTrue (fits kind.Thread (s.frame g))) old_same
+      let own = subst (λ (g : ℕ). IsTrue (fits Kind.Thread (s.frame g))) old_same
       (calls.own_thread setup setting cores t stands c here a active m stage_is has) in
       let away = apart_tcap setup setting cores t stands c here a active m stage_is has in
       record {
@@ -558,7 +536,7 @@ module _ (setup : Setting) (setting : IsSetting setup) (cores : ℕ → Core) (t
   permitted : MayReply s c a.call r
   permitted = (
     not_spent setup (cores c) t c (stands.each c here) (calls.room setup setting cores t stands c here a active m stage_is has),
-    (has.acts, subst (λ y. IsFoundAnd y (λ z. z.value ≡ value.Nothing)) (sym changes_so) refl),
+    (has.acts, subst (λ y. IsFoundAnd y (λ z. z.value ≡ Value.Nothing)) (sym changes_so) refl),
   )
 
   -- the places of its names are gone
@@ -599,7 +577,7 @@ module _ (setup : Setting) (setting : IsSetting setup) (cores : ℕ → Core) (t
       threads = calls.threads_change setup setting cores t stands c here a active m stage_is has;
       footprint = footprint_at m.old (calls.footprint_own setup setting cores t stands c here a active m stage_is has);
       thread = record {
-        thread = subst (λ y. IsTrue (fits kind.Thread y)) (sym (old_frame m.old old_same)) refl;
+        thread = subst (λ y. IsTrue (fits Kind.Thread y)) (sym (old_frame m.old old_same)) refl;
         guarded = inr waits;
       };
     };
@@ -644,7 +622,7 @@ module _ (setup : Setting) (setting : IsSetting setup) (cores : ℕ → Core) (t
       (exclusive_elsewhere cores e (λ g i h. no_entry g i h))
       sums_now
       (record { call = a.call; is_open = is_open; permitted = permitted; justified = gone })
-      (λ is_alone. ok_first s c a.call value.Nothing permitted)
+      (λ is_alone. ok_first s c a.call Value.Nothing permitted)
       known
     where
       no_entry : (g i : ℕ) → ClockAt ≢ EntryAt g i

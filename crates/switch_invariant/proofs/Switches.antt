@@ -1,18 +1,13 @@
 -- A step of a switch before its decision, and the decision, is good.
-use Rattle.thread_invariant.proofs.Common.{◌≡◌, ◌<◌, ◌≤◌, ◌+◌, ◌^◌, ℕ, Some, arith, refl, Setting, IsSetting, told_of, word_of, clock}
-use Rattle.thread_invariant.proofs.Common.{Trace, last_left, drawn_stamp, AtStack, Switching, SwitchAt, LoadTable, Act, Undecided}
-use Rattle.thread_invariant.proofs.Common.{ActiveCall, landed, Core, KnowsUndecided, Invariant}
+use Rattle.thread_invariant.specs.step_ways.proofs.{◌≡◌, ◌<◌, ◌≤◌, ◌+◌, ◌^◌, ℕ, Some, arith, refl, Setting, IsSetting, told_of, word_of}
+use Rattle.thread_invariant.specs.step_ways.proofs.{clock, Trace, last_left, drawn_stamp, Switching, SwitchAt, Act, Undecided, ActiveCall}
+use Rattle.thread_invariant.specs.step_ways.proofs.{landed, Core, KnowsUndecided, Invariant, Switch as switch_act, GoodTook, clock_small}
+use Rattle.thread_invariant.specs.act_states.specs.{AtStack, took_switching_at, switching_at}
+use Rattle.thread_invariant.specs.act_states.specs.declared.switches.SwitchAt.TheVariants.{LoadTable, Claim, LoadPages, Leave, Draw}
 use Rattle.thread_invariant.specs.stage_thread.specs.declared.claim.Claim.TheVariants.{AtLoad, AtCompare}
-use Rattle.thread_invariant.specs.act_states.specs.Acts.{took_switching, took_switching_at}
-use Rattle.thread_invariant.specs.act_states.specs.Switches.{switching_at, switching_move}
-use Rattle.thread_invariant.specs.act_states.specs.declared.switches.SwitchAt.TheVariants.{Claim, LoadPages, Leave, Draw}
-use Rattle.thread_invariant.specs.act_states.specs.declared.work.Act.TheVariants.{Switch as switch_act}
-use Rattle.thread_invariant.specs.step_ways.proofs.Refusals.{GoodTook}
-use Rattle.thread_invariant.specs.step_ways.proofs.Writes.{clock_small}
-use Rattle.switch_invariant.proofs.Claims.{load_good, compare_good, stack_good}
-use Rattle.switch_invariant.proofs.Leaves.{leave_good}
-use Rattle.switch_invariant.proofs.Switched.{switched_good}
-use Rattle.switch_invariant.proofs.Tops.{pages_good, table_good}
+use Rattle.switch_invariant.proofs.{Claims.load_good, Claims.compare_good, Claims.stack_good, Leaves.leave_good, Switched.switched_good}
+use Rattle.switch_invariant.proofs.{Tops.pages_good, Tops.table_good}
+use Rattle.{thread_invariant.specs.act_states.specs.Taking.took_switching, thread_invariant.specs.act_states.specs.Switches.switching_move}
 
 pub switch_good : (setup : Setting) → IsSetting setup → (cores : ℕ → Core) (t : Trace) → Invariant setup cores t → (c : ℕ) → c < setup.cores
     → (a : ActiveCall) → (cores c).active ≡ Some a → (m : Switching) → a.stage ≡ Undecided (Act (switch_act m))

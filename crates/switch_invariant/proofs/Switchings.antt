@@ -1,14 +1,14 @@
 -- What a switch leaves of the state: the old thread is idle, the new one runs on the core, and all else of frames and of other cores is as
 -- it was. And what it makes of references: each frame is released or taken once, or is none of these.
-use Rattle.thread_invariant.proofs.Common.{list_any, ◌≡◌, ◌≢◌, ℕ, ℤ, pos, negsuc, ◌+ℤ◌, max, ◌+◌, ◌<◌, ◌≤◌, ◌==◌, ◌||◌, cond}
-use Rattle.thread_invariant.proofs.Common.{Bool, true, false, if◌then◌else◌, List, [], ◌∷◌, Some, None, arith, refl, sym, ◌∙◌, ap}
-use Rattle.thread_invariant.proofs.Common.{eq-eqb, ne_eqb, All-nil, All-cons, All-head, All-tail, All}
-use Rattle.thread_invariant.proofs.Common.{Grace, Kernel, Thing, FrameOf, State, Thread, put, thread_in, thread_of, counted}
-use Rattle.thread_invariant.proofs.Common.{same_thing, times, frames_of, times_cons, put_same, put_other, later, stamp_of_change}
-use Rattle.thread_invariant.proofs.Common.{tcap_dues, Due}
+use Rattle.thread_invariant.specs.act_states.proofs.{◌≡◌, ◌≢◌, ℕ, ℤ, pos, negsuc, ◌+ℤ◌, max, ◌+◌, ◌<◌, ◌≤◌, ◌==◌, ◌||◌, cond, Bool, true}
+use Rattle.thread_invariant.specs.act_states.proofs.{false, if◌then◌else◌, List, [], ◌∷◌, Some, None, arith, refl, sym, ◌∙◌, ap, eq-eqb}
+use Rattle.thread_invariant.specs.act_states.proofs.{ne_eqb, All, Grace, Kernel, Thing, FrameOf, State, Thread, put, thread_in, thread_of}
+use Rattle.thread_invariant.specs.act_states.proofs.{counted, same_thing, times, frames_of, times_cons, put_same, put_other, later}
+use Rattle.thread_invariant.specs.act_states.proofs.{stamp_of_change, tcap_dues, Core}
+use Rattle.thread_invariant.specs.kernel_history.specs.{running, with_thread}
+use Rattle.std.proofs.lemmas.List.Elements.{All-nil, All-cons, All-head, All-tail}
 use Rattle.std.proofs.Math.IntN.{pos-+ℤ-pos, +ℤ_assoc, +ℤ_invr, +ℤ_idr}
-use Rattle.thread_invariant.specs.kernel_rules.specs.State.{Core}
-use Rattle.thread_invariant.specs.kernel_rules.specs.Edits.{running, with_thread}
+use Rattle.{std.specs.List.list_any, thread_invariant.specs.act_states.specs.declared.work.Due.Due}
 use Rattle.thread_invariant.specs.kernel_rules.specs.State as state
 
 -- The state after the switch of core c to the thread in frame f, with this temporal capability and these grace periods.

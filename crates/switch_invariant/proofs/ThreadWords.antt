@@ -1,11 +1,10 @@
 -- The words of threads: what a thread's first word shows, and the word of the top of its stack.
 -- The words of threads: what a thread's first word shows, and the word of the top of its stack.
-use Rattle.thread_invariant.proofs.Common.{◌≡◌, ◌∙◌, ◌<◌, ◌+◌, cond, if◌then◌else◌, ℕ, suc, refl, List, [], ◌∷◌, length, Option, Some}
-use Rattle.thread_invariant.proofs.Common.{None, IsTrue, arith, ap, false≢true, lt-ltb, ne_eqb, thread_of_word, ThreadWord, Idle, Running}
-use Rattle.thread_invariant.proofs.Common.{Claimed, Thread, Tcap, Frame, Kernel, thread_in, first_of_stack, fits, is_node, HasRacedHead}
-use Rattle.thread_invariant.proofs.Common.{mark_in_frame, thread_mark, thread_value, at_height, frame_in}
-use Rattle.thread_invariant.specs.spk_nums.specs.declared.kinds.Kind.TheVariants as kind
-use Rattle.thread_invariant.proofs.Heights.{at_top}
+use Rattle.thread_invariant.specs.kernel_history.proofs as low
+use low.{◌≡◌, ◌∙◌, ◌<◌, ◌+◌, cond, if◌then◌else◌, ℕ, suc, refl, List, [], ◌∷◌, length, Option, Some, None, IsTrue, arith, ap, false≢true}
+use low.{lt-ltb, ne_eqb, thread_of_word, ThreadWord, Idle, Running, Claimed, Thread, Tcap, Frame, Kernel, thread_in, first_of_stack, fits}
+use low.{is_node, HasRacedHead, mark_in_frame, thread_mark, thread_value, at_height, Kind}
+use Rattle.{thread_invariant.specs.act_states.specs.Invocations.frame_in, thread_invariant.proofs.Heights.at_top}
 
 pub none_some : (d : ℕ) → None ≡ Some d → ⊥
 none_some d h = cc
@@ -14,25 +13,25 @@ pub same_some : (x y : ℕ) → Some x ≡ Some y → x ≡ y
 same_some x y h = cc
 
 -- A frame with a thread.
-pub thread_is : (x : Frame) → IsTrue (fits kind.Thread x) → x ≡ Kernel (Thread (thread_in x))
+pub thread_is : (x : Frame) → IsTrue (fits Kind.Thread x) → x ≡ Kernel (Thread (thread_in x))
 thread_is (Kernel (Thread t)) h = refl
 thread_is _ h = absurd (false≢true h)
 
 -- It is no node, and calls race for its first word.
-pub no_node : (x : Frame) → IsTrue (fits kind.Thread x) → IsTrue (is_node x) → ⊥
+pub no_node : (x : Frame) → IsTrue (fits Kind.Thread x) → IsTrue (is_node x) → ⊥
 no_node (Kernel (Thread t)) h node = false≢true node
 no_node _ h node = false≢true h
 
-pub raced_head : (x : Frame) → IsTrue (fits kind.Thread x) → HasRacedHead x
+pub raced_head : (x : Frame) → IsTrue (fits Kind.Thread x) → HasRacedHead x
 raced_head (Kernel (Thread t)) h = tt
 raced_head _ h = absurd (false≢true h)
 
 -- The mark in a thread's first word, and in those of its stack.
-pub first_mark : (x : Frame) (w : ℕ) → IsTrue (fits kind.Thread x) → mark_in_frame x 0 w ≡ thread_mark (thread_of_word w)
+pub first_mark : (x : Frame) (w : ℕ) → IsTrue (fits Kind.Thread x) → mark_in_frame x 0 w ≡ thread_mark (thread_of_word w)
 first_mark (Kernel (Thread t)) w h = refl
 first_mark _ w h = absurd (false≢true h)
 
-pub stack_mark : (x : Frame) (i w : ℕ) → IsTrue (fits kind.Thread x) → mark_in_frame x (suc i) w ≡ None
+pub stack_mark : (x : Frame) (i w : ℕ) → IsTrue (fits Kind.Thread x) → mark_in_frame x (suc i) w ≡ None
 stack_mark (Kernel (Thread t)) i w h =
     ap (λ b. cond b (thread_mark (thread_of_word w)) None) (ne_eqb (suc i) 0 (λ is. absurd (omega (arith, is))))
 stack_mark _ i w h = absurd (false≢true h)
@@ -68,7 +67,7 @@ top_height (x ∷ xs) h long = ap (at_height (x ∷ xs)) height ∙ at_top x xs
     height = omega (arith, long)
 
 -- A temporal capability is no thread.
-pub tcap_no_thread : (x : Frame) → IsTrue (fits kind.Tcap x) → IsTrue (fits kind.Thread x) → ⊥
+pub tcap_no_thread : (x : Frame) → IsTrue (fits Kind.Tcap x) → IsTrue (fits Kind.Thread x) → ⊥
 tcap_no_thread (Kernel (Tcap q)) tcap thread = false≢true thread
 tcap_no_thread _ tcap thread = false≢true tcap
 

@@ -1,32 +1,26 @@
 -- A thread that is claimed is idle, and the loads of the table and of the pages of the component at the top of its stack are good: then the
 -- counts are acquired.
-use Rattle.thread_invariant.proofs.Common.{◌≡◌, ◌≢◌, ◌<◌, ◌≤◌, ◌++◌, ◌==◌, ◌||◌, ℕ, map, length, Bool, true, false, List, []}
-use Rattle.thread_invariant.proofs.Common.{◌∷◌, Option, Some, None, IsTrue, pos, negsuc, arith, refl, sym, ◌∙◌, ap, subst, eq-eqb}
-use Rattle.thread_invariant.proofs.Common.{eqb-false, All-nil, All-cons, Setting, IsSetting}
-use Rattle.thread_invariant.proofs.Common.{word_of_thread, thread_of_word, Idle, Running, EntryAt, LoadOf, State}
-use Rattle.thread_invariant.proofs.Common.{comp_in, first_of_stack, thread_in, fits, frame_names, is_one_of, footprint_frames, marked_by}
-use Rattle.thread_invariant.proofs.Common.{thread_value, Step, Trace, state_after, last_left, Acquired, dues, next_work, frame_in}
-use Rattle.thread_invariant.proofs.Common.{tcap_dues, Switching, LoadTable, Due, Act, Goes, Undecided, ActiveCall, landed, Core}
-use Rattle.thread_invariant.proofs.Common.{holds_counts, AreDuesApart, due_of, KnowsUndecided, holds, holds_in, Invariant, claimed_by}
-use Rattle.thread_invariant.proofs.Common.{is_claimed, holds_switching, names_on, runs_on_own}
-use Rattle.thread_invariant.specs.spk_nums.specs.declared.kinds.Kind.TheVariants as kind
-use Rattle.thread_invariant.specs.tcap_words.proofs.ThreadLemmas as words
-use Rattle.thread_invariant.specs.stage_thread.specs.declared.claim.Claimed.{Claimed as ClaimedOf}
-use Rattle.thread_invariant.specs.act_states.specs.Acts.{switch_pages}
-use Rattle.thread_invariant.specs.act_states.specs.Switches.{switch_due_list, switch_table}
-use Rattle.thread_invariant.specs.act_states.specs.declared.switches.SwitchAt.TheVariants.{LoadPages, Leave}
+use Rattle.thread_invariant.specs.step_ways.proofs.{◌≡◌, ◌≢◌, ◌<◌, ◌≤◌, ◌++◌, ◌==◌, ◌||◌, ℕ, map, length, Bool, true, false, List, [], ◌∷◌}
+use Rattle.thread_invariant.specs.step_ways.proofs.{Option, Some, None, IsTrue, pos, negsuc, arith, refl, sym, ◌∙◌, ap, subst, eq-eqb}
+use Rattle.thread_invariant.specs.step_ways.proofs.{eqb-false, Setting, IsSetting, word_of_thread, thread_of_word, Idle, Running, EntryAt}
+use Rattle.thread_invariant.specs.step_ways.proofs.{LoadOf, State, comp_in, first_of_stack, thread_in, fits, frame_names, is_one_of}
+use Rattle.thread_invariant.specs.step_ways.proofs.{footprint_frames, marked_by, thread_value, Step, Trace, state_after, last_left}
+use Rattle.thread_invariant.specs.step_ways.proofs.{Acquired, dues, next_work, Switching, Due, Act, Goes, Undecided, ActiveCall, landed}
+use Rattle.thread_invariant.specs.step_ways.proofs.{Core, holds_counts, AreDuesApart, due_of, KnowsUndecided, holds, holds_in, Invariant}
+use Rattle.thread_invariant.specs.step_ways.proofs.{claimed_by, holds_switching, names_on, runs_on_own, Claimed as ClaimedOf}
+use Rattle.thread_invariant.specs.step_ways.proofs.{Switch as switch_act, next_at, step_to, loads_on, GoodTook, plan_for, Kind}
+use Rattle.thread_invariant.specs.act_states.specs.{frame_in, tcap_dues, switch_pages, switch_due_list, switch_table}
+use Rattle.thread_invariant.specs.core_invariant.specs.{is_claimed, IsTop}
+use Rattle.thread_invariant.specs.count_invariant.proofs.{knows_next, next_holds}
+use Rattle.std.proofs.lemmas.List.Elements.{All-nil, All-cons}
+use Rattle.thread_invariant.specs.act_states.specs.declared.switches.SwitchAt.TheVariants.{LoadTable, LoadPages, Leave}
 use Rattle.thread_invariant.specs.act_states.specs.declared.work.Act.{Act as ActOf}
-use Rattle.thread_invariant.specs.act_states.specs.declared.work.Act.TheVariants.{Switch as switch_act}
-use Rattle.thread_invariant.specs.core_invariant.specs.Threads.{HasTable, IsTop}
-use Rattle.thread_invariant.specs.step_ways.proofs.Loads.{next_at, step_to, loads_on}
-use Rattle.thread_invariant.specs.step_ways.proofs.Refusals.{GoodTook}
+use Rattle.thread_invariant.specs.core_invariant.specs.Threads.{HasTable}
 use Rattle.thread_invariant.specs.core_invariant.proofs.ThreadHolds.{IsIdleIn, claimed_idle}
-use Rattle.thread_invariant.specs.count_invariant.proofs.Acquiring.{knows_next, next_holds}
 use Rattle.thread_invariant.proofs.CompWords.{comp_says, table_below, pages_below}
+use Rattle.switch_invariant.proofs.{ThreadWords.frame_shown, ThreadWords.tcap_no_thread, Words.marked_says}
+use Rattle.thread_invariant.specs.tcap_words.proofs.ThreadLemmas as words
 use Rattle.switch_invariant.proofs.Calls as calls
-use Rattle.switch_invariant.proofs.ThreadWords.{frame_shown, tcap_no_thread}
-use Rattle.switch_invariant.proofs.Words.{marked_says}
-use Rattle.thread_invariant.specs.act_states.specs.call_plans.specs.PlanOf.{plan_for}
 
 -- Where a word says both that a thread runs somewhere and that it is idle, there is none.
 unlike : (depth d n : ℕ) → word_of_thread (Running d n) ≡ word_of_thread (Idle depth) → ⊥
@@ -108,17 +102,17 @@ module _ (setup : Setting) (setting : IsSetting setup) (cores : ℕ → Core) (t
       not_some d h = cc
 
   -- the second name has led to a temporal capability
-  pub to_tcap : IsTrue (fits kind.Tcap ((state_after setup t).frame m.tcap))
+  pub to_tcap : IsTrue (fits Kind.Tcap ((state_after setup t).frame m.tcap))
   to_tcap = calls.named_tcap setup setting cores t stands c here a active m stage_is has
 
-  pub apart_tcap : (f q : ℕ) → IsTrue (fits kind.Thread ((state_after setup t).frame f))
-      → IsTrue (fits kind.Tcap ((state_after setup t).frame q)) → f ≢ q
-  apart_tcap f q thread tcap same = tcap_no_thread (s.frame q) tcap (subst (λ (g : ℕ). IsTrue (fits kind.Thread (s.frame g))) same thread)
+  pub apart_tcap : (f q : ℕ) → IsTrue (fits Kind.Thread ((state_after setup t).frame f))
+      → IsTrue (fits Kind.Tcap ((state_after setup t).frame q)) → f ≢ q
+  apart_tcap f q thread tcap same = tcap_no_thread (s.frame q) tcap (subst (λ (g : ℕ). IsTrue (fits Kind.Thread (s.frame g))) same thread)
 
   -- the frames of the dues are apart
   pub all_apart : is_claimed m.at ≡ true → (to : ClaimedOf) → to.thread ≡ claimed_by m.at → AreDuesApart (switch_due_list m to)
   all_apart claimed to same =
-      let thread : IsTrue (fits kind.Thread (s.frame to.thread)) = subst (λ (g : ℕ). IsTrue (fits kind.Thread (s.frame g))) (sym same)
+      let thread : IsTrue (fits Kind.Thread (s.frame to.thread)) = subst (λ (g : ℕ). IsTrue (fits Kind.Thread (s.frame g))) (sym same)
       has.knows.knows.thread.thread in
       let own = calls.own_thread setup setting cores t stands c here a active m stage_is has in
       let own_tcap = calls.own_tcap setup setting cores t stands c here a active m stage_is has in

@@ -1,17 +1,13 @@
 -- What the first word of a thread shows where it carries no mark, who may keep it, and what the words of a claimed thread show.
-use Rattle.thread_invariant.proofs.Common.{◌≡◌, ◌≢◌, ◌<◌, ◌≤◌, inl, inr, ℕ, List, [], ◌∷◌, length, Option, Some, None, IsTrue, arith}
-use Rattle.thread_invariant.proofs.Common.{refl, sym, ◌∙◌, ap, subst, cases_eq, false≢true, Setting, IsSetting, thread_of_word, Idle}
-use Rattle.thread_invariant.proofs.Common.{EntryAt, ThreadFields, Thread, Kernel, PlaceOf, State, first_of_stack, thread_in}
-use Rattle.thread_invariant.proofs.Common.{fits, frame_names, refs, times, IsObjectGood, IsSound, IsStack, opened, events_of, IsLegal}
-use Rattle.thread_invariant.proofs.Common.{marked_by, thread_value, stamp, Trace, state_after, last_left, sound_of, Core, HasComp}
-use Rattle.thread_invariant.proofs.Common.{settled_by, held_by, Invariant, IsFrameWord, IsThreadWord, none_kept, runs_on_own}
-use Rattle.thread_invariant.specs.spk_nums.specs.declared.kinds.Kind.TheVariants as kind
-use Rattle.thread_invariant.specs.found_stays.proofs.Stays.{object_named}
-use Rattle.thread_invariant.specs.kernel_invariant.proofs.Sums.{times_first}
-use Rattle.thread_invariant.specs.core_invariant.specs.Invariant.{IsOfThread, SaysRunning}
-use Rattle.thread_invariant.specs.kept_facts.proofs.Exclusive.{exclusive_thread}
-use Rattle.thread_invariant.specs.kept_facts.proofs.Tcaps.{is_tcap}
-use Rattle.switch_invariant.proofs.ThreadWords.{same_some, thread_is}
+use Rattle.thread_invariant.specs as low
+use low.kept_facts.proofs.{◌≡◌, ◌≢◌, ◌<◌, ◌≤◌, inl, inr, ℕ, List, [], ◌∷◌, length, Option, Some, None, IsTrue, arith, refl, sym, ◌∙◌, ap}
+use low.kept_facts.proofs.{subst, false≢true, Setting, IsSetting, thread_of_word, Idle, EntryAt, ThreadFields, Thread, Kernel, PlaceOf}
+use low.kept_facts.proofs.{State, first_of_stack, thread_in, fits, frame_names, refs, times, IsObjectGood, IsSound, opened, events_of}
+use low.kept_facts.proofs.{IsLegal, marked_by, thread_value, stamp, Trace, state_after, last_left, sound_of, Core, HasComp, settled_by}
+use low.kept_facts.proofs.{held_by, Invariant, IsFrameWord, IsThreadWord, none_kept, runs_on_own, exclusive_thread, is_tcap, Kind}
+use low.{core_invariant.specs.IsOfThread, core_invariant.specs.SaysRunning, kept_facts.specs.kernel_laws.proofs.IsStack}
+use low.{kept_facts.specs.kernel_laws.proofs.times_first, found_stays.proofs.Stays.object_named}
+use Rattle.{std.proofs.lemmas.Bool.cases_eq, switch_invariant.proofs.ThreadWords.same_some, switch_invariant.proofs.ThreadWords.thread_is}
 
 -- What the first word of a thread shows, by the core on which it runs.
 abbrev pub ShowsRun : Option ℕ → ℕ → ℕ → Type 0
@@ -19,7 +15,7 @@ ShowsRun None depth word = thread_of_word word ≡ Some (Idle depth)
 ShowsRun (Some d) depth word = SaysRunning d word
 
 module _ (setup : Setting) (setting : IsSetting setup) (cores : ℕ → Core) (t : Trace) (stands : Invariant setup cores t) (f : ℕ)
-    (thread : IsTrue (fits kind.Thread ((state_after setup t).frame f))) where
+    (thread : IsTrue (fits Kind.Thread ((state_after setup t).frame f))) where
   abbrev s : State
   s = state_after setup t
 
@@ -95,7 +91,7 @@ module _ (setup : Setting) (setting : IsSetting setup) (cores : ℕ → Core) (t
 
 -- The component at the top of a thread's stack is there, and the thread names it.
 pub top_comp : (setup : Setting) → IsSetting setup → (t : Trace) → IsLegal setup t → (c f : ℕ)
-    → IsTrue (fits kind.Thread ((state_after setup t).frame f)) → 1 ≤ length (thread_in ((state_after setup t).frame f)).stack
+    → IsTrue (fits Kind.Thread ((state_after setup t).frame f)) → 1 ≤ length (thread_in ((state_after setup t).frame f)).stack
     → HasComp (state_after setup t) c (first_of_stack (thread_in ((state_after setup t).frame f)).stack)
 top_comp setup setting t legal c f thread = by (thread_in (s.frame f)).stack comps named
   where

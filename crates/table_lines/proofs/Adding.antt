@@ -1,7 +1,5 @@
 -- Lists of named frames, one piece more at a time.
-use Rattle.std.proofs.Common.{◌≡◌, ℕ, ◌+◌, ◌++◌, List, ap, subst, arith}
-use Rattle.kernel_rules.specs.References.{sum_below, times}
-use Rattle.kernel_history.proofs.Sums.{sum_none, sum_more, times_append}
+use Rattle.kernel_history.proofs.{◌≡◌, ℕ, ◌+◌, ◌++◌, List, ap, subst, arith, sum_below, times, sum_none, sum_more, times_append}
 use Rattle.table_lines.specs.Counting.{Adds}
 
 -- A piece is appended.

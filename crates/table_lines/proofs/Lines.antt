@@ -1,6 +1,6 @@
 -- Lines, one more at a time.
-use Rattle.std.proofs.Common.{◌≡◌, ℕ, zero, suc, ◌+◌, ◌<◌, ◌++◌, List, [], refl, sym, ap, ◌∙◌, arith, append_assoc, append-nil}
-use Rattle.kernel_history.specs.Tables.{lines_below}
+use Rattle.kernel_history.proofs.{◌≡◌, ℕ, zero, suc, ◌+◌, ◌<◌, ◌++◌, List, [], refl, sym, ap, ◌∙◌, arith, append_assoc, append-nil}
+use Rattle.kernel_history.proofs.{lines_below}
 
 pub lines_none : (line : ℕ → List ℕ) → lines_below line 0 ≡ []
 unfolding lines_below

@@ -1,11 +1,8 @@
 -- Counting how often a list has each number.
-use Rattle.std.proofs.Common.{◌≡◌, inl, inr, ℕ, ◌+◌, ◌<◌, ◌≤◌, ◌==◌, List, [], ◌∷◌, sym, ap, ◌∙◌, arith, length, get_or, take}
-use Rattle.std.proofs.Math.ListN.{set}
-use Rattle.std.proofs.lemmas.Bool.{cases_eq}
-use Rattle.std.proofs.lemmas.List.{take_more, length-take-le, get_or-set_same, get_or-set_other}
-use Rattle.std.proofs.lemmas.List.Sums.{count_by-le-length}
-use Rattle.kernel_rules.specs.References.{times}
-use Rattle.kernel_history.proofs.Sums.{times_append, one_same, one_other}
+use Rattle.kernel_history.proofs.{◌≡◌, inl, inr, ℕ, ◌+◌, ◌<◌, ◌≤◌, ◌==◌, List, [], ◌∷◌, sym, ap, ◌∙◌, arith, length, get_or, take}
+use Rattle.kernel_history.proofs.{take_more, length-take-le, get_or-set_same, get_or-set_other, times, times_append}
+use Rattle.std.proofs.{Math.ListN.set, lemmas.Bool.cases_eq, lemmas.List.Sums.count_by-le-length}
+use Rattle.kernel_history.proofs.Sums.{one_same, one_other}
 
 module _ (names : List ℕ) (at : ℕ) (below : at < length names) where
   -- A number stands at most once at each place.

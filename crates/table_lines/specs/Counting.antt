@@ -1,6 +1,5 @@
 -- Counting references by a list of the frames that are named.
-use Rattle.std.specs.Prelude.{◌≡◌, ◌<◌, ◌+◌, ℕ, List, slice_index}
-use Rattle.kernel_rules.specs.References.{times}
+use Rattle.kernel_history.specs.{◌≡◌, ◌<◌, ◌+◌, ℕ, List, slice_index, times}
 
 -- The new list names each frame so much more often than the old one.
 pub record Adds (old new : List ℕ) (by : ℕ → ℕ) : Type 0 where

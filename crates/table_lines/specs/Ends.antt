@@ -1,7 +1,5 @@
 -- A core as its end shows it.
-use Rattle.std.specs.Prelude.{false}
-use Rattle.spk_nums.specs.declared.translations.CoreEnd.{CoreEnd}
-use Rattle.kernel_rules.specs.State.{Core}
+use Rattle.kernel_history.specs.{false, CoreEnd, Core}
 
 -- What the end of a core shows.
 abbrev pub core_shown : CoreEnd → Core

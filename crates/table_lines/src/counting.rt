@@ -1,7 +1,7 @@
 //! How often each frame is among those that are named.
 
 ghost use Rattle.std.specs.Prelude.{◌≡◌, IfOk, length};
-ghost use Rattle.kernel_rules.specs.References.{times};
+ghost use Rattle.kernel_history.specs.kernel_rules.specs.References.{times};
 ghost use Rattle.table_lines.specs.Counting.{AreCounts};
 
 use std::alloc::{AllocError, Global};

@@ -1,7 +1,7 @@
 //! The lines of frames and their objects.
 
 ghost use Rattle.std.specs.Prelude.{◌≡◌, ◌++◌, OnOk, string_bytes, codes};
-ghost use Rattle.kernel_rules.specs.State.{Holds};
+ghost use Rattle.kernel_history.specs.kernel_rules.specs.State.{Holds};
 ghost use Rattle.kernel_history.specs.Tables.{number, line_end, frame_line, entry_line, comp_line, quality_line};
 
 use spk_nums::{Cap, FrameNo};

@@ -2,7 +2,7 @@
 
 ghost use Rattle.std.specs.Prelude.{◌≡◌, ◌++◌, OnOk, string_bytes, codes};
 ghost use Rattle.std.specs.List.{flat_map};
-ghost use Rattle.kernel_rules.specs.State.{Live, Dead};
+ghost use Rattle.kernel_history.specs.kernel_rules.specs.State.{Live, Dead};
 ghost use Rattle.kernel_history.specs.Tables.{number, number_line, translation_line, back_words, core_lines, total_line};
 ghost use Rattle.table_lines.specs.Ends.{core_shown};
 

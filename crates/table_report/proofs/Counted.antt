@@ -1,9 +1,7 @@
 -- The sum of the counts that count words show, one word more at a time.
-use Rattle.std.proofs.Common.{◌≡◌, ℕ, ◌+ℤ◌, zero, suc, ◌+◌, ◌++◌, List, [], ◌∷◌, Option, ap, ◌∙◌, arith}
-use Rattle.std.specs.List.{range_with_len}
-use Rattle.std.proofs.lemmas.Int.{ints}
-use Rattle.frame_words.specs.declared.count_word.CountWord.{CountWord}
-use Rattle.kernel_history.specs.Counts.{count_in, count_sum}
+use Rattle.table_lines.specs.kernel_history.proofs.{◌≡◌, ℕ, ◌+ℤ◌, zero, suc, ◌+◌, ◌++◌, List, [], ◌∷◌, Option, ap, ◌∙◌, arith, CountWord}
+use Rattle.table_lines.specs.kernel_history.proofs.{count_in, count_sum}
+use Rattle.{std.specs.List.range_with_len, std.proofs.lemmas.Int.ints}
 
 sum_append : (shown : ℕ → Option CountWord) (cs : List ℕ) (c : ℕ)
     → count_sum shown (cs ++ c ∷ []) ≡ count_sum shown cs +ℤ count_in (shown c)

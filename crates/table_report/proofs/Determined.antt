@@ -1,30 +1,17 @@
 -- The words and the ends determine the tables of the state that they represent.
-use Rattle.std.proofs.Common.{◌≡◌, ℕ, ◌<◌, ◌++◌, List, [], true, Option, refl, sym, ap, ◌∙◌, arith, length, append_assoc}
-use Rattle.std.proofs.lemmas.Bool.{true≢false}
-use Rattle.spk_nums.specs.declared.translations.CoreEnd.{CoreEnd}
-use Rattle.entry_words.specs.declared.entry.Entry.{Entry}
-use Rattle.entry_words.specs.EntryWord.{entry_of_word}
-use Rattle.frame_words.specs.Live.{live_of_word}
-use Rattle.frame_words.specs.Residue.{residue}
-use Rattle.frame_words.specs.declared.live_word.LiveWord.{LiveWord}
-use Rattle.word_map.specs.Word.{LiveAt}
-use Rattle.word_map.specs.Places.{Shape}
-use Rattle.kernel_rules.specs.State.{Place, Free, Holds, Quiescing, Object, Blank, Table, Leaf, Pages, Pleaf, Comp, Thread, Tcap, Frame}
-use Rattle.kernel_rules.specs.State.{outstanding}
-use Rattle.kernel_rules.specs.State.{Untyped, User, Kernel, Liveness, Unused, Live, Dead, State, first_of_stack, thread_of, tcap_in}
-use Rattle.kernel_rules.specs.References.{sum_below, refs}
-use Rattle.kernel_rules.specs.Laws.{ticks}
-use Rattle.kernel_history.specs.ObjectWords.{holds_node, is_node_object}
-use Rattle.kernel_history.specs.FinalWords.{SaysPlace, AreEntries, AreFrame, SaysNumber, Represent, word_in, end_in}
-use Rattle.kernel_history.specs.Counts.{counters, count_at, count_sum, RepresentCounts}
-use Rattle.kernel_history.specs.Tables.{lines_below, frame_line, object_word, entry_line, object_lines}
-use Rattle.kernel_history.specs.Tables.{frame_lines, number_line, core_lines, total_line, tables_of}
-use Rattle.kernel_history.proofs.Sums.{sum_same}
-use Rattle.table_lines.specs.Ends.{core_shown}
-use Rattle.table_report.specs.Shown.{place_shown, place_in, number_shown, frame_shown, words_of, frame_at, place_at, number_at}
-use Rattle.table_report.specs.Shown.{counted_at, core_shown_at, shown, frames_text, numbers_text, cores_text, tables_shown}
-use Rattle.table_lines.proofs.Lines.{lines_same}
+use Rattle.table_lines.specs.kernel_history.specs as low
+use low.{◌≡◌, ℕ, ◌<◌, ◌++◌, List, [], true, Option, refl, length, CoreEnd, Entry, entry_of_word, live_of_word, residue, LiveWord, LiveAt}
+use low.{Shape, Place, Free, Holds, Quiescing, Object, Blank, Table, Leaf, Pages, Pleaf, Comp, Thread, Tcap, Frame, outstanding, Untyped}
+use low.{User, Kernel, Liveness, Unused, Live, Dead, State, first_of_stack, thread_of, tcap_in, sum_below, refs, ticks, holds_node}
+use low.{SaysPlace, AreEntries, AreFrame, SaysNumber, Represent, word_in, end_in, counters, count_at, count_sum, RepresentCounts}
+use low.{lines_below, entry_line, frame_lines, number_line, core_lines, total_line, tables_of}
+use Rattle.std.proofs.Common.{sym, ap, ◌∙◌, arith, append_assoc, true≢false}
+use Rattle.table_report.specs.{words_of, frame_at, core_shown_at}
+use low.{ObjectWords.is_node_object, Tables.frame_line, Tables.object_word, Tables.object_lines}
+use Rattle.table_report.specs.Shown.{place_shown, place_in, number_shown, frame_shown, place_at, number_at, counted_at, shown, frames_text}
+use Rattle.table_report.specs.Shown.{numbers_text, cores_text, tables_shown}
 use Rattle.table_report.proofs.ShownObjects.{told, frame_is}
+use Rattle.{table_lines.specs.kernel_history.proofs.Sums.sum_same, table_lines.specs.Ends.core_shown, table_lines.proofs.Lines.lines_same}
 
 -- What the tables say of a frame does not hang on where its thread runs.
 told_node : (x : Frame) → holds_node (told x) ≡ holds_node x

@@ -1,17 +1,11 @@
 -- Lines, stacks and lists, one more at a time.
-use Rattle.std.proofs.Common.{◌≡◌, ℕ, suc, ◌+◌, ◌<◌, ◌++◌, List, [], Option, Some, None, refl, sym, ap, ◌∙◌, arith, reverse, length, get_or}
-use Rattle.std.specs.Prelude.{option_to_list, unwrap_or}
-use Rattle.std.proofs.lemmas.Option.{slice_get-get_or}
-use Rattle.spk_nums.specs.declared.translations.CoreEnd.{CoreEnd}
-use Rattle.kernel_history.specs.FinalWords.{end_in, no_end}
-use Rattle.std.specs.List.{flat_map}
-use Rattle.std.proofs.lemmas.List.{reverse-append}
-use Rattle.std.proofs.lemmas.Grind.{flat_map-append}
-use Rattle.tcap_words.specs.Stack.{stack_of_word}
-use Rattle.tcap_words.specs.Quality.{quality_of_word}
-use Rattle.tcap_words.specs.declared.stack_word.StackWord.{StackWord}
-use Rattle.kernel_history.specs.Tables.{number, quality_line}
-use Rattle.table_report.specs.Shown.{stacked, listed, stack_shown, qualities_shown}
+use Rattle.table_lines.specs.kernel_history.proofs.{◌≡◌, ℕ, suc, ◌+◌, ◌<◌, ◌++◌, List, [], Option, Some, None, refl, sym, ap, ◌∙◌, arith}
+use Rattle.table_lines.specs.kernel_history.proofs.{reverse, length, get_or, option_to_list, CoreEnd, end_in, flat_map, reverse-append}
+use Rattle.{table_lines.specs.kernel_history.proofs.stack_of_word, table_lines.specs.kernel_history.proofs.quality_of_word}
+use Rattle.{table_report.specs.stack_shown, table_report.specs.qualities_shown, table_lines.specs.kernel_history.specs.number}
+use Rattle.{table_lines.specs.kernel_history.specs.quality_line, std.specs.Prelude.unwrap_or, std.proofs.lemmas.Option.slice_get-get_or}
+use Rattle.{std.proofs.lemmas.Grind.flat_map-append, table_lines.specs.kernel_history.specs.FinalWords.no_end}
+use Rattle.{tcap_words.specs.declared.stack_word.StackWord.StackWord, table_report.specs.Shown.stacked, table_report.specs.Shown.listed}
 
 pub stack_none : (word : ℕ → ℕ) → stack_shown word 0 ≡ []
 unfolding stack_shown

@@ -1,19 +1,14 @@
 -- What the words of an object show is the object, where they represent it.
-use Rattle.std.proofs.Common.{◌≡◌, ℕ, zero, suc, ◌+◌, ◌<◌, ◌≤◌, ◌++◌, List, [], ◌∷◌, Option}
-use Rattle.std.proofs.Common.{Some, None, refl, sym, ap, ◌∙◌, arith, length, take, reverse}
-use Rattle.std.specs.Prelude.{option_to_list}
-use Rattle.std.specs.List.{slice_get}
-use Rattle.std.proofs.lemmas.List.{reverse-append, length-reverse, reverse-reverse}
-use Rattle.tcap_words.specs.Stack.{stack_of_word}
-use Rattle.tcap_words.specs.Quality.{quality_of_word}
-use Rattle.tcap_words.specs.Thread.{ThreadFits}
+use Rattle.table_lines.specs.kernel_history.proofs.{◌≡◌, ℕ, zero, suc, ◌+◌, ◌<◌, ◌≤◌, ◌++◌, List, [], ◌∷◌, Option, Some, None, refl, sym}
+use Rattle.table_lines.specs.kernel_history.proofs.{ap, ◌∙◌, arith, length, take, reverse, option_to_list, slice_get, reverse-append}
+use Rattle.table_lines.specs.kernel_history.proofs.{stack_of_word, quality_of_word, ThreadFits, comp_of_word, Place, CompFields}
+use Rattle.table_lines.specs.kernel_history.proofs.{ThreadFields, TcapFields, Blank, Table, Leaf, Pages, Pleaf, Comp, Thread, Tcap, Frame}
+use Rattle.table_lines.specs.kernel_history.proofs.{Untyped, User, Kernel, thread_value, frame_value, AreFrame}
+use Rattle.table_report.specs.{stack_shown, qualities_shown}
+use Rattle.std.proofs.lemmas.List.{length-reverse, reverse-reverse}
+use Rattle.table_lines.specs.kernel_history.specs.FinalWords.{AreComp, AreThread, AreTcap}
+use Rattle.table_report.specs.Shown.{stacked, listed, comp_shown, budget_shown, frame_shown}
 use Rattle.tcap_words.proofs.ThreadLemmas as threads
-use Rattle.frame_words.specs.Comp.{comp_of_word}
-use Rattle.kernel_rules.specs.State.{Place, CompFields, ThreadFields, TcapFields, Blank, Table, Leaf}
-use Rattle.kernel_rules.specs.State.{Pages, Pleaf, Comp, Thread, Tcap, Frame, Untyped, User, Kernel}
-use Rattle.kernel_history.specs.ObjectWords.{thread_value, frame_value}
-use Rattle.kernel_history.specs.FinalWords.{AreComp, AreThread, AreTcap, AreFrame}
-use Rattle.table_report.specs.Shown.{stacked, listed, stack_shown, qualities_shown, comp_shown, budget_shown, frame_shown}
 
 -- One more of a list, if it has one more.
 take_option : {A : Type 0} (xs : List A) (n : ℕ) → take (suc n) xs ≡ take n xs ++ option_to_list (slice_get xs n)

@@ -1,47 +1,20 @@
 -- The state that words and ends show, whatever they are: a word that unpacks to nothing, or to a core's mark, shows nothing.
 -- A count word shows its count, whoever holds it.
-use Rattle.std.specs.Prelude.{ℕ, zero, suc, ◌+◌, Bool, true, false, List, [], ◌++◌, Option, Some, None, option_to_list}
-use Rattle.spk_nums.specs.declared.kinds.FrameKind.{FrameKind}
-use Rattle.spk_nums.specs.declared.kinds.FrameKind.TheVariants as frame_kind
-use Rattle.spk_nums.specs.declared.kinds.Obj.{Obj}
-use Rattle.spk_nums.specs.declared.kinds.Obj.TheVariants as obj
-use Rattle.spk_nums.specs.declared.translations.CoreEnd.{CoreEnd}
-use Rattle.entry_words.specs.declared.entry.Entry.{Entry}
-use Rattle.entry_words.specs.declared.entry.Entry.TheVariants as entry
-use Rattle.entry_words.specs.EntryWord.{entry_of_word}
-use Rattle.frame_words.specs.Comp.{comp_of_word}
-use Rattle.frame_words.specs.Frame.{frame_of_word}
-use Rattle.frame_words.specs.Live.{live_of_word}
-use Rattle.frame_words.specs.Residue.{residue}
-use Rattle.frame_words.specs.declared.comp_word.CompWord.{CompWord}
-use Rattle.frame_words.specs.declared.frame_word.FrameWord.{FrameWord}
-use Rattle.frame_words.specs.declared.live_word.LiveWord.{LiveWord}
-use Rattle.frame_words.specs.declared.live_word.LiveWord.TheVariants as live_word
-use Rattle.tcap_words.specs.Head.{head_of_word}
-use Rattle.tcap_words.specs.Quality.{quality_of_word}
-use Rattle.tcap_words.specs.Stack.{stack_of_word}
-use Rattle.tcap_words.specs.declared.head_word.HeadWord.{HeadWord}
-use Rattle.tcap_words.specs.declared.quality_word.QualityWord.{QualityWord}
-use Rattle.tcap_words.specs.declared.stack_word.StackWord.{StackWord}
-use Rattle.word_map.specs.Word.{EntryAt, FrameAt, LiveAt}
-use Rattle.word_map.specs.Places.{Shape}
-use Rattle.kernel_rules.specs.State.{Place, Free, Holds, CompFields, Object, Blank, Table, Leaf, Pages, Pleaf, Comp}
-use Rattle.kernel_rules.specs.State.{Thread, Tcap, Frame, Untyped, User, Kernel, Liveness, Unused, Live, Dead, Core, State}
-use Rattle.kernel_rules.specs.Start.{no_grace}
-use Rattle.kernel_rules.specs.Laws.{ticks}
-use Rattle.kernel_history.specs.ObjectWords.{holds_node}
-use Rattle.table_lines.specs.Ends.{core_shown}
-use Rattle.kernel_history.specs.FinalWords.{word_in, end_in}
-use Rattle.kernel_history.specs.Counts.{counters, count_at, count_sum}
-use Rattle.kernel_history.specs.Tables.{lines_below, frame_lines, number_line, core_lines, total_line}
+use Rattle.table_lines.specs.kernel_history.specs as low
+use low.{ℕ, zero, suc, ◌+◌, Bool, true, false, List, [], ◌++◌, Option, Some, None, option_to_list, FrameKind, Obj, CoreEnd, Entry}
+use low.{entry_of_word, comp_of_word, frame_of_word, live_of_word, residue, CompWord, FrameWord, LiveWord, head_of_word, quality_of_word}
+use low.{stack_of_word, HeadWord, QualityWord, EntryAt, FrameAt, LiveAt, Shape, Place, Free, Holds, CompFields, Object, Blank, Table, Leaf}
+use low.{Pages, Pleaf, Comp, Thread, Tcap, Frame, Untyped, User, Kernel, Liveness, Unused, Live, Dead, Core, State, no_grace, ticks}
+use low.{holds_node, word_in, end_in, counters, count_at, count_sum, lines_below, frame_lines, number_line, core_lines, total_line}
+use Rattle.{tcap_words.specs.declared.stack_word.StackWord.StackWord, table_lines.specs.Ends.core_shown}
 
 -- The place that an entry shows: what was removed is not shown.
 abbrev pub place_shown : Option Entry → Place
 place_shown None = Free
-place_shown (Some entry.Free) = Free
-place_shown (Some (entry.Held k)) = Holds k
-place_shown (Some (entry.Closing by)) = Free
-place_shown (Some (entry.Quiescing stamp)) = Free
+place_shown (Some Entry.Free) = Free
+place_shown (Some (Entry.Held k)) = Holds k
+place_shown (Some (Entry.Closing by)) = Free
+place_shown (Some (Entry.Quiescing stamp)) = Free
 
 -- The place that a word of a frame shows; words of a frame that is no node show none.
 abbrev pub place_in : Bool → ℕ → Place
@@ -80,20 +53,20 @@ qualities_shown word (suc n) = qualities_shown word n ++ listed (quality_of_word
 
 -- The object of this name that the words of a frame show.
 abbrev pub object_shown : Obj → (ℕ → ℕ) → Object
-object_shown obj.Blank word = Blank
-object_shown obj.Table word = Table
-object_shown obj.Leaf word = Leaf
-object_shown obj.Pages word = Pages
-object_shown obj.Pleaf word = Pleaf
-object_shown obj.Comp word = Comp (comp_shown (comp_of_word (word 2)) (word 0) (word 1))
-object_shown obj.Thread word = Thread (record { stack = stack_shown word 16; runs_on = None })
-object_shown obj.Tcap word = Tcap (record { budget = budget_shown (head_of_word (word 0)); qualities = qualities_shown word 8 })
+object_shown Obj.Blank word = Blank
+object_shown Obj.Table word = Table
+object_shown Obj.Leaf word = Leaf
+object_shown Obj.Pages word = Pages
+object_shown Obj.Pleaf word = Pleaf
+object_shown Obj.Comp word = Comp (comp_shown (comp_of_word (word 2)) (word 0) (word 1))
+object_shown Obj.Thread word = Thread (record { stack = stack_shown word 16; runs_on = None })
+object_shown Obj.Tcap word = Tcap (record { budget = budget_shown (head_of_word (word 0)); qualities = qualities_shown word 8 })
 
 -- The frame of this kind that its words show.
 abbrev pub kind_shown : FrameKind → Obj → (ℕ → ℕ) → Frame
-kind_shown frame_kind.Untyped object word = Untyped
-kind_shown frame_kind.User object word = User
-kind_shown frame_kind.Kernel object word = Kernel (object_shown object word)
+kind_shown FrameKind.Untyped object word = Untyped
+kind_shown FrameKind.User object word = User
+kind_shown FrameKind.Kernel object word = Kernel (object_shown object word)
 
 -- The frame that its word and the words of its object show.
 abbrev pub frame_shown : Option FrameWord → (ℕ → ℕ) → Frame
@@ -103,10 +76,10 @@ frame_shown (Some v) word = kind_shown v.kind v.object word
 -- What a liveness word shows.
 abbrev pub number_shown : Option LiveWord → Liveness
 number_shown None = Unused
-number_shown (Some live_word.Free) = Unused
-number_shown (Some (live_word.Live epoch frame)) = Live epoch frame
-number_shown (Some (live_word.Closing epoch by)) = Unused
-number_shown (Some (live_word.Dead epoch stamp)) = Dead epoch
+number_shown (Some LiveWord.Free) = Unused
+number_shown (Some (LiveWord.Live epoch frame)) = Live epoch frame
+number_shown (Some (LiveWord.Closing epoch by)) = Unused
+number_shown (Some (LiveWord.Dead epoch stamp)) = Dead epoch
 
 -- The words of a frame's object.
 abbrev pub words_of : Shape → List ℕ → ℕ → ℕ → ℕ

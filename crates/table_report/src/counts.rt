@@ -2,8 +2,8 @@
 
 ghost use Rattle.std.specs.Prelude.{◌≡◌, ◌<◌};
 ghost use Rattle.std.specs.List.{range_with_len};
-ghost use Rattle.kernel_history.specs.FinalWords.{word_in};
-ghost use Rattle.kernel_history.specs.Counts.{counters, count_at, count_in, count_sum};
+ghost use Rattle.table_lines.specs.kernel_history.specs.FinalWords.{word_in};
+ghost use Rattle.table_lines.specs.kernel_history.specs.Counts.{counters, count_at, count_in, count_sum};
 ghost use Rattle.table_report.specs.Shown.{counted_at};
 
 use frame_words::{CountWord, residue};

@@ -1,11 +1,11 @@
 //! The lines of frames, and the sum of their budgets.
 
 ghost use Rattle.std.specs.Prelude.{◌≡◌, ◌<◌, ◌≤◌, ◌^◌, ◌++◌, length, OnOk, string_bytes};
-ghost use Rattle.kernel_rules.specs.State.{tcap_in, Kernel};
-ghost use Rattle.kernel_rules.specs.References.{sum_below};
-ghost use Rattle.kernel_history.specs.Tables.{frame_line, frame_lines, object_lines, object_word};
+ghost use Rattle.table_lines.specs.kernel_rules.specs.State.{tcap_in, Kernel};
+ghost use Rattle.table_lines.specs.kernel_rules.specs.References.{sum_below};
+ghost use Rattle.table_lines.specs.kernel_history.specs.Tables.{frame_line, frame_lines, object_lines, object_word};
 ghost use Rattle.table_report.specs.Shown.{object_shown, place_in, words_of, frame_at, place_at, counted_at, frames_text};
-ghost use Rattle.kernel_history.specs.ObjectWords.{is_node_object};
+ghost use Rattle.table_lines.specs.kernel_history.specs.ObjectWords.{is_node_object};
 
 use crate::counts::references;
 use crate::objects::{budget, push_comp, push_node, push_tcap, push_thread};

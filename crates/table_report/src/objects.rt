@@ -7,7 +7,7 @@ ghost use Rattle.frame_words.specs.Comp.{comp_of_word};
 ghost use Rattle.tcap_words.specs.Head.{head_of_word};
 ghost use Rattle.tcap_words.specs.Quality.{quality_of_word};
 ghost use Rattle.tcap_words.specs.Stack.{stack_of_word};
-ghost use Rattle.kernel_history.specs.Tables.{number, entry_line, node_lines, comp_line, thread_line, quality_line, tcap_lines};
+ghost use Rattle.table_lines.specs.kernel_history.specs.Tables.{number, entry_line, node_lines, comp_line, thread_line, quality_line, tcap_lines};
 ghost use Rattle.table_report.specs.Shown.{place_shown, comp_shown, stacked, listed, stack_shown, qualities_shown, budget_shown, words_of};
 
 use crate::words::{entry_word, held};

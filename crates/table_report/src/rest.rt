@@ -2,9 +2,9 @@
 
 ghost use Rattle.std.specs.Prelude.{◌≡◌, ◌≤◌, ◌^◌, ◌++◌, length, OnOk, Some, string_bytes, codes};
 ghost use Rattle.std.specs.List.{flat_map};
-ghost use Rattle.kernel_rules.specs.State.{outstanding};
-ghost use Rattle.kernel_rules.specs.References.{sum_below};
-ghost use Rattle.kernel_history.specs.Tables.{number, number_line, translation_line, core_lines, total_line};
+ghost use Rattle.table_lines.specs.kernel_rules.specs.State.{outstanding};
+ghost use Rattle.table_lines.specs.kernel_rules.specs.References.{sum_below};
+ghost use Rattle.table_lines.specs.kernel_history.specs.Tables.{number, number_line, translation_line, core_lines, total_line};
 ghost use Rattle.table_lines.specs.Ends.{core_shown};
 ghost use Rattle.table_report.specs.Shown.{number_shown, numbers_text, core_shown_at, cores_text};
 

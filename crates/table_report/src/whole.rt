@@ -1,11 +1,11 @@
 //! The tables, whole.
 
 ghost use Rattle.std.specs.Prelude.{◌≡◌, IfOk, string_bytes};
-ghost use Rattle.kernel_rules.specs.State.{State};
-ghost use Rattle.kernel_rules.specs.Laws.{ticks};
-ghost use Rattle.kernel_history.specs.FinalWords.{Represent, word_in, end_in};
-ghost use Rattle.kernel_history.specs.Counts.{RepresentCounts};
-ghost use Rattle.kernel_history.specs.Tables.{tables_of};
+ghost use Rattle.table_lines.specs.kernel_rules.specs.State.{State};
+ghost use Rattle.table_lines.specs.kernel_rules.specs.Laws.{ticks};
+ghost use Rattle.table_lines.specs.kernel_history.specs.FinalWords.{Represent, word_in, end_in};
+ghost use Rattle.table_lines.specs.kernel_history.specs.Counts.{RepresentCounts};
+ghost use Rattle.table_lines.specs.kernel_history.specs.Tables.{tables_of};
 ghost use Rattle.table_report.specs.Shown.{shown, tables_shown};
 
 use crate::frames::{budgets, push_frames};

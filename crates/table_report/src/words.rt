@@ -2,7 +2,7 @@
 
 ghost use Rattle.std.specs.Prelude.{◌≡◌, ◌<◌, Some};
 ghost use Rattle.entry_words.specs.EntryWord.{entry_of_word};
-ghost use Rattle.kernel_rules.specs.Start.{place_with};
+ghost use Rattle.table_lines.specs.kernel_rules.specs.Start.{place_with};
 ghost use Rattle.table_report.specs.Shown.{place_shown, words_of};
 
 use entry_words::Entry;

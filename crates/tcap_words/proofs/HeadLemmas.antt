@@ -1,13 +1,10 @@
 -- One spelling for each head word.
-use Rattle.std.proofs.Common.{◌≡◌, ℕ, ◌+◌, ◌*◌, ◌/◌, ◌%◌, ◌^◌, ◌<◌, nat_lt, Option, Some, None, IfSome, refl, subst, arith}
-use Rattle.std.proofs.lemmas.Bool.{lt-ltb, ltb-true}
-use Rattle.spk_nums.proofs.Choices.{kept}
-use Rattle.spk_nums.proofs.MarkLemmas.{IsMarkNumber, mark_numbered, MarkFrom, mark_from}
-use Rattle.spk_nums.proofs.OneSpelling.{spelling_reads, spelling_spells}
-use Rattle.spk_nums.specs.Marks.{number_of_mark, mark_of_number}
-use Rattle.spk_nums.specs.Spelling.{IsOneSpelling}
-use Rattle.tcap_words.specs.Head.{HeadFits, word_of_head, head_of, head_of_word}
-use Rattle.tcap_words.specs.declared.head_word.HeadWord.{HeadWord}
+use Rattle.std.proofs.Common.{◌≡◌, ℕ, ◌+◌, ◌*◌, ◌/◌, ◌%◌, ◌^◌, ◌<◌, nat_lt, Option, Some, None, IfSome, refl, subst, arith, lt-ltb}
+use Rattle.tcap_words.specs.{HeadFits, word_of_head, head_of_word}
+use Rattle.spk_nums.proofs.{Choices.kept, MarkLemmas.IsMarkNumber, MarkLemmas.mark_numbered, MarkLemmas.MarkFrom, MarkLemmas.mark_from}
+use Rattle.spk_nums.specs.{Marks.number_of_mark, Marks.mark_of_number, Spelling.IsOneSpelling}
+use Rattle.{std.proofs.Common.ltb-true, spk_nums.proofs.OneSpelling.spelling_reads, spk_nums.proofs.OneSpelling.spelling_spells}
+use Rattle.{tcap_words.specs.Head.head_of, tcap_words.specs.declared.head_word.HeadWord.HeadWord}
 
 reads : (v : HeadWord) → HeadFits v → head_of_word (word_of_head v) ≡ Some v
 unfolding word_of_head head_of_word

@@ -1,12 +1,10 @@
 -- One spelling for each quality word.
-use Rattle.std.proofs.Common.{◌≡◌, ◌≢◌, true, ℕ, ◌+◌, ◌*◌, ◌/◌, ◌%◌, ◌^◌, ◌<◌, ◌≤◌, ◌==◌, ◌&&◌}
-use Rattle.std.proofs.Common.{nat_lt, nat_le, Option, Some, None, IfSome, refl, subst, arith}
-use Rattle.std.proofs.lemmas.Bool.{and_parts, ne_eqb, lt-ltb, le-leb, ltb-true, leb-true, eqb-true}
-use Rattle.spk_nums.proofs.Choices.{chosen}
-use Rattle.spk_nums.proofs.OneSpelling.{spelling_reads, spelling_spells}
-use Rattle.spk_nums.specs.Spelling.{IsOneSpelling}
-use Rattle.tcap_words.specs.Quality.{PairFits, QualityFits, word_of_quality, quality_of_word}
-use Rattle.tcap_words.specs.declared.quality_word.QualityWord.{QualityWord}
+use Rattle.std.proofs.Common.{◌≡◌, ◌≢◌, true, ℕ, ◌+◌, ◌*◌, ◌/◌, ◌%◌, ◌^◌, ◌<◌, ◌≤◌, ◌==◌, ◌&&◌, nat_lt, nat_le, Option, Some, None, IfSome}
+use Rattle.std.proofs.Common.{refl, subst, arith, ne_eqb, lt-ltb, le-leb, ltb-true, leb-true, eqb-true}
+use Rattle.tcap_words.specs.{QualityFits, word_of_quality, quality_of_word}
+use Rattle.spk_nums.proofs.{Choices.chosen, OneSpelling.spelling_reads, OneSpelling.spelling_spells}
+use Rattle.tcap_words.specs.{Quality.PairFits, declared.quality_word.QualityWord.QualityWord}
+use Rattle.{std.proofs.lemmas.Bool.and_parts, spk_nums.specs.Spelling.IsOneSpelling}
 
 reads_pair : (o : Option (ℕ × ℕ)) → PairFits o → quality_of_word (word_of_quality (record { 0 = o })) ≡ Some (record { 0 = o })
 unfolding word_of_quality quality_of_word

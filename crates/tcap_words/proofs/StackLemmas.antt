@@ -1,12 +1,10 @@
 -- One spelling for each stack word.
-use Rattle.std.proofs.Common.{◌≡◌, ◌≢◌, true, ℕ, ◌+◌, ◌*◌, ◌/◌, ◌%◌, ◌^◌, ◌<◌, ◌==◌, ◌&&◌}
-use Rattle.std.proofs.Common.{nat_lt, Option, Some, None, IfSome, refl, subst, arith}
-use Rattle.std.proofs.lemmas.Bool.{and_parts, ne_eqb, lt-ltb, ltb-true, eqb-true}
-use Rattle.spk_nums.proofs.Choices.{chosen}
-use Rattle.spk_nums.proofs.OneSpelling.{spelling_reads, spelling_spells}
-use Rattle.spk_nums.specs.Spelling.{IsOneSpelling}
-use Rattle.tcap_words.specs.Stack.{PlaceFits, StackFits, word_of_stack, stack_of_word}
-use Rattle.tcap_words.specs.declared.stack_word.StackWord.{StackWord}
+use Rattle.std.proofs.Common.{◌≡◌, ◌≢◌, true, ℕ, ◌+◌, ◌*◌, ◌/◌, ◌%◌, ◌^◌, ◌<◌, ◌==◌, ◌&&◌, nat_lt, Option, Some, None, IfSome, refl, subst}
+use Rattle.std.proofs.Common.{arith, ne_eqb, lt-ltb, ltb-true, eqb-true}
+use Rattle.tcap_words.specs.{word_of_stack, stack_of_word}
+use Rattle.spk_nums.proofs.{Choices.chosen, OneSpelling.spelling_reads, OneSpelling.spelling_spells}
+use Rattle.tcap_words.specs.{Stack.PlaceFits, Stack.StackFits, declared.stack_word.StackWord.StackWord}
+use Rattle.{std.proofs.lemmas.Bool.and_parts, spk_nums.specs.Spelling.IsOneSpelling}
 
 reads_place : (o : Option ℕ) → PlaceFits o → stack_of_word (word_of_stack (record { 0 = o })) ≡ Some (record { 0 = o })
 unfolding word_of_stack stack_of_word

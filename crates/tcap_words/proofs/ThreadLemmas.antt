@@ -1,12 +1,11 @@
 -- One spelling for each thread word.
 use Rattle.std.proofs.Common.{◌≡◌, ℕ, ◌+◌, ◌*◌, ◌/◌, ◌%◌, ◌^◌, ◌<◌, ◌≤◌, ◌==◌, ◌&&◌, nat_le, Option, Some, IfSome, refl, subst, arith}
-use Rattle.std.proofs.lemmas.Bool.{and_parts, le-leb, leb-true, eqb-true}
-use Rattle.spk_nums.proofs.Choices.{chosen}
-use Rattle.spk_nums.proofs.OneSpelling.{spelling_reads, spelling_spells}
-use Rattle.spk_nums.specs.Spelling.{IsOneSpelling}
-use Rattle.tcap_words.specs.Thread.{DepthFits, ThreadFits, word_of_thread, thread_of_word, state_of}
-use Rattle.tcap_words.specs.declared.thread_word.ThreadWord.{ThreadWord}
-use Rattle.tcap_words.specs.declared.thread_word.ThreadWord.TheVariants.{Idle, Running, Claimed}
+use Rattle.std.proofs.Common.{le-leb, leb-true, eqb-true}
+use Rattle.tcap_words.specs.{DepthFits, ThreadFits, word_of_thread, thread_of_word}
+use Rattle.spk_nums.proofs.{Choices.chosen, OneSpelling.spelling_reads, OneSpelling.spelling_spells}
+use Rattle.tcap_words.specs.{Thread.state_of, declared.thread_word.ThreadWord.ThreadWord, declared.thread_word.ThreadWord.TheVariants.Idle}
+use Rattle.tcap_words.specs.{declared.thread_word.ThreadWord.TheVariants.Running, declared.thread_word.ThreadWord.TheVariants.Claimed}
+use Rattle.{std.proofs.lemmas.Bool.and_parts, spk_nums.specs.Spelling.IsOneSpelling}
 
 -- a word is read by its three numbers, where the depth is within its range
 read_by : (w state core depth : ℕ) → state < 4 → core < 8 → DepthFits depth

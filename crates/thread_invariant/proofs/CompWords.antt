@@ -1,15 +1,13 @@
 -- What the words of a component say, and which frames they name.
-use Rattle.live_invariant.proofs.Common.{◌≡◌, ◌<◌, ℕ, None, IsTrue, refl, ◌∙◌, ap, subst, Setting, IsSetting}
-use Rattle.live_invariant.proofs.Common.{EntryAt, Kernel, Comp, PlaceOf, State, comp_in, fits, IsSound, IsObjectGood, opened}
-use Rattle.live_invariant.proofs.Common.{events_of, mark_in_frame, marked_by, stamp, Trace, state_after, last_left, sound_of, Core}
-use Rattle.live_invariant.proofs.Common.{settled_by, held_by, Invariant, IsFrameWord, may_keep, not_exclusive_value, limits_of}
-use Rattle.live_invariant.specs.spk_nums.specs.declared.kinds.Kind.TheVariants as kind
-use Rattle.live_invariant.specs.kernel_invariant.proofs.SoundRemovals.{below_by}
-use Rattle.live_invariant.specs.core_invariant.specs.Words.{IsCompWord}
-use Rattle.live_invariant.proofs.Numbers.{comp_is}
+use Rattle.live_invariant.specs.step_ways.proofs.{◌≡◌, ◌<◌, ℕ, None, IsTrue, refl, ◌∙◌, ap, subst, Setting, IsSetting, EntryAt, Kernel}
+use Rattle.live_invariant.specs.step_ways.proofs.{Comp, PlaceOf, State, comp_in, fits, IsSound, IsObjectGood, opened, events_of}
+use Rattle.live_invariant.specs.step_ways.proofs.{mark_in_frame, marked_by, stamp, Trace, state_after, last_left, sound_of, Core}
+use Rattle.live_invariant.specs.step_ways.proofs.{settled_by, held_by, Invariant, IsFrameWord, may_keep, not_exclusive_value, limits_of}
+use Rattle.{live_invariant.specs.step_ways.proofs.Kind, live_invariant.specs.kernel_invariant.proofs.SoundRemovals.below_by}
+use Rattle.{live_invariant.specs.core_invariant.specs.Words.IsCompWord, live_invariant.proofs.Numbers.comp_is}
 
 module _ (setup : Setting) (setting : IsSetting setup) (cores : ℕ → Core) (t : Trace) (stands : Invariant setup cores t) (f : ℕ)
-    (comp : IsTrue (fits kind.Comp ((state_after setup t).frame f))) where
+    (comp : IsTrue (fits Kind.Comp ((state_after setup t).frame f))) where
   abbrev s : State
   s = state_after setup t
 
@@ -40,11 +38,11 @@ module _ (setup : Setting) (setting : IsSetting setup) (cores : ℕ → Core) (t
   -- the frames of its table and of its pages are of the machine
   pub table_below : (comp_in (s.frame f)).table < setup.frames
   table_below = subst (λ (n : ℕ). (comp_in (s.frame f)).table < n) frames_are
-      (below_by s (opened (events_of t)) (comp_in (s.frame f)).table sound (fits kind.Table) refl good.0)
+      (below_by s (opened (events_of t)) (comp_in (s.frame f)).table sound (fits Kind.Table) refl good.0)
 
   pub pages_below : (comp_in (s.frame f)).pages < setup.frames
   pages_below = subst (λ (n : ℕ). (comp_in (s.frame f)).pages < n) frames_are
-      (below_by s (opened (events_of t)) (comp_in (s.frame f)).pages sound (fits kind.Pages) refl good.1)
+      (below_by s (opened (events_of t)) (comp_in (s.frame f)).pages sound (fits Kind.Pages) refl good.1)
 
   pub comp_below : f < setup.frames
-  comp_below = subst (λ (n : ℕ). f < n) frames_are (below_by s (opened (events_of t)) f sound (fits kind.Comp) refl comp)
+  comp_below = subst (λ (n : ℕ). f < n) frames_are (below_by s (opened (events_of t)) f sound (fits Kind.Comp) refl comp)

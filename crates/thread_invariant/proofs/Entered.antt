@@ -1,57 +1,40 @@
 -- The load of the number's word by which a core enters a component: where it shows the component live in the gate's epoch, the call is
 -- decided, and the component stands on top of the core's stack.
-use Rattle.live_invariant.proofs.Common.{list_any, min, ◌≡◌, ◌≢◌, ◌⊎◌, inl, inr, ℕ, suc, pos, ◌+ℤ◌, max, length, ◌+◌, ◌-◌, ◌^◌, ◌<◌, ◌≤◌}
-use Rattle.live_invariant.proofs.Common.{◌==◌, Bool, true, false, if◌then◌else◌, List, [], ◌∷◌, Option, Some, None, arith, refl}
-use Rattle.live_invariant.proofs.Common.{sym, ◌∙◌, ap, subst, eqb-true, eq-eqb, Setting, IsSetting, Reply, live_of_word, CompWord}
-use Rattle.live_invariant.proofs.Common.{LiveWord, word_of_stack, ThreadFits, word_of_thread, Running, Word, EntryAt}
-use Rattle.live_invariant.proofs.Common.{CountAt, LiveAt, ClockAt, Move, LoadOf, word_of, told_of, CompFields, ThreadFields, Comp, Thread}
-use Rattle.live_invariant.proofs.Common.{Kernel, Thing, PlaceOf, FrameOf, NumberOf, Grace, State, first_of_stack, comp_in, comp_of}
-use Rattle.live_invariant.proofs.Common.{thread_of, Found, IsFoundAnd, times, refs, is_live_in, MayReply, change_of, changed}
-use Rattle.live_invariant.proofs.Common.{counted, begins_in, ends_by, flushes_by, same_thing, new_grace, times_cons, live_mark, marked_by}
-use Rattle.live_invariant.proofs.Common.{at_height, ends_in, flushes_in, begins_at, ends_at, flushes_at, stamp, Step, Trace, Open, phase}
-use Rattle.live_invariant.proofs.Common.{state_after, state_decided_in, last_left, ok_first, last_left-there, later, stamp_of_change}
-use Rattle.live_invariant.proofs.Common.{Invoking, InvokingAt, Own, Works, Tail, Push, Act, own_changed, own_decided, Stage, Undecided}
-use Rattle.live_invariant.proofs.Common.{Decided, ActiveCall, landed, Core, Holding, holds_counts, WordIs}
-use Rattle.live_invariant.proofs.Common.{KnowsUndecided, WorksIn, holds_at, holds_in, holds, times_of, Invariant, counts_bare}
-use Rattle.live_invariant.proofs.Common.{IsUntimed, plain_begins, plain_stamp, plain_flush}
-use Rattle.live_invariant.proofs.Common.{exclusive_kept, marks_own, carry_marks, word_stays}
-use Rattle.live_invariant.proofs.Common.{last_small, invoking_dues, due_of}
-use Rattle.live_invariant.specs.spk_nums.specs.declared.replies.Reply.TheVariants as reply
-use Rattle.live_invariant.specs.spk_nums.specs.declared.replies.Value.TheVariants as value
-use Rattle.live_invariant.specs.frame_words.specs.declared.live_word.LiveWord.TheVariants as live_word
+use Rattle.live_invariant.specs.step_ways.proofs.{min, ◌≡◌, ◌≢◌, ◌⊎◌, inl, inr, ℕ, suc, pos, ◌+ℤ◌, max, length, ◌+◌, ◌-◌, ◌^◌, ◌<◌, ◌≤◌}
+use Rattle.live_invariant.specs.step_ways.proofs.{◌==◌, Bool, true, false, if◌then◌else◌, List, [], ◌∷◌, Option, Some, None, arith, refl}
+use Rattle.live_invariant.specs.step_ways.proofs.{sym, ◌∙◌, ap, subst, eqb-true, eq-eqb, Setting, IsSetting, Reply, live_of_word, CompWord}
+use Rattle.live_invariant.specs.step_ways.proofs.{LiveWord, word_of_stack, ThreadFits, word_of_thread, Running, Word, EntryAt, CountAt}
+use Rattle.live_invariant.specs.step_ways.proofs.{LiveAt, ClockAt, Move, LoadOf, word_of, told_of, CompFields, ThreadFields, Comp, Thread}
+use Rattle.live_invariant.specs.step_ways.proofs.{Kernel, Thing, PlaceOf, FrameOf, NumberOf, Grace, State, first_of_stack, comp_in, comp_of}
+use Rattle.live_invariant.specs.step_ways.proofs.{thread_of, Found, IsFoundAnd, times, refs, is_live_in, MayReply, change_of, changed}
+use Rattle.live_invariant.specs.step_ways.proofs.{counted, ends_by, flushes_by, same_thing, new_grace, times_cons, live_mark, marked_by}
+use Rattle.live_invariant.specs.step_ways.proofs.{at_height, ends_in, flushes_in, begins_at, ends_at, flushes_at, stamp, Step, Trace, Open}
+use Rattle.live_invariant.specs.step_ways.proofs.{phase, state_after, state_decided_in, last_left, ok_first, last_left-there, later}
+use Rattle.live_invariant.specs.step_ways.proofs.{stamp_of_change, Invoking, InvokingAt, Own, Works, Tail, Push, Act, own_changed}
+use Rattle.live_invariant.specs.step_ways.proofs.{own_decided, Stage, Undecided, Decided, ActiveCall, landed, Core, Holding, holds_counts}
+use Rattle.live_invariant.specs.step_ways.proofs.{WordIs, KnowsUndecided, WorksIn, holds_at, holds_in, holds, times_of, Invariant}
+use Rattle.live_invariant.specs.step_ways.proofs.{counts_bare, IsUntimed, plain_begins, plain_stamp, plain_flush, marks_own, carry_marks}
+use Rattle.live_invariant.specs.step_ways.proofs.{word_stays, due_of, begins_in as begins_then, Invoke as invoke_act, spares_kept, inner}
+use Rattle.live_invariant.specs.step_ways.proofs.{next_at, decides_changing, GoodTook, not_spent, spares_none, same_marks, does, Value}
+use Rattle.live_invariant.specs.act_states.specs.{begins_in, invoking_dues, took_invoking_at, invoking_at, enters_if, enters_live}
+use Rattle.live_invariant.specs.core_invariant.specs.{HasLoadedComp, KnowsInvoking, keeps_bare}
+use Rattle.live_invariant.specs.count_invariant.proofs.{counts_commit, counts_sum, dues_of}
+use Rattle.live_invariant.specs.kept_facts.proofs.{exclusive_kept, last_small}
+use Rattle.live_invariant.specs.act_states.specs.declared.invocations.InvokingAt.TheVariants.{LoadTable, LoadPages, LoadComp, LoadLive}
+use Rattle.thread_invariant.proofs.{EntryMarks.counts_apart, CompWords.holds_comp, CompWords.comp_below, Heights.at_top, Heights.beside_top}
+use Rattle.thread_invariant.proofs.{Invokes.knows_at, Invokes.looking, Invokes.says, Invokes.lives_so, Invokes.dead_good}
+use Rattle.thread_invariant.proofs.{Invokes.closing_good, Invokes.load_table_good, Invokes.load_pages_good, Invokes.load_comp_good}
+use Rattle.thread_invariant.proofs.{OwnStack.own_thread, Restacks.IsRestack, Restacks.frame_away, Restacks.core_now, Restacks.limits}
+use Rattle.thread_invariant.proofs.{Restacks.whose, Restacks.refs_now, Restacks.grows, Restacks.alike, Restacks.restack_words}
+use Rattle.thread_invariant.proofs.{Restacks.restack_exclusive, Stacked.stacked, Stacks.kept_here, Stacks.kept_there, Stacks.kept_is}
+use Rattle.{live_invariant.specs.act_states.specs.Nothing as no_value, std.specs.List.list_any}
+use Rattle.{live_invariant.specs.act_states.specs.Taking.took_invoking, live_invariant.specs.act_states.specs.Invocations.invoking_move}
+use Rattle.{live_invariant.specs.count_invariant.proofs.StackCounts.invoke_threads, live_invariant.proofs.Numbers.shows_some}
+use Rattle.{live_invariant.specs.kernel_rules.specs.Edits.Push as push_edit}
 use Rattle.live_invariant.specs.tcap_words.proofs.StackLemmas as stacks
 use Rattle.live_invariant.specs.tcap_words.proofs.ThreadLemmas as threads
-use Rattle.live_invariant.specs.kernel_history.specs.Stamps.{begins_in as begins_then}
 use Rattle.live_invariant.specs.stage_thread.specs.declared.stack.Push.TheVariants as push
-use Rattle.live_invariant.specs.act_states.specs.declared.invocations.InvokingAt.TheVariants.{LoadTable, LoadPages, LoadComp, LoadLive}
-use Rattle.live_invariant.specs.act_states.specs.declared.work.Act.TheVariants.{Invoke as invoke_act}
-use Rattle.live_invariant.specs.act_states.specs.Acts.{took_invoking, took_invoking_at}
-use Rattle.live_invariant.specs.act_states.specs.Invocations.{invoking_at, invoking_move, enters_if, enters_live}
-use Rattle.live_invariant.specs.core_invariant.specs.Components.{HasLoadedComp, KnowsInvoking}
-use Rattle.live_invariant.specs.core_invariant.specs.Holding.{keeps_bare}
-use Rattle.live_invariant.specs.step_ways.proofs.Good.{spares_kept}
-use Rattle.live_invariant.specs.step_ways.proofs.Loads.{inner, next_at}
-use Rattle.live_invariant.specs.step_ways.proofs.OwnChanges.{decides_changing}
-use Rattle.live_invariant.specs.step_ways.proofs.Refusals.{GoodTook, not_spent}
-use Rattle.live_invariant.specs.step_ways.proofs.Users.{spares_none}
-use Rattle.live_invariant.specs.step_ways.proofs.Writes.{same_marks}
-use Rattle.live_invariant.specs.count_invariant.proofs.CapChanges.{counts_commit, counts_sum, dues_of}
-use Rattle.live_invariant.specs.count_invariant.proofs.StackCounts.{invoke_threads}
-use Rattle.live_invariant.proofs.Numbers.{shows_some}
-use Rattle.thread_invariant.proofs.EntryMarks.{counts_apart}
-use Rattle.thread_invariant.proofs.CompWords.{holds_comp, comp_below}
-use Rattle.thread_invariant.proofs.Heights.{at_top, beside_top}
 use Rattle.thread_invariant.proofs.InvokeCalls as calls
-use Rattle.thread_invariant.proofs.Invokes.{knows_at, looking, says, lives_so, dead_good}
-use Rattle.thread_invariant.proofs.Invokes.{closing_good, load_table_good, load_pages_good, load_comp_good}
-use Rattle.thread_invariant.proofs.OwnStack.{own_thread}
-use Rattle.thread_invariant.proofs.Restacks.{IsRestack, frame_away, core_now, limits, whose, refs_now}
-use Rattle.thread_invariant.proofs.Restacks.{grows, alike, restack_words, restack_exclusive}
-use Rattle.thread_invariant.proofs.Stacked.{stacked}
-use Rattle.thread_invariant.proofs.Stacks.{kept_here, kept_there, kept_is}
-use Rattle.kernel_laws.specs.kernel_rules.specs.Edits.{Push as push_edit}
-use Rattle.kernel_laws.specs.kernel_rules.specs.Rules.{does}
-use Rattle.live_invariant.specs.spk_nums.specs.declared.replies.Value.TheVariants.{Nothing as no_value}
 
 comp_no_thread : (k : CompFields) (u : ThreadFields) → Kernel (Comp k) ≡ Kernel (Thread u) → ⊥
 comp_no_thread k u h = cc
@@ -61,7 +44,7 @@ module _ (setup : Setting) (setting : IsSetting setup) (cores : ℕ → Core) (t
     (a : ActiveCall) (active : (cores c).active ≡ Some a) (m : Invoking) (stage_is : a.stage ≡ Undecided (Act (invoke_act m)))
     (has : KnowsUndecided setup t c (cores c).own.table a (Act (invoke_act m))) (table pages : ℕ) (life : CompWord)
     (is : m.at ≡ LoadLive table pages life) (g : ℕ)
-    (shown : live_of_word (last_left setup t (LiveAt life.number)) ≡ Some (live_word.Live m.epoch g)) where
+    (shown : live_of_word (last_left setup t (LiveAt life.number)) ≡ Some (LiveWord.Live m.epoch g)) where
   abbrev s : State
   s = state_after setup t
 
@@ -72,7 +55,7 @@ module _ (setup : Setting) (setting : IsSetting setup) (cores : ℕ → Core) (t
   knows = has.knows.knows
 
   abbrev r : Reply
-  r = reply.Ok value.Nothing
+  r = Reply.Ok Value.Nothing
 
   abbrev move : Move
   move = LoadOf (LiveAt life.number)
@@ -123,7 +106,7 @@ module _ (setup : Setting) (setting : IsSetting setup) (cores : ℕ → Core) (t
   unmarked = ap live_mark shown
 
   lives : is_live_in (s.number (comp_in (s.frame m.comp)).number) m.epoch ≡ true
-  lives = lives_so setup setting cores t stands c here a active m stage_is has table pages life is (Some (live_word.Live m.epoch g)) shown
+  lives = lives_so setup setting cores t stands c here a active m stage_is has table pages life is (Some (LiveWord.Live m.epoch g)) shown
       refl ∙ eq-eqb m.epoch m.epoch refl
 
   change : change_of s c a.call ≡ Found (does c s no_value (push_edit m.comp ∷ []))
@@ -327,7 +310,7 @@ module _ (setup : Setting) (setting : IsSetting setup) (cores : ℕ → Core) (t
   permitted : MayReply s c a.call r
   permitted = (
     not_spent setup (cores c) t c (stands.each c here) (calls.room setup setting cores t stands c here a active m stage_is has),
-    (has.acts, subst (λ y. IsFoundAnd y (λ z. z.value ≡ value.Nothing)) (sym change) refl),
+    (has.acts, subst (λ y. IsFoundAnd y (λ z. z.value ≡ Value.Nothing)) (sym change) refl),
   )
 
   pub entered_good : GoodTook setup cores t c move (landed a (enters_if m table pages true))
@@ -364,7 +347,7 @@ module _ (setup : Setting) (setting : IsSetting setup) (cores : ℕ → Core) (t
         permitted = permitted;
         justified = calls.gone setup setting cores t stands c here a active m stage_is has e refl refl;
       })
-      (λ is_alone. ok_first s c a.call value.Nothing permitted)
+      (λ is_alone. ok_first s c a.call Value.Nothing permitted)
       (record {
         stack = record { threads = invoke_threads a.call a.found m knows.invokes; core = knows.core };
         small = comp_small;
@@ -382,22 +365,22 @@ module _ (setup : Setting) (setting : IsSetting setup) (cores : ℕ → Core) (t
     abbrev Ends : Option LiveWord → Type 0
     Ends o = GoodTook setup cores t c (LoadOf (LiveAt life.number)) (landed a (enters_live m table pages o))
 
-    by_epoch : (epoch f : ℕ) → live_of_word (last_left setup t (LiveAt life.number)) ≡ Some (live_word.Live epoch f)
+    by_epoch : (epoch f : ℕ) → live_of_word (last_left setup t (LiveAt life.number)) ≡ Some (LiveWord.Live epoch f)
         → (same : Bool) → (epoch == m.epoch) ≡ same
         → GoodTook setup cores t c (LoadOf (LiveAt life.number)) (landed a (enters_if m table pages same))
     by_epoch epoch f shown true same = entered_good setup setting cores t stands c here a active m stage_is has table pages life is f
-        (shown ∙ ap (λ (n : ℕ). Some (live_word.Live n f)) (eqb-true epoch m.epoch same))
+        (shown ∙ ap (λ (n : ℕ). Some (LiveWord.Live n f)) (eqb-true epoch m.epoch same))
     by_epoch epoch f shown false other = dead_good setup setting cores t stands c here a active m stage_is has table pages life is
-        (Some (live_word.Live epoch f)) shown refl other
+        (Some (LiveWord.Live epoch f)) shown refl other
 
     by_number : (v : LiveWord) → live_of_word (last_left setup t (LiveAt life.number)) ≡ Some v → Ends (Some v)
-    by_number live_word.Free shown =
-        dead_good setup setting cores t stands c here a active m stage_is has table pages life is (Some live_word.Free) shown refl refl
-    by_number (live_word.Live epoch f) shown = by_epoch epoch f shown (epoch == m.epoch) refl
-    by_number (live_word.Closing epoch d) shown =
+    by_number LiveWord.Free shown =
+        dead_good setup setting cores t stands c here a active m stage_is has table pages life is (Some LiveWord.Free) shown refl refl
+    by_number (LiveWord.Live epoch f) shown = by_epoch epoch f shown (epoch == m.epoch) refl
+    by_number (LiveWord.Closing epoch d) shown =
         closing_good setup setting cores t stands c here a active m stage_is has table pages life is d (ap live_mark shown)
-    by_number (live_word.Dead epoch x) shown =
-        dead_good setup setting cores t stands c here a active m stage_is has table pages life is (Some (live_word.Dead epoch x)) shown refl
+    by_number (LiveWord.Dead epoch x) shown =
+        dead_good setup setting cores t stands c here a active m stage_is has table pages life is (Some (LiveWord.Dead epoch x)) shown refl
         refl
 
     by_word : (o : Option LiveWord) → live_of_word (last_left setup t (LiveAt life.number)) ≡ o → Ends o

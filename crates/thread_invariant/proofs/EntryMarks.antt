@@ -1,46 +1,27 @@
 -- Who may have marked a word of a thread: the core that runs the thread, or one that has claimed the thread while it was idle. So no word
 -- of a running thread carries the mark of another core.
-use Rattle.live_invariant.proofs.Common.{◌≡◌, ◌≢◌, ◌⊎◌, ◌<◌, ◌^◌, ◌+◌, ◌*◌, inl, inr, ℕ, zero, suc, Bool, true, false, if◌then◌else◌}
-use Rattle.live_invariant.proofs.Common.{List, [], ◌∷◌, length, Option, Some, None, IsTrue, arith, refl, sym, ◌∙◌, ap, subst, false≢true}
-use Rattle.live_invariant.proofs.Common.{cases_lt, ne_eqb, Setting, IsSetting, Call, word_of_thread, thread_of_word, Idle}
-use Rattle.live_invariant.proofs.Common.{Running, Word, EntryAt, FrameAt, CompMaking, Frame, Kernel, Table, Leaf, Pages, Pleaf, Thread}
-use Rattle.live_invariant.proofs.Common.{Tcap, PlaceOf, State, thread_in, thread_of, fits, Relies, is_node, mark_in_frame, thread_mark}
-use Rattle.live_invariant.proofs.Common.{marked_by, thread_value, stamp, Trace, Open, phase, state_after, last_left, cases_word}
-use Rattle.live_invariant.proofs.Common.{same_word-other, same_same, Acquired, AtCompare, AtDraw, AtStore, Pair, PairAt, CompAt}
-use Rattle.live_invariant.proofs.Common.{KillingAt, LoadComp, LoadLive, MakingAt, Mark, Store, Switching, SwitchAt, UntypingAt}
-use Rattle.live_invariant.proofs.Common.{release_of, Outside, Tail, Nothing, Quiesce, Unmark, StoreDead, StoreFlush, Release, StoreLive}
-use Rattle.live_invariant.proofs.Common.{Push, Pop, Share, StoreRunning, StoreIdle, Work, Lookup, Read, Scan, Acquire, Act, Stage, Enter}
-use Rattle.live_invariant.proofs.Common.{Living}
-use Rattle.live_invariant.proofs.Common.{Undecided, Decided, Leave, ActiveCall, Core, swept_of, holds_release, holds_untyping, Holding}
-use Rattle.live_invariant.proofs.Common.{nothing, keeps, holds_counts, settled_by, holds_idle, holds_switching, IsFrameWord}
-use Rattle.live_invariant.proofs.Common.{KnowsAct, KnowsWork, KnowsTail, KnowsAt, CallIs, phase_at, KnowsStoresAt, holds_act}
-use Rattle.live_invariant.proofs.Common.{holds_making, holds_killing, holds_comp, holds_share, holds_shared, holds_head, holds_heads}
-use Rattle.live_invariant.proofs.Common.{holds_work, holds_tail, is_done, holds_at, holds_in, holds, held_by, Invariant, slot_relies}
-use Rattle.live_invariant.proofs.Common.{release_entry, runs_on_own}
-use Rattle.live_invariant.specs.spk_nums.specs.declared.kinds.Kind.TheVariants as kind
+use Rattle.live_invariant.specs.step_ways.proofs as low
+use low.{◌≡◌, ◌≢◌, ◌⊎◌, ◌<◌, ◌^◌, ◌+◌, ◌*◌, inl, inr, ℕ, zero, suc, Bool, true, false, if◌then◌else◌, List, [], ◌∷◌, length, Option, Some}
+use low.{None, IsTrue, arith, refl, sym, ◌∙◌, ap, subst, false≢true, ne_eqb, Setting, IsSetting, Call, word_of_thread, thread_of_word, Idle}
+use low.{Running, Word, EntryAt, FrameAt, CompMaking, Frame, Kernel, Table, Leaf, Pages, Pleaf, Thread, Tcap, PlaceOf, State, thread_in}
+use low.{thread_of, fits, Relies, is_node, mark_in_frame, thread_mark, marked_by, thread_value, stamp, Trace, Open, phase, state_after}
+use low.{last_left, cases_word, same_word-other, same_same, Acquired, AtCompare, AtDraw, AtStore, Pair, PairAt, CompAt, KillingAt, LoadComp}
+use low.{LoadLive, MakingAt, Mark, Store, Switching, SwitchAt, UntypingAt, release_of, Outside, Tail, Nothing, Quiesce, Unmark, StoreDead}
+use low.{StoreFlush, Release, StoreLive, Push, Pop, StoreRunning, StoreIdle, Work, Lookup, Read, Scan, Acquire, Act, Stage, Enter, Living}
+use low.{Undecided, Decided, Leave, ActiveCall, Core, swept_of, holds_release, holds_untyping, Holding, keeps, holds_counts, settled_by}
+use low.{holds_switching, IsFrameWord, KnowsAct, KnowsWork, KnowsTail, KnowsAt, CallIs, phase_at, KnowsStoresAt, holds_act, holds_making}
+use low.{holds_killing, holds_comp, holds_share, holds_shared, holds_head, holds_work, holds_tail, is_done, holds_at, holds_in, holds}
+use low.{held_by, Invariant, slot_relies, release_entry, runs_on_own, Close as kill_close, Draw as kill_draw, Load as making_load}
+use low.{Fill as fill_act, Remove as remove_act, Tick as tick_act, Touch as touch_act, Flush as flush_act, Kill as kill_act}
+use low.{Untype as untype_act, Map as map_act, MakeComp as comp_act, Invoke as invoke_act, Return as return_act, Share as share_act}
+use low.{Refill as refill_act, Switch as switch_act, plan_for, Kind}
+use Rattle.live_invariant.specs.core_invariant.specs.{nothing, holds_idle, holds_heads, Retype as type_act, Make as make_act, Claim}
+use Rattle.live_invariant.specs.act_states.specs.{declared.work.Tail.TheVariants.Share}
+use Rattle.live_invariant.specs.act_states.specs.{declared.makings.MakingAt.TheVariants.Fill as making_fill, declared.work.Act.Act as ActOf}
+use Rattle.{std.proofs.lemmas.Bool.cases_lt, thread_invariant.proofs.OwnStack.own_thread}
 use Rattle.live_invariant.specs.tcap_words.proofs.ThreadLemmas as threads
-use Rattle.live_invariant.specs.stage_tcap.specs.declared.pair.PairAt.TheVariants as pair
-use Rattle.live_invariant.specs.stage_thread.specs.declared.claim.Claim.TheVariants as claim
 use Rattle.live_invariant.specs.stage_thread.specs.declared.stack.Push.TheVariants as push
 use Rattle.live_invariant.specs.stage_thread.specs.declared.stack.Pop.TheVariants as pop
-use Rattle.live_invariant.specs.act_states.specs.declared.comps.CompAt.TheVariants as comp_at
-use Rattle.live_invariant.specs.act_states.specs.declared.kills.KillingAt.TheVariants.{Close as kill_close}
-use Rattle.live_invariant.specs.act_states.specs.declared.kills.KillingAt.TheVariants.{Draw as kill_draw}
-use Rattle.live_invariant.specs.act_states.specs.declared.makings.MakingAt.TheVariants.{Load as making_load}
-use Rattle.live_invariant.specs.act_states.specs.declared.makings.MakingAt.TheVariants.{Fill as making_fill}
-use Rattle.live_invariant.specs.act_states.specs.declared.switches.SwitchAt.TheVariants as switch
-use Rattle.live_invariant.specs.act_states.specs.declared.untypings.UntypingAt.TheVariants as untype
-use Rattle.live_invariant.specs.act_states.specs.declared.work.Act.{Act as ActOf}
-use Rattle.live_invariant.specs.act_states.specs.declared.work.Act.TheVariants.{Fill as fill_act, Remove as remove_act, Retype as type_act}
-use Rattle.live_invariant.specs.act_states.specs.declared.work.Act.TheVariants.{Make as make_act, Tick as tick_act}
-use Rattle.live_invariant.specs.act_states.specs.declared.work.Act.TheVariants.{Touch as touch_act}
-use Rattle.live_invariant.specs.act_states.specs.declared.work.Act.TheVariants.{Flush as flush_act, Kill as kill_act, Untype as untype_act}
-use Rattle.live_invariant.specs.act_states.specs.declared.work.Act.TheVariants.{Map as map_act, MakeComp as comp_act, Invoke as invoke_act}
-use Rattle.live_invariant.specs.act_states.specs.declared.work.Act.TheVariants.{Return as return_act, Share as share_act}
-use Rattle.live_invariant.specs.act_states.specs.declared.work.Act.TheVariants.{Refill as refill_act}
-use Rattle.live_invariant.specs.act_states.specs.declared.work.Act.TheVariants.{Switch as switch_act}
-use Rattle.thread_invariant.proofs.OwnStack.{own_thread}
-use Rattle.live_invariant.specs.act_states.specs.call_plans.specs.PlanOf.{plan_for}
 
 pub counts_apart : (fate : Option (Option ℕ)) (xs : List Acquired) (f i : ℕ) → (holds_counts fate xs).marks (EntryAt f i) ≡ false
 counts_apart fate [] f i = refl
@@ -58,7 +39,7 @@ node_no_thread (Kernel Pages) node = refl
 node_no_thread (Kernel Pleaf) node = refl
 node_no_thread _ node = absurd (false≢true node)
 
-tcap_no_thread : (x : Frame) → IsTrue (fits kind.Tcap x) → is_thread x ≡ false
+tcap_no_thread : (x : Frame) → IsTrue (fits Kind.Tcap x) → is_thread x ≡ false
 tcap_no_thread (Kernel (Tcap q)) fit = refl
 tcap_no_thread _ fit = absurd (false≢true fit)
 
@@ -119,28 +100,28 @@ module _ (setup : Setting) (setting : IsSetting setup) (cores : ℕ → Core) (t
 
   switching : (m : Switching) (at : SwitchAt) (h : Holding) → m.old ≡ ((state_after setup t).core d).thread → Claimed h
       → Claimed (holds_switching m at h)
-  switching m (switch.Claim (claim.AtLoad g core)) h own below = below
-  switching m (switch.Claim (claim.AtCompare g core depth)) h own below = below
-  switching m (switch.Claim (claim.AtStack g depth)) h own below = idle h g depth below
-  switching m (switch.LoadTable to) h own below = idle h to.thread to.depth below
-  switching m (switch.LoadPages to table) h own below = idle h to.thread to.depth below
-  switching m (switch.Leave to table pages) h own below = idle h to.thread to.depth below
-  switching m (switch.Draw to table pages) h own below =
+  switching m (SwitchAt.Claim (Claim.AtLoad g core)) h own below = below
+  switching m (SwitchAt.Claim (Claim.AtCompare g core depth)) h own below = below
+  switching m (SwitchAt.Claim (Claim.AtStack g depth)) h own below = idle h g depth below
+  switching m (SwitchAt.LoadTable to) h own below = idle h to.thread to.depth below
+  switching m (SwitchAt.LoadPages to table) h own below = idle h to.thread to.depth below
+  switching m (SwitchAt.Leave to table pages) h own below = idle h to.thread to.depth below
+  switching m (SwitchAt.Draw to table pages) h own below =
       idle (keeps (EntryAt m.old 0) (word_of_thread (Running m.core m.old_depth)) h) to.thread to.depth
       (runs h m.old (word_of_thread (Running m.core m.old_depth)) below own)
 
   shares : (p : Pair) (at : PairAt) (h : Holding) → is_thread ((state_after setup t).frame p.a) ≡ false → Claimed h
       → Claimed (holds_share p at h)
-  shares p pair.LoadA h not below = below
-  shares p pair.MarkA h not below = below
-  shares p (pair.ListA n) h not below = no_thread h p.a 0 _ below not
-  shares p pair.LoadB h not below = no_thread h p.a 0 _ below not
-  shares p (pair.ListB n) h not below = no_thread h p.a 0 _ below not
-  shares p pair.CompareB h not below = no_thread h p.a 0 _ below not
-  shares p (pair.AgainB r) h not below = no_thread h p.a 0 _ below not
-  shares p (pair.StoreList n) h not below = below
-  shares p pair.StoreB h not below = below
-  shares p (pair.StoreA moved v) h not below = below
+  shares p PairAt.LoadA h not below = below
+  shares p PairAt.MarkA h not below = below
+  shares p (PairAt.ListA n) h not below = no_thread h p.a 0 _ below not
+  shares p PairAt.LoadB h not below = no_thread h p.a 0 _ below not
+  shares p (PairAt.ListB n) h not below = no_thread h p.a 0 _ below not
+  shares p PairAt.CompareB h not below = no_thread h p.a 0 _ below not
+  shares p (PairAt.AgainB r) h not below = no_thread h p.a 0 _ below not
+  shares p (PairAt.StoreList n) h not below = below
+  shares p PairAt.StoreB h not below = below
+  shares p (PairAt.StoreA moved v) h not below = below
 
   heads : (p : Pair) (h : Holding) → is_thread ((state_after setup t).frame p.a) ≡ false
       → is_thread ((state_after setup t).frame p.b) ≡ false
@@ -149,17 +130,17 @@ module _ (setup : Setting) (setting : IsSetting setup) (cores : ℕ → Core) (t
 
   shared : (call : Call) (p : Pair) (at : PairAt) (h : Holding) → is_thread ((state_after setup t).frame p.a) ≡ false
       → KnowsStoresAt setup t d call p at → Claimed h → Claimed (holds_shared p at h)
-  shared call p pair.LoadA h not has below = below
-  shared call p pair.MarkA h not has below = below
-  shared call p (pair.ListA n) h not has below = below
-  shared call p pair.LoadB h not has below = below
-  shared call p (pair.ListB n) h not has below = below
-  shared call p pair.CompareB h not has below = below
-  shared call p (pair.AgainB r) h not has below = below
-  shared call p (pair.StoreList n) h not has below =
+  shared call p PairAt.LoadA h not has below = below
+  shared call p PairAt.MarkA h not has below = below
+  shared call p (PairAt.ListA n) h not has below = below
+  shared call p PairAt.LoadB h not has below = below
+  shared call p (PairAt.ListB n) h not has below = below
+  shared call p PairAt.CompareB h not has below = below
+  shared call p (PairAt.AgainB r) h not has below = below
+  shared call p (PairAt.StoreList n) h not has below =
       heads p h not (tcap_no_thread ((state_after setup t).frame p.b) has.2.tcap.tcap) below
-  shared call p pair.StoreB h not has below = heads p h not (tcap_no_thread ((state_after setup t).frame p.b) has.tcap.tcap) below
-  shared call p (pair.StoreA moved v) h not has below = no_thread h p.a 0 _ below not
+  shared call p PairAt.StoreB h not has below = heads p h not (tcap_no_thread ((state_after setup t).frame p.b) has.tcap.tcap) below
+  shared call p (PairAt.StoreA moved v) h not has below = no_thread h p.a 0 _ below not
 
   making : (g : ℕ) (at : MakingAt) (h : Holding) → (holds_making g at h).marks (EntryAt f i) ≡ h.marks (EntryAt f i)
   making g making_load h = refl
@@ -174,19 +155,19 @@ module _ (setup : Setting) (setting : IsSetting setup) (cores : ℕ → Core) (t
   killing (kill_draw life word) h = refl
 
   comp : (m : CompMaking) (at : CompAt) (h : Holding) → (holds_comp m at h).marks (EntryAt f i) ≡ h.marks (EntryAt f i)
-  comp m comp_at.Load h = refl
-  comp m (comp_at.Mark word) h = refl
-  comp m (comp_at.LoadLive word) h = refl
-  comp m (comp_at.Scan word last q) h = refl
-  comp m (comp_at.Close word last) h = refl
-  comp m (comp_at.Store word last entry) h = refl
-  comp m (comp_at.Fill word last) h = refl
+  comp m CompAt.Load h = refl
+  comp m (CompAt.Mark word) h = refl
+  comp m (CompAt.LoadLive word) h = refl
+  comp m (CompAt.Scan word last q) h = refl
+  comp m (CompAt.Close word last) h = refl
+  comp m (CompAt.Store word last entry) h = refl
+  comp m (CompAt.Fill word last) h = refl
 
   untyping : (g : ℕ) (at : UntypingAt) (h : Holding) → (holds_untyping g at h).marks (EntryAt f i) ≡ h.marks (EntryAt f i)
-  untyping g untype.Load h = refl
-  untyping g (untype.Mark word v) h = refl
-  untyping g (untype.Sweep word w) h = (release_entry (release_of g word (swept_of w) false) h f i).0
-  untyping g (untype.Draw word w) h = (release_entry (release_of g word w false) h f i).0
+  untyping g UntypingAt.Load h = refl
+  untyping g (UntypingAt.Mark word v) h = refl
+  untyping g (UntypingAt.Sweep word w) h = (release_entry (release_of g word (swept_of w) false) h f i).0
+  untyping g (UntypingAt.Draw word w) h = (release_entry (release_of g word w false) h f i).0
 
   node : (n : ℕ) → Relies (state_after setup t) d n → is_thread ((state_after setup t).frame n) ≡ false
   node n relies = node_no_thread ((state_after setup t).frame n) relies.node

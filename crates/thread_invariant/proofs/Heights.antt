@@ -1,9 +1,8 @@
 -- What stands at the heights of a stack.
-use Rattle.live_invariant.proofs.Common.{◌≡◌, ◌≢◌, ◌<◌, ◌≤◌, ◌-◌, inl, inr, ℕ, suc, List, [], ◌∷◌, length, Some, None, arith}
-use Rattle.live_invariant.proofs.Common.{sym, ◌∙◌, ap, cases_lt, at_height}
-use Rattle.std.proofs.Common.{get_or, reverse}
+use Rattle.live_invariant.specs.kernel_history.proofs.{◌≡◌, ◌≢◌, ◌<◌, ◌≤◌, ◌-◌, inl, inr, ℕ, suc, List, [], ◌∷◌, length, Some, None, arith}
+use Rattle.live_invariant.specs.kernel_history.proofs.{sym, ◌∙◌, ap, at_height, get_or, reverse}
 use Rattle.std.proofs.lemmas.List.{length-reverse, get_or-reverse}
-use Rattle.std.proofs.lemmas.Option.{slice_get_past, slice_get-get_or}
+use Rattle.std.proofs.{lemmas.Bool.cases_lt, lemmas.Option.slice_get_past, lemmas.Option.slice_get-get_or}
 
 height_is : (fs : List ℕ) (h : ℕ) → h < length fs → at_height fs h ≡ Some (get_or fs (length fs - 1 - h) 0)
 height_is fs h below = slice_get-get_or (reverse fs) h 0 (let same = length-reverse fs in omega (arith, same, below))

@@ -1,36 +1,27 @@
 -- What a call that enters a component knows of its rule: what is left of it after its name, and what refuses it.
-use Rattle.live_invariant.proofs.Common.{Want, IsSome, ◌≡◌, inl, inr, ℕ, ◌<◌, ◌==◌, ◌&&◌, ◌||◌, not, nat_le, Bool, true, false}
-use Rattle.live_invariant.proofs.Common.{if◌then◌else◌}
-use Rattle.live_invariant.proofs.Common.{[], ◌∷◌, length, Some, None, arith, refl, sym, ◌∙◌, ap, subst, eq-eqb}
-use Rattle.live_invariant.proofs.Common.{lt-leb, All-nil, Capability, Setting, IsSetting, EntryAt, CompFields, Comp, Kernel, State}
-use Rattle.live_invariant.proofs.Common.{comp_in, thread_of, Slot, found, own, Rule, When, Does, RuleMay, outcome, unless, first_of}
-use Rattle.live_invariant.proofs.Common.{is_live_in, rule_of, change_of, is_one_of, footprint_frames, HasReached, Step, Trace, Open}
-use Rattle.live_invariant.proofs.Common.{phase, state_after, own_left, way_to, ways, Plan, GoesBy, own_pages, rule_after, Leads, LeadsIn}
-use Rattle.live_invariant.proofs.Common.{outcome_left, left_may, leads_by, Invoking, Act, Undecided, ActiveCall, StageFits, HasRoom, Core}
-use Rattle.live_invariant.proofs.Common.{HasFound, KnowsUndecided, own_in, phase_at, Invariant, own_kept}
-use Rattle.live_invariant.specs.spk_nums.specs.declared.calls.Call.TheVariants.{Call as call_gate}
-use Rattle.live_invariant.specs.spk_nums.specs.declared.replies.Reply.TheVariants as reply
-use Rattle.live_invariant.specs.kernel_rules.specs.InvocationCalls.{not_live}
-use Rattle.live_invariant.specs.kernel_history.specs.Footprint.{footprint_numbers, number_argument, number_in}
-use Rattle.live_invariant.specs.plan_ways.proofs.InFootprint.{one_right}
-use Rattle.live_invariant.specs.plan_ways.proofs.Ways.{all_ways}
-use Rattle.live_invariant.specs.act_states.specs.Invocations.{InvokingFits}
-use Rattle.live_invariant.specs.act_states.specs.declared.work.Act.TheVariants.{Invoke as invoke_act}
-use Rattle.live_invariant.specs.step_ways.proofs.Loads.{call_is, is_active}
-use Rattle.live_invariant.specs.count_invariant.proofs.Findings.{own_is, found_named, way_gone}
-use Rattle.live_invariant.specs.count_invariant.proofs.Acquiring.{plan_leads, goes_by}
+use Rattle.live_invariant.specs.step_ways.proofs.{Want, IsSome, ◌≡◌, inl, inr, ℕ, ◌<◌, ◌==◌, ◌&&◌, ◌||◌, not, leb as nat_le, Bool, true}
+use Rattle.live_invariant.specs.step_ways.proofs.{false, if◌then◌else◌, [], ◌∷◌, length, Some, None, arith, refl, sym, ◌∙◌, ap, subst}
+use Rattle.live_invariant.specs.step_ways.proofs.{eq-eqb, Capability, Setting, IsSetting, EntryAt, CompFields, Comp, Kernel, State, comp_in}
+use Rattle.live_invariant.specs.step_ways.proofs.{thread_of, Slot, found, own, Rule, Does, RuleMay, outcome, unless, first_of, is_live_in}
+use Rattle.live_invariant.specs.step_ways.proofs.{rule_of, change_of, is_one_of, footprint_frames, HasReached, Step, Trace, Open, phase}
+use Rattle.live_invariant.specs.step_ways.proofs.{state_after, own_left, way_to, ways, Plan, GoesBy, own_pages, rule_after, Leads, LeadsIn}
+use Rattle.live_invariant.specs.step_ways.proofs.{outcome_left, left_may, leads_by, Invoking, Act, Undecided, ActiveCall, StageFits}
+use Rattle.live_invariant.specs.step_ways.proofs.{HasRoom, Core, HasFound, KnowsUndecided, own_in, phase_at, Invariant, own_kept}
+use Rattle.live_invariant.specs.step_ways.proofs.{Invoke as invoke_act, call_is, is_active, does, plan_for, Reply}
+use Rattle.live_invariant.specs.kernel_history.specs.{footprint_numbers, number_argument, number_in, Push as push_edit, Nothing as no_value}
+use Rattle.live_invariant.specs.count_invariant.proofs.{own_is, found_named, way_gone, plan_leads, goes_by}
+use Rattle.live_invariant.specs.kernel_rules.proofs.{lt-leb, When, not_live}
+use Rattle.live_invariant.proofs.{one_of_many, comp_is}
+use Rattle.live_invariant.specs.plan_ways.proofs.{InFootprint.one_right, Ways.all_ways}
 use Rattle.live_invariant.specs.count_invariant.proofs.StackCounts.{IsInvoke, invoke_of, invoke_footprint}
-use Rattle.live_invariant.proofs.Numbers.{one_of_many, comp_is}
-use Rattle.live_invariant.specs.kernel_rules.specs.Edits.{Push as push_edit}
-use Rattle.live_invariant.specs.kernel_rules.specs.Rules.{does}
-use Rattle.live_invariant.specs.spk_nums.specs.declared.replies.Value.TheVariants.{Nothing as no_value}
-use Rattle.live_invariant.specs.act_states.specs.call_plans.specs.PlanOf.{plan_for}
+use Rattle.{std.proofs.lemmas.List.Elements.All-nil, live_invariant.specs.spk_nums.specs.declared.calls.Call.TheVariants.Call as call_gate}
+use Rattle.{live_invariant.specs.act_states.specs.Invocations.InvokingFits}
 
 -- What is left of the rule of a call through a gate to this frame, made in this epoch.
 abbrev pub entering : State → ℕ → Capability → ℕ → ℕ → Rule
 entering s c gate f epoch =
     Does (
-    When (nat_le 16 (length (thread_of s c).stack)) reply.Deep
+    When (nat_le 16 (length (thread_of s c).stack)) Reply.Deep
     ∷ not_live s (found gate) (comp_in (s.frame f)).number epoch
     ∷ []) no_value (push_edit f ∷ [])
 
@@ -80,23 +71,23 @@ module _ (setup : Setting) (setting : IsSetting setup) (cores : ℕ → Core) (t
       (let low = fits.most_depth in let same = has.knows.knows.on.depth in omega (arith, low, same))
 
   pub by_life : (lives : Bool) → is_live_in (s.number fields.number) m.epoch ≡ lives
-      → change_of s c a.call ≡ unless (if not lives then Some reply.Dead else None) (does c s no_value (push_edit m.comp ∷ []))
+      → change_of s c a.call ≡ unless (if not lives then Some Reply.Dead else None) (does c s no_value (push_edit m.comp ∷ []))
   by_life lives so =
       outcome_left s c (own_pages s c) (plan_for a.call) (rule_of s c a.call) a.found by_plan leads ∙ ap (outcome s c) left
-      ∙ ap (λ b. unless (first_of (if b then Some reply.Deep else None)
-      (first_of (if not (is_live_in (s.number fields.number) m.epoch) then Some reply.Dead else None) None))
+      ∙ ap (λ b. unless (first_of (if b then Some Reply.Deep else None)
+      (first_of (if not (is_live_in (s.number fields.number) m.epoch) then Some Reply.Dead else None) None))
       (does c s no_value (push_edit m.comp ∷ []))) shallow
-      ∙ ap (λ b. unless (first_of (if not b then Some reply.Dead else None) None) (does c s no_value (push_edit m.comp ∷ []))) so
+      ∙ ap (λ b. unless (first_of (if not b then Some Reply.Dead else None) None) (does c s no_value (push_edit m.comp ∷ []))) so
       ∙ last lives
     where
-      last : (b : Bool) → unless (first_of (if not b then Some reply.Dead else None) None) (does c s no_value (push_edit m.comp ∷ []))
-          ≡ unless (if not b then Some reply.Dead else None) (does c s no_value (push_edit m.comp ∷ []))
+      last : (b : Bool) → unless (first_of (if not b then Some Reply.Dead else None) None) (does c s no_value (push_edit m.comp ∷ []))
+          ≡ unless (if not b then Some Reply.Dead else None) (does c s no_value (push_edit m.comp ∷ []))
       last true = refl
       last false = refl
 
-  pub may_be_dead : is_live_in (s.number fields.number) m.epoch ≡ false → RuleMay s c (rule_of s c a.call) reply.Dead
-  may_be_dead none = left_may s c (own_pages s c) (plan_for a.call) (rule_of s c a.call) a.found by_plan leads reply.Dead
-      (subst (λ x. RuleMay s c x reply.Dead) (sym left) (inr (inl (ap (λ b. not b) none, refl))))
+  pub may_be_dead : is_live_in (s.number fields.number) m.epoch ≡ false → RuleMay s c (rule_of s c a.call) Reply.Dead
+  may_be_dead none = left_may s c (own_pages s c) (plan_for a.call) (rule_of s c a.call) a.found by_plan leads Reply.Dead
+      (subst (λ x. RuleMay s c x Reply.Dead) (sym left) (inr (inl (ap (λ b. not b) none, refl))))
 
   -- the component and its number are in the footprint
   pub footprint : is_one_of m.comp (footprint_frames s c a.call) ≡ true

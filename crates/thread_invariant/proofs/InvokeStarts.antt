@@ -1,53 +1,41 @@
 -- An entering starts where its name has led to a gate; or the core's stack is full.
-use Rattle.live_invariant.proofs.Common.{acts}
-use Rattle.live_invariant.proofs.Common.{Want, to_use, ◌≡◌, ◌<◌, inl, ℕ, map, nat_le, not, Bool, true, false, if◌then◌else◌, List, [], ◌∷◌}
-use Rattle.live_invariant.proofs.Common.{length}
-use Rattle.live_invariant.proofs.Common.{Some, None, IsTrue, refl, sym, ◌∙◌, ap, subst, false≢true, Capability, Setting, IsSetting, Kind}
-use Rattle.live_invariant.proofs.Common.{Call, Move, word_of, Comp, Frame, Kernel, State, comp_in, thread_of, only, fits, named_by, Found}
-use Rattle.live_invariant.proofs.Common.{Refused, RuleMay, named, outcome, unless, first_of, is_live_in, rule_of, change_of}
-use Rattle.live_invariant.proofs.Common.{are_calls_spent, suits, named_fit, opened, name_parts, events_of, IsLegal, Step, Trace, Open}
-use Rattle.live_invariant.proofs.Common.{phase}
-use Rattle.live_invariant.proofs.Common.{state_after, last_left, refused_first, Carries, sound_of, opened_is, guarded_usable, Acquired}
-use Rattle.live_invariant.proofs.Common.{GoesBy, own_pages, rule_after, Leads, LeadsIn, outcome_left, left_may, Invoking, Act, Goes}
-use Rattle.live_invariant.proofs.Common.{refuse, Undecided, ActiveCall, landed, found_more, Core, HasComp, InvokesBy, holds_counts}
-use Rattle.live_invariant.proofs.Common.{due_of, NamesAre, phase_at, holds_in, Invariant}
-use Rattle.live_invariant.specs.spk_nums.specs.declared.kinds.Kind.TheVariants as kind
-use Rattle.live_invariant.specs.spk_nums.specs.declared.calls.Call.TheVariants.{Call as call_gate}
-use Rattle.live_invariant.specs.spk_nums.specs.declared.replies.Reply.TheVariants as reply
-use Rattle.live_invariant.specs.kernel_rules.specs.Rules.{of_kind, does}
-use Rattle.live_invariant.specs.act_states.specs.declared.invocations.InvokingAt.TheVariants.{LoadTable}
-use Rattle.live_invariant.specs.act_states.specs.declared.refusals.Refusal.TheVariants as refusal
-use Rattle.live_invariant.specs.act_states.specs.declared.work.Act.TheVariants.{Invoke as invoke_act}
-use Rattle.live_invariant.specs.act_states.specs.Acts.{invokes_if, invokes_in}
-use Rattle.live_invariant.specs.kept_facts.proofs.Carries.{invoking_on}
-use Rattle.live_invariant.specs.step_ways.proofs.Loads.{OnlyLooks, step_to, call_is, core_is, loads_on, decides_on}
-use Rattle.live_invariant.specs.step_ways.proofs.Refusals.{GoodTook, not_spent}
-use Rattle.thread_invariant.proofs.InvokeCalls.{entering}
-use Rattle.live_invariant.specs.kernel_rules.specs.Edits.{Push as push_edit}
-use Rattle.live_invariant.specs.spk_nums.specs.declared.replies.Value.TheVariants.{Nothing as no_value}
-use Rattle.live_invariant.specs.act_states.specs.call_plans.specs.PlanOf.{plan_for}
+use Rattle.live_invariant.specs.step_ways.proofs as low
+use low.{acts, Want, to_use, ◌≡◌, ◌<◌, inl, ℕ, map, leb as nat_le, not, Bool, true, false, if◌then◌else◌, List, [], ◌∷◌, length, Some, None}
+use low.{IsTrue, refl, sym, ◌∙◌, ap, subst, false≢true, Capability, Setting, IsSetting, Kind, Call, Move, word_of, Comp, Frame, Kernel}
+use low.{State, comp_in, thread_of, only, fits, named_by, Found, Refused, RuleMay, named, outcome, unless, first_of, is_live_in, rule_of}
+use low.{change_of, are_calls_spent, suits, named_fit, opened, name_parts, events_of, IsLegal, Step, Trace, Open, phase, state_after}
+use low.{last_left, refused_first, Carries, sound_of, opened_is, Acquired, GoesBy, own_pages, rule_after, Leads, LeadsIn, outcome_left}
+use low.{left_may, Invoking, Act, Goes, refuse, Undecided, ActiveCall, landed, found_more, Core, HasComp, holds_counts, due_of, NamesAre}
+use low.{phase_at, holds_in, Invariant, does, Invoke as invoke_act, OnlyLooks, step_to, call_is, core_is, loads_on, decides_on, GoodTook}
+use low.{not_spent, plan_for, Reply, Refusal}
+use Rattle.live_invariant.specs.act_states.specs.{invokes_if, invokes_in, Nothing as no_value}
+use Rattle.live_invariant.specs.kernel_history.specs.{of_kind, Push as push_edit}
+use Rattle.{live_invariant.specs.trace_laws.proofs.Stays.guarded_usable, live_invariant.specs.core_invariant.specs.Components.InvokesBy}
+use Rattle.{live_invariant.specs.spk_nums.specs.declared.calls.Call.TheVariants.Call as call_gate}
+use Rattle.{live_invariant.specs.act_states.specs.declared.invocations.InvokingAt.TheVariants.LoadTable}
+use Rattle.{live_invariant.specs.kept_facts.proofs.Carries.invoking_on, thread_invariant.proofs.InvokeCalls.entering}
 
 -- What a name leads to is of a wanted kind, and is what was found.
 same_found : (wanted : Want) (j k : Capability) → of_kind wanted j ≡ Found k → j ≡ k
 same_found wanted j k h = (suits wanted j k h).is
 
-gate_comp : (x : Frame) → IsTrue (fits kind.Gate x) → IsTrue (fits kind.Comp x)
+gate_comp : (x : Frame) → IsTrue (fits Kind.Gate x) → IsTrue (fits Kind.Comp x)
 gate_comp (Kernel (Comp k)) fit = refl
 gate_comp _ fit = absurd (false≢true fit)
 
 -- The component of a gate that an open call has named is there, and no other core may retype it.
 gate_named : (setup : Setting) → IsSetting setup → (t : Trace) → IsLegal setup t → (c : ℕ) (call : Call) → phase t c ≡ Open call
-    → (n : ℕ) (k : Capability) → k.kind ≡ kind.Gate → named (state_after setup t) c n (to_use (only kind.Gate)) ≡ Found k
+    → (n : ℕ) (k : Capability) → k.kind ≡ Kind.Gate → named (state_after setup t) c n (to_use (only Kind.Gate)) ≡ Found k
     → HasComp (state_after setup t) c k.frame
 gate_named setup setting t legal c call is n k kind_is found =
     let s : State = state_after setup t in
-    let parts = name_parts s c n (to_use (only kind.Gate)) k found in
+    let parts = name_parts s c n (to_use (only Kind.Gate)) k found in
     record {
       comp = gate_comp (s.frame k.frame)
-          (named_fit s (opened (events_of t)) c n kind.Gate k (sound_of setup setting t legal) (opened_is t c call is) found);
+          (named_fit s (opened (events_of t)) c n Kind.Gate k (sound_of setup setting t legal) (opened_is t c call is) found);
       guarded = guarded_usable setup setting t legal c call is parts.0 k
           (ap (λ (j : Kind). named_by j k.frame) kind_is)
-          (parts.3 ∙ ap (λ (j : Capability). Some j) (same_found (to_use (only kind.Gate)) parts.2 k parts.4));
+          (parts.3 ∙ ap (λ (j : Capability). Some j) (same_found (to_use (only Kind.Gate)) parts.2 k parts.4));
     }
 
 module _ (setup : Setting) (setting : IsSetting setup) (cores : ℕ → Core) (t : Trace) (stands : Invariant setup cores t) (c : ℕ)
@@ -57,8 +45,8 @@ module _ (setup : Setting) (setting : IsSetting setup) (cores : ℕ → Core) (t
     (room : (cores c).own.made < (cores c).own.limit)
     (by_plan : GoesBy (own_pages (state_after setup t) c) (plan_for a.call) (rule_of (state_after setup t) c a.call))
     (move : Move) (looks : OnlyLooks setup t c a.call move) (n : ℕ) (k : Capability) (call_so : a.call ≡ call_gate n)
-    (kind_is : k.kind ≡ kind.Gate)
-    (found : named (state_after setup t) c n (to_use (only kind.Gate)) ≡ Found k)
+    (kind_is : k.kind ≡ Kind.Gate)
+    (found : named (state_after setup t) c n (to_use (only Kind.Gate)) ≡ Found k)
     (leads : Leads (LeadsIn (state_after setup t) c) (plan_for a.call).names [] (k ∷ []))
     (names : Carries setup t (step_to c None move (last_left setup t (word_of move)) None None) c
     → NamesAre setup (step_to c None move (last_left setup t (word_of move)) None None ∷ t) c (cores c).own.table (plan_for a.call)
@@ -94,20 +82,20 @@ module _ (setup : Setting) (setting : IsSetting setup) (cores : ℕ → Core) (t
   depth_is = ap (λ (d : ℕ). nat_le 16 d) (stands.each c here).works.depth
 
   -- the stack is full
-  full : nat_le 16 (cores c).own.depth ≡ true → GoodTook setup cores t c move (landed (found_more a (k ∷ [])) (refuse refusal.Deep))
+  full : nat_le 16 (cores c).own.depth ≡ true → GoodTook setup cores t c move (landed (found_more a (k ∷ [])) (refuse Refusal.Deep))
   full deep lands =
-      decides_on setup setting cores t stands c here a active move reply.Deep (k ∷ []) looks lands
+      decides_on setup setting cores t stands c here a active move Reply.Deep (k ∷ []) looks lands
       (sym held_is) opens refl refl (λ x. refl) (λ x. refl) refl (
         unspent,
-        left_may s c (own_pages s c) (plan_for a.call) (rule_of s c a.call) (k ∷ []) by_plan leads reply.Deep
-            (subst (λ x. RuleMay s c x reply.Deep) (sym left) (inl (sym depth_is ∙ deep, refl))),
+        left_may s c (own_pages s c) (plan_for a.call) (rule_of s c a.call) (k ∷ []) by_plan leads Reply.Deep
+            (subst (λ x. RuleMay s c x Reply.Deep) (sym left) (inl (sym depth_is ∙ deep, refl))),
       ) tt
-      (λ is_alone. refused_first s c a.call reply.Deep may_act unspent refused)
+      (λ is_alone. refused_first s c a.call Reply.Deep may_act unspent refused)
     where
-      refused : change_of s c a.call ≡ Refused reply.Deep
+      refused : change_of s c a.call ≡ Refused Reply.Deep
       refused = outcome_left s c (own_pages s c) (plan_for a.call) (rule_of s c a.call) (k ∷ []) by_plan leads ∙ ap (outcome s c) left
-          ∙ ap (λ b. unless (first_of (if b then Some reply.Deep else None)
-          (first_of (if not (is_live_in (s.number (comp_in (s.frame k.frame)).number) k.arg) then Some reply.Dead else None) None))
+          ∙ ap (λ b. unless (first_of (if b then Some Reply.Deep else None)
+          (first_of (if not (is_live_in (s.number (comp_in (s.frame k.frame)).number) k.arg) then Some Reply.Dead else None) None))
           (does c s no_value (push_edit k.frame ∷ []))) (sym depth_is ∙ deep)
 
   -- it is not
@@ -131,7 +119,7 @@ module _ (setup : Setting) (setting : IsSetting setup) (cores : ℕ → Core) (t
         };
       })
 
-  by_depth : GoodTook setup cores t c move (landed (found_more a (k ∷ [])) (invokes_in (cores c).own kind.Gate k.frame k.arg))
+  by_depth : GoodTook setup cores t c move (landed (found_more a (k ∷ [])) (invokes_in (cores c).own Kind.Gate k.frame k.arg))
   by_depth = by (nat_le 16 (cores c).own.depth) refl
     where
       by : (deep : Bool) → nat_le 16 (cores c).own.depth ≡ deep

@@ -1,30 +1,26 @@
 -- The loads by which a core that enters a component reads its words are good; and so is the load of its number's word, where that refuses
 -- it.
-use Rattle.live_invariant.proofs.Common.{◌≡◌, inl, ℕ, ◌<◌, ◌==◌, ◌++◌, map, length, false, if◌then◌else◌, List, []}
-use Rattle.live_invariant.proofs.Common.{◌∷◌, Option, Some, None, IsTrue, arith, refl, sym, ◌∙◌, ap, subst, lt-ltb}
-use Rattle.live_invariant.proofs.Common.{Capability, Call, Setting, IsSetting, comp_of_word, live_of_word, CompWord, LiveWord, Word}
-use Rattle.live_invariant.proofs.Common.{EntryAt, LiveAt, LoadOf, CompFields, NumberOf, State, comp_in, is_live_in, live_mark, marked_by}
-use Rattle.live_invariant.proofs.Common.{stamp, Step, Trace, state_after, last_left, Acquired, Invoking, InvokingAt, Act, Goes}
-use Rattle.live_invariant.proofs.Common.{frame_in, refuse, dues, invoking_dues, next_work, Undecided, ActiveCall, landed, Core, InvokesBy}
-use Rattle.live_invariant.proofs.Common.{holds_counts, settled_by, NumberIs, due_of, KnowsUndecided, holds_at, holds_in, held_by}
-use Rattle.live_invariant.proofs.Common.{Invariant, names_on}
-use Rattle.live_invariant.specs.spk_nums.specs.declared.calls.Call.TheVariants.{Call as call_gate}
-use Rattle.live_invariant.specs.frame_words.specs.declared.live_word.LiveWord.TheVariants as live_word
-use Rattle.live_invariant.specs.kernel_history.specs.Discipline.{looks_at_numbers}
+use Rattle.live_invariant.specs.step_ways.proofs.{◌≡◌, inl, ℕ, ◌<◌, ◌==◌, ◌++◌, map, length, false, if◌then◌else◌, List, [], ◌∷◌, Option}
+use Rattle.live_invariant.specs.step_ways.proofs.{Some, None, IsTrue, arith, refl, sym, ◌∙◌, ap, subst, lt-ltb, Capability, Call, Setting}
+use Rattle.live_invariant.specs.step_ways.proofs.{IsSetting, comp_of_word, live_of_word, CompWord, LiveWord, Word, EntryAt, LiveAt, LoadOf}
+use Rattle.live_invariant.specs.step_ways.proofs.{CompFields, NumberOf, State, comp_in, is_live_in, live_mark, marked_by, stamp, Step}
+use Rattle.live_invariant.specs.step_ways.proofs.{Trace, state_after, last_left, Acquired, Invoking, InvokingAt, Act, Goes, refuse, dues}
+use Rattle.live_invariant.specs.step_ways.proofs.{next_work, Undecided, ActiveCall, landed, Core, holds_counts, settled_by, NumberIs}
+use Rattle.live_invariant.specs.step_ways.proofs.{due_of, KnowsUndecided, holds_at, holds_in, held_by, Invariant, names_on}
+use Rattle.live_invariant.specs.step_ways.proofs.{Invoke as invoke_act, OnlyLooks, step_to, next_at, loads_on, GoodTook, refuses_busy}
+use Rattle.live_invariant.specs.step_ways.proofs.{ticks_at, plan_for, Refusal}
+use Rattle.live_invariant.specs.act_states.specs.{frame_in, invoking_dues, meets_table, meets_pages, meets_gate}
+use Rattle.live_invariant.specs.core_invariant.specs.{InvokesBy, HasLoadedComp, KnowsInvoking}
+use Rattle.live_invariant.specs.count_invariant.proofs.{knows_next, next_holds, one_apart}
 use Rattle.live_invariant.specs.act_states.specs.declared.invocations.InvokingAt.TheVariants.{LoadTable, LoadPages, LoadComp, LoadLive}
-use Rattle.live_invariant.specs.act_states.specs.declared.refusals.Refusal.TheVariants as refusal
-use Rattle.live_invariant.specs.act_states.specs.declared.work.Act.{Act as ActOf}
-use Rattle.live_invariant.specs.act_states.specs.declared.work.Act.TheVariants.{Invoke as invoke_act}
-use Rattle.live_invariant.specs.act_states.specs.Acts.{meets_table, meets_pages, meets_gate}
-use Rattle.live_invariant.specs.core_invariant.specs.Components.{HasLoadedComp, KnowsInvoking}
-use Rattle.live_invariant.specs.kept_facts.proofs.Carries.{invoking_on}
-use Rattle.live_invariant.specs.step_ways.proofs.Loads.{OnlyLooks, step_to, next_at, loads_on}
-use Rattle.live_invariant.specs.step_ways.proofs.Refusals.{GoodTook, refuses_busy, refuses_dead, ticks_at}
-use Rattle.live_invariant.specs.count_invariant.proofs.Acquiring.{knows_next, next_holds, one_apart}
 use Rattle.live_invariant.proofs.Numbers.{no_number, shows_live, lives_as_shown}
 use Rattle.thread_invariant.proofs.CompWords.{comp_says, table_below, pages_below}
+use Rattle.{live_invariant.specs.spk_nums.specs.declared.calls.Call.TheVariants.Call as call_gate}
+use Rattle.{live_invariant.specs.kernel_history.specs.Discipline.looks_at_numbers}
+use Rattle.{live_invariant.specs.act_states.specs.declared.work.Act.Act as ActOf}
+use Rattle.{live_invariant.specs.kept_facts.proofs.Carries.invoking_on, live_invariant.specs.step_ways.proofs.Refusals.refuses_dead}
+use Rattle.live_invariant.specs.frame_words.specs.declared.live_word.LiveWord.TheVariants as live_word
 use Rattle.thread_invariant.proofs.InvokeCalls as calls
-use Rattle.live_invariant.specs.act_states.specs.call_plans.specs.PlanOf.{plan_for}
 
 -- A word that names a frame of the machine.
 pub frame_shown : (frames word f : ℕ) → word ≡ f → f < frames → frame_in frames word ≡ Some f
@@ -201,7 +197,7 @@ module _ (setup : Setting) (setting : IsSetting setup) (cores : ℕ → Core) (t
         (subst (NumberIs (s.number at_life.number) (stamp setup t (NumberOf at_life.number))) shown (says (ap live_mark shown ∙ bare)))
 
     pub dead_good : (o : Option LiveWord) → live_of_word found ≡ o → live_mark o ≡ None → shows_live o m.epoch ≡ false
-        → GoodTook setup cores t c (LoadOf at) (landed a (refuse refusal.Dead))
+        → GoodTook setup cores t c (LoadOf at) (landed a (refuse Refusal.Dead))
     dead_good o shown bare none =
         refuses_dead setup setting cores t stands c here a active
         (calls.opens setup setting cores t stands c here a active m stage_is has) held_is
@@ -209,7 +205,7 @@ module _ (setup : Setting) (setting : IsSetting setup) (cores : ℕ → Core) (t
         (calls.may_be_dead setup setting cores t stands c here a active m stage_is has (lives_so o shown bare ∙ none))
         (λ nobody. calls.by_life setup setting cores t stands c here a active m stage_is has false (lives_so o shown bare ∙ none))
 
-    pub closing_good : (d : ℕ) → marked_by setup t at ≡ Some d → GoodTook setup cores t c (LoadOf at) (landed a (refuse (refusal.Busy d)))
+    pub closing_good : (d : ℕ) → marked_by setup t at ≡ Some d → GoodTook setup cores t c (LoadOf at) (landed a (refuse (Refusal.Busy d)))
     closing_good d mark =
         refuses_busy setup setting cores t stands c here a active
         (calls.opens setup setting cores t stands c here a active m stage_is has) held_is

@@ -1,58 +1,42 @@
 -- The draw of a stamp by which a core leaves a component: the call is decided, and the component below stands on top of the core's stack.
 -- The reference to the component that is left is released at the stamp.
-use Rattle.live_invariant.proofs.Common.{list_any, ◌≡◌, ◌≢◌, ◌⊎◌, inl, inr, ℕ, suc, pos, negsuc, ◌+ℤ◌, max, length, ◌+◌, ◌-◌, ◌^◌, ◌<◌}
-use Rattle.live_invariant.proofs.Common.{◌≤◌, ◌==◌, ◌||◌, true, false, if◌then◌else◌, List, [], ◌∷◌, Option, Some, None, IsTrue}
-use Rattle.live_invariant.proofs.Common.{arith, refl, sym, ◌∙◌, ap, subst, cases_eq, eq-eqb, ne_eqb, false≢true, Setting, IsSetting}
-use Rattle.live_invariant.proofs.Common.{Reply, word_of_stack, ThreadFits, word_of_thread, Running, Word, EntryAt, CountAt}
-use Rattle.live_invariant.proofs.Common.{ClockAt, Move, AddOf, word_of, told_of, CompFields, ThreadFields, Comp, Thread, Kernel, Thing}
-use Rattle.live_invariant.proofs.Common.{PlaceOf, FrameOf, NumberOf, Grace, State, first_of_stack, comp_in, comp_of, thread_of}
-use Rattle.live_invariant.proofs.Common.{Found, IsFoundAnd, frames_of, times, refs, MayReply, change_of, changed, counted, begins_in}
-use Rattle.live_invariant.proofs.Common.{ends_by, flushes_by, same_thing, new_grace, times_cons, changes_threads, raises_clock, KeepsTime}
-use Rattle.live_invariant.proofs.Common.{marked_by, at_height, ends_in, flushes_in, begins_at, ends_at, flushes_at, stamp, clock}
-use Rattle.live_invariant.proofs.Common.{flush_of, flush_stored, Step, Trace, Open, phase, state_after, state_decided_in, last_left}
-use Rattle.live_invariant.proofs.Common.{ok_first, stamp-begins, stamp-kept, flush_of-own, flush_stored-own, flush_stored-other}
-use Rattle.live_invariant.proofs.Common.{drawn_stamp, later, stamp_of_change, ReturningAt, Own, Works, Tail, Pop, Act, own_changed}
-use Rattle.live_invariant.proofs.Common.{own_decided, Stage, Undecided, Decided, ActiveCall, landed, Core, Holding}
-use Rattle.live_invariant.proofs.Common.{holds_counts, WordIs, due_of, flushing_in, KnowsUndecided, WorksIn, holds_in, holds}
-use Rattle.live_invariant.proofs.Common.{times_of, Invariant, counts_bare, exclusive_elsewhere, marks_own, carry_marks}
-use Rattle.live_invariant.proofs.Common.{returning_dues}
-use Rattle.std.proofs.Common.{take, drop}
-use Rattle.std.proofs.Math.IntN.{pos-+ℤ-pos, +ℤ_assoc, +ℤ_invr, +ℤ_idr}
-use Rattle.live_invariant.specs.spk_nums.specs.declared.replies.Reply.TheVariants as reply
-use Rattle.live_invariant.specs.spk_nums.specs.declared.replies.Value.TheVariants as value
+use Rattle.live_invariant.specs.step_ways.proofs.{◌≡◌, ◌≢◌, ◌⊎◌, inl, inr, ℕ, suc, pos, negsuc, ◌+ℤ◌, max, length, ◌+◌, ◌-◌, ◌^◌, ◌<◌, ◌≤◌}
+use Rattle.live_invariant.specs.step_ways.proofs.{◌==◌, ◌||◌, true, false, if◌then◌else◌, List, [], ◌∷◌, Option, Some, None, IsTrue, arith}
+use Rattle.live_invariant.specs.step_ways.proofs.{refl, sym, ◌∙◌, ap, subst, eq-eqb, ne_eqb, false≢true, Setting, IsSetting, Reply}
+use Rattle.live_invariant.specs.step_ways.proofs.{word_of_stack, ThreadFits, word_of_thread, Running, Word, EntryAt, CountAt, ClockAt, Move}
+use Rattle.live_invariant.specs.step_ways.proofs.{AddOf, word_of, told_of, CompFields, ThreadFields, Comp, Thread, Kernel, Thing, PlaceOf}
+use Rattle.live_invariant.specs.step_ways.proofs.{FrameOf, NumberOf, Grace, State, first_of_stack, comp_in, comp_of, thread_of, Found}
+use Rattle.live_invariant.specs.step_ways.proofs.{IsFoundAnd, frames_of, times, refs, MayReply, change_of, changed, counted, ends_by}
+use Rattle.live_invariant.specs.step_ways.proofs.{flushes_by, same_thing, new_grace, times_cons, changes_threads, raises_clock, marked_by}
+use Rattle.live_invariant.specs.step_ways.proofs.{at_height, ends_in, flushes_in, begins_at, ends_at, flushes_at, stamp, clock, flush_of}
+use Rattle.live_invariant.specs.step_ways.proofs.{flush_stored, Step, Trace, Open, phase, state_after, state_decided_in, last_left}
+use Rattle.live_invariant.specs.step_ways.proofs.{ok_first, stamp-begins, stamp-kept, flush_stored-own, flush_stored-other, drawn_stamp}
+use Rattle.live_invariant.specs.step_ways.proofs.{later, stamp_of_change, ReturningAt, Own, Works, Tail, Pop, Act, own_changed, own_decided}
+use Rattle.live_invariant.specs.step_ways.proofs.{Stage, Undecided, Decided, ActiveCall, landed, Core, Holding, holds_counts, WordIs}
+use Rattle.live_invariant.specs.step_ways.proofs.{due_of, KnowsUndecided, WorksIn, holds_in, holds, times_of, Invariant, counts_bare}
+use Rattle.live_invariant.specs.step_ways.proofs.{exclusive_elsewhere, marks_own, carry_marks, take, drop, begins_in as begins_then}
+use Rattle.live_invariant.specs.step_ways.proofs.{Return as return_act, open_flushed, spares_other, inner, next_at, GoodTook, not_spent}
+use Rattle.live_invariant.specs.step_ways.proofs.{spares_none, same_marks, clock_small, does, Value}
+use Rattle.live_invariant.specs.core_invariant.specs.{KeepsTime, flushing_in, HasLoadedBelow, KnowsReturning, keeps_bare}
+use Rattle.live_invariant.specs.act_states.specs.{begins_in, returning_dues, took_returning_at, returning_at, Nothing as no_value}
+use Rattle.live_invariant.specs.count_invariant.proofs.{counts_commit, counts_sum, dues_of}
+use Rattle.live_invariant.specs.kernel_history.proofs.{flush_of-own, Pop as pop_edit}
+use Rattle.std.proofs.{lemmas.Bool.cases_eq, Math.IntN.pos-+ℤ-pos, Math.IntN.+ℤ_assoc, Math.IntN.+ℤ_invr, Math.IntN.+ℤ_idr}
+use Rattle.live_invariant.specs.act_states.specs.declared.invocations.ReturningAt.TheVariants.{LoadBelow, LoadTable, LoadPages, Draw}
+use Rattle.live_invariant.specs.act_states.specs.Invocations.{returning_move, left_to}
+use Rattle.live_invariant.specs.step_ways.proofs.{Draws.raised, OwnChanges.decides_timed}
+use Rattle.thread_invariant.proofs.{EntryMarks.counts_apart, CompWords.holds_comp, Heights.above_top, Heights.beside_top, Returns.opens}
+use Rattle.thread_invariant.proofs.{Returns.is_open, Returns.room, Returns.return_fits, Returns.deep, Returns.change, Returns.nothing_gone}
+use Rattle.thread_invariant.proofs.{Returns.return_held, Returns.loaded_at, Returns.load_below_good, Returns.load_table_good}
+use Rattle.thread_invariant.proofs.{Returns.load_pages_good, OwnStack.own_thread, OwnStack.split_stack, Restacks.IsRestack}
+use Rattle.thread_invariant.proofs.{Restacks.frame_away, Restacks.core_now, Restacks.limits, Restacks.whose, Restacks.refs_now}
+use Rattle.thread_invariant.proofs.{Restacks.grows, Restacks.alike, Restacks.restack_words, Restacks.restack_exclusive, Stacked.stacked}
+use Rattle.thread_invariant.proofs.{Stacks.kept_here, Stacks.kept_there, Stacks.kept_is}
+use Rattle.{std.specs.List.list_any, live_invariant.specs.act_states.specs.declared.invocations.Returning.Returning}
+use Rattle.{live_invariant.specs.act_states.specs.Taking.took_returning}
 use Rattle.live_invariant.specs.tcap_words.proofs.StackLemmas as stacks
 use Rattle.live_invariant.specs.tcap_words.proofs.ThreadLemmas as threads
-use Rattle.live_invariant.specs.kernel_history.specs.Stamps.{begins_in as begins_then}
 use Rattle.live_invariant.specs.stage_thread.specs.declared.stack.Pop.TheVariants as pop
-use Rattle.live_invariant.specs.act_states.specs.declared.invocations.Returning.{Returning}
-use Rattle.live_invariant.specs.act_states.specs.declared.invocations.ReturningAt.TheVariants.{LoadBelow, LoadTable, LoadPages, Draw}
-use Rattle.live_invariant.specs.act_states.specs.declared.work.Act.TheVariants.{Return as return_act}
-use Rattle.live_invariant.specs.act_states.specs.Acts.{took_returning, took_returning_at}
-use Rattle.live_invariant.specs.act_states.specs.Invocations.{returning_at, returning_move, left_to}
-use Rattle.live_invariant.specs.core_invariant.specs.Components.{HasLoadedBelow, KnowsReturning}
-use Rattle.live_invariant.specs.core_invariant.specs.Holding.{keeps_bare}
-use Rattle.live_invariant.specs.step_ways.proofs.Draws.{raised}
-use Rattle.live_invariant.specs.step_ways.proofs.Flushing.{open_flushed}
-use Rattle.live_invariant.specs.step_ways.proofs.Good.{spares_other}
-use Rattle.live_invariant.specs.step_ways.proofs.Loads.{inner, next_at}
-use Rattle.live_invariant.specs.step_ways.proofs.OwnChanges.{decides_timed}
-use Rattle.live_invariant.specs.step_ways.proofs.Refusals.{GoodTook, not_spent}
-use Rattle.live_invariant.specs.step_ways.proofs.Users.{spares_none}
-use Rattle.live_invariant.specs.step_ways.proofs.Writes.{same_marks, clock_small}
-use Rattle.live_invariant.specs.count_invariant.proofs.CapChanges.{counts_commit, counts_sum, dues_of}
-use Rattle.thread_invariant.proofs.EntryMarks.{counts_apart}
-use Rattle.thread_invariant.proofs.CompWords.{holds_comp}
-use Rattle.thread_invariant.proofs.Heights.{above_top, beside_top}
-use Rattle.thread_invariant.proofs.Returns.{opens, is_open, room, return_fits, deep, change, nothing_gone}
-use Rattle.thread_invariant.proofs.Returns.{return_held, loaded_at, load_below_good, load_table_good, load_pages_good}
-use Rattle.thread_invariant.proofs.OwnStack.{own_thread, split_stack}
-use Rattle.thread_invariant.proofs.Restacks.{IsRestack, frame_away, core_now, limits, whose, refs_now}
-use Rattle.thread_invariant.proofs.Restacks.{grows, alike, restack_words, restack_exclusive}
-use Rattle.thread_invariant.proofs.Stacked.{stacked}
-use Rattle.thread_invariant.proofs.Stacks.{kept_here, kept_there, kept_is}
-use Rattle.kernel_laws.specs.kernel_rules.specs.Edits.{Pop as pop_edit}
-use Rattle.kernel_laws.specs.kernel_rules.specs.Rules.{does}
-use Rattle.live_invariant.specs.spk_nums.specs.declared.replies.Value.TheVariants.{Nothing as no_value}
 
 comp_no_thread : (k : CompFields) (u : ThreadFields) → Kernel (Comp k) ≡ Kernel (Thread u) → ⊥
 comp_no_thread k u h = cc
@@ -84,7 +68,7 @@ module _ (setup : Setting) (setting : IsSetting setup) (cores : ℕ → Core) (t
   knows = has.knows.knows
 
   abbrev r : Reply
-  r = reply.Ok value.Nothing
+  r = Reply.Ok Value.Nothing
 
   abbrev move : Move
   move = AddOf ClockAt 1
@@ -368,7 +352,7 @@ module _ (setup : Setting) (setting : IsSetting setup) (cores : ℕ → Core) (t
   permitted : MayReply s c a.call r
   permitted = (
     not_spent setup (cores c) t c (stands.each c here) (room setup setting cores t stands c here a active m stage_is has),
-    (has.acts, subst (λ y. IsFoundAnd y (λ z. z.value ≡ value.Nothing)) (sym changes_so) refl),
+    (has.acts, subst (λ y. IsFoundAnd y (λ z. z.value ≡ Value.Nothing)) (sym changes_so) refl),
   )
 
   left_good : GoodTook setup cores t c move (landed a (left_to m comp table pages now_at))
@@ -410,7 +394,7 @@ module _ (setup : Setting) (setting : IsSetting setup) (cores : ℕ → Core) (t
         permitted = permitted;
         justified = nothing_gone setup setting cores t stands c here a active m stage_is has e;
       })
-      (λ is_alone. ok_first s c a.call value.Nothing permitted)
+      (λ is_alone. ok_first s c a.call Value.Nothing permitted)
       (record { threads = ap changes_threads knows.call_is; core = knows.core })
 
 -- A step by which a core leaves a component is good.

@@ -1,5 +1,3 @@
--- The names that most proofs use.
-pub use Rattle.live_invariant.proofs.Common
 -- What words say of threads and of components.
 pub mod Heights
 pub mod CompWords
@@ -20,3 +18,5 @@ pub mod Left
 -- The stores of a push and of a pop.
 pub mod Stores
 pub mod Stacks
+-- The names that are used most outside of this library.
+pub use Rattle.thread_invariant.proofs.{EntryMarks.counts_apart, EntryMarks.holder_below, OwnStack.own_thread}

@@ -1,14 +1,12 @@
 -- A core's own thread, and the components on its stack.
-use Rattle.live_invariant.proofs.Common.{◌≡◌, ◌<◌, ◌≤◌, inl, ℕ, List, [], ◌∷◌, length, IsTrue, arith, refl, sym, ap, subst, false≢true}
-use Rattle.live_invariant.proofs.Common.{Setting, IsSetting, Frame, Kernel, Thread, State, first_of_stack, thread_in, thread_of, fits}
-use Rattle.live_invariant.proofs.Common.{times, frame_names, refs, IsSound, IsStack, IsObjectGood, opened, times_cons, events_of, IsLegal}
-use Rattle.live_invariant.proofs.Common.{Trace, state_after, sound_of, HasComp, below_of, limits_of}
-use Rattle.live_invariant.specs.spk_nums.specs.declared.kinds.Kind.TheVariants as kind
-use Rattle.live_invariant.specs.kernel_invariant.proofs.SoundRemovals.{below_by}
-use Rattle.live_invariant.specs.found_stays.proofs.Stays.{object_named}
-use Rattle.live_invariant.specs.kernel_invariant.proofs.Sums.{times_first}
+use Rattle.live_invariant.specs.step_ways.proofs.{◌≡◌, ◌<◌, ◌≤◌, inl, ℕ, List, [], ◌∷◌, length, IsTrue, arith, refl, sym, ap, subst}
+use Rattle.live_invariant.specs.step_ways.proofs.{false≢true, Setting, IsSetting, Frame, Kernel, Thread, State, first_of_stack, thread_in}
+use Rattle.live_invariant.specs.step_ways.proofs.{thread_of, fits, times, frame_names, refs, IsSound, IsObjectGood, opened, times_cons}
+use Rattle.live_invariant.specs.step_ways.proofs.{events_of, IsLegal, Trace, state_after, sound_of, HasComp, limits_of, Kind}
+use Rattle.live_invariant.specs.kernel_invariant.proofs.{IsStack, below_by, times_first}
+use Rattle.{live_invariant.specs.core_invariant.specs.Components.below_of, live_invariant.specs.found_stays.proofs.Stays.object_named}
 
-thread_fields : (x : Frame) → IsTrue (fits kind.Thread x) → x ≡ Kernel (Thread (thread_in x))
+thread_fields : (x : Frame) → IsTrue (fits Kind.Thread x) → x ≡ Kernel (Thread (thread_in x))
 thread_fields (Kernel (Thread k)) fit = refl
 thread_fields _ fit = absurd (false≢true fit)
 
@@ -27,14 +25,14 @@ module _ (setup : Setting) (setting : IsSetting setup) (t : Trace) (legal : IsLe
   below : c < s.limits.cores
   below = subst (λ (n : ℕ). c < n) (sym (ap (λ l. l.cores) (limits_of setup t))) here
 
-  fit : IsTrue (fits kind.Thread (s.frame (s.core c).thread))
+  fit : IsTrue (fits Kind.Thread (s.frame (s.core c).thread))
   fit = (sound.cores c below).0
 
   pub own_thread : s.frame (s.core c).thread ≡ Kernel (Thread (thread_of s c))
   own_thread = thread_fields (s.frame (s.core c).thread) fit
 
   pub thread_below : (s.core c).thread < s.limits.frames
-  thread_below = below_by s (opened (events_of t)) (s.core c).thread sound (fits kind.Thread) refl fit
+  thread_below = below_by s (opened (events_of t)) (s.core c).thread sound (fits Kind.Thread) refl fit
 
   own_comps : IsStack s (thread_of s c).stack
   own_comps = subst (IsObjectGood s) own_thread (sound.objects (s.core c).thread)

@@ -1,11 +1,10 @@
 -- What the words of a core's own thread say, while the core has nothing to store there.
-use Rattle.live_invariant.proofs.Common.{◌≡◌, ◌≢◌, ◌<◌, inl, inr, ℕ, false, Option, Some, None, refl, sym, ◌∙◌, ap, subst, cases_eq}
-use Rattle.live_invariant.proofs.Common.{Setting, IsSetting, EntryAt, PlaceOf, State, thread_in, thread_of, stamp, Trace, state_after}
-use Rattle.live_invariant.proofs.Common.{last_left, Core, settled_by, IsFrameWord, IsThreadWord, holds, held_by, Invariant}
-use Rattle.live_invariant.proofs.Common.{none_kept, runs_on_own}
-use Rattle.live_invariant.specs.kept_facts.proofs.Exclusive.{exclusive_thread, runs_no_tcap}
-use Rattle.thread_invariant.proofs.EntryMarks.{thread_unmarked}
-use Rattle.thread_invariant.proofs.OwnStack.{own_thread}
+use Rattle.live_invariant.specs.kept_facts.proofs.{◌≡◌, ◌≢◌, ◌<◌, inl, inr, ℕ, false, Option, Some, None, refl, sym, ◌∙◌, ap, subst}
+use Rattle.live_invariant.specs.kept_facts.proofs.{Setting, IsSetting, EntryAt, PlaceOf, State, thread_in, thread_of, stamp, Trace}
+use Rattle.live_invariant.specs.kept_facts.proofs.{state_after, last_left, Core, settled_by, IsFrameWord, IsThreadWord, holds, held_by}
+use Rattle.live_invariant.specs.kept_facts.proofs.{Invariant, none_kept, runs_on_own, exclusive_thread}
+use Rattle.thread_invariant.proofs.{EntryMarks.thread_unmarked, OwnStack.own_thread}
+use Rattle.{std.proofs.lemmas.Bool.cases_eq, live_invariant.specs.kept_facts.proofs.Exclusive.runs_no_tcap}
 
 module _ (setup : Setting) (setting : IsSetting setup) (cores : ℕ → Core) (t : Trace) (stands : Invariant setup cores t) (c : ℕ)
     (here : c < setup.cores) (none : (f i : ℕ) → (holds (cores c)).bare f i ≡ None)

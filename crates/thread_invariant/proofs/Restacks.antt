@@ -1,21 +1,19 @@
 -- A decision by which a core's thread has another stack, of which one place has changed: what is said of words then, and what the core
 -- keeps.
-use Rattle.live_invariant.proofs.Common.{◌≡◌, ◌≢◌, ◌⊎◌, inl, inr, ◌<◌, ◌≤◌, ◌+◌, ◌*◌, ℕ, zero, suc, false, List, [], ◌∷◌, length}
-use Rattle.live_invariant.proofs.Common.{Option, Some, None, arith, refl, sym, ◌∙◌, ap, subst, cases_eq, Setting, IsSetting, Reply}
-use Rattle.live_invariant.proofs.Common.{stack_of_word, thread_of_word, Running, Word, EntryAt, FrameAt, CountAt, CoreAt, FlushAt, LiveAt}
-use Rattle.live_invariant.proofs.Common.{ClockAt, Move, word_of, left_of, Grace, Thing, PlaceOf, NumberOf, Kernel, Thread}
-use Rattle.live_invariant.proofs.Common.{State, thread_of, put, sum_below, times, refs, sum_one, mark_of, mark_in_frame, marked_by}
-use Rattle.live_invariant.proofs.Common.{at_height, thread_value, stamp, flush_stored, Step, Trace, phase, state_after, last_left}
-use Rattle.live_invariant.proofs.Common.{decided-inside, last_left-there, ActiveCall, Core, settled, IsFrameWord, IsThreadWord, WordIs}
-use Rattle.live_invariant.proofs.Common.{holds, held_by, times_of, counted_in, IsExclusive, Invariant, plain_exit, runs_on_own}
-use Rattle.live_invariant.proofs.Common.{limits_of, ReadsAlike, SameFor, StaysSaid, word_stays, frame_value}
-use Rattle.live_invariant.specs.core_invariant.specs.Invariant.{SaysRunning}
-use Rattle.live_invariant.specs.step_ways.proofs.Keeping.{keeping_words}
-use Rattle.live_invariant.specs.step_ways.proofs.Loads.{inner}
-use Rattle.thread_invariant.proofs.EntryMarks.{thread_unmarked}
-use Rattle.thread_invariant.proofs.OwnStack.{own_thread, thread_below}
-use Rattle.thread_invariant.proofs.OwnWords.{thread_says as own_says}
-use Rattle.thread_invariant.proofs.Stacked.{stacked, frame_here, frame_there, core_own, core_other, thread_now, stack_refs}
+use Rattle.live_invariant.specs.step_ways.proofs.{◌≡◌, ◌≢◌, ◌⊎◌, inl, inr, ◌<◌, ◌≤◌, ◌+◌, ◌*◌, ℕ, zero, suc, false, List, [], ◌∷◌, length}
+use Rattle.live_invariant.specs.step_ways.proofs.{Option, Some, None, arith, refl, sym, ◌∙◌, ap, subst, Setting, IsSetting, Reply}
+use Rattle.live_invariant.specs.step_ways.proofs.{stack_of_word, thread_of_word, Running, Word, EntryAt, FrameAt, CountAt, CoreAt, FlushAt}
+use Rattle.live_invariant.specs.step_ways.proofs.{LiveAt, ClockAt, Move, word_of, left_of, Grace, Thing, PlaceOf, NumberOf, Kernel, Thread}
+use Rattle.live_invariant.specs.step_ways.proofs.{State, thread_of, put, times, refs, sum_one, mark_of, mark_in_frame, marked_by, at_height}
+use Rattle.live_invariant.specs.step_ways.proofs.{thread_value, stamp, flush_stored, Step, Trace, phase, state_after, last_left}
+use Rattle.live_invariant.specs.step_ways.proofs.{decided-inside, last_left-there, ActiveCall, Core, settled, IsFrameWord, IsThreadWord}
+use Rattle.live_invariant.specs.step_ways.proofs.{WordIs, holds, held_by, times_of, counted_in, Invariant, plain_exit, runs_on_own}
+use Rattle.live_invariant.specs.step_ways.proofs.{limits_of, ReadsAlike, SameFor, StaysSaid, word_stays, frame_value, inner}
+use Rattle.live_invariant.specs.core_invariant.specs.{sum_below, IsExclusive, SaysRunning}
+use Rattle.thread_invariant.proofs.{EntryMarks.thread_unmarked, OwnStack.own_thread, OwnStack.thread_below}
+use Rattle.thread_invariant.proofs.{OwnWords.thread_says as own_says, Stacked.stacked, Stacked.frame_here, Stacked.frame_there}
+use Rattle.thread_invariant.proofs.{Stacked.core_own, Stacked.core_other, Stacked.thread_now, Stacked.stack_refs}
+use Rattle.{std.proofs.lemmas.Bool.cases_eq, live_invariant.specs.step_ways.proofs.Keeping.keeping_words}
 
 -- After the step e the thread of its core has this stack, which differs from the one before at one height alone; the core keeps the words
 -- of the thread and of that place, each with the value that is still to be stored there.

@@ -1,37 +1,26 @@
 -- The loads by which a core that leaves a component reads the component below it are good.
-use Rattle.live_invariant.proofs.Common.{IsSome, ◌≡◌, inl, ℕ, suc, ◌<◌, ◌≤◌, ◌+◌, ◌-◌, ◌==◌, ◌++◌, map, length}
-use Rattle.live_invariant.proofs.Common.{true, false, if◌then◌else◌, List, [], ◌∷◌, Option, Some, None, arith, refl, sym, ◌∙◌, ap}
-use Rattle.live_invariant.proofs.Common.{subst, lt-leb, lt-ltb, All-nil, Setting, IsSetting, stack_of_word, EntryAt, LoadOf}
-use Rattle.live_invariant.proofs.Common.{State, comp_in, thread_of, Slot, Found, unless, first_of, rule_of, change_of}
-use Rattle.live_invariant.proofs.Common.{is_one_of, footprint_frames, HasReached, at_height, Step}
-use Rattle.live_invariant.proofs.Common.{Trace, Open, phase, state_after, last_left}
-use Rattle.live_invariant.proofs.Common.{own_left, ways, Acquired, ReturningAt, Act, Goes, frame_in, dues, returning_dues}
-use Rattle.live_invariant.proofs.Common.{next_work, Undecided, ActiveCall, StageFits, HasRoom, landed, Core, HasComp, below_of}
-use Rattle.live_invariant.proofs.Common.{holds_counts, due_of, KnowsUndecided, phase_at, holds_at, holds_in, holds, Invariant}
-use Rattle.live_invariant.proofs.Common.{counts_bare, names_on}
-use Rattle.live_invariant.specs.spk_nums.specs.declared.replies.Reply.TheVariants as reply
-use Rattle.live_invariant.specs.act_states.specs.declared.invocations.Returning.{Returning}
+use Rattle.live_invariant.specs.step_ways.proofs.{IsSome, ◌≡◌, inl, ℕ, suc, ◌<◌, ◌≤◌, ◌+◌, ◌-◌, ◌==◌, ◌++◌, map, length, true, false}
+use Rattle.live_invariant.specs.step_ways.proofs.{if◌then◌else◌, List, [], ◌∷◌, Option, Some, None, arith, refl, sym, ◌∙◌, ap, subst}
+use Rattle.live_invariant.specs.step_ways.proofs.{lt-ltb, Setting, IsSetting, stack_of_word, EntryAt, LoadOf, State, comp_in, thread_of}
+use Rattle.live_invariant.specs.step_ways.proofs.{Slot, Found, unless, first_of, rule_of, change_of, is_one_of, footprint_frames}
+use Rattle.live_invariant.specs.step_ways.proofs.{HasReached, at_height, Step, Trace, Open, phase, state_after, last_left, own_left, ways}
+use Rattle.live_invariant.specs.step_ways.proofs.{Acquired, ReturningAt, Act, Goes, dues, next_work, Undecided, ActiveCall, StageFits}
+use Rattle.live_invariant.specs.step_ways.proofs.{HasRoom, landed, Core, HasComp, holds_counts, due_of, KnowsUndecided, phase_at, holds_at}
+use Rattle.live_invariant.specs.step_ways.proofs.{holds_in, holds, Invariant, counts_bare, names_on, Return as return_act, OnlyLooks}
+use Rattle.live_invariant.specs.step_ways.proofs.{step_to, next_at, call_is, is_active, loads_on, GoodTook, does, plan_for, Reply}
+use Rattle.live_invariant.specs.act_states.specs.{frame_in, returning_dues, below_in, meets_below, meets_below_table, meets_below_pages}
+use Rattle.live_invariant.specs.core_invariant.specs.{below_of, HasLoadedBelow, KnowsReturning}
+use Rattle.live_invariant.specs.count_invariant.proofs.{knows_next, next_holds, one_apart}
+use Rattle.live_invariant.specs.kernel_rules.proofs.{lt-leb, Pop as pop_edit}
 use Rattle.live_invariant.specs.act_states.specs.declared.invocations.ReturningAt.TheVariants.{LoadBelow, LoadTable, LoadPages, Draw}
-use Rattle.live_invariant.specs.act_states.specs.declared.work.Act.{Act as ActOf}
-use Rattle.live_invariant.specs.act_states.specs.declared.work.Act.TheVariants.{Return as return_act}
-use Rattle.live_invariant.specs.act_states.specs.Invocations.{ReturningFits, frame_of_stack, below_in}
-use Rattle.live_invariant.specs.act_states.specs.Acts.{meets_below, meets_below_table, meets_below_pages}
-use Rattle.live_invariant.specs.core_invariant.specs.Components.{IsBelow, HasLoadedBelow, KnowsReturning}
-use Rattle.live_invariant.specs.kept_facts.proofs.Carries.{returning_on}
-use Rattle.live_invariant.specs.step_ways.proofs.Loads.{OnlyLooks, step_to, next_at, call_is, is_active, loads_on}
-use Rattle.live_invariant.specs.step_ways.proofs.Refusals.{GoodTook}
-use Rattle.live_invariant.specs.count_invariant.proofs.Acquiring.{knows_next, next_holds, one_apart}
+use Rattle.live_invariant.specs.act_states.specs.Invocations.{ReturningFits, frame_of_stack}
 use Rattle.live_invariant.specs.count_invariant.proofs.StackCounts.{stack_footprint, thread_footprint, below_one}
-use Rattle.thread_invariant.proofs.EntryMarks.{counts_apart}
-use Rattle.thread_invariant.proofs.CompWords.{comp_says, table_below, pages_below, comp_below}
-use Rattle.thread_invariant.proofs.Heights.{at_below}
-use Rattle.thread_invariant.proofs.Invokes.{frame_shown}
-use Rattle.thread_invariant.proofs.OwnStack.{below_comp}
-use Rattle.thread_invariant.proofs.OwnWords.{thread_says}
-use Rattle.kernel_laws.specs.kernel_rules.specs.Edits.{Pop as pop_edit}
-use Rattle.kernel_laws.specs.kernel_rules.specs.Rules.{does}
-use Rattle.live_invariant.specs.spk_nums.specs.declared.replies.Value.TheVariants.{Nothing as no_value}
-use Rattle.live_invariant.specs.act_states.specs.call_plans.specs.PlanOf.{plan_for}
+use Rattle.thread_invariant.proofs.{EntryMarks.counts_apart, CompWords.comp_says, CompWords.table_below, CompWords.pages_below}
+use Rattle.thread_invariant.proofs.{CompWords.comp_below, Heights.at_below, Invokes.frame_shown, OwnStack.below_comp, OwnWords.thread_says}
+use Rattle.{live_invariant.specs.act_states.specs.Nothing as no_value, std.proofs.lemmas.List.Elements.All-nil}
+use Rattle.{live_invariant.specs.act_states.specs.declared.invocations.Returning.Returning}
+use Rattle.{live_invariant.specs.act_states.specs.declared.work.Act.Act as ActOf}
+use Rattle.{live_invariant.specs.core_invariant.specs.Components.IsBelow, live_invariant.specs.kept_facts.proofs.Carries.returning_on}
 
 -- The component below the top of a stack, by its height.
 height_below : (fs : List ℕ) (h : ℕ) → 2 ≤ length fs → h + 2 ≡ length fs → at_height fs h ≡ Some (below_of fs)
@@ -76,7 +65,7 @@ module _ (setup : Setting) (setting : IsSetting setup) (cores : ℕ → Core) (t
   -- what is left of its rule
   pub change : change_of s c a.call ≡ Found (does c s no_value (pop_edit ∷ []))
   change = ap (change_of s c) knows.call_is
-      ∙ ap (λ b. unless (first_of (if b then Some reply.Bottom else None) None) (does c s no_value (pop_edit ∷ [])))
+      ∙ ap (λ b. unless (first_of (if b then Some Reply.Bottom else None) None) (does c s no_value (pop_edit ∷ [])))
       (lt-leb (length (thread_of s c).stack) 1 (let more = deep in omega (arith, more)))
 
   pub nothing_gone : (e : Step) → HasReached (e ∷ t) c (ways s c (rule_of s c a.call))

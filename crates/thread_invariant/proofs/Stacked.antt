@@ -1,8 +1,8 @@
 -- The state in which the current thread of a core has another stack, after a call that is carried out.
-use Rattle.live_invariant.proofs.Common.{◌≡◌, ◌≢◌, ◌<◌, ◌+◌, ℕ, List, refl, ◌∙◌, ap, arith, Grace, Thing, ThreadFields, Kernel, Thread}
-use Rattle.live_invariant.proofs.Common.{State, thread_in, thread_of, with_grace, times, frame_names, refs, counted, frame_refs}
-use Rattle.live_invariant.proofs.Common.{grace_refs, put_same, put_other, counted_refs}
-use Rattle.live_invariant.specs.kernel_rules.specs.Edits.{with_thread, with_stack}
+use Rattle.live_invariant.specs.kept_facts.specs.kernel_laws.proofs as low
+use low.{◌≡◌, ◌≢◌, ◌<◌, ◌+◌, ℕ, List, refl, ◌∙◌, ap, arith, Grace, Thing, ThreadFields, Kernel, Thread, State, thread_in, thread_of}
+use low.{with_grace, times, frame_names, refs, counted, frame_refs, grace_refs, put_same, put_other, with_thread}
+use Rattle.{live_invariant.specs.kept_facts.proofs.CountSums.counted_refs, live_invariant.specs.kernel_rules.specs.Edits.with_stack}
 
 abbrev pub stacked : State → ℕ → List ℕ → (Thing → Grace) → State
 stacked s c fs graces = counted (with_grace (with_stack s c fs) graces) c

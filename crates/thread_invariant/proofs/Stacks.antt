@@ -1,23 +1,17 @@
 -- The stores of a push and of a pop are good.
-use Rattle.live_invariant.proofs.Common.{◌≡◌, ◌≢◌, ◌⊎◌, inl, inr, ℕ, ◌+◌, ◌-◌, ◌≤◌, ◌^◌, ◌<◌, ◌==◌, ◌&&◌, Bool, true, false}
-use Rattle.live_invariant.proofs.Common.{if◌then◌else◌, List, Option, Some, None, arith, refl, sym, ◌∙◌, ap, subst, eqb-true, eq-eqb}
-use Rattle.live_invariant.proofs.Common.{ne_eqb, Setting, IsSetting, Reply, EntryAt, word_of_stack, ThreadFits, word_of_thread}
-use Rattle.live_invariant.proofs.Common.{thread_of_word, Running, Acquired, ThreadFields, Kernel, Thread, thread_mark, mark_in_frame}
-use Rattle.live_invariant.proofs.Common.{Trace, Nothing, Push, Pop, Decided, ActiveCall, StageFits, GoesOn, went_with, Core, Holding}
-use Rattle.live_invariant.proofs.Common.{holds_counts, done_by, Invariant, AsBefore, counts_bare}
+use Rattle.live_invariant.specs as low
+use low.step_ways.proofs.{◌≡◌, ◌≢◌, ◌⊎◌, inl, inr, ℕ, ◌+◌, ◌-◌, ◌≤◌, ◌^◌, ◌<◌, ◌==◌, ◌&&◌, Bool, true, false, if◌then◌else◌, List, Option}
+use low.step_ways.proofs.{Some, None, arith, refl, sym, ◌∙◌, ap, subst, eqb-true, eq-eqb, ne_eqb, Setting, IsSetting, Reply, EntryAt}
+use low.step_ways.proofs.{word_of_stack, ThreadFits, word_of_thread, thread_of_word, Running, Acquired, ThreadFields, Kernel, Thread}
+use low.step_ways.proofs.{thread_mark, mark_in_frame, Trace, Nothing, Push, Pop, Decided, ActiveCall, StageFits, GoesOn, went_with, Core}
+use low.step_ways.proofs.{Holding, holds_counts, done_by, Invariant, AsBefore, counts_bare, is_active, GoodTook}
+use low.core_invariant.specs.{Holding.keeps_bare, Knows.KnowsPush, Knows.KnowsPop}
+use low.{act_states.specs.Push as PushOf, act_states.specs.Pop as PopOf, stage_thread.specs.push_move, stage_thread.specs.pop_move}
+use low.{call_stages.specs.Tails.pushed_on, call_stages.specs.Tails.popped_on}
+use Rattle.{thread_invariant.proofs.Stores.stack_good}
 use Rattle.live_invariant.specs.tcap_words.proofs.StackLemmas as stacks
 use Rattle.live_invariant.specs.tcap_words.proofs.ThreadLemmas as threads
-use Rattle.live_invariant.specs.stage_thread.specs.Stacking.{push_move, pop_move}
-use Rattle.live_invariant.specs.stage_thread.specs.declared.stack.Push.{Push as PushOf}
-use Rattle.live_invariant.specs.stage_thread.specs.declared.stack.Push.TheVariants as push
-use Rattle.live_invariant.specs.stage_thread.specs.declared.stack.Pop.{Pop as PopOf}
 use Rattle.live_invariant.specs.stage_thread.specs.declared.stack.Pop.TheVariants as pop
-use Rattle.live_invariant.specs.call_stages.specs.Tails.{pushed_on, popped_on}
-use Rattle.live_invariant.specs.core_invariant.specs.Holding.{keeps_bare}
-use Rattle.live_invariant.specs.core_invariant.specs.Knows.{KnowsPush, KnowsPop}
-use Rattle.live_invariant.specs.step_ways.proofs.Loads.{is_active}
-use Rattle.live_invariant.specs.step_ways.proofs.Refusals.{GoodTook}
-use Rattle.thread_invariant.proofs.Stores.{stack_good}
 
 -- A word that is kept, and another.
 pub kept_here : (f i x : ℕ) (h : Holding) → (keeps_bare f i x h).bare f i ≡ Some x
@@ -89,22 +83,22 @@ module _ (setup : Setting) (setting : IsSetting setup) (cores : ℕ → Core) (t
 
   pub push_good : (x : PushOf) → a.stage ≡ Decided r drawn (Push x) → KnowsPush c a.call x
       → GoodTook setup cores t c (push_move x) (GoesOn (went_with a a.counts (Decided r drawn (pushed_on x))))
-  push_good (push.AtStack f core depth comp) is has =
+  push_good (PushOf.AtStack f core depth comp) is has =
       let fits = subst (StageFits (cores c).own.layout) is (is_active setup setting cores t stands c here a active).stage in
       let h : Holding = keeps_bare f 0 (word_of_thread (Running core (depth + 1))) rest in
-      stack_good setup setting cores t stands c here a active r drawn (Push (push.AtStack f core depth comp))
-      (Push (push.AtThread f core depth)) is f (depth + 1) (word_of_stack (record { 0 = Some comp })) has.stack.threads
+      stack_good setup setting cores t stands c here a active r drawn (Push (PushOf.AtStack f core depth comp))
+      (Push (PushOf.AtThread f core depth)) is f (depth + 1) (word_of_stack (record { 0 = Some comp })) has.stack.threads
       (stacks.spelling.small (record { 0 = Some comp }) has.small)
       (bare_place (depth + 1) (word_of_stack (record { 0 = Some comp })) (λ none. omega (arith, none)))
       (kept_here f (depth + 1) (word_of_stack (record { 0 = Some comp })) h) (λ w. (refl, refl)) (λ w. (refl, refl))
       (given f (depth + 1) (word_of_stack (record { 0 = Some comp })) h
       (one_more f (depth + 1) 0 0 (word_of_thread (Running core (depth + 1))) (done_by r drawn) a.counts (λ none. omega (arith, none))))
       (λ u. has.stack)
-  push_good (push.AtThread f core depth) is has =
+  push_good (PushOf.AtThread f core depth) is has =
       let fits = subst (StageFits (cores c).own.layout) is (is_active setup setting cores t stands c here a active).stage in
       let thread_fits : ThreadFits (Running core (depth + 1)) =
       (core_small core has.core, (omega arith, (let most = fits.2 in omega (arith, most)))) in
-      stack_good setup setting cores t stands c here a active r drawn (Push (push.AtThread f core depth)) Nothing is f 0
+      stack_good setup setting cores t stands c here a active r drawn (Push (PushOf.AtThread f core depth)) Nothing is f 0
       (word_of_thread (Running core (depth + 1))) has.threads (threads.spelling.small (Running core (depth + 1)) thread_fits)
       (bare_thread core (depth + 1) thread_fits) (kept_here f 0 (word_of_thread (Running core (depth + 1))) rest)
       (λ w. (refl, refl)) (λ w. (refl, refl))

@@ -1,22 +1,17 @@
 -- A store of a word of its thread that a core keeps without a mark, after its call is decided: the word settles to what is stored, and the
 -- core keeps it no longer.
-use Rattle.live_invariant.proofs.Common.{◌≡◌, ◌≢◌, inl, inr, ℕ, ◌≤◌, ◌^◌, ◌<◌, ◌==◌, ◌||◌, true, false, if◌then◌else◌, List, [], ◌∷◌}
-use Rattle.live_invariant.proofs.Common.{◌++◌, length, Option, Some, None, IsTrue, arith, refl, sym, ◌∙◌, ap, subst, cases_eq, eq-eqb}
-use Rattle.live_invariant.proofs.Common.{Setting, IsSetting, Reply, Word, EntryAt, Move, StoreOf, ThreadFields, Frame, Untyped}
-use Rattle.live_invariant.proofs.Common.{User, Kernel, Blank, Table, Leaf, Pages, Pleaf, Comp, Thread, Tcap, State, thread_in, thread_of}
-use Rattle.live_invariant.proofs.Common.{comp_of, put, put_same, put_other, changes_threads, changes_in_frame, is_one_of, frames_own}
-use Rattle.live_invariant.proofs.Common.{footprint_frames, mark_in_frame, Step, Trace, state_after, last_left, Acquired, Tail}
-use Rattle.live_invariant.proofs.Common.{Decided, ActiveCall, GoesOn, went_with, Core, Holding, holds_counts, settled_by, phase_at}
-use Rattle.live_invariant.proofs.Common.{KnowsTail, done_by, holds_tail, holds_at, holds_in}
-use Rattle.live_invariant.proofs.Common.{holds, held_by, IsExclusive, Invariant, AsBefore}
-use Rattle.live_invariant.proofs.Common.{none_kept, counts_on}
-use Rattle.live_invariant.specs.plan_ways.proofs.InFootprint.{one_left}
-use Rattle.live_invariant.specs.core_invariant.specs.Invariant.{IsOfThread}
-use Rattle.live_invariant.specs.step_ways.proofs.Counting as counters
-use Rattle.live_invariant.specs.step_ways.proofs.Good.{Spared}
+use Rattle.live_invariant.specs.step_ways.proofs as low
+use low.{◌≡◌, ◌≢◌, inl, inr, ℕ, ◌≤◌, ◌^◌, ◌<◌, ◌==◌, ◌||◌, true, false, if◌then◌else◌, List, [], ◌∷◌, ◌++◌, length, Option, Some, None}
+use low.{IsTrue, arith, refl, sym, ◌∙◌, ap, subst, eq-eqb, Setting, IsSetting, Reply, Word, EntryAt, Move, StoreOf, ThreadFields, Frame}
+use low.{Untyped, User, Kernel, Blank, Table, Leaf, Pages, Pleaf, Comp, Thread, Tcap, State, thread_in, thread_of, comp_of, put, put_same}
+use low.{put_other, changes_threads, changes_in_frame, is_one_of, frames_own, footprint_frames, mark_in_frame, Step, Trace, state_after}
+use low.{last_left, Acquired, Tail, Decided, ActiveCall, GoesOn, went_with, Core, Holding, holds_counts, settled_by, phase_at, KnowsTail}
+use low.{done_by, holds_tail, holds_at, holds_in, holds, held_by, Invariant, AsBefore, none_kept, counts_on, Spared, core_in_call, inner}
+use low.{call_is, GoodTook}
+use Rattle.live_invariant.specs.core_invariant.specs.{IsExclusive, IsOfThread}
 use Rattle.live_invariant.specs.kept_facts.proofs.Exclusive.{exclusive_unmarked, one_keeper, own_value}
-use Rattle.live_invariant.specs.step_ways.proofs.Loads.{core_in_call, inner, call_is}
-use Rattle.live_invariant.specs.step_ways.proofs.Refusals.{GoodTook}
+use Rattle.{std.proofs.lemmas.Bool.cases_eq, live_invariant.specs.plan_ways.proofs.InFootprint.one_left}
+use Rattle.live_invariant.specs.step_ways.proofs.Counting as counters
 
 none_some : (d : ℕ) → None ≡ Some d → ⊥
 none_some d h = cc

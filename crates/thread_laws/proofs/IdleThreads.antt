@@ -1,34 +1,19 @@
 -- What each call makes of a frame with a thread: it keeps a thread, unless it is made untyped; and a thread that runs nowhere, before the
 -- call and after it, is as it was.
-use Rattle.std.proofs.Common.{◌≡◌, ◌≢◌, ◌⊎◌, inl, inr, ℕ, ◌-◌, Bool, true, false, refl, sym}
-use Rattle.std.proofs.Common.{◌∙◌, ap, subst, IsTrue, List, [], ◌∷◌, Option, Some, None}
-use Rattle.std.proofs.lemmas.Bool.{false≢true, cases_eq, eq-eqb}
-use Rattle.trace_laws.specs.spk_nums.specs.declared.kinds.Kind.TheVariants as kind
-use Rattle.trace_laws.specs.spk_nums.specs.declared.calls.Call.{Call}
-use Rattle.trace_laws.specs.spk_nums.specs.declared.calls.Call.TheVariants.{Tick}
-use Rattle.trace_laws.specs.spk_nums.specs.declared.replies.Value.{Value}
-use Rattle.trace_laws.specs.spk_nums.specs.declared.replies.Reply.{Reply}
-use Rattle.trace_laws.specs.spk_nums.specs.declared.replies.Reply.TheVariants as reply
-use Rattle.trace_laws.specs.kernel_rules.specs.State.{ThreadFields, TcapFields, Blank, Comp, Thread}
-use Rattle.trace_laws.specs.kernel_rules.specs.State.{Frame, Untyped, Kernel, Thing, FrameOf, State, put, thread_in, thread_of}
-use Rattle.trace_laws.specs.kernel_rules.specs.Fitting.{fits}
-use Rattle.trace_laws.specs.kernel_rules.specs.Edits.{with_thread, running, with_tcap, with_budget, with_qualities, tcap_at, moved, Edit}
-use Rattle.trace_laws.specs.kernel_rules.specs.Edits.{Fill, Node, Become, Untype, Component, Push, Pop, Switch, Charge, Move, Merge, Give}
-use Rattle.trace_laws.specs.kernel_rules.specs.Edits.{edited, after_edits}
-use Rattle.trace_laws.specs.kernel_rules.specs.Rules.{Change, does, Judged, Refused, Found}
-use Rattle.trace_laws.specs.kernel_rules.specs.CallRelation.{change_of, changed, owed_by, state_by, ends, ends_by}
-use Rattle.trace_laws.specs.kernel_invariant.proofs.Sound.{put_all}
-use Rattle.trace_laws.specs.kernel_rules.proofs.Within.{put_same, put_other}
-use Rattle.trace_laws.specs.kernel_invariant.specs.Edits.{ends_in}
-use Rattle.trace_laws.specs.kernel_invariant.proofs.SoundCalls.{IsOpen}
-use Rattle.trace_laws.specs.kernel_invariant.proofs.Facts.{none_some, some_none}
-use Rattle.trace_laws.specs.kernel_invariant.proofs.Edited.{is_bare, Known, AreLater, Edits, found_by}
-use Rattle.trace_laws.specs.kernel_rules.proofs.Changes.{IfFound}
-use Rattle.trace_laws.specs.found_stays.proofs.Spares.{RunsOn}
+use Rattle.trace_laws.specs.kernel_rules.proofs as low
+use low.{◌≡◌, ◌≢◌, ◌⊎◌, inl, inr, ℕ, ◌-◌, Bool, true, false, refl, sym, ◌∙◌, ap, subst, IsTrue, List, [], ◌∷◌, Option, Some, None}
+use low.{false≢true, eq-eqb, Call, Tick, Value, Reply, ThreadFields, TcapFields, Blank, Comp, Thread, Frame, Untyped, Kernel, Thing}
+use low.{FrameOf, put, thread_in, thread_of, fits, with_thread, running, with_tcap, with_budget, with_qualities, tcap_at, moved, Edit, Fill}
+use low.{Node, Become, Untype, Component, Push, Pop, Charge, Move, Merge, Give, edited, after_edits, Change, does, Judged, Refused, Found}
+use low.{change_of, changed, owed_by, state_by, ends, ends_by, put_same, put_other, IfFound, Kind}
+use Rattle.trace_laws.specs.kernel_invariant.proofs.{put_all, IsOpen, none_some, some_none, is_bare, Known, AreLater, found_by}
+use Rattle.trace_laws.specs.kernel_rules.specs.{State.State, Edits.Switch}
+use Rattle.{std.proofs.lemmas.Bool.cases_eq, trace_laws.specs.kernel_invariant.specs.Edits.ends_in}
+use Rattle.{trace_laws.specs.kernel_invariant.proofs.Edited.Edits, trace_laws.specs.found_stays.proofs.Spares.RunsOn}
 
 -- Whether a frame has a thread, and where that runs.
 abbrev pub is_thread : Frame → Bool
-is_thread x = fits kind.Thread x
+is_thread x = fits Kind.Thread x
 
 abbrev pub runs_at : Frame → Option ℕ
 runs_at x = (thread_in x).runs_on
@@ -218,11 +203,11 @@ rests_in_same call r f x y same = record {
 
 pub decided_rests : (s : State) (o : ℕ → Bool) (d : ℕ) → IsOpen s o d → RunsOn s d → (call : Call) (r : Reply) (f : ℕ)
     → RestsIn call r f (s.frame f) ((state_by s d call r).frame f)
-decided_rests s o d opens runs call (reply.Ok v) f =
+decided_rests s o d opens runs call (Reply.Ok v) f =
     let a : Rests (ends_by call (FrameOf f)) (s.frame f) ((changed s (change_of s d call)).frame f) =
     found_rests s call (change_of s d call) (found_by s d call (RestsBy s call) (rests_by s o d opens runs call)) f in
     record { thread = a.thread; idle = a.idle }
-decided_rests s o d opens runs call reply.Raced f = rests_in_same call reply.Raced f (s.frame f) _ (owed_frame s d call f)
-decided_rests s o d opens runs call (reply.Busy e) f = rests_in_same call (reply.Busy e) f (s.frame f) _ (owed_frame s d call f)
-decided_rests s o d opens runs call reply.CallsSpent f = rests_in_same call reply.CallsSpent f (s.frame f) _ refl
+decided_rests s o d opens runs call Reply.Raced f = rests_in_same call Reply.Raced f (s.frame f) _ (owed_frame s d call f)
+decided_rests s o d opens runs call (Reply.Busy e) f = rests_in_same call (Reply.Busy e) f (s.frame f) _ (owed_frame s d call f)
+decided_rests s o d opens runs call Reply.CallsSpent f = rests_in_same call Reply.CallsSpent f (s.frame f) _ refl
 decided_rests s o d opens runs call r f = rests_in_same call r f (s.frame f) _ refl

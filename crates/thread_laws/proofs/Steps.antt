@@ -1,29 +1,16 @@
 -- What a step of another core leaves of a thread that a core in a call guards.
-use Rattle.std.proofs.Common.{◌≡◌, ◌≢◌, ◌⊎◌, inl, inr, ℕ, ◌<◌, Bool, true, false, refl}
-use Rattle.std.proofs.Common.{sym, ◌∙◌, ap, subst, IsTrue, ◌∷◌, Option, Some, None, arith}
-use Rattle.std.proofs.lemmas.Bool.{false≢true}
-use Rattle.trace_laws.specs.spk_nums.specs.Setting.{Setting, IsSetting}
-use Rattle.trace_laws.specs.spk_nums.specs.declared.calls.Call.{Call}
-use Rattle.trace_laws.specs.spk_nums.specs.declared.replies.Reply.{Reply}
-use Rattle.trace_laws.specs.kernel_rules.specs.State.{Frame, FrameOf, State}
-use Rattle.trace_laws.specs.kernel_rules.specs.References.{refs}
-use Rattle.trace_laws.specs.kernel_rules.specs.Relies.{IsGuarded}
-use Rattle.trace_laws.specs.kernel_rules.specs.CallRelation.{MayReply, ends}
-use Rattle.trace_laws.specs.kernel_rules.specs.Runs.{after, core_of}
-use Rattle.trace_laws.specs.kernel_rules.specs.Runs as plain
-use Rattle.trace_laws.specs.kernel_invariant.proofs.Ends.{MayEnd, ends_by_rule}
-use Rattle.trace_laws.specs.found_stays.proofs.Spares.{RunsOn}
-use Rattle.trace_laws.specs.found_stays.proofs.SparesRuns.{runs_of, inside_of, inside_facts}
-use Rattle.trace_laws.specs.kernel_invariant.proofs.SoundRuns.{opened}
-use Rattle.trace_laws.specs.found_stays.proofs.Stays.{event_stay_in}
-use Rattle.trace_laws.specs.kernel_history.specs.Events.{with_entry, events_of, plain_phase}
-use Rattle.trace_laws.specs.kernel_history.specs.Legal.{MayDecide, MayFollow, IsLegal}
-use Rattle.trace_laws.specs.kernel_history.specs.Stamps.{is_in}
-use Rattle.trace_laws.specs.kernel_history.specs.Trace.{Step, Trace, Phase, Out, Open, Decided, phase, after_enter, state_after}
-use Rattle.trace_laws.specs.kernel_history.specs.Trace.{state_entered, state_decided, state_returned, state_before}
-use Rattle.trace_laws.specs.kernel_history.proofs.Events.{entered_events, before_is, entry_apart, entered_run, phase_is, run_of, state_is}
-use Rattle.trace_laws.proofs.Opens.{opens, open_inj}
+use Rattle.trace_laws.specs.kernel_history.proofs as low
+use low.{◌≡◌, ◌≢◌, ◌⊎◌, inl, inr, ℕ, ◌<◌, Bool, true, false, refl, sym, ◌∙◌, ap, subst, IsTrue, ◌∷◌, Option, Some, None, arith, false≢true}
+use low.{Setting, IsSetting, Call, Reply, Frame, FrameOf, State, refs, IsGuarded, MayReply, ends, after, with_entry, events_of, plain_phase}
+use low.{MayDecide, MayFollow, IsLegal, is_in, Step, Phase, Out, Decided, phase, after_enter, state_after, state_entered, state_decided}
+use low.{state_returned, state_before, entered_events, before_is, entry_apart, entered_run, phase_is, run_of, state_is}
+use Rattle.trace_laws.specs.kernel_invariant.proofs.{MayEnd, ends_by_rule, opened}
+use Rattle.trace_laws.specs.found_stays.proofs.{SparesRuns.inside_of, SparesRuns.inside_facts, Stays.event_stay_in}
 use Rattle.thread_laws.proofs.IdleThreads.{is_thread, runs_at, RestsIn, decided_rests}
+use Rattle.{trace_laws.proofs.opens, trace_laws.proofs.open_inj, trace_laws.specs.found_stays.proofs.RunsOn}
+use Rattle.{trace_laws.specs.found_stays.proofs.runs_of, trace_laws.specs.kernel_rules.specs.Runs.core_of}
+use Rattle.{trace_laws.specs.kernel_history.specs.Trace.Trace, trace_laws.specs.kernel_history.specs.Trace.Open}
+use Rattle.trace_laws.specs.kernel_rules.specs.Runs as plain
 
 entered_frame : (o : Option Call) (s : State) (c f : ℕ) → (state_entered o s c).frame f ≡ s.frame f
 entered_frame None s c f = refl

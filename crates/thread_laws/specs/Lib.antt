@@ -1,4 +1,5 @@
 -- What the crates above name through this one.
+pub use Rattle.trace_laws.specs.boot_words
 pub use Rattle.trace_laws.specs.spk_nums
 pub use Rattle.trace_laws.specs.entry_words
 pub use Rattle.trace_laws.specs.frame_words

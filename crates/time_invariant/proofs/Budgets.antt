@@ -1,17 +1,15 @@
 -- The numbers of a core and of temporal capabilities after a legal trace.
-use Rattle.step_ways.proofs.Common.{◌≡◌, ℕ, ◌-◌, ◌*◌, ◌^◌, ◌<◌, ◌≤◌, arith, refl, sym, ap, subst, IsTrue, false≢true, Setting, IsSetting, fits}
-use Rattle.step_ways.proofs.Common.{InRanges, Frame, Kernel, Tcap, TcapFields, State, events_of, IsLegal, Trace, state_after, state_is}
-use Rattle.step_ways.proofs.Common.{run_of, sound_of, limits_of}
-use Rattle.kernel_laws.specs.spk_nums.specs.declared.kinds.Kind.TheVariants as kind
-use Rattle.kernel_laws.specs.kernel_rules.specs.Ranges.{CoreInRange}
-use Rattle.kernel_laws.proofs.RangesLaw.{ranges_hold}
+use Rattle.step_ways.proofs.{◌≡◌, ℕ, ◌-◌, ◌*◌, ◌^◌, ◌<◌, ◌≤◌, arith, refl, sym, ap, subst, IsTrue, false≢true, Setting, IsSetting, fits}
+use Rattle.step_ways.proofs.{Frame, Kernel, Tcap, TcapFields, State, events_of, IsLegal, Trace, state_after, state_is, run_of, sound_of}
+use Rattle.{step_ways.proofs.limits_of, step_ways.proofs.Kind, plan_ways.specs.kernel_rules.specs.Ranges.InRanges}
+use Rattle.{plan_ways.specs.kernel_rules.specs.Ranges.CoreInRange, step_ways.specs.kernel_laws.proofs.RangesLaw.ranges_hold}
 
 -- A frame has a temporal capability.
 pub record IsTcap (x : Frame) : Type 0 where
   pub fields : TcapFields
   pub is : x ≡ Kernel (Tcap fields)
 
-pub tcap_is : (x : Frame) → IsTrue (fits kind.Tcap x) → IsTcap x
+pub tcap_is : (x : Frame) → IsTrue (fits Kind.Tcap x) → IsTcap x
 tcap_is (Kernel (Tcap q)) fit = record { fields = q; is = refl }
 tcap_is _ fit = absurd (false≢true fit)
 
@@ -25,7 +23,7 @@ pub record Numbers (s : State) (c : ℕ) : Type 0 where
   pub owed : (s.core c).owed ≤ 1000000 * (s.core c).counted
   pub spent : (s.core c).spent ≤ 1000000 * (s.core c).counted
   pub back : (s.core c).back ≤ (s.core c).spent
-  pub tcap : IsTrue (fits kind.Tcap (s.frame (s.core c).tcap))
+  pub tcap : IsTrue (fits Kind.Tcap (s.frame (s.core c).tcap))
 
 pub numbers_of : (setup : Setting) → IsSetting setup → (t : Trace) → IsLegal setup t → (c : ℕ) → c < setup.cores
     → Numbers (state_after setup t) c

@@ -1,9 +1,8 @@
 -- The calls that charge ticks, and what lies in their footprints.
-use Rattle.step_ways.proofs.Common.{◌≡◌, ℕ, ◌||◌, ◌++◌, ◌==◌, Bool, true, false, [], ◌∷◌, refl, sym, ◌∙◌, ap, subst, eq-eqb, Call, Tick}
-use Rattle.step_ways.proofs.Common.{Frame, Kernel, Tcap, TcapFields, State, thread_of, comp_of, is_one_of, frames_own, footprint_frames}
-use Rattle.step_ways.proofs.Common.{HasRacedHead, Charge, ChargesBy}
-use Rattle.plan_ways.proofs.InFootprint.{one_left}
-use Rattle.step_ways.specs.core_invariant.specs.Knows.{IsCharge}
+use Rattle.step_ways.proofs.{◌≡◌, ℕ, ◌||◌, ◌++◌, ◌==◌, Bool, true, false, [], ◌∷◌, refl, sym, ◌∙◌, ap, subst, eq-eqb, Call, Frame, Kernel}
+use Rattle.step_ways.proofs.{Tcap, TcapFields, State, thread_of, comp_of, is_one_of, frames_own, footprint_frames, HasRacedHead, Charge}
+use Rattle.{step_ways.proofs.ChargesBy, plan_ways.specs.spk_nums.specs.declared.calls.Call.TheVariants.Tick}
+use Rattle.{plan_ways.proofs.InFootprint.one_left, step_ways.specs.core_invariant.specs.Acting.IsCharge}
 
 -- The call that charges ticks.
 pub record IsTick (s : State) (c : ℕ) (call : Call) (charge_at : Charge) : Type 0 where

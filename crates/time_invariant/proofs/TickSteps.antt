@@ -1,16 +1,12 @@
 -- A step of a tick keeps the invariant, whichever it is.
-use Rattle.step_ways.proofs.Common.{min, ◌≡◌, ℕ, ◌<◌, ◌==◌, Bool, true, false, Some, refl, sym, subst, Setting, IsSetting, word_of_head}
-use Rattle.step_ways.proofs.Common.{head_of_word, EntryAt, LoadOf, CompareOf, word_of, told_of, Trace, state_after, last_left, head}
-use Rattle.step_ways.proofs.Common.{debited, head_end, Charge, Act, Undecided, ActiveCall, landed, Core, ChargesBy, KnowsUndecided}
-use Rattle.step_ways.proofs.Common.{Invariant}
-use Rattle.step_ways.specs.stage_tcap.specs.Charging.{charge_move, after_head, charged_end}
-use Rattle.step_ways.specs.stage_tcap.specs.declared.charge.Charge.TheVariants.{AtLoad, AtCompare}
-use Rattle.step_ways.specs.act_states.specs.Ticks.{took_charge, took_tick}
-use Rattle.step_ways.specs.act_states.specs.declared.work.Act.TheVariants.{Tick as tick_act}
-use Rattle.step_ways.specs.core_invariant.specs.Knows.{HasHead}
-use Rattle.step_ways.proofs.Refusals.{GoodTook}
-use Rattle.time_invariant.proofs.TickCalls.{tick_of}
-use Rattle.time_invariant.proofs.Ticks.{here_is, load_good, won_good, lost_good}
+use Rattle.step_ways.proofs.{min, ◌≡◌, ℕ, ◌<◌, ◌==◌, Bool, true, false, Some, refl, sym, subst, Setting, IsSetting, word_of_head}
+use Rattle.step_ways.proofs.{head_of_word, EntryAt, LoadOf, CompareOf, word_of, told_of, Trace, state_after, last_left, head, debited}
+use Rattle.step_ways.proofs.{head_end, Charge, Act, Undecided, ActiveCall, landed, Core, ChargesBy, KnowsUndecided, Invariant, AtLoad}
+use Rattle.step_ways.proofs.{Tick as tick_act, GoodTook}
+use Rattle.step_ways.specs.act_states.specs.{charge_move, charged_end, took_charge, took_tick}
+use Rattle.step_ways.specs.stage_tcap.specs.{Charging.after_head, declared.charge.Charge.TheVariants.AtCompare}
+use Rattle.step_ways.specs.core_invariant.specs.Acting.{HasHead}
+use Rattle.time_invariant.proofs.{TickCalls.tick_of, Ticks.here_is, Ticks.load_good, Ticks.won_good, Ticks.lost_good}
 
 -- A step of a tick is good.
 pub tick_good : (setup : Setting) → IsSetting setup → (cores : ℕ → Core) (t : Trace) → Invariant setup cores t → (c : ℕ) → c < setup.cores

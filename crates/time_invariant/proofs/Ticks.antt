@@ -1,52 +1,36 @@
 -- The steps of a tick are good: the load of the head of its core's temporal capability, and the compare, which is lost to another core or
 -- charges the ticks that are due.
-use Rattle.step_ways.proofs.Common.{counts_bare, not_exclusive_head_value, not_exclusive_head_word, exclusive_none}
-use Rattle.step_ways.proofs.Common.{exclusive_kept, exclusive_free, min, IsSome}
-use Rattle.step_ways.proofs.Common.{All-nil, ◌≡◌, ◌≢◌, inl, inr, ℕ, zero, suc, map, ◌+◌, ◌-◌, ◌*◌, ◌^◌, ◌<◌, ◌≤◌, ◌==◌, true, false, List}
-use Rattle.step_ways.proofs.Common.{[], ◌∷◌, length, Option, Some, None, arith, refl, sym, ◌∙◌, ap, subst, if◌then◌else◌, eqb-true}
-use Rattle.step_ways.proofs.Common.{eqb-false, eq-eqb, cases_eq, false≢true, Setting, IsSetting, InLimits, left_if, Call, Tick, Reply}
-use Rattle.step_ways.proofs.Common.{HeadFits, word_of_head, head_of_word, HeadWord, spelling, Word, EntryAt, FrameAt, CountAt, CoreAt}
-use Rattle.step_ways.proofs.Common.{FlushAt, LiveAt, ClockAt, Move, LoadOf, CompareOf, word_of, left_of, Kernel, Tcap, TcapFields}
-use Rattle.step_ways.proofs.Common.{tcap_in, Thing, PlaceOf, NumberOf, State, put, with_frame, thread_in, comp_in, thread_of, comp_of}
-use Rattle.step_ways.proofs.Common.{first_of_stack, refs, frame_names, times, Change, Found, IsFoundAnd, rule_of, change_of}
-use Rattle.step_ways.proofs.Common.{changed, counted, state_by, begins, ends, flushes, MayReply, calls_counted, frame_refs, sum_one}
-use Rattle.step_ways.proofs.Common.{core_same_refs, put_same, put_other, mark_of, mark_in_frame, head_mark, marked_by, IsAlone}
-use Rattle.step_ways.proofs.Common.{holds_node, frame_value, ways, Slot}
-use Rattle.step_ways.proofs.Common.{names_on, changes_in_frame, is_one_of, footprint_frames, HasReached}
-use Rattle.step_ways.proofs.Common.{IsJustified, IsRaceLost, ends_in, flushes_in, stamp, Step, Trace, Open, phase, state_after, last_left}
-use Rattle.step_ways.proofs.Common.{state_decided_in, own_left, ok_first, decided-inside, not_inside, not_changed, last_small}
-use Rattle.step_ways.proofs.Common.{own_read-here, Acquired, head, debited, head_end, Charge, Own, own_changed, Act, Goes, Undecided}
-use Rattle.step_ways.proofs.Common.{Decided, ActiveCall, HasRoom, landed, own_decided, Core, holds_counts, settled_by, settled, HeadIs}
-use Rattle.step_ways.proofs.Common.{IsFrameWord, WordIs, due_of, ChargesBy, KnowsUndecided, WorksIn, phase_at, untypes}
-use Rattle.step_ways.proofs.Common.{holds_at, holds_in, holds, held_by, times_of, counted_in, Invariant, done_by, IsUntimed, plain_begins}
-use Rattle.step_ways.proofs.Common.{plain_stamp, plain_flush, plain_exit, counted_refs, list_changed, TurnsHead, SparesTcap}
-use Rattle.step_ways.proofs.Common.{marker_inside, limits_of, sums_keep, SameFor, ReadsAlike, StaysSaid, marks_own, settled_on}
-use Rattle.step_ways.proofs.Common.{word_stays, carry_marks, carry_words, others_settled}
-use Rattle.kernel_laws.specs.spk_nums.specs.declared.replies.Reply.TheVariants as reply
-use Rattle.kernel_laws.specs.spk_nums.specs.declared.replies.Value.TheVariants.{Amount}
-use Rattle.kernel_laws.specs.kernel_rules.specs.State.{Core as CoreFields, with_core}
-use Rattle.kernel_laws.specs.kernel_rules.specs.CallRelation.{owing}
-use Rattle.kernel_laws.specs.kernel_rules.specs.Edits.{with_tcap, charge, charging as after_charge}
-use Rattle.plan_ways.specs.kernel_history.specs.Justified.{IsHeldUp}
-use Rattle.plan_ways.specs.kernel_history.specs.Stamps.{begins_in}
-use Rattle.step_ways.specs.stage_tcap.specs.quality_lists.specs.Rank.{rank}
-use Rattle.step_ways.specs.stage_tcap.specs.Charging.{after_mark, after_head, end_by_mark, charged_end}
-use Rattle.step_ways.specs.stage_tcap.specs.declared.charge.Charge.TheVariants.{AtLoad, AtCompare}
-use Rattle.step_ways.specs.act_states.specs.declared.own.OwnChange.TheVariants.{Ticks}
-use Rattle.step_ways.specs.act_states.specs.Ticks.{ticks_of, owes, took_charge}
-use Rattle.step_ways.specs.act_states.specs.declared.work.Act.TheVariants.{Tick as tick_act}
-use Rattle.step_ways.specs.act_states.specs.declared.work.Tail.TheVariants.{Nothing as no_tail}
-use Rattle.step_ways.specs.core_invariant.specs.Knows.{charged_tcap, HasHead}
-use Rattle.step_ways.proofs.Good.{Spared, SparesBlanks, spares_kept}
-use Rattle.step_ways.proofs.Loads.{IsOfCall, OnlyLooks, next_at, inner, call_is, is_active, loads_on}
-use Rattle.step_ways.proofs.OwnChanges.{IsSameCore, decides_changing}
-use Rattle.step_ways.proofs.Refusals.{GoodTook, not_spent}
-use Rattle.step_ways.specs.kept_facts.proofs.WordFrames.{load_keeps}
-use Rattle.step_ways.specs.kept_facts.proofs.WordFrames.{load_marks, load_words}
-use Rattle.step_ways.proofs.Writes.{same_marks}
+use Rattle.step_ways.proofs.{counts_bare, not_exclusive_head_value, not_exclusive_head_word, exclusive_none, exclusive_free, min, IsSome}
+use Rattle.step_ways.proofs.{◌≡◌, ◌≢◌, inl, inr, ℕ, zero, suc, map, ◌+◌, ◌-◌, ◌*◌, ◌^◌, ◌<◌, ◌≤◌, ◌==◌, true, false, List, [], ◌∷◌, length}
+use Rattle.step_ways.proofs.{Option, Some, None, arith, refl, sym, ◌∙◌, ap, subst, if◌then◌else◌, eqb-true, eqb-false, eq-eqb, false≢true}
+use Rattle.step_ways.proofs.{Setting, IsSetting, InLimits, left_if, Call, Reply, HeadFits, word_of_head, head_of_word, HeadWord, spelling}
+use Rattle.step_ways.proofs.{Word, EntryAt, FrameAt, CountAt, CoreAt, FlushAt, LiveAt, ClockAt, Move, LoadOf, CompareOf, word_of, left_of}
+use Rattle.step_ways.proofs.{Kernel, Tcap, TcapFields, tcap_in, Thing, PlaceOf, NumberOf, State, put, with_frame, thread_in, comp_in}
+use Rattle.step_ways.proofs.{thread_of, comp_of, first_of_stack, refs, frame_names, times, Change, Found, IsFoundAnd, rule_of, change_of}
+use Rattle.step_ways.proofs.{changed, counted, state_by, begins, ends, flushes, MayReply, calls_counted, frame_refs, sum_one}
+use Rattle.step_ways.proofs.{core_same_refs, put_same, put_other, mark_of, mark_in_frame, head_mark, marked_by, IsAlone, holds_node}
+use Rattle.step_ways.proofs.{frame_value, ways, Slot, names_on, changes_in_frame, is_one_of, footprint_frames, HasReached, IsJustified}
+use Rattle.step_ways.proofs.{ends_in, flushes_in, stamp, Step, Trace, Open, phase, state_after, last_left, state_decided_in, own_left}
+use Rattle.step_ways.proofs.{ok_first, decided-inside, not_inside, own_read-here, Acquired, head, debited, head_end, Charge, Own}
+use Rattle.step_ways.proofs.{own_changed, Act, Goes, Undecided, Decided, ActiveCall, HasRoom, landed, own_decided, Core, holds_counts}
+use Rattle.step_ways.proofs.{settled_by, settled, HeadIs, IsFrameWord, WordIs, due_of, ChargesBy, KnowsUndecided, WorksIn, phase_at}
+use Rattle.step_ways.proofs.{untypes, holds_at, holds_in, holds, held_by, times_of, counted_in, Invariant, done_by, IsUntimed, plain_begins}
+use Rattle.step_ways.proofs.{plain_stamp, plain_flush, plain_exit, counted_refs, list_changed, TurnsHead, SparesTcap, marker_inside}
+use Rattle.step_ways.proofs.{limits_of, sums_keep, SameFor, ReadsAlike, StaysSaid, marks_own, word_stays, carry_marks, others_settled}
+use Rattle.step_ways.proofs.{begins_in, rank, AtLoad, Tick as tick_act, Nothing as no_tail, Spared, SparesBlanks, spares_kept, IsOfCall}
+use Rattle.step_ways.proofs.{OnlyLooks, next_at, inner, call_is, is_active, loads_on, decides_changing, GoodTook, not_spent, same_marks}
+use Rattle.step_ways.specs.kept_facts.proofs.{exclusive_kept, not_changed, last_small, settled_on, carry_words, load_keeps, load_marks}
+use Rattle.step_ways.specs.act_states.specs.{Tick, Amount, Core as CoreFields, end_by_mark, charged_end, ticks_of, took_charge}
+use Rattle.plan_ways.specs.kernel_history.specs.{IsRaceLost, with_core, with_tcap, IsHeldUp}
+use Rattle.step_ways.specs.stage_tcap.specs.{after_mark, after_head}
+use Rattle.std.proofs.{lemmas.List.Elements.All-nil, lemmas.Bool.cases_eq}
+use Rattle.plan_ways.specs.kernel_rules.specs.{CallRelation.owing, Edits.charge, Edits.charging as after_charge}
+use Rattle.step_ways.specs.act_states.specs.{declared.own.OwnChange.TheVariants.Ticks, Ticks.owes}
+use Rattle.step_ways.specs.core_invariant.specs.Acting.{charged_tcap, HasHead}
 use Rattle.time_invariant.proofs.Budgets.{tcap_is, IsTcap, Numbers, numbers_of}
 use Rattle.time_invariant.proofs.TickCalls.{IsTick, tick_of, own_footprint, raced_head}
-use Rattle.step_ways.specs.act_states.specs.call_plans.specs.PlanOf.{plan_for}
+use Rattle.{step_ways.proofs.plan_for, step_ways.specs.kept_facts.proofs.load_words}
+use Rattle.{step_ways.specs.stage_tcap.specs.declared.charge.Charge.TheVariants.AtCompare, step_ways.proofs.OwnChanges.IsSameCore}
 
 -- The change of a tick of which so many ticks are charged.
 abbrev charges : State → ℕ → ℕ → ℕ → Change
@@ -146,7 +130,7 @@ module _ (setup : Setting) (setting : IsSetting setup) (cores : ℕ → Core) (t
   change_is : change_of s c a.call ≡ Found change
   change_is = ap (change_of s c) is.call_is
 
-  unspent : MayReply s c a.call reply.Raced
+  unspent : MayReply s c a.call Reply.Raced
   unspent = (not_spent setup (cores c) t c (stands.each c here) room, tt)
 
   -- the decision changes what the core owes, and what it has spent
@@ -300,7 +284,7 @@ module _ (setup : Setting) (setting : IsSetting setup) (cores : ℕ → Core) (t
   -- Another core's mark.
   module _ (of_load : IsOfCall setup t c a.call (LoadOf at)) (d : ℕ) (mark : marked_by setup t at ≡ Some d) where
     abbrev busy_step : Step
-    busy_step = inner setup setting cores t stands c here a active (LoadOf at) (Some (reply.Busy d)) None
+    busy_step = inner setup setting cores t stands c here a active (LoadOf at) (Some (Reply.Busy d)) None
 
     blocked : IsHeldUp setup t busy_step s (rule_of s c a.call) d
     blocked = record {
@@ -312,8 +296,8 @@ module _ (setup : Setting) (setting : IsSetting setup) (cores : ℕ → Core) (t
       on_way = λ node. absurd (false≢true (ap holds_node (sym tcap.is) ∙ node));
     }
 
-    pub busy_good : GoodTook setup cores t c (LoadOf at) (landed a (owes (reply.Busy d) (ticks_of charge_at)))
-    busy_good = refused (LoadOf at) (record { of_call = of_load; kept = refl; apart = λ e. refl }) (reply.Busy d) refl refl
+    pub busy_good : GoodTook setup cores t c (LoadOf at) (landed a (owes (Reply.Busy d) (ticks_of charge_at)))
+    busy_good = refused (LoadOf at) (record { of_call = of_load; kept = refl; apart = λ e. refl }) (Reply.Busy d) refl refl
         (λ x. refl) (λ x. refl) refl refl unspent blocked
         (λ is_alone. not_inside setup t busy_step refl is_alone d blocked.other blocked.is_inside)
 
@@ -331,17 +315,17 @@ module _ (setup : Setting) (setting : IsSetting setup) (cores : ℕ → Core) (t
       footprint = inl footprint;
     }
 
-    pub lost_good : (was == old) ≡ false → GoodTook setup cores t c compare (landed a (owes reply.Raced (ticks_of charge_at)))
+    pub lost_good : (was == old) ≡ false → GoodTook setup cores t c compare (landed a (owes Reply.Raced (ticks_of charge_at)))
     lost_good other =
-        refused compare (record { of_call = of_compare; kept = kept; apart = λ e. refl }) reply.Raced refl refl
+        refused compare (record { of_call = of_compare; kept = kept; apart = λ e. refl }) Reply.Raced refl refl
         (λ x. refl) (λ x. refl) refl refl unspent lost
-        (λ is_alone. not_changed setup t (inner setup setting cores t stands c here a active compare (Some reply.Raced) None) refl
+        (λ is_alone. not_changed setup t (inner setup setting cores t stands c here a active compare (Some Reply.Raced) None) refl
         is_alone lost.own lost.has_read lost.changed)
       where
         kept : left_of compare was ≡ was
         kept = ap (λ b. left_if b was new) other
 
-        lost : IsRaceLost t (inner setup setting cores t stands c here a active compare (Some reply.Raced) None) s (rule_of s c a.call)
+        lost : IsRaceLost t (inner setup setting cores t stands c here a active compare (Some Reply.Raced) None) s (rule_of s c a.call)
         lost = record {
           at = inr (raced_head (s.frame f) q tcap.is, refl);
           reads = eq-eqb (left_of compare was) was kept;
@@ -404,7 +388,7 @@ module _ (setup : Setting) (setting : IsSetting setup) (cores : ℕ → Core) (t
             (landed a (took_charge ticks (after_mark f ticks budget version mark) (end_by_mark mark)))
         by_mark budget version None shown = free_good budget version shown
         by_mark budget version (Some d) shown =
-            subst (λ (m : ℕ). GoodTook setup cores t c (LoadOf at) (landed a (owes (reply.Busy d) m))) same_due
+            subst (λ (m : ℕ). GoodTook setup cores t c (LoadOf at) (landed a (owes (Reply.Busy d) m))) same_due
             (busy_good (record { moves = refl; footprint = inl footprint }) d (mark_is was ∙ ap head_mark shown))
 
         by_word : (o : Option HeadWord) → head_of_word was ≡ o
@@ -426,16 +410,16 @@ module _ (setup : Setting) (setting : IsSetting setup) (cores : ℕ → Core) (t
     charging = CompareOf at (word_of_head (head budget version)) (word_of_head less)
 
     abbrev e_won : Step
-    e_won = inner setup setting cores t stands c here a active charging (Some (reply.Ok (Amount charged))) None
+    e_won = inner setup setting cores t stands c here a active charging (Some (Reply.Ok (Amount charged))) None
 
     abbrev s_won : State
     s_won = state_after setup (e_won ∷ t)
 
     abbrev own_won : Own
-    own_won = left_own (reply.Ok (Amount charged)) charged (ticks - charged)
+    own_won = left_own (Reply.Ok (Amount charged)) charged (ticks - charged)
 
     abbrev after_won : Core
-    after_won = record { own = own_won; active = Some (next_at a a.found (Decided (reply.Ok (Amount charged)) None no_tail)) }
+    after_won = record { own = own_won; active = Some (next_at a a.found (Decided (Reply.Ok (Amount charged)) None no_tail)) }
 
     leaves_it : left_of charging was ≡ word_of_head less
     leaves_it = ap (λ b. left_if b was (word_of_head less)) equal
@@ -482,7 +466,7 @@ module _ (setup : Setting) (setting : IsSetting setup) (cores : ℕ → Core) (t
     s_left = with_core (with_frame s f (Kernel (Tcap q_less))) c k_won
 
     now_won : s_won ≡ counted s_left c
-    now_won = ap (λ p. state_decided_in p (reply.Ok (Amount charged)) s c) is_open
+    now_won = ap (λ p. state_decided_in p (Reply.Ok (Amount charged)) s c) is_open
         ∙ ap (λ x. counted (changed s x) c) (change_is ∙ ap (λ (m : ℕ). Found (charges s c due m)) (sym charged_is))
         ∙ ap (λ x. counted (with_core (with_frame s f (with_tcap x
         (record (tcap_in x) { budget = (tcap_in x).budget - charged })))
@@ -569,11 +553,11 @@ module _ (setup : Setting) (setting : IsSetting setup) (cores : ℕ → Core) (t
 
     plain_won : IsUntimed setup t e_won
     plain_won = record {
-      begins = λ x. ap (λ p. begins_in (Some (reply.Ok (Amount charged))) p s c x) is_open
-          ∙ ap (λ y. begins s c y (reply.Ok (Amount charged)) x) is.call_is;
-      ends = λ x. ap (λ p. ends_in (Some (reply.Ok (Amount charged))) p x) is_open
-          ∙ ap (λ y. ends y (reply.Ok (Amount charged)) x) is.call_is;
-      flushes = ap (flushes_in (Some (reply.Ok (Amount charged)))) is_open ∙ ap (λ y. flushes y (reply.Ok (Amount charged))) is.call_is;
+      begins = λ x. ap (λ p. begins_in (Some (Reply.Ok (Amount charged))) p s c x) is_open
+          ∙ ap (λ y. begins s c y (Reply.Ok (Amount charged)) x) is.call_is;
+      ends = λ x. ap (λ p. ends_in (Some (Reply.Ok (Amount charged))) p x) is_open
+          ∙ ap (λ y. ends y (Reply.Ok (Amount charged)) x) is.call_is;
+      flushes = ap (flushes_in (Some (Reply.Ok (Amount charged)))) is_open ∙ ap (λ y. flushes y (Reply.Ok (Amount charged))) is.call_is;
       apart = λ d. refl;
       same = refl;
     }
@@ -625,7 +609,7 @@ module _ (setup : Setting) (setting : IsSetting setup) (cores : ℕ → Core) (t
     ]
     stays_won (CountAt g d) there free = said_won (CountAt g d) tt
     stays_won (CoreAt d) there free = said_won (CoreAt d) (record {
-      inside = decided-inside (Some (reply.Ok (Amount charged))) (phase t c) s c d;
+      inside = decided-inside (Some (Reply.Ok (Amount charged))) (phase t c) s c d;
       exit = plain_exit t e_won refl d;
     })
     stays_won (FlushAt d) there free = said_won (FlushAt d) (plain_flush setup t e_won plain_won d)
@@ -692,7 +676,7 @@ module _ (setup : Setting) (setting : IsSetting setup) (cores : ℕ → Core) (t
             (sym (ap head_of_word leaves_it ∙ spelling.reads less less_fits))
             (subst (λ o. TurnsHead c (list_changed t f) o (Some less)) (sym shown_is) (inl refl, inr (refl, inl refl))))
 
-    permitted_won : MayReply s c a.call (reply.Ok (Amount charged))
+    permitted_won : MayReply s c a.call (Reply.Ok (Amount charged))
     permitted_won = (
       not_spent setup (cores c) t c (stands.each c here) room,
       (
@@ -702,7 +686,7 @@ module _ (setup : Setting) (setting : IsSetting setup) (cores : ℕ → Core) (t
       ),
     )
 
-    reached_none : IsJustified setup t e_won a.call (reply.Ok (Amount charged))
+    reached_none : IsJustified setup t e_won a.call (Reply.Ok (Amount charged))
     reached_none = subst (λ x. HasReached (e_won ∷ t) c
         (ways s c (rule_of s c x))) (sym is.call_is)
         (All-nil (λ (x : Slot).
@@ -712,8 +696,8 @@ module _ (setup : Setting) (setting : IsSetting setup) (cores : ℕ → Core) (t
         (landed a (took_charge ticks (AtCompare tcap_at ticks budget version) (charged_end true charged)))
     won_good lands =
         let marks = carry_marks setup cores t e_won after_won still_won alike_won unmarked bare_now stands.marks in
-        decides_changing setup setting cores t stands c here a active charging (reply.Ok (Amount charged)) own_won
-        (Decided (reply.Ok (Amount charged)) None no_tail) (same_core (reply.Ok (Amount charged)) charged (ticks - charged))
+        decides_changing setup setting cores t stands c here a active charging (Reply.Ok (Amount charged)) own_won
+        (Decided (Reply.Ok (Amount charged)) None no_tail) (same_core (Reply.Ok (Amount charged)) charged (ticks - charged))
         (subst (λ (m : ℕ). m < 2 ^ 64) (sym leaves_it) (spelling.small less less_fits))
         (of_compare budget version met (word_of_head less)) lands opens refl
         (marks_own setup cores t e_won after_won (λ w there. still_won w) stands.marks marks)

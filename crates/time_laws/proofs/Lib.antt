@@ -1,5 +1,3 @@
--- The names that most proofs use.
-pub use Rattle.flight.proofs.Common
 -- Budgets, and what heads and lists show.
 pub mod Time
 -- Heads that a core has marked, in a call that is not decided and in one that is.

@@ -1,40 +1,22 @@
 -- What the head of a temporal capability says that a core has marked in a call that is not decided: the mark, and the budget still.
-use Rattle.flight.proofs.Common.{◌≡◌, ◌<◌, inl, inr, ℕ, zero, suc, true, false, if◌then◌else◌, Option, Some, None, IsTrue, arith, refl}
-use Rattle.flight.proofs.Common.{sym, ◌∙◌, ap, subst, false≢true, Setting, IsSetting, Call, HeadFits, word_of_head, head_of_word}
-use Rattle.flight.proofs.Common.{HeadWord, spelling, EntryAt, same_same, Frame, Kernel, Table, Leaf, Pages, Pleaf, Thread}
-use Rattle.flight.proofs.Common.{State, fits, is_node, Trace, Open, phase, state_after, last_left, cases_word}
-use Rattle.flight.proofs.Common.{same_word-other, AtCompare, AtDraw, AtStore, marked, Pair, PairAt, CompAt, CompMaking, KillingAt}
-use Rattle.flight.proofs.Common.{LoadComp, LoadLive, MakingAt, Mark, Store, Switching, SwitchAt, UntypingAt, release_of, Outside, Work}
-use Rattle.flight.proofs.Common.{Lookup, Read, Scan, Acquire, Act, Stage, Enter, Living, Undecided, Decided, Leave, ActiveCall, Core}
-use Rattle.flight.proofs.Common.{swept_of}
-use Rattle.flight.proofs.Common.{holds_untyping, Holding, nothing, keeps, holds_counts, holds_switching, claimed_by, HeadIs}
-use Rattle.flight.proofs.Common.{KnowsAct, KnowsWork, KnowsAt, CallIs, phase_at, HasMarkedA, KnowsPairAt, holds_act, holds_making}
-use Rattle.flight.proofs.Common.{holds_killing, holds_comp, holds_share, holds_head, holds_work, holds_at, holds_in, holds}
-use Rattle.flight.proofs.Common.{Invariant, slot_relies, release_entry}
-use Rattle.flight.specs.spk_nums.specs.declared.kinds.Kind.TheVariants as kind
+use Rattle.flight.specs.kept_facts.proofs as low
+use low.{◌≡◌, ◌<◌, inl, inr, ℕ, zero, suc, true, false, if◌then◌else◌, Option, Some, None, IsTrue, arith, refl, sym, ◌∙◌, ap, subst}
+use low.{false≢true, Setting, IsSetting, Call, HeadFits, word_of_head, head_of_word, HeadWord, spelling, EntryAt, same_same, Frame, Kernel}
+use low.{Table, Leaf, Pages, Pleaf, Thread, State, fits, is_node, Trace, Open, phase, state_after, last_left, cases_word, same_word-other}
+use low.{AtCompare, AtDraw, AtStore, marked, Pair, PairAt, CompAt, CompMaking, KillingAt, LoadComp, LoadLive, MakingAt, Mark, Store}
+use low.{Switching, SwitchAt, UntypingAt, release_of, Outside, Work, Lookup, Read, Scan, Acquire, Act, Stage, Enter, Living, Undecided}
+use low.{Decided, Leave, ActiveCall, Core, swept_of, holds_untyping, Holding, keeps, holds_counts, holds_switching, claimed_by, HeadIs}
+use low.{KnowsAct, KnowsWork, KnowsAt, CallIs, phase_at, KnowsPairAt, holds_act, holds_making, holds_killing, holds_comp, holds_share}
+use low.{holds_head, holds_work, holds_at, holds_in, holds, Invariant, slot_relies, release_entry, Close as kill_close, Draw as kill_draw}
+use low.{Load as making_load, Fill as fill_act, Remove as remove_act, Tick as tick_act, Touch as touch_act, Flush as flush_act}
+use low.{Kill as kill_act, Untype as untype_act, Map as map_act, MakeComp as comp_act, Invoke as invoke_act, Return as return_act}
+use low.{Share as share_act, Refill as refill_act, Switch as switch_act, is_tcap, plan_for, Kind}
+use Rattle.flight.specs.core_invariant.specs.{nothing, HasMarkedA, Retype as type_act, Make as make_act, Claim}
+use Rattle.flight.specs.thread_invariant.proofs.{counts_apart, holder_below, own_thread}
+use Rattle.flight.specs.{cores_after, IsMade}
+use Rattle.flight.specs.act_states.specs.{declared.makings.MakingAt.TheVariants.Fill as making_fill, declared.work.Act.Act as ActOf}
+use Rattle.{flight.specs.pair_invariant.proofs.ShareSteps.marked_says, history_laws.specs.Time.OpenHeadsSay, flight.proofs.Made.made_stands}
 use Rattle.flight.specs.kernel_history.specs.Trace as history
-use Rattle.flight.specs.stage_tcap.specs.declared.pair.PairAt.TheVariants as pair
-use Rattle.flight.specs.stage_thread.specs.declared.claim.Claim.TheVariants as claim
-use Rattle.flight.specs.act_states.specs.declared.comps.CompAt.TheVariants as comp_at
-use Rattle.flight.specs.act_states.specs.declared.kills.KillingAt.TheVariants.{Close as kill_close, Draw as kill_draw}
-use Rattle.flight.specs.act_states.specs.declared.makings.MakingAt.TheVariants.{Load as making_load, Fill as making_fill}
-use Rattle.flight.specs.act_states.specs.declared.switches.SwitchAt.TheVariants as switch
-use Rattle.flight.specs.act_states.specs.declared.untypings.UntypingAt.TheVariants as untype
-use Rattle.flight.specs.act_states.specs.declared.work.Act.{Act as ActOf}
-use Rattle.flight.specs.act_states.specs.declared.work.Act.TheVariants.{Fill as fill_act, Remove as remove_act, Retype as type_act}
-use Rattle.flight.specs.act_states.specs.declared.work.Act.TheVariants.{Make as make_act, Tick as tick_act, Touch as touch_act}
-use Rattle.flight.specs.act_states.specs.declared.work.Act.TheVariants.{Flush as flush_act, Kill as kill_act, Untype as untype_act}
-use Rattle.flight.specs.act_states.specs.declared.work.Act.TheVariants.{Map as map_act, MakeComp as comp_act, Invoke as invoke_act}
-use Rattle.flight.specs.act_states.specs.declared.work.Act.TheVariants.{Return as return_act, Share as share_act, Refill as refill_act}
-use Rattle.flight.specs.act_states.specs.declared.work.Act.TheVariants.{Switch as switch_act}
-use Rattle.flight.specs.kept_facts.proofs.Tcaps.{is_tcap}
-use Rattle.flight.specs.pair_invariant.proofs.ShareSteps.{marked_says}
-use Rattle.flight.specs.thread_invariant.proofs.EntryMarks.{counts_apart, holder_below}
-use Rattle.flight.specs.thread_invariant.proofs.OwnStack.{own_thread}
-use Rattle.flight.specs.Made.{cores_after, IsMade}
-use Rattle.history_laws.specs.Time.{OpenHeadsSay}
-use Rattle.flight.proofs.Made.{made_stands}
-use Rattle.flight.specs.call_plans.specs.PlanOf.{plan_for}
 
 pub node_no_tcap : (x : Frame) → IsTrue (is_node x) → is_tcap x ≡ false
 node_no_tcap (Kernel Table) node = refl
@@ -43,7 +25,7 @@ node_no_tcap (Kernel Pages) node = refl
 node_no_tcap (Kernel Pleaf) node = refl
 node_no_tcap _ node = absurd (false≢true node)
 
-pub thread_no_tcap : (x : Frame) → IsTrue (fits kind.Thread x) → is_tcap x ≡ false
+pub thread_no_tcap : (x : Frame) → IsTrue (fits Kind.Thread x) → is_tcap x ≡ false
 thread_no_tcap (Kernel (Thread k)) fit = refl
 thread_no_tcap _ fit = absurd (false≢true fit)
 
@@ -93,28 +75,28 @@ module _ (setup : Setting) (setting : IsSetting setup) (cores : ℕ → Core) (t
   ]
 
   shares : (p : Pair) (at : PairAt) (h : Holding) → KnowsPairAt setup t d p at → p.core ≡ d → IsFree h → Tells (holds_share p at h)
-  shares p pair.LoadA h has core free = none h free
-  shares p pair.MarkA h has core free = none h free
-  shares p (pair.ListA zero) h has core free = absurd has
-  shares p (pair.ListA (suc n)) h has core free = first p n h has.0 core free
-  shares p pair.LoadB h has core free = first p 8 h has.0 core free
-  shares p (pair.ListB zero) h has core free = absurd has
-  shares p (pair.ListB (suc n)) h has core free = first p 8 h has.0 core free
-  shares p pair.CompareB h has core free = first p 8 h has.a core free
-  shares p (pair.AgainB r) h has core free = first p 8 h has.a core free
-  shares p (pair.StoreList n) h has core free = absurd has
-  shares p pair.StoreB h has core free = absurd has
-  shares p (pair.StoreA moved v) h has core free = absurd has
+  shares p PairAt.LoadA h has core free = none h free
+  shares p PairAt.MarkA h has core free = none h free
+  shares p (PairAt.ListA zero) h has core free = absurd has
+  shares p (PairAt.ListA (suc n)) h has core free = first p n h has.0 core free
+  shares p PairAt.LoadB h has core free = first p 8 h has.0 core free
+  shares p (PairAt.ListB zero) h has core free = absurd has
+  shares p (PairAt.ListB (suc n)) h has core free = first p 8 h has.0 core free
+  shares p PairAt.CompareB h has core free = first p 8 h has.a core free
+  shares p (PairAt.AgainB r) h has core free = first p 8 h has.a core free
+  shares p (PairAt.StoreList n) h has core free = absurd has
+  shares p PairAt.StoreB h has core free = absurd has
+  shares p (PairAt.StoreA moved v) h has core free = absurd has
 
   switching : (m : Switching) (at : SwitchAt) (h : Holding) → is_tcap (s.frame m.old) ≡ false → is_tcap (s.frame (claimed_by at)) ≡ false
       → IsFree h → IsFree (holds_switching m at h)
-  switching m (switch.Claim (claim.AtLoad g core)) h own other free = free
-  switching m (switch.Claim (claim.AtCompare g core depth)) h own other free = free
-  switching m (switch.Claim (claim.AtStack g depth)) h own other free = beside h g 0 0 free other
-  switching m (switch.LoadTable to) h own other free = beside h to.thread 0 0 free other
-  switching m (switch.LoadPages to table) h own other free = beside h to.thread 0 0 free other
-  switching m (switch.Leave to table pages) h own other free = beside h to.thread 0 0 free other
-  switching m (switch.Draw to table pages) h own other free =
+  switching m (SwitchAt.Claim (Claim.AtLoad g core)) h own other free = free
+  switching m (SwitchAt.Claim (Claim.AtCompare g core depth)) h own other free = free
+  switching m (SwitchAt.Claim (Claim.AtStack g depth)) h own other free = beside h g 0 0 free other
+  switching m (SwitchAt.LoadTable to) h own other free = beside h to.thread 0 0 free other
+  switching m (SwitchAt.LoadPages to table) h own other free = beside h to.thread 0 0 free other
+  switching m (SwitchAt.Leave to table pages) h own other free = beside h to.thread 0 0 free other
+  switching m (SwitchAt.Draw to table pages) h own other free =
       beside (keeps (EntryAt m.old 0) 0 h) to.thread 0 0 (beside h m.old 0 0 free own) other
 
   making : (g : ℕ) (at : MakingAt) (h : Holding) → (holds_making g at h).marks (EntryAt f 0) ≡ h.marks (EntryAt f 0)
@@ -130,19 +112,19 @@ module _ (setup : Setting) (setting : IsSetting setup) (cores : ℕ → Core) (t
   killing (kill_draw life word) h = refl
 
   comp : (m : CompMaking) (at : CompAt) (h : Holding) → (holds_comp m at h).marks (EntryAt f 0) ≡ h.marks (EntryAt f 0)
-  comp m comp_at.Load h = refl
-  comp m (comp_at.Mark word) h = refl
-  comp m (comp_at.LoadLive word) h = refl
-  comp m (comp_at.Scan word last q) h = refl
-  comp m (comp_at.Close word last) h = refl
-  comp m (comp_at.Store word last entry) h = refl
-  comp m (comp_at.Fill word last) h = refl
+  comp m CompAt.Load h = refl
+  comp m (CompAt.Mark word) h = refl
+  comp m (CompAt.LoadLive word) h = refl
+  comp m (CompAt.Scan word last q) h = refl
+  comp m (CompAt.Close word last) h = refl
+  comp m (CompAt.Store word last entry) h = refl
+  comp m (CompAt.Fill word last) h = refl
 
   untyping : (g : ℕ) (at : UntypingAt) (h : Holding) → (holds_untyping g at h).marks (EntryAt f 0) ≡ h.marks (EntryAt f 0)
-  untyping g untype.Load h = refl
-  untyping g (untype.Mark word v) h = refl
-  untyping g (untype.Sweep word w) h = (release_entry (release_of g word (swept_of w) false) h f 0).0
-  untyping g (untype.Draw word w) h = (release_entry (release_of g word w false) h f 0).0
+  untyping g UntypingAt.Load h = refl
+  untyping g (UntypingAt.Mark word v) h = refl
+  untyping g (UntypingAt.Sweep word w) h = (release_entry (release_of g word (swept_of w) false) h f 0).0
+  untyping g (UntypingAt.Draw word w) h = (release_entry (release_of g word w false) h f 0).0
 
   own_no_tcap : (g : ℕ) → g ≡ (s.core d).thread → is_tcap (s.frame g) ≡ false
   own_no_tcap g own = ap (λ (n : ℕ). is_tcap (s.frame n)) own ∙ ap is_tcap (own_thread setup setting t stands.legal d below)

@@ -1,29 +1,26 @@
 -- What the head of a temporal capability shows that a core has marked in a call that is decided: the mark, and the budget but for the ticks
 -- that the call has still to store there.
-use Rattle.flight.proofs.Common.{◌≡◌, inl, inr, ℕ, ◌<◌, Bool, true, false, if◌then◌else◌, Option, Some, None, IsTrue, arith, refl, sym, ◌∙◌, ap}
-use Rattle.flight.proofs.Common.{subst, false≢true, same_same, Setting, IsSetting, Call, Reply, HeadFits, word_of_head, head_of_word}
-use Rattle.flight.proofs.Common.{HeadWord, spelling, EntryAt, FrameAt, State, changes_budgets, Trace, phase, state_after, last_left}
-use Rattle.flight.proofs.Common.{cases_word, same_word-other, AtCompare, AtDraw, AtStore, marked, debited, relisted, credited, amount_of, Pair}
-use Rattle.flight.proofs.Common.{PairAt, Tail, Nothing, Quiesce, Unmark, StoreDead, StoreFlush, Release, StoreLive, Push, Pop, Share}
-use Rattle.flight.proofs.Common.{StoreRunning, StoreIdle, Stage, Enter, Living, Undecided, Decided, Leave, ActiveCall, Core, holds_release}
-use Rattle.flight.proofs.Common.{Holding, nothing, keeps, holds_counts, holds_idle, HeadIs, KnowsTail, KnowsAt, CallIs}
-use Rattle.flight.proofs.Common.{phase_at, StoresA, KnowsStoresAt, holds_head, holds_heads, holds_shared, holds_tail, is_done, holds_at}
-use Rattle.flight.proofs.Common.{holds_in, holds, Invariant, release_entry}
+use Rattle.flight.specs.kept_facts.proofs.{◌≡◌, inl, inr, ℕ, ◌<◌, Bool, true, false, if◌then◌else◌, Option, Some, None, IsTrue, arith, refl}
+use Rattle.flight.specs.kept_facts.proofs.{sym, ◌∙◌, ap, subst, false≢true, same_same, Setting, IsSetting, Call, Reply, HeadFits}
+use Rattle.flight.specs.kept_facts.proofs.{word_of_head, head_of_word, HeadWord, spelling, EntryAt, FrameAt, State, changes_budgets, Trace}
+use Rattle.flight.specs.kept_facts.proofs.{phase, state_after, last_left, cases_word, same_word-other, AtCompare, AtDraw, AtStore, marked}
+use Rattle.flight.specs.kept_facts.proofs.{debited, credited, amount_of, Pair, PairAt, Tail, Nothing, Quiesce, Unmark, StoreDead}
+use Rattle.flight.specs.kept_facts.proofs.{StoreFlush, Release, StoreLive, Push, Pop, StoreRunning, StoreIdle, Stage, Enter, Living}
+use Rattle.flight.specs.kept_facts.proofs.{Undecided, Decided, Leave, ActiveCall, Core, holds_release, Holding, keeps, holds_counts, HeadIs}
+use Rattle.flight.specs.kept_facts.proofs.{KnowsTail, KnowsAt, CallIs, phase_at, KnowsStoresAt, holds_head, holds_shared, holds_tail}
+use Rattle.flight.specs.kept_facts.proofs.{is_done, holds_at, holds_in, holds, Invariant, release_entry, is_tcap}
+use Rattle.flight.specs.core_invariant.specs.{nothing, holds_idle, StoresA, holds_heads, StoresB}
+use Rattle.history_laws.specs.{Owes, state_of_decision, MarkedHeadsSay}
+use Rattle.flight.specs.thread_invariant.proofs.{counts_apart, holder_below, own_thread}
+use Rattle.flight.specs.{cores_after, IsMade}
+use Rattle.time_laws.proofs.{MarkedHeads.node_no_tcap, MarkedHeads.thread_no_tcap, MarkedHeads.same_frame, ShareTails.OwesFirst}
+use Rattle.time_laws.proofs.{ShareTails.OwesAt, ShareTails.OwesTail, ShareTails.OwesStage, ShareTails.OwesIn, OwedTails.made_owes}
+use Rattle.{flight.specs.stage_tcap.specs.Heads.relisted, flight.specs.act_states.specs.declared.work.Tail.TheVariants.Share}
+use Rattle.{flight.specs.pair_invariant.proofs.ShareSteps.marked_says, flight.proofs.Made.made_stands}
 use Rattle.flight.specs.kernel_history.specs.Trace as history
 use Rattle.flight.specs.stage_tcap.specs.declared.pair.PairAt.TheVariants as pair
 use Rattle.flight.specs.stage_thread.specs.declared.stack.Push.TheVariants as push
 use Rattle.flight.specs.stage_thread.specs.declared.stack.Pop.TheVariants as pop
-use Rattle.flight.specs.core_invariant.specs.Shares.{StoresB}
-use Rattle.flight.specs.kept_facts.proofs.Tcaps.{is_tcap}
-use Rattle.flight.specs.pair_invariant.proofs.ShareSteps.{marked_says}
-use Rattle.flight.specs.thread_invariant.proofs.EntryMarks.{counts_apart, holder_below}
-use Rattle.flight.specs.thread_invariant.proofs.OwnStack.{own_thread}
-use Rattle.flight.specs.Made.{cores_after, IsMade}
-use Rattle.history_laws.specs.Time.{Owes, state_of_decision, MarkedHeadsSay}
-use Rattle.flight.proofs.Made.{made_stands}
-use Rattle.time_laws.proofs.MarkedHeads.{node_no_tcap, thread_no_tcap, same_frame}
-use Rattle.time_laws.proofs.ShareTails.{OwesFirst, OwesAt, OwesTail, OwesStage, OwesIn}
-use Rattle.time_laws.proofs.OwedTails.{made_owes}
 
 -- The word is a head with the core's mark, and stands for another that the core has still to store, which owes this.
 record IsOwedHead (setup : Setting) (t : Trace) (s : State) (r : Reply) (call : Call) (f d : ℕ) (h : Holding) : Type 0 where

@@ -1,60 +1,35 @@
 -- What the heads owe that a decided call on two temporal capabilities has marked, along a trace that is the machine's: its deciding step
 -- tells it, and each store after it leaves it so.
-use Rattle.flight.proofs.Common.{◌≡◌, inl, inr, ℕ, ◌+◌, ◌<◌, ◌≤◌, ◌^◌, ◌==◌, ◌&&◌, nat_lt, Bool, true, false, if◌then◌else◌, List, []}
-use Rattle.flight.proofs.Common.{◌∷◌, length, Option, Some, None, arith, refl, sym, ◌∙◌, ap, subst, is_some, IsSome, false≢true, cases_eq}
-use Rattle.flight.proofs.Common.{eq-eqb, ne_eqb, Setting, IsSetting, Capability, Call, Reply, Value, StageEnd, word_of_head, head_of_word}
-use Rattle.flight.proofs.Common.{quality_of_word, HeadWord, EntryAt, Move, word_of, told_of, State, put_same, put_other, changes_budgets}
-use Rattle.flight.proofs.Common.{Step, Trace, state_after, state_entered, state_before, last_left, Pin, quiet_after, quiet_end, AtCompare}
-use Rattle.flight.proofs.Common.{AtDraw, AtStore, head_end, in_order, same_list, amount_of, judged, by_alike, by_room, giving_back}
-use Rattle.flight.proofs.Common.{again_end, Pair, PairAt, LoadA, MarkA, ListA, LoadB, ListB, CompareB, AgainB, StoreList, StoreB, StoreA}
-use Rattle.flight.proofs.Common.{Charge, Plan, Leads, LeadsIn, plan_for, CompMaking, Invoking, Making, Own, Untyping, Outside, Work}
-use Rattle.flight.proofs.Common.{Lookup, Read, Scan, Acquire, Act, WorkStep, put_by, removes_by, undo, took_shared, took_share, Stage}
-use Rattle.flight.proofs.Common.{Enter, Living, Undecided, Decided, Leave, ActiveCall, told_in, told_by, absorbed_in, fresh, stage_move}
-use Rattle.flight.proofs.Common.{Took}
-use Rattle.flight.proofs.Common.{GoesOn, Decides, Returns, Changes, landed, took, took_scan, Core, decided_in, KnowsAct, KnowsUndecided}
-use Rattle.flight.proofs.Common.{KnowsAt, CallIs, MakesBy, InvokesBy, UntypesBy, SwitchesBy, SharesBy, Invariant}
-use Rattle.flight.specs.spk_nums.specs.declared.calls.Call.TheVariants as call_as
-use Rattle.flight.specs.spk_nums.specs.declared.replies.Reply.TheVariants as reply
-use Rattle.flight.specs.spk_nums.specs.declared.replies.Value.TheVariants as value
-use Rattle.flight.specs.spk_nums.specs.declared.steps.StageEnd.TheVariants as ends
-use Rattle.flight.specs.tcap_words.specs.declared.quality_word.QualityWord.{QualityWord}
-use Rattle.flight.specs.stage_pins.specs.declared.pin.Pinned.{Pinned}
-use Rattle.flight.specs.stage_pins.specs.Acquire.{pin_after, pin_end}
-use Rattle.flight.specs.stage_tcap.specs.Charging.{end_by_mark}
-use Rattle.flight.specs.stage_tcap.specs.Pairs.{noted_by, pair_after, pair_move}
-use Rattle.flight.specs.stage_tcap.specs.Pairs.{at_decided, compared_after, at_by_mark, at_by_head, at_marked, at_read}
-use Rattle.flight.specs.stage_tcap.specs.Pairs.{b_next, a_next, marked_end, decided_by_mark, b_end, list_end, again_value}
-use Rattle.flight.specs.stage_tcap.specs.declared.refill.Refill.{Refill}
-use Rattle.flight.specs.act_states.specs.Refills.{took_refilled}
-use Rattle.flight.specs.act_states.specs.declared.refusals.Refusal.{Refusal}
-use Rattle.flight.specs.act_states.specs.declared.refusals.Refusal.TheVariants as refusal
-use Rattle.flight.specs.act_states.specs.declared.typings.Typing.{Typing}
-use Rattle.flight.specs.act_states.specs.declared.work.Act.{Act as ActOf}
-use Rattle.flight.specs.act_states.specs.declared.work.Act.TheVariants.{Fill as fill_act, Remove as remove_act, Retype as type_act}
-use Rattle.flight.specs.act_states.specs.declared.work.Act.TheVariants.{Make as make_act, Tick as tick_act, Touch as touch_act}
-use Rattle.flight.specs.act_states.specs.declared.work.Act.TheVariants.{Flush as flush_act, Kill as kill_act, Untype as untype_act}
-use Rattle.flight.specs.act_states.specs.declared.work.Act.TheVariants.{Map as map_act, MakeComp as comp_act, Invoke as invoke_act}
-use Rattle.flight.specs.act_states.specs.declared.work.Act.TheVariants.{Return as return_act, Share as share_act, Refill as refill_act}
-use Rattle.flight.specs.act_states.specs.declared.work.Act.TheVariants.{Switch as switch_act}
-use Rattle.flight.specs.act_states.specs.Acts.{took_act}
-use Rattle.flight.specs.act_states.specs.Refusals.{reply_of, refusal_of}
-use Rattle.flight.specs.act_states.specs.Shares.{shared, is_carried}
-use Rattle.flight.specs.act_states.specs.Ticks.{took_charge, ticks_of}
-use Rattle.flight.specs.call_stages.specs.Cores.{move_of, core_after as after_took}
-use Rattle.flight.specs.call_stages.specs.Steps.{took_at, took_count, is_spent}
-use Rattle.flight.specs.stage_thread.specs.Living.{alive_move, alive_end, alive_after}
-use Rattle.flight.specs.core_invariant.specs.Knows.{TypesBy}
-use Rattle.flight.specs.core_invariant.specs.Knows.{OutsideBy, KillsBy, MakesCompBy, is_mapping}
+use Rattle.flight.specs.core_invariant.proofs as low
+use low.{◌≡◌, inl, inr, ℕ, ◌+◌, ◌<◌, ◌≤◌, ◌^◌, ◌==◌, ◌&&◌, ltb as nat_lt, Bool, true, false, if◌then◌else◌, List, [], ◌∷◌, length, Option}
+use low.{Some, None, arith, refl, sym, ◌∙◌, ap, subst, is_some, IsSome, false≢true, eq-eqb, ne_eqb, Setting, IsSetting, Capability, Call}
+use low.{Reply, Value, StageEnd, word_of_head, head_of_word, quality_of_word, HeadWord, EntryAt, Move, word_of, told_of, State, put_same}
+use low.{put_other, changes_budgets, Step, Trace, state_after, state_entered, state_before, last_left, Pin, quiet_after, quiet_end}
+use low.{AtCompare, AtDraw, AtStore, head_end, in_order, same_list, amount_of, judged, by_alike, by_room, again_end, Pair, PairAt, LoadA}
+use low.{MarkA, ListA, LoadB, ListB, CompareB, AgainB, StoreList, StoreB, StoreA, Charge, Plan, Leads, LeadsIn, plan_for, CompMaking}
+use low.{Invoking, Making, Own, Untyping, Outside, Work, Lookup, Read, Scan, Acquire, Act, WorkStep, put_by, took_shared, took_share, Stage}
+use low.{Enter, Living, Undecided, Decided, Leave, ActiveCall, told_in, told_by, absorbed_in, fresh, stage_move, Took, GoesOn, Decides}
+use low.{Returns, Changes, landed, took, took_scan, Core, decided_in, KnowsAct, KnowsUndecided, KnowsAt, CallIs, UntypesBy, SharesBy}
+use low.{took_refilled, Refusal, Typing, Fill as fill_act, Remove as remove_act, Retype as type_act, Make as make_act, Tick as tick_act}
+use low.{Touch as touch_act, Flush as flush_act, Kill as kill_act, Untype as untype_act, Map as map_act, MakeComp as comp_act}
+use low.{Invoke as invoke_act, Return as return_act, Share as share_act, Refill as refill_act, Switch as switch_act, reply_of, move_of}
+use low.{core_after as after_took, took_at, took_count}
+use Rattle.flight.specs.act_states.specs.{giving_back, removes_by, undo, QualityWord, Pinned, pin_after, pin_end, end_by_mark, pair_after}
+use Rattle.flight.specs.act_states.specs.{marked_end, decided_by_mark, b_end, list_end, Refill, took_act, refusal_of, shared, took_charge}
+use Rattle.flight.specs.act_states.specs.{ticks_of, alive_end, alive_after}
+use Rattle.flight.specs.stage_tcap.specs.{noted_by, pair_move, at_decided, compared_after, at_by_mark, at_by_head, at_marked, at_read}
+use Rattle.flight.specs.stage_tcap.specs.{b_next, a_next, again_value}
+use Rattle.flight.specs.{turned, MayStep, core_after, cores_after, stepping_core, IsMadeStep, IsMade, found_by}
+use Rattle.flight.specs.core_invariant.specs.{MakesBy, InvokesBy, SwitchesBy, TypesBy, OutsideBy, KillsBy}
+use Rattle.flight.specs.core_invariant.specs.{Invariant.Invariant, Acting.MakesCompBy, Reaching.is_mapping}
+use Rattle.time_laws.proofs.ShareTails.{OwesAt, OwesStage, OwesIn, OwesTook, StoresNone, LeavesNone, tail_on, landed_none, enter_none}
+use Rattle.time_laws.proofs.ShareTails.{alive_none, end_none, reading_none, scan_none}
+use Rattle.{history_laws.specs.Owes, history_laws.specs.state_of_decision, std.proofs.lemmas.Bool.cases_eq}
+use Rattle.{flight.specs.act_states.specs.declared.work.Act.Act as ActOf, flight.specs.act_states.specs.Shares.is_carried}
+use Rattle.{flight.specs.call_stages.specs.Steps.is_spent, flight.specs.stage_thread.specs.Living.alive_move}
+use Rattle.{flight.specs.pair_invariant.proofs.ShareSteps.shares_same, flight.proofs.Made.made_stands, flight.proofs.Made.finds}
 use Rattle.flight.specs.share_invariant.proofs.Compared as compared
 use Rattle.flight.specs.pair_invariant.proofs.ShareCalls as calls
-use Rattle.flight.specs.pair_invariant.proofs.ShareSteps.{shares_same}
-use Rattle.flight.specs.Made.{turned, MayStep, core_after, cores_after, stepping_core, IsMadeStep, IsMade}
-use Rattle.flight.specs.Theorems.{found_by}
-use Rattle.history_laws.specs.Time.{Owes, state_of_decision}
-use Rattle.flight.proofs.Made.{made_stands, finds}
-use Rattle.time_laws.proofs.ShareTails.{OwesAt, OwesStage, OwesIn, OwesTook, StoresNone, LeavesNone}
-use Rattle.time_laws.proofs.ShareTails.{tail_on, landed_none, enter_none, alive_none, end_none, reading_none, scan_none}
-use Rattle.flight.specs.call_plans.specs.PlanOf.{plan_for}
 
 -- The acts of the calls that change budgets
 
@@ -66,55 +41,55 @@ IsBudgetAct act = ⊥
 
 puts_none : (call : Call) (ks : List Capability) (read : Option ℕ) (k : Capability) → changes_budgets call ≡ true
     → put_by call ks read ≡ Some k → ⊥
-puts_none (call_as.Tick n) ks read k budgets h = absurd (cc)
-puts_none (call_as.Replenish x m) ks read k budgets h = absurd (cc)
-puts_none (call_as.Transfer x y m) ks read k budgets h = absurd (cc)
-puts_none (call_as.Delegate x y m) ks read k budgets h = absurd (cc)
-puts_none (call_as.Test x y) ks read k budgets h = absurd (cc)
+puts_none (Call.Tick n) ks read k budgets h = absurd (cc)
+puts_none (Call.Replenish x m) ks read k budgets h = absurd (cc)
+puts_none (Call.Transfer x y m) ks read k budgets h = absurd (cc)
+puts_none (Call.Delegate x y m) ks read k budgets h = absurd (cc)
+puts_none (Call.Test x y) ks read k budgets h = absurd (cc)
 puts_none call ks read k budgets h = false≢true budgets
 
 removes_none : (call : Call) → changes_budgets call ≡ true → removes_by call ≡ true → ⊥
-removes_none (call_as.Remove t b) budgets h = false≢true budgets
-removes_none (call_as.Shrink t i) budgets h = false≢true budgets
-removes_none (call_as.Unmap p v) budgets h = false≢true budgets
+removes_none (Call.Remove t b) budgets h = false≢true budgets
+removes_none (Call.Shrink t i) budgets h = false≢true budgets
+removes_none (Call.Unmap p v) budgets h = false≢true budgets
 removes_none call budgets h = false≢true h
 
 types_none : (call : Call) (ks : List Capability) (y : Typing) → changes_budgets call ≡ true → TypesBy call ks y → ⊥
-types_none (call_as.Retype r f k) ks y budgets h = false≢true budgets
+types_none (Call.Retype r f k) ks y budgets h = false≢true budgets
 types_none call ks y budgets h = h
 
 untypes_none : (call : Call) (ks : List Capability) (m : Untyping) → changes_budgets call ≡ true → UntypesBy call ks m → ⊥
-untypes_none (call_as.Retype r f k) ks m budgets h = false≢true budgets
+untypes_none (Call.Retype r f k) ks m budgets h = false≢true budgets
 untypes_none call ks m budgets h = h
 
 makes_none : (call : Call) (ks : List Capability) (m : Making) → changes_budgets call ≡ true → MakesBy call ks m → ⊥
-makes_none (call_as.Make what r f u b) ks m budgets h = false≢true budgets
+makes_none (Call.Make what r f u b) ks m budgets h = false≢true budgets
 makes_none call ks m budgets h = h
 
 comps_none : (call : Call) (ks : List Capability) (m : CompMaking) → changes_budgets call ≡ true → MakesCompBy call ks m → ⊥
-comps_none (call_as.Make what r f u b) ks m budgets h = false≢true budgets
+comps_none (Call.Make what r f u b) ks m budgets h = false≢true budgets
 comps_none call ks m budgets h = h
 
 maps_none : (call : Call) → changes_budgets call ≡ true → is_mapping call ≡ true → ⊥
-maps_none (call_as.Map p v r f w) budgets h = false≢true budgets
+maps_none (Call.Map p v r f w) budgets h = false≢true budgets
 maps_none call budgets h = false≢true h
 
 outside_none : (call : Call) (ks : List Capability) → changes_budgets call ≡ true → OutsideBy call ks → ⊥
-outside_none (call_as.Make what r f u b) ks budgets h = false≢true budgets
-outside_none (call_as.Map p v r f w) ks budgets h = false≢true budgets
-outside_none (call_as.Part r f n u b) ks budgets h = false≢true budgets
+outside_none (Call.Make what r f u b) ks budgets h = false≢true budgets
+outside_none (Call.Map p v r f w) ks budgets h = false≢true budgets
+outside_none (Call.Part r f n u b) ks budgets h = false≢true budgets
 outside_none call ks budgets h = h
 
 kills_none : (call : Call) (ks : List Capability) (f : ℕ) → changes_budgets call ≡ true → KillsBy call ks f → ⊥
-kills_none (call_as.Kill name) ks f budgets h = false≢true budgets
+kills_none (Call.Kill name) ks f budgets h = false≢true budgets
 kills_none call ks f budgets h = h
 
 invokes_none : (call : Call) (ks : List Capability) (m : Invoking) → changes_budgets call ≡ true → InvokesBy call ks m → ⊥
-invokes_none (call_as.Call g) ks m budgets h = false≢true budgets
+invokes_none (Call.Call g) ks m budgets h = false≢true budgets
 invokes_none call ks m budgets h = h
 
 switches_none : (call : Call) (ks : List Capability) (f q : ℕ) → changes_budgets call ≡ true → SwitchesBy call ks f q → ⊥
-switches_none (call_as.Switch h q) ks f g budgets is = false≢true budgets
+switches_none (Call.Switch h q) ks f g budgets is = false≢true budgets
 switches_none call ks f g budgets is = is
 
 module _ (setup : Setting) (t : Trace) (c : ℕ) (call : Call) (plan : Plan) (ks : List Capability) (upto : ℕ)
@@ -148,46 +123,46 @@ undo_none act is = absurd is
 
 count_none : (core n : ℕ) (change : Rattle.std.specs.Prelude.ℤ) (act : ActOf) (pin : Pin) (end : StageEnd Pinned) → IsBudgetAct act
     → LeavesNone (took_count core n change act pin end)
-count_none core n change act pin ends.Going is = tt
-count_none core n change act pin (ends.Decided r) is = undo_none act is
-count_none core n change act pin (ends.Done x) is = tt
-count_none core n change act pin (ends.Refuse r) is = undo_none act is
+count_none core n change act pin StageEnd.Going is = tt
+count_none core n change act pin (StageEnd.Decided r) is = undo_none act is
+count_none core n change act pin (StageEnd.Done x) is = tt
+count_none core n change act pin (StageEnd.Refuse r) is = undo_none act is
 
 tick_none : (due : ℕ) (charge : Charge) (end : StageEnd Value) → LeavesNone (took_charge due charge end)
-tick_none due charge ends.Going = tt
-tick_none due charge (ends.Decided r) = tt
-tick_none due charge (ends.Done v) = tt
-tick_none due charge (ends.Refuse r) = tt
+tick_none due charge StageEnd.Going = tt
+tick_none due charge (StageEnd.Decided r) = tt
+tick_none due charge (StageEnd.Done v) = tt
+tick_none due charge (StageEnd.Refuse r) = tt
 
 refill_none : (r : Refill) (end : StageEnd Value) → LeavesNone (took_refilled r end)
-refill_none r ends.Going = tt
-refill_none r (ends.Decided reply) = tt
-refill_none r (ends.Done v) = tt
-refill_none r (ends.Refuse reply) = tt
+refill_none r StageEnd.Going = tt
+refill_none r (StageEnd.Decided reply) = tt
+refill_none r (StageEnd.Done v) = tt
+refill_none r (StageEnd.Refuse reply) = tt
 
 -- What a decision owes
 
 -- A refusal owes nothing.
 still : (r : Reply) → is_carried r ≡ false → (s : State) (c : ℕ) (call : Call) (f n : ℕ) → Owes s c r call f n n
-still (reply.Ok v) not s c call f n = absurd (cc)
+still (Reply.Ok v) not s c call f n = absurd (cc)
 still r not s c call f n = refl
 
 refused : (f : Refusal) → is_carried (reply_of f) ≡ false
-refused refusal.Raced = refl
+refused Refusal.Raced = refl
 refused f = refl
 
 -- The compare that carries the call out: the ticks are no more than the first has, and the second has room for them.
 wins : (s : State) (c : ℕ) (call : Call) (ks : List Capability) (p : Pair) (v : Value) → SharesBy call ks p
     → Leads (LeadsIn s c) (plan_for call).names [] ks
     → amount_of p.what ≤ p.head_a.budget → p.head_b.budget + amount_of p.what < 2 ^ 32
-    → OwesAt s c (reply.Ok v) call (record p { at = at_decided p.what }) (at_decided p.what)
-wins s c (call_as.Transfer x y m) (a ∷ b ∷ []) p v is leads enough room =
-    subst (λ w. OwesAt s c (reply.Ok v) (call_as.Transfer x y m) (record p { at = at_decided p.what }) (at_decided w)) (sym is.work) (
+    → OwesAt s c (Reply.Ok v) call (record p { at = at_decided p.what }) (at_decided p.what)
+wins s c (Call.Transfer x y m) (a ∷ b ∷ []) p v is leads enough room =
+    subst (λ w. OwesAt s c (Reply.Ok v) (Call.Transfer x y m) (record p { at = at_decided p.what }) (at_decided w)) (sym is.work) (
       record { cap = a; is_named = leads.0; frame = sym is.first },
       (let ticks : amount_of p.what ≡ m = ap amount_of is.work in omega (arith, enough, ticks)),
     )
-wins s c (call_as.Delegate x y m) (a ∷ b ∷ []) p v is leads enough room =
-    subst (λ w. OwesAt s c (reply.Ok v) (call_as.Delegate x y m) (record p { at = at_decided p.what }) (at_decided w)) (sym is.work) (
+wins s c (Call.Delegate x y m) (a ∷ b ∷ []) p v is leads enough room =
+    subst (λ w. OwesAt s c (Reply.Ok v) (Call.Delegate x y m) (record p { at = at_decided p.what }) (at_decided w)) (sym is.work) (
       inl (
         record { cap = a; is_named = leads.0; frame = sym is.first },
         (let ticks : amount_of p.what ≡ m = ap amount_of is.work in omega (arith, enough, ticks)),
@@ -197,27 +172,27 @@ wins s c (call_as.Delegate x y m) (a ∷ b ∷ []) p v is leads enough room =
         (let ticks : amount_of p.what ≡ m = ap amount_of is.work in omega (arith, room, ticks)),
       ),
     )
-wins s c (call_as.Test x y) (a ∷ b ∷ []) p v is leads enough room =
-    subst (λ w. OwesAt s c (reply.Ok v) (call_as.Test x y) (record p { at = at_decided p.what }) (at_decided w)) (sym is.work) (λ f n. refl)
+wins s c (Call.Test x y) (a ∷ b ∷ []) p v is leads enough room =
+    subst (λ w. OwesAt s c (Reply.Ok v) (Call.Test x y) (record p { at = at_decided p.what }) (at_decided w)) (sym is.work) (λ f n. refl)
 wins s c call ks p v is leads enough room = absurd is
 
 -- The second load carries a test out alone.
-alike_not : (same : Bool) (v : Value) → by_alike same ≡ AgainB (reply.Ok v) → ⊥
+alike_not : (same : Bool) (v : Value) → by_alike same ≡ AgainB (Reply.Ok v) → ⊥
 alike_not true v h = absurd (cc)
 alike_not false v h = absurd (cc)
 
-room_not : (o : Option (List (ℕ × ℕ))) (v : Value) → by_room o ≡ AgainB (reply.Ok v) → ⊥
+room_not : (o : Option (List (ℕ × ℕ))) (v : Value) → by_room o ≡ AgainB (Reply.Ok v) → ⊥
 room_not None v h = absurd (cc)
 room_not (Some xs) v h = absurd (cc)
 
 answers : (s : State) (c : ℕ) (call : Call) (ks : List Capability) (p : Pair) (v : Value) → SharesBy call ks p
-    → judged p.what p ≡ AgainB (reply.Ok v) → (f n : ℕ) → Owes s c (reply.Ok v) call f n n
-answers s c (call_as.Transfer x y m) (a ∷ b ∷ []) p v is judges f n =
+    → judged p.what p ≡ AgainB (Reply.Ok v) → (f n : ℕ) → Owes s c (Reply.Ok v) call f n n
+answers s c (Call.Transfer x y m) (a ∷ b ∷ []) p v is judges f n =
     absurd (alike_not (same_list (in_order p.list_a) (in_order p.list_b)) v
-    (subst (λ w. judged w p ≡ AgainB (reply.Ok v)) is.work judges))
-answers s c (call_as.Delegate x y m) (a ∷ b ∷ []) p v is judges f n =
-    absurd (room_not p.list_b v (subst (λ w. judged w p ≡ AgainB (reply.Ok v)) is.work judges))
-answers s c (call_as.Test x y) (a ∷ b ∷ []) p v is judges f n = refl
+    (subst (λ w. judged w p ≡ AgainB (Reply.Ok v)) is.work judges))
+answers s c (Call.Delegate x y m) (a ∷ b ∷ []) p v is judges f n =
+    absurd (room_not p.list_b v (subst (λ w. judged w p ≡ AgainB (Reply.Ok v)) is.work judges))
+answers s c (Call.Test x y) (a ∷ b ∷ []) p v is judges f n = refl
 answers s c call ks p v is judges f n = absurd is
 
 -- The steps of the act
@@ -227,7 +202,7 @@ module _ (now before : State) (c : ℕ) (a : ActiveCall) where
   Owed step = OwesTook now before c (landed a step)
 
   gives_back : (p : Pair) (r : Reply) → is_carried r ≡ false → Owed (shared (record p { at = giving_back }) r)
-  gives_back p (reply.Ok v) not = absurd (cc)
+  gives_back p (Reply.Ok v) not = absurd (cc)
   gives_back p r not = λ budgets f n. still (reply_of (refusal_of r)) (refused (refusal_of r)) now c a.call f n
 
   loads_head : (p : Pair) (o : Option HeadWord) → Owed (took_shared p (head_end o))
@@ -240,33 +215,33 @@ module _ (now before : State) (c : ℕ) (a : ActiveCall) where
 
   marks_head : (p : Pair) (same short : Bool) (budget : ℕ)
       → Owed (took_shared (record p { at = at_marked same short }) (marked_end same short budget))
-  marks_head p true true budget = gives_back p (reply.Short budget) refl
+  marks_head p true true budget = gives_back p (Reply.Short budget) refl
   marks_head p true false budget = λ budgets. tt
   marks_head p false short budget = λ budgets. tt
 
   loads_second : (p : Pair) (next : PairAt) (o : Option HeadWord)
       → Owed (took_shared (record p { at = at_by_head next giving_back o }) (b_end o))
-  loads_second p next None = gives_back p reply.Raced refl
+  loads_second p next None = gives_back p Reply.Raced refl
   loads_second p next (Some h) = by h.mark
     where
       by : (mark : Option ℕ) → Owed (took_shared (record p { at = at_by_mark next giving_back mark }) (decided_by_mark mark))
       by None = λ budgets. tt
-      by (Some d) = gives_back p (reply.Busy d) refl
+      by (Some d) = gives_back p (Reply.Busy d) refl
 
   reads_list : (p : Pair) (next : PairAt) (o : Option QualityWord) → Owed (took_shared (record p { at = at_read o next }) (list_end o))
-  reads_list p next None = gives_back p reply.Raced refl
+  reads_list p next None = gives_back p Reply.Raced refl
   reads_list p next (Some v) = λ budgets. tt
 
-  compares : (p : Pair) → OwesAt now c (reply.Ok value.Nothing) a.call (record p { at = at_decided p.what }) (at_decided p.what)
+  compares : (p : Pair) → OwesAt now c (Reply.Ok Value.Nothing) a.call (record p { at = at_decided p.what }) (at_decided p.what)
       → (same : Bool)
-      → Owed (took_shared (record p { at = compared_after same p.what }) (again_end same (reply.Ok value.Nothing)))
+      → Owed (took_shared (record p { at = compared_after same p.what }) (again_end same (Reply.Ok Value.Nothing)))
   compares p owes true = λ budgets. owes
-  compares p owes false = gives_back p reply.Raced refl
+  compares p owes false = gives_back p Reply.Raced refl
 
-  loads_again : (p : Pair) (r : Reply) → ((v : Value) → r ≡ reply.Ok v → (f n : ℕ) → Owes now c (reply.Ok v) a.call f n n) → (same : Bool)
+  loads_again : (p : Pair) (r : Reply) → ((v : Value) → r ≡ Reply.Ok v → (f n : ℕ) → Owes now c (Reply.Ok v) a.call f n n) → (same : Bool)
       → Owed (took_shared (record p { at = StoreA false (again_value same r) }) (again_end same r))
-  loads_again p r owes false = gives_back p reply.Raced refl
-  loads_again p (reply.Ok v) owes true = λ budgets f n. owes v refl f n
+  loads_again p r owes false = gives_back p Reply.Raced refl
+  loads_again p (Reply.Ok v) owes true = λ budgets f n. owes v refl f n
   loads_again p r owes true = λ budgets f n. still (reply_of (refusal_of r)) (refused (refusal_of r)) now c a.call f n
 
 module _ (setup : Setting) (setting : IsSetting setup) (cores : ℕ → Core) (t : Trace) (stands : Invariant setup cores t) (c : ℕ)
@@ -299,17 +274,17 @@ module _ (setup : Setting) (setting : IsSetting setup) (cores : ℕ → Core) (t
           has.knows.knows.shares
 
       won : (last_left setup t (EntryAt p.b 0) == old) ≡ true
-          → OwesAt s c (reply.Ok value.Nothing) a.call (record p { at = at_decided p.what }) (at_decided p.what)
+          → OwesAt s c (Reply.Ok Value.Nothing) a.call (record p { at = at_decided p.what }) (at_decided p.what)
       won equal =
           let sum = compared.sum setup setting cores t stands c here a active p is has equal in
           let same_b = compared.budget_b setup setting cores t stands c here a active p is has equal in
           let less = compared.enough setup setting cores t stands c here a active p is has equal in
-          wins s c a.call a.found p value.Nothing shares (leads (record p { at = CompareB }) is has) has.knows.knows.at.a.enough
+          wins s c a.call a.found p Value.Nothing shares (leads (record p { at = CompareB }) is has) has.knows.knows.at.a.enough
           (omega (arith, sum, same_b, less))
 
       by : (same : Bool) → (last_left setup t (EntryAt p.b 0) == old) ≡ same
           → OwesTook s before c
-          (landed a (took_shared (record p { at = compared_after same p.what }) (again_end same (reply.Ok value.Nothing))))
+          (landed a (took_shared (record p { at = compared_after same p.what }) (again_end same (Reply.Ok Value.Nothing))))
       by true equal = compares s before c a p (won equal) true
       by false other = λ budgets f n. refl
 

@@ -1,41 +1,25 @@
 -- What a decided call on two temporal capabilities has still to store: what each head that it has marked owes. And which steps of a call
 -- lead to it: those of its act alone.
-use Rattle.flight.proofs.Common.{◌≡◌, ℕ, ◌==◌, nat_lt, nat_le, Bool, true, false, List, [], ◌∷◌, Option, Some, None, false≢true}
-use Rattle.flight.proofs.Common.{Capability, Call, Tick, Transfer, Delegate, Test, Reply, StageEnd, Entry, CompWord, Target, Under}
-use Rattle.flight.specs.spk_nums.specs.declared.calls.Call.TheVariants.{Replenish}
-use Rattle.flight.proofs.Common.{InRoot, State, changes_budgets, Look, Acquired, Quiet, Thaw, debited, credited, amount_of, Pair, PairAt}
-use Rattle.flight.proofs.Common.{LoadA, MarkA, ListA, LoadB, ListB, CompareB, AgainB, StoreList, StoreB, StoreA, PairWork, First, Second}
-use Rattle.flight.proofs.Common.{at_place, Next, NextName, NextFree, NextHeld, NextOwn, NextNothing, next_of, Own, Outside, Tail, Nothing}
-use Rattle.flight.proofs.Common.{Quiesce, Unmark, StoreDead, StoreFlush, Release, StoreLive, Push, Pop, Share, StoreRunning, StoreIdle}
-use Rattle.flight.proofs.Common.{Lookup, Read, Scan, Acquire, Act, WorkStep, Goes, Refuses, act_begun, reads_of, starts, refuse, Stage}
-use Rattle.flight.proofs.Common.{Decided, ActiveCall, Took, GoesOn, Decides, Returns, Changes, landed, found_more, took_scan}
-use Rattle.flight.specs.spk_nums.specs.declared.replies.Reply.TheVariants.{Ok}
-use Rattle.flight.specs.spk_nums.specs.declared.steps.StageEnd.TheVariants as ends
-use Rattle.flight.specs.entry_words.specs.declared.entry.Entry.TheVariants as entry
-use Rattle.flight.specs.stage_look.specs.declared.look.Found.{Found}
-use Rattle.flight.specs.stage_tcap.specs.Pairs.{store_next, pair_after}
-use Rattle.flight.specs.stage_tcap.specs.declared.pair.PairWork.TheVariants as share
+use Rattle.flight.specs.core_invariant.proofs as low
+use low.{◌≡◌, ℕ, ◌==◌, ltb as nat_lt, leb as nat_le, Bool, true, false, List, [], ◌∷◌, Option, Some, None, false≢true, Capability, Call}
+use low.{Transfer, Delegate, Test, Reply, StageEnd, Entry, CompWord, Target, Under, Replenish, InRoot, State, changes_budgets, Look}
+use low.{Acquired, Quiet, Thaw, debited, credited, amount_of, Pair, PairAt, LoadA, MarkA, ListA, LoadB, ListB, CompareB, AgainB, StoreList}
+use low.{StoreB, StoreA, PairWork, First, Second, at_place, Next, NextName, NextFree, NextHeld, NextOwn, NextNothing, next_of, Own, Outside}
+use low.{Tail, Nothing, Quiesce, Unmark, StoreDead, StoreFlush, Release, StoreLive, Push, Pop, StoreRunning, StoreIdle, Lookup, Read, Scan}
+use low.{Acquire, Act, WorkStep, Goes, Refuses, act_begun, reads_of, starts, refuse, Stage, Decided, ActiveCall, Took, GoesOn, Decides}
+use low.{Returns, Changes, landed, found_more, took_scan, Acquires, Answers, reply_of, next_by, took_tail, plan_for, Refusal}
+use Rattle.flight.specs.act_states.specs.{Tick, Ok, pair_after, pushed, looks_under, looks_entry, looks_at, read_first, next_step, met_name}
+use Rattle.flight.specs.act_states.specs.{met_free, met_held, refusal_of, shares_if, shares_at, after_share, refills_at, touches_if}
+use Rattle.flight.specs.act_states.specs.{release_after, Alive}
+use Rattle.flight.specs.call_stages.specs.{read_more, took_first, took_enter, took_alive, named_one, took_found, took_end, took_read}
+use Rattle.flight.specs.act_states.specs.{declared.work.Tail.TheVariants.Share, declared.lookups.Met.Met}
+use Rattle.flight.specs.act_states.specs.{declared.lookups.Met.TheVariants.Finds, declared.lookups.Met.TheVariants.Refused}
+use Rattle.flight.specs.act_states.specs.{declared.untypings.Release.Release as ReleaseOf, declared.work.Act.Act as ActOf}
+use Rattle.flight.specs.act_states.specs.{declared.work.WorkStep.TheVariants.Changes as work_changes, Untypings.after_store}
+use Rattle.{flight.specs.stage_look.specs.declared.look.Found.Found, flight.specs.stage_tcap.specs.Pairs.store_next}
+use Rattle.{history_laws.specs.Time.Owes}
 use Rattle.flight.specs.stage_thread.specs.declared.stack.Push.TheVariants as push
 use Rattle.flight.specs.stage_thread.specs.declared.stack.Pop.TheVariants as pop
-use Rattle.flight.specs.call_plans.specs.Plans.{pushed}
-use Rattle.flight.specs.act_states.specs.declared.lookups.Met.{Met}
-use Rattle.flight.specs.act_states.specs.declared.lookups.Met.TheVariants.{Finds, Refused}
-use Rattle.flight.specs.act_states.specs.declared.refusals.Refusal.TheVariants as refusal
-use Rattle.flight.specs.act_states.specs.declared.untypings.Release.{Release as ReleaseOf}
-use Rattle.flight.specs.act_states.specs.declared.work.Act.{Act as ActOf}
-use Rattle.flight.specs.act_states.specs.declared.work.WorkStep.TheVariants.{Acquires, Answers, Changes as work_changes}
-use Rattle.flight.specs.act_states.specs.Lookups.{looks_under, looks_entry, looks_at, read_first, next_step, met_name, met_free, met_held}
-use Rattle.flight.specs.act_states.specs.Refusals.{reply_of, refusal_of}
-use Rattle.flight.specs.act_states.specs.Shares.{shares_if, shares_at, after_share}
-use Rattle.flight.specs.act_states.specs.Refills.{refills_at}
-use Rattle.flight.specs.act_states.specs.Touches.{touches_if}
-use Rattle.flight.specs.act_states.specs.Untypings.{after_store, release_after}
-use Rattle.flight.specs.call_stages.specs.Steps.{next_by}
-use Rattle.flight.specs.stage_thread.specs.declared.alive.Alive.{Alive}
-use Rattle.flight.specs.call_stages.specs.Steps.{read_more, took_first, took_enter, took_alive, named_one, took_found, took_end, took_read}
-use Rattle.flight.specs.call_stages.specs.Tails.{took_tail}
-use Rattle.history_laws.specs.Time.{Owes}
-use Rattle.flight.specs.call_plans.specs.PlanOf.{plan_for}
 
 -- The head of the first, which a call decided so in state s has still to store with the ticks less; and that of the second, with them more.
 abbrev pub OwesFirst : State → ℕ → Reply → Call → Pair → Type 0
@@ -194,9 +178,9 @@ begun_none : (own : Own) (call : Call) (ks : List Capability) (read : Option ℕ
     → LeavesNone (act_begun own call ks read target)
 begun_none own (Tick n) ks read target budgets = tt
 begun_none own (Replenish x m) ks read target budgets = refills_none own m (at_place ks First)
-begun_none own (Transfer x y m) ks read target budgets = shares_none own.core (share.Transfer m) (at_place ks First) (at_place ks Second)
-begun_none own (Delegate x y m) ks read target budgets = shares_none own.core (share.Delegate m) (at_place ks First) (at_place ks Second)
-begun_none own (Test x y) ks read target budgets = shares_none own.core share.Test (at_place ks First) (at_place ks Second)
+begun_none own (Transfer x y m) ks read target budgets = shares_none own.core (PairWork.Transfer m) (at_place ks First) (at_place ks Second)
+begun_none own (Delegate x y m) ks read target budgets = shares_none own.core (PairWork.Delegate m) (at_place ks First) (at_place ks Second)
+begun_none own (Test x y) ks read target budgets = shares_none own.core PairWork.Test (at_place ks First) (at_place ks Second)
 begun_none own call ks read target budgets = absurd (false≢true budgets)
 
 touch_none : (within : Bool) (own : Own) (v : ℕ) → LeavesNone (touches_if within own v)
@@ -212,7 +196,7 @@ next_none own call ks (NextOwn v) budgets = touch_none (nat_le v 4095) own v
 next_none own call ks NextNothing budgets = begun_none own call ks None None budgets
 
 pub enter_none : (now before : State) (c : ℕ) (spent : Bool) (own : Own) (a : ActiveCall) → OwesTook now before c (took_enter spent own a)
-enter_none now before c true own a = landed_none now before c a (refuse refusal.CallsSpent) (λ budgets. tt)
+enter_none now before c true own a = landed_none now before c a (refuse Refusal.CallsSpent) (λ budgets. tt)
 enter_none now before c false own a = first_none (plan_for a.call).living
   where
     first_none : (living : Bool) → OwesTook now before c (took_first living own a)
@@ -222,11 +206,11 @@ enter_none now before c false own a = first_none (plan_for a.call).living
 
 pub alive_none : (now before : State) (c : ℕ) (own : Own) (a : ActiveCall) (alive : Alive) (end : StageEnd (Unit {0}))
     → OwesTook now before c (took_alive own a alive end)
-alive_none now before c own a alive ends.Going = λ budgets. tt
-alive_none now before c own a alive (ends.Decided r) = landed_none now before c a (refuse (refusal_of r)) (λ budgets. tt)
-alive_none now before c own a alive (ends.Done x) =
+alive_none now before c own a alive StageEnd.Going = λ budgets. tt
+alive_none now before c own a alive (StageEnd.Decided r) = landed_none now before c a (refuse (refusal_of r)) (λ budgets. tt)
+alive_none now before c own a alive (StageEnd.Done x) =
     landed_none now before c a (next_by own a) (λ budgets. next_none own a.call a.found (next_of (plan_for a.call) a.found) budgets)
-alive_none now before c own a alive (ends.Refuse r) = landed_none now before c a (refuse (refusal_of r)) (λ budgets. tt)
+alive_none now before c own a alive (StageEnd.Refuse r) = landed_none now before c a (refuse (refusal_of r)) (λ budgets. tt)
 
 named_none : (now before : State) (c : ℕ) (own : Own) (a : ActiveCall) (met : Met) → OwesTook now before c (named_one own a met)
 named_none now before c own a (Finds k) =
@@ -236,17 +220,17 @@ named_none now before c own a (Refused r) = landed_none now before c a (refuse r
 
 free_none : (own : Own) (call : Call) (ks : List Capability) (read : Option ℕ) (f : Found) (shown : Entry) → changes_budgets call ≡ true
     → LeavesNone (met_free own call ks read f shown)
-free_none own call ks read f entry.Free budgets = begun_none own call ks read (Some f) budgets
-free_none own call ks read f (entry.Held k) budgets = tt
-free_none own call ks read f (entry.Closing by) budgets = tt
-free_none own call ks read f (entry.Quiescing x) budgets = begun_none own call ks read (Some f) budgets
+free_none own call ks read f Entry.Free budgets = begun_none own call ks read (Some f) budgets
+free_none own call ks read f (Entry.Held k) budgets = tt
+free_none own call ks read f (Entry.Closing by) budgets = tt
+free_none own call ks read f (Entry.Quiescing x) budgets = begun_none own call ks read (Some f) budgets
 
 held_none : (own : Own) (call : Call) (ks : List Capability) (f : Found) (shown : Entry) → changes_budgets call ≡ true
     → LeavesNone (met_held own call ks f shown)
-held_none own call ks f entry.Free budgets = tt
-held_none own call ks f (entry.Held k) budgets = begun_none own call ks None (Some f) budgets
-held_none own call ks f (entry.Closing by) budgets = tt
-held_none own call ks f (entry.Quiescing x) budgets = tt
+held_none own call ks f Entry.Free budgets = tt
+held_none own call ks f (Entry.Held k) budgets = begun_none own call ks None (Some f) budgets
+held_none own call ks f (Entry.Closing by) budgets = tt
+held_none own call ks f (Entry.Quiescing x) budgets = tt
 
 found_none : (now before : State) (c : ℕ) (own : Own) (a : ActiveCall) (next : Next) (f : Found)
     → OwesTook now before c (took_found own a next f)
@@ -256,19 +240,19 @@ found_none now before c own a (NextFree target) f =
     (λ budgets. free_none own a.call a.found a.read f f.value budgets)
 found_none now before c own a (NextHeld target) f =
     landed_none now before c a (met_held own a.call a.found f f.value) (λ budgets. held_none own a.call a.found f f.value budgets)
-found_none now before c own a (NextOwn v) f = landed_none now before c a (refuse refusal.Raced) (λ budgets. tt)
-found_none now before c own a NextNothing f = landed_none now before c a (refuse refusal.Raced) (λ budgets. tt)
+found_none now before c own a (NextOwn v) f = landed_none now before c a (refuse Refusal.Raced) (λ budgets. tt)
+found_none now before c own a NextNothing f = landed_none now before c a (refuse Refusal.Raced) (λ budgets. tt)
 
 pub end_none : (now before : State) (c : ℕ) (own : Own) (a : ActiveCall) (look : Look) (end : StageEnd Found)
     → OwesTook now before c (took_end own a look end)
-end_none now before c own a look ends.Going = landed_none now before c a (Goes (Lookup look)) (λ budgets. tt)
-end_none now before c own a look (ends.Decided r) = landed_none now before c a (refuse (refusal_of r)) (λ budgets. tt)
-end_none now before c own a look (ends.Done f) = found_none now before c own a (next_of (plan_for a.call) a.found) f
-end_none now before c own a look (ends.Refuse r) = landed_none now before c a (refuse (refusal_of r)) (λ budgets. tt)
+end_none now before c own a look StageEnd.Going = landed_none now before c a (Goes (Lookup look)) (λ budgets. tt)
+end_none now before c own a look (StageEnd.Decided r) = landed_none now before c a (refuse (refusal_of r)) (λ budgets. tt)
+end_none now before c own a look (StageEnd.Done f) = found_none now before c own a (next_of (plan_for a.call) a.found) f
+end_none now before c own a look (StageEnd.Refuse r) = landed_none now before c a (refuse (refusal_of r)) (λ budgets. tt)
 
 pub reading_none : (now before : State) (c : ℕ) (a : ActiveCall) (look : Look) (o : Option CompWord)
     → OwesTook now before c (took_read a look o)
-reading_none now before c a look None = landed_none now before c a (refuse refusal.Raced) (λ budgets. tt)
+reading_none now before c a look None = landed_none now before c a (refuse Refusal.Raced) (λ budgets. tt)
 reading_none now before c a look (Some life) = landed_none now before c (read_more a life.epoch) (Goes (Lookup look)) (λ budgets. tt)
 
 starts_none : (core : ℕ) (act : ActOf) → LeavesNone (starts core act)
@@ -276,7 +260,7 @@ starts_none core (Outside node index word) = tt
 starts_none core act = tt
 
 pub scan_none : (core : ℕ) (act : ActOf) (q : Quiet) (end : StageEnd (Unit {0})) → LeavesNone (took_scan core act q end)
-scan_none core act q ends.Going = tt
-scan_none core act q (ends.Decided r) = tt
-scan_none core act q (ends.Done x) = starts_none core act
-scan_none core act q (ends.Refuse r) = tt
+scan_none core act q StageEnd.Going = tt
+scan_none core act q (StageEnd.Decided r) = tt
+scan_none core act q (StageEnd.Done x) = starts_none core act
+scan_none core act q (StageEnd.Refuse r) = tt

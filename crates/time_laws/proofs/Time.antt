@@ -1,22 +1,15 @@
 -- The time of a machine is that of the sequential kernel, whose laws hold of each legal trace; and heads say it.
-use Rattle.flight.proofs.Common.{to_use, not_exclusive_head_value, ◌≡◌, ◌≤◌, ℕ, ◌+◌, ◌∷◌, [], ◌&&◌, ◌==◌, Bool, true, false, Some, None}
-use Rattle.flight.proofs.Common.{if◌then◌else◌, refl, sym, ◌∙◌, ap, subst, Setting, IsSetting, head_of_word, EntryAt, PlaceOf, State}
-use Rattle.flight.proofs.Common.{events_of, IsLegal, MayDecide, stamp, Trace, state_after, last_left, Step, Open, phase, after_enter}
-use Rattle.flight.proofs.Common.{state_before, state_is, run_of, settled_by, settled, held_by, Invariant, HeadIs, IsFrameWord}
-use Rattle.flight.proofs.Common.{Capability, Call, Test, Value, only, Judged, Found, Refused, IsFoundAnd, named, and_then, unless}
-use Rattle.flight.proofs.Common.{first_of, tcap_at, change_of, MayReply, Change}
-use Rattle.flight.specs.kernel_rules.specs.Laws.{ticks}
-use Rattle.flight.specs.kernel_laws.proofs.TicksLaw.{ticks_kept}
-use Rattle.flight.specs.kernel_laws.proofs.Spending.{spending_sums}
-use Rattle.flight.specs.kernel_laws.proofs.Back.{back_sums}
-use Rattle.flight.specs.Made.{IsMade, cores_after}
-use Rattle.history_laws.specs.Time.{TimeIsKept, TicksAreCounted, BackIsCounted, HeadsSay, ListsSay, TellsOf, TestsTell}
-use Rattle.flight.proofs.Made.{made_stands}
-use Rattle.flight.specs.pair_invariant.proofs.ShareSteps.{list_plain}
-use Rattle.flight.specs.spk_nums.specs.declared.kinds.Kind.TheVariants as kind
-use Rattle.flight.specs.spk_nums.specs.declared.replies.Reply.TheVariants as reply
-use Rattle.flight.specs.kernel_rules.specs.TimeCalls.{preemption, preempts}
-use Rattle.flight.specs.kernel_rules.specs.Rules.{does}
+use Rattle.flight.specs.step_ways.proofs.{to_use, not_exclusive_head_value, ◌≡◌, ◌≤◌, ℕ, ◌+◌, ◌∷◌, [], ◌&&◌, ◌==◌, Bool, true, false, Some}
+use Rattle.flight.specs.step_ways.proofs.{None, if◌then◌else◌, refl, sym, ◌∙◌, ap, subst, Setting, IsSetting, head_of_word, EntryAt}
+use Rattle.flight.specs.step_ways.proofs.{PlaceOf, State, events_of, IsLegal, MayDecide, stamp, Trace, state_after, last_left, Step, Open}
+use Rattle.flight.specs.step_ways.proofs.{phase, after_enter, state_before, state_is, run_of, settled_by, settled, held_by, Invariant}
+use Rattle.flight.specs.step_ways.proofs.{HeadIs, IsFrameWord, Capability, Call, Test, Value, only, Judged, Found, Refused, IsFoundAnd}
+use Rattle.flight.specs.step_ways.proofs.{named, and_then, unless, first_of, tcap_at, change_of, MayReply, Change, does, Kind, Reply}
+use Rattle.history_laws.specs.{TicksAreCounted, BackIsCounted, HeadsSay, ListsSay, TestsTell}
+use Rattle.flight.specs.kernel_history.specs.{ticks, preemption, preempts}
+use Rattle.flight.specs.kernel_laws.proofs.{TicksLaw.ticks_kept, Spending.spending_sums, Back.back_sums}
+use Rattle.{flight.specs.IsMade, flight.specs.cores_after, history_laws.specs.Time.TimeIsKept, history_laws.specs.Time.TellsOf}
+use Rattle.{flight.proofs.Made.made_stands, flight.specs.pair_invariant.proofs.ShareSteps.list_plain}
 
 legal_of : (setup : Setting) → IsSetting setup → (t : Trace) → IsMade setup t → IsLegal setup t
 legal_of setup setting t made = (made_stands setup setting t made).legal
@@ -59,20 +52,20 @@ lists_say setup setting t made f q is unmarked j low =
 
 -- What is answered to a test is what its rule answers.
 told_by : (s : State) (c x y : ℕ) (v : Value) → IsFoundAnd (change_of s c (Test x y)) (λ change. change.value ≡ v) → TellsOf s c x y v
-told_by s c x y v h = by (named s c x (to_use (only kind.Tcap))) (named s c y (to_use (only kind.Tcap))) refl refl h
+told_by s c x y v h = by (named s c x (to_use (only Kind.Tcap))) (named s c y (to_use (only Kind.Tcap))) refl refl h
   where
     rest : Capability → Capability → Judged Change
-    rest a b = unless (first_of (if true && (true && a.frame == b.frame) then Some reply.Same else None) None)
+    rest a b = unless (first_of (if true && (true && a.frame == b.frame) then Some Reply.Same else None) None)
         (does c s (preemption (preempts (tcap_at s a.frame) (tcap_at s b.frame))) [])
 
-    last : (a b : Capability) → named s c x (to_use (only kind.Tcap)) ≡ Found a → named s c y (to_use (only kind.Tcap)) ≡ Found b
+    last : (a b : Capability) → named s c x (to_use (only Kind.Tcap)) ≡ Found a → named s c y (to_use (only Kind.Tcap)) ≡ Found b
         → (same : Bool)
-        → IsFoundAnd (unless (first_of (if same then Some reply.Same else None) None)
+        → IsFoundAnd (unless (first_of (if same then Some Reply.Same else None) None)
         (does c s (preemption (preempts (tcap_at s a.frame) (tcap_at s b.frame))) [])) (λ change. change.value ≡ v) → TellsOf s c x y v
     last a b first second true h = absurd h
     last a b first second false h = record { first = a; second = b; first_named = first; second_named = second; answer = sym h }
 
-    by : (j k : Judged Capability) → named s c x (to_use (only kind.Tcap)) ≡ j → named s c y (to_use (only kind.Tcap)) ≡ k
+    by : (j k : Judged Capability) → named s c x (to_use (only Kind.Tcap)) ≡ j → named s c y (to_use (only Kind.Tcap)) ≡ k
         → IsFoundAnd (and_then j λ a. and_then k λ b. rest a b) (λ change. change.value ≡ v) → TellsOf s c x y v
     by (Refused r) k first second h = absurd h
     by (Found a) (Refused r) first second h = absurd h
@@ -80,13 +73,13 @@ told_by s c x y v h = by (named s c x (to_use (only kind.Tcap))) (named s c y (t
 
 pub tests_tell : (setup : Setting) → IsSetting setup → (e : Step) (t : Trace) → IsMade setup (e ∷ t) → TestsTell setup t e
 tests_tell setup setting e t made x y v opens decides = told_by (state_before setup t e) e.core x y v
-    (subst (λ (call : Call). MayReply (state_before setup t e) e.core call (reply.Ok v)) (sym (same_call may.is_open)) may.permitted).1.1
+    (subst (λ (call : Call). MayReply (state_before setup t e) e.core call (Reply.Ok v)) (sym (same_call may.is_open)) may.permitted).1.1
   where
     legal : IsLegal setup (e ∷ t)
     legal = legal_of setup setting (e ∷ t) made
 
-    may : MayDecide setup t e (Some (reply.Ok v)) (Open (Test x y))
-    may = subst (λ p. MayDecide setup t e (Some (reply.Ok v)) p) opens
+    may : MayDecide setup t e (Some (Reply.Ok v)) (Open (Test x y))
+    may = subst (λ p. MayDecide setup t e (Some (Reply.Ok v)) p) opens
         (subst (λ o. MayDecide setup t e o (after_enter e.enters (phase t e.core))) decides legal.1.decides)
 
     same_call : {call : Call} → Open (Test x y) ≡ Open call → Test x y ≡ call

@@ -1,18 +1,10 @@
 -- At the end of a run the watcher has seen the trace for which the machine stands.
-use Rattle.std.proofs.Common.{◌≡◌, inl, inr, ℕ, List, [], length, sym, ◌∙◌, ap, subst, arith}
-use Rattle.std.proofs.lemmas.Bool.{cases_lt}
-use Rattle.std.proofs.lemmas.List.{get_or_past}
-use Rattle.spk_nums.specs.Setting.{Setting, IsSetting}
-use Rattle.spk_nums.specs.declared.calls.Call.{Call}
-use Rattle.spk_nums.specs.declared.steps.Item.{Item}
-use Rattle.lone_kernel.specs.kernel_history.specs.Trace.{Trace}
-use Rattle.lone_kernel.specs.kernel_history.specs.Order.{HasCalls, FollowsItems, FollowsCores}
-use Rattle.lone_kernel.specs.trace_laws.proofs.Idle.{all_idle}
-use Rattle.lone_kernel.specs.flight.specs.Made.{ready_after, IsMade}
-use Rattle.lone_kernel.specs.flight.proofs.Phases.{made_of_its_cores}
-use Rattle.lone_kernel.specs.flight_laws.specs.Histories.{MadeHistories}
-use Rattle.told_run.specs.GivenWatched.{GivenWatched}
-use Rattle.told_run.specs.Watching.{Watching, Watches, GoesByItems, RunsCoresOut}
+use Rattle.lone_kernel.specs.flight.proofs.{◌≡◌, inl, inr, ℕ, List, [], length, sym, ◌∙◌, ap, subst, arith, get_or_past, Setting, IsSetting}
+use Rattle.lone_kernel.specs.flight.proofs.{Call, Item, Trace, HasCalls, ready_after, IsMade, made_of_its_cores}
+use Rattle.told_run.specs.{GivenWatched.GivenWatched, Watching.Watching, Watching.Watches}
+use Rattle.{told_run.specs.GoesByItems, told_run.specs.RunsCoresOut, lone_kernel.specs.core_invariant.specs.FollowsItems}
+use Rattle.{lone_kernel.specs.core_invariant.specs.FollowsCores, std.proofs.lemmas.Bool.cases_lt}
+use Rattle.{lone_kernel.specs.trace_laws.proofs.Idle.all_idle, lone_kernel.specs.flight_laws.specs.Histories.MadeHistories}
 
 module _ {W : Type 0} (Seen : Setting → W → Trace → W → Type 0) (setup : Setting) (lists : List (List Call)) (items : List Item)
     (s0 s1 s2 : Watching W)

@@ -1,19 +1,11 @@
 -- Moves that are told, one after another, by an order and then to the ends of the lists.
-use Rattle.std.proofs.Common.{◌≡◌, inl, inr, ℕ, suc, ◌+◌, ◌++◌, List, [], ◌∷◌, arith, refl, sym, ◌∙◌, ap, subst}
-use Rattle.std.specs.Prelude.{Bool}
+use Rattle.lone_kernel.specs.flight.proofs.{◌≡◌, inl, inr, ℕ, suc, ◌+◌, ◌++◌, List, [], ◌∷◌, arith, refl, sym, ◌∙◌, ap, subst, Bool}
+use Rattle.lone_kernel.specs.flight.proofs.{append_assoc, Call, Item, Trace, IsIdle, ready_after, Setting}
+use Rattle.step_views.specs.kernel_history.specs.{Return, FollowsItem, FollowsItems, RunsOut, FollowsCores}
+use Rattle.told_run.specs.{GoesByItems, RunsCoresOut}
 use Rattle.std.proofs.lemmas.List.Elements.{All-nil, All-append}
-use Rattle.std.proofs.lemmas.List.{append_assoc}
-use Rattle.spk_nums.specs.declared.calls.Call.{Call}
-use Rattle.spk_nums.specs.declared.steps.Item.{Item}
-use Rattle.spk_nums.specs.declared.steps.How.TheVariants.{Return}
-use Rattle.lone_kernel.specs.kernel_history.specs.Trace.{Trace}
-use Rattle.lone_kernel.specs.kernel_history.specs.Order.{IsIdle, FollowsItem, FollowsItems, RunsOut, FollowsCores}
-use Rattle.lone_kernel.specs.flight.specs.Made.{ready_after}
-use Rattle.lone_kernel.specs.declared.lone.Moved.{Moved}
-use Rattle.lone_kernel.specs.declared.lone.Moved.TheVariants.{Idle, Went}
-use Rattle.spk_nums.specs.Setting.{Setting}
-use Rattle.told_run.specs.Watching.{Watching, Watches, GoesOnBy, IsStretch, IsToldMove, StaysWatched}
-use Rattle.told_run.specs.Watching.{GoesByItem, GoesByItems, GoesByCore, RunsCoreOut, RunsCoresOut}
+use Rattle.lone_kernel.specs.{declared.lone.Moved.Moved, declared.lone.Moved.TheVariants.Idle, declared.lone.Moved.TheVariants.Went}
+use Rattle.told_run.specs.Watching.{Watching, Watches, GoesOnBy, IsStretch, IsToldMove, StaysWatched, GoesByItem, GoesByCore, RunsCoreOut}
 
 -- a move is the stretch of its item
 pub takes_item : {W : Type 0} (Seen : Setting → W → Trace → W → Type 0) (moved : Moved) (s s' : Watching W) (item : Item)

@@ -1,17 +1,12 @@
 -- Steps of one core that are told, one after another, until it is there.
-use Rattle.std.proofs.Common.{◌≡◌, ℕ, ◌<◌, [], ◌∷◌, ◌++◌, refl, sym, ◌∙◌, ap, subst}
-use Rattle.std.proofs.lemmas.List.Elements.{All-cons, All-nil}
-use Rattle.spk_nums.specs.declared.steps.How.{How}
-use Rattle.spk_nums.specs.Setting.{Setting, IsSetting}
-use Rattle.step_views.specs.declared.views.StepMade.{StepMade}
-use Rattle.lone_kernel.specs.kernel_history.specs.Trace.{Step, Trace}
-use Rattle.lone_kernel.specs.kernel_history.specs.Order.{AreOf, Stretch}
-use Rattle.lone_kernel.specs.flight.specs.Made.{ready_after, IsMade}
-use Rattle.lone_kernel.specs.Machine.{Machine, IsFinished, IsInCall, IsThere, IsDone}
-use Rattle.lone_kernel.specs.Stands.{StandsFor}
-use Rattle.lone_kernel.specs.Shown.{TellsStep}
+use Rattle.lone_kernel.specs.flight.proofs.{◌≡◌, ℕ, ◌<◌, [], ◌∷◌, ◌++◌, refl, sym, ◌∙◌, ap, subst, Setting, IsSetting, Step, Trace}
+use Rattle.lone_kernel.specs.{IsFinished, IsInCall, IsThere, IsDone, StandsFor}
+use Rattle.step_views.specs.kernel_history.specs.{How, AreOf, Stretch}
 use Rattle.lone_kernel.proofs.Runs.{NotYet, none_yet, StaysOpen, events_are, longer, ends_item, busy_if, done_stretch}
 use Rattle.told_run.specs.Watching.{IsNext, Watching, GoesOnBy, IsOneStep, IsStretch}
+use Rattle.{lone_kernel.specs.flight.proofs.ready_after, lone_kernel.specs.flight.proofs.IsMade, std.proofs.lemmas.List.Elements.All-cons}
+use Rattle.{std.proofs.lemmas.List.Elements.All-nil, step_views.specs.declared.views.StepMade.StepMade, lone_kernel.specs.Machine.Machine}
+use Rattle.{lone_kernel.specs.Shown.TellsStep}
 
 -- A watcher that has seen a trace has seen the next step too, where it was told it.
 abbrev pub Tells : {W : Type 0} → (Setting → W → Trace → W → Type 0) → StepMade → W → W → Type 0

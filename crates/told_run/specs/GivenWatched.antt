@@ -1,12 +1,6 @@
 -- The theorem on given steps that are watched.
-use Rattle.std.specs.Prelude.{◌≡◌, ℕ, List, []}
-use Rattle.spk_nums.specs.Setting.{Setting, IsSetting}
-use Rattle.spk_nums.specs.declared.calls.Call.{Call}
-use Rattle.spk_nums.specs.declared.steps.Item.{Item}
-use Rattle.lone_kernel.specs.kernel_history.specs.Trace.{Trace, Out, phase}
-use Rattle.lone_kernel.specs.kernel_history.specs.Order.{HasCalls, Follows}
-use Rattle.lone_kernel.specs.flight.specs.Made.{ready_after}
-use Rattle.lone_kernel.specs.flight_laws.specs.Histories.{IsHistory}
+use Rattle.lone_kernel.specs.core_invariant.specs.{◌≡◌, ℕ, List, [], Setting, IsSetting, Call, Item, Trace, Out, phase, HasCalls, Follows}
+use Rattle.{lone_kernel.specs.flight.specs.Made.ready_after, lone_kernel.specs.flight_laws.specs.Histories.IsHistory}
 
 -- There is one trace that is a history of the machine, has the calls of the lists once and in order, follows the order, and which the
 -- watcher has seen from its first step on; and at its end each core is between calls.

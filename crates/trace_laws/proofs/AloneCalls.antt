@@ -1,57 +1,43 @@
 -- What holds of a call that is alone: its core waits for nothing, and what is carried out is what the sequential kernel answers.
-use Rattle.std.proofs.Common.{◌≡◌, ◌&&◌, ◌||◌, not, IsTrue, inl, inr, ℕ, Bool, true, false, [], ◌∷◌, Option, Some, None, refl, sym, ◌∙◌, ap}
-use Rattle.std.proofs.Common.{subst, if◌then◌else◌}
-use Rattle.std.proofs.lemmas.Bool.{cases_eq, false≢true}
-use Rattle.boot_words.specs.spk_nums.specs.Setting.{Setting}
-use Rattle.boot_words.specs.spk_nums.specs.declared.calls.Call.{Call}
-use Rattle.boot_words.specs.spk_nums.specs.declared.replies.Value.{Value}
-use Rattle.boot_words.specs.spk_nums.specs.declared.replies.Reply.{Reply}
-use Rattle.boot_words.specs.spk_nums.specs.declared.replies.Reply.TheVariants as reply
-use Rattle.boot_words.specs.kernel_rules.specs.State.{Thing, NumberOf, State, comp_of}
-use Rattle.boot_words.specs.kernel_rules.specs.Rules.{Judged, Refused, Found, IsFoundAnd}
-use Rattle.boot_words.specs.kernel_rules.specs.CallRelation.{MayReply, are_calls_spent, change_of}
-use Rattle.boot_words.specs.kernel_rules.specs.Life.{is_dead_in, lives, outlives, may_act, asks_life, acts}
-use Rattle.boot_words.specs.kernel_rules.specs.Alone.{reply_in, first_reply, alone}
-use Rattle.boot_words.specs.kernel_rules.proofs.AloneLaw.{AreInside, waits_inside}
-use Rattle.boot_words.specs.kernel_history.specs.Trace.{Step, Trace, Phase, Out, Open, Decided, phase, after_enter}
-use Rattle.boot_words.specs.kernel_history.specs.Trace.{after_decide, after_return, state_after, state_entered, state_before}
-use Rattle.boot_words.specs.kernel_history.specs.Stamps.{is_in}
-use Rattle.boot_words.specs.kernel_history.specs.Legal.{MayEnter, IsLegal}
-use Rattle.boot_words.specs.kernel_history.specs.Events.{events_of}
-use Rattle.boot_words.specs.kernel_history.specs.Alone.{UnlessEnters, IsUndisturbed, IsAlone}
-use Rattle.boot_words.specs.kernel_history.proofs.Steps.{phase-own}
-use Rattle.boot_words.specs.kernel_history.proofs.Events.{state_is}
-use Rattle.boot_words.specs.kernel_history.proofs.Inside.{inside_is}
-use Rattle.trace_laws.proofs.Stays.{state_plain}
+use Rattle.boot_words.specs.kernel_history.proofs as low
+use low.{◌≡◌, ◌&&◌, ◌||◌, not, IsTrue, inl, inr, ℕ, Bool, true, false, [], ◌∷◌, Option, Some, None, refl, sym, ◌∙◌, ap, subst}
+use low.{if◌then◌else◌, false≢true, Setting, Call, Value, Reply, Thing, NumberOf, State, comp_of, Judged, Found, IsFoundAnd, MayReply}
+use low.{are_calls_spent, change_of, asks_life, acts, alone, Step, Phase, Out, Decided, phase, after_enter, after_decide, after_return}
+use low.{state_after, state_entered, state_before, is_in, MayEnter, IsLegal, events_of, IsAlone, phase-own, state_is, inside_is}
+use Rattle.found_stays.specs.kernel_rules.specs.{Refused, is_dead_in, lives, outlives, may_act, reply_in, first_reply}
+use Rattle.boot_words.specs.kernel_history.specs.{UnlessEnters, IsUndisturbed}
+use Rattle.found_stays.specs.kernel_rules.proofs.AloneLaw.{AreInside, waits_inside}
+use Rattle.boot_words.specs.kernel_history.specs.Trace.{Trace, Open}
+use Rattle.{std.proofs.lemmas.Bool.cases_eq, trace_laws.proofs.Stays.state_plain}
 
 -- what a call answers alone
 
 -- An `ok` that the call relation permits is the reply to a call made alone.
-pub ok_first : (s : State) (c : ℕ) (call : Call) (v : Value) → MayReply s c call (reply.Ok v) → reply.Ok v ≡ alone s c call
+pub ok_first : (s : State) (c : ℕ) (call : Call) (v : Value) → MayReply s c call (Reply.Ok v) → Reply.Ok v ≡ alone s c call
 ok_first s c call v may =
-    sym (ap (λ b. if b then reply.CallsSpent else first_reply s c call) may.0
-    ∙ ap (λ b. if b then reply_in (change_of s c call) else reply.Dead) may.1.0 ∙ found (change_of s c call) may.1.1)
+    sym (ap (λ b. if b then Reply.CallsSpent else first_reply s c call) may.0
+    ∙ ap (λ b. if b then reply_in (change_of s c call) else Reply.Dead) may.1.0 ∙ found (change_of s c call) may.1.1)
   where
-    found : (j : Judged Rattle.boot_words.specs.kernel_rules.specs.Rules.Change) → IsFoundAnd j (λ k. k.value ≡ v) → reply_in j ≡ reply.Ok v
+    found : (j : Judged Rattle.boot_words.specs.kernel_rules.specs.Rules.Change) → IsFoundAnd j (λ k. k.value ≡ v) → reply_in j ≡ Reply.Ok v
     found (Refused r) h = absurd h
-    found (Found change) h = ap reply.Ok h
+    found (Found change) h = ap Reply.Ok h
 
 -- And so is `calls-spent`, and the refusal of a call's rule where the calls are not spent and the core may make the call.
-pub spent_first : (s : State) (c : ℕ) (call : Call) → are_calls_spent s c ≡ true → reply.CallsSpent ≡ alone s c call
-spent_first s c call is = sym (ap (λ b. if b then reply.CallsSpent else first_reply s c call) is)
+pub spent_first : (s : State) (c : ℕ) (call : Call) → are_calls_spent s c ≡ true → Reply.CallsSpent ≡ alone s c call
+spent_first s c call is = sym (ap (λ b. if b then Reply.CallsSpent else first_reply s c call) is)
 
 pub refused_first : (s : State) (c : ℕ) (call : Call) (r : Reply)
     → IsTrue (acts s c call) → are_calls_spent s c ≡ false → change_of s c call ≡ Refused r → r ≡ alone s c call
 refused_first s c call r may unspent is =
-    sym (ap (λ b. if b then reply.CallsSpent else first_reply s c call) unspent
-    ∙ ap (λ b. if b then reply_in (change_of s c call) else reply.Dead) may ∙ ap reply_in is)
+    sym (ap (λ b. if b then Reply.CallsSpent else first_reply s c call) unspent
+    ∙ ap (λ b. if b then reply_in (change_of s c call) else Reply.Dead) may ∙ ap reply_in is)
 
 -- And so is `dead`, where the call asks that its core may act, the core's component does not live, and the core waits in no grace period.
 pub dead_first : (s : State) (c : ℕ) (call : Call) → are_calls_spent s c ≡ false → IsTrue (asks_life call) → lives s c ≡ false
-    → ((x : Thing) → (s.grace x).waits c ≡ false) → reply.Dead ≡ alone s c call
+    → ((x : Thing) → (s.grace x).waits c ≡ false) → Reply.Dead ≡ alone s c call
 dead_first s c call unspent asks dead waits =
-    sym (ap (λ b. if b then reply.CallsSpent else first_reply s c call) unspent
-    ∙ ap (λ b. if b then reply_in (change_of s c call) else reply.Dead) may_not)
+    sym (ap (λ b. if b then Reply.CallsSpent else first_reply s c call) unspent
+    ∙ ap (λ b. if b then reply_in (change_of s c call) else Reply.Dead) may_not)
   where
     none : (b : Bool) → (b && false) ≡ false
     none true = refl

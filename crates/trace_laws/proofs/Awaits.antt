@@ -1,26 +1,15 @@
 -- A grace period that stands waits for flushes exactly where its thing needs them now.
-use Rattle.std.proofs.Common.{◌≡◌, ◌⊎◌, inl, inr, ℕ, ◌<◌, arith, Bool, true, false, refl}
-use Rattle.std.proofs.Common.{sym, ◌∙◌, ap, subst, IsTrue, [], ◌∷◌, Option, Some, None}
-use Rattle.std.proofs.lemmas.Bool.{false≢true}
-use Rattle.boot_words.specs.spk_nums.specs.Setting.{Setting, IsSetting}
-use Rattle.boot_words.specs.spk_nums.specs.declared.calls.Call.{Call}
-use Rattle.boot_words.specs.spk_nums.specs.declared.replies.Reply.{Reply}
-use Rattle.boot_words.specs.kernel_rules.specs.State.{Thing, PlaceOf, FrameOf, State}
-use Rattle.boot_words.specs.kernel_rules.specs.GracePeriods.{is_paging, is_translated, needs_flush}
-use Rattle.boot_words.specs.kernel_rules.specs.CallRelation.{MayReply}
-use Rattle.boot_words.specs.kernel_rules.specs.Relies.{is_node}
-use Rattle.found_stays.specs.kernel_invariant.proofs.SoundRuns.{opened}
-use Rattle.found_stays.specs.kernel_invariant.proofs.SoundCalls.{IsOpen}
-use Rattle.found_stays.specs.kernel_invariant.proofs.FrameTurns.{is_typed, TurnsIn, decided_turns}
-use Rattle.found_stays.specs.kernel_invariant.proofs.Releases.{begins_typed, ends_begins}
-use Rattle.boot_words.specs.kernel_history.specs.Trace.{Step, Trace, Phase, Out, Open, Decided, phase, after_enter, state_after}
-use Rattle.boot_words.specs.kernel_history.specs.Trace.{state_entered, state_decided, state_returned, state_before}
-use Rattle.boot_words.specs.kernel_history.specs.Stamps.{begins_in, ends_in, begins_at, ends_at, stamp, awaits_flushes}
-use Rattle.boot_words.specs.kernel_history.specs.Legal.{MayDecide, MayFollow, IsLegal}
-use Rattle.boot_words.specs.kernel_history.proofs.Steps.{stamp-ends, stamp-kept, awaits-begins, awaits-kept}
-use Rattle.boot_words.specs.kernel_history.proofs.Events.{entered_events}
-use Rattle.trace_laws.proofs.Opens.{opens, open_inj}
-use Rattle.trace_laws.proofs.GraceSteps.{cases_bool}
+use Rattle.boot_words.specs.kernel_history.proofs as low
+use low.{◌≡◌, ◌⊎◌, inl, inr, ℕ, ◌<◌, arith, Bool, true, false, refl, sym, ◌∙◌, ap, subst, IsTrue, [], ◌∷◌, Option, Some, None, false≢true}
+use low.{Setting, IsSetting, Call, Reply, Thing, PlaceOf, FrameOf, State, is_paging, MayReply, is_node, Step, Phase, Out, Decided, phase}
+use low.{after_enter, state_after, state_entered, state_decided, state_returned, state_before, begins_in, ends_in, begins_at, ends_at}
+use low.{stamp, awaits_flushes, MayDecide, MayFollow, IsLegal, stamp-ends, stamp-kept, entered_events}
+use Rattle.found_stays.specs.kernel_invariant.proofs.{opened, IsOpen, is_typed, TurnsIn, decided_turns, begins_typed}
+use Rattle.found_stays.specs.kernel_rules.specs.{is_translated, needs_flush}
+use Rattle.found_stays.specs.kernel_invariant.proofs.Releases.{ends_begins}
+use Rattle.boot_words.specs.kernel_history.specs.Trace.{Trace, Open}
+use low.Steps.{awaits-begins, awaits-kept}
+use Rattle.trace_laws.proofs.{Opens.opens, Opens.open_inj, GraceSteps.cases_bool}
 
 -- What holds of the things of a frame f whose grace periods stand: a place of a node waits for flushes where the node is of page
 -- tables; a frame is something, and waits for flushes where it may be reached through translations.

@@ -1,23 +1,13 @@
 -- What a call knows of the history it still knows after a step of another core, and after an own step without event.
-use Rattle.std.proofs.Common.{◌≡◌, ◌≢◌, inl, inr, ℕ, ◌<◌, ◌≤◌, ◌==◌, ◌&&◌, Bool, true, false, cond, sym, ◌∙◌, ap, subst, ◌∷◌, None}
-use Rattle.std.specs.Prelude.{IsSome, is_some}
-use Rattle.std.proofs.lemmas.Bool.{true≢false, cases_eq, eq-eqb, ne_eqb}
-use Rattle.boot_words.specs.spk_nums.specs.Setting.{Setting, IsSetting}
-use Rattle.boot_words.specs.spk_nums.specs.declared.calls.Call.{Call}
-use Rattle.boot_words.specs.word_map.specs.Word.{Word}
-use Rattle.boot_words.specs.word_map.specs.Moves.{word_of}
-use Rattle.boot_words.specs.kernel_rules.specs.State.{Thing, PlaceOf, NumberOf, State, Dead}
-use Rattle.boot_words.specs.kernel_history.specs.Trace.{Step, Trace, Open, phase, state_after, state_entered, own_left, IfNot, WasAt}
-use Rattle.boot_words.specs.kernel_history.specs.Trace.{WasBefore}
-use Rattle.boot_words.specs.kernel_history.specs.Stamps.{is_in, stamp, clock}
-use Rattle.boot_words.specs.kernel_history.specs.Justified.{IsRemoved}
-use Rattle.boot_words.specs.kernel_history.specs.Legal.{MayFollow, IsLegal}
-use Rattle.boot_words.specs.kernel_history.proofs.Names.{cases_word}
-use Rattle.boot_words.specs.kernel_history.proofs.Steps.{own_left-here, own_left-there, own_left-other}
-use Rattle.boot_words.specs.kernel_history.proofs.Inside.{inside_is}
-use Rattle.boot_words.specs.kernel_history.specs.Graces.{GraceIs, KeepsTime}
+use Rattle.boot_words.specs.kernel_history.proofs as low
+use low.{◌≡◌, ◌≢◌, inl, inr, ℕ, ◌<◌, ◌≤◌, ◌==◌, ◌&&◌, Bool, true, false, cond, sym, ◌∙◌, ap, subst, ◌∷◌, None, IsSome, is_some, true≢false}
+use low.{eq-eqb, ne_eqb, Setting, IsSetting, Call, Word, word_of, Thing, PlaceOf, NumberOf, State, Dead, Step, phase, state_after}
+use low.{state_entered, own_left, IfNot, WasAt, is_in, stamp, clock, IsRemoved, MayFollow, IsLegal, cases_word, own_left-here, inside_is}
+use Rattle.boot_words.specs.kernel_history.specs.Trace.{Trace, Open, WasBefore}
 use Rattle.trace_laws.proofs.Stays.{Stays, ReliesOn, stays_other, stays_plain}
 use Rattle.trace_laws.proofs.Waiting.{Passed, Flushed, still_past, stamp_rises, passed_on, flushed_on, node_goes_on, number_goes_on}
+use low.{GraceIs, KeepsTime, Steps.own_left-there, Steps.own_left-other}
+use Rattle.{std.proofs.lemmas.Bool.cases_eq}
 
 -- own words
 

@@ -1,10 +1,6 @@
 -- What a step makes of the four sets of one grace period, at one core.
-use Rattle.std.proofs.Common.{◌≡◌, ◌≢◌, ℕ, ◌<◌, ◌≤◌, arith, Bool, true, false, cond, refl, ◌∙◌, ap, Option, Some, None}
-use Rattle.std.proofs.lemmas.Bool.{false≢true}
-use Rattle.boot_words.specs.spk_nums.specs.declared.replies.Reply.{Reply}
-use Rattle.boot_words.specs.kernel_rules.specs.State.{Grace, put}
-use Rattle.boot_words.specs.kernel_rules.specs.GracePeriods.{passed}
-use Rattle.boot_words.specs.kernel_rules.proofs.Within.{put_same, put_other}
+use Rattle.found_stays.specs.kernel_rules.proofs.{◌≡◌, ◌≢◌, ℕ, ◌<◌, ◌≤◌, arith, Bool, true, false, cond, refl, ◌∙◌, ap, Option, Some, None}
+use Rattle.found_stays.specs.kernel_rules.proofs.{false≢true, Reply, Grace, put, passed, put_same, put_other}
 use Rattle.boot_words.specs.kernel_history.specs.Graces.{Fits, FitsFlush}
 
 -- Whether a core is in each of the four sets.

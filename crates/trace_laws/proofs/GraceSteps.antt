@@ -1,30 +1,21 @@
 -- Grace periods go with stamps: after each step that keeps time and leaves by the rule.
-use Rattle.std.proofs.Common.{◌≡◌, ◌≢◌, ◌⊎◌, inl, inr, ℕ, ◌<◌, ◌≤◌, arith, Bool, true, false}
-use Rattle.std.proofs.Common.{cond, refl, sym, ◌∙◌, ap, subst, [], ◌∷◌, Option, Some, None}
-use Rattle.std.proofs.lemmas.Bool.{false≢true, cases_eq}
-use Rattle.boot_words.specs.spk_nums.specs.declared.calls.Call.{Call}
-use Rattle.boot_words.specs.spk_nums.specs.declared.replies.Reply.{Reply}
-use Rattle.boot_words.specs.spk_nums.specs.Setting.{Setting}
-use Rattle.boot_words.specs.word_map.specs.Word.{FlushAt, same_word}
-use Rattle.boot_words.specs.word_map.specs.Moves.{word_of}
-use Rattle.boot_words.specs.kernel_rules.specs.State.{Grace, Thing, State}
-use Rattle.boot_words.specs.kernel_rules.specs.Start.{no_grace}
-use Rattle.boot_words.specs.kernel_rules.specs.GracePeriods.{new_grace, needs_flush, passed}
-use Rattle.boot_words.specs.kernel_rules.specs.CallRelation.{MayReply}
-use Rattle.boot_words.specs.kernel_rules.proofs.Within.{put_same, put_other}
-use Rattle.found_stays.specs.kernel_invariant.proofs.GraceChanges.{flushed_by, grace_is, flush_begins}
-use Rattle.boot_words.specs.kernel_history.specs.Trace.{Step, Trace, Phase, Out, Open, Decided, phase, after_enter, state_after}
-use Rattle.boot_words.specs.kernel_history.specs.Trace.{state_entered, state_decided, state_returned, state_before}
-use Rattle.boot_words.specs.kernel_history.specs.Stamps.{begins_in, ends_in, flushes_in, begins_at, ends_at, flushes_at, stamp}
-use Rattle.boot_words.specs.kernel_history.specs.Stamps.{awaits_flushes, clock, clock_seen, exit_after, exit_of, flush_of, flush_stored}
-use Rattle.boot_words.specs.kernel_history.specs.Legal.{MayDecide, MayFollow}
-use Rattle.boot_words.specs.kernel_history.proofs.Steps.{stamp-begins, stamp-ends, stamp-kept, awaits-begins, awaits-ends, awaits-kept}
-use Rattle.boot_words.specs.kernel_history.proofs.Steps.{exit_of-own}
-use Rattle.boot_words.specs.kernel_history.proofs.Steps.{exit_of-other, flush_of-own, flush_of-other, flush_stored-own, flush_stored-other}
-use Rattle.boot_words.specs.kernel_history.proofs.Inside.{decided-inside, entered-inside, inside-other}
-use Rattle.boot_words.specs.kernel_history.specs.Graces.{GraceIs, TimesAre, KeepsTime, IsLeave, Leaving, LeavesBy}
-use Rattle.trace_laws.proofs.GraceSets.{Sets, sets_of, sets_new, sets_none, sets_flushed, sets_passed, FitsAll, fits_new}
-use Rattle.trace_laws.proofs.GraceSets.{fits_none, fits_kept, fits_flushed, fits_passed, left_of, left_other, passed_own}
+use Rattle.boot_words.specs.kernel_history.proofs.{◌≡◌, ◌≢◌, ◌⊎◌, inl, inr, ℕ, ◌<◌, ◌≤◌, arith, Bool, true, false, cond, refl, sym, ◌∙◌, ap}
+use Rattle.boot_words.specs.kernel_history.proofs.{subst, [], ◌∷◌, Option, Some, None, false≢true, Call, Reply, Setting, FlushAt, same_word}
+use Rattle.boot_words.specs.kernel_history.proofs.{word_of, Grace, Thing, State, new_grace, MayReply, put_same, put_other, Step, Phase, Out}
+use Rattle.boot_words.specs.kernel_history.proofs.{Decided, phase, after_enter, state_after, state_entered, state_decided, state_returned}
+use Rattle.boot_words.specs.kernel_history.proofs.{state_before, begins_in, ends_in, flushes_in, begins_at, ends_at, flushes_at, stamp}
+use Rattle.boot_words.specs.kernel_history.proofs.{awaits_flushes, clock, exit_of, flush_of, flush_stored, MayDecide, MayFollow}
+use Rattle.boot_words.specs.kernel_history.proofs.{stamp-begins, stamp-ends, stamp-kept, exit_of-own, exit_of-other, flush_of-own}
+use Rattle.boot_words.specs.kernel_history.proofs.{flush_of-other, flush_stored-own, flush_stored-other, decided-inside, entered-inside}
+use Rattle.boot_words.specs.kernel_history.proofs.{GraceIs, KeepsTime}
+use Rattle.boot_words.specs.kernel_history.specs.{no_grace, clock_seen, exit_after, IsLeave}
+use Rattle.found_stays.specs.kernel_rules.specs.{needs_flush, passed}
+use Rattle.found_stays.specs.kernel_invariant.proofs.{flushed_by, grace_is}
+use Rattle.boot_words.specs.kernel_history.specs.{Trace.Trace, Trace.Open, Graces.TimesAre, Graces.Leaving, Graces.LeavesBy}
+use Rattle.boot_words.specs.kernel_history.proofs.{Steps.awaits-begins, Steps.awaits-ends, Steps.awaits-kept, Inside.inside-other}
+use Rattle.trace_laws.proofs.GraceSets.{Sets, sets_of, sets_new, sets_none, sets_flushed, sets_passed, FitsAll, fits_new, fits_none}
+use Rattle.trace_laws.proofs.GraceSets.{fits_kept, fits_flushed, fits_passed, left_of, left_other, passed_own}
+use Rattle.{std.proofs.lemmas.Bool.cases_eq, found_stays.specs.kernel_invariant.proofs.GraceChanges.flush_begins}
 
 -- Grace periods go with stamps at the start.
 pub grace_start : (setup : Setting) (x : Thing) → GraceIs setup [] x

@@ -1,10 +1,8 @@
 -- A core that is idle stays so while others step.
-use Rattle.std.proofs.Common.{◌≡◌, ◌≢◌, inl, inr, ℕ, zero, suc, ◌<◌, ◌++◌, List, [], ◌∷◌, sym, ◌∙◌, subst, arith}
+use Rattle.boot_words.specs.kernel_history.proofs.{◌≡◌, ◌≢◌, inl, inr, ℕ, zero, suc, ◌<◌, ◌++◌, List, [], ◌∷◌, sym, ◌∙◌, subst, arith, Call}
+use Rattle.boot_words.specs.kernel_history.proofs.{IsIdle, FollowsCores, phase-other, calls_of-other}
 use Rattle.std.proofs.lemmas.Bool.{cases_eq}
-use Rattle.boot_words.specs.spk_nums.specs.declared.calls.Call.{Call}
-use Rattle.boot_words.specs.kernel_history.specs.Trace.{Trace}
-use Rattle.boot_words.specs.kernel_history.specs.Order.{IsIdle, AreOf, FollowsCores}
-use Rattle.boot_words.specs.kernel_history.proofs.Steps.{phase-other, calls_of-other}
+use Rattle.boot_words.specs.kernel_history.specs.{Trace.Trace, Order.AreOf}
 
 pub idle_stays : (lists : List (List Call)) (s t : Trace) (c d : ℕ) → AreOf d s → c ≢ d → IsIdle lists t c → IsIdle lists (s ++ t) c
 idle_stays lists [] t c d own apart idle = idle

@@ -1,14 +1,10 @@
 -- A core whose call is open at a step is in an open call of a run.
-use Rattle.std.proofs.Common.{◌≡◌, sym, ◌∙◌, ap, subst}
-use Rattle.boot_words.specs.spk_nums.specs.Setting.{Setting, IsSetting}
-use Rattle.boot_words.specs.spk_nums.specs.declared.calls.Call.{Call}
-use Rattle.boot_words.specs.kernel_rules.specs.Runs.{is_open}
-use Rattle.found_stays.specs.kernel_invariant.proofs.SoundRuns.{opened, open_is}
-use Rattle.found_stays.specs.kernel_invariant.proofs.SoundCalls.{IsOpen}
-use Rattle.boot_words.specs.kernel_history.specs.Trace.{Step, Trace, Open, phase, after_enter, state_before}
-use Rattle.boot_words.specs.kernel_history.specs.Legal.{MayFollow, IsLegal}
-use Rattle.boot_words.specs.kernel_history.specs.Events.{plain_phase}
-use Rattle.boot_words.specs.kernel_history.proofs.Events.{entered_events, before_is, entered_phase, entered_run, run_of}
+use Rattle.boot_words.specs.kernel_history.proofs.{◌≡◌, sym, ◌∙◌, ap, subst, Setting, IsSetting, Call, Step, phase, after_enter}
+use Rattle.boot_words.specs.kernel_history.proofs.{state_before, MayFollow, IsLegal, plain_phase, entered_events, before_is, entered_phase}
+use Rattle.boot_words.specs.kernel_history.proofs.{entered_run, run_of}
+use Rattle.found_stays.specs.kernel_invariant.proofs.{opened, open_is, IsOpen}
+use Rattle.found_stays.specs.kernel_rules.specs.Runs.{is_open}
+use Rattle.boot_words.specs.kernel_history.specs.Trace.{Trace, Open}
 
 pub opens : (setup : Setting) → IsSetting setup → (t : Trace) → IsLegal setup t → (e : Step) → MayFollow setup t e → (call : Call)
     → after_enter e.enters (phase t e.core) ≡ Open call → IsOpen (state_before setup t e) (opened (entered_events t e)) e.core

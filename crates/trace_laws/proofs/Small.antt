@@ -1,13 +1,7 @@
 -- Each word has 64 bits, after each legal trace.
-use Rattle.std.proofs.Common.{inl, inr, ℕ, ◌<◌, ◌^◌, [], ◌∷◌, sym, subst}
-use Rattle.boot_words.specs.spk_nums.specs.Setting.{Setting, IsSetting}
-use Rattle.boot_words.specs.word_map.specs.Word.{Word}
-use Rattle.boot_words.specs.word_map.specs.Moves.{word_of}
-use Rattle.boot_words.specs.kernel_history.specs.Trace.{Trace, last_left}
-use Rattle.boot_words.specs.kernel_history.specs.Legal.{IsLegal}
-use Rattle.boot_words.specs.kernel_history.proofs.Names.{cases_word}
-use Rattle.boot_words.specs.kernel_history.proofs.Steps.{last_left-here, last_left-there}
-use Rattle.boot_words.proofs.BootRepresents.{boot_small}
+use Rattle.boot_words.specs.kernel_history.proofs.{inl, inr, ℕ, ◌<◌, ◌^◌, [], ◌∷◌, sym, subst, Setting, IsSetting, Word, word_of, last_left}
+use Rattle.boot_words.specs.kernel_history.proofs.{IsLegal, cases_word, last_left-here, last_left-there}
+use Rattle.{boot_words.specs.kernel_history.specs.Trace.Trace, boot_words.proofs.BootRepresents.boot_small}
 
 pub last_small : (setup : Setting) → IsSetting setup → (t : Trace) → IsLegal setup t → (w : Word) → last_left setup t w < 2 ^ 64
 last_small setup lim [] legal w = boot_small setup lim w

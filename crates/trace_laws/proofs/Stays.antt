@@ -1,32 +1,19 @@
 -- What a core in an open call has found and relies on stays through the steps of other cores, and through its own that decide
 -- nothing.
-use Rattle.std.proofs.Common.{◌≡◌, ◌≢◌, ℕ, ◌<◌, true, IsTrue, List, [], ◌∷◌, Option, Some, None, refl, sym, ◌∙◌, ap, subst}
-use Rattle.boot_words.specs.spk_nums.specs.Setting.{Setting, IsSetting}
-use Rattle.boot_words.specs.spk_nums.specs.Capability.{Capability}
-use Rattle.boot_words.specs.spk_nums.specs.declared.calls.Call.{Call}
-use Rattle.boot_words.specs.spk_nums.specs.declared.replies.Reply.{Reply}
-use Rattle.boot_words.specs.kernel_rules.specs.State.{Core, State, comp_of, comp_in, thread_in, first_of_stack}
-use Rattle.boot_words.specs.kernel_rules.specs.GracePeriods.{entered}
-use Rattle.boot_words.specs.kernel_rules.specs.References.{named_by}
-use Rattle.boot_words.specs.kernel_rules.specs.Access.{Slot, Named, Under, usable, reached}
-use Rattle.boot_words.specs.kernel_rules.specs.Fitting.{IsGood}
-use Rattle.boot_words.specs.kernel_rules.specs.Runs.{Event, Enters, Decides, Returns, after, is_open, phase_of, IsRun}
+use Rattle.boot_words.specs.kernel_history.proofs as low
+use low.{◌≡◌, ◌≢◌, ℕ, ◌<◌, true, IsTrue, List, [], ◌∷◌, Option, Some, None, refl, sym, ◌∙◌, ap, subst, Setting, IsSetting, Capability, Call}
+use low.{Reply, Core, State, comp_of, comp_in, thread_in, first_of_stack, named_by, Slot, Named, Under, usable, reached, IsGood, Event}
+use low.{Enters, Decides, Returns, after, phase_of, IsRun, put_same, IsGuarded, Relies, Step, Phase, Out, Decided, phase, after_enter}
+use low.{state_after, state_entered, state_decided, state_returned, is_in, MayFollow, IsLegal, with_entry, with_decision, with_return}
+use low.{events_of, plain_phase, entered_events, decided_events, entry_apart, state_is, phase_is, run_of, entered_run, decided_run}
+use Rattle.found_stays.proofs.{OwnStay, names_node, usable_guarded, table_relies, pages_relies}
+use Rattle.found_stays.specs.kernel_invariant.proofs.{IsSound, opened, runs_sound, usable_good}
+use Rattle.found_stays.proofs.Stays.{Stay, StayIn, stay_in_same, stay_in_then, event_own, event_stay_in, stay_same, stay_then, event_stay}
+use Rattle.{found_stays.specs.kernel_rules.specs.entered, found_stays.specs.kernel_rules.specs.is_open}
+use Rattle.{found_stays.proofs.SparesRuns.inside_of, found_stays.proofs.Stays.usable_relies, found_stays.proofs.Stays.reached_relies}
+use Rattle.{boot_words.specs.kernel_history.specs.Trace.Trace, boot_words.specs.kernel_history.specs.Trace.Open}
+use low.{Events.decision_apart, Events.step_run}
 use Rattle.boot_words.specs.kernel_rules.specs.Runs as plain
-use Rattle.boot_words.specs.kernel_rules.proofs.Within.{put_same}
-use Rattle.found_stays.specs.kernel_invariant.proofs.Sound.{IsSound}
-use Rattle.found_stays.specs.kernel_invariant.proofs.SoundRuns.{opened, runs_sound}
-use Rattle.found_stays.proofs.SparesRuns.{inside_of}
-use Rattle.found_stays.specs.kernel_invariant.proofs.Facts.{usable_good}
-use Rattle.boot_words.specs.kernel_rules.specs.Relies.{IsGuarded, Relies}
-use Rattle.found_stays.proofs.Stays.{Stay, StayIn, OwnStay, stay_in_same, stay_in_then, event_own, event_stay_in, stay_same, stay_then}
-use Rattle.found_stays.proofs.Stays.{event_stay, names_node, usable_guarded, usable_relies, table_relies, pages_relies, reached_relies}
-use Rattle.boot_words.specs.kernel_history.specs.Trace.{Step, Trace, Phase, Out, Open, Decided, phase, after_enter}
-use Rattle.boot_words.specs.kernel_history.specs.Trace.{state_after, state_entered, state_decided, state_returned}
-use Rattle.boot_words.specs.kernel_history.specs.Stamps.{is_in}
-use Rattle.boot_words.specs.kernel_history.specs.Legal.{MayFollow, IsLegal}
-use Rattle.boot_words.specs.kernel_history.specs.Events.{with_entry, with_decision, with_return, events_of, plain_phase}
-use Rattle.boot_words.specs.kernel_history.proofs.Events.{entered_events, decided_events, entry_apart, decision_apart}
-use Rattle.boot_words.specs.kernel_history.proofs.Events.{state_is, phase_is, run_of, entered_run, decided_run, step_run}
 
 -- Core c has and relies on after e what it had and relied on before. Its parts: `core`, `thread` and `comp` (its own fields, its
 -- thread and the component in which it works), `guarded` and `frame` (frames that no other core may retype), `relies` (nodes),

@@ -1,14 +1,7 @@
 -- Steps that keep time: those apart from the clock, loads of the clock, and draws from it.
-use Rattle.std.proofs.Common.{◌≡◌, ◌≢◌, ◌+◌, arith, false, sym, ◌∙◌}
-use Rattle.std.proofs.lemmas.Bool.{false≢true}
-use Rattle.boot_words.specs.spk_nums.specs.Setting.{Setting}
-use Rattle.boot_words.specs.word_map.specs.Word.{ClockAt}
-use Rattle.boot_words.specs.word_map.specs.Moves.{word_of, left_of}
-use Rattle.boot_words.specs.kernel_rules.specs.State.{Thing}
-use Rattle.boot_words.specs.kernel_history.specs.Trace.{Step, Trace}
-use Rattle.boot_words.specs.kernel_history.specs.Stamps.{begins_at, flushes_at, clock}
-use Rattle.boot_words.specs.kernel_history.proofs.Steps.{last_left-here, last_left-there}
-use Rattle.boot_words.specs.kernel_history.specs.Graces.{KeepsTime}
+use Rattle.boot_words.specs.kernel_history.proofs.{◌≡◌, ◌≢◌, ◌+◌, arith, false, sym, ◌∙◌, false≢true, Setting, ClockAt, word_of, left_of}
+use Rattle.boot_words.specs.kernel_history.proofs.{Thing, Step, begins_at, flushes_at, clock, last_left-here, last_left-there, KeepsTime}
+use Rattle.boot_words.specs.kernel_history.specs.Trace.{Trace}
 
 module _ (setup : Setting) (t : Trace) (e : Step) where
   -- a step on another word, at which no grace period begins and no flush is decided

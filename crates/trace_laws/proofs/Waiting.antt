@@ -1,31 +1,18 @@
 -- What one step makes of those who wait and of stamps, and what a scan may conclude.
-use Rattle.std.proofs.Common.{◌≡◌, ◌≢◌, inl, inr, ℕ, ◌<◌, ◌≤◌, arith, Bool, true, false, cond}
-use Rattle.std.proofs.Common.{refl, sym, ◌∙◌, ap, subst, ◌∷◌, Option, Some, None, IsTrue}
-use Rattle.std.proofs.lemmas.Bool.{false≢true, cases_eq}
-use Rattle.boot_words.specs.spk_nums.specs.Setting.{Setting, IsSetting}
-use Rattle.boot_words.specs.spk_nums.specs.declared.calls.Call.{Call}
-use Rattle.boot_words.specs.spk_nums.specs.declared.replies.Reply.{Reply}
-use Rattle.boot_words.specs.word_map.specs.Word.{ClockAt, same_word}
-use Rattle.boot_words.specs.word_map.specs.Moves.{word_of}
-use Rattle.boot_words.specs.kernel_rules.specs.State.{Grace, Thing, PlaceOf, NumberOf, State, put}
-use Rattle.boot_words.specs.kernel_rules.specs.Start.{no_grace}
-use Rattle.boot_words.specs.kernel_rules.specs.CallRelation.{MayReply}
-use Rattle.boot_words.specs.kernel_rules.proofs.Within.{put_same, put_other}
-use Rattle.boot_words.specs.kernel_rules.specs.Relies.{is_node}
-use Rattle.found_stays.specs.kernel_invariant.proofs.Ends.{MayEnd, ends_by_rule}
-use Rattle.boot_words.specs.kernel_history.specs.Trace.{Step, Trace, Phase, Out, Open, Decided, phase, after_enter, state_after}
-use Rattle.boot_words.specs.kernel_history.specs.Trace.{state_entered, state_before}
-use Rattle.boot_words.specs.kernel_history.specs.Stamps.{ends_in, begins_at, ends_at, flushes_at, stamp, awaits_flushes}
-use Rattle.boot_words.specs.kernel_history.specs.Stamps.{clock, clock_seen, exit_of, flush_of, flush_stored}
-use Rattle.found_stays.specs.kernel_invariant.proofs.SoundRuns.{opened}
-use Rattle.boot_words.specs.kernel_history.specs.Legal.{MayDecide, MayFollow, IsLegal}
-use Rattle.boot_words.specs.kernel_history.proofs.Events.{entered_events}
-use Rattle.trace_laws.proofs.Opens.{opens, open_inj}
-use Rattle.boot_words.specs.kernel_history.proofs.Steps.{stamp-begins, stamp-ends, stamp-kept, clock_seen-own, clock_seen-other}
-use Rattle.boot_words.specs.kernel_history.proofs.Inside.{entered-inside}
-use Rattle.boot_words.specs.kernel_history.specs.Graces.{GraceIs, KeepsTime, IsLeave}
-use Rattle.trace_laws.proofs.GraceSets.{left_of, left_other}
+use Rattle.boot_words.specs.kernel_history.proofs.{◌≡◌, ◌≢◌, inl, inr, ℕ, ◌<◌, ◌≤◌, arith, Bool, true, false, cond, refl, sym, ◌∙◌, ap}
+use Rattle.boot_words.specs.kernel_history.proofs.{subst, ◌∷◌, Option, Some, None, IsTrue, false≢true, Setting, IsSetting, Call, Reply}
+use Rattle.boot_words.specs.kernel_history.proofs.{ClockAt, same_word, word_of, Grace, Thing, PlaceOf, NumberOf, State, put, MayReply}
+use Rattle.boot_words.specs.kernel_history.proofs.{put_same, put_other, is_node, Step, Phase, Out, Decided, phase, after_enter, state_after}
+use Rattle.boot_words.specs.kernel_history.proofs.{state_entered, state_before, ends_in, begins_at, ends_at, flushes_at, stamp}
+use Rattle.boot_words.specs.kernel_history.proofs.{awaits_flushes, clock, exit_of, flush_of, flush_stored, MayDecide, MayFollow, IsLegal}
+use Rattle.boot_words.specs.kernel_history.proofs.{entered_events, stamp-begins, stamp-ends, stamp-kept, entered-inside, GraceIs, KeepsTime}
+use Rattle.boot_words.specs.kernel_history.specs.{no_grace, clock_seen, IsLeave}
+use Rattle.found_stays.specs.kernel_invariant.proofs.{MayEnd, ends_by_rule, opened}
 use Rattle.trace_laws.proofs.GraceSteps.{cases_bool, grace_then, grace_now, then_begins, then_ends, then_flushes, then_kept}
+use Rattle.{std.proofs.lemmas.Bool.cases_eq, boot_words.specs.kernel_history.specs.Trace.Trace}
+use Rattle.{boot_words.specs.kernel_history.specs.Trace.Open, boot_words.specs.kernel_history.proofs.Steps.clock_seen-own}
+use Rattle.{boot_words.specs.kernel_history.proofs.Steps.clock_seen-other, trace_laws.proofs.Opens.opens, trace_laws.proofs.Opens.open_inj}
+use Rattle.{trace_laws.proofs.GraceSets.left_of, trace_laws.proofs.GraceSets.left_other}
 
 abbrev pub waits_for : Setting → Trace → Thing → ℕ → Bool
 waits_for setup t x c = ((state_after setup t).grace x).waits c

@@ -1,4 +1,5 @@
 -- What the crates above name through this one.
+pub use Rattle.boot_words
 pub use Rattle.boot_words.specs.spk_nums
 pub use Rattle.boot_words.specs.entry_words
 pub use Rattle.boot_words.specs.frame_words

@@ -1,14 +1,8 @@
 -- What is written of a step by its view is what is written of the step.
-use Rattle.std.proofs.Common.{◌≡◌, refl, ap, ◌∙◌, List, ℕ}
-use Rattle.word_map.specs.Places.{Shape}
-use Rattle.word_map.specs.Moves.{Move, LoadOf, CompareOf, StoreOf, AddOf, op_of}
-use Rattle.kernel_history.specs.Trace.{Step}
-use Rattle.step_views.specs.declared.views.StepMade.{StepMade}
-use Rattle.step_views.specs.declared.views.StepView.{StepView}
-use Rattle.step_views.specs.Views.{IsShown, IsTold}
-use Rattle.trace_lines.specs.Steps.{move_text, written_step, step_text, lines_at, event_lines}
-use Rattle.trace_lines.specs.Traces.{Told, step_told}
-use Rattle.trace_lines.specs.Views.{op_text, view_text, made_lines}
+use Rattle.step_views.specs.kernel_history.proofs.{◌≡◌, refl, ap, ◌∙◌, List, ℕ, Shape, Move, LoadOf, CompareOf, StoreOf, AddOf, op_of, Step}
+use Rattle.trace_lines.specs.{step_text, event_lines, Told, step_told, view_text, made_lines}
+use Rattle.step_views.specs.{IsShown, IsTold, declared.views.StepMade.StepMade, declared.views.StepView.StepView}
+use Rattle.trace_lines.specs.{Steps.move_text, Steps.written_step, Steps.lines_at, Views.op_text}
 
 op_is : (s : Shape) (m : Move) → op_text (op_of s m) ≡ move_text m
 op_is s (LoadOf w) = refl

@@ -1,12 +1,8 @@
 -- A step of a trace as it is written, and the lines of its events.
-use Rattle.std.specs.Prelude.{ℕ, false, ◌==◌, if◌then◌else◌, List, [], ◌∷◌, ◌++◌, Option, Some, None, codes, decimal}
-use Rattle.std.specs.Fmt.{digits}
-use Rattle.spk_nums.specs.Texts.{with_one, with_two, call_text, reply_text}
-use Rattle.spk_nums.specs.declared.calls.Call.{Call}
-use Rattle.spk_nums.specs.declared.replies.Reply.{Reply}
-use Rattle.word_map.specs.Word.{Word, EntryAt, FrameAt, CountAt, CoreAt, FlushAt, LiveAt, ClockAt}
-use Rattle.word_map.specs.Moves.{Move, LoadOf, CompareOf, StoreOf, AddOf, word_of, left_of}
-use Rattle.kernel_history.specs.Trace.{Step}
+use Rattle.step_views.specs.kernel_history.specs.{ℕ, false, ◌==◌, if◌then◌else◌, List, [], ◌∷◌, ◌++◌, Option, Some, None, codes, decimal}
+use Rattle.step_views.specs.kernel_history.specs.{with_one, reply_text, Call, Reply, Word, EntryAt, FrameAt, CountAt, CoreAt, FlushAt}
+use Rattle.step_views.specs.kernel_history.specs.{LiveAt, ClockAt, Move, LoadOf, CompareOf, StoreOf, AddOf, word_of, left_of, Step}
+use Rattle.{std.specs.Fmt.digits, spk_nums.specs.Texts.with_two, spk_nums.specs.Texts.call_text}
 
 -- A value: its hexadecimal digits, without leading zeros.
 abbrev pub value_text : ℕ → List ℕ

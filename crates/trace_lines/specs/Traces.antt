@@ -1,10 +1,8 @@
 -- The text of a trace: the head of its script, then a line for each event, in the order of the trace. In the comment after a line
 -- stands every step since the line before.
-use Rattle.std.specs.Prelude.{ℕ, List, [], ◌∷◌, ◌++◌, codes}
-use Rattle.spk_nums.specs.Setting.{Setting}
-use Rattle.kernel_history.specs.Trace.{Step, Trace}
-use Rattle.script_printer.specs.Printing.{setup_lines}
+use Rattle.step_views.specs.kernel_history.specs.{ℕ, List, [], ◌∷◌, ◌++◌, codes, Setting, Step}
 use Rattle.trace_lines.specs.Steps.{step_text, event_lines}
+use Rattle.{step_views.specs.kernel_history.specs.Trace.Trace, script_printer.specs.Printing.setup_lines}
 
 -- What is written so far, and the text of the steps that no line has told yet.
 pub record Told : Type 0 where

@@ -1,10 +1,7 @@
 -- A step as it is written, by its view.
-use Rattle.std.specs.Prelude.{ℕ, List, codes}
-use Rattle.spk_nums.specs.declared.steps.WordOp.{WordOp}
+use Rattle.step_views.specs.kernel_history.specs.{ℕ, List, codes, WordOp}
 use Rattle.spk_nums.specs.declared.steps.WordOp.TheVariants.{Load, Compare, Store, Add}
-use Rattle.step_views.specs.declared.views.StepMade.{StepMade}
-use Rattle.step_views.specs.declared.views.StepView.{StepView}
-use Rattle.step_views.specs.Names.{named}
+use Rattle.step_views.specs.{declared.views.StepMade.StepMade, declared.views.StepView.StepView, Names.named}
 use Rattle.trace_lines.specs.Steps.{written_step, lines_at}
 
 -- an operation by the place of its word

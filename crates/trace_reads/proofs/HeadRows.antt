@@ -1,34 +1,22 @@
 -- The lines of the head are read as the head of a given history, as they are read in a script.
-use Rattle.std.proofs.Common.{◌≡◌, ℕ, zero, suc, ◌+◌, ◌≤◌, ◌<◌, Bool, true, false, List, [], ◌∷◌, ◌++◌, length}
-use Rattle.std.proofs.Common.{replicate, All, Some, Ok, Err, refl, sym, ap, ◌∙◌, arith}
-use Rattle.std.specs.Prelude.{slice_get, Result, if◌then◌else◌}
-use Rattle.std.specs.Option.{option_and_then}
-use Rattle.std.proofs.lemmas.List.{append-nil, length-replicate}
-use Rattle.std.proofs.lemmas.List.Elements.{All-nil, All-replicate}
-use Rattle.spk_nums.specs.declared.grants.Grant.{Grant}
-use Rattle.spk_nums.specs.declared.steps.Item.{Item}
-use Rattle.spk_nums.specs.Setting.{Setting, IsSetting}
-use Rattle.script_tokens.specs.declared.scanning.Ending.TheVariants.{Whole}
-use Rattle.line_reader.specs.declared.cause.Cause.{Cause}
-use Rattle.line_reader.specs.declared.cause.Cause.TheVariants.{S7}
-use Rattle.line_reader.specs.Causes.{◌>>=◌}
-use Rattle.line_reader.specs.Arguments.{is_word}
-use Rattle.line_reader.specs.Lines.{First_fault, at_line, and_then}
-use Rattle.call_reader.specs.FirstWords.{first_word}
-use Rattle.call_reader.specs.Versions.{most_calls}
-use Rattle.script_reader.specs.Heads.{is_whole}
-use Rattle.script_reader.specs.Readings.{Draft_of, Meaning, no_draft, draft_behind, draft_from}
-use Rattle.script_reader.specs.Readings.{setting_of, meaning_of, meaning_at, BelowCores}
-use Rattle.trace_lines.specs.script_printer.specs.Printing.{setup_lines, list_lines, printed}
-use Rattle.trace_lines.specs.script_printer.specs.Law.{IsCallWithin}
-use Rattle.trace_lines.specs.script_printer.proofs.Spans.{lines_onto, are_lines, rows_from}
-use Rattle.trace_lines.specs.script_printer.proofs.HeadLines.{speck_words, cores_words, frames_words}
-use Rattle.trace_lines.specs.script_printer.proofs.HeadLines.{calls_words, epochs_words}
+use Rattle.marked_laws.specs.kernel_history.specs.kernel_rules.proofs as low
+use low.{◌≡◌, ℕ, zero, suc, ◌+◌, ◌≤◌, ◌<◌, Bool, true, false, List, [], ◌∷◌, ◌++◌, length, replicate, All, Some, Ok, Err, refl, sym, ap}
+use low.{◌∙◌, arith, slice_get, Result, if◌then◌else◌, option_and_then, append-nil, Grant, Item, Setting, IsSetting}
+use Rattle.trace_lines.specs.script_reader.specs.{is_whole, Draft_of, Meaning, no_draft, draft_behind, draft_from, setting_of, meaning_of}
+use Rattle.trace_lines.specs.script_reader.specs.{meaning_at, BelowCores}
+use Rattle.check_run.specs.history_reader.specs.{line_word, History_draft, no_history, line_behind, lines_from}
+use Rattle.trace_lines.specs.script_printer.specs.{setup_lines, list_lines, printed, IsCallWithin}
+use Rattle.trace_lines.specs.line_reader.specs.{◌>>=◌, First_fault, at_line, and_then}
+use Rattle.trace_lines.specs.script_printer.proofs.{are_lines, rows_from}
+use Rattle.std.proofs.{lemmas.List.length-replicate, lemmas.List.Elements.All-nil, lemmas.List.Elements.All-replicate}
+use Rattle.trace_lines.specs.script_tokens.specs.declared.scanning.Ending.TheVariants.{Whole}
+use Rattle.trace_lines.specs.line_reader.specs.{declared.cause.Cause.Cause, declared.cause.Cause.TheVariants.S7, Arguments.is_word}
+use Rattle.trace_lines.specs.call_reader.specs.{FirstWords.first_word, Versions.most_calls}
+use Rattle.trace_lines.specs.script_printer.proofs.Spans.{lines_onto}
+use Rattle.trace_lines.specs.script_printer.proofs.HeadLines.{speck_words, cores_words, frames_words, calls_words, epochs_words}
 use Rattle.trace_lines.specs.script_printer.proofs.ReadingLines.{grants_then, lists_then, script_lines, script_says}
 use Rattle.trace_lines.specs.script_printer.proofs.PrintedLines.{printed_onto, script_are_lines}
-use Rattle.check_run.specs.history_reader.specs.declared.lines.LineWord.TheVariants as known
-use Rattle.check_run.specs.history_reader.specs.Lines.{line_word, is_numbered}
-use Rattle.check_run.specs.history_reader.specs.Inputs.{History_draft, no_history, head_line, line_behind, lines_from}
+use Rattle.check_run.specs.history_reader.specs.{Lines.is_numbered, Inputs.head_line, declared.lines.LineWord.LineWord}
 
 -- the lines of a head
 abbrev pub head_lines : ℕ → Setting → List (List (List ℕ))
@@ -143,7 +131,7 @@ headed_draft d = record { script = d; lines = [] }
 -- each line begins with a word of the head
 abbrev AreHeads : List (List (List ℕ)) → Type 0
 AreHeads [] = Unit {0}
-AreHeads (ws ∷ lines) = (option_and_then line_word (slice_get ws 0) ≡ Some known.Head) × AreHeads lines
+AreHeads (ws ∷ lines) = (option_and_then line_word (slice_get ws 0) ≡ Some LineWord.Head) × AreHeads lines
 
 grants_are_heads : (gs : List Grant) (lines : List (List (List ℕ))) → AreHeads lines → AreHeads (grants_then gs lines)
 unfolding line_word is_word is_numbered first_word
@@ -158,13 +146,13 @@ head_are_heads v s =
 
 -- what a line of the head leads to
 head_behind : (d : Draft_of) (number : ℕ) (ws : List (List ℕ)) (r : Result Draft_of Cause)
-    → option_and_then line_word (slice_get ws 0) ≡ Some known.Head → draft_behind d ws ≡ r
+    → option_and_then line_word (slice_get ws 0) ≡ Some LineWord.Head → draft_behind d ws ≡ r
     → line_behind (headed_draft d) number ws ≡ (r >>= λ more. Ok (headed_draft more))
 unfolding line_behind head_line
 head_behind d number ws r first is = rw (first, is) refl
 
 head_next : (d e : Draft_of) (n : ℕ) (ws : List (List ℕ)) (lines more : List (List (List ℕ))) (r : Result Draft_of Cause)
-    → option_and_then line_word (slice_get ws 0) ≡ Some known.Head → draft_behind d ws ≡ r
+    → option_and_then line_word (slice_get ws 0) ≡ Some LineWord.Head → draft_behind d ws ≡ r
     → ((f : Draft_of) → draft_from f (rows_from (n + 1) lines) ≡ Ok e
     → lines_from (headed_draft f) (rows_from (n + 1) (lines ++ more))
     ≡ lines_from (headed_draft e) (rows_from (n + 1 + length lines) more))

@@ -1,38 +1,21 @@
 -- The text of a trace is read as its marks, and that of a legal trace is found legal.
-use Rattle.std.proofs.Common.{◌≡◌, ℕ, ◌+◌, ◌≤◌, ◌<◌, List, [], ◌∷◌, length, All, Option, Some, None, Ok, Err}
-use Rattle.std.proofs.Common.{refl, sym, ap, subst, ◌∙◌, arith, reverse}
-use Rattle.std.specs.Prelude.{Result}
-use Rattle.std.proofs.lemmas.List.{reverse-append}
+use Rattle.marked_laws.specs as low
+use low.kernel_history.proofs.{◌≡◌, ℕ, ◌+◌, ◌≤◌, ◌<◌, List, [], ◌∷◌, length, All, Option, Some, None, Ok, Err, refl, sym, ap, subst, ◌∙◌}
+use low.kernel_history.proofs.{arith, reverse, Result, reverse-append, Setting, IsSetting, Call, Reply, Step, decisions_of, IsLegal}
+use low.{with_enter, with_decide, with_return, marks_of}
 use Rattle.std.proofs.lemmas.List.Elements.{All-nil, All-cons, All-head, All-tail, All-append}
-use Rattle.spk_nums.specs.Setting.{Setting, IsSetting}
-use Rattle.spk_nums.specs.declared.calls.Call.{Call}
-use Rattle.spk_nums.specs.declared.replies.Reply.{Reply}
-use Rattle.marked_laws.specs.kernel_history.specs.Trace.{Step, Trace, decisions_of}
-use Rattle.marked_laws.specs.kernel_history.specs.Legal.{IsLegal}
-use Rattle.line_reader.specs.Lines.{First_fault}
-use Rattle.script_reader.specs.Readings.{Draft_of}
-use Rattle.trace_lines.specs.script_printer.specs.Law.{IsCallWithin}
-use Rattle.marked_laws.specs.marked_history.specs.declared.marks.Mark.{Mark}
-use Rattle.marked_laws.specs.marked_history.specs.declared.marks.Mark.TheVariants.{Enter, Decide, Return}
-use Rattle.marked_laws.specs.marked_history.specs.declared.marks.Verdict.TheVariants.{Legal}
-use Rattle.marked_laws.specs.marked_history.specs.Verdicts.{AreLegal}
-use Rattle.marked_laws.specs.marked_history.proofs.Verdicts.{one_verdict}
-use Rattle.marked_laws.specs.Marks.{with_enter, with_decide, with_return, marks_of}
-use Rattle.marked_laws.proofs.Marks.{legal_marks}
-use Rattle.trace_lines.specs.Traces.{trace_text}
-use Rattle.check_run.specs.history_reader.specs.Inputs.{History, history_of}
-use Rattle.check_run.specs.Texts.{verdict_text}
-use Rattle.check_run.specs.Checked.{IsJudged}
-use Rattle.reply_reads.specs.Laws.{IsReplyWithin}
-use Rattle.reply_reads.proofs.Texts.{reply_spaced, reply_is_line}
-use Rattle.reply_reads.proofs.Reading.{reply_read}
-use Rattle.reply_reads.proofs.Legal.{decided_within}
+use low.marked_history.specs.{declared.marks.Mark.Mark, declared.marks.Mark.TheVariants.Enter, declared.marks.Mark.TheVariants.Decide}
+use low.marked_history.specs.{declared.marks.Mark.TheVariants.Return, declared.marks.Verdict.TheVariants.Legal, Verdicts.AreLegal}
+use Rattle.reply_reads.proofs.{Texts.reply_spaced, Texts.reply_is_line, Reading.reply_read, Legal.decided_within}
 use Rattle.trace_reads.specs.Texts.{history_told, EntersWithin, DecidesWithin, IsStepWithin}
-use Rattle.trace_reads.specs.Laws.{MarksRead, TracesAreLegal}
-use Rattle.trace_reads.proofs.MarkLines.{MarkReads, enter_reads, decide_reads, return_reads}
-use Rattle.trace_reads.proofs.HeadRows.{IsHeadOf, Headed, headed}
-use Rattle.trace_reads.proofs.Reading.{text_read}
-use Rattle.trace_reads.proofs.Verdicts.{lines_legal}
+use Rattle.trace_reads.proofs.{MarkLines.MarkReads, MarkLines.enter_reads, MarkLines.decide_reads, MarkLines.return_reads}
+use Rattle.trace_reads.proofs.{HeadRows.IsHeadOf, HeadRows.Headed, HeadRows.headed, Reading.text_read, Verdicts.lines_legal}
+use Rattle.{check_run.specs.history_reader.specs.History, check_run.specs.history_reader.specs.history_of}
+use Rattle.{trace_lines.specs.line_reader.specs.Lines.First_fault, trace_lines.specs.script_reader.specs.Readings.Draft_of}
+use Rattle.{trace_lines.specs.script_printer.specs.Law.IsCallWithin, marked_laws.proofs.Marks.legal_marks}
+use Rattle.{trace_lines.specs.Traces.trace_text, check_run.specs.Texts.verdict_text, check_run.specs.Checked.IsJudged}
+use Rattle.{reply_reads.specs.Laws.IsReplyWithin, trace_reads.specs.Laws.MarksRead, trace_reads.specs.Laws.TracesAreLegal}
+use low.{kernel_history.specs.Trace.Trace, marked_history.proofs.Verdicts.one_verdict}
 
 -- ---- marks in range are read
 

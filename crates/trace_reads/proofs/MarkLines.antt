@@ -1,46 +1,27 @@
 -- The line of each mark is its words, and is read as that mark.
-use Rattle.std.proofs.Common.{◌≡◌, ℕ, ◌≤◌, ◌<◌, true, if◌then◌else◌, List, [], ◌∷◌, ◌++◌, length, take, Option, Some, None}
-use Rattle.std.proofs.Common.{Ok, Err, refl, sym, ap, ◌∙◌, arith, append_assoc}
-use Rattle.std.specs.Prelude.{codes, decimal, Result}
-use Rattle.std.specs.Option.{ok_or}
-use Rattle.std.proofs.lemmas.Bool.{and_from}
-use Rattle.std.proofs.lemmas.List.{append-nil, length-append}
-use Rattle.std.proofs.Math.Seq.{take-append_seam}
-use Rattle.spk_nums.specs.Texts.{call_text, with_one, reply_text}
-use Rattle.spk_nums.specs.declared.calls.Call.{Call}
-use Rattle.spk_nums.specs.declared.replies.Reply.{Reply}
-use Rattle.line_reader.specs.declared.cause.Cause.{Cause}
-use Rattle.line_reader.specs.declared.cause.Cause.TheVariants.{S2, S7}
-use Rattle.line_reader.specs.Causes.{◌>>=◌}
-use Rattle.line_reader.specs.Arguments.{is_word, word_at, end_at}
-use Rattle.call_reader.specs.declared.first_words.FirstWord.{FirstWord}
-use Rattle.call_reader.specs.declared.first_words.FirstWord.TheVariants as first
-use Rattle.call_reader.specs.FirstWords.{first_word}
-use Rattle.call_reader.specs.CallLines.{call_line}
-use Rattle.call_reader.specs.OneLine.{verb_in, verb_at}
-use Rattle.script_reader.specs.declared.head.Section.TheVariants as section
-use Rattle.script_reader.specs.declared.head.Head.{Head}
-use Rattle.script_reader.specs.declared.head.Line.{Line}
-use Rattle.script_reader.specs.declared.head.Line.TheVariants as line
-use Rattle.script_reader.specs.Heads.{line_of, line_by, goes_on, may_stand, core_line, order_line, is_whole, no_head}
-use Rattle.script_reader.specs.Readings.{Draft_of}
-use Rattle.trace_lines.specs.script_printer.specs.Printing.{call_line as call_line_text}
-use Rattle.trace_lines.specs.script_printer.specs.Law.{IsCallWithin}
-use Rattle.trace_lines.specs.script_printer.proofs.Spans.{is_text, is_line, line_onto}
-use Rattle.trace_lines.specs.script_printer.proofs.NumberWords.{number_text, core_back}
-use Rattle.trace_lines.specs.script_printer.proofs.CallWords.{call_words, call_onto, call_is_line}
-use Rattle.trace_lines.specs.script_printer.proofs.CallReading.{call_back}
-use Rattle.marked_laws.specs.marked_history.specs.declared.marks.Mark.{Mark}
-use Rattle.marked_laws.specs.marked_history.specs.declared.marks.Mark.TheVariants.{Enter, Decide, Return}
-use Rattle.marked_laws.specs.marked_history.specs.declared.marks.Said.TheVariants.{One}
-use Rattle.marked_laws.specs.marked_history.specs.declared.marks.Line.{Line as Given}
-use Rattle.check_run.specs.history_reader.specs.Replies.{reply_of}
-use Rattle.check_run.specs.history_reader.specs.Lines.{line_word, call_in, enter_line, decide_line, return_line, said_by}
-use Rattle.check_run.specs.history_reader.specs.Inputs.{given_line, line_behind}
-use Rattle.reply_reads.specs.Words.{spaced, reply_words}
-use Rattle.reply_reads.proofs.Texts.{spaced_onto}
-use Rattle.trace_reads.proofs.Told.{mark_text}
-use Rattle.trace_reads.proofs.NotedLines.{line_texts}
+use Rattle.marked_laws.specs as low
+use low.kernel_history.proofs.{◌≡◌, ℕ, ◌≤◌, ◌<◌, true, if◌then◌else◌, List, [], ◌∷◌, ◌++◌, length, take, Option, Some, None, Ok, Err, refl}
+use low.kernel_history.proofs.{sym, ap, ◌∙◌, arith, append_assoc, codes, Result, and_from, append-nil, length-append, Call, Reply}
+use Rattle.trace_lines.specs.script_reader.specs.{line_of, line_by, may_stand, core_line, order_line, is_whole, no_head, Draft_of}
+use low.kernel_history.specs.kernel_rules.specs.{decimal, ok_or, call_text, with_one, reply_text}
+use Rattle.check_run.specs.history_reader.specs.{reply_of, line_word, line_behind}
+use Rattle.trace_lines.specs.script_printer.proofs.{is_text, is_line, line_onto}
+use Rattle.trace_lines.specs.line_reader.specs.{declared.cause.Cause.Cause, declared.cause.Cause.TheVariants.S2}
+use Rattle.trace_lines.specs.line_reader.specs.{declared.cause.Cause.TheVariants.S7, Causes.◌>>=◌, Arguments.is_word, Arguments.word_at}
+use Rattle.trace_lines.specs.call_reader.specs.{declared.first_words.FirstWord.FirstWord, FirstWords.first_word, CallLines.call_line}
+use Rattle.trace_lines.specs.script_reader.specs.{declared.head.Head.Head, declared.head.Line.Line, Heads.goes_on}
+use Rattle.trace_lines.specs.script_printer.proofs.{NumberWords.number_text, NumberWords.core_back, CallWords.call_words}
+use Rattle.trace_lines.specs.script_printer.proofs.{CallWords.call_onto, CallWords.call_is_line, CallReading.call_back}
+use low.marked_history.specs.{declared.marks.Mark.Mark, declared.marks.Mark.TheVariants.Enter, declared.marks.Mark.TheVariants.Decide}
+use low.marked_history.specs.{declared.marks.Mark.TheVariants.Return, declared.marks.Said.TheVariants.One}
+use Rattle.check_run.specs.history_reader.specs.Lines.{call_in, enter_line, decide_line, return_line, said_by}
+use Rattle.{reply_reads.specs.spaced, reply_reads.specs.reply_words, trace_lines.specs.script_printer.specs.call_line as call_line_text}
+use Rattle.{trace_lines.specs.script_printer.specs.IsCallWithin, std.proofs.Math.Seq.take-append_seam}
+use Rattle.{trace_lines.specs.line_reader.specs.Arguments.end_at, trace_lines.specs.call_reader.specs.OneLine.verb_in}
+use Rattle.{trace_lines.specs.call_reader.specs.OneLine.verb_at, trace_lines.specs.script_reader.specs.declared.head.Section.Section}
+use Rattle.{check_run.specs.history_reader.specs.Inputs.given_line, reply_reads.proofs.Texts.spaced_onto, trace_reads.proofs.Told.mark_text}
+use Rattle.{trace_reads.proofs.NotedLines.line_texts}
+use low.{marked_history.specs.declared.marks.Line.Line as Given}
 
 -- ---- the text of a call is its words
 
@@ -60,41 +41,41 @@ call_spaced v c within =
 
 -- ---- its words are read as the call
 
-no_head_line : (r : Result Head Cause) (c : Call) → goes_on r ≡ Ok (line.Call c) → ⊥
+no_head_line : (r : Result Head Cause) (c : Call) → goes_on r ≡ Ok (Line.Call c) → ⊥
 no_head_line (Ok h) c e = cc
 no_head_line (Err x) c e = cc
 
 -- the call of a line that says one
 abbrev call_said : Call → Result Line Cause → Call
-call_said other (Ok (line.Call c)) = c
-call_said other (Ok (line.Head h)) = other
+call_said other (Ok (Line.Call c)) = c
+call_said other (Ok (Line.Head h)) = other
 call_said other (Err x) = other
 
-call_line_is : (r : Result Call Cause) (c : Call) → (r >>= λ call. Ok (line.Call call)) ≡ Ok (line.Call c) → r ≡ Ok c
+call_line_is : (r : Result Call Cause) (c : Call) → (r >>= λ call. Ok (Line.Call call)) ≡ Ok (Line.Call c) → r ≡ Ok c
 call_line_is (Ok x) c e = ap Ok (ap (call_said c) e)
 call_line_is (Err x) c e = absurd cc
 
 -- the head of a script of this version, in the list of a core
 abbrev listing : ℕ → Head
-listing v = record no_head { section = section.List; version = v }
+listing v = record no_head { section = Section.List; version = v }
 
 -- a line that says a call has a word of a call, and that call's arguments
 by_first : (v : ℕ) (words : List (List ℕ)) (c : Call) (o : Option FirstWord)
-    → (ok_or o S2 >>= λ word. if may_stand section.List word then line_by (listing v) words word else Err S7) ≡ Ok (line.Call c)
+    → (ok_or o S2 >>= λ word. if may_stand Section.List word then line_by (listing v) words word else Err S7) ≡ Ok (Line.Call c)
     → (verb_in o >>= λ verb. call_line v words verb) ≡ Ok c
 unfolding line_by
 by_first v words c None e = absurd cc
-by_first v words c (Some first.Speck) e = absurd cc
-by_first v words c (Some first.Cores) e = absurd cc
-by_first v words c (Some first.Frames) e = absurd cc
-by_first v words c (Some first.Grant) e = absurd cc
-by_first v words c (Some first.Calls) e = absurd cc
-by_first v words c (Some first.Epochs) e = absurd cc
-by_first v words c (Some first.Core) e = absurd (no_head_line (core_line (listing v) words) c e)
-by_first v words c (Some first.Order) e = absurd (no_head_line (order_line (listing v) words) c e)
-by_first v words c (Some (first.Call verb)) e = call_line_is (call_line v words verb) c e
+by_first v words c (Some FirstWord.Speck) e = absurd cc
+by_first v words c (Some FirstWord.Cores) e = absurd cc
+by_first v words c (Some FirstWord.Frames) e = absurd cc
+by_first v words c (Some FirstWord.Grant) e = absurd cc
+by_first v words c (Some FirstWord.Calls) e = absurd cc
+by_first v words c (Some FirstWord.Epochs) e = absurd cc
+by_first v words c (Some FirstWord.Core) e = absurd (no_head_line (core_line (listing v) words) c e)
+by_first v words c (Some FirstWord.Order) e = absurd (no_head_line (order_line (listing v) words) c e)
+by_first v words c (Some (FirstWord.Call verb)) e = call_line_is (call_line v words verb) c e
 
-from_line : (v : ℕ) (words : List (List ℕ)) (c : Call) → line_of (listing v) words ≡ Ok (line.Call c) → call_in v words ≡ Ok c
+from_line : (v : ℕ) (words : List (List ℕ)) (c : Call) → line_of (listing v) words ≡ Ok (Line.Call c) → call_in v words ≡ Ok c
 unfolding line_of call_in verb_at word_at
 from_line v [] c e = absurd cc
 from_line v (w ∷ ws) c e = by_first v (w ∷ ws) c (first_word v w) e

@@ -1,20 +1,16 @@
 -- Lines with comments: their words are those before the comments, each where it was written.
-use Rattle.std.proofs.Common.{◌≡◌, ℕ, suc, ◌+◌, ◌-◌, ◌≤◌, Bool, true, false, cond, eqb, leb, List, [], ◌∷◌, ◌++◌}
-use Rattle.std.proofs.Common.{length, take, drop, map, Option, None, refl, sym, ap, subst, ◌∙◌, arith, append_assoc, inl, inr}
-use Rattle.std.specs.Prelude.{◌&&◌, not, count_by, codes, slice_get, slice_range}
-use Rattle.std.proofs.lemmas.Bool.{cases_Bool, eqb-true, eq-eqb, ne_eqb, le-ltb, leb-true, le-leb}
-use Rattle.std.proofs.lemmas.List.{drop-drop, length-append}
-use Rattle.std.proofs.lemmas.List.Sums.{sum_by-cons}
-use Rattle.std.proofs.Math.Seq.{take-append_seam, drop-append_seam}
-use Rattle.script_tokens.specs.declared.scanning.Ending.TheVariants.{Whole}
-use Rattle.script_tokens.specs.Bytes.{is_feed, is_hash, is_word_byte, is_allowed}
-use Rattle.script_tokens.specs.Words.{Span, Word, joined, spans, first_fault, word_at, words_of, line_count}
-use Rattle.script_tokens.specs.Words.{ending_from, ending_of, before_fault}
-use Rattle.script_tokens.proofs.Steps.{RisesFrom, RisesFrom-weaker, spans_rise}
-use Rattle.line_reader.specs.Lines.{Row, with_word, rows_of}
-use Rattle.trace_lines.specs.script_printer.proofs.Spans.{are_word_bytes, is_text, are_texts, is_line, rows_from, both_left, both_right}
-use Rattle.trace_lines.specs.Traces.{line_end}
+use Rattle.std.proofs.Common.{◌≡◌, ℕ, suc, ◌+◌, ◌-◌, ◌≤◌, Bool, true, false, cond, eqb, leb, List, [], ◌∷◌, ◌++◌, length, take, drop, map}
+use Rattle.std.proofs.Common.{Option, None, refl, sym, ap, subst, ◌∙◌, arith, append_assoc, inl, inr, ◌&&◌, not, count_by, codes, slice_get}
+use Rattle.std.proofs.Common.{slice_range, eqb-true, eq-eqb, ne_eqb, le-ltb, leb-true, le-leb, drop-drop, length-append}
+use Rattle.trace_lines.specs.script_tokens.specs.{is_feed, is_hash, is_word_byte, is_allowed, Span, Word, joined, spans, first_fault}
+use Rattle.trace_lines.specs.script_tokens.specs.{word_at, words_of, line_count, ending_from, ending_of, before_fault}
+use Rattle.trace_lines.specs.script_printer.proofs.{is_text, is_line, rows_from, both_left, both_right}
+use Rattle.trace_lines.specs.line_reader.specs.{Row, with_word, rows_of}
+use Rattle.std.proofs.{lemmas.Bool.cases_Bool, lemmas.List.Sums.sum_by-cons, Math.Seq.take-append_seam, Math.Seq.drop-append_seam}
+use Rattle.trace_lines.specs.script_tokens.proofs.Steps.{RisesFrom, RisesFrom-weaker, spans_rise}
+use Rattle.trace_lines.specs.script_printer.proofs.Spans.{are_word_bytes, are_texts}
 use Rattle.trace_reads.proofs.Printed.{is_printed, are_printed}
+use Rattle.{trace_lines.specs.script_tokens.specs.declared.scanning.Ending.TheVariants.Whole, trace_lines.specs.Traces.line_end}
 
 -- a line: its words, and what the comment after them tells; where that is nothing, there is none
 pub record Noted : Type 0 where

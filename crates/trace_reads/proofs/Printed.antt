@@ -1,16 +1,13 @@
 -- What the comments of a trace tell: each byte of a step is a printed character or a space, so that no line ends in a comment.
-use Rattle.std.proofs.Common.{◌≡◌, ℕ, zero, suc, ◌+◌, ◌%◌, ◌/◌, ◌<◌, ◌≤◌, Bool, true, false, cond, leb, ltb}
-use Rattle.std.proofs.Common.{List, [], ◌∷◌, ◌++◌, refl, arith}
-use Rattle.std.specs.Prelude.{◌&&◌, codes, decimal, ◌==◌}
+use Rattle.marked_laws.specs.kernel_history.proofs.{◌≡◌, ℕ, zero, suc, ◌+◌, ◌%◌, ◌/◌, ◌<◌, ◌≤◌, Bool, true, false, cond, leb, ltb, List, []}
+use Rattle.marked_laws.specs.kernel_history.proofs.{◌∷◌, ◌++◌, refl, arith, ◌&&◌, codes, ◌==◌, and_from, le-leb, Word, EntryAt, FrameAt}
+use Rattle.marked_laws.specs.kernel_history.proofs.{CountAt, CoreAt, FlushAt, LiveAt, ClockAt, Move, LoadOf, CompareOf, StoreOf, AddOf}
+use Rattle.marked_laws.specs.kernel_history.proofs.{word_of, left_of, Step}
+use Rattle.marked_laws.specs.kernel_history.specs.{decimal, with_one}
+use Rattle.trace_lines.specs.script_printer.proofs.{both_left, both_right}
 use Rattle.std.specs.Fmt.{digits, digits_onto, digit_glyph}
-use Rattle.std.proofs.Math.Nat.{mod-lt}
-use Rattle.std.proofs.lemmas.Bool.{and_from, le-leb}
-use Rattle.spk_nums.specs.Texts.{with_one, with_two}
-use Rattle.trace_lines.specs.script_printer.proofs.Spans.{both_left, both_right}
-use Rattle.marked_laws.specs.kernel_history.specs.word_map.specs.Word.{Word, EntryAt, FrameAt, CountAt, CoreAt, FlushAt, LiveAt, ClockAt}
-use Rattle.marked_laws.specs.kernel_history.specs.word_map.specs.Moves.{Move, LoadOf, CompareOf, StoreOf, AddOf, word_of, left_of}
-use Rattle.marked_laws.specs.kernel_history.specs.Trace.{Step}
 use Rattle.trace_lines.specs.Steps.{value_text, word_text, move_text, left_text, step_text}
+use Rattle.{std.proofs.Math.Nat.mod-lt, marked_laws.specs.spk_nums.specs.Texts.with_two}
 
 -- a printed character, or a space
 abbrev pub is_printed : ℕ → Bool

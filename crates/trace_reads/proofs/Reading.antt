@@ -1,30 +1,22 @@
 -- The text of a trace is read as the given history of its marks.
-use Rattle.std.proofs.Common.{◌≡◌, ℕ, ◌+◌, ◌≤◌, true, List, [], ◌∷◌, ◌++◌, length, map, All, Ok}
-use Rattle.std.proofs.Common.{refl, sym, ap, subst, ◌∙◌, arith, append_assoc, reverse}
-use Rattle.std.specs.Prelude.{Result}
-use Rattle.std.proofs.lemmas.Bool.{and_from}
-use Rattle.std.proofs.lemmas.List.{append-nil, map-append}
-use Rattle.std.proofs.lemmas.List.Elements.{All-head, All-tail}
-use Rattle.spk_nums.specs.Setting.{Setting, IsSetting}
-use Rattle.marked_laws.specs.kernel_history.specs.Trace.{Trace}
-use Rattle.script_tokens.specs.Words.{line_count, words_of, ending_of}
-use Rattle.line_reader.specs.Lines.{rows_of, and_then, First_fault}
-use Rattle.script_reader.specs.Readings.{Draft_of, no_draft, draft_from, Meaning}
-use Rattle.trace_lines.specs.script_printer.specs.Printing.{setup_lines}
-use Rattle.trace_lines.specs.script_printer.proofs.Spans.{are_lines, line_onto, lines_onto, rows_from, both_left, both_right}
-use Rattle.marked_laws.specs.marked_history.specs.declared.marks.Mark.{Mark}
-use Rattle.marked_laws.specs.marked_history.specs.declared.marks.Said.TheVariants.{One}
-use Rattle.marked_laws.specs.marked_history.specs.declared.marks.Line.{Line}
-use Rattle.marked_laws.specs.Marks.{marks_of}
-use Rattle.trace_lines.specs.Traces.{Told, line_end, trace_text}
-use Rattle.check_run.specs.history_reader.specs.Inputs.{History, History_draft, no_history, lines_from, history_at, history_of}
-use Rattle.trace_reads.specs.Texts.{mark_lines, history_told}
-use Rattle.reply_reads.specs.Words.{spaced}
+use Rattle.marked_laws.specs.kernel_history.proofs.{◌≡◌, ℕ, ◌+◌, ◌≤◌, true, List, [], ◌∷◌, ◌++◌, length, map, All, Ok, refl, sym, ap, subst}
+use Rattle.marked_laws.specs.kernel_history.proofs.{◌∙◌, arith, append_assoc, reverse, Result, and_from, append-nil, map-append, Setting}
+use Rattle.check_run.specs.history_reader.specs.{History, History_draft, no_history, lines_from, history_of}
+use Rattle.trace_lines.specs.script_printer.proofs.{are_lines, line_onto, rows_from, both_left, both_right}
+use Rattle.trace_lines.specs.script_reader.specs.{Draft_of, no_draft, draft_from, Meaning}
+use Rattle.trace_lines.specs.{Told, line_end, trace_text}
+use Rattle.trace_lines.specs.line_reader.specs.{rows_of, and_then, First_fault}
+use Rattle.trace_lines.specs.script_tokens.specs.{line_count, words_of, ending_of}
+use Rattle.marked_laws.specs.marked_history.specs.{declared.marks.Mark.Mark, declared.marks.Said.TheVariants.One, declared.marks.Line.Line}
 use Rattle.trace_reads.proofs.NotedLines.{Noted, words_onto, noted_onto, are_noted, words_in, IsScanned, noted_scanned}
-use Rattle.trace_reads.proofs.Told.{Marked, mark_text, marked_text, marks_in, notes_of, notes_marks}
-use Rattle.trace_reads.proofs.Told.{notes_printed, notes_are_printed, told_is}
-use Rattle.trace_reads.proofs.MarkLines.{mark_words, MarkReads}
+use Rattle.trace_reads.proofs.Told.{Marked, mark_text, marked_text, marks_in, notes_of, notes_marks, notes_printed, notes_are_printed}
 use Rattle.trace_reads.proofs.HeadRows.{head_lines, head_onto, head_length, head_are_lines, IsHeadOf, headed_draft, head_rows}
+use Rattle.{marked_laws.specs.kernel_history.proofs.IsSetting, std.proofs.lemmas.List.Elements.All-head}
+use Rattle.{std.proofs.lemmas.List.Elements.All-tail, marked_laws.specs.kernel_history.specs.Trace.Trace}
+use Rattle.{trace_lines.specs.script_printer.specs.Printing.setup_lines, trace_lines.specs.script_printer.proofs.Spans.lines_onto}
+use Rattle.{marked_laws.specs.Marks.marks_of, check_run.specs.history_reader.specs.Inputs.history_at, reply_reads.specs.Words.spaced}
+use Rattle.{trace_reads.specs.Texts.mark_lines, trace_reads.specs.Texts.history_told, trace_reads.proofs.Told.told_is}
+use Rattle.{trace_reads.proofs.MarkLines.mark_words, trace_reads.proofs.MarkLines.MarkReads}
 
 -- ---- lines with their words
 

@@ -1,20 +1,15 @@
 -- The text of a trace is the lines of its marks, and in the comment after the first of a step stand the steps since the line before.
-use Rattle.std.proofs.Common.{◌≡◌, ℕ, Bool, true, List, [], ◌∷◌, ◌++◌, map, Option, None, Some}
-use Rattle.std.proofs.Common.{refl, sym, ap, ◌∙◌, append_assoc, reverse}
-use Rattle.std.specs.Prelude.{◌&&◌, codes}
-use Rattle.std.proofs.lemmas.Bool.{and_from}
-use Rattle.std.proofs.lemmas.List.{append-nil, map-append, reverse-append}
-use Rattle.spk_nums.specs.Texts.{with_one, call_text, reply_text}
-use Rattle.spk_nums.specs.declared.calls.Call.{Call}
-use Rattle.spk_nums.specs.declared.replies.Reply.{Reply}
-use Rattle.marked_laws.specs.kernel_history.specs.Trace.{Step, Trace}
-use Rattle.marked_laws.specs.marked_history.specs.declared.marks.Mark.{Mark}
+use Rattle.marked_laws.specs.kernel_history.proofs.{◌≡◌, ℕ, Bool, true, List, [], ◌∷◌, ◌++◌, map, Option, None, Some, refl, sym, ap, ◌∙◌}
+use Rattle.marked_laws.specs.kernel_history.proofs.{append_assoc, reverse, ◌&&◌, codes, and_from, append-nil, map-append, reverse-append}
+use Rattle.marked_laws.specs.kernel_history.proofs.{Call, Reply, Step}
+use Rattle.trace_lines.specs.{step_text, event_lines, Told, line_end, step_told, told}
+use Rattle.marked_laws.specs.{with_enter, with_decide, with_return, marks_of}
+use Rattle.marked_laws.specs.kernel_history.specs.kernel_rules.specs.{with_one, call_text, reply_text}
+use Rattle.trace_lines.specs.script_printer.proofs.{both_left, both_right}
 use Rattle.marked_laws.specs.marked_history.specs.declared.marks.Mark.TheVariants.{Enter, Decide, Return}
-use Rattle.marked_laws.specs.Marks.{with_enter, with_decide, with_return, marks_of}
-use Rattle.trace_lines.specs.script_printer.proofs.Spans.{both_left, both_right}
-use Rattle.trace_lines.specs.Steps.{step_text, enter_line, decide_line, return_line, event_lines}
-use Rattle.trace_lines.specs.Traces.{Told, line_end, lines_told, step_told, told}
+use Rattle.trace_lines.specs.{Steps.enter_line, Steps.decide_line, Steps.return_line, Traces.lines_told}
 use Rattle.trace_reads.proofs.Printed.{are_printed, printed_append, step_printed}
+use Rattle.{marked_laws.specs.kernel_history.specs.Trace.Trace, marked_laws.specs.marked_history.specs.declared.marks.Mark.Mark}
 
 -- what is written of a mark
 abbrev pub mark_text : Mark → List ℕ

@@ -1,12 +1,8 @@
 -- Lines that are marks of a history, one a line, are legal.
-use Rattle.std.proofs.Common.{◌≡◌, ℕ, suc, ◌+◌, List, [], ◌∷◌, ◌++◌, length, reverse, refl, sym, ap, subst, ◌∙◌, arith}
-use Rattle.std.proofs.lemmas.List.{reverse-append, length-reverse}
-use Rattle.spk_nums.specs.Setting.{Setting}
-use Rattle.marked_laws.specs.marked_history.specs.declared.marks.Mark.{Mark}
-use Rattle.marked_laws.specs.marked_history.specs.declared.marks.Said.TheVariants.{One}
-use Rattle.marked_laws.specs.marked_history.specs.declared.marks.Line.{Line}
-use Rattle.marked_laws.specs.marked_history.specs.Histories.{IsHistory, MayFollow}
-use Rattle.marked_laws.specs.marked_history.specs.Verdicts.{marks_of, decisions, AreHistory, AreLegal}
+use Rattle.marked_laws.specs.kernel_history.specs.kernel_rules.proofs.{◌≡◌, ℕ, suc, ◌+◌, List, [], ◌∷◌, ◌++◌, length, reverse, refl, sym}
+use Rattle.marked_laws.specs.kernel_history.specs.kernel_rules.proofs.{ap, subst, ◌∙◌, arith, reverse-append, length-reverse, Setting}
+use Rattle.marked_laws.specs.marked_history.specs.{IsHistory, MayFollow, marks_of, decisions, AreHistory, AreLegal}
+use Rattle.marked_laws.specs.marked_history.specs.{declared.marks.Mark.Mark, declared.marks.Said.TheVariants.One, declared.marks.Line.Line}
 use Rattle.trace_reads.specs.Texts.{mark_lines}
 
 -- a mark as the line of a number

@@ -1,15 +1,10 @@
 -- That the text of a trace is read back, and found legal.
-use Rattle.std.specs.Prelude.{◌≡◌, ℕ, All, List, length, Ok}
-use Rattle.spk_nums.specs.Setting.{Setting}
-use Rattle.marked_laws.specs.kernel_history.specs.Trace.{Step, Trace, decisions_of}
-use Rattle.marked_laws.specs.kernel_history.specs.Legal.{IsLegal}
-use Rattle.marked_laws.specs.marked_history.specs.declared.marks.Verdict.TheVariants.{Legal}
-use Rattle.marked_laws.specs.marked_history.specs.Verdicts.{IsVerdict}
-use Rattle.trace_lines.specs.Traces.{trace_text}
-use Rattle.check_run.specs.history_reader.specs.Inputs.{history_of}
-use Rattle.check_run.specs.Texts.{verdict_text}
-use Rattle.check_run.specs.Checked.{IsChecked}
+use Rattle.marked_laws.specs.kernel_history.specs.{◌≡◌, ℕ, All, List, length, Ok, Setting, Step, decisions_of, IsLegal}
+use Rattle.marked_laws.specs.marked_history.specs.{declared.marks.Verdict.TheVariants.Legal, Verdicts.IsVerdict}
+use Rattle.check_run.specs.{Texts.verdict_text, Checked.IsChecked}
 use Rattle.trace_reads.specs.Texts.{history_told, EntersWithin, IsStepWithin, IsTextOf}
+use Rattle.{marked_laws.specs.kernel_history.specs.Trace.Trace, trace_lines.specs.Traces.trace_text}
+use Rattle.{check_run.specs.history_reader.specs.Inputs.history_of}
 
 -- The text of each trace whose steps are in range is read as its marks.
 abbrev pub MarksRead : Type 0

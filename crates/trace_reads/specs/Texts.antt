@@ -1,19 +1,11 @@
 -- What the text of a trace says as a given history, and which traces have such a text.
-use Rattle.std.specs.Prelude.{ℕ, ◌+◌, ◌<◌, ◌≤◌, List, [], ◌∷◌, reverse, Option, Some, None}
-use Rattle.spk_nums.specs.Setting.{Setting, IsSetting}
-use Rattle.spk_nums.specs.declared.calls.Call.{Call}
-use Rattle.spk_nums.specs.declared.replies.Reply.{Reply}
-use Rattle.marked_laws.specs.kernel_history.specs.Trace.{Step, Trace}
-use Rattle.script_tokens.specs.Words.{line_count}
-use Rattle.trace_lines.specs.script_printer.specs.Law.{IsCallWithin}
-use Rattle.marked_laws.specs.marked_history.specs.declared.marks.Mark.{Mark}
-use Rattle.marked_laws.specs.marked_history.specs.declared.marks.Said.TheVariants.{One}
-use Rattle.marked_laws.specs.marked_history.specs.declared.marks.Line.{Line}
-use Rattle.marked_laws.specs.Marks.{marks_of}
-use Rattle.trace_lines.specs.Traces.{trace_text}
-use Rattle.check_run.specs.history_reader.specs.Inputs.{History}
-use Rattle.reply_reads.specs.Laws.{IsReplyWithin}
-use Rattle.call_reader.specs.Versions.{most_calls}
+use Rattle.marked_laws.specs.kernel_history.specs.{ℕ, ◌+◌, ◌<◌, ◌≤◌, List, [], ◌∷◌, reverse, Option, Some, None, Setting, IsSetting, Call}
+use Rattle.marked_laws.specs.kernel_history.specs.{Reply, Step}
+use Rattle.marked_laws.specs.marked_history.specs.{declared.marks.Mark.Mark, declared.marks.Said.TheVariants.One, declared.marks.Line.Line}
+use Rattle.{marked_laws.specs.kernel_history.specs.Trace.Trace, trace_lines.specs.script_tokens.specs.Words.line_count}
+use Rattle.{trace_lines.specs.script_printer.specs.Law.IsCallWithin, marked_laws.specs.Marks.marks_of, trace_lines.specs.Traces.trace_text}
+use Rattle.{check_run.specs.history_reader.specs.Inputs.History, reply_reads.specs.Laws.IsReplyWithin}
+use Rattle.{trace_lines.specs.call_reader.specs.Versions.most_calls}
 
 -- Marks, in order, as lines: one a line, the first of this number.
 abbrev pub mark_lines : ℕ → List Mark → List Line

@@ -1,26 +1,13 @@
 -- What is written at the end of a run is the text of the trace that was watched.
-use Rattle.std.proofs.Common.{◌≡◌, ℕ, List, [], ◌∷◌, refl, sym, ◌∙◌, ap}
-use Rattle.std.specs.Prelude.{Option, Some, None, IsSome}
-use Rattle.spk_nums.specs.Setting.{Setting, IsSetting}
-use Rattle.spk_nums.specs.declared.calls.Call.{Call}
-use Rattle.spk_nums.specs.declared.steps.Item.{Item}
-use Rattle.spk_nums.specs.declared.replies.Reply.{Reply}
-use Rattle.trace_lines.specs.script_printer.specs.Printing.{setup_lines}
-use Rattle.told_run.specs.lone_kernel.specs.kernel_rules.proofs.Within.{put_same}
-use Rattle.told_run.specs.lone_kernel.specs.kernel_history.specs.Trace.{Step, Trace, Out, phase}
-use Rattle.told_run.specs.lone_kernel.specs.kernel_history.specs.BootWords.{shape_of}
-use Rattle.told_run.specs.lone_kernel.specs.flight.specs.Made.{IsMade, cores_after, core_after, stepping_core}
-use Rattle.told_run.specs.lone_kernel.specs.flight.proofs.Phases.{made_phases, made_events}
-use Rattle.told_run.specs.lone_kernel.proofs.Runs.{none_of}
-use Rattle.told_run.specs.lone_kernel.specs.step_views.specs.declared.views.StepMade.{StepMade}
-use Rattle.told_run.specs.Watching.{IsNext}
-use Rattle.told_run.specs.GivenWatched.{GivenWatched}
-use Rattle.trace_lines.specs.Steps.{step_text, lines_at, event_lines}
-use Rattle.trace_lines.specs.Traces.{Told, step_told, told}
-use Rattle.trace_lines.specs.Views.{view_text, made_lines}
-use Rattle.trace_lines.proofs.Views.{told_as_made}
-use Rattle.trace_run.specs.GivenTrace.{GivenTrace}
-use Rattle.trace_run.specs.Written.{has_written}
+use Rattle.told_run.specs.lone_kernel.specs.flight.proofs.{◌≡◌, ℕ, List, [], ◌∷◌, refl, sym, ◌∙◌, ap, Option, Some, None, IsSome, Setting}
+use Rattle.told_run.specs.lone_kernel.specs.flight.proofs.{IsSetting, Call, Item, Reply, put_same, Step, Trace, Out, phase, shape_of}
+use Rattle.told_run.specs.lone_kernel.specs.flight.proofs.{IsMade, cores_after, stepping_core, made_phases}
+use Rattle.trace_lines.specs.{step_text, event_lines, Told, step_told, told, view_text, made_lines}
+use Rattle.{trace_lines.specs.script_printer.specs.Printing.setup_lines, told_run.specs.lone_kernel.specs.flight.specs.Made.core_after}
+use Rattle.{told_run.specs.lone_kernel.specs.flight.proofs.Phases.made_events, told_run.specs.lone_kernel.proofs.Runs.none_of}
+use Rattle.{trace_lines.specs.step_views.specs.declared.views.StepMade.StepMade, told_run.specs.Watching.IsNext}
+use Rattle.{told_run.specs.GivenWatched.GivenWatched, trace_lines.specs.Steps.lines_at, trace_lines.proofs.Views.told_as_made}
+use Rattle.{trace_run.specs.GivenTrace.GivenTrace, trace_run.specs.Written.has_written}
 
 -- one step more is written
 pub writes_next : (w w' : Told) (made : StepMade) → w' ≡ step_told w (view_text made.view) (made_lines made)

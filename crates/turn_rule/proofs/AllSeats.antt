@@ -1,23 +1,15 @@
 -- How all seats are dealt and gathered, one after another.
-use Rattle.std.proofs.Common.{◌≡◌, ◌⊎◌, ℕ, zero, suc, ◌+◌, ◌<◌, ◌≤◌, List, [], ◌∷◌, ◌++◌, length, get_or, slice_get}
-use Rattle.std.proofs.Common.{Some, None, refl, sym, ap, ◌∙◌, subst, ⊎_elim, inl, inr, arith, append_assoc, lt_of_not-le}
-use Rattle.std.proofs.lemmas.Option.{slice_get_within, slice_get_past, slice_get_cases}
-use Rattle.std.proofs.lemmas.List.{get_or_past}
+use Rattle.std.proofs.Common.{◌≡◌, ◌⊎◌, ℕ, zero, suc, ◌+◌, ◌<◌, ◌≤◌, List, [], ◌∷◌, ◌++◌, length, get_or, slice_get, Some, None, refl, sym}
+use Rattle.std.proofs.Common.{ap, ◌∙◌, subst, ⊎_elim, inl, inr, arith, append_assoc, lt_of_not-le}
+use Rattle.turn_rule.specs.{SpreadValue, position, AreOfOthers, word_after, program_after, IsSound, TableValue, SeatValue, part, Begins}
+use Rattle.std.proofs.{lemmas.Option.slice_get_within, lemmas.Option.slice_get_past, lemmas.Option.slice_get_cases, lemmas.List.get_or_past}
+use Rattle.turn_rule.specs.{declared.view.Entry.Entry, declared.view.Start.Start, declared.view.Part.Part, declared.view.View.View}
+use Rattle.turn_rule.proofs.{Traces.AreOfOthers-append, Traces.no_program, Traces.word_past, Keeps.program_seen}
+use Rattle.{turn_rule.specs.Kept, turn_rule.specs.IsSeated, turn_rule.specs.Stays, atomic_table.specs.Table.State}
+use Rattle.{atomic_table.specs.Table.Me, turn_rule.specs.Steps.Steps, turn_rule.specs.Seats.EndsAt, turn_rule.specs.Rule.Gathers}
 use native.Mathlib.Decide.{dec_le}
 use mathlib.Core.Option.{some}
 use lib.ListN.{get_elem?}
-use Rattle.atomic_table.specs.Table.{State, Me}
-use Rattle.turn_rule.specs.declared.view.Entry.{Entry}
-use Rattle.turn_rule.specs.declared.view.Start.{Start}
-use Rattle.turn_rule.specs.declared.view.Part.{Part}
-use Rattle.turn_rule.specs.declared.view.View.{View}
-use Rattle.turn_rule.specs.Steps.{Steps}
-use Rattle.turn_rule.specs.Positions.{SpreadValue, position}
-use Rattle.turn_rule.specs.Trace.{AreOfOthers, word_after, program_after, IsSound}
-use Rattle.turn_rule.specs.Seats.{TableValue, SeatValue, EndsAt}
-use Rattle.turn_rule.specs.Rule.{part, Begins, Kept, IsSeated, Stays, Gathers}
-use Rattle.turn_rule.proofs.Traces.{AreOfOthers-append, no_program, word_past}
-use Rattle.turn_rule.proofs.Keeps.{program_seen}
 
 module _ {A : Type 0} where
   pushed : (xs : List A) (x y : A) (k : ℕ) → slice_get (xs ++ x ∷ []) k ≡ Some y → (slice_get xs k ≡ Some y) ⊎ ((k ≡ length xs) × (x ≡ y))

@@ -1,9 +1,7 @@
 -- How the steps of a whole call are put together.
-use Rattle.std.proofs.Common.{◌≡◌, ◌↔◌, ℕ, zero, suc, Bool, false, IsTrue, Option, Some, None, IsSome, IsNone, IsSomeAnd, MatchOption}
-use Rattle.std.proofs.Common.{refl, subst}
-use Rattle.spk_nums.specs.declared.steps.WordOp.{WordOp}
-use Rattle.turn_rule.specs.Steps.{Steps}
-use Rattle.turn_rule.specs.Seats.{SeatValue, FollowsTrace, MakesStep, Turns, TurnsOn}
+use Rattle.std.proofs.Common.{◌≡◌, ◌↔◌, ℕ, zero, suc, Bool, false, IsTrue, Option, Some, None, IsSome, IsNone, IsSomeAnd, MatchOption, refl}
+use Rattle.turn_rule.specs.{SeatValue, FollowsTrace, MakesStep, Turns, TurnsOn}
+use Rattle.{std.proofs.Common.subst, spk_nums.specs.declared.steps.WordOp.WordOp, turn_rule.specs.Steps.Steps}
 
 module _ {P C : Type 0} (T : Steps P C) where
   -- the first step of a call is one turn

@@ -1,25 +1,18 @@
 -- A step of a core keeps the rule.
-use Rattle.std.proofs.Common.{◌≡◌, ◌≢◌, ℕ, ◌<◌, ◌≤◌, ◌==◌, List, [], ◌∷◌, ◌++◌, length, get_or, set}
-use Rattle.std.proofs.Common.{length-set, get_or-set_other, get_or-set_same, if◌then◌else◌, Option, Some}
-use Rattle.std.proofs.Common.{refl, sym, ap, ◌∙◌, subst, ⊎_elim, arith, eq-eqb, ne_eqb, append-nil}
+use Rattle.std.proofs.Common.{◌≡◌, ◌≢◌, ℕ, ◌<◌, ◌≤◌, ◌==◌, List, [], ◌∷◌, ◌++◌, length, get_or, set, length-set, get_or-set_other}
+use Rattle.std.proofs.Common.{get_or-set_same, if◌then◌else◌, Option, Some, refl, sym, ap, ◌∙◌, subst, ⊎_elim, arith, eq-eqb, ne_eqb}
+use Rattle.turn_rule.specs.{SpreadValue, position, entry, AreOfOthers, called, MayCall, program_after, IsStep, MayFollow, IsSound, part}
+use Rattle.atomic_table.specs.Table.{State, Me, keeps, stepped, Allows}
+use Rattle.spk_nums.specs.{declared.steps.WordOp.WordOp, WordSteps.place_in, WordSteps.left_by, WordSteps.told_by}
+use Rattle.turn_rule.specs.{declared.view.Entry.Entry, declared.view.Start.Start, declared.view.Part.Part, declared.view.View.View}
+use Rattle.turn_rule.specs.{Steps.Steps, Rule.nothing, Rule.view, Rule.Fits, Rule.IsDue, Rule.Goes}
+use Rattle.{std.proofs.Common.append-nil, turn_rule.specs.Begins, turn_rule.specs.Kept, turn_rule.specs.IsSeated}
+use Rattle.{atomic_table.proofs.Lists.at_set, turn_rule.proofs.Positions.position_grows, turn_rule.proofs.Positions.position_apart}
+use Rattle.{turn_rule.proofs.Positions.position_within, turn_rule.proofs.Traces.program_here, turn_rule.proofs.Traces.program_stays}
 use mathlib.Core.Logic.{dite}
 use mathlib.Core.Option.{some}
 use native.Mathlib.Decide.{ℕ_discrete}
 use lib.ListN.{get_elem?}
-use Rattle.atomic_table.specs.Table.{State, Me, keeps, stepped, Allows}
-use Rattle.atomic_table.proofs.Lists.{at_set}
-use Rattle.spk_nums.specs.declared.steps.WordOp.{WordOp}
-use Rattle.turn_rule.specs.declared.view.Entry.{Entry}
-use Rattle.turn_rule.specs.declared.view.Start.{Start}
-use Rattle.turn_rule.specs.declared.view.Part.{Part}
-use Rattle.turn_rule.specs.declared.view.View.{View}
-use Rattle.turn_rule.specs.Steps.{Steps}
-use Rattle.turn_rule.specs.Positions.{SpreadValue, position}
-use Rattle.spk_nums.specs.WordSteps.{place_in, left_by, told_by}
-use Rattle.turn_rule.specs.Trace.{entry, AreOfOthers, called, MayCall, program_after, IsStep, MayFollow, IsSound}
-use Rattle.turn_rule.specs.Rule.{part, nothing, view, Begins, Fits, Kept, IsSeated, IsDue, Goes}
-use Rattle.turn_rule.proofs.Positions.{position_grows, position_apart, position_within}
-use Rattle.turn_rule.proofs.Traces.{program_here, program_stays}
 
 -- the word of a place after one was stored at another
 stored_at : (s : SpreadValue) → 0 < s.row → (l : List ℕ) (at i x : ℕ) → position s at < length l

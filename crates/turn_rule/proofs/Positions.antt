@@ -1,8 +1,8 @@
 -- Words of distinct places lie at distinct positions.
 use Rattle.std.proofs.Common.{◌≡◌, ◌≢◌, ℕ, ◌+◌, ◌-◌, ◌*◌, ◌/◌, ◌<◌, ◌≤◌, ap, ◌∙◌, arith, lt_of_not-le}
 use Rattle.std.proofs.Math.Nat.{div-eq_of_lt, div-eq-sub-div, div-lt_iff_lt-mul, lt-div-mul-add}
+use Rattle.{turn_rule.specs.SpreadValue, turn_rule.specs.position, turn_rule.specs.Positions.rows_to}
 use native.Mathlib.Decide.{dec_le}
-use Rattle.turn_rule.specs.Positions.{SpreadValue, rows_to, position}
 
 -- no row begins before the first place
 rows_before : (s : SpreadValue) → 0 < s.row → (at : ℕ) → at < s.first → rows_to s at ≡ 0

@@ -1,8 +1,7 @@
 -- A division by a multiplication: the upper half of what the reciprocal makes of a number raised by 1 is the quotient.
 use Rattle.std.proofs.Common.{◌≡◌, ℕ, ◌+◌, ◌*◌, ◌/◌, ◌<◌, ◌≤◌, arith, div-mul-le_self, le-div_iff_mul-le, div-lt_iff_lt-mul}
 use Rattle.std.proofs.Common.{mul-le-mul_left, mul-le-mul_right}
-use Rattle.std.proofs.Math.Nat.{lt-div-mul-add}
-use Rattle.turn_rule.specs.Positions.{reciprocal_of}
+use Rattle.{std.proofs.Math.Nat.lt-div-mul-add, turn_rule.specs.Positions.reciprocal_of}
 
 module _ (n row : ℕ) (small : n < 4294967296) (some : 0 < row) (low : row < 4294967296) where
   abbrev q : ℕ

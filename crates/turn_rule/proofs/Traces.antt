@@ -1,16 +1,11 @@
 -- What a trace leaves, and what its sound steps keep.
-use Rattle.std.proofs.Common.{◌≡◌, ◌≢◌, ℕ, ◌<◌, ◌≤◌, ◌==◌, true, false, List, [], ◌∷◌, ◌++◌, length, slice_get, if◌then◌else◌}
-use Rattle.std.proofs.Common.{Option, Some, None, refl, sym, ap, ◌∙◌, eq-eqb, ne_eqb, append_assoc, lt_of_not-le, arith}
-use Rattle.std.proofs.lemmas.Option.{slice_get_past, none-some}
-use Rattle.std.proofs.lemmas.List.{get_or_past}
+use Rattle.std.proofs.Common.{◌≡◌, ◌≢◌, ℕ, ◌<◌, ◌≤◌, ◌==◌, true, false, List, [], ◌∷◌, ◌++◌, length, slice_get, if◌then◌else◌, Option, Some}
+use Rattle.std.proofs.Common.{None, refl, sym, ap, ◌∙◌, eq-eqb, ne_eqb, append_assoc, lt_of_not-le, arith, option_map}
+use Rattle.turn_rule.specs.{AreOfOthers, word_after, called, program_after, IsStep, MayFollow, IsSound}
+use Rattle.std.proofs.{lemmas.Option.slice_get_past, lemmas.Option.none-some, lemmas.List.get_or_past}
+use Rattle.turn_rule.specs.{declared.view.Entry.Entry, declared.view.Start.Start, Steps.Steps, Trace.Extends, Trace.ExtendsByOthers}
+use Rattle.{spk_nums.specs.WordSteps.told_by, turn_rule.specs.Trace.told, turn_rule.specs.Trace.after_entry}
 use native.Mathlib.Decide.{dec_le}
-use Rattle.std.specs.Option.{option_map}
-use Rattle.turn_rule.specs.declared.view.Entry.{Entry}
-use Rattle.turn_rule.specs.declared.view.Start.{Start}
-use Rattle.turn_rule.specs.Steps.{Steps}
-use Rattle.spk_nums.specs.WordSteps.{told_by}
-use Rattle.turn_rule.specs.Trace.{AreOfOthers, Extends, ExtendsByOthers, word_after, called}
-use Rattle.turn_rule.specs.Trace.{told, after_entry, program_after, IsStep, MayFollow, IsSound}
 
 module _ {C : Type 0} where
   pub AreOfOthers-append : (c : ℕ) (xs ys : List (Entry C)) → AreOfOthers c xs → AreOfOthers c ys → AreOfOthers c (xs ++ ys)

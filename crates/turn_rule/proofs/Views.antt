@@ -1,21 +1,16 @@
 -- Views that are cut, joined and brought up to date keep the rule.
-use Rattle.std.proofs.Common.{◌≡◌, ◌≢◌, ◌⊎◌, ℕ, zero, suc, ◌<◌, ◌≤◌, ◌==◌, true, List, [], ◌∷◌, ◌++◌, length, get_or, set}
-use Rattle.std.proofs.Common.{if◌then◌else◌, refl, sym, ap, ◌∙◌, subst, ⊎_elim, inl, inr, arith, eq-eqb, ne_eqb, lt_of_not-le}
+use Rattle.std.proofs.Common.{◌≡◌, ◌≢◌, ◌⊎◌, ℕ, zero, suc, ◌<◌, ◌≤◌, ◌==◌, true, List, [], ◌∷◌, ◌++◌, length, get_or, set, if◌then◌else◌}
+use Rattle.std.proofs.Common.{refl, sym, ap, ◌∙◌, subst, ⊎_elim, inl, inr, arith, eq-eqb, ne_eqb, lt_of_not-le}
+use Rattle.turn_rule.specs.{SpreadValue, position, program_after, IsSound, part, Kept, IsSeated, Stays}
+use Rattle.atomic_table.specs.Table.{State, Me, step, keeps, stepped, Allows, Splits, Joins, Enters}
+use Rattle.atomic_table.proofs.Lists.{at_set, at_snoc, set_again}
+use Rattle.turn_rule.specs.{declared.view.Entry.Entry, declared.view.Start.Start, declared.view.Part.Part, declared.view.View.View}
+use Rattle.turn_rule.specs.{Steps.Steps, Positions.IsLaid, Rule.nothing, Rule.view, Rule.note_of, Rule.joined, Rule.first_core}
+use Rattle.turn_rule.specs.{Rule.other_cores, Rule.Fits, Rule.Gathers, Rule.met, Rule.gathered, Rule.starts}
+use Rattle.turn_rule.proofs.Keeps.{has_all, fits_nothing, program_seen}
 use mathlib.Core.Option.{none, some, some-injective, some-ne-none}
 use native.Mathlib.Decide.{dec_le}
 use lib.ListN.{get_elem?}
-use Rattle.atomic_table.specs.Table.{State, Me, step, keeps, stepped, Allows, Splits, Joins, Enters}
-use Rattle.atomic_table.proofs.Lists.{at_set, at_snoc, set_again}
-use Rattle.turn_rule.specs.declared.view.Entry.{Entry}
-use Rattle.turn_rule.specs.declared.view.Start.{Start}
-use Rattle.turn_rule.specs.declared.view.Part.{Part}
-use Rattle.turn_rule.specs.declared.view.View.{View}
-use Rattle.turn_rule.specs.Steps.{Steps}
-use Rattle.turn_rule.specs.Positions.{SpreadValue, position, IsLaid}
-use Rattle.turn_rule.specs.Trace.{program_after, IsSound}
-use Rattle.turn_rule.specs.Rule.{part, nothing, view, note_of, joined, first_core, other_cores}
-use Rattle.turn_rule.specs.Rule.{Fits, Kept, IsSeated, Stays, Gathers, met, gathered, starts}
-use Rattle.turn_rule.proofs.Keeps.{has_all, fits_nothing, program_seen}
 
 set_same : (l : List ℕ) (i : ℕ) → set l i (get_or l i 0) ≡ l
 set_same [] i = refl

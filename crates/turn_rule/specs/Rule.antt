@@ -1,17 +1,12 @@
 -- The rule of the shared words: there is one trace, and each seat has seen a beginning of it.
 use Rattle.std.specs.Prelude.{◌≡◌, ℕ, ◌+◌, ◌<◌, ◌≤◌, true, false, List, [], ◌∷◌, ◌++◌, length, slice_index, Option, Some}
+use Rattle.atomic_table.specs.Table.{State, Me, Step}
+use Rattle.spk_nums.specs.{declared.steps.WordOp.WordOp, WordSteps.place_in, WordSteps.told_by}
+use Rattle.turn_rule.specs.{declared.view.Entry.Entry, declared.view.Start.Start, declared.view.Part.Part, declared.view.View.View}
+use Rattle.turn_rule.specs.{Steps.Steps, Positions.SpreadValue, Positions.position, Trace.entry, Trace.AreOfOthers, Trace.word_after}
+use Rattle.turn_rule.specs.{Trace.called, Trace.MayCall, Trace.IsSound, Trace.Follows}
 use mathlib.Core.Option.{some}
 use lib.ListN.{get_elem?}
-use Rattle.atomic_table.specs.Table.{State, Me, Step}
-use Rattle.spk_nums.specs.declared.steps.WordOp.{WordOp}
-use Rattle.turn_rule.specs.declared.view.Entry.{Entry}
-use Rattle.turn_rule.specs.declared.view.Start.{Start}
-use Rattle.turn_rule.specs.declared.view.Part.{Part}
-use Rattle.turn_rule.specs.declared.view.View.{View}
-use Rattle.turn_rule.specs.Steps.{Steps}
-use Rattle.turn_rule.specs.Positions.{SpreadValue, position}
-use Rattle.spk_nums.specs.WordSteps.{place_in, told_by}
-use Rattle.turn_rule.specs.Trace.{entry, AreOfOthers, word_after, called, MayCall, IsSound, Follows}
 
 abbrev pub start_of : {P : Type 0} → List ℕ → List P → Start P
 start_of words programs = record { words = words; programs = programs }

@@ -1,12 +1,9 @@
 -- A table, its seats and its notes as contracts see them, and what the calls do to them.
 use Rattle.std.specs.Prelude.{◌≡◌, ℕ, zero, suc, List, [], ◌∷◌, ◌++◌, length, slice_get, slice_index, Option, Some, None, IsNone}
-use Rattle.atomic_table.specs.Seated.{TableId}
-use Rattle.spk_nums.specs.declared.steps.WordOp.{WordOp}
-use Rattle.turn_rule.specs.declared.view.Entry.{Entry}
-use Rattle.turn_rule.specs.declared.view.Start.{Start}
-use Rattle.turn_rule.specs.Steps.{Steps}
-use Rattle.spk_nums.specs.WordSteps.{told_by}
-use Rattle.turn_rule.specs.Trace.{entry, AreOfOthers, Extends, ExtendsByOthers, word_after, called, program_after, IsSound, Follows}
+use Rattle.spk_nums.specs.{declared.steps.WordOp.WordOp, WordSteps.told_by}
+use Rattle.turn_rule.specs.{declared.view.Entry.Entry, declared.view.Start.Start, Steps.Steps, Trace.entry, Trace.AreOfOthers}
+use Rattle.turn_rule.specs.{Trace.Extends, Trace.ExtendsByOthers, Trace.word_after, Trace.called, Trace.program_after, Trace.IsSound}
+use Rattle.{atomic_table.specs.Seated.TableId, turn_rule.specs.Trace.Follows}
 
 -- which table it is, and its words and programs at the start
 pub record TableValue (P : Type 0) : Type 0 where

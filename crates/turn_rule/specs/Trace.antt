@@ -1,12 +1,8 @@
 -- A trace of atomic steps, the newest first, and what it leaves.
-use Rattle.std.specs.Prelude.{◌≡◌, ◌≢◌, ℕ, ◌<◌, ◌^◌, ◌==◌, List, [], ◌∷◌, ◌++◌, length}
-use Rattle.std.specs.Prelude.{if◌then◌else◌, slice_get, slice_index, Option, Some, None, IsNone}
-use Rattle.std.specs.Option.{option_map}
-use Rattle.spk_nums.specs.declared.steps.WordOp.{WordOp}
-use Rattle.turn_rule.specs.declared.view.Entry.{Entry}
-use Rattle.turn_rule.specs.declared.view.Start.{Start}
-use Rattle.turn_rule.specs.Steps.{Steps}
-use Rattle.spk_nums.specs.WordSteps.{place_in, left_by, told_by}
+use Rattle.std.specs.Prelude.{◌≡◌, ◌≢◌, ℕ, ◌<◌, ◌^◌, ◌==◌, List, [], ◌∷◌, ◌++◌, length, if◌then◌else◌, slice_get, slice_index, Option, Some}
+use Rattle.std.specs.Prelude.{None, IsNone, option_map}
+use Rattle.spk_nums.specs.{declared.steps.WordOp.WordOp, WordSteps.place_in, WordSteps.left_by, WordSteps.told_by}
+use Rattle.turn_rule.specs.{declared.view.Entry.Entry, declared.view.Start.Start, Steps.Steps}
 
 module _ {C : Type 0} where
   -- the entry of a step of core c that found n, and of the call that began with it, if any

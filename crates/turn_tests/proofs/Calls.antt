@@ -1,17 +1,13 @@
 -- What a step adds to a seat's calls and steps.
-use Rattle.std.proofs.Common.{◌≡◌, ℕ, zero, suc, ◌+◌, ◌<◌, ◌≤◌, ◌%◌, ◌^◌, ◌==◌, Bool, true, false, List, []}
-use Rattle.std.proofs.Common.{◌∷◌, ◌++◌, if◌then◌else◌, Option, Some, None, MatchOption, IsSome}
-use Rattle.std.proofs.Common.{option_to_list, refl, sym, ap, ◌∙◌, subst, arith, append_assoc, eq-eqb, ne_eqb}
-use Rattle.spk_nums.specs.declared.steps.WordOp.{WordOp}
-use Rattle.turn_rule.specs.declared.view.Entry.{Entry}
-use Rattle.turn_rule.specs.Steps.{Steps}
-use Rattle.turn_rule.specs.Trace.{entry, AreOfOthers}
-use Rattle.turn_rule.specs.Seats.{SeatValue, MakesStep}
-use Rattle.turn_rule.proofs.Traces.{extends_on}
-use Rattle.turn_tests.specs.declared.counter.Stage.{Stage}
+use Rattle.std.proofs.Common.{◌≡◌, ℕ, zero, suc, ◌+◌, ◌<◌, ◌≤◌, ◌%◌, ◌^◌, ◌==◌, Bool, true, false, List, [], ◌∷◌, ◌++◌, if◌then◌else◌}
+use Rattle.std.proofs.Common.{Option, Some, None, MatchOption, IsSome, option_to_list, refl, sym, ap, ◌∙◌, subst, arith, append_assoc}
+use Rattle.std.proofs.Common.{eq-eqb, ne_eqb}
+use Rattle.turn_rule.specs.{entry, AreOfOthers, SeatValue, MakesStep}
+use Rattle.turn_rule.specs.{declared.view.Entry.Entry, Steps.Steps}
 use Rattle.turn_tests.specs.declared.counter.Stage.TheVariants.{Idle, Looks, Tries}
 use Rattle.turn_tests.specs.Counter.{next_at, lost, after_at, counter, steps_left}
 use Rattle.turn_tests.specs.Counting.{calls_of, steps_of, Makes}
+use Rattle.{spk_nums.specs.declared.steps.WordOp.WordOp, turn_rule.proofs.Traces.extends_on, turn_tests.specs.declared.counter.Stage.Stage}
 
 module _ {C : Type 0} where
   -- steps of others are no calls and steps of the core

@@ -1,9 +1,7 @@
 -- Seats that go on are still all seats of their table.
 use Rattle.std.proofs.Common.{◌≡◌, ℕ, zero, suc, List, [], ◌∷◌, ◌++◌, length, take, slice_get, Some, refl, sym, ap, ◌∙◌, subst}
-use Rattle.std.proofs.Math.Seq.{take-append_seam}
-use Rattle.std.specs.List.{AllZip}
-use Rattle.turn_rule.specs.Seats.{TableValue, SeatValue, AreAllSeats}
-use Rattle.turn_tests.specs.Counting.{GoesOn}
+use Rattle.turn_rule.specs.{TableValue, SeatValue, AreAllSeats}
+use Rattle.{std.proofs.Math.Seq.take-append_seam, std.specs.List.AllZip, turn_tests.specs.Counting.GoesOn}
 
 module _ {A B : Type 0} (R : A → B → Type 0) where
   length-all_zip : (xs : List A) (ys : List B) → AllZip R xs ys → length ys ≡ length xs

@@ -1,15 +1,11 @@
 -- Two cores that take tickets, from the start to the end.
-use Rattle.std.proofs.Common.{◌≡◌, ℕ, ◌+◌, ◌*◌, ◌%◌, ◌^◌, ◌<◌, List, [], ◌∷◌, ◌++◌, length, take, get_or, slice_get, slice_index}
-use Rattle.std.proofs.Common.{slice_set, sum_by, Some, Result, Ok, Err, IfOk, refl, sym, ap, ◌∙◌, subst, arith, length-append}
-use Rattle.turn_rule.specs.Trace.{program_after}
-use Rattle.turn_rule.specs.Seats.{TableValue, SeatValue, AreAllSeats, AreFresh, EndsAt, FollowsTrace}
-use Rattle.turn_rule.proofs.Traces.{program_stays}
-use Rattle.turn_tests.specs.declared.taker.Side.TheVariants.{Left, Right}
-use Rattle.turn_tests.specs.declared.taker.Phase.TheVariants.{Idle}
-use Rattle.turn_tests.specs.declared.taker.Taker.{Taker}
-use Rattle.turn_tests.specs.Taker.{taker, taker_steps}
-use Rattle.turn_tests.specs.Taking.{HasTaken, AreShown}
-use Rattle.turn_tests.proofs.Kept.{all_go_on}
+use Rattle.std.proofs.Common.{◌≡◌, ℕ, ◌+◌, ◌*◌, ◌%◌, ◌^◌, ◌<◌, List, [], ◌∷◌, ◌++◌, length, take, get_or, slice_get, slice_index, slice_set}
+use Rattle.std.proofs.Common.{sum_by, Some, Result, Ok, Err, IfOk, refl, sym, ap, ◌∙◌, subst, arith, length-append}
+use Rattle.turn_rule.specs.{program_after, TableValue, SeatValue, AreAllSeats, FollowsTrace}
+use Rattle.turn_tests.specs.{declared.taker.Side.TheVariants.Left, declared.taker.Side.TheVariants.Right}
+use Rattle.turn_tests.specs.{declared.taker.Phase.TheVariants.Idle, declared.taker.Taker.Taker, Taker.taker, Taker.taker_steps}
+use Rattle.{turn_rule.specs.Seats.AreFresh, turn_rule.specs.Seats.EndsAt, turn_rule.proofs.Traces.program_stays}
+use Rattle.{turn_tests.specs.Taking.HasTaken, turn_tests.specs.Taking.AreShown, turn_tests.proofs.Kept.all_go_on}
 
 abbrev Seat : Type 0
 Seat = SeatValue Taker ℕ

@@ -1,13 +1,10 @@
 -- A word that is the sum of the cores' scores.
-use Rattle.std.proofs.Common.{◌≡◌, ◌≢◌, ◌⊎◌, ℕ, zero, suc, ◌+◌, ◌<◌, ◌%◌, ◌^◌, List, [], ◌∷◌, length, slice_get}
-use Rattle.std.proofs.Common.{sum_by, Option, Some, None, inl, inr, ⊎_elim, refl, sym, ap, ◌∙◌, arith}
-use Rattle.std.proofs.lemmas.List.Sums.{sum_by-cons}
-use Rattle.turn_rule.specs.declared.view.Entry.{Entry}
-use Rattle.turn_rule.specs.declared.view.Start.{Start}
-use Rattle.turn_rule.specs.Steps.{Steps}
-use Rattle.spk_nums.specs.WordSteps.{told_by}
-use Rattle.turn_rule.specs.Trace.{called, word_after, program_after, IsStep, IsSound, MayFollow}
-use Rattle.turn_rule.proofs.Traces.{kept_along, word_here, word_elsewhere, program_here, program_elsewhere, core_inside}
+use Rattle.std.proofs.Common.{◌≡◌, ◌≢◌, ◌⊎◌, ℕ, zero, suc, ◌+◌, ◌<◌, ◌%◌, ◌^◌, List, [], ◌∷◌, length, slice_get, sum_by, Option, Some, None}
+use Rattle.std.proofs.Common.{inl, inr, ⊎_elim, refl, sym, ap, ◌∙◌, arith}
+use Rattle.turn_rule.specs.{called, word_after, program_after, IsStep, IsSound, MayFollow}
+use Rattle.turn_rule.proofs.{kept_along, word_here, word_elsewhere, program_here, program_elsewhere, core_inside}
+use Rattle.turn_rule.specs.{declared.view.Entry.Entry, declared.view.Start.Start, Steps.Steps}
+use Rattle.{std.proofs.lemmas.List.Sums.sum_by-cons, spk_nums.specs.WordSteps.told_by}
 
 -- the first n values, added up
 abbrev total : (ℕ → ℕ) → ℕ → ℕ

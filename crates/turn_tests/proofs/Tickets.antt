@@ -1,27 +1,21 @@
 -- What the words show of the tickets, at each moment of a sound trace.
-use Rattle.std.proofs.Common.{◌≡◌, ◌≢◌, ◌⊎◌, ℕ, ◌+◌, ◌%◌, ◌^◌, List, ◌∷◌, ◌++◌, All, MatchOption, length, get_or, slice_get}
-use Rattle.std.proofs.Common.{slice_index, Option, Some, None, IsNone, inl, inr, ⊎_elim, refl, sym, ap, ◌∙◌, subst, arith, append_assoc}
+use Rattle.std.proofs.Common.{◌≡◌, ◌≢◌, ◌⊎◌, ℕ, ◌+◌, ◌%◌, ◌^◌, List, ◌∷◌, ◌++◌, All, MatchOption, length, get_or, slice_get, slice_index}
+use Rattle.std.proofs.Common.{Option, Some, None, IsNone, inl, inr, ⊎_elim, refl, sym, ap, ◌∙◌, subst, arith, append_assoc}
+use Rattle.turn_rule.specs.{entry, AreOfOthers, called, word_after, program_after, MayCall, IsSound, MayFollow, SeatValue, FollowsTrace}
+use Rattle.turn_rule.specs.{MakesStep}
+use Rattle.turn_rule.proofs.{kept_along, word_here, word_elsewhere, program_here, program_elsewhere, program_stays}
 use Rattle.std.proofs.lemmas.Option.{none-some, slice_get_within, get_or_from_slice_get, slice_get-get_or}
+use Rattle.spk_nums.specs.{declared.steps.WordOp.WordOp, declared.steps.WordOp.TheVariants.Load, declared.steps.WordOp.TheVariants.Store}
+use Rattle.spk_nums.specs.{declared.steps.WordOp.TheVariants.Add, WordSteps.place_in, WordSteps.left_by, WordSteps.told_by}
+use Rattle.turn_rule.specs.{declared.view.Entry.Entry, declared.view.Start.Start, Steps.Steps}
+use Rattle.turn_tests.specs.{declared.taker.Side.Side, declared.taker.Side.TheVariants.Left, declared.taker.Side.TheVariants.Right}
+use Rattle.turn_tests.specs.{declared.taker.Phase.Phase, declared.taker.Phase.TheVariants.Idle, declared.taker.Phase.TheVariants.Takes}
+use Rattle.turn_tests.specs.{declared.taker.Phase.TheVariants.Shows, declared.taker.Phase.TheVariants.ReadsBack, declared.taker.Taker.Taker}
+use Rattle.turn_tests.specs.{Counting.GoesOn, Taker.taker_steps, Taker.taker, Taker.word_place, Taker.next_in, Taker.after_in}
+use Rattle.turn_tests.specs.{Taking.shown_in, Taking.AreShown, Taking.IsOpen, Taking.TakesFrom}
+use Rattle.turn_tests.proofs.Scores.{Raises, AllScore, counts_scores}
 use mathlib.Core.Logic.{dite}
 use native.Mathlib.Decide.{ℕ_discrete}
-use Rattle.spk_nums.specs.declared.steps.WordOp.{WordOp}
-use Rattle.spk_nums.specs.declared.steps.WordOp.TheVariants.{Load, Store, Add}
-use Rattle.spk_nums.specs.WordSteps.{place_in, left_by, told_by}
-use Rattle.turn_rule.specs.declared.view.Entry.{Entry}
-use Rattle.turn_rule.specs.declared.view.Start.{Start}
-use Rattle.turn_rule.specs.Steps.{Steps}
-use Rattle.turn_rule.specs.Trace.{entry, AreOfOthers, called, word_after, program_after, MayCall, IsSound, MayFollow}
-use Rattle.turn_rule.specs.Seats.{SeatValue, FollowsTrace, MakesStep}
-use Rattle.turn_rule.proofs.Traces.{kept_along, word_here, word_elsewhere, program_here, program_elsewhere, program_stays}
-use Rattle.turn_tests.specs.declared.taker.Side.{Side}
-use Rattle.turn_tests.specs.declared.taker.Side.TheVariants.{Left, Right}
-use Rattle.turn_tests.specs.declared.taker.Phase.{Phase}
-use Rattle.turn_tests.specs.declared.taker.Phase.TheVariants.{Idle, Takes, Shows, ReadsBack}
-use Rattle.turn_tests.specs.declared.taker.Taker.{Taker}
-use Rattle.turn_tests.specs.Counting.{GoesOn}
-use Rattle.turn_tests.specs.Taker.{taker_steps, taker, word_place, next_in, after_in}
-use Rattle.turn_tests.specs.Taking.{shown_in, AreShown, IsOpen, TakesFrom}
-use Rattle.turn_tests.proofs.Scores.{Raises, AllScore, counts_scores}
 
 abbrev T : Steps Taker ℕ
 T = taker_steps

@@ -1,18 +1,14 @@
 -- A step wins as often as it raises the word.
-use Rattle.std.proofs.Common.{◌≡◌, ◌≢◌, ℕ, ◌+◌, ◌%◌, ◌^◌, ◌==◌, Bool, if◌then◌else◌, Option}
-use Rattle.std.proofs.Common.{Some, None, inl, inr, refl, sym, ap, ◌∙◌, subst, eq-eqb, ne_eqb}
-use Rattle.std.proofs.lemmas.Option.{none-some}
+use Rattle.std.proofs.Common.{◌≡◌, ◌≢◌, ℕ, ◌+◌, ◌%◌, ◌^◌, ◌==◌, Bool, if◌then◌else◌, Option, Some, None, inl, inr, refl, sym, ap, ◌∙◌}
+use Rattle.std.proofs.Common.{subst, eq-eqb, ne_eqb}
+use Rattle.spk_nums.specs.{declared.steps.WordOp.WordOp, declared.steps.WordOp.TheVariants.Load, declared.steps.WordOp.TheVariants.Compare}
+use Rattle.spk_nums.specs.{WordSteps.place_in, WordSteps.left_by, WordSteps.told_by}
+use Rattle.turn_tests.specs.declared.counter.Stage.TheVariants.{Idle, Looks, Tries}
+use Rattle.turn_tests.specs.Counter.{counter_steps, counter, lost, next_at, after_at}
+use Rattle.{std.proofs.lemmas.Option.none-some, turn_rule.specs.Trace.called, turn_tests.specs.declared.counter.Stage.Stage}
+use Rattle.{turn_tests.specs.declared.counter.Counter.Counter, turn_tests.proofs.Scores.Raises, turn_tests.proofs.Scores.AllScore}
 use mathlib.Core.Logic.{dite}
 use native.Mathlib.Decide.{ℕ_discrete}
-use Rattle.spk_nums.specs.declared.steps.WordOp.{WordOp}
-use Rattle.spk_nums.specs.declared.steps.WordOp.TheVariants.{Load, Compare}
-use Rattle.spk_nums.specs.WordSteps.{place_in, left_by, told_by}
-use Rattle.turn_rule.specs.Trace.{called}
-use Rattle.turn_tests.specs.declared.counter.Stage.{Stage}
-use Rattle.turn_tests.specs.declared.counter.Stage.TheVariants.{Idle, Looks, Tries}
-use Rattle.turn_tests.specs.declared.counter.Counter.{Counter}
-use Rattle.turn_tests.specs.Counter.{counter_steps, counter, lost, next_at, after_at}
-use Rattle.turn_tests.proofs.Scores.{Raises, AllScore}
 
 -- a step is on word 0, and raises the word and the wins by one, or neither
 step_counts : (s : Stage) (w : ℕ) (op : WordOp) → next_at s ≡ Some op → (at left found : ℕ) → at ≡ place_in op → left ≡ left_by op found

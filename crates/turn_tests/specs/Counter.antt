@@ -1,11 +1,8 @@
 -- How a counting core goes on.
 use Rattle.std.specs.Prelude.{ℕ, zero, suc, ◌+◌, ◌<◌, ◌%◌, ◌^◌, ◌==◌, if◌then◌else◌, Option, Some, None}
-use Rattle.spk_nums.specs.declared.steps.WordOp.{WordOp}
-use Rattle.spk_nums.specs.declared.steps.WordOp.TheVariants.{Load, Compare}
-use Rattle.turn_rule.specs.Steps.{Steps}
-use Rattle.turn_tests.specs.declared.counter.Stage.{Stage}
+use Rattle.spk_nums.specs.{declared.steps.WordOp.WordOp, declared.steps.WordOp.TheVariants.Load, declared.steps.WordOp.TheVariants.Compare}
 use Rattle.turn_tests.specs.declared.counter.Stage.TheVariants.{Idle, Looks, Tries}
-use Rattle.turn_tests.specs.declared.counter.Counter.{Counter}
+use Rattle.{turn_rule.specs.Steps.Steps, turn_tests.specs.declared.counter.Stage.Stage, turn_tests.specs.declared.counter.Counter.Counter}
 
 abbrev pub counter : Stage → ℕ → Counter
 counter stage wins = record { stage = stage; wins = wins }

@@ -1,10 +1,7 @@
 -- Calls and steps in a trace.
 use Rattle.std.specs.Prelude.{◌≡◌, ℕ, ◌+◌, ◌≤◌, ◌==◌, List, [], ◌∷◌, ◌++◌, if◌then◌else◌, option_to_list, IsNone}
-use Rattle.turn_rule.specs.declared.view.Entry.{Entry}
-use Rattle.turn_rule.specs.Trace.{Extends}
-use Rattle.turn_rule.specs.Seats.{TableValue, SeatValue}
-use Rattle.turn_tests.specs.declared.counter.Counter.{Counter}
-use Rattle.turn_tests.specs.Counter.{next_at}
+use Rattle.turn_rule.specs.{TableValue, SeatValue, declared.view.Entry.Entry, Trace.Extends}
+use Rattle.turn_tests.specs.{declared.counter.Counter.Counter, Counter.next_at}
 
 module _ {C : Type 0} where
   -- the calls that core c began, the newest first

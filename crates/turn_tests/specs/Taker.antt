@@ -1,13 +1,10 @@
 -- How a core that takes tickets goes on.
 use Rattle.std.specs.Prelude.{ℕ, ◌+◌, ◌%◌, ◌^◌, Option, Some, None}
-use Rattle.spk_nums.specs.declared.steps.WordOp.{WordOp}
 use Rattle.spk_nums.specs.declared.steps.WordOp.TheVariants.{Load, Store, Add}
-use Rattle.turn_rule.specs.Steps.{Steps}
-use Rattle.turn_tests.specs.declared.taker.Side.{Side}
-use Rattle.turn_tests.specs.declared.taker.Side.TheVariants.{Left, Right}
-use Rattle.turn_tests.specs.declared.taker.Phase.{Phase}
-use Rattle.turn_tests.specs.declared.taker.Phase.TheVariants.{Idle, Takes, Shows, ReadsBack}
-use Rattle.turn_tests.specs.declared.taker.Taker.{Taker}
+use Rattle.turn_tests.specs.{declared.taker.Side.Side, declared.taker.Side.TheVariants.Left, declared.taker.Side.TheVariants.Right}
+use Rattle.turn_tests.specs.{declared.taker.Phase.Phase, declared.taker.Phase.TheVariants.Idle, declared.taker.Phase.TheVariants.Takes}
+use Rattle.turn_tests.specs.{declared.taker.Phase.TheVariants.Shows, declared.taker.Phase.TheVariants.ReadsBack, declared.taker.Taker.Taker}
+use Rattle.{spk_nums.specs.declared.steps.WordOp.WordOp, turn_rule.specs.Steps.Steps}
 
 abbrev pub taker : Side → Phase → ℕ → ℕ → Taker
 taker side phase taken last = record { side = side; phase = phase; taken = taken; last = last }

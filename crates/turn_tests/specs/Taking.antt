@@ -1,15 +1,11 @@
 -- What a call takes, and what the words show.
 use Rattle.std.specs.Prelude.{◌≡◌, ℕ, ◌+◌, ◌%◌, ◌^◌, List, ◌∷◌, ◌++◌, Some, None, IsNone, All, sum_by, slice_get, slice_index}
+use Rattle.turn_rule.specs.{entry, AreOfOthers, TableValue, SeatValue, FollowsTrace}
 use Rattle.spk_nums.specs.declared.steps.WordOp.TheVariants.{Load, Store, Add}
-use Rattle.turn_rule.specs.declared.view.Entry.{Entry}
-use Rattle.turn_rule.specs.declared.view.Start.{Start}
-use Rattle.turn_rule.specs.Trace.{entry, AreOfOthers}
-use Rattle.turn_rule.specs.Seats.{TableValue, SeatValue, FollowsTrace}
-use Rattle.turn_tests.specs.declared.taker.Phase.{Phase}
-use Rattle.turn_tests.specs.declared.taker.Phase.TheVariants.{Idle, Takes, Shows, ReadsBack}
-use Rattle.turn_tests.specs.declared.taker.Taker.{Taker}
-use Rattle.turn_tests.specs.Counting.{GoesOn}
-use Rattle.turn_tests.specs.Taker.{taker, word_place, next_in, taker_steps}
+use Rattle.turn_rule.specs.{declared.view.Entry.Entry, declared.view.Start.Start}
+use Rattle.turn_tests.specs.{declared.taker.Phase.Phase, declared.taker.Phase.TheVariants.Idle, declared.taker.Phase.TheVariants.Takes}
+use Rattle.turn_tests.specs.{declared.taker.Phase.TheVariants.Shows, declared.taker.Phase.TheVariants.ReadsBack, declared.taker.Taker.Taker}
+use Rattle.turn_tests.specs.{Counting.GoesOn, Taker.taker, Taker.word_place, Taker.next_in, Taker.taker_steps}
 
 -- the ticket in the core's own word: the last one, or one that was stored and is not read back yet
 abbrev pub shown_in : Phase → ℕ → ℕ

@@ -1,98 +1,50 @@
 -- What is found elsewhere than in a core's word, and what begins, says of no wait.
-use Rattle.std.proofs.Common.{if◌then◌else◌, Bool, true, false, not, List, Option, Some, None, refl, ℕ, ◌&&◌, nat_le, nat_lt}
-use Rattle.call_stages.specs.act_states.specs.word_map.specs.Word.{Word, CoreAt}
-use Rattle.call_stages.specs.act_states.specs.word_map.specs.Moves.{word_of}
-use Rattle.call_stages.specs.spk_nums.specs.Merging.{covers}
-use Rattle.call_stages.specs.spk_nums.specs.Capability.{Capability}
-use Rattle.call_stages.specs.spk_nums.specs.Rights.{has_rights}
-use Rattle.call_stages.specs.spk_nums.specs.declared.kinds.FrameKind.{FrameKind}
-use Rattle.call_stages.specs.spk_nums.specs.declared.kinds.Kind.{Kind}
-use Rattle.call_stages.specs.spk_nums.specs.declared.kinds.Kind.TheVariants as kind
-use Rattle.call_stages.specs.spk_nums.specs.declared.kinds.PageFlags.{PageFlags}
-use Rattle.call_stages.specs.spk_nums.specs.declared.calls.Make.{Make}
-use Rattle.call_stages.specs.spk_nums.specs.declared.calls.Make.TheVariants as make
-use Rattle.call_stages.specs.spk_nums.specs.declared.calls.Call.{Call}
-use Rattle.call_stages.specs.spk_nums.specs.declared.calls.Call.TheVariants as call_as
-use Rattle.call_stages.specs.spk_nums.specs.declared.replies.Value.{Value}
-use Rattle.call_stages.specs.spk_nums.specs.declared.replies.Reply.{Reply}
-use Rattle.call_stages.specs.spk_nums.specs.declared.replies.Reply.TheVariants as reply
-use Rattle.call_stages.specs.spk_nums.specs.declared.steps.StageEnd.{StageEnd}
-use Rattle.call_stages.specs.spk_nums.specs.declared.steps.StageEnd.TheVariants as ends
-use Rattle.call_stages.specs.act_states.specs.entry_words.specs.declared.entry.Entry.{Entry}
-use Rattle.call_stages.specs.act_states.specs.entry_words.specs.declared.entry.Entry.TheVariants as entry
-use Rattle.call_stages.specs.act_states.specs.frame_words.specs.declared.count_word.CountWord.{CountWord}
-use Rattle.call_stages.specs.act_states.specs.frame_words.specs.declared.count_word.Hold.{Hold}
-use Rattle.call_stages.specs.act_states.specs.frame_words.specs.declared.count_word.Hold.TheVariants as hold
-use Rattle.call_stages.specs.act_states.specs.frame_words.specs.declared.core_word.CoreWord.{CoreWord}
-use Rattle.call_stages.specs.act_states.specs.frame_words.specs.declared.flush_word.FlushWord.{FlushWord}
-use Rattle.call_stages.specs.act_states.specs.frame_words.specs.declared.comp_word.CompWord.{CompWord}
-use Rattle.call_stages.specs.act_states.specs.frame_words.specs.declared.live_word.LiveWord.{LiveWord}
-use Rattle.call_stages.specs.act_states.specs.frame_words.specs.declared.live_word.LiveWord.TheVariants as live
-use Rattle.call_stages.specs.act_states.specs.tcap_words.specs.declared.thread_word.ThreadWord.{ThreadWord}
-use Rattle.call_stages.specs.act_states.specs.tcap_words.specs.declared.thread_word.ThreadWord.TheVariants as thread
-use Rattle.call_stages.specs.act_states.specs.tcap_words.specs.declared.stack_word.StackWord.{StackWord}
-use Rattle.call_stages.specs.act_states.specs.tcap_words.specs.declared.head_word.HeadWord.{HeadWord}
-use Rattle.call_stages.specs.act_states.specs.tcap_words.specs.declared.quality_word.QualityWord.{QualityWord}
-use Rattle.call_stages.specs.act_states.specs.tcap_words.specs.Quality.{quality_of_word}
-use Rattle.call_stages.specs.act_states.specs.call_plans.specs.After.{Next, NextName, NextFree, NextHeld, NextOwn, NextNothing}
-use Rattle.call_stages.specs.act_states.specs.kernel_rules.specs.Access.{Target as place, Under, InRoot}
-use Rattle.call_stages.specs.act_states.specs.kernel_rules.specs.Access.{Want}
-use Rattle.call_stages.specs.act_states.specs.stage_look.specs.declared.look.Look.{Look}
-use Rattle.call_stages.specs.act_states.specs.stage_look.specs.declared.look.Look.TheVariants as look
-use Rattle.call_stages.specs.act_states.specs.stage_look.specs.declared.look.Found.{Found}
-use Rattle.call_stages.specs.act_states.specs.stage_look.specs.Lookup.{look_end, end_by_link, root_end, place_end}
-use Rattle.call_stages.specs.act_states.specs.stage_quiet.specs.declared.quiet.Quiet.{Quiet}
-use Rattle.call_stages.specs.act_states.specs.stage_quiet.specs.declared.quiet.Quiet.TheVariants as quiet
-use Rattle.call_stages.specs.act_states.specs.stage_quiet.specs.Scan.{quiet_move, quiet_end, quiet_refuses, scan_end, core_refuses, flush_refuses}
-use Rattle.call_stages.specs.act_states.specs.stage_thread.specs.Living.{lives_end, number_end, live_end, comp_end, alive_end}
-use Rattle.call_stages.specs.act_states.specs.stage_thread.specs.declared.alive.Alive.{Alive}
-use Rattle.call_stages.specs.act_states.specs.stage_thread.specs.declared.alive.Alive.TheVariants as alive
-use Rattle.call_stages.specs.act_states.specs.stage_thread.specs.Claiming.{thread_end, claim_compared, claimed_within, top_end, stack_end, claim_end}
-use Rattle.call_stages.specs.act_states.specs.stage_thread.specs.declared.claim.Claim.{Claim as ClaimOf}
-use Rattle.call_stages.specs.act_states.specs.stage_thread.specs.declared.claim.Claim.TheVariants as claim
-use Rattle.call_stages.specs.act_states.specs.stage_thread.specs.declared.claim.Claimed.{Claimed}
-use Rattle.call_stages.specs.act_states.specs.stage_pins.specs.Acquire.{end_by_hold, load_end, compare_end, pin_end}
-use Rattle.call_stages.specs.act_states.specs.stage_pins.specs.declared.pin.Pin.{Pin}
-use Rattle.call_stages.specs.act_states.specs.stage_pins.specs.declared.pin.Pin.TheVariants as pin
-use Rattle.call_stages.specs.act_states.specs.stage_pins.specs.declared.pin.Pinned.{Pinned}
-use Rattle.call_stages.specs.act_states.specs.stage_tcap.specs.Charging.{end_by_mark, head_end, charged_end, charge_end}
-use Rattle.call_stages.specs.act_states.specs.stage_tcap.specs.declared.charge.Charge.{Charge}
-use Rattle.call_stages.specs.act_states.specs.stage_tcap.specs.declared.charge.Charge.TheVariants as charge
-use Rattle.call_stages.specs.act_states.specs.stage_tcap.specs.Pairs.{end_by_budget, marked_end, decided_by_mark, b_end, list_end, again_end, end_at}
-use Rattle.call_stages.specs.act_states.specs.stage_tcap.specs.declared.pair.Pair.{Pair}
-use Rattle.call_stages.specs.act_states.specs.stage_tcap.specs.declared.pair.PairAt.{PairAt}
-use Rattle.call_stages.specs.act_states.specs.stage_tcap.specs.declared.pair.PairAt.TheVariants as pair
-use Rattle.call_stages.specs.act_states.specs.stage_tcap.specs.declared.pair.PairWork.{PairWork}
-use Rattle.call_stages.specs.act_states.specs.stage_tcap.specs.Lists.{in_order}
-use Rattle.call_stages.specs.act_states.specs.stage_tcap.specs.Refilling.{weighed, at_word, word_end, won, again, refill_end_at}
-use Rattle.call_stages.specs.act_states.specs.stage_tcap.specs.declared.refill.Refill.{Refill}
-use Rattle.call_stages.specs.act_states.specs.stage_tcap.specs.declared.refill.RefillAt.{RefillAt}
-use Rattle.call_stages.specs.act_states.specs.stage_tcap.specs.declared.refill.RefillAt.TheVariants as refill
-use Rattle.call_stages.specs.act_states.specs.declared.refusals.Refusal.{Refusal}
-use Rattle.call_stages.specs.act_states.specs.declared.refusals.Refusal.TheVariants as refusal
-use Rattle.call_stages.specs.act_states.specs.declared.own.Own.{Own}
-use Rattle.call_stages.specs.act_states.specs.declared.lookups.Met.{Met}
-use Rattle.call_stages.specs.act_states.specs.declared.lookups.Met.TheVariants.{Finds, Refused}
-use Rattle.call_stages.specs.act_states.specs.call_plans.specs.Plans.{at_place}
-use Rattle.call_stages.specs.act_states.specs.call_plans.specs.declared.plans.Nth.TheVariants.{First, Second}
-use Rattle.call_stages.specs.act_states.specs.stage_tcap.specs.declared.pair.PairWork.TheVariants as share
-use Rattle.call_stages.specs.act_states.specs.declared.objects.NewObject.{NewObject}
-use Rattle.call_stages.specs.act_states.specs.Objects.{object_made}
-use Rattle.call_stages.specs.act_states.specs.declared.work.Act.{Act as ActType}
-use Rattle.call_stages.specs.act_states.specs.declared.work.Act.TheVariants as act_as
-use Rattle.call_stages.specs.act_states.specs.declared.work.Work.TheVariants.{Lookup}
-use Rattle.call_stages.specs.act_states.specs.declared.work.WorkStep.{WorkStep}
-use Rattle.call_stages.specs.act_states.specs.declared.work.WorkStep.TheVariants.{Goes, Acquires, Refuses as refuses_to, Answers, Changes as work_changes}
-use Rattle.call_stages.specs.act_states.specs.Refusals.{reply_of, refusal_of}
-use Rattle.call_stages.specs.act_states.specs.Lookups.{looks_under, looks_entry, looks_at, read_first, next_step, met_right, met_cap, met_name, met_free, met_held}
-use Rattle.call_stages.specs.act_states.specs.Touches.{fault_of, touches_if}
-use Rattle.call_stages.specs.act_states.specs.Shares.{shared, took_shared, shares_if, shares_at}
-use Rattle.call_stages.specs.act_states.specs.Refills.{refills_at, took_refilled}
-use Rattle.call_stages.specs.act_states.specs.Acts.{looked, scans, starts, fills_with, removes_held, removes_at, types_if, types_at, makes_at}
-use Rattle.call_stages.specs.act_states.specs.Acts.{maps_if, maps_at, comps_at, made_begun, kills_in, kills_at, invokes_if, invokes_in, invokes_at, returns_if, switches_at, act_begun}
-use Rattle.call_stages.specs.act_states.specs.Acts.{parts_at}
-use Rattle.call_stages.specs.declared.stages.Stage.TheVariants.{Decided}
+use Rattle.call_stages.specs as low
+use low.act_states.specs.{if◌then◌else◌, Bool, true, false, not, List, Option, Some, None, refl, ℕ, ◌&&◌, leb as nat_le, ltb as nat_lt}
+use low.act_states.specs.{Word, CoreAt, word_of, covers, Capability, has_rights, FrameKind, Kind, PageFlags, Call, Value, Reply, StageEnd}
+use low.act_states.specs.{Entry, CountWord, Hold, CoreWord, CompWord, LiveWord, ThreadWord, StackWord, HeadWord, QualityWord}
+use low.act_states.specs.{quality_of_word, Next, NextName, NextFree, NextHeld, NextOwn, NextNothing, Target as place, Under, InRoot, Want}
+use low.act_states.specs.{Look, look_end, end_by_link, place_end, Quiet, quiet_move, quiet_end, quiet_refuses, scan_end, alive_end, Alive}
+use low.act_states.specs.{Claim as ClaimOf, Claimed, compare_end, pin_end, Pin, Pinned, end_by_mark, head_end, charged_end, Charge}
+use low.act_states.specs.{marked_end, decided_by_mark, b_end, list_end, again_end, Pair, PairAt, PairWork, in_order, Refill, RefillAt}
+use low.act_states.specs.{at_place, First, Second, reply_of, refusal_of, looks_under, looks_entry, looks_at, read_first, next_step}
+use low.act_states.specs.{met_right, met_name, met_free, met_held, touches_if, shared, took_shared, shares_if, shares_at, refills_at}
+use low.act_states.specs.{took_refilled, looked, scans, starts, fills_with, removes_held, removes_at, types_if, types_at, makes_at, maps_if}
+use low.act_states.specs.{maps_at, comps_at, made_begun, kills_in, kills_at, invokes_if, invokes_in, invokes_at, returns_if, switches_at}
+use low.stage_thread.specs.{lives_end, number_end, live_end, comp_end, thread_end, claim_compared, claimed_within, stack_end, claim_end}
+use low.stage_tcap.specs.{Make, charge_end, weighed, at_word, word_end, won, again}
+use low.stage_tcap.specs.{Pairs.end_by_budget, Pairs.end_at, Refilling.refill_end_at}
+use low.act_states.specs.{declared.refusals.Refusal.Refusal, declared.own.Own.Own, declared.lookups.Met.Met}
+use low.act_states.specs.{declared.lookups.Met.TheVariants.Finds, declared.lookups.Met.TheVariants.Refused}
+use low.act_states.specs.{declared.objects.NewObject.NewObject, Objects.object_made, declared.work.Act.Act as ActType}
+use low.act_states.specs.{declared.work.Work.TheVariants.Lookup, declared.work.WorkStep.WorkStep, declared.work.WorkStep.TheVariants.Goes}
+use low.act_states.specs.{declared.work.WorkStep.TheVariants.Acquires, declared.work.WorkStep.TheVariants.Refuses as refuses_to}
+use low.act_states.specs.{declared.work.WorkStep.TheVariants.Answers, declared.work.WorkStep.TheVariants.Changes as work_changes}
 use Rattle.wait_steps.specs.Waits.{RefusesAt, RepliesAt, StepAt, EndAt, MayAt, IsAgain}
+use low.{act_states.specs.act_begun, act_states.specs.parts_at, stage_quiet.specs.core_refuses, stage_quiet.specs.flush_refuses}
+use low.{stage_pins.specs.end_by_hold, stage_pins.specs.load_end, frame_words.specs.declared.flush_word.FlushWord.FlushWord}
+use low.{stage_look.specs.declared.look.Found.Found, stage_look.specs.Lookup.root_end, stage_thread.specs.Claiming.top_end}
+use low.{act_states.specs.Lookups.met_cap, act_states.specs.Touches.fault_of, declared.stages.Stage.TheVariants.Decided}
+use Rattle.call_stages.specs.spk_nums.specs.declared.kinds.Kind.TheVariants as kind
+use Rattle.call_stages.specs.spk_nums.specs.declared.calls.Make.TheVariants as make
+use Rattle.call_stages.specs.spk_nums.specs.declared.calls.Call.TheVariants as call_as
+use Rattle.call_stages.specs.spk_nums.specs.declared.replies.Reply.TheVariants as reply
+use Rattle.call_stages.specs.spk_nums.specs.declared.steps.StageEnd.TheVariants as ends
+use Rattle.call_stages.specs.act_states.specs.entry_words.specs.declared.entry.Entry.TheVariants as entry
+use Rattle.call_stages.specs.act_states.specs.frame_words.specs.declared.count_word.Hold.TheVariants as hold
+use Rattle.call_stages.specs.act_states.specs.frame_words.specs.declared.live_word.LiveWord.TheVariants as live
+use Rattle.call_stages.specs.act_states.specs.tcap_words.specs.declared.thread_word.ThreadWord.TheVariants as thread
+use Rattle.call_stages.specs.act_states.specs.stage_look.specs.declared.look.Look.TheVariants as look
+use Rattle.call_stages.specs.act_states.specs.stage_quiet.specs.declared.quiet.Quiet.TheVariants as quiet
+use Rattle.call_stages.specs.act_states.specs.stage_thread.specs.declared.alive.Alive.TheVariants as alive
+use Rattle.call_stages.specs.act_states.specs.stage_thread.specs.declared.claim.Claim.TheVariants as claim
+use Rattle.call_stages.specs.act_states.specs.stage_pins.specs.declared.pin.Pin.TheVariants as pin
+use Rattle.call_stages.specs.act_states.specs.stage_tcap.specs.declared.charge.Charge.TheVariants as charge
+use Rattle.call_stages.specs.act_states.specs.stage_tcap.specs.declared.pair.PairAt.TheVariants as pair
+use Rattle.call_stages.specs.act_states.specs.stage_tcap.specs.declared.refill.RefillAt.TheVariants as refill
+use Rattle.call_stages.specs.act_states.specs.declared.refusals.Refusal.TheVariants as refusal
+use Rattle.call_stages.specs.act_states.specs.stage_tcap.specs.declared.pair.PairWork.TheVariants as share
+use Rattle.call_stages.specs.act_states.specs.declared.work.Act.TheVariants as act_as
 
 pub refused_at : (w : Word) (r : Reply) → RepliesAt w r → RefusesAt w (refusal_of r)
 refused_at w (reply.Quiescing d) h = h

@@ -1,35 +1,21 @@
 -- When a step of a call says that it waits for a core.
-use Rattle.std.specs.Prelude.{◌≡◌, ℕ, Option, Some, None}
-use Rattle.call_stages.specs.act_states.specs.word_map.specs.Word.{Word, CoreAt}
-use Rattle.call_stages.specs.act_states.specs.word_map.specs.Moves.{word_of}
-use Rattle.call_stages.specs.spk_nums.specs.declared.replies.Reply.{Reply}
-use Rattle.call_stages.specs.spk_nums.specs.declared.replies.Reply.TheVariants as reply
-use Rattle.call_stages.specs.spk_nums.specs.declared.steps.StageEnd.{StageEnd}
-use Rattle.call_stages.specs.spk_nums.specs.declared.steps.StageEnd.TheVariants as ends
-use Rattle.call_stages.specs.act_states.specs.stage_tcap.specs.declared.pair.PairAt.{PairAt}
-use Rattle.call_stages.specs.act_states.specs.stage_tcap.specs.declared.pair.PairAt.TheVariants as pair
-use Rattle.call_stages.specs.act_states.specs.declared.refusals.Refusal.{Refusal}
-use Rattle.call_stages.specs.act_states.specs.declared.refusals.Refusal.TheVariants as refusal
-use Rattle.call_stages.specs.act_states.specs.declared.own.Own.{Own}
-use Rattle.call_stages.specs.act_states.specs.declared.work.Act.{Act as ActType}
-use Rattle.call_stages.specs.act_states.specs.declared.work.Act.TheVariants as act_as
-use Rattle.call_stages.specs.act_states.specs.declared.work.Work.{Work}
-use Rattle.call_stages.specs.act_states.specs.declared.work.Work.TheVariants.{Act}
-use Rattle.call_stages.specs.act_states.specs.declared.work.WorkStep.{WorkStep}
-use Rattle.call_stages.specs.act_states.specs.declared.work.WorkStep.TheVariants.{Goes, Acquires, Refuses as refuses_to, Answers, Changes as work_changes}
-use Rattle.call_stages.specs.declared.stages.Stage.{Stage}
-use Rattle.call_stages.specs.declared.stages.Stage.TheVariants.{Undecided, Decided}
-use Rattle.call_stages.specs.declared.stages.ActiveCall.{ActiveCall}
-use Rattle.call_stages.specs.Steps.{Took, GoesOn, Decides, Returns, Changes}
-use Rattle.call_stages.specs.Steps.{took_at, stage_move}
+use Rattle.call_stages.specs.act_states.specs as low
+use low.{◌≡◌, ℕ, Option, Some, None, Word, CoreAt, word_of, Reply, StageEnd, PairAt}
+use Rattle.call_stages.specs.{Took, GoesOn, Decides, Returns, Changes, took_at, stage_move}
+use low.{declared.refusals.Refusal.Refusal, declared.own.Own.Own, declared.work.Act.Act as ActType, declared.work.Work.Work}
+use low.{declared.work.Work.TheVariants.Act, declared.work.WorkStep.WorkStep, declared.work.WorkStep.TheVariants.Goes}
+use low.{declared.work.WorkStep.TheVariants.Acquires, declared.work.WorkStep.TheVariants.Refuses as refuses_to}
+use low.{declared.work.WorkStep.TheVariants.Answers, declared.work.WorkStep.TheVariants.Changes as work_changes}
+use Rattle.call_stages.specs.{declared.stages.Stage.Stage, declared.stages.Stage.TheVariants.Undecided}
+use Rattle.call_stages.specs.{declared.stages.Stage.TheVariants.Decided, declared.stages.ActiveCall.ActiveCall}
 
 -- What a reply says where it says that the call waits: it is decided at the load of the core's word.
 abbrev pub RefusesAt : Word → Refusal → Type 0
-RefusesAt w (refusal.Quiescing d) = w ≡ CoreAt d
+RefusesAt w (Refusal.Quiescing d) = w ≡ CoreAt d
 RefusesAt w _ = Unit {0}
 
 abbrev pub RepliesAt : Word → Reply → Type 0
-RepliesAt w (reply.Quiescing d) = w ≡ CoreAt d
+RepliesAt w (Reply.Quiescing d) = w ≡ CoreAt d
 RepliesAt w _ = Unit {0}
 
 abbrev pub StepAt : Word → WorkStep → Type 0
@@ -40,10 +26,10 @@ StepAt w (Answers v drawn tail) = Unit {0}
 StepAt w (work_changes r change drawn tail) = RepliesAt w r
 
 abbrev pub EndAt : {X : Type 0} → Word → StageEnd X → Type 0
-EndAt w ends.Going = Unit {0}
-EndAt w (ends.Decided r) = RepliesAt w r
-EndAt w (ends.Done x) = Unit {0}
-EndAt w (ends.Refuse r) = RepliesAt w r
+EndAt w StageEnd.Going = Unit {0}
+EndAt w (StageEnd.Decided r) = RepliesAt w r
+EndAt w (StageEnd.Done x) = Unit {0}
+EndAt w (StageEnd.Refuse r) = RepliesAt w r
 
 abbrev pub MayAt : Word → Option Reply → Type 0
 MayAt w None = Unit {0}
@@ -57,11 +43,11 @@ TookAt w (Changes r change a) = RepliesAt w r
 
 -- A second load of head B decides no wait.
 abbrev pub IsAgain : PairAt → Type 0
-IsAgain (pair.AgainB (reply.Quiescing d)) = ⊥
+IsAgain (PairAt.AgainB (Reply.Quiescing d)) = ⊥
 IsAgain _ = Unit {0}
 
 abbrev pub AgainIn : ActType → Type 0
-AgainIn (act_as.Share p) = IsAgain p.at
+AgainIn (ActType.Share p) = IsAgain p.at
 AgainIn _ = Unit {0}
 
 abbrev pub AgainOf : Work → Type 0

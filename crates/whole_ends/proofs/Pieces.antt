@@ -1,10 +1,8 @@
 -- One read or one write more.
-use Rattle.std.proofs.Common.{◌≡◌, ℕ, ◌+◌, ◌-◌, ◌<◌, ◌≤◌, ◌++◌, List, [], length, take, drop, Option, Some}
-use Rattle.std.proofs.Common.{None, refl, sym, ◌∙◌, ap, subst, arith, append_assoc, length-append, length-drop}
-use Rattle.std.proofs.lemmas.List.{take_all, length-take-le, drop-drop}
-use Rattle.std.proofs.Math.Seq.{take-add}
-use Rattle.byte_ends.specs.Ends.{Moves, Takes, Adds}
-use Rattle.whole_ends.specs.Ends.{Gives, GivesAtMost, GivesAll, AddsFirst}
+use Rattle.std.proofs.Common.{◌≡◌, ℕ, ◌+◌, ◌-◌, ◌<◌, ◌≤◌, ◌++◌, List, [], length, take, drop, Option, Some, None, refl, sym, ◌∙◌, ap, subst}
+use Rattle.std.proofs.Common.{arith, append_assoc, length-append, length-drop, take_all, length-take-le, drop-drop}
+use Rattle.{whole_ends.specs.Gives, whole_ends.specs.GivesAll, std.proofs.Math.Seq.take-add, byte_ends.specs.Ends.Moves}
+use Rattle.{byte_ends.specs.Ends.Takes, byte_ends.specs.Ends.Adds, whole_ends.specs.Ends.GivesAtMost, whole_ends.specs.Ends.AddsFirst}
 
 -- The bytes are the first that the source has given.
 pub record HasRead (bytes left : List ℕ) (left' : Option (List ℕ)) : Type 0 where

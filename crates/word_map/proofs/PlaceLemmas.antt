@@ -1,9 +1,8 @@
 -- Distinct words have distinct places.
+use Rattle.word_map.specs.{EntryAt, FrameAt, CountAt, CoreAt, FlushAt, LiveAt, ClockAt, Shape, IsShape, IsIn, HasPlaces, place_of, size_of}
 use Rattle.std.proofs.Common.{◌≡◌, ℕ, ◌+◌, ◌*◌, ◌<◌, ◌≤◌, ◌⊎◌, refl, ap, arith, inl, inr}
-use Rattle.std.proofs.Math.Nat.{mul-le-mul_left}
-use Rattle.std.proofs.lemmas.Bool.{cases_order}
-use Rattle.word_map.specs.Word.{Word, EntryAt, FrameAt, CountAt, CoreAt, FlushAt, LiveAt, ClockAt}
-use Rattle.word_map.specs.Places.{Shape, IsShape, IsIn, HasPlaces, core_words, place_of, size_of}
+use Rattle.std.proofs.{Math.Nat.mul-le-mul_left, lemmas.Bool.cases_order}
+use Rattle.word_map.specs.{Word.Word, Places.core_words}
 
 -- the words of one core end before those of a later core begin
 pub row_ends : (n c d : ℕ) → c < d → n * c + n ≤ n * d

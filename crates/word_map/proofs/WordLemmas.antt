@@ -1,7 +1,7 @@
 -- When two names of words are one.
-use Rattle.std.proofs.Common.{◌≡◌, ℕ, true, ◌&&◌, ◌==◌, refl}
-use Rattle.std.proofs.lemmas.Bool.{eq-eqb, eqb-true, and_parts}
-use Rattle.word_map.specs.Word.{Word, EntryAt, FrameAt, CountAt, CoreAt, FlushAt, LiveAt, ClockAt, same_word}
+use Rattle.word_map.specs.{EntryAt, FrameAt, CountAt, CoreAt, FlushAt, LiveAt, ClockAt, same_word}
+use Rattle.std.proofs.Common.{◌≡◌, ℕ, true, ◌&&◌, ◌==◌, refl, eq-eqb, eqb-true}
+use Rattle.{std.proofs.lemmas.Bool.and_parts, word_map.specs.Word.Word}
 
 -- a name is one with itself
 pub same_same : (w : Word) → same_word w w ≡ true

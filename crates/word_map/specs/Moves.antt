@@ -1,10 +1,8 @@
 -- Atomic steps on the words of the table, by the words' names.
 use Rattle.std.specs.Prelude.{ℕ, ◌+◌, ◌%◌, ◌^◌, ◌==◌}
-use Rattle.spk_nums.specs.declared.steps.WordOp.{WordOp}
-use Rattle.spk_nums.specs.declared.steps.WordOp.TheVariants.{Load, Compare, Store, Add}
-use Rattle.spk_nums.specs.WordSteps.{left_if}
-use Rattle.word_map.specs.Word.{Word}
-use Rattle.word_map.specs.Places.{Shape, place_of}
+use Rattle.spk_nums.specs.{declared.steps.WordOp.WordOp, declared.steps.WordOp.TheVariants.Load, declared.steps.WordOp.TheVariants.Compare}
+use Rattle.spk_nums.specs.{declared.steps.WordOp.TheVariants.Store, declared.steps.WordOp.TheVariants.Add, WordSteps.left_if}
+use Rattle.word_map.specs.{Word.Word, Places.Shape, Places.place_of}
 
 -- a step on a word: it reads it; it puts a new value in the place of an expected one; it puts a new value there; it adds to it
 pub data Move : Type 0 where

@@ -1,10 +1,8 @@
 -- The names of words.
-use Rattle.std.specs.Prelude.{ℕ, zero, suc, List, ◌++◌, codes, decimal, ◌==◌, if◌then◌else◌}
-use Rattle.spk_nums.specs.Texts.{with_one, with_two}
-use Rattle.spk_nums.specs.declared.kinds.Obj.{Obj}
+use Rattle.step_views.specs.kernel_history.specs.{ℕ, zero, suc, List, ◌++◌, codes, decimal, ◌==◌, if◌then◌else◌, with_one, Obj, Word}
+use Rattle.step_views.specs.kernel_history.specs.{EntryAt, FrameAt, CountAt, CoreAt, FlushAt, LiveAt, ClockAt}
 use Rattle.spk_nums.specs.declared.kinds.Obj.TheVariants.{Blank, Comp, Thread, Tcap}
-use Rattle.step_views.specs.word_map.specs.Word.{Word, EntryAt, FrameAt, CountAt, CoreAt, FlushAt, LiveAt, ClockAt}
-use Rattle.word_texts.specs.Objects.{object_of, object_text}
+use Rattle.{spk_nums.specs.Texts.with_two, word_texts.specs.Objects.object_of, word_texts.specs.Objects.object_text}
 
 -- One of the 64 words of a frame, by its number.
 abbrev pub slot_text : List ℕ → ℕ → ℕ → List ℕ

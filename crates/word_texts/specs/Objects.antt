@@ -1,10 +1,7 @@
 -- What a frame is, by its word.
-use Rattle.std.specs.Prelude.{ℕ, List, codes, Option, Some, None}
+use Rattle.step_views.specs.kernel_history.specs.{ℕ, List, codes, Option, Some, None, Obj, frame_of_word, FrameWord}
 use Rattle.spk_nums.specs.declared.kinds.FrameKind.TheVariants.{Untyped, User, Kernel}
-use Rattle.spk_nums.specs.declared.kinds.Obj.{Obj}
 use Rattle.spk_nums.specs.declared.kinds.Obj.TheVariants.{Blank, Table, Leaf, Pages, Pleaf, Comp, Thread, Tcap}
-use Rattle.frame_words.specs.Frame.{frame_of_word}
-use Rattle.frame_words.specs.declared.frame_word.FrameWord.{FrameWord}
 
 -- The object that a frame with this word holds; Blank where it holds none.
 abbrev pub object_in : Option FrameWord → Obj

@@ -1,38 +1,14 @@
 -- The values of words. A word that has no reading is `unknown`; the machine has none.
-use Rattle.std.specs.Prelude.{ℕ, ℤ, List, [], ◌++◌, codes, decimal, ◌==◌, if◌then◌else◌, Option, Some, None}
-use Rattle.std.specs.Fmt.{signed_decimal}
-use Rattle.spk_nums.specs.Texts.{with_one, cap_text}
-use Rattle.spk_nums.specs.declared.kinds.FrameKind.{FrameKind}
+use Rattle.step_views.specs.kernel_history.specs.{ℕ, ℤ, List, [], ◌++◌, codes, decimal, ◌==◌, if◌then◌else◌, Option, Some, None, with_one}
+use Rattle.step_views.specs.kernel_history.specs.{FrameKind, Obj, entry_of_word, Entry, frame_of_word, count_of_word, core_of_word}
+use Rattle.step_views.specs.kernel_history.specs.{flush_of_word, live_of_word, FrameWord, CountWord, Hold, Unheld, Pinned, Closed, CoreWord}
+use Rattle.step_views.specs.kernel_history.specs.{LiveWord, thread_of_word, stack_of_word, head_of_word, quality_of_word, ThreadWord}
+use Rattle.step_views.specs.kernel_history.specs.{HeadWord, QualityWord, Word, EntryAt, FrameAt, CountAt, CoreAt, FlushAt, LiveAt, ClockAt}
 use Rattle.spk_nums.specs.declared.kinds.FrameKind.TheVariants.{Untyped, User, Kernel}
-use Rattle.spk_nums.specs.declared.kinds.Obj.{Obj}
 use Rattle.spk_nums.specs.declared.kinds.Obj.TheVariants.{Blank, Comp, Thread, Tcap}
-use Rattle.entry_words.specs.EntryWord.{entry_of_word}
-use Rattle.entry_words.specs.declared.entry.Entry.{Entry}
-use Rattle.entry_words.specs.declared.entry.Entry.TheVariants as entry
-use Rattle.frame_words.specs.Frame.{frame_of_word}
-use Rattle.frame_words.specs.Count.{count_of_word}
-use Rattle.frame_words.specs.Core.{core_of_word}
-use Rattle.frame_words.specs.Flush.{flush_of_word}
-use Rattle.frame_words.specs.Live.{live_of_word}
-use Rattle.frame_words.specs.declared.frame_word.FrameWord.{FrameWord}
-use Rattle.frame_words.specs.declared.count_word.CountWord.{CountWord}
-use Rattle.frame_words.specs.declared.count_word.Hold.{Hold}
-use Rattle.frame_words.specs.declared.count_word.Hold.TheVariants.{Unheld, Pinned, Closed}
-use Rattle.frame_words.specs.declared.core_word.CoreWord.{CoreWord}
-use Rattle.frame_words.specs.declared.flush_word.FlushWord.{FlushWord}
-use Rattle.frame_words.specs.declared.live_word.LiveWord.{LiveWord}
-use Rattle.frame_words.specs.declared.live_word.LiveWord.TheVariants as live
-use Rattle.tcap_words.specs.Thread.{thread_of_word}
-use Rattle.tcap_words.specs.Stack.{stack_of_word}
-use Rattle.tcap_words.specs.Head.{head_of_word}
-use Rattle.tcap_words.specs.Quality.{quality_of_word}
-use Rattle.tcap_words.specs.declared.thread_word.ThreadWord.{ThreadWord}
-use Rattle.tcap_words.specs.declared.thread_word.ThreadWord.TheVariants as thread
-use Rattle.tcap_words.specs.declared.stack_word.StackWord.{StackWord}
-use Rattle.tcap_words.specs.declared.head_word.HeadWord.{HeadWord}
-use Rattle.tcap_words.specs.declared.quality_word.QualityWord.{QualityWord}
-use Rattle.step_views.specs.word_map.specs.Word.{Word, EntryAt, FrameAt, CountAt, CoreAt, FlushAt, LiveAt, ClockAt}
 use Rattle.word_texts.specs.Objects.{object_of, object_text}
+use Rattle.{std.specs.Fmt.signed_decimal, spk_nums.specs.Texts.cap_text, frame_words.specs.declared.flush_word.FlushWord.FlushWord}
+use Rattle.{tcap_words.specs.declared.stack_word.StackWord.StackWord}
 
 abbrev pub unknown : List ℕ
 unknown = codes "unknown"
@@ -47,10 +23,10 @@ mark_text (Some c) = marked_words ++ decimal c
 
 -- An entry of a node.
 abbrev pub read_entry : Entry → List ℕ
-read_entry entry.Free = codes "free"
-read_entry (entry.Held cap) = cap_text cap
-read_entry (entry.Closing by) = with_one (codes "closing by core") by
-read_entry (entry.Quiescing stamp) = codes "removed"
+read_entry Entry.Free = codes "free"
+read_entry (Entry.Held cap) = cap_text cap
+read_entry (Entry.Closing by) = with_one (codes "closing by core") by
+read_entry (Entry.Quiescing stamp) = codes "removed"
 
 abbrev pub entry_text : Option Entry → List ℕ
 entry_text None = unknown
@@ -58,9 +34,9 @@ entry_text (Some e) = read_entry e
 
 -- The words of a thread.
 abbrev pub read_thread : ThreadWord → List ℕ
-read_thread (thread.Idle depth) = codes "idle"
-read_thread (thread.Running c depth) = with_one (codes "runs on core") c
-read_thread (thread.Claimed c depth) = with_one (codes "claimed by core") c
+read_thread (ThreadWord.Idle depth) = codes "idle"
+read_thread (ThreadWord.Running c depth) = with_one (codes "runs on core") c
+read_thread (ThreadWord.Claimed c depth) = with_one (codes "claimed by core") c
 
 abbrev pub thread_text : Option ThreadWord → List ℕ
 thread_text None = unknown
@@ -135,10 +111,10 @@ unfoldable pub epoch_words : ℕ → List ℕ
 epoch_words epoch = codes "live, epoch " ++ decimal epoch
 
 abbrev pub read_live : LiveWord → List ℕ
-read_live live.Free = codes "free"
-read_live (live.Live epoch frame) = epoch_words epoch
-read_live (live.Closing epoch by) = with_one (codes "closing by core") by
-read_live (live.Dead epoch stamp) = codes "dead"
+read_live LiveWord.Free = codes "free"
+read_live (LiveWord.Live epoch frame) = epoch_words epoch
+read_live (LiveWord.Closing epoch by) = with_one (codes "closing by core") by
+read_live (LiveWord.Dead epoch stamp) = codes "dead"
 
 abbrev pub live_text : Option LiveWord → List ℕ
 live_text None = unknown

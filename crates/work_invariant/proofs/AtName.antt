@@ -1,37 +1,29 @@
 -- What the look-up of a call with one name and no target ends in: a look answers what its name has led to; a retype has found its range,
 -- which has the frame or does not.
-use Rattle.comp_invariant.proofs.Common.{acts, IsTrue}
-use Rattle.comp_invariant.proofs.Common.{◌≡◌, ◌≢◌, ◌⊎◌, inl, inr, ℕ, ◌+◌, ◌<◌, ◌≤◌, ◌&&◌, not, nat_le, nat_lt, Bool, true, false, List}
-use Rattle.comp_invariant.proofs.Common.{[], ◌∷◌, Some, None, arith, refl, sym, ◌∙◌, ap, subst, if◌then◌else◌, map, ltb-true, lt-ltb}
-use Rattle.comp_invariant.proofs.Common.{false≢true, Capability, Setting, IsSetting, FrameKind, Kind, Retype, EntryAt, LoadOf, State}
-use Rattle.comp_invariant.proofs.Common.{Slot, found, own, Refused, RuleMay, Does, first_of, first_cause, outcome, unless, Found, named}
-use Rattle.comp_invariant.proofs.Common.{has_frame, outside, retypes, rule_of, change_of, are_calls_spent, MayReply, counted, begins}
-use Rattle.comp_invariant.proofs.Common.{ends, flushes, state_by, Step, Trace, Open, state_after, last_left, own_left, refused_first}
-use Rattle.comp_invariant.proofs.Common.{ok_first, Carries, GoesBy, own_pages, wants, rule_after, Leads, LeadsIn, with_found, names_after}
-use Rattle.comp_invariant.proofs.Common.{outcome_left, left_may, CapNames, end_of_frames, Acquired, Load, Untyping, UntypesBy, Goes, Act}
-use Rattle.comp_invariant.proofs.Common.{act_begun, Undecided, ActiveCall, landed, found_more, Core, holds_counts, due_of, NamesAre}
-use Rattle.comp_invariant.proofs.Common.{phase_at, own_in, holds_in, Invariant, IsSome, All-nil, All-append, alone, way_to, HasReached}
-use Rattle.comp_invariant.proofs.Common.{IsJustified, Name, own_kept, to_look}
-use Rattle.comp_invariant.specs.spk_nums.specs.declared.kinds.FrameKind.TheVariants.{Untyped}
-use Rattle.comp_invariant.specs.spk_nums.specs.declared.kinds.Kind.TheVariants.{Range}
-use Rattle.comp_invariant.specs.spk_nums.specs.declared.calls.Call.TheVariants.{Look as look_call}
-use Rattle.comp_invariant.specs.spk_nums.specs.declared.replies.Reply.TheVariants as reply
-use Rattle.comp_invariant.specs.kernel_rules.specs.Access.{any}
-use Rattle.comp_invariant.specs.kernel_rules.specs.MemoryCalls.{not_retyped}
-use Rattle.comp_invariant.specs.act_states.specs.declared.untypings.UntypingAt.TheVariants.{Load as untype_load}
-use Rattle.comp_invariant.specs.act_states.specs.declared.work.Act.{Act as ActOf}
-use Rattle.comp_invariant.specs.act_states.specs.declared.work.Act.TheVariants.{Retype as type_act, Untype as untype_act}
-use Rattle.comp_invariant.specs.act_states.specs.Acts.{typing_to, types_if, types_at}
-use Rattle.comp_invariant.specs.core_invariant.specs.Knows.{TypesBy}
-use Rattle.comp_invariant.specs.spk_nums.specs.declared.replies.Value.TheVariants.{Cap}
-use Rattle.comp_invariant.specs.count_invariant.proofs.Lookups.{Arrives}
-use Rattle.comp_invariant.specs.count_invariant.proofs.Findings.{own_is, way_gone, gone_with}
+use Rattle.comp_invariant.specs.step_ways.proofs.{acts, IsTrue, ◌≡◌, ◌≢◌, ◌⊎◌, inl, inr, ℕ, ◌+◌, ◌<◌, ◌≤◌, ◌&&◌, not, leb as nat_le}
+use Rattle.comp_invariant.specs.step_ways.proofs.{ltb as nat_lt, Bool, true, false, List, [], ◌∷◌, Some, None, arith, refl, sym, ◌∙◌, ap}
+use Rattle.comp_invariant.specs.step_ways.proofs.{subst, if◌then◌else◌, map, ltb-true, lt-ltb, false≢true, Capability, Setting, IsSetting}
+use Rattle.comp_invariant.specs.step_ways.proofs.{FrameKind, Kind, Retype, EntryAt, LoadOf, State, Slot, found, own, Refused, RuleMay, Does}
+use Rattle.comp_invariant.specs.step_ways.proofs.{first_of, first_cause, outcome, unless, Found, named, has_frame, outside, rule_of}
+use Rattle.comp_invariant.specs.step_ways.proofs.{change_of, are_calls_spent, MayReply, counted, begins, ends, flushes, state_by, Step}
+use Rattle.comp_invariant.specs.step_ways.proofs.{Trace, Open, state_after, last_left, own_left, refused_first, ok_first, Carries, GoesBy}
+use Rattle.comp_invariant.specs.step_ways.proofs.{own_pages, rule_after, Leads, LeadsIn, names_after, outcome_left, left_may, CapNames}
+use Rattle.comp_invariant.specs.step_ways.proofs.{Acquired, Untyping, UntypesBy, Goes, Act, act_begun, Undecided, ActiveCall, landed}
+use Rattle.comp_invariant.specs.step_ways.proofs.{found_more, Core, holds_counts, due_of, NamesAre, phase_at, own_in, holds_in, Invariant}
+use Rattle.comp_invariant.specs.step_ways.proofs.{IsSome, alone, way_to, HasReached, IsJustified, Name, own_kept, Untype as untype_act}
+use Rattle.comp_invariant.specs.step_ways.proofs.{OnlyLooks, step_to, core_is, loads_on, decides_on, GoodTook, not_spent, does, plan_for}
+use Rattle.comp_invariant.specs.kernel_rules.specs.{retypes, to_look, Range, Look as look_call, any, not_retyped, Cap, Nothing as no_value}
+use Rattle.comp_invariant.specs.act_states.specs.{with_found, end_of_frames, types_if, types_at}
+use Rattle.comp_invariant.specs.count_invariant.proofs.{Arrives, own_is, way_gone}
+use Rattle.comp_invariant.specs.core_invariant.specs.{Retype as type_act, TypesBy}
+use Rattle.comp_invariant.specs.act_states.specs.{declared.typings.TypingAt.TheVariants.Load}
+use Rattle.comp_invariant.specs.act_states.specs.{declared.untypings.UntypingAt.TheVariants.Load as untype_load}
+use Rattle.comp_invariant.specs.act_states.specs.{declared.work.Act.Act as ActOf, Acts.typing_to}
+use Rattle.std.proofs.lemmas.List.Elements.{All-nil, All-append}
 use Rattle.work_invariant.proofs.ByCall.{one_left, first_same, look_state, look_begins, look_answers}
-use Rattle.comp_invariant.specs.step_ways.proofs.Loads.{OnlyLooks, step_to, core_is, loads_on, decides_on}
-use Rattle.comp_invariant.specs.step_ways.proofs.Refusals.{GoodTook, not_spent}
-use Rattle.comp_invariant.specs.kernel_rules.specs.Rules.{does}
-use Rattle.comp_invariant.specs.spk_nums.specs.declared.replies.Value.TheVariants.{Nothing as no_value}
-use Rattle.comp_invariant.specs.act_states.specs.call_plans.specs.PlanOf.{plan_for}
+use Rattle.{comp_invariant.specs.step_ways.proofs.Reply, comp_invariant.specs.call_plans.specs.GoesBy.wants}
+use Rattle.{comp_invariant.specs.spk_nums.specs.declared.kinds.FrameKind.TheVariants.Untyped}
+use Rattle.{comp_invariant.specs.count_invariant.proofs.Findings.gone_with}
 
 -- A frame of a range is one of the machine's.
 pub range_below : (frames : ℕ) (kind : Kind) (first number f : ℕ) → kind ≡ Range → end_of_frames kind first number ≤ frames
@@ -152,17 +144,17 @@ module _ (setup : Setting) (setting : IsSetting setup) (cores : ℕ → Core) (t
   -- it is not
   past : has_frame (found range) f ≡ false → Ends false
   past none lands =
-      decides_on setup setting cores t stands c here a active (LoadOf (EntryAt at.node at.index)) reply.OutOfRange (range ∷ []) looks lands
+      decides_on setup setting cores t stands c here a active (LoadOf (EntryAt at.node at.index)) Reply.OutOfRange (range ∷ []) looks lands
       (sym held_is) opens refl refl (λ x. refl) (λ x. refl) refl (
         unspent,
-        left_may s c (own_pages s c) (plan_for a.call) (rule_of s c a.call) (range ∷ []) by_plan leads reply.OutOfRange
-            (subst (λ x. RuleMay s c x reply.OutOfRange) (sym left) (inl (ap (λ b. not b) none, refl))),
+        left_may s c (own_pages s c) (plan_for a.call) (rule_of s c a.call) (range ∷ []) by_plan leads Reply.OutOfRange
+            (subst (λ x. RuleMay s c x Reply.OutOfRange) (sym left) (inl (ap (λ b. not b) none, refl))),
       ) tt
-      (λ is_alone. refused_first s c a.call reply.OutOfRange may_act unspent refused)
+      (λ is_alone. refused_first s c a.call Reply.OutOfRange may_act unspent refused)
     where
-      refused : change_of s c a.call ≡ Refused reply.OutOfRange
+      refused : change_of s c a.call ≡ Refused Reply.OutOfRange
       refused = outcome_left s c (own_pages s c) (plan_for a.call) (rule_of s c a.call) (range ∷ []) by_plan leads ∙ ap (outcome s c) left
-          ∙ ap (λ b. unless (first_of (if not b then Some reply.OutOfRange else None) (first_cause s c (not_retyped s f k)))
+          ∙ ap (λ b. unless (first_of (if not b then Some Reply.OutOfRange else None) (first_cause s c (not_retyped s f k)))
           (does c s no_value (retypes f k ∷ []))) none
 
   pub ranges_good : GoodTook setup cores t c (LoadOf (EntryAt at.node at.index))
@@ -189,12 +181,12 @@ module _ (setup : Setting) (setting : IsSetting setup) (cores : ℕ → Core) (t
   now = state_after setup t
 
   abbrev answer : Step
-  answer = step_to c None (LoadOf (EntryAt at.node at.index)) (last_left setup t (EntryAt at.node at.index)) (Some (reply.Ok (Cap k))) None
+  answer = step_to c None (LoadOf (EntryAt at.node at.index)) (last_left setup t (EntryAt at.node at.index)) (Some (Reply.Ok (Cap k))) None
 
   own_slot : own_in (cores c).own.table n ≡ own now c n
   own_slot = own_is now c (cores c).own.table n (stands.each c here).works.table
 
-  permitted : MayReply now c (look_call n) (reply.Ok (Cap k))
+  permitted : MayReply now c (look_call n) (Reply.Ok (Cap k))
   permitted = (
     not_spent setup (cores c) t c (core_is setup setting cores t stands c here a active) room,
     (subst (λ x. IsTrue (acts now c x)) call_is may_act, look_answers now c n k is),
@@ -208,14 +200,14 @@ module _ (setup : Setting) (setting : IsSetting setup) (cores : ℕ → Core) (t
   pub looked_good : GoodTook setup cores t c (LoadOf (EntryAt at.node at.index))
       (landed (found_more a (k ∷ [])) (act_begun (cores c).own (look_call n) (k ∷ []) None None))
   looked_good lands =
-      decides_on setup setting cores t stands c here a active (LoadOf (EntryAt at.node at.index)) (reply.Ok (Cap k)) (k ∷ []) looks
+      decides_on setup setting cores t stands c here a active (LoadOf (EntryAt at.node at.index)) (Reply.Ok (Cap k)) (k ∷ []) looks
       lands (ap (holds_counts (Some None)) no_counts ∙ sym (ap (holds_counts None) no_counts) ∙ sym held_is) opens
-      (subst (λ x. state_by now c x (reply.Ok (Cap k)) ≡ counted now c) (sym call_is) (look_state now c n k is)) refl
-      (λ x. subst (λ y. begins now c y (reply.Ok (Cap k)) x ≡ false) (sym call_is) (look_begins now c n k is x))
-      (λ x. subst (λ y. ends y (reply.Ok (Cap k)) x ≡ false) (sym call_is) refl)
-      (subst (λ y. flushes y (reply.Ok (Cap k)) ≡ false) (sym call_is) refl)
-      (subst (λ x. MayReply now c x (reply.Ok (Cap k))) (sym call_is) permitted)
-      (subst (λ x. IsJustified setup t answer x (reply.Ok (Cap k))) (sym call_is)
+      (subst (λ x. state_by now c x (Reply.Ok (Cap k)) ≡ counted now c) (sym call_is) (look_state now c n k is)) refl
+      (λ x. subst (λ y. begins now c y (Reply.Ok (Cap k)) x ≡ false) (sym call_is) (look_begins now c n k is x))
+      (λ x. subst (λ y. ends y (Reply.Ok (Cap k)) x ≡ false) (sym call_is) refl)
+      (subst (λ y. flushes y (Reply.Ok (Cap k)) ≡ false) (sym call_is) refl)
+      (subst (λ x. MayReply now c x (Reply.Ok (Cap k))) (sym call_is) permitted)
+      (subst (λ x. IsJustified setup t answer x (Reply.Ok (Cap k))) (sym call_is)
       (All-append (λ (x : Slot). IsSome (own_left (answer ∷ t) c (EntryAt x.node x.index))) (way_to now c (own now c n)) [] stepped
       (All-nil (λ (x : Slot). IsSome (own_left (answer ∷ t) c (EntryAt x.node x.index))))))
-      (λ is_alone. subst (λ x. reply.Ok (Cap k) ≡ alone now c x) (sym call_is) (ok_first now c (look_call n) (Cap k) permitted))
+      (λ is_alone. subst (λ x. Reply.Ok (Cap k) ≡ alone now c x) (sym call_is) (ok_first now c (look_call n) (Cap k) permitted))

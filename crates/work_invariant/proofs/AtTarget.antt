@@ -1,44 +1,31 @@
 -- The act with which a call begins at a target that is to be free: it fills the place, it makes an object in a frame of its range, or this
 -- frame is out of range.
-use Rattle.comp_invariant.proofs.Common.{IsSome, ◌≡◌, inl, ℕ, ◌<◌, ◌&&◌, nat_lt, Bool, true, false, List, [], ◌∷◌, Option, Some}
-use Rattle.comp_invariant.proofs.Common.{refl}
-use Rattle.comp_invariant.proofs.Common.{sym, ◌∙◌, ap, subst, IsTrue, arith, if◌then◌else◌, None, ◌≤◌, inr, lt-ltb, le-leb, false≢true}
-use Rattle.comp_invariant.proofs.Common.{kept, right_to_copy, Capability, cap_of, Setting, IsSetting, Kind, Call, Copy, Remove, Shrink}
-use Rattle.comp_invariant.proofs.Common.{Unmap, Retype, Tick, Gate}
-use Rattle.comp_invariant.proofs.Common.{Kill, Grow, Flush, Map, Touch, Ret, Transfer, Delegate, Test, Switch, Make, InLimits, PageFlags}
-use Rattle.comp_invariant.proofs.Common.{EntryFits, entry_of_word, State, found, only, named, has_frame, only_is, opened, events_of}
-use Rattle.comp_invariant.proofs.Common.{IsLegal, Trace, Out, Open, phase, state_after, WasAt, sound_of, opened_is, quiet_scan, First}
-use Rattle.comp_invariant.proofs.Common.{Second, Plan, Spot, Nowhere, at_place, of_kind, plan_for, Leads, LeadsIn, names_after, Own}
-use Rattle.comp_invariant.proofs.Common.{NewObject, Outside, object_made, put_by, reads_of, stamp_shown, act_begun, fills_page, page_cap}
-use Rattle.comp_invariant.proofs.Common.{ReadIs, IsSpot, KnowsAct, goes_on, limits_of, WorkStep, ◌+◌, ◌-◌}
-use Rattle.comp_invariant.specs.spk_nums.specs.declared.kinds.FrameKind.TheVariants as frame_kind
-use Rattle.comp_invariant.specs.spk_nums.specs.declared.kinds.Kind.TheVariants as kind
-use Rattle.comp_invariant.specs.spk_nums.specs.declared.calls.Call.TheVariants.{Look as look_call, Part, Replenish}
-use Rattle.comp_invariant.specs.spk_nums.specs.declared.calls.Call.TheVariants.{Make as make_call}
-use Rattle.comp_invariant.specs.spk_nums.specs.declared.calls.Call.TheVariants.{Call as call_gate}
-use Rattle.comp_invariant.specs.spk_nums.specs.declared.calls.Make.TheVariants as make
-use Rattle.comp_invariant.specs.spk_nums.specs.Rights.{part_of, both, right_to_use}
-use Rattle.comp_invariant.specs.entry_words.specs.declared.entry.Entry.TheVariants as entry
-use Rattle.comp_invariant.specs.kernel_rules.specs.Start.{plain_cap}
-use Rattle.comp_invariant.specs.kernel_rules.specs.Fitting.{EndsWithin, IsGood}
-use Rattle.comp_invariant.specs.entry_words.proofs.Spelling.{kept_fits}
-use Rattle.comp_invariant.specs.kernel_rules.specs.Rules.{Found as Found_it}
-use Rattle.comp_invariant.specs.kernel_rules.specs.CapabilityCalls.{has_frames}
-use Rattle.comp_invariant.specs.kernel_invariant.proofs.Facts.{named_good}
-use Rattle.comp_invariant.specs.stage_look.specs.declared.look.Found.{Found}
-use Rattle.comp_invariant.specs.call_plans.specs.declared.plans.Nth.{Nth}
-use Rattle.comp_invariant.specs.call_plans.specs.declared.plans.Spot.TheVariants as spot_of
+use Rattle.comp_invariant.specs.step_ways.proofs.{IsSome, ◌≡◌, inl, ℕ, ◌<◌, ◌&&◌, ltb as nat_lt, Bool, true, false, List, [], ◌∷◌, Option}
+use Rattle.comp_invariant.specs.step_ways.proofs.{Some, refl, sym, ◌∙◌, ap, subst, IsTrue, arith, if◌then◌else◌, None, ◌≤◌, inr, lt-ltb}
+use Rattle.comp_invariant.specs.step_ways.proofs.{le-leb, false≢true, Capability, Setting, IsSetting, Kind, Call, Copy, Shrink, Unmap}
+use Rattle.comp_invariant.specs.step_ways.proofs.{Retype, Gate, Grow, Ret, Transfer, Delegate, Test, InLimits, EntryFits, entry_of_word}
+use Rattle.comp_invariant.specs.step_ways.proofs.{State, found, only, named, has_frame, only_is, opened, events_of, IsLegal, Trace, Out}
+use Rattle.comp_invariant.specs.step_ways.proofs.{Open, phase, state_after, WasAt, sound_of, opened_is, quiet_scan, First, Second, Plan}
+use Rattle.comp_invariant.specs.step_ways.proofs.{Spot, Nowhere, at_place, of_kind, plan_for, Leads, LeadsIn, names_after, Own, NewObject}
+use Rattle.comp_invariant.specs.step_ways.proofs.{Outside, object_made, put_by, reads_of, stamp_shown, act_begun, page_cap, ReadIs, IsSpot}
+use Rattle.comp_invariant.specs.step_ways.proofs.{KnowsAct, goes_on, limits_of, WorkStep, ◌+◌, ◌-◌, Part, Replenish, Make as make_call}
+use Rattle.comp_invariant.specs.step_ways.proofs.{plain_cap, Found as Found_it, FrameKind, Entry}
+use Rattle.comp_invariant.specs.act_states.specs.{cap_of, Remove, Tick, Kill, Flush, Map, Touch, Switch, PageFlags, fills_page, part_of}
+use Rattle.comp_invariant.specs.act_states.specs.{has_frames, gate_if, gate_to, fills_with, scans, stamp_in, stamp_of_act, filling}
+use Rattle.comp_invariant.specs.act_states.specs.{makes_at, maps_if, made_begun}
+use Rattle.comp_invariant.specs.kernel_rules.specs.{kept, right_to_copy, Make, Look as look_call, both, right_to_use, EndsWithin, IsGood}
+use Rattle.comp_invariant.specs.core_invariant.specs.{OutsideBy, is_start, HasUser}
 use Rattle.comp_invariant.specs.call_plans.specs.declared.plans.Target.TheVariants.{Free, Held, Own as own_page}
 use Rattle.comp_invariant.specs.call_plans.specs.PlanOf.{any_cap, a_root, a_leaf, a_whole}
-use Rattle.comp_invariant.specs.act_states.specs.declared.work.Act.{Act as ActOf}
-use Rattle.comp_invariant.specs.act_states.specs.Acts.{gate_if, gate_to, fills_with, scans, stamp_in}
-use Rattle.comp_invariant.specs.act_states.specs.Acts.{stamp_of_act, filling, making, making_if, makes_at}
-use Rattle.comp_invariant.specs.act_states.specs.Acts.{mapping, mapping_if, maps_if, made_begun, comp_making, comp_if, part_if}
-use Rattle.comp_invariant.specs.core_invariant.specs.Knows.{IsRead, OutsideBy, is_start, HasUser}
+use Rattle.comp_invariant.specs.act_states.specs.Acts.{making, making_if, mapping, mapping_if, comp_making, comp_if, part_if}
 use Rattle.comp_invariant.specs.place_invariant.proofs.CompMakes.{IsCompMake, comp_make}
 use Rattle.comp_invariant.specs.place_invariant.proofs.ObjectMakes.{made_of, TwoFound, object_make}
-use Rattle.work_invariant.proofs.AtName.{range_below}
 use Rattle.comp_invariant.specs.kernel_rules.proofs.PartFrames.{first_in, last_in}
+use Rattle.{comp_invariant.specs.spk_nums.specs.declared.calls.Call.TheVariants.Call as call_gate}
+use Rattle.{comp_invariant.specs.entry_words.proofs.Spelling.kept_fits, comp_invariant.specs.kernel_invariant.proofs.Facts.named_good}
+use Rattle.{comp_invariant.specs.stage_look.specs.declared.look.Found.Found, comp_invariant.specs.call_plans.specs.declared.plans.Nth.Nth}
+use Rattle.{comp_invariant.specs.act_states.specs.declared.work.Act.Act as ActOf}
+use Rattle.{comp_invariant.specs.core_invariant.specs.Components.IsRead, work_invariant.proofs.AtName.range_below}
 
 -- What such a call begins with where it has found its place: an act, which starts after a scan, if there is one; what it knows of it where
 -- it may fill the place; and one that is out of range is so by the call.
@@ -53,22 +40,22 @@ pub record Begins (own : Own) (call : Call) (plan : Plan) (ks : List Capability)
   pub outside : goes_on act ≡ false → OutsideBy call ks
 
 -- A range that is named ends within the machine's frames, and so each of its frames is one of them.
-good_within : (s : State) (range : Capability) (f : ℕ) → IsGood s range → range.kind ≡ kind.Range
+good_within : (s : State) (range : Capability) (f : ℕ) → IsGood s range → range.kind ≡ Kind.Range
     → has_frame (found range) f ≡ true → f < s.limits.frames
 good_within s range f good is has =
-    range_below s.limits.frames kind.Range range.frame range.arg f refl
+    range_below s.limits.frames Kind.Range range.frame range.arg f refl
     (subst (λ (k : Kind). EndsWithin k range.frame range.arg s.limits.frames) is good.within) has
 
 pub range_within : (setup : Setting) → IsSetting setup → (t : Trace) → IsLegal setup t → (c : ℕ) (call : Call) → phase t c ≡ Open call
     → (needs r f : ℕ) (range : Capability)
-    → named (state_after setup t) c r (record { kinds = only kind.Range; needs = needs }) ≡ Found_it range
+    → named (state_after setup t) c r (record { kinds = only Kind.Range; needs = needs }) ≡ Found_it range
     → has_frame (found range) f ≡ true → f < setup.frames
 range_within setup setting t legal c call is_open needs r f range is has =
-    let good : IsGood (state_after setup t) range × IsTrue (only kind.Range range.kind) = named_good (state_after setup t)
-    (opened (events_of t)) c r (record { kinds = only kind.Range; needs = needs }) range (sound_of setup setting t legal)
+    let good : IsGood (state_after setup t) range × IsTrue (only Kind.Range range.kind) = named_good (state_after setup t)
+    (opened (events_of t)) c r (record { kinds = only Kind.Range; needs = needs }) range (sound_of setup setting t legal)
     (opened_is t c call is_open) is in
     subst (λ (n : ℕ). f < n) (ap (λ l. l.frames) (limits_of setup t))
-    (good_within (state_after setup t) range f good.0 (only_is kind.Range range.kind good.1) has)
+    (good_within (state_after setup t) range f good.0 (only_is Kind.Range range.kind good.1) has)
 
 -- What holds now has held at a moment of a call that is open.
 pub was_while_open : (P : State → Type 0) (setup : Setting) (t : Trace) (c : ℕ) (call : Call) → phase t c ≡ Open call
@@ -84,7 +71,7 @@ module _ (own : Own) (plan : Plan) (read : Option ℕ) (c : ℕ) (own_core : own
   begins_fill : (call : Call) (ks : List Capability) (k : Capability)
       → act_begun own call ks read (Some at)
       ≡ scans own.core (quiet_scan (stamp_in at.value) own.core own.layout.cores (fills_page call ks)) (filling k at)
-      → EntryFits (entry.Held k) → put_by call ks read ≡ Some k → ((setup : Setting) (t : Trace) → HasUser setup t c call)
+      → EntryFits (Entry.Held k) → put_by call ks read ≡ Some k → ((setup : Setting) (t : Trace) → HasUser setup t c call)
       → Begins own call plan ks read c at
   begins_fill call ks k begins fits puts user = record {
     act = filling k at;
@@ -155,7 +142,7 @@ module _ (own : Own) (plan : Plan) (read : Option ℕ) (c : ℕ) (own_core : own
         ≡ part_scan (part_if (has && nat_lt f own.layout.frames) (part_of range f n) at)
     part_within has is = ap (λ b. part_scan (part_if (b && nat_lt f own.layout.frames) (part_of range f n) at)) is
 
-    begins_part : EntryFits (entry.Held range) → own.layout.frames ≤ 512
+    begins_part : EntryFits (Entry.Held range) → own.layout.frames ≤ 512
         → ((g : ℕ) → has_frame (found range) g ≡ true → g < own.layout.frames)
         → Begins own (Part r f n u b) plan (range ∷ rest) read c at
     begins_part fits small below = by (has_frames (found range) f n) refl
@@ -180,7 +167,7 @@ module _ (own : Own) (plan : Plan) (read : Option ℕ) (c : ℕ) (own_core : own
   -- what a make of an object does
   object_begun : (what : Make) (ks : List Capability) (object : NewObject) → object_made what ks ≡ Some object → (f : ℕ)
       → made_begun own what ks f (Some at) ≡ makes_at own (object_made what ks) (at_place ks First) f (Some at)
-  object_begun (make.Comp table pages live) ks object is f = absurd (none_some is)
+  object_begun (Make.Comp table pages live) ks object is f = absurd (none_some is)
     where
       none_some : None ≡ Some object → ⊥
       none_some h = cc
@@ -240,15 +227,15 @@ module _ (own : Own) (plan : Plan) (read : Option ℕ) (c : ℕ) (own_core : own
   comp_scan act = scans own.core (quiet_scan (stamp_in at.value) own.core own.layout.cores false) act
 
   comp_within : (has : Bool) → has_frame (found range) f ≡ has
-      → act_begun own (make_call (make.Comp x p live) r f u b) four read (Some at)
+      → act_begun own (make_call (Make.Comp x p live) r f u b) four read (Some at)
       ≡ comp_scan (comp_if (has && nat_lt f own.layout.frames) own live table pages f at)
   comp_within has by = ap (λ b. comp_scan (comp_if (b && nat_lt f own.layout.frames) own live table pages f at)) by
 
   begins_comp : (has_frame (found range) f ≡ true → f < own.layout.frames)
-      → Begins own (make_call (make.Comp x p live) r f u b) plan four read c at
+      → Begins own (make_call (Make.Comp x p live) r f u b) plan four read c at
   begins_comp below = by (has_frame (found range) f) refl
     where
-      by : (has : Bool) → has_frame (found range) f ≡ has → Begins own (make_call (make.Comp x p live) r f u b) plan four read c at
+      by : (has : Bool) → has_frame (found range) f ≡ has → Begins own (make_call (Make.Comp x p live) r f u b) plan four read c at
       by true has = record {
         act = comp_making own live table pages f at;
         begins = comp_within true has ∙ ap (λ b. comp_scan (comp_if b own live table pages f at)) (lt-ltb f own.layout.frames (below has));
@@ -277,26 +264,26 @@ module _ (own : Own) (plan : Plan) (read : Option ℕ) (c : ℕ) (own_core : own
 record GateOf (comp : Capability) (read : Option ℕ) : Type 0 where
   cap : Capability
   is : gate_to (Some comp) read ≡ Some cap
-  fits : EntryFits (entry.Held cap)
+  fits : EntryFits (Entry.Held cap)
 
-gate_of : (s : State) (c : ℕ) (comp : Capability) (read : Option ℕ) → IsRead s c comp.frame read → EntryFits (entry.Held comp)
+gate_of : (s : State) (c : ℕ) (comp : Capability) (read : Option ℕ) → IsRead s c comp.frame read → EntryFits (Entry.Held comp)
     → GateOf comp read
 gate_of s c comp read has fits = record {
-  cap = cap_of kind.Gate comp.frame has.life.epoch;
+  cap = cap_of Kind.Gate comp.frame has.life.epoch;
   is = ap (gate_to (Some comp)) has.epoch ∙ ap (λ b. gate_if b comp.frame has.life.epoch) (le-leb 1 has.life.epoch has.fits.1);
   fits = (fits.0, has.fits.1, has.fits.2, omega arith, omega arith);
 }
 
 -- A link to a frame that a capability names is a capability.
-link_fits : (leaf : Capability) → EntryFits (entry.Held leaf) → EntryFits (entry.Held (plain_cap kind.Link leaf.frame))
+link_fits : (leaf : Capability) → EntryFits (Entry.Held leaf) → EntryFits (Entry.Held (plain_cap Kind.Link leaf.frame))
 link_fits leaf fits = (fits.0, omega arith, omega arith, omega arith, omega arith)
 
 pub begins_free : (own : Own) (call : Call) → InLimits call → own.layout.frames ≤ 512 → (spot : Spot)
     → (plan_for call).target ≡ Free spot
     → (s : State) (plan : Plan) (ks : List Capability) (read : Option ℕ) (c : ℕ) → own.core ≡ c
     → names_after (plan_for call).names ks ≡ [] → Leads (LeadsIn s c) (plan_for call).names [] ks
-    → ((at : Nth) (k : Capability) → at_place ks at ≡ Some k → EntryFits (entry.Held k))
-    → ((needs r f : ℕ) (range : Capability) → named s c r (record { kinds = only kind.Range; needs = needs }) ≡ Found_it range
+    → ((at : Nth) (k : Capability) → at_place ks at ≡ Some k → EntryFits (Entry.Held k))
+    → ((needs r f : ℕ) (range : Capability) → named s c r (record { kinds = only Kind.Range; needs = needs }) ≡ Found_it range
     → has_frame (found range) f ≡ true → f < own.layout.frames)
     → ReadIs s c (reads_of call ks) read
     → (at : Found) → Begins own call plan ks read c at
@@ -306,7 +293,7 @@ begins_free own (look_call a) limits small spot to s plan ks read c core none le
     not_free h = cc
 begins_free own (Copy a u b rights) limits small spot to s plan [] read c core none leads fits within reads at = absurd (not_none none)
   where
-    not_none : any_cap right_to_copy a ∷ of_kind kind.Table u ∷ [] ≡ [] → ⊥
+    not_none : any_cap right_to_copy a ∷ of_kind Kind.Table u ∷ [] ≡ [] → ⊥
     not_none h = cc
 begins_free own (Copy a u b rights) limits small spot to s plan (k ∷ ks) read c core none leads fits within reads at =
     begins_fill own plan read c core at (Copy a u b rights) (k ∷ ks) (kept k rights.0) refl (kept_fits k rights.0 (fits First k refl)) refl
@@ -320,48 +307,48 @@ begins_free own (Grow u i l) limits small spot to s plan (k ∷ []) read c core 
     not_none : a_leaf l ∷ [] ≡ [] → ⊥
     not_none h = cc
 begins_free own (Grow u i l) limits small spot to s plan (k ∷ j ∷ ks) read c core none leads fits within reads at =
-    begins_fill own plan read c core at (Grow u i l) (k ∷ j ∷ ks) (plain_cap kind.Link j.frame) refl
+    begins_fill own plan read c core at (Grow u i l) (k ∷ j ∷ ks) (plain_cap Kind.Link j.frame) refl
     (link_fits j (fits Second j refl)) refl (λ setup t. tt)
 begins_free own (Map p v r f w) limits small spot to s plan [] read c core none leads fits within reads at = absurd (not_none none)
   where
-    not_none : of_kind kind.Pages p ∷ of_kind kind.Range r ∷ [] ≡ [] → ⊥
+    not_none : of_kind Kind.Pages p ∷ of_kind Kind.Range r ∷ [] ≡ [] → ⊥
     not_none h = cc
 begins_free own (Map p v r f w) limits small spot to s plan (k ∷ []) read c core none leads fits within reads at = absurd (not_none none)
   where
-    not_none : of_kind kind.Range r ∷ [] ≡ [] → ⊥
+    not_none : of_kind Kind.Range r ∷ [] ≡ [] → ⊥
     not_none h = cc
 begins_free own (Map p v r f w) limits small spot to s plan (k ∷ j ∷ ks) read c core none leads fits within reads at =
     begins_map own plan read c core at p v r f w k j ks limits small (within right_to_use r f j leads.1.0)
 begins_free own (Remove u b) limits small spot to s plan ks read c core none leads fits within reads at = absurd (not_free to)
   where
-    not_free : Held (spot_of.Under First b) ≡ Free spot → ⊥
+    not_free : Held (Spot.Under First b) ≡ Free spot → ⊥
     not_free h = cc
 begins_free own (Shrink u i) limits small spot to s plan ks read c core none leads fits within reads at = absurd (not_free to)
   where
-    not_free : Held (spot_of.InRoot First i) ≡ Free spot → ⊥
+    not_free : Held (Spot.InRoot First i) ≡ Free spot → ⊥
     not_free h = cc
 begins_free own (Unmap p v) limits small spot to s plan ks read c core none leads fits within reads at = absurd (not_free to)
   where
-    not_free : Held (spot_of.Under First v) ≡ Free spot → ⊥
+    not_free : Held (Spot.Under First v) ≡ Free spot → ⊥
     not_free h = cc
-begins_free own (Retype r f frame_kind.Untyped) limits small spot to s plan ks read c core none leads fits within reads at = absurd
+begins_free own (Retype r f FrameKind.Untyped) limits small spot to s plan ks read c core none leads fits within reads at = absurd
     (not_target to)
   where
     not_target : Nowhere ≡ Free spot → ⊥
     not_target h = cc
-begins_free own (Retype r f frame_kind.User) limits small spot to s plan ks read c core none leads fits within reads at =
+begins_free own (Retype r f FrameKind.User) limits small spot to s plan ks read c core none leads fits within reads at =
     absurd (not_target to)
   where
     not_target : Nowhere ≡ Free spot → ⊥
     not_target h = cc
-begins_free own (Retype r f frame_kind.Kernel) limits small spot to s plan ks read c core none leads fits within reads at = absurd
+begins_free own (Retype r f FrameKind.Kernel) limits small spot to s plan ks read c core none leads fits within reads at = absurd
     (not_target to)
   where
     not_target : Nowhere ≡ Free spot → ⊥
     not_target h = cc
-begins_free own (make_call (make.Comp x p live) r f u b) limits small spot to s plan ks read c core none leads fits within reads at =
+begins_free own (make_call (Make.Comp x p live) r f u b) limits small spot to s plan ks read c core none leads fits within reads at =
     let of : IsCompMake s c r f u b x p live ks = comp_make s c r f u b x p live ks leads none in
-    subst (λ ks. Begins own (make_call (make.Comp x p live) r f u b) plan ks read c at) (sym of.found_is)
+    subst (λ ks. Begins own (make_call (Make.Comp x p live) r f u b) plan ks read c at) (sym of.found_is)
     (begins_comp own plan read c core at x p live r f u b of.range of.second of.table of.pages (within right_to_use r f of.range of.first))
 begins_free own (make_call what r f u b) limits small spot to s plan ks read c core none leads fits within reads at =
     made_of what tt r f u b ks none (Begins own (make_call what r f u b) plan ks read c at) (λ object is.
@@ -383,7 +370,7 @@ begins_free own (Tick n) limits small spot to s plan ks read c core none leads f
     not_target h = cc
 begins_free own (Gate n u b) limits small spot to s plan [] read c core none leads fits within reads at = absurd (not_none none)
   where
-    not_none : of_kind kind.Comp n ∷ of_kind kind.Table u ∷ [] ≡ [] → ⊥
+    not_none : of_kind Kind.Comp n ∷ of_kind Kind.Table u ∷ [] ≡ [] → ⊥
     not_none h = cc
 begins_free own (Gate n u b) limits small spot to s plan (k ∷ ks) read c core none leads fits within reads at =
     let gate : GateOf k read = gate_of s c k read reads (fits First k refl) in
@@ -424,7 +411,7 @@ begins_free own (Switch x y) limits small spot to s plan ks read c core none lea
     not_target h = cc
 begins_free own (Part r f n u b) limits small spot to s plan [] read c core none leads fits within reads at = absurd (not_none none)
   where
-    not_none : a_whole r ∷ of_kind kind.Table u ∷ [] ≡ [] → ⊥
+    not_none : a_whole r ∷ of_kind Kind.Table u ∷ [] ≡ [] → ⊥
     not_none h = cc
 begins_free own (Part r f n u b) limits small spot to s plan (k ∷ ks) read c core none leads fits within reads at =
     begins_part own plan read c core at r f n u b k ks (fits First k refl) small (λ g has. within both r g k leads.0 has)

@@ -1,49 +1,39 @@
 -- What look-ups end in, call by call: the causes that refuse a target, the act that begins at one, and what a look answers.
-use Rattle.comp_invariant.proofs.Common.{◌≡◌, ℕ, nat_le, nat_lt, ◌&&◌, Bool, true, false, if◌then◌else◌, IsTrue, List, [], ◌∷◌, Some}
-use Rattle.comp_invariant.proofs.Common.{None, refl, sym, ◌∙◌, ap, subst, leb-false, lt-ltb, Capability, Call, Copy, Remove, Shrink}
-use Rattle.comp_invariant.proofs.Common.{Unmap, Retype, Tick, Gate, Kill, Grow, Flush, Map, Touch, Ret, Transfer, Delegate, Test, Switch}
-use Rattle.comp_invariant.proofs.Common.{Make, State, Thing, Holds, PlaceOf, Slot, Named, found, place_at, held_in, reached, own, InRoot}
-use Rattle.comp_invariant.proofs.Common.{Refused, IsFoundAnd, Does, outcome, and_then, or_refuse, unless, not_vacant, named}
-use Rattle.comp_invariant.proofs.Common.{vacant, change_of, changed, counted, begins_in, some_inj, First, Second, Name, Spot, Nowhere}
-use Rattle.comp_invariant.proofs.Common.{plan_for, names_after, removes_by, act_begun, Own, to_look}
-use Rattle.comp_invariant.specs.spk_nums.specs.declared.calls.Call.TheVariants.{Look as look_call, Part, Replenish}
-use Rattle.comp_invariant.specs.spk_nums.specs.declared.calls.Call.TheVariants.{Make as make_call}
-use Rattle.comp_invariant.specs.spk_nums.specs.declared.calls.Call.TheVariants.{Call as call_gate}
-use Rattle.comp_invariant.specs.spk_nums.specs.declared.calls.Make.TheVariants as make
-use Rattle.comp_invariant.specs.spk_nums.specs.declared.kinds.FrameKind.TheVariants as frame_kind
-use Rattle.comp_invariant.specs.spk_nums.specs.declared.replies.Value.TheVariants.{Cap}
-use Rattle.comp_invariant.specs.spk_nums.specs.declared.replies.Reply.TheVariants as reply
-use Rattle.comp_invariant.specs.kernel_rules.specs.Access.{capability, any, Target as place}
-use Rattle.comp_invariant.specs.kernel_rules.specs.Rules.{Found as Found_it, held, does}
-use Rattle.comp_invariant.specs.kernel_rules.specs.CapabilityCalls.{look_rule}
-use Rattle.comp_invariant.specs.stage_look.specs.declared.look.Found.{Found}
-use Rattle.comp_invariant.specs.call_plans.specs.declared.plans.Spot.TheVariants as spot_of
-use Rattle.comp_invariant.specs.call_plans.specs.declared.plans.Target.TheVariants.{Free, Held, Own as own_page}
-use Rattle.comp_invariant.specs.call_plans.specs.Plans.{head}
-use Rattle.comp_invariant.specs.call_plans.specs.PlanOf.{plan_of_make}
-use Rattle.comp_invariant.specs.act_states.specs.Acts.{removes_at}
+use Rattle.comp_invariant.specs as low
+use low.act_states.proofs.{◌≡◌, ℕ, leb as nat_le, ltb as nat_lt, ◌&&◌, Bool, true, false, if◌then◌else◌, IsTrue, List, [], ◌∷◌, Some, None}
+use low.act_states.proofs.{refl, sym, ◌∙◌, ap, subst, leb-false, lt-ltb, Capability, Call, Copy, Remove, Shrink, Unmap, Retype, Tick, Gate}
+use low.act_states.proofs.{Kill, Grow, Flush, Map, Touch, Ret, Transfer, Delegate, Test, Switch, Make, State, Thing, Holds, PlaceOf, Slot}
+use low.act_states.proofs.{Named, found, place_at, held_in, reached, InRoot, Refused, IsFoundAnd, Does, outcome, and_then, or_refuse}
+use low.act_states.proofs.{unless, not_vacant, named, vacant, change_of, changed, counted, begins_in, some_inj, First, Second, Name, Spot}
+use low.act_states.proofs.{Nowhere, plan_for, names_after, act_begun, Part, Replenish, Target as place, Found as Found_it, does, FrameKind}
+use low.kernel_rules.specs.{own, to_look, Look as look_call, Cap, capability, any, held}
+use low.act_states.specs.{removes_by, Make as make_call, removes_at}
+use low.call_plans.specs.{head, plan_of_make}
+use low.call_plans.specs.declared.plans.Target.TheVariants.{Free, Held, Own as own_page}
+use low.{act_states.proofs.Reply, act_states.specs.declared.own.Own.Own, spk_nums.specs.declared.calls.Call.TheVariants.Call as call_gate}
+use low.{kernel_rules.specs.CapabilityCalls.look_rule, stage_look.specs.declared.look.Found.Found}
 
 -- A target is refused where it has no slot, and one that is to be free where it is held.
-pub vacant_no_slot : (s : State) (c : ℕ) (target : place) → reached s c target ≡ None → vacant s c target ≡ Refused reply.NoSlot
+pub vacant_no_slot : (s : State) (c : ℕ) (target : place) → reached s c target ≡ None → vacant s c target ≡ Refused Reply.NoSlot
 vacant_no_slot s c target none =
-    ap (λ o. and_then (or_refuse o reply.NoSlot) λ at. unless (not_vacant s c (PlaceOf at.node at.index) (place_at s at)) at) none
+    ap (λ o. and_then (or_refuse o Reply.NoSlot) λ at. unless (not_vacant s c (PlaceOf at.node at.index) (place_at s at)) at) none
 
 pub vacant_occupied : (s : State) (c : ℕ) (target : place) (at : Slot) (i : Capability) → reached s c target ≡ Some at
-    → place_at s at ≡ Holds i → vacant s c target ≡ Refused reply.Occupied
+    → place_at s at ≡ Holds i → vacant s c target ≡ Refused Reply.Occupied
 vacant_occupied s c target at i is holds =
-    ap (λ o. and_then (or_refuse o reply.NoSlot) λ at. unless (not_vacant s c (PlaceOf at.node at.index) (place_at s at)) at) is
+    ap (λ o. and_then (or_refuse o Reply.NoSlot) λ at. unless (not_vacant s c (PlaceOf at.node at.index) (place_at s at)) at) is
     ∙ ap (λ p. unless (not_vacant s c (PlaceOf at.node at.index) p) at) holds
 
-pub held_no_slot : (s : State) (c : ℕ) (target : place) → reached s c target ≡ None → held s c target ≡ Refused reply.NoSlot
+pub held_no_slot : (s : State) (c : ℕ) (target : place) → reached s c target ≡ None → held s c target ≡ Refused Reply.NoSlot
 held_no_slot s c target none =
-    ap (λ o. and_then (or_refuse o reply.NoSlot) λ at. and_then (or_refuse (held_in (place_at s at)) reply.Empty) λ k. Found_it (at, k))
+    ap (λ o. and_then (or_refuse o Reply.NoSlot) λ at. and_then (or_refuse (held_in (place_at s at)) Reply.Empty) λ k. Found_it (at, k))
     none
 
 pub held_empty : (s : State) (c : ℕ) (target : place) (at : Slot) → reached s c target ≡ Some at → held_in (place_at s at) ≡ None
-    → held s c target ≡ Refused reply.Empty
+    → held s c target ≡ Refused Reply.Empty
 held_empty s c target at is empty =
-    ap (λ o. and_then (or_refuse o reply.NoSlot) λ at. and_then (or_refuse (held_in (place_at s at)) reply.Empty) λ k. Found_it (at, k)) is
-    ∙ ap (λ o. and_then (or_refuse o reply.Empty) λ k. Found_it (at, k)) empty
+    ap (λ o. and_then (or_refuse o Reply.NoSlot) λ at. and_then (or_refuse (held_in (place_at s at)) Reply.Empty) λ k. Found_it (at, k)) is
+    ∙ ap (λ o. and_then (or_refuse o Reply.Empty) λ k. Found_it (at, k)) empty
 
 -- An entry past its range.
 pub past_entry : (i : ℕ) → nat_le i 63 ≡ false → IsTrue (nat_lt 63 i)
@@ -60,8 +50,8 @@ past_entry_unreached s c root i past = by root.found
     by false = refl
 
 -- The target of a call that makes an object.
-pub make_target : (what : Make) (r u b : ℕ) → (plan_of_make what r u b).target ≡ Free (spot_of.Under Second b)
-make_target make.Table r u b = refl
+pub make_target : (what : Make) (r u b : ℕ) → (plan_of_make what r u b).target ≡ Free (Spot.Under Second b)
+make_target Make.Table r u b = refl
 make_target _ r u b = refl
 
 -- A call whose target is a page of its own has no names.
@@ -75,12 +65,12 @@ own_unnamed (Remove u b) v is = absurd (cc)
 own_unnamed (Shrink u i) v is = absurd (cc)
 own_unnamed (Map p n r f w) v is = absurd (cc)
 own_unnamed (Unmap p n) v is = absurd (cc)
-own_unnamed (Retype r f frame_kind.Untyped) v is = absurd (cc)
-own_unnamed (Retype r f frame_kind.User) v is = absurd (cc)
-own_unnamed (Retype r f frame_kind.Kernel) v is = absurd (cc)
+own_unnamed (Retype r f FrameKind.Untyped) v is = absurd (cc)
+own_unnamed (Retype r f FrameKind.User) v is = absurd (cc)
+own_unnamed (Retype r f FrameKind.Kernel) v is = absurd (cc)
 own_unnamed (make_call what r f u b) v is = absurd (not_own (sym (make_target what r u b) ∙ is))
   where
-    not_own : Free (spot_of.Under Second b) ≡ own_page v → ⊥
+    not_own : Free (Spot.Under Second b) ≡ own_page v → ⊥
     not_own h = cc
 own_unnamed (Touch w) v is = refl
 own_unnamed Flush v is = absurd (cc)
@@ -132,7 +122,7 @@ begins_removal own (look_call a) spot to ks = absurd (not_held to)
     not_held h = cc
 begins_removal own (Copy a u b rights) spot to ks = absurd (not_held to)
   where
-    not_held : Free (spot_of.Under Second b) ≡ Held spot → ⊥
+    not_held : Free (Spot.Under Second b) ≡ Held spot → ⊥
     not_held h = cc
 begins_removal own (Replenish x m) spot to ks = absurd (not_held to)
   where
@@ -140,34 +130,34 @@ begins_removal own (Replenish x m) spot to ks = absurd (not_held to)
     not_held h = cc
 begins_removal own (Part r f n u b) spot to ks = absurd (not_held to)
   where
-    not_held : Free (spot_of.Under Second b) ≡ Held spot → ⊥
+    not_held : Free (Spot.Under Second b) ≡ Held spot → ⊥
     not_held h = cc
 begins_removal own (Grow u i l) spot to ks = absurd (not_held to)
   where
-    not_held : Free (spot_of.InRoot First i) ≡ Held spot → ⊥
+    not_held : Free (Spot.InRoot First i) ≡ Held spot → ⊥
     not_held h = cc
 begins_removal own (Remove u b) spot to ks = record { removes = refl; act = λ f. refl }
 begins_removal own (Shrink u i) spot to ks = record { removes = refl; act = λ f. refl }
 begins_removal own (Map p v r f w) spot to ks = absurd (not_held to)
   where
-    not_held : Free (spot_of.Under First v) ≡ Held spot → ⊥
+    not_held : Free (Spot.Under First v) ≡ Held spot → ⊥
     not_held h = cc
 begins_removal own (Unmap p v) spot to ks = record { removes = refl; act = λ f. refl }
-begins_removal own (Retype r f frame_kind.Untyped) spot to ks = absurd (not_target to)
+begins_removal own (Retype r f FrameKind.Untyped) spot to ks = absurd (not_target to)
   where
     not_target : Nowhere ≡ Held spot → ⊥
     not_target h = cc
-begins_removal own (Retype r f frame_kind.User) spot to ks = absurd (not_target to)
+begins_removal own (Retype r f FrameKind.User) spot to ks = absurd (not_target to)
   where
     not_target : Nowhere ≡ Held spot → ⊥
     not_target h = cc
-begins_removal own (Retype r f frame_kind.Kernel) spot to ks = absurd (not_target to)
+begins_removal own (Retype r f FrameKind.Kernel) spot to ks = absurd (not_target to)
   where
     not_target : Nowhere ≡ Held spot → ⊥
     not_target h = cc
 begins_removal own (make_call what r f u b) spot to ks = absurd (not_held (sym (make_target what r u b) ∙ to))
   where
-    not_held : Free (spot_of.Under Second b) ≡ Held spot → ⊥
+    not_held : Free (Spot.Under Second b) ≡ Held spot → ⊥
     not_held h = cc
 begins_removal own (Touch v) spot to ks = absurd (not_held to)
   where
@@ -183,7 +173,7 @@ begins_removal own (Tick n) spot to ks = absurd (not_held to)
     not_held h = cc
 begins_removal own (Gate k u b) spot to ks = absurd (not_held to)
   where
-    not_held : Free (spot_of.Under Second b) ≡ Held spot → ⊥
+    not_held : Free (Spot.Under Second b) ≡ Held spot → ⊥
     not_held h = cc
 begins_removal own (Kill n) spot to ks = absurd (not_held to)
   where

@@ -1,78 +1,49 @@
 -- A step of any look-up of a call is good: the look-up goes by the call's plan.
-use Rattle.comp_invariant.proofs.Common.{◌≡◌, inl, inr, ℕ, suc, negsuc, ◌≢◌, ◌<◌, ◌≤◌, ◌+◌, map, length, arith, Bool, true, false}
-use Rattle.comp_invariant.proofs.Common.{if◌then◌else◌, IsTrue, List, [], ◌∷◌, ◌++◌, Option, Some, None, refl, sym, ◌∙◌, ap, subst}
-use Rattle.comp_invariant.proofs.Common.{eq-eqb, Capability, Setting, IsSetting, Call, Copy, Remove, Shrink, Unmap, Retype, Tick}
-use Rattle.comp_invariant.proofs.Common.{Gate, Kill, Grow, Touch, Flush, Map, Ret, Transfer, Delegate, Test, Switch, Reply, Entry}
-use Rattle.comp_invariant.proofs.Common.{entry_of_word, EntryAt, LoadOf, word_of, State, Thing, PlaceOf, comp_of, Slot}
-use Rattle.comp_invariant.proofs.Common.{root_at, place_at, held_in, reached, has_no_slot, own, RuleMay, Refused, named, vacant, rule_of}
-use Rattle.comp_invariant.proofs.Common.{change_of, Step, Trace, Open, phase, state_after, last_left}
-use Rattle.comp_invariant.proofs.Common.{wide_way_to, wide_ways, is_slot_in, Carries, own_read-here, shown_in}
-use Rattle.comp_invariant.proofs.Common.{look_move, Look, First, Second, Name, Spot, Nowhere, Plan, plan_for, of_kind, GoesBy}
-use Rattle.comp_invariant.proofs.Common.{own_pages, wants, with_found, names_after, Leads, LeadsIn, Next, NextName, NextFree, NextHeld}
-use Rattle.comp_invariant.proofs.Common.{NextOwn, NextNothing, next_of, NextMay, calls_go, leads_by, next_may, Lookup, Scan, Undecided}
-use Rattle.comp_invariant.proofs.Common.{ActiveCall, FrameKind, only_is, Goes, Acquired, reads_of, dues, next_work, starts, stamp_shown}
-use Rattle.comp_invariant.proofs.Common.{act_begun, fills_page, CountsAt, HasRoom, holds_counts, due_of, ReadIs, ReadBefore}
-use Rattle.comp_invariant.proofs.Common.{MayFill, KnowsAct, LooksUp, own_in, HasFound, NamesAre, LooksFor, KnowsUndecided, phase_at}
-use Rattle.comp_invariant.proofs.Common.{Quiet, quiet_scan, clock, landed, found_more, Core, holds_at, holds_in}
-use Rattle.comp_invariant.proofs.Common.{Invariant, names_on, limits_of, Want, has_rights, neither, to_look}
-use Rattle.switch_invariant.specs.thread_invariant.proofs.InvokeStarts.{invokes_good}
-use Rattle.comp_invariant.specs.spk_nums.specs.declared.calls.Call.TheVariants.{Look as look_call, Part, Replenish}
-use Rattle.comp_invariant.specs.spk_nums.specs.declared.calls.Call.TheVariants.{Make as make_call}
-use Rattle.comp_invariant.specs.spk_nums.specs.declared.calls.Call.TheVariants.{Call as call_gate}
-use Rattle.comp_invariant.specs.spk_nums.specs.declared.replies.Reply.TheVariants as reply
-use Rattle.comp_invariant.specs.entry_words.specs.declared.entry.Entry.TheVariants as entry
-use Rattle.comp_invariant.specs.kernel_rules.specs.Access.{any, Target as place}
-use Rattle.comp_invariant.specs.kernel_rules.specs.Rules.{Found as Found_it, held}
-use Rattle.comp_invariant.specs.stage_look.specs.Lookup.{found_at}
-use Rattle.comp_invariant.specs.call_plans.specs.declared.plans.Spot.TheVariants as spot_of
-use Rattle.comp_invariant.specs.call_plans.specs.declared.plans.Target.{Target}
-use Rattle.comp_invariant.specs.call_plans.specs.declared.plans.Target.TheVariants.{Free, Held, Own as own_page}
-use Rattle.comp_invariant.specs.call_plans.specs.PlanOf.{any_cap}
-use Rattle.comp_invariant.specs.call_plans.specs.GoesBy.{want_of, earlier, place_of_spot}
-use Rattle.comp_invariant.specs.call_plans.specs.After.{next_in}
-use Rattle.comp_invariant.specs.call_plans.proofs.FewNames.{few_names}
-use Rattle.comp_invariant.specs.call_plans.proofs.Roots.{count_led, pushed_one}
-use Rattle.comp_invariant.specs.call_plans.proofs.AfterNames.{one_more, NextBy}
-use Rattle.comp_invariant.specs.plan_ways.specs.Laws.{NextPlace, NextRefused}
-use Rattle.comp_invariant.specs.plan_ways.proofs.Ways.{next_on_way, next_first}
-use Rattle.comp_invariant.specs.act_states.specs.declared.refusals.Refusal.TheVariants as refusal
-use Rattle.comp_invariant.specs.act_states.specs.declared.lookups.Met.TheVariants.{Finds, Refused as met_refused}
-use Rattle.comp_invariant.specs.spk_nums.specs.declared.kinds.FrameKind.TheVariants as frame_kind
-use Rattle.comp_invariant.specs.spk_nums.specs.declared.kinds.Kind.TheVariants.{Range as range_kind, Comp as comp_kind, Gate as gate_kind}
-use Rattle.work_invariant.proofs.AtName.{IsTypedBy, one_name, ranges_good, looked_good}
-use Rattle.switch_invariant.specs.live_invariant.proofs.KillStarts.{kills_good}
+use Rattle.comp_invariant.specs as low
+use low.step_ways.proofs.{◌≡◌, inl, inr, ℕ, suc, negsuc, ◌≢◌, ◌<◌, ◌≤◌, ◌+◌, map, length, arith, Bool, true, false, if◌then◌else◌, IsTrue}
+use low.step_ways.proofs.{List, [], ◌∷◌, ◌++◌, Option, Some, None, refl, sym, ◌∙◌, ap, subst, eq-eqb, Capability, Setting, IsSetting, Call}
+use low.step_ways.proofs.{Copy, Shrink, Unmap, Retype, Gate, Grow, Ret, Transfer, Delegate, Test, Reply, Entry, entry_of_word, EntryAt}
+use low.step_ways.proofs.{LoadOf, word_of, State, Thing, PlaceOf, comp_of, Slot, place_at, held_in, reached, own, RuleMay, Refused, named}
+use low.step_ways.proofs.{vacant, rule_of, change_of, Step, Trace, Open, phase, state_after, last_left, wide_ways, is_slot_in, Carries}
+use low.step_ways.proofs.{own_read-here, shown_in, look_move, Look, First, Second, Name, Spot, Nowhere, Plan, plan_for, of_kind, GoesBy}
+use low.step_ways.proofs.{own_pages, names_after, Leads, LeadsIn, Next, NextName, NextFree, NextHeld, next_of, calls_go, leads_by, Lookup}
+use low.step_ways.proofs.{Scan, Undecided, ActiveCall, FrameKind, only_is, Goes, Acquired, reads_of, dues, next_work, starts, stamp_shown}
+use low.step_ways.proofs.{act_begun, CountsAt, HasRoom, holds_counts, due_of, ReadIs, MayFill, KnowsAct, LooksUp, own_in, HasFound}
+use low.step_ways.proofs.{NamesAre, KnowsUndecided, phase_at, Quiet, quiet_scan, clock, landed, found_more, Core, holds_at, holds_in}
+use low.step_ways.proofs.{Invariant, names_on, limits_of, Want, Part, Replenish, Make as make_call, Target as place, Found as Found_it}
+use low.step_ways.proofs.{next_by as what_next, OnlyLooks, next_at, call_is, is_active, loads_on, GoodTook, Refusal}
+use low.act_states.specs.{Remove, Tick, Kill, Touch, Flush, Map, Switch, root_at, with_found, NextOwn, NextNothing, fills_page, has_rights}
+use low.act_states.specs.{want_of, earlier, next_in, Range as range_kind, scans, met_right, met_name, met_free, met_held}
+use low.count_invariant.proofs.{knows_next, next_holds, one_apart, Shows, Arrives, own_is, found_named, Rest, ANameLeft, NoneLeft, rest_of}
+use low.kernel_rules.specs.{has_no_slot, to_look, Look as look_call, any, held}
+use low.scan_invariant.proofs.{ScanBegins, AtCores, AtFlushes, scan_begins, scan_none}
+use low.call_plans.specs.{wants, NextMay, any_cap, place_of_spot}
+use low.core_invariant.specs.{ReadBefore, LooksFor, KnowsQuiet}
+use low.call_stages.specs.{named_one, took_look, took_found}
+use low.call_plans.specs.declared.plans.Target.TheVariants.{Free, Held, Own as own_page}
+use low.call_plans.proofs.{Roots.count_led, Roots.pushed_one, AfterNames.one_more, AfterNames.NextBy}
 use Rattle.share_invariant.specs.pair_invariant.proofs.ShareStarts.{transfers_good, delegates_good, tests_good}
-use Rattle.share_invariant.specs.pair_invariant.proofs.RefillStarts.{refills_good}
-use Rattle.switch_invariant.proofs.SwitchStarts.{switches_good}
-use Rattle.comp_invariant.specs.act_states.specs.declared.work.Act.{Act as ActOf}
-use Rattle.comp_invariant.specs.act_states.specs.Acts.{scans, removing}
-use Rattle.comp_invariant.specs.core_invariant.specs.Knows.{KnowsQuiet}
-use Rattle.comp_invariant.specs.count_invariant.proofs.Acquiring.{knows_next, next_holds, one_apart}
-use Rattle.comp_invariant.specs.scan_invariant.proofs.Scans.{ScanBegins, AtCores, AtFlushes, scan_begins, scan_none}
-use Rattle.comp_invariant.specs.place_invariant.proofs.Starts.{starts_good}
-use Rattle.comp_invariant.specs.place_invariant.proofs.Outside.{refused_vacant}
-use Rattle.comp_invariant.specs.place_invariant.proofs.Vacancy.{vacant_by}
-use Rattle.comp_invariant.specs.act_states.specs.Lookups.{met_right, met_name, met_free, met_held}
-use Rattle.comp_invariant.specs.call_stages.specs.Steps.{next_by as what_next, named_one, took_look, took_found}
-use Rattle.comp_invariant.specs.act_fits.proofs.DuesFit.{cap_one}
-use Rattle.comp_invariant.specs.kept_facts.proofs.Carries.{acts_on, read_before_on}
-use Rattle.comp_invariant.specs.step_ways.proofs.Loads.{OnlyLooks, next_at, call_is, is_active, loads_on}
-use Rattle.comp_invariant.specs.step_ways.proofs.Refusals.{GoodTook, refuses_empty, refuses_wrong, refuses_right, refuses_occupied}
-use Rattle.comp_invariant.specs.count_invariant.proofs.Lookups.{Shows, ShowsHeld, Arrives, under_step, in_root_step}
-use Rattle.comp_invariant.specs.count_invariant.proofs.Findings.{own_is, reaches_none, reaches_held, reaches_other, reaches_lacking}
-use Rattle.comp_invariant.specs.count_invariant.proofs.Findings.{use_held, use_free}
-use Rattle.comp_invariant.specs.count_invariant.proofs.Findings.{use_removed_at, named_of}
-use Rattle.comp_invariant.specs.count_invariant.proofs.Findings.{named_no_slot, named_empty, named_wrong, named_lacking, found_named}
-use Rattle.comp_invariant.specs.count_invariant.proofs.Findings.{arriving}
-use Rattle.comp_invariant.specs.count_invariant.proofs.Findings.{reached_now, found_now}
-use Rattle.comp_invariant.specs.count_invariant.proofs.Next.{MayUse, Rest, ANameLeft, NoneLeft, rest_of, next_name, next_end}
-use Rattle.work_invariant.proofs.ByCall.{none_after, vacant_no_slot, vacant_occupied, held_no_slot, held_empty, make_target}
-use Rattle.work_invariant.proofs.ByCall.{BeginsRemoval, begins_removal, free_somewhere, held_somewhere, own_somewhere}
-use Rattle.work_invariant.proofs.AtTarget.{Begins, begins_free, range_within}
-use Rattle.work_invariant.proofs.FoundFits.{found_fits}
-use Rattle.work_invariant.proofs.ScanStarts.{ScanStarts, scan_starts}
-use Rattle.work_invariant.proofs.NextLooks.{next_good}
-use Rattle.comp_invariant.specs.call_plans.specs.PlanOf.{plan_for}
+use low.place_invariant.proofs.{Starts.starts_good, Outside.refused_vacant, Vacancy.vacant_by}
+use low.step_ways.proofs.Refusals.{refuses_empty, refuses_wrong, refuses_right, refuses_occupied}
+use low.count_invariant.proofs.Lookups.{ShowsHeld, under_step, in_root_step}
+use low.count_invariant.proofs.Findings.{reaches_none, reaches_held, reaches_other, reaches_lacking, use_held, use_free, use_removed_at}
+use low.count_invariant.proofs.Findings.{named_of, named_no_slot, named_empty, named_wrong, named_lacking, arriving, reached_now, found_now}
+use Rattle.work_invariant.proofs.{AtName.IsTypedBy, AtName.one_name, AtName.ranges_good, AtName.looked_good, ByCall.none_after}
+use Rattle.work_invariant.proofs.{ByCall.vacant_no_slot, ByCall.vacant_occupied, ByCall.held_no_slot, ByCall.held_empty, ByCall.make_target}
+use Rattle.work_invariant.proofs.{ByCall.BeginsRemoval, ByCall.begins_removal, ByCall.free_somewhere, ByCall.held_somewhere}
+use Rattle.work_invariant.proofs.{ByCall.own_somewhere, AtTarget.Begins, AtTarget.begins_free, AtTarget.range_within, FoundFits.found_fits}
+use Rattle.work_invariant.proofs.{ScanStarts.ScanStarts, ScanStarts.scan_starts, NextLooks.next_good}
+use low.{count_invariant.proofs.next_name, count_invariant.proofs.next_end, plan_ways.specs.NextPlace, plan_ways.specs.NextRefused}
+use low.{call_plans.proofs.next_may, call_plans.proofs.few_names, kernel_history.specs.Ways.wide_way_to, spk_nums.specs.Rights.neither}
+use low.{spk_nums.specs.declared.calls.Call.TheVariants.Call as call_gate, spk_nums.specs.declared.kinds.Kind.TheVariants.Comp as comp_kind}
+use low.{spk_nums.specs.declared.kinds.Kind.TheVariants.Gate as gate_kind, stage_look.specs.Lookup.found_at}
+use low.{call_plans.specs.declared.plans.Target.Target, plan_ways.proofs.Ways.next_on_way, plan_ways.proofs.Ways.next_first}
+use low.{act_states.specs.declared.lookups.Met.TheVariants.Finds, act_states.specs.declared.lookups.Met.TheVariants.Refused as met_refused}
+use low.{act_states.specs.declared.work.Act.Act as ActOf, act_states.specs.Acts.removing, act_fits.proofs.DuesFit.cap_one}
+use low.{kept_facts.proofs.Carries.acts_on, kept_facts.proofs.Carries.read_before_on, count_invariant.proofs.Next.MayUse}
+use Rattle.{switch_invariant.specs.thread_invariant.proofs.InvokeStarts.invokes_good}
+use Rattle.{switch_invariant.specs.live_invariant.proofs.KillStarts.kills_good}
+use Rattle.{share_invariant.specs.pair_invariant.proofs.RefillStarts.refills_good, switch_invariant.proofs.SwitchStarts.switches_good}
 
 module _ (setup : Setting) (setting : IsSetting setup) (cores : ℕ → Core) (t : Trace) (stands : Invariant setup cores t) (c : ℕ)
     (here : c < setup.cores)
@@ -239,25 +210,25 @@ module _ (setup : Setting) (setting : IsSetting setup) (cores : ℕ → Core) (t
         (landed (found_more a ks) (act_begun (cores c).own (look_call n) ks None None))) (sym more_is)
         (looked_good setup setting cores t stands c here a active opens held_is no_counts room at looks n
         (subst (λ (m : ℕ). Arrives setup t c (own_in table m) at) (ap (λ (x : Name). x.number) only_one.1) arrives) k named_it is has.acts)
-    acts_at_name (Copy b u v rights) is nowhere none = absurd (free_somewhere (spot_of.Under Second v) nowhere)
+    acts_at_name (Copy b u v rights) is nowhere none = absurd (free_somewhere (Spot.Under Second v) nowhere)
     acts_at_name (Replenish x m) is nowhere none =
         refills_good setup setting cores t stands c here a active opens held_is no_counts room goes_by (LoadOf (EntryAt at.node at.index))
         looks has.acts more leads_then none names_then x m is
-    acts_at_name (Part r f n u v) is nowhere none = absurd (free_somewhere (spot_of.Under Second v) nowhere)
-    acts_at_name (Grow u i l) is nowhere none = absurd (free_somewhere (spot_of.InRoot First i) nowhere)
-    acts_at_name (Remove u v) is nowhere none = absurd (held_somewhere (spot_of.Under First v) nowhere)
-    acts_at_name (Shrink u i) is nowhere none = absurd (held_somewhere (spot_of.InRoot First i) nowhere)
-    acts_at_name (Map p v r f w) is nowhere none = absurd (free_somewhere (spot_of.Under First v) nowhere)
-    acts_at_name (Unmap p v) is nowhere none = absurd (held_somewhere (spot_of.Under First v) nowhere)
-    acts_at_name (Retype r f frame_kind.Untyped) is nowhere none =
-        range_at_name r f frame_kind.Untyped is refl (inr (refl, refl))
-    acts_at_name (Retype r f frame_kind.User) is nowhere none =
-        range_at_name r f frame_kind.User is refl (inl ((λ h. cc), refl))
-    acts_at_name (Retype r f frame_kind.Kernel) is nowhere none =
-        range_at_name r f frame_kind.Kernel is refl (inl ((λ h. cc), refl))
+    acts_at_name (Part r f n u v) is nowhere none = absurd (free_somewhere (Spot.Under Second v) nowhere)
+    acts_at_name (Grow u i l) is nowhere none = absurd (free_somewhere (Spot.InRoot First i) nowhere)
+    acts_at_name (Remove u v) is nowhere none = absurd (held_somewhere (Spot.Under First v) nowhere)
+    acts_at_name (Shrink u i) is nowhere none = absurd (held_somewhere (Spot.InRoot First i) nowhere)
+    acts_at_name (Map p v r f w) is nowhere none = absurd (free_somewhere (Spot.Under First v) nowhere)
+    acts_at_name (Unmap p v) is nowhere none = absurd (held_somewhere (Spot.Under First v) nowhere)
+    acts_at_name (Retype r f FrameKind.Untyped) is nowhere none =
+        range_at_name r f FrameKind.Untyped is refl (inr (refl, refl))
+    acts_at_name (Retype r f FrameKind.User) is nowhere none =
+        range_at_name r f FrameKind.User is refl (inl ((λ h. cc), refl))
+    acts_at_name (Retype r f FrameKind.Kernel) is nowhere none =
+        range_at_name r f FrameKind.Kernel is refl (inl ((λ h. cc), refl))
     acts_at_name (make_call what r f u b) is nowhere none =
-        absurd (free_somewhere (spot_of.Under Second b) (sym (make_target what r u b) ∙ nowhere))
-    acts_at_name (Gate n u b) is nowhere none = absurd (free_somewhere (spot_of.Under Second b) nowhere)
+        absurd (free_somewhere (Spot.Under Second b) (sym (make_target what r u b) ∙ nowhere))
+    acts_at_name (Gate n u b) is nowhere none = absurd (free_somewhere (Spot.Under Second b) nowhere)
     acts_at_name (Kill n) is nowhere none =
         let plan_kill : plan_for a.call ≡ plan_for (Kill n) = ap plan_for is in
         let only_one = one_name (plan_for a.call).names (of_kind comp_kind n) name rest a.found k.kind
@@ -343,42 +314,42 @@ module _ (setup : Setting) (setting : IsSetting setup) (cores : ℕ → Core) (t
       held_right : (k : Capability) → ShowsHeld setup.frames (place_at s at) k → wanted_of.kinds k.kind ≡ true → (right : Bool)
           → has_rights k.rights wanted_of.needs ≡ right
           → GoodTook setup cores t c (LoadOf (EntryAt at.node at.index))
-          (named_one (cores c).own a (if right then Finds k else met_refused refusal.NoRight))
+          (named_one (cores c).own a (if right then Finds k else met_refused Refusal.NoRight))
       held_right k shows wanted true is = found_good name rest left at k arrives shows looks wanted is
       held_right k shows wanted false is =
           refuses_right setup setting cores t stands c here a active opens held_is room (LoadOf (EntryAt at.node at.index)) looks
-          has.acts (may_here reply.NoRight (reaches_lacking s c (own s c name.number) at k wanted_of reach shows.holds wanted is))
-          (λ nobody. first_here reply.NoRight
+          has.acts (may_here Reply.NoRight (reaches_lacking s c (own s c name.number) at k wanted_of reach shows.holds wanted is))
+          (λ nobody. first_here Reply.NoRight
           (named_lacking s c name.number wanted_of at k reach (use_held s c at k shows.holds) wanted is))
 
       held_name : (k : Capability) → ShowsHeld setup.frames (place_at s at) k → (wanted : Bool) → wanted_of.kinds k.kind ≡ wanted
           → GoodTook setup cores t c (LoadOf (EntryAt at.node at.index))
-          (named_one (cores c).own a (if wanted then met_right wanted_of.needs k else met_refused refusal.WrongCap))
+          (named_one (cores c).own a (if wanted then met_right wanted_of.needs k else met_refused Refusal.WrongCap))
       held_name k shows true is = held_right k shows is (has_rights k.rights wanted_of.needs) refl
       held_name k shows false is =
           refuses_wrong setup setting cores t stands c here a active opens held_is room (LoadOf (EntryAt at.node at.index)) looks
-          has.acts (may_here reply.WrongCap (reaches_other s c (own s c name.number) at k wanted_of reach shows.holds is))
-          (λ nobody. first_here reply.WrongCap (named_wrong s c name.number wanted_of at k reach (use_held s c at k shows.holds) is))
+          has.acts (may_here Reply.WrongCap (reaches_other s c (own s c name.number) at k wanted_of reach shows.holds is))
+          (λ nobody. first_here Reply.WrongCap (named_wrong s c name.number wanted_of at k reach (use_held s c at k shows.holds) is))
 
       name_good : (v : Entry) → Shows setup.frames (place_at s at) v
           → GoodTook setup cores t c (LoadOf (EntryAt at.node at.index)) (named_one (cores c).own a (met_name wanted_of v))
-      name_good entry.Free shows =
+      name_good Entry.Free shows =
           refuses_empty setup setting cores t stands c here a active opens held_is room (LoadOf (EntryAt at.node at.index)) looks
-          has.acts (may_here reply.Empty (reaches_none s c (own s c name.number) at reach (ap held_in shows)))
-          (λ nobody. first_here reply.Empty (named_empty s c name.number wanted_of at reach (use_free s c at shows)))
-      name_good (entry.Held k) shows = held_name k shows (wanted_of.kinds k.kind) refl
-      name_good (entry.Closing d) shows = absurd shows
-      name_good (entry.Quiescing x) shows =
+          has.acts (may_here Reply.Empty (reaches_none s c (own s c name.number) at reach (ap held_in shows)))
+          (λ nobody. first_here Reply.Empty (named_empty s c name.number wanted_of at reach (use_free s c at shows)))
+      name_good (Entry.Held k) shows = held_name k shows (wanted_of.kinds k.kind) refl
+      name_good (Entry.Closing d) shows = absurd shows
+      name_good (Entry.Quiescing x) shows =
           refuses_empty setup setting cores t stands c here a active opens held_is room (LoadOf (EntryAt at.node at.index)) looks
-          has.acts (may_here reply.Empty (reaches_none s c (own s c name.number) at reach (ap held_in shows.removed)))
-          (λ nobody. first_here reply.Empty (named_empty s c name.number wanted_of at reach
+          has.acts (may_here Reply.Empty (reaches_none s c (own s c name.number) at reach (ap held_in shows.removed)))
+          (λ nobody. first_here Reply.Empty (named_empty s c name.number wanted_of at reach
           (use_removed_at s c at shows.held shows.removed nobody)))
 
     pub name_step : LooksUp setup t c (own_in table name.number) look → Looked
     name_step looks =
         under_step setup setting cores t stands c here a active (root_at table) name.number is_open has.acts
-        (λ h. may_here reply.NoSlot (subst (λ x. IsTrue (has_no_slot s x)) (own_target name.number) h))
-        (λ none. first_here reply.NoSlot (named_no_slot s c name.number wanted_of
+        (λ h. may_here Reply.NoSlot (subst (λ x. IsTrue (has_no_slot s x)) (own_target name.number) h))
+        (λ none. first_here Reply.NoSlot (named_no_slot s c name.number wanted_of
         (ap (reached s c) (sym (own_target name.number)) ∙ none)))
         (λ g i h. way (own s c name.number) (subst (λ x. NextPlace s c x (own s c name.number)) (sym next) refl) g i
         (subst (λ x. is_slot_in (wide_way_to s x) g i ≡ true) (own_target name.number) h))
@@ -496,39 +467,39 @@ module _ (setup : Setting) (setting : IsSetting setup) (cores : ℕ → Core) (t
 
     -- it is free
     fills_free : (at : Slot) (arrives : Arrives setup t c target at)
-        (reads : entry_of_word (last_left setup t (EntryAt at.node at.index)) ≡ Some entry.Free)
+        (reads : entry_of_word (last_left setup t (EntryAt at.node at.index)) ≡ Some Entry.Free)
         → OnlyLooks setup t c a.call (LoadOf (EntryAt at.node at.index))
         → GoodTook setup cores t c (LoadOf (EntryAt at.node at.index)) (landed a (scans (cores c).own.core
-        (quiet_scan 0 (cores c).own.core (cores c).own.layout.cores (fills_page a.call a.found)) (begins_with at entry.Free).act))
-    fills_free at arrives reads looks = starts_now at arrives entry.Free reads looks tt tt
+        (quiet_scan 0 (cores c).own.core (cores c).own.layout.cores (fills_page a.call a.found)) (begins_with at Entry.Free).act))
+    fills_free at arrives reads looks = starts_now at arrives Entry.Free reads looks tt tt
 
     -- it is quiescing: the other cores are scanned first, if there are any
     module _ (at : Slot) (arrives : Arrives setup t c target at) (x : ℕ)
-        (reads : entry_of_word (last_left setup t (EntryAt at.node at.index)) ≡ Some (entry.Quiescing x))
+        (reads : entry_of_word (last_left setup t (EntryAt at.node at.index)) ≡ Some (Entry.Quiescing x))
         (looks : OnlyLooks setup t c a.call (LoadOf (EntryAt at.node at.index))) where
       waits : ScanStarts setup t c a at x
       waits = scan_starts setup setting cores t stands c here a active is_open leads target next_free at arrives x reads
 
       fills_removed : GoodTook setup cores t c (LoadOf (EntryAt at.node at.index)) (landed a (scans (cores c).own.core
           (quiet_scan x (cores c).own.core (cores c).own.layout.cores (fills_page a.call a.found)) (begins_with at
-          (entry.Quiescing x)).act))
+          (Entry.Quiescing x)).act))
       fills_removed = subst (λ (n : ℕ). Goal (quiet_scan x (cores c).own.core n (fills_page a.call a.found)))
           (sym (ap (λ s. s.cores) (stands.each c here).shape))
           (by (quiet_scan x (cores c).own.core setup.cores (fills_page a.call a.found)) refl)
         where
           Goal : Option Quiet → Type 0
           Goal o = GoodTook setup cores t c (LoadOf (EntryAt at.node at.index))
-              (landed a (scans (cores c).own.core o (begins_with at (entry.Quiescing x)).act))
+              (landed a (scans (cores c).own.core o (begins_with at (Entry.Quiescing x)).act))
 
           by : (o : Option Quiet) → quiet_scan x (cores c).own.core setup.cores (fills_page a.call a.found) ≡ o → Goal o
           by None is =
               let alone = scan_none x (cores c).own.core setup.cores (fills_page a.call a.found) waits.drawn is in
               let none : (d : ℕ) → d < setup.cores → d ≢ c → ⊥ = λ d below other.
               alone.1 d below (λ same. other (same ∙ (stands.each c here).number)) in
-              starts_now at arrives (entry.Quiescing x) reads looks
+              starts_now at arrives (Entry.Quiescing x) reads looks
               (waits.loaded (last_left setup t (EntryAt at.node at.index)) setup.cores none (λ d below. waits.unpaged alone.0 d))
               (waits.now setup.cores none (λ d below. waits.unpaged alone.0 d))
-          by (Some q) is = scans_first at arrives (entry.Quiescing x) reads looks x refl q
+          by (Some q) is = scans_first at arrives (Entry.Quiescing x) reads looks x refl q
               (scan_begins x (cores c).own.core setup.cores (fills_page a.call a.found) waits.drawn q is)
               waits.past (waits.loaded (last_left setup t (EntryAt at.node at.index)) 0 (λ d below other. absurd (omega arith))
               (λ d below. absurd (omega arith)))
@@ -539,37 +510,37 @@ module _ (setup : Setting) (setting : IsSetting setup) (cores : ℕ → Core) (t
         → GoodTook setup cores t c (LoadOf (EntryAt at.node at.index))
         (landed a (met_free (cores c).own a.call a.found a.read (found_at at.node at.index (last_left setup t (EntryAt at.node at.index)) v)
         v))
-    free_at at entry.Free arrives reads shows looks =
+    free_at at Entry.Free arrives reads shows looks =
         subst (λ step. GoodTook setup cores t c (LoadOf (EntryAt at.node at.index)) (landed a step))
-        (sym (begins_with at entry.Free).begins)
+        (sym (begins_with at Entry.Free).begins)
         (fills_free at arrives reads looks)
-    free_at at (entry.Held k) arrives reads shows looks =
+    free_at at (Entry.Held k) arrives reads shows looks =
         refuses_occupied setup setting cores t stands c here a active opens held_is room (LoadOf (EntryAt at.node at.index)) looks
-        has.acts (may_free reply.Occupied (reaches_held s c target at k arrives.reached shows.holds))
-        (λ nobody. first_free reply.Occupied (vacant_occupied s c target at k arrives.reached shows.holds))
-    free_at at (entry.Closing d) arrives reads shows looks = absurd shows
-    free_at at (entry.Quiescing x) arrives reads shows looks =
+        has.acts (may_free Reply.Occupied (reaches_held s c target at k arrives.reached shows.holds))
+        (λ nobody. first_free Reply.Occupied (vacant_occupied s c target at k arrives.reached shows.holds))
+    free_at at (Entry.Closing d) arrives reads shows looks = absurd shows
+    free_at at (Entry.Quiescing x) arrives reads shows looks =
         subst (λ step. GoodTook setup cores t c (LoadOf (EntryAt at.node at.index)) (landed a step))
-        (sym (begins_with at (entry.Quiescing x)).begins)
+        (sym (begins_with at (Entry.Quiescing x)).begins)
         (fills_removed at arrives x reads looks)
 
   free_step : (spot : Spot) (to : (plan_for a.call).target ≡ Free spot) (none : names_after (plan_for a.call).names a.found ≡ [])
       → LooksUp setup t c (place_of_spot (with_found [] a.found) spot) look → Looked
-  free_step (spot_of.Under i n) to none looks =
-      let spot = spot_of.Under i n in
+  free_step (Spot.Under i n) to none looks =
+      let spot = Spot.Under i n in
       let next = next_free spot to none in
       under_step setup setting cores t stands c here a active (earlier (with_found [] a.found) i) n is_open has.acts
-      (λ h. may_free spot to none reply.NoSlot h) (λ out. first_free spot to none reply.NoSlot
+      (λ h. may_free spot to none Reply.NoSlot h) (λ out. first_free spot to none Reply.NoSlot
       (vacant_no_slot s c (target spot to none) out))
       (λ g j h. way (target spot to none) (subst (λ x. NextPlace s c x (target spot to none)) (sym next) refl) g j h)
       (looks_more (NextFree (target spot to none)) next)
       (λ at v arrives reads shows only. ends_for next at v (free_at spot to none at v arrives reads shows only))
       room look stage_is looks
-  free_step (spot_of.InRoot i x) to none looks =
-      let spot = spot_of.InRoot i x in
+  free_step (Spot.InRoot i x) to none looks =
+      let spot = Spot.InRoot i x in
       let next = next_free spot to none in
       in_root_step setup setting cores t stands c here a active (earlier (with_found [] a.found) i) x is_open has.acts
-      (λ h. may_free spot to none reply.NoSlot h) (λ out. first_free spot to none reply.NoSlot
+      (λ h. may_free spot to none Reply.NoSlot h) (λ out. first_free spot to none Reply.NoSlot
       (vacant_no_slot s c (target spot to none) out))
       (λ g j h. way (target spot to none) (subst (λ y. NextPlace s c y (target spot to none)) (sym next) refl) g j h)
       (looks_more (NextFree (target spot to none)) next)
@@ -595,15 +566,15 @@ module _ (setup : Setting) (setting : IsSetting setup) (cores : ℕ → Core) (t
         to a.found
 
     removes_next : (at : Slot) (arrives : Arrives setup t c held_target at) (k : Capability)
-        → entry_of_word (last_left setup t (EntryAt at.node at.index)) ≡ Some (entry.Held k)
+        → entry_of_word (last_left setup t (EntryAt at.node at.index)) ≡ Some (Entry.Held k)
         → ShowsHeld setup.frames (place_at s at) k → OnlyLooks setup t c a.call (LoadOf (EntryAt at.node at.index))
         → GoodTook setup cores t c (LoadOf (EntryAt at.node at.index))
         (landed a (Goes (next_work (cores c).own.core 0 (removing (cores c).own.core k
-        (found_at at.node at.index (last_left setup t (EntryAt at.node at.index)) (entry.Held k))))))
+        (found_at at.node at.index (last_left setup t (EntryAt at.node at.index)) (Entry.Held k))))))
     removes_next at arrives k reads shows looks lands =
         let word = last_left setup t (EntryAt at.node at.index) in
         let e : Step = arriving setup t c held_target at word arrives in
-        let act : ActOf = removing (cores c).own.core k (found_at at.node at.index word (entry.Held k)) in
+        let act : ActOf = removing (cores c).own.core k (found_at at.node at.index word (Entry.Held k)) in
         loads_on setup setting cores t stands c here a active (LoadOf (EntryAt at.node at.index)) a.found
         (Undecided (next_work (cores c).own.core 0 act)) looks lands
         (next_holds (cores c).own.core 0 act (holds_counts None a.counts) ∙ sym held_is) opens
@@ -637,36 +608,36 @@ module _ (setup : Setting) (setting : IsSetting setup) (cores : ℕ → Core) (t
         → GoodTook setup cores t c (LoadOf (EntryAt at.node at.index))
         (landed a (met_held (cores c).own a.call a.found (found_at at.node at.index (last_left setup t (EntryAt at.node at.index)) v)
         v))
-    held_at at entry.Free arrives reads shows looks =
+    held_at at Entry.Free arrives reads shows looks =
         refuses_empty setup setting cores t stands c here a active opens held_is room (LoadOf (EntryAt at.node at.index)) looks
-        has.acts (may_held reply.Empty (reaches_none s c held_target at arrives.reached (ap held_in shows)))
-        (λ nobody. first_held reply.Empty (held_empty s c held_target at arrives.reached (ap held_in shows)))
-    held_at at (entry.Held k) arrives reads shows looks =
+        has.acts (may_held Reply.Empty (reaches_none s c held_target at arrives.reached (ap held_in shows)))
+        (λ nobody. first_held Reply.Empty (held_empty s c held_target at arrives.reached (ap held_in shows)))
+    held_at at (Entry.Held k) arrives reads shows looks =
         subst (λ step. GoodTook setup cores t c (LoadOf (EntryAt at.node at.index)) (landed a step)) (sym (begins_by.act _))
         (removes_next at arrives k reads shows looks)
-    held_at at (entry.Closing d) arrives reads shows looks = absurd shows
-    held_at at (entry.Quiescing x) arrives reads shows looks =
+    held_at at (Entry.Closing d) arrives reads shows looks = absurd shows
+    held_at at (Entry.Quiescing x) arrives reads shows looks =
         refuses_empty setup setting cores t stands c here a active opens held_is room (LoadOf (EntryAt at.node at.index)) looks
-        has.acts (may_held reply.Empty (reaches_none s c held_target at arrives.reached (ap held_in shows.removed)))
-        (λ nobody. first_held reply.Empty (held_empty s c held_target at arrives.reached (ap held_in shows.removed)))
+        has.acts (may_held Reply.Empty (reaches_none s c held_target at arrives.reached (ap held_in shows.removed)))
+        (λ nobody. first_held Reply.Empty (held_empty s c held_target at arrives.reached (ap held_in shows.removed)))
 
   held_step : (spot : Spot) (to : (plan_for a.call).target ≡ Held spot) (none : names_after (plan_for a.call).names a.found ≡ [])
       → LooksUp setup t c (place_of_spot (with_found [] a.found) spot) look → Looked
-  held_step (spot_of.Under i n) to none looks =
-      let spot = spot_of.Under i n in
+  held_step (Spot.Under i n) to none looks =
+      let spot = Spot.Under i n in
       let next = next_held spot to none in
       under_step setup setting cores t stands c here a active (earlier (with_found [] a.found) i) n is_open has.acts
-      (λ h. may_held spot to none reply.NoSlot h) (λ out. first_held spot to none reply.NoSlot
+      (λ h. may_held spot to none Reply.NoSlot h) (λ out. first_held spot to none Reply.NoSlot
       (held_no_slot s c (held_target spot to none) out))
       (λ g j h. way (held_target spot to none) (subst (λ x. NextPlace s c x (held_target spot to none)) (sym next) refl) g j h)
       (looks_more (NextHeld (held_target spot to none)) next)
       (λ at v arrives reads shows only. ends_for next at v (held_at spot to none at v arrives reads shows only))
       room look stage_is looks
-  held_step (spot_of.InRoot i x) to none looks =
-      let spot = spot_of.InRoot i x in
+  held_step (Spot.InRoot i x) to none looks =
+      let spot = Spot.InRoot i x in
       let next = next_held spot to none in
       in_root_step setup setting cores t stands c here a active (earlier (with_found [] a.found) i) x is_open has.acts
-      (λ h. may_held spot to none reply.NoSlot h) (λ out. first_held spot to none reply.NoSlot
+      (λ h. may_held spot to none Reply.NoSlot h) (λ out. first_held spot to none Reply.NoSlot
       (held_no_slot s c (held_target spot to none) out))
       (λ g j h. way (held_target spot to none) (subst (λ y. NextPlace s c y (held_target spot to none)) (sym next) refl) g j h)
       (looks_more (NextHeld (held_target spot to none)) next)

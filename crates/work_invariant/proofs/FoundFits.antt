@@ -1,20 +1,19 @@
 -- What the names of a call have led to are capabilities.
-use Rattle.comp_invariant.proofs.Common.{◌≡◌, ℕ, List, [], ◌∷◌, ◌++◌, Some, subst, Capability, Setting, EntryFits, Named}
-use Rattle.comp_invariant.proofs.Common.{found, none_some, some_inj, Trace, Name, First, Second, at_place, Leads, HasFound, own_in}
-use Rattle.comp_invariant.specs.entry_words.specs.declared.entry.Entry.TheVariants as entry
-use Rattle.comp_invariant.specs.call_plans.specs.declared.plans.Nth.{Nth}
-use Rattle.comp_invariant.specs.call_plans.specs.declared.plans.Nth.TheVariants.{Third, Fourth}
-use Rattle.comp_invariant.specs.call_plans.specs.Plans.{head, tail}
+use Rattle.comp_invariant.specs.core_invariant.proofs.{◌≡◌, ℕ, List, [], ◌∷◌, ◌++◌, Some, subst, Capability, Setting, EntryFits, Named}
+use Rattle.comp_invariant.specs.core_invariant.proofs.{found, some_inj, Trace, Name, First, Second, at_place, Leads, HasFound, own_in}
+use Rattle.comp_invariant.specs.act_states.specs.{Third, Fourth}
+use Rattle.comp_invariant.specs.call_plans.specs.{declared.plans.Nth.Nth, Plans.head, Plans.tail}
+use Rattle.{comp_invariant.specs.core_invariant.proofs.Entry, comp_invariant.specs.kernel_invariant.proofs.Facts.none_some}
 
 module _ (setup : Setting) (t : Trace) (c table : ℕ) where
   abbrev Led : List Name → List Named → List Capability → Type 0
   Led names caps ks = Leads (λ n wanted k. HasFound setup t c (own_in table n) wanted k) names caps ks
 
   first_fits : (names : List Name) (caps : List Named) (ks : List Capability) (k : Capability) → Led names caps ks → head ks ≡ Some k
-      → EntryFits (entry.Held k)
+      → EntryFits (Entry.Held k)
   first_fits names caps [] k led is = absurd (none_some k is)
   first_fits [] caps (j ∷ ks) k led is = absurd led
-  first_fits (name ∷ names) caps (j ∷ ks) k led is = subst (λ (x : Capability). EntryFits (entry.Held x)) (some_inj j k is) led.0.fits
+  first_fits (name ∷ names) caps (j ∷ ks) k led is = subst (λ (x : Capability). EntryFits (Entry.Held x)) (some_inj j k is) led.0.fits
 
   -- those after the first
   record Later (ks : List Capability) : Type 0 where
@@ -28,7 +27,7 @@ module _ (setup : Setting) (t : Trace) (c table : ℕ) where
   later (name ∷ names) caps (j ∷ ks) led = record { names = names; caps = caps ++ found j ∷ []; led = led.1 }
 
   pub found_fits : (names : List Name) (caps : List Named) (ks : List Capability) (nth : Nth) (k : Capability) → Led names caps ks
-      → at_place ks nth ≡ Some k → EntryFits (entry.Held k)
+      → at_place ks nth ≡ Some k → EntryFits (Entry.Held k)
   found_fits names caps ks First k led is = first_fits names caps ks k led is
   found_fits names caps ks Second k led is =
       let one = later names caps ks led in first_fits one.names one.caps (tail ks) k one.led is

@@ -1,5 +1,3 @@
--- The names that most proofs use.
-pub use Rattle.comp_invariant.proofs.Common
 pub mod ByCall
 pub mod AtName
 pub mod AtTarget

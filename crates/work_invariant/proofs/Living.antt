@@ -1,48 +1,32 @@
 -- A call asks whether the component in which its core works lives: the loads of the component's word and of its number's word are good, and
 -- where it lives the call goes on to what comes first.
-use Rattle.comp_invariant.proofs.Common.{◌≡◌, ◌⊎◌, ◌∙◌, ◌==◌, ◌||◌, ◌<◌, ◌≤◌, inl, inr, ℕ, not, nat_le, Bool, true, false, Option, Some}
-use Rattle.comp_invariant.proofs.Common.{None}
-use Rattle.comp_invariant.proofs.Common.{List, [], ◌∷◌, refl, sym, ap, subst, leb-true, leb-false, lt-ltb, eq-eqb, map}
-use Rattle.comp_invariant.proofs.Common.{Setting, IsSetting, Call, Word, EntryAt, LiveAt, LoadOf, word_of, told_of, State, Kernel, Comp}
-use Rattle.comp_invariant.proofs.Common.{NumberOf, PlaceOf, comp_of, thread_of, first_of_stack, lives, acts, asks_life, may_act}
-use Rattle.comp_invariant.proofs.Common.{IsTrue, is_live_in, is_one_of, footprint_frames, Trace, Open, phase, state_after, last_left, stamp}
-use Rattle.comp_invariant.proofs.Common.{marked_by, mark_in_frame, live_mark, live_of_word, comp_of_word, LiveWord, CompWord, Living}
-use Rattle.comp_invariant.proofs.Common.{Undecided, ActiveCall, Core, GoesOn, landed, refuse, went, KnowsAlive, NamesAre, Invariant}
-use Rattle.comp_invariant.proofs.Common.{HasComp, holds_at, holds_in, holds_counts, held_by, settled_by, IsFrameWord, NumberIs}
-use Rattle.comp_invariant.proofs.Common.{may_keep, not_exclusive_value, phase_at, HasRoom, CountsAt}
-use Rattle.comp_invariant.proofs.Common.{Acquired, due_of, Alive, AtComp, AtLive}
-use Rattle.comp_invariant.proofs.Common.{plan_for, Plan, Act, translation_of}
-use Rattle.comp_invariant.proofs.Common.{RuleMay, Refused, rule_of, change_of, found_more, Touch, Retype, Copy, Grow, Remove, Shrink}
-use Rattle.comp_invariant.proofs.Common.{Map, Unmap, Flush, Gate, Kill, Ret, Switch, Tick, Transfer, Delegate, Test, Relies, Capability}
-use Rattle.comp_invariant.proofs.Common.{false≢true}
-use Rattle.comp_invariant.specs.spk_nums.specs.declared.kinds.FrameKind.TheVariants.{Untyped, User, Kernel as to_kernel}
-use Rattle.comp_invariant.specs.spk_nums.specs.declared.calls.Call.TheVariants.{Look as look_call, Make as make_call, Call as call_gate}
-use Rattle.comp_invariant.specs.spk_nums.specs.declared.calls.Call.TheVariants.{Part, Replenish}
-use Rattle.comp_invariant.specs.spk_nums.specs.declared.calls.Make.TheVariants as make
-use Rattle.comp_invariant.specs.spk_nums.specs.declared.replies.Reply.TheVariants as reply
-use Rattle.comp_invariant.specs.frame_words.specs.declared.live_word.LiveWord.TheVariants as live_word
-use Rattle.comp_invariant.specs.kernel_rules.specs.Life.{outlives}
-use Rattle.comp_invariant.specs.kernel_history.specs.Footprint.{footprint_numbers, number_argument, number_in}
-use Rattle.comp_invariant.specs.trace_laws.proofs.Stays.{relies_pages}
-use Rattle.comp_invariant.specs.plan_ways.proofs.InFootprint.{one_right}
-use Rattle.switch_invariant.specs.thread_invariant.specs.stage_thread.specs.Living.{alive_move, alive_after, alive_end, comp_after}
-use Rattle.switch_invariant.specs.thread_invariant.specs.stage_thread.specs.Living.{comp_end}
-use Rattle.switch_invariant.specs.thread_invariant.specs.stage_thread.specs.Living.{live_end, number_end, lives_end}
-use Rattle.comp_invariant.specs.act_states.specs.declared.refusals.Refusal.TheVariants as refusal
-use Rattle.comp_invariant.specs.act_states.specs.declared.work.Act.TheVariants.{Touch as touch_act}
-use Rattle.comp_invariant.specs.act_states.specs.Touches.{touching, touches, touches_if}
-use Rattle.comp_invariant.specs.act_states.specs.Lookups.{next_step}
-use Rattle.comp_invariant.specs.call_plans.specs.After.{next_of}
-use Rattle.comp_invariant.specs.call_stages.specs.Fits.{IsFirst}
-use Rattle.comp_invariant.specs.call_stages.specs.Steps.{next_by as what_next, took_alive}
-use Rattle.comp_invariant.specs.step_ways.proofs.Loads.{OnlyLooks, step_to, call_is, is_active, loads_on}
-use Rattle.comp_invariant.specs.step_ways.proofs.Refusals.{GoodTook, refuses_asking, refuses_busy, refuses_no_slot, ticks_at}
-use Rattle.comp_invariant.specs.count_invariant.proofs.StackCounts.{top_footprint}
-use Rattle.switch_invariant.specs.live_invariant.proofs.Numbers.{no_number, shows_live, lives_as_shown, shows_some, one_of_many, comp_is}
-use Rattle.switch_invariant.specs.thread_invariant.proofs.OwnStack.{top_comp, some_stack}
-use Rattle.page_invariant.proofs.TouchCalls.{past_may, past_first}
-use Rattle.work_invariant.proofs.NextLooks.{next_good}
-use Rattle.comp_invariant.specs.call_plans.specs.PlanOf.{plan_for}
+use Rattle.comp_invariant.specs as low
+use low.step_ways.proofs.{◌≡◌, ◌⊎◌, ◌∙◌, ◌==◌, ◌||◌, ◌<◌, ◌≤◌, inl, inr, ℕ, not, leb as nat_le, Bool, true, false, Option, Some, None, List}
+use low.step_ways.proofs.{[], ◌∷◌, refl, sym, ap, subst, leb-true, leb-false, lt-ltb, eq-eqb, map, Setting, IsSetting, Call, Word, EntryAt}
+use low.step_ways.proofs.{LiveAt, LoadOf, word_of, told_of, State, Kernel, Comp, NumberOf, PlaceOf, comp_of, thread_of, first_of_stack}
+use low.step_ways.proofs.{acts, IsTrue, is_live_in, is_one_of, footprint_frames, Trace, Open, phase, state_after, last_left, stamp}
+use low.step_ways.proofs.{marked_by, mark_in_frame, live_mark, live_of_word, comp_of_word, LiveWord, CompWord, Living, Undecided}
+use low.step_ways.proofs.{ActiveCall, Core, GoesOn, landed, refuse, went, NamesAre, Invariant, HasComp, holds_at, holds_in, holds_counts}
+use low.step_ways.proofs.{held_by, settled_by, IsFrameWord, NumberIs, may_keep, not_exclusive_value, phase_at, HasRoom, CountsAt, Acquired}
+use low.step_ways.proofs.{due_of, AtComp, plan_for, Plan, Act, RuleMay, Refused, rule_of, change_of, found_more, Retype, Copy, Grow, Shrink}
+use low.step_ways.proofs.{Unmap, Gate, Ret, Transfer, Delegate, Test, Relies, Capability, false≢true, Make as make_call, Part, Replenish}
+use low.step_ways.proofs.{Touch as touch_act, next_of, next_by as what_next, OnlyLooks, step_to, call_is, is_active, loads_on, GoodTook}
+use low.step_ways.proofs.{refuses_busy, ticks_at, Reply, Refusal}
+use low.act_states.specs.{asks_life, Alive, AtLive, translation_of, Touch, Remove, Map, Flush, Kill, Switch, Tick, alive_after, alive_end}
+use low.act_states.specs.stage_thread.specs.{alive_move, comp_after, comp_end, live_end, number_end, lives_end}
+use low.act_states.specs.stage_tcap.specs.{Untyped, User, Kernel as to_kernel, Look as look_call, Make}
+use low.kernel_history.specs.{footprint_numbers, number_argument, number_in}
+use low.kernel_rules.specs.{lives, may_act, outlives}
+use Rattle.switch_invariant.specs.live_invariant.proofs.Numbers.{no_number, shows_live, lives_as_shown, shows_some}
+use low.{act_states.specs.touches_if, act_states.specs.next_step, call_stages.specs.IsFirst, call_stages.specs.took_alive}
+use low.{core_invariant.specs.Knows.KnowsAlive, spk_nums.specs.declared.calls.Call.TheVariants.Call as call_gate}
+use low.{trace_laws.proofs.Stays.relies_pages, plan_ways.proofs.InFootprint.one_right, act_states.specs.Touches.touching}
+use low.{act_states.specs.Touches.touches, step_ways.proofs.Refusals.refuses_asking, step_ways.proofs.Refusals.refuses_no_slot}
+use low.{count_invariant.proofs.StackCounts.top_footprint}
+use Rattle.{switch_invariant.specs.live_invariant.proofs.one_of_many, switch_invariant.specs.live_invariant.proofs.comp_is}
+use Rattle.{switch_invariant.specs.thread_invariant.proofs.OwnStack.top_comp}
+use Rattle.{switch_invariant.specs.thread_invariant.proofs.OwnStack.some_stack, page_invariant.proofs.TouchCalls.past_may}
+use Rattle.{page_invariant.proofs.TouchCalls.past_first, work_invariant.proofs.NextLooks.next_good}
 
 -- A call that asks for life looks up a name first, or touches a page.
 named_or_touch : (call : Call) → IsTrue (asks_life call) → ((plan_for call).names ≡ [] → ⊥) ⊎ ((v : ℕ) × (call ≡ Touch v))
@@ -58,13 +42,13 @@ named_or_touch (Unmap p v) asks = inl (λ h. cc)
 named_or_touch (Retype r f Untyped) asks = inl (λ h. cc)
 named_or_touch (Retype r f User) asks = inl (λ h. cc)
 named_or_touch (Retype r f to_kernel) asks = inl (λ h. cc)
-named_or_touch (make_call make.Table r f u b) asks = inl (λ h. cc)
-named_or_touch (make_call make.Leaf r f u b) asks = inl (λ h. cc)
-named_or_touch (make_call make.Pages r f u b) asks = inl (λ h. cc)
-named_or_touch (make_call make.Pleaf r f u b) asks = inl (λ h. cc)
-named_or_touch (make_call (make.Thread comp) r f u b) asks = inl (λ h. cc)
-named_or_touch (make_call (make.Tcap sched quality) r f u b) asks = inl (λ h. cc)
-named_or_touch (make_call (make.Comp x p live) r f u b) asks = inl (λ h. cc)
+named_or_touch (make_call Make.Table r f u b) asks = inl (λ h. cc)
+named_or_touch (make_call Make.Leaf r f u b) asks = inl (λ h. cc)
+named_or_touch (make_call Make.Pages r f u b) asks = inl (λ h. cc)
+named_or_touch (make_call Make.Pleaf r f u b) asks = inl (λ h. cc)
+named_or_touch (make_call (Make.Thread comp) r f u b) asks = inl (λ h. cc)
+named_or_touch (make_call (Make.Tcap sched quality) r f u b) asks = inl (λ h. cc)
+named_or_touch (make_call (Make.Comp x p live) r f u b) asks = inl (λ h. cc)
 named_or_touch (Touch v) asks = inr (v, refl)
 named_or_touch Flush asks = absurd (false≢true asks)
 named_or_touch (Gate n u b) asks = inl (λ h. cc)
@@ -193,12 +177,12 @@ module _ (setup : Setting) (setting : IsSetting setup) (cores : ℕ → Core) (t
 
     -- it does not live
     dead_good : (o : Option LiveWord) → live_of_word found ≡ o → live_mark o ≡ None → shows_live o life.epoch ≡ false
-        → GoodTook setup cores t c (LoadOf at) (landed a (refuse refusal.Dead))
+        → GoodTook setup cores t c (LoadOf at) (landed a (refuse Refusal.Dead))
     dead_good o shown bare none =
         refuses_asking setup setting cores t stands c here a active opens held_is room (LoadOf at) looking has.asks
         (lives_so o shown bare ∙ none)
 
-    closing_good : (d : ℕ) → marked_by setup t at ≡ Some d → GoodTook setup cores t c (LoadOf at) (landed a (refuse (refusal.Busy d)))
+    closing_good : (d : ℕ) → marked_by setup t at ≡ Some d → GoodTook setup cores t c (LoadOf at) (landed a (refuse (Refusal.Busy d)))
     closing_good d mark =
         refuses_busy setup setting cores t stands c here a active opens held_is room (LoadOf at) looking (ap ticks_at stage_is) d
         (no_number None a.counts life.number) mark tt
@@ -252,8 +236,8 @@ module _ (setup : Setting) (setting : IsSetting setup) (cores : ℕ → Core) (t
             let cached = translation_of (s.core c).cached pages v in
             let beyond = lt-ltb 4095 v (leb-false v 4095 past) in
             refuses_no_slot setup setting cores t stands c here a active opens held_is room (LoadOf at) looking its_core_acts
-            (subst (λ x. RuleMay s c (rule_of s c x) reply.NoSlot) (sym is) (past_may s c pages v cached beyond))
-            (λ nobody. subst (λ x. change_of s c x ≡ Refused reply.NoSlot) (sym is) (past_first s c pages v cached beyond))
+            (subst (λ x. RuleMay s c (rule_of s c x) Reply.NoSlot) (sym is) (past_may s c pages v cached beyond))
+            (λ nobody. subst (λ x. change_of s c x ≡ Refused Reply.NoSlot) (sym is) (past_first s c pages v cached beyond))
 
         touch_good : GoodTook setup cores t c (LoadOf at) (landed a (touches (cores c).own v))
         touch_good = by (nat_le v 4095) refl
@@ -276,17 +260,17 @@ module _ (setup : Setting) (setting : IsSetting setup) (cores : ℕ → Core) (t
       ]
 
     -- by what the word shows
-    by_epoch : (now g : ℕ) → live_of_word found ≡ Some (live_word.Live now g) → (same : Bool) → (now == life.epoch) ≡ same
+    by_epoch : (now g : ℕ) → live_of_word found ≡ Some (LiveWord.Live now g) → (same : Bool) → (now == life.epoch) ≡ same
         → GoodTook setup cores t c (LoadOf at) (took_alive (cores c).own a after (lives_end same))
-    by_epoch now g shown true same = live_good (lives_so (Some (live_word.Live now g)) shown refl ∙ same)
-    by_epoch now g shown false other = dead_good (Some (live_word.Live now g)) shown refl other
+    by_epoch now g shown true same = live_good (lives_so (Some (LiveWord.Live now g)) shown refl ∙ same)
+    by_epoch now g shown false other = dead_good (Some (LiveWord.Live now g)) shown refl other
 
     by_number : (v : LiveWord) → live_of_word found ≡ Some v
         → GoodTook setup cores t c (LoadOf at) (took_alive (cores c).own a after (number_end life.epoch v))
-    by_number live_word.Free shown = dead_good (Some live_word.Free) shown refl refl
-    by_number (live_word.Live now g) shown = by_epoch now g shown (now == life.epoch) refl
-    by_number (live_word.Closing now d) shown = closing_good d (ap live_mark shown)
-    by_number (live_word.Dead now x) shown = dead_good (Some (live_word.Dead now x)) shown refl refl
+    by_number LiveWord.Free shown = dead_good (Some LiveWord.Free) shown refl refl
+    by_number (LiveWord.Live now g) shown = by_epoch now g shown (now == life.epoch) refl
+    by_number (LiveWord.Closing now d) shown = closing_good d (ap live_mark shown)
+    by_number (LiveWord.Dead now x) shown = dead_good (Some (LiveWord.Dead now x)) shown refl refl
 
     by_word : (o : Option LiveWord) → live_of_word found ≡ o
         → GoodTook setup cores t c (LoadOf at) (took_alive (cores c).own a after (live_end life.epoch o))

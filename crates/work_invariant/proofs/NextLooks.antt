@@ -1,37 +1,25 @@
 -- What comes next of a call whose names have led to one capability more: the next name, the target, or, before a target that is to be
 -- free, the word of the component that the call reads.
-use Rattle.comp_invariant.proofs.Common.{acts, Move, word_of}
-use Rattle.comp_invariant.proofs.Common.{◌≡◌, ℕ, ◌<◌, nat_le, Bool, true, false, IsTrue, List, [], ◌∷◌, Option, Some, None, refl, sym}
-use Rattle.comp_invariant.proofs.Common.{◌∙◌, ap, subst, leb-true, Capability, Setting, IsSetting, Reply, State, comp_of}
-use Rattle.comp_invariant.proofs.Common.{Named, found, root_at, reached, has_no_slot, own, Under, InRoot, RuleMay, Refused, rule_of}
-use Rattle.comp_invariant.proofs.Common.{change_of, are_calls_spent, Step, Trace, Open, phase, state_after, last_left, refused_first}
-use Rattle.comp_invariant.proofs.Common.{Carries, Look, AtRoot, AtEntry, Spot, Nowhere, plan_for, GoesBy, own_pages}
-use Rattle.comp_invariant.proofs.Common.{with_found, names_after, Leads, LeadsIn, Next, NextName, NextFree, NextHeld, next_of, NextMay}
-use Rattle.comp_invariant.proofs.Common.{calls_go, next_may, Lookup, Read, Undecided, ActiveCall, Goes, WorkStep, refuse, reads_of}
-use Rattle.comp_invariant.proofs.Common.{act_begun, holds_counts, ReadIs, ReadBefore, LooksUp, own_in, NamesAre, LooksFor, phase_at}
-use Rattle.comp_invariant.proofs.Common.{landed, found_more, Core, holds_in, Invariant, Relies}
-use Rattle.comp_invariant.specs.spk_nums.specs.declared.replies.Reply.TheVariants as reply
-use Rattle.comp_invariant.specs.kernel_rules.specs.Access.{Target as place}
-use Rattle.comp_invariant.specs.trace_laws.proofs.Stays.{relies_table}
-use Rattle.comp_invariant.specs.call_plans.specs.declared.plans.Spot.TheVariants as spot_of
-use Rattle.comp_invariant.specs.call_plans.specs.declared.plans.Target.{Target}
-use Rattle.comp_invariant.specs.call_plans.specs.declared.plans.Target.TheVariants.{Free, Held, Own as own_page}
-use Rattle.comp_invariant.specs.call_plans.specs.GoesBy.{want_of, earlier, place_of_spot}
-use Rattle.comp_invariant.specs.call_plans.specs.Rooted.{IsRooted}
-use Rattle.comp_invariant.specs.call_plans.specs.After.{next_target}
-use Rattle.comp_invariant.specs.call_plans.proofs.RootedTargets.{rooted}
-use Rattle.comp_invariant.specs.plan_ways.specs.Laws.{NextRefused}
-use Rattle.comp_invariant.specs.plan_ways.proofs.Ways.{next_first}
-use Rattle.comp_invariant.specs.act_states.specs.declared.refusals.Refusal.TheVariants as refusal
-use Rattle.comp_invariant.specs.act_states.specs.Lookups.{read_first, looks_under, looks_entry, looks_at, next_step}
-use Rattle.comp_invariant.specs.call_stages.specs.Steps.{next_by as what_next}
-use Rattle.comp_invariant.specs.step_ways.proofs.Loads.{OnlyLooks, core_is, call_is, loads_on, decides_on, step_to}
-use Rattle.comp_invariant.specs.step_ways.proofs.Refusals.{GoodTook, not_spent}
-use Rattle.comp_invariant.specs.count_invariant.proofs.Findings.{own_is, past_slot, past_unreached, named_no_slot}
-use Rattle.comp_invariant.specs.count_invariant.proofs.Next.{MayUse, spot_relies, Rest, ANameLeft, NoneLeft, rest_of, next_name, next_end}
+use Rattle.comp_invariant.specs as low
+use low.step_ways.proofs.{acts, Move, word_of, ◌≡◌, ℕ, ◌<◌, leb as nat_le, Bool, true, false, IsTrue, List, [], ◌∷◌, Option, Some, None}
+use low.step_ways.proofs.{refl, sym, ◌∙◌, ap, subst, leb-true, Capability, Setting, IsSetting, Reply, State, comp_of, Named, found, reached}
+use low.step_ways.proofs.{own, Under, InRoot, RuleMay, Refused, rule_of, change_of, are_calls_spent, Step, Trace, Open, phase, state_after}
+use low.step_ways.proofs.{last_left, refused_first, Carries, Look, AtRoot, AtEntry, Spot, Nowhere, plan_for, GoesBy, own_pages, names_after}
+use low.step_ways.proofs.{Leads, LeadsIn, Next, NextName, NextFree, NextHeld, next_of, calls_go, Lookup, Read, Undecided, ActiveCall, Goes}
+use low.step_ways.proofs.{WorkStep, refuse, reads_of, act_begun, holds_counts, ReadIs, LooksUp, own_in, NamesAre, phase_at, landed}
+use low.step_ways.proofs.{found_more, Core, holds_in, Invariant, Relies, Target as place, next_by as what_next, OnlyLooks, core_is, call_is}
+use low.step_ways.proofs.{loads_on, decides_on, step_to, GoodTook, not_spent, Refusal}
+use low.act_states.specs.{root_at, with_found, want_of, earlier, read_first, looks_under, looks_entry, looks_at, next_step}
+use low.count_invariant.proofs.{own_is, Rest, ANameLeft, NoneLeft, rest_of, next_name, next_end}
+use low.call_plans.specs.{NextMay, place_of_spot, next_target}
+use low.call_plans.specs.declared.plans.Target.TheVariants.{Free, Held, Own as own_page}
+use low.count_invariant.proofs.Findings.{past_slot, past_unreached, named_no_slot}
 use Rattle.work_invariant.proofs.ByCall.{vacant_no_slot, held_no_slot, past_entry, past_entry_unreached, own_unnamed}
-use Rattle.work_invariant.proofs.Reading.{reads_comp}
-use Rattle.comp_invariant.specs.call_plans.specs.PlanOf.{plan_for}
+use low.{core_invariant.specs.ReadBefore, core_invariant.specs.LooksFor, call_plans.proofs.next_may, call_plans.proofs.rooted}
+use low.{kernel_rules.specs.Access.has_no_slot, trace_laws.proofs.Stays.relies_table, call_plans.specs.declared.plans.Target.Target}
+use low.{call_plans.specs.Rooted.IsRooted, plan_ways.specs.Laws.NextRefused, plan_ways.proofs.Ways.next_first}
+use low.{count_invariant.proofs.Next.MayUse, count_invariant.proofs.Next.spot_relies}
+use Rattle.{work_invariant.proofs.Reading.reads_comp}
 
 module _ (setup : Setting) (setting : IsSetting setup) (cores : ℕ → Core) (t : Trace) (stands : Invariant setup cores t) (c : ℕ)
     (here : c < setup.cores)
@@ -75,14 +63,14 @@ module _ (setup : Setting) (setting : IsSetting setup) (cores : ℕ → Core) (t
   own_target n = own_is s c table n table_is
 
   -- the load refuses the call with `no-slot`
-  no_slot : RuleMay s c (rule_of s c a.call) reply.NoSlot → change_of s c a.call ≡ Refused reply.NoSlot
-      → GoodTook setup cores t c move (landed (found_more a more) (refuse refusal.NoSlot))
+  no_slot : RuleMay s c (rule_of s c a.call) Reply.NoSlot → change_of s c a.call ≡ Refused Reply.NoSlot
+      → GoodTook setup cores t c move (landed (found_more a more) (refuse Refusal.NoSlot))
   no_slot may is lands =
       let unspent : are_calls_spent s c ≡ false = not_spent setup (cores c) t c (core_is setup setting cores t stands c here a active)
       room in
-      decides_on setup setting cores t stands c here a active move reply.NoSlot more looks lands (still None)
+      decides_on setup setting cores t stands c here a active move Reply.NoSlot more looks lands (still None)
       opens refl refl (λ x. refl) (λ x. refl) refl
-      (unspent, may) tt (λ is_alone. refused_first s c a.call reply.NoSlot may_act unspent is)
+      (unspent, may) tt (λ is_alone. refused_first s c a.call Reply.NoSlot may_act unspent is)
 
   -- What comes next of the call, after the load of the word of this component, if it reads one, is good.
   abbrev Begun : Option ℕ → WorkStep → Type 0
@@ -122,8 +110,8 @@ module _ (setup : Setting) (setting : IsSetting setup) (cores : ℕ → Core) (t
         };
       })
 
-  no_slot_first : (o : Option ℕ) → RuleMay s c (rule_of s c a.call) reply.NoSlot → change_of s c a.call ≡ Refused reply.NoSlot
-      → Begun o (refuse refusal.NoSlot)
+  no_slot_first : (o : Option ℕ) → RuleMay s c (rule_of s c a.call) Reply.NoSlot → change_of s c a.call ≡ Refused Reply.NoSlot
+      → Begun o (refuse Refusal.NoSlot)
   no_slot_first None = no_slot
   no_slot_first (Some f) = no_slot
 
@@ -131,8 +119,8 @@ module _ (setup : Setting) (setting : IsSetting setup) (cores : ℕ → Core) (t
   under_good : (o : Option ℕ) (next : Next) → next_of (plan_for a.call) more ≡ next → (root : Named) (n : ℕ) → root.found ≡ true
       → Relies s c root.frame
       → (((look : Look) → LooksUp setup (e ∷ t) c (Under root n) look → Begun o (Goes (Lookup look))))
-      → (nat_le n 4095 ≡ false → NextMay s c (own_pages s c) next reply.NoSlot)
-      → (nat_le n 4095 ≡ false → NextRefused s c (own_pages s c) next reply.NoSlot)
+      → (nat_le n 4095 ≡ false → NextMay s c (own_pages s c) next Reply.NoSlot)
+      → (nat_le n 4095 ≡ false → NextRefused s c (own_pages s c) next Reply.NoSlot)
       → Begun o (looks_under (nat_le n 4095) root.frame n)
   under_good o next is root n found relies for may_not refused = by (nat_le n 4095) refl
     where
@@ -141,15 +129,15 @@ module _ (setup : Setting) (setting : IsSetting setup) (cores : ℕ → Core) (t
         relies = relies;
         at = record { found = found; frame = refl; same = refl; within = leb-true n 4095 within };
       })
-      by false past = no_slot_first o (may reply.NoSlot
-          (subst (λ x. NextMay s c (own_pages s c) x reply.NoSlot) (sym is) (may_not past)))
-          (first reply.NoSlot (subst (λ x. NextRefused s c (own_pages s c) x reply.NoSlot) (sym is) (refused past)))
+      by false past = no_slot_first o (may Reply.NoSlot
+          (subst (λ x. NextMay s c (own_pages s c) x Reply.NoSlot) (sym is) (may_not past)))
+          (first Reply.NoSlot (subst (λ x. NextRefused s c (own_pages s c) x Reply.NoSlot) (sym is) (refused past)))
 
   entry_good : (o : Option ℕ) (next : Next) → next_of (plan_for a.call) more ≡ next → (root : Named) (i : ℕ) → root.found ≡ true
       → Relies s c root.frame
       → (((look : Look) → LooksUp setup (e ∷ t) c (InRoot root i) look → Begun o (Goes (Lookup look))))
-      → (nat_le i 63 ≡ false → NextMay s c (own_pages s c) next reply.NoSlot)
-      → (nat_le i 63 ≡ false → NextRefused s c (own_pages s c) next reply.NoSlot)
+      → (nat_le i 63 ≡ false → NextMay s c (own_pages s c) next Reply.NoSlot)
+      → (nat_le i 63 ≡ false → NextRefused s c (own_pages s c) next Reply.NoSlot)
       → Begun o (looks_entry (nat_le i 63) root.frame i)
   entry_good o next is root i found relies for may_not refused = by (nat_le i 63) refl
     where
@@ -158,9 +146,9 @@ module _ (setup : Setting) (setting : IsSetting setup) (cores : ℕ → Core) (t
         relies = relies;
         at = record { found = found; frame = refl; same = refl; within = leb-true i 63 within };
       })
-      by false past = no_slot_first o (may reply.NoSlot
-          (subst (λ x. NextMay s c (own_pages s c) x reply.NoSlot) (sym is) (may_not past)))
-          (first reply.NoSlot (subst (λ x. NextRefused s c (own_pages s c) x reply.NoSlot) (sym is) (refused past)))
+      by false past = no_slot_first o (may Reply.NoSlot
+          (subst (λ x. NextMay s c (own_pages s c) x Reply.NoSlot) (sym is) (may_not past)))
+          (first Reply.NoSlot (subst (λ x. NextRefused s c (own_pages s c) x Reply.NoSlot) (sym is) (refused past)))
 
   -- the target is looked up next
   is_rooted : (target : Target) → (plan_for a.call).target ≡ target → IsRooted (plan_for a.call).names target
@@ -175,18 +163,18 @@ module _ (setup : Setting) (setting : IsSetting setup) (cores : ℕ → Core) (t
   free_good : (spot : Spot) → (plan_for a.call).target ≡ Free spot → names_after (plan_for a.call).names more ≡ []
       → next_of (plan_for a.call) more ≡ NextFree (place_of_spot (with_found [] more) spot)
       → Begun (reads_of a.call more) (looks_at (place_of_spot (with_found [] more) spot))
-  free_good (spot_of.Under i n) to none is =
-      let root = spot_relies setup setting t stands.legal c a.call is_open (plan_for a.call) more (spot_of.Under i n)
-      (is_rooted (Free (spot_of.Under i n)) to) uses none in
+  free_good (Spot.Under i n) to none is =
+      let root = spot_relies setup setting t stands.legal c a.call is_open (plan_for a.call) more (Spot.Under i n)
+      (is_rooted (Free (Spot.Under i n)) to) uses none in
       under_good (reads_of a.call more) (NextFree (Under (earlier (with_found [] more) i) n)) is (earlier (with_found [] more) i) n
       root.1 root.0
       (free_first (reads_of a.call more) refl (Under (earlier (with_found [] more) i) n) is)
       (λ past. past_slot s (earlier (with_found [] more) i) n past)
       (λ past. vacant_no_slot s c (Under (earlier (with_found [] more) i) n)
       (past_unreached s c (earlier (with_found [] more) i) n past))
-  free_good (spot_of.InRoot i x) to none is =
-      let root = spot_relies setup setting t stands.legal c a.call is_open (plan_for a.call) more (spot_of.InRoot i x)
-      (is_rooted (Free (spot_of.InRoot i x)) to) uses none in
+  free_good (Spot.InRoot i x) to none is =
+      let root = spot_relies setup setting t stands.legal c a.call is_open (plan_for a.call) more (Spot.InRoot i x)
+      (is_rooted (Free (Spot.InRoot i x)) to) uses none in
       entry_good (reads_of a.call more) (NextFree (InRoot (earlier (with_found [] more) i) x)) is (earlier (with_found [] more) i) x
       root.1 root.0
       (free_first (reads_of a.call more) refl (InRoot (earlier (with_found [] more) i) x) is)
@@ -197,17 +185,17 @@ module _ (setup : Setting) (setting : IsSetting setup) (cores : ℕ → Core) (t
       → next_of (plan_for a.call) more ≡ NextHeld (place_of_spot (with_found [] more) spot)
       → GoodTook setup cores t c move
       (landed (found_more a more) (looks_at (place_of_spot (with_found [] more) spot)))
-  held_good (spot_of.Under i n) to none is =
-      let root = spot_relies setup setting t stands.legal c a.call is_open (plan_for a.call) more (spot_of.Under i n)
-      (is_rooted (Held (spot_of.Under i n)) to) uses none in
+  held_good (Spot.Under i n) to none is =
+      let root = spot_relies setup setting t stands.legal c a.call is_open (plan_for a.call) more (Spot.Under i n)
+      (is_rooted (Held (Spot.Under i n)) to) uses none in
       under_good None (NextHeld (Under (earlier (with_found [] more) i) n)) is (earlier (with_found [] more) i) n root.1 root.0
       (looks_next (NextHeld (Under (earlier (with_found [] more) i) n)) is tt)
       (λ past. past_slot s (earlier (with_found [] more) i) n past)
       (λ past. held_no_slot s c (Under (earlier (with_found [] more) i) n)
       (past_unreached s c (earlier (with_found [] more) i) n past))
-  held_good (spot_of.InRoot i x) to none is =
-      let root = spot_relies setup setting t stands.legal c a.call is_open (plan_for a.call) more (spot_of.InRoot i x)
-      (is_rooted (Held (spot_of.InRoot i x)) to) uses none in
+  held_good (Spot.InRoot i x) to none is =
+      let root = spot_relies setup setting t stands.legal c a.call is_open (plan_for a.call) more (Spot.InRoot i x)
+      (is_rooted (Held (Spot.InRoot i x)) to) uses none in
       entry_good None (NextHeld (InRoot (earlier (with_found [] more) i) x)) is (earlier (with_found [] more) i) x root.1 root.0
       (looks_next (NextHeld (InRoot (earlier (with_found [] more) i) x)) is tt)
       (λ past. past_entry x past) (λ past. held_no_slot s c (InRoot (earlier (with_found [] more) i) x)

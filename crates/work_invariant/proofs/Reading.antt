@@ -1,26 +1,17 @@
 -- A call reads the word of the component to which its first name has led, before it looks its target up.
-use Rattle.comp_invariant.proofs.Common.{◌≡◌, inl, ℕ, ◌<◌, ◌||◌, true, false, List, [], ◌∷◌, Some, None, refl, sym, ◌∙◌, ap, subst}
-use Rattle.comp_invariant.proofs.Common.{eq-eqb, Capability, Setting, IsSetting, Kind, Call, Gate, comp_of_word, CompWord, EntryAt}
-use Rattle.comp_invariant.proofs.Common.{LoadOf, State, Kernel, Comp, PlaceOf, comp_in, to_use, only, named_by, only_is, opened, events_of}
-use Rattle.comp_invariant.proofs.Common.{is_one_of, footprint_frames, IsLegal, mark_in_frame, marked_by, stamp, Step, Trace, Open, phase}
-use Rattle.comp_invariant.proofs.Common.{state_after, last_left, sound_of, opened_is, Look, First, plan_for, Leads, LeadsIn, Next}
-use Rattle.comp_invariant.proofs.Common.{Lookup, Read, reads_of, Undecided, ActiveCall, Core, settled_by, IsFrameWord}
-use Rattle.comp_invariant.proofs.Common.{LooksFor, ReadIs, ReadBefore, KnowsUndecided, phase_at, holds_at, held_by, Invariant, names_on}
-use Rattle.comp_invariant.proofs.Common.{may_keep, not_exclusive_value}
-use Rattle.comp_invariant.specs.spk_nums.specs.declared.kinds.Kind.TheVariants as kind
-use Rattle.comp_invariant.specs.frame_words.specs.Comp.{CompFits}
-use Rattle.comp_invariant.specs.frame_words.proofs.CompLemmas.{comp_spells}
-use Rattle.comp_invariant.specs.kernel_invariant.proofs.Facts.{named_good}
-use Rattle.comp_invariant.specs.plan_ways.proofs.InFootprint.{footprint_found}
-use Rattle.comp_invariant.specs.call_stages.specs.Steps.{took_read}
-use Rattle.comp_invariant.specs.core_invariant.specs.Knows.{HasComp}
-use Rattle.comp_invariant.specs.kept_facts.proofs.Carries.{looks_on}
-use Rattle.comp_invariant.specs.step_ways.proofs.Loads.{OnlyLooks, step_to, call_is, reads_on}
-use Rattle.comp_invariant.specs.step_ways.proofs.Refusals.{GoodTook}
-use Rattle.switch_invariant.specs.live_invariant.proofs.KillStarts.{comp_named}
-use Rattle.switch_invariant.specs.live_invariant.proofs.Numbers.{comp_is}
-use Rattle.comp_invariant.specs.count_invariant.proofs.Acquiring.{plan_leads}
-use Rattle.comp_invariant.specs.call_plans.specs.PlanOf.{plan_for}
+use Rattle.comp_invariant.specs.step_ways.proofs as low
+use low.{◌≡◌, inl, ℕ, ◌<◌, ◌||◌, true, false, List, [], ◌∷◌, Some, None, refl, sym, ◌∙◌, ap, subst, eq-eqb, Capability, Setting, IsSetting}
+use low.{Kind, Call, Gate, comp_of_word, CompWord, EntryAt, LoadOf, State, Kernel, Comp, PlaceOf, comp_in, to_use, only, named_by, only_is}
+use low.{opened, events_of, is_one_of, footprint_frames, IsLegal, mark_in_frame, marked_by, stamp, Step, Trace, Open, phase, state_after}
+use low.{last_left, sound_of, opened_is, Look, First, plan_for, Leads, LeadsIn, Next, Lookup, Read, reads_of, Undecided, ActiveCall, Core}
+use low.{settled_by, IsFrameWord, ReadIs, KnowsUndecided, phase_at, holds_at, held_by, Invariant, names_on, may_keep, not_exclusive_value}
+use low.{HasComp, OnlyLooks, step_to, call_is, GoodTook, Loads.reads_on}
+use Rattle.{comp_invariant.specs.core_invariant.specs.LooksFor, comp_invariant.specs.core_invariant.specs.ReadBefore}
+use Rattle.{comp_invariant.specs.frame_words.specs.Comp.CompFits, comp_invariant.specs.frame_words.proofs.CompLemmas.comp_spells}
+use Rattle.{comp_invariant.specs.kernel_invariant.proofs.Facts.named_good}
+use Rattle.{comp_invariant.specs.plan_ways.proofs.InFootprint.footprint_found, comp_invariant.specs.call_stages.specs.Steps.took_read}
+use Rattle.{comp_invariant.specs.kept_facts.proofs.Carries.looks_on, switch_invariant.specs.live_invariant.proofs.KillStarts.comp_named}
+use Rattle.{switch_invariant.specs.live_invariant.proofs.Numbers.comp_is, comp_invariant.specs.count_invariant.proofs.Acquiring.plan_leads}
 
 -- It is a component, which no other core may retype.
 pub reads_comp : (setup : Setting) → IsSetting setup → (t : Trace) → IsLegal setup t → (c : ℕ) (call : Call) → phase t c ≡ Open call
@@ -28,10 +19,10 @@ pub reads_comp : (setup : Setting) → IsSetting setup → (t : Trace) → IsLeg
     → (f : ℕ) → reads_of call ks ≡ Some f → HasComp (state_after setup t) c f
 reads_comp setup setting t legal c (Gate n u b) is_open [] lead f reads = absurd (cc)
 reads_comp setup setting t legal c (Gate n u b) is_open (k ∷ ks) lead f reads =
-    let good = named_good (state_after setup t) (opened (events_of t)) c n (to_use (only kind.Comp)) k (sound_of setup setting t legal)
+    let good = named_good (state_after setup t) (opened (events_of t)) c n (to_use (only Kind.Comp)) k (sound_of setup setting t legal)
     (opened_is t c (Gate n u b) is_open) lead.0 in
     subst (HasComp (state_after setup t) c) (frame_same k.frame f reads)
-    (comp_named setup setting t legal c (Gate n u b) is_open n k (only_is kind.Comp k.kind good.1) lead.0)
+    (comp_named setup setting t legal c (Gate n u b) is_open n k (only_is Kind.Comp k.kind good.1) lead.0)
   where
     frame_same : (g f : ℕ) → Some g ≡ Some f → g ≡ f
     frame_same g f h = cc
@@ -43,10 +34,10 @@ reads_footprint : (setup : Setting) → IsSetting setup → (t : Trace) → IsLe
     → (f : ℕ) → reads_of call ks ≡ Some f → is_one_of f (footprint_frames (state_after setup t) c call) ≡ true
 reads_footprint setup setting t legal c (Gate n u b) is_open [] lead f reads = absurd (cc)
 reads_footprint setup setting t legal c (Gate n u b) is_open (k ∷ ks) lead f reads =
-    let good = named_good (state_after setup t) (opened (events_of t)) c n (to_use (only kind.Comp)) k (sound_of setup setting t legal)
+    let good = named_good (state_after setup t) (opened (events_of t)) c n (to_use (only Kind.Comp)) k (sound_of setup setting t legal)
     (opened_is t c (Gate n u b) is_open) lead.0 in
     footprint_found (state_after setup t) c (Gate n u b) (k ∷ ks) lead First k refl f
-    (ap (λ (x : Kind). is_one_of f (named_by x k.frame)) (only_is kind.Comp k.kind good.1)
+    (ap (λ (x : Kind). is_one_of f (named_by x k.frame)) (only_is Kind.Comp k.kind good.1)
     ∙ ap (λ b. b || false) (eq-eqb k.frame f (frame_same k.frame f reads)))
   where
     frame_same : (g f : ℕ) → Some g ≡ Some f → g ≡ f

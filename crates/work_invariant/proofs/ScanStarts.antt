@@ -1,17 +1,13 @@
 -- What a call knows that has found its target quiescing: since which stamp, and what is known of it before a core or a flush is scanned, or
 -- where there is none to be scanned.
-use Rattle.comp_invariant.proofs.Common.{◌≡◌, ◌≢◌, ℕ, ◌<◌, ◌≤◌, false, [], ◌∷◌, Some, None, arith, refl, ◌∙◌}
-use Rattle.comp_invariant.proofs.Common.{Setting, IsSetting, entry_of_word, EntryAt, LoadOf, Thing, PlaceOf, Slot, IsRemoved, clock}
-use Rattle.comp_invariant.proofs.Common.{stamp, Step, Trace, Open, phase, state_after, last_left, WasAt, was_now, plan_for, Leads}
-use Rattle.comp_invariant.proofs.Common.{LeadsIn, NextFree, next_of, fills_page, ActiveCall, Core, HasFlushed, IsScanned, Invariant}
-use Rattle.comp_invariant.specs.entry_words.specs.declared.entry.Entry.TheVariants as entry
-use Rattle.comp_invariant.specs.kernel_rules.specs.Access.{Target as place}
-use Rattle.comp_invariant.specs.step_ways.proofs.Loads.{step_to}
-use Rattle.comp_invariant.specs.count_invariant.proofs.Lookups.{Arrives}
-use Rattle.comp_invariant.specs.place_invariant.proofs.Paging.{paging_by}
+use Rattle.comp_invariant.specs.step_ways.proofs as low
+use low.{◌≡◌, ◌≢◌, ℕ, ◌<◌, ◌≤◌, false, [], ◌∷◌, Some, None, arith, refl, ◌∙◌, Setting, IsSetting, entry_of_word, EntryAt, LoadOf, Thing}
+use low.{PlaceOf, Slot, IsRemoved, clock, stamp, Step, Trace, Open, phase, state_after, last_left, WasAt, was_now, plan_for, Leads, LeadsIn}
+use low.{NextFree, next_of, ActiveCall, Core, HasFlushed, Invariant, Target as place, step_to, Entry}
+use Rattle.comp_invariant.specs.place_invariant.proofs.{Paging.paging_by, Vacancy.unpaged_flushed}
 use Rattle.comp_invariant.specs.scan_invariant.proofs.Scans.{ShowsSince, since_is}
-use Rattle.comp_invariant.specs.place_invariant.proofs.Vacancy.{unpaged_flushed}
-use Rattle.work_invariant.proofs.AtTarget.{was_while_open}
+use Rattle.{comp_invariant.specs.act_states.specs.Acts.fills_page, comp_invariant.specs.core_invariant.specs.Reaching.IsScanned}
+use Rattle.{comp_invariant.specs.count_invariant.proofs.Lookups.Arrives, work_invariant.proofs.AtTarget.was_while_open}
 
 pub record ScanStarts (setup : Setting) (t : Trace) (c : ℕ) (a : ActiveCall) (at : Slot) (x : ℕ) : Type 0 where
   pub drawn : 1 ≤ x
@@ -30,7 +26,7 @@ module _ (setup : Setting) (setting : IsSetting setup) (cores : ℕ → Core) (t
     (a : ActiveCall) (active : (cores c).active ≡ Some a) (is_open : phase t c ≡ Open a.call)
     (leads : Leads (LeadsIn (state_after setup t) c) (plan_for a.call).names [] a.found) (target : place)
     (next_free : next_of (plan_for a.call) a.found ≡ NextFree target) (at : Slot) (arrives : Arrives setup t c target at) (x : ℕ)
-    (reads : entry_of_word (last_left setup t (EntryAt at.node at.index)) ≡ Some (entry.Quiescing x)) where
+    (reads : entry_of_word (last_left setup t (EntryAt at.node at.index)) ≡ Some (Entry.Quiescing x)) where
   abbrev removed : Thing
   removed = PlaceOf at.node at.index
 

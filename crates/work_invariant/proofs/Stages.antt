@@ -1,30 +1,23 @@
 -- A step of a call is good, by the stage where the call stands: its work, the stores after its decision, the counts that it then commits,
 -- the load of the clock, and the store of its core word.
-use Rattle.comp_invariant.proofs.Common.{◌≡◌, ◌∙◌, inl, ℕ, ◌^◌, ◌<◌, ◌∷◌, Option, Some, None, List, [], arith, false, refl, sym, ap}
-use Rattle.comp_invariant.proofs.Common.{subst, lt-ltb, Setting, IsSetting, Reply, CoreAt, ClockAt, LoadOf, StoreOf, word_of, told_of}
-use Rattle.comp_invariant.proofs.Common.{Step, Trace, last_left, clock, Nothing, Quiesce, Unmark, StoreDead, StoreFlush, Release}
-use Rattle.comp_invariant.proofs.Common.{StoreLive, Push, Pop, Share, StoreRunning, StoreIdle, Stage, Enter, Living, Undecided, Decided}
-use Rattle.comp_invariant.proofs.Common.{Leave}
-use Rattle.comp_invariant.proofs.Common.{ActiveCall, Core, Acquired, holds_counts, core_word, stage_move, Took, GoesOn, Returns}
-use Rattle.comp_invariant.proofs.Common.{went_with, KnowsAt, done_by, holds_at, Invariant, phase_at}
-use Rattle.comp_invariant.specs.kernel_history.proofs.Steps.{clock_seen-own}
-use Rattle.comp_invariant.specs.call_stages.specs.Tails.{tail_move, stamp_if, stamp_of, took_tail, tail_counts}
-use Rattle.comp_invariant.specs.count_invariant.proofs.Acquiring.{commit_good}
-use Rattle.comp_invariant.specs.call_stages.specs.Steps.{took_at}
-use Rattle.comp_invariant.specs.step_ways.proofs.Loads.{step_to, loads_on}
-use Rattle.comp_invariant.specs.step_ways.proofs.Writes.{clock_small, leaves_on}
-use Rattle.comp_invariant.specs.step_ways.proofs.Refusals.{GoodTook}
-use Rattle.comp_invariant.specs.place_invariant.proofs.Removals.{store_good}
-use Rattle.comp_invariant.proofs.CompStores.{give_live_good}
-use Rattle.comp_invariant.specs.frame_invariant.proofs.Makes.{unmark_good}
-use Rattle.switch_invariant.specs.thread_invariant.proofs.Stacks.{push_good, pop_good}
-use Rattle.share_invariant.proofs.Shares.{shared_good}
-use Rattle.switch_invariant.specs.live_invariant.proofs.Killed.{dead_good}
-use Rattle.page_invariant.proofs.Flushes.{flushed_good}
-use Rattle.switch_invariant.proofs.Stores.{running_good, idle_good}
-use Rattle.sweep_invariant.proofs.Releases.{release_good}
-use Rattle.work_invariant.proofs.Living.{alive_good}
-use Rattle.work_invariant.proofs.Work.{work_good}
+use Rattle.comp_invariant.specs.step_ways.proofs.{◌≡◌, ◌∙◌, inl, ℕ, ◌^◌, ◌<◌, ◌∷◌, Option, Some, None, List, [], arith, false, refl, sym}
+use Rattle.comp_invariant.specs.step_ways.proofs.{ap, subst, lt-ltb, Setting, IsSetting, Reply, CoreAt, ClockAt, LoadOf, StoreOf, word_of}
+use Rattle.comp_invariant.specs.step_ways.proofs.{told_of, Step, Trace, last_left, clock, Nothing, Quiesce, Unmark, StoreDead, StoreFlush}
+use Rattle.comp_invariant.specs.step_ways.proofs.{Release, StoreLive, Push, Pop, StoreRunning, StoreIdle, Stage, Enter, Living, Undecided}
+use Rattle.comp_invariant.specs.step_ways.proofs.{Decided, Leave, ActiveCall, Core, Acquired, holds_counts, stage_move, Took, GoesOn}
+use Rattle.comp_invariant.specs.step_ways.proofs.{Returns, went_with, KnowsAt, done_by, holds_at, Invariant, phase_at, tail_move, took_tail}
+use Rattle.comp_invariant.specs.step_ways.proofs.{took_at, step_to, loads_on, clock_small, GoodTook}
+use Rattle.{comp_invariant.specs.call_stages.specs.core_word, comp_invariant.specs.call_stages.specs.tail_counts}
+use Rattle.{comp_invariant.specs.act_states.specs.declared.work.Tail.TheVariants.Share}
+use Rattle.{comp_invariant.specs.kernel_history.proofs.Steps.clock_seen-own, comp_invariant.specs.call_stages.specs.Tails.stamp_if}
+use Rattle.{comp_invariant.specs.call_stages.specs.Tails.stamp_of, comp_invariant.specs.count_invariant.proofs.Acquiring.commit_good}
+use Rattle.{comp_invariant.specs.step_ways.proofs.Writes.leaves_on, comp_invariant.specs.place_invariant.proofs.Removals.store_good}
+use Rattle.{comp_invariant.proofs.CompStores.give_live_good, comp_invariant.specs.frame_invariant.proofs.Makes.unmark_good}
+use Rattle.{switch_invariant.specs.thread_invariant.proofs.Stacks.push_good, switch_invariant.specs.thread_invariant.proofs.Stacks.pop_good}
+use Rattle.{share_invariant.proofs.Shares.shared_good, switch_invariant.specs.live_invariant.proofs.Killed.dead_good}
+use Rattle.{page_invariant.proofs.Flushes.flushed_good, switch_invariant.proofs.Stores.running_good}
+use Rattle.{switch_invariant.proofs.Stores.idle_good, sweep_invariant.proofs.Releases.release_good, work_invariant.proofs.Living.alive_good}
+use Rattle.{work_invariant.proofs.Work.work_good}
 
 module _ (setup : Setting) (setting : IsSetting setup) (cores : ℕ → Core) (t : Trace) (stands : Invariant setup cores t) (c : ℕ)
     (here : c < setup.cores) where

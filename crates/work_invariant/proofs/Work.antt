@@ -1,39 +1,23 @@
 -- A step of the work of an undecided call is good.
-use Rattle.comp_invariant.proofs.Common.{◌≡◌, ℕ, ◌<◌, Some, sym, ap, subst, false≢true, Setting, IsSetting, word_of, told_of, Trace}
-use Rattle.comp_invariant.proofs.Common.{last_left, shown_in, look_move, Look, AtRoot, AtLeaf, AtEntry, Outside, Work, Lookup, Read, Scan}
-use Rattle.comp_invariant.proofs.Common.{Acquire, Act, Undecided, ActiveCall, Core, KnowsUndecided, Invariant, AtLoad}
-use Rattle.switch_invariant.specs.thread_invariant.proofs.Left.{returning_good}
-use Rattle.switch_invariant.specs.thread_invariant.proofs.Entered.{invoking_good}
-use Rattle.comp_invariant.specs.act_states.specs.declared.work.Act.TheVariants.{Fill as fill_act, Remove as remove_act, Retype as type_act}
-use Rattle.comp_invariant.specs.act_states.specs.declared.work.Act.TheVariants.{Make as make_act, Tick as tick_act}
-use Rattle.comp_invariant.specs.act_states.specs.declared.work.Act.TheVariants.{Flush as flush_act}
-use Rattle.comp_invariant.specs.act_states.specs.declared.work.Act.TheVariants.{Kill as kill_act, Untype as untype_act, Map as map_act}
-use Rattle.comp_invariant.specs.act_states.specs.declared.work.Act.TheVariants.{MakeComp as comp_act, Invoke as invoke_act}
-use Rattle.comp_invariant.specs.act_states.specs.declared.work.Act.TheVariants.{Return as return_act}
-use Rattle.comp_invariant.specs.act_states.specs.declared.work.Act.TheVariants.{Touch as touch_act, Share as share_act}
-use Rattle.comp_invariant.specs.act_states.specs.declared.work.Act.TheVariants.{Refill as refill_act}
-use Rattle.comp_invariant.specs.act_states.specs.declared.work.Act.TheVariants.{Switch as switch_act}
-use Rattle.comp_invariant.specs.call_stages.specs.Steps.{work_move, took_look, took_work}
-use Rattle.comp_invariant.specs.step_ways.proofs.Refusals.{GoodTook}
-use Rattle.comp_invariant.specs.stage_pins.specs.declared.pin.Pin.TheVariants.{AtCompare}
-use Rattle.comp_invariant.specs.count_invariant.proofs.Acquiring.{acquire_good}
-use Rattle.work_invariant.proofs.ByPlan.{lookup_good}
-use Rattle.work_invariant.proofs.Reading.{read_good}
-use Rattle.sweep_invariant.proofs.UntypeSteps.{untype_good}
-use Rattle.comp_invariant.specs.place_invariant.proofs.Fills.{fill_good}
-use Rattle.comp_invariant.specs.place_invariant.proofs.Mappings.{map_good}
-use Rattle.comp_invariant.specs.place_invariant.proofs.Removals.{remove_good}
-use Rattle.comp_invariant.specs.scan_invariant.proofs.ScanSteps.{scan_good}
-use Rattle.comp_invariant.specs.frame_invariant.proofs.Typings.{typing_good}
-use Rattle.comp_invariant.proofs.MadeComps.{comp_good}
-use Rattle.comp_invariant.specs.frame_invariant.proofs.MadeObjects.{making_good}
-use Rattle.time_invariant.proofs.TickSteps.{tick_good}
-use Rattle.switch_invariant.specs.live_invariant.proofs.Killed.{killing_good}
-use Rattle.page_invariant.proofs.Flushes.{flush_good}
-use Rattle.page_invariant.proofs.Touches.{touch_good}
-use Rattle.share_invariant.proofs.Shares.{share_good}
-use Rattle.share_invariant.specs.pair_invariant.proofs.RefillStarts.{refill_good}
-use Rattle.switch_invariant.proofs.Switches.{switch_good}
+use Rattle.comp_invariant.specs.step_ways.proofs as low
+use low.{◌≡◌, ℕ, ◌<◌, Some, sym, ap, subst, false≢true, Setting, IsSetting, word_of, told_of, Trace, last_left, shown_in, look_move, Look}
+use low.{AtRoot, AtLeaf, AtEntry, Outside, Work, Lookup, Read, Scan, Acquire, Act, Undecided, ActiveCall, Core, KnowsUndecided, Invariant}
+use low.{Fill as fill_act, Remove as remove_act, Tick as tick_act, Flush as flush_act, Kill as kill_act, Untype as untype_act}
+use low.{Map as map_act, MakeComp as comp_act, Invoke as invoke_act, Return as return_act, Touch as touch_act, Share as share_act}
+use low.{Refill as refill_act, Switch as switch_act, GoodTook}
+use Rattle.comp_invariant.specs.call_stages.specs.{work_move, took_look, took_work}
+use Rattle.comp_invariant.specs.core_invariant.specs.{Retype as type_act, Make as make_act}
+use Rattle.comp_invariant.specs.stage_pins.specs.declared.pin.Pin.TheVariants.{AtLoad, AtCompare}
+use Rattle.switch_invariant.specs.thread_invariant.proofs.{Left.returning_good, Entered.invoking_good}
+use Rattle.comp_invariant.specs.place_invariant.proofs.{Fills.fill_good, Mappings.map_good, Removals.remove_good}
+use Rattle.comp_invariant.specs.frame_invariant.proofs.{Typings.typing_good, MadeObjects.making_good}
+use Rattle.page_invariant.proofs.{Flushes.flush_good, Touches.touch_good}
+use Rattle.work_invariant.proofs.{ByPlan.lookup_good, Reading.read_good}
+use Rattle.{comp_invariant.specs.count_invariant.proofs.Acquiring.acquire_good, sweep_invariant.proofs.UntypeSteps.untype_good}
+use Rattle.{comp_invariant.specs.scan_invariant.proofs.ScanSteps.scan_good, comp_invariant.proofs.MadeComps.comp_good}
+use Rattle.{time_invariant.proofs.TickSteps.tick_good, switch_invariant.specs.live_invariant.proofs.Killed.killing_good}
+use Rattle.{share_invariant.proofs.Shares.share_good, share_invariant.specs.pair_invariant.proofs.RefillStarts.refill_good}
+use Rattle.{switch_invariant.proofs.Switches.switch_good}
 
 look_good : (setup : Setting) → IsSetting setup → (cores : ℕ → Core) (t : Trace) → Invariant setup cores t → (c : ℕ) → c < setup.cores
     → (a : ActiveCall) → (cores c).active ≡ Some a

@@ -1,4 +1,5 @@
 -- What the crates above name through this one.
+pub use Rattle.comp_invariant.specs.boot_words
 pub use Rattle.comp_invariant.specs.found_stays
 pub use Rattle.comp_invariant.specs.kernel_laws
 pub use Rattle.comp_invariant.specs.state_laws

@@ -1,31 +1,15 @@
 -- How a core comes to work in another component: by a gate, by a return, or as another thread.
-use Rattle.std.proofs.Common.{◌≡◌, ◌⊎◌, inl, inr, ℕ, ◌+◌, ◌-◌, ◌<◌, Bool, true, false, refl, sym, ◌∙◌, ap, subst, IsTrue, List, [], ◌∷◌}
-use Rattle.std.proofs.Common.{drop, Option, Some, None}
-use Rattle.std.proofs.lemmas.Bool.{false≢true}
-use Rattle.authority_laws.specs.spk_nums.specs.Setting.{Setting, IsSetting}
-use Rattle.authority_laws.specs.spk_nums.specs.declared.kinds.Kind.TheVariants as kind
-use Rattle.authority_laws.specs.spk_nums.specs.declared.calls.Call.{Call}
-use Rattle.authority_laws.specs.spk_nums.specs.declared.calls.Call.TheVariants as call
-use Rattle.authority_laws.specs.spk_nums.specs.declared.replies.Reply.{Reply}
-use Rattle.authority_laws.specs.kernel_rules.specs.State.{Blank, Thread, Tcap, Comp, Frame, Untyped, Kernel, ThreadFields, TcapFields, Core}
-use Rattle.authority_laws.specs.kernel_rules.specs.State.{State, put, with_frame, comp_in, thread_in, thread_of, first_of_stack}
-use Rattle.authority_laws.specs.kernel_rules.specs.Fitting.{fits}
-use Rattle.authority_laws.specs.kernel_rules.specs.Life.{is_live_in}
-use Rattle.authority_laws.specs.kernel_rules.specs.Edits.{with_thread, tcap_at, with_tcap, charge, Edit, Fill, Node, Become, Untype}
-use Rattle.authority_laws.specs.kernel_rules.specs.Edits.{Component, Push, Pop, Switch, Cache, Flush, Charge, Move, Merge, Give, edited}
-use Rattle.authority_laws.specs.kernel_rules.specs.Runs.{Event, Decides, after, is_open, IsRun}
-use Rattle.authority_laws.specs.kernel_rules.proofs.Within.{put_same}
-use Rattle.authority_laws.specs.kernel_rules.specs.Edits.{after_edits}
-use Rattle.authority_laws.specs.kernel_invariant.proofs.Sound.{put_all}
-use Rattle.authority_laws.specs.kernel_invariant.proofs.SoundCalls.{IsOpen}
-use Rattle.authority_laws.specs.kernel_invariant.proofs.SoundRuns.{opened, open_is, runs_sound, limits_stay}
-use Rattle.authority_laws.specs.kernel_invariant.proofs.Edited.{is_bare, AreLater, Calm}
-use Rattle.authority_laws.specs.state_laws.proofs.Gates.{gates_fit}
-use Rattle.authority_laws.specs.Authority.{Stays}
-use Rattle.authority_laws.proofs.Acts.{Enters, GoesOn, By, EachBy, used_at}
-use Rattle.authority_laws.proofs.DecidedParts.{decided_from}
-use Rattle.world_laws.specs.Worlds.{works_in, lives_at}
-use Rattle.world_laws.specs.Laws.{EntersBy, EnteredBy}
+use Rattle.authority_laws.specs.kernel_laws.proofs as low
+use low.{◌≡◌, ◌⊎◌, inl, inr, ℕ, ◌+◌, ◌-◌, ◌<◌, Bool, true, false, refl, sym, ◌∙◌, ap, subst, IsTrue, List, [], ◌∷◌, drop, Option, Some}
+use low.{None, false≢true, Setting, IsSetting, Call, Reply, Blank, Thread, Tcap, Comp, Frame, Untyped, Kernel, ThreadFields, TcapFields}
+use low.{Core, State, put, with_frame, comp_in, thread_in, thread_of, first_of_stack, fits, is_live_in, with_thread, tcap_at, with_tcap}
+use low.{charge, Edit, Fill, Node, Become, Untype, Component, Push, Pop, Cache, Charge, Move, Merge, Give, edited, Event, Decides, after}
+use low.{is_open, IsRun, put_same, after_edits, put_all, IsOpen, opened, open_is, runs_sound, limits_stay, is_bare, AreLater, Calm, Kind}
+use Rattle.authority_laws.proofs.{By, EachBy, used_at, decided_from}
+use Rattle.world_laws.specs.{works_in, lives_at, EntersBy}
+use Rattle.authority_laws.specs.kernel_rules.specs.Edits.{Switch, Flush}
+use Rattle.authority_laws.proofs.Acts.{Enters, GoesOn}
+use Rattle.{authority_laws.specs.state_laws.proofs.Gates.gates_fit, authority_laws.specs.Authority.Stays, world_laws.specs.Laws.EnteredBy}
 
 abbrev stack_at : State → ℕ → List ℕ
 stack_at t f = (thread_in (t.frame f)).stack
@@ -33,7 +17,7 @@ stack_at t f = (thread_in (t.frame f)).stack
 -- From s to t core c stays where it works, while its thread stays one; it enters a component; it leaves one; it goes on as a thread.
 record Remains (s : State) (c : ℕ) (t : State) : Type 0 where
   thread : (t.core c).thread ≡ (s.core c).thread
-  stack : Stays kind.Thread (s.frame (s.core c).thread) (t.frame (s.core c).thread) → stack_at t (s.core c).thread ≡ (thread_of s c).stack
+  stack : Stays Kind.Thread (s.frame (s.core c).thread) (t.frame (s.core c).thread) → stack_at t (s.core c).thread ≡ (thread_of s c).stack
 
 record Enter (act : Call) (s : State) (c : ℕ) (t : State) : Type 0 where
   comp : ℕ
@@ -42,7 +26,7 @@ record Enter (act : Call) (s : State) (c : ℕ) (t : State) : Type 0 where
   stack : stack_at t (s.core c).thread ≡ comp ∷ (thread_of s c).stack
 
 record Leave (act : Call) (s : State) (c : ℕ) (t : State) : Type 0 where
-  is : act ≡ call.Ret
+  is : act ≡ Call.Ret
   thread : (t.core c).thread ≡ (s.core c).thread
   stack : stack_at t (s.core c).thread ≡ drop 1 (thread_of s c).stack
 
@@ -58,7 +42,7 @@ Goes act s c t = Remains s c t ⊎ (Enter act s c t ⊎ (Leave act s c t ⊎ GoO
 
 -- ---- frames
 
-no_thread : (x : Frame) → IsTrue (is_bare x) → IsTrue (fits kind.Thread x) → ⊥
+no_thread : (x : Frame) → IsTrue (is_bare x) → IsTrue (fits Kind.Thread x) → ⊥
 no_thread (Kernel Blank) b h = false≢true h
 no_thread Untyped b h = false≢true h
 no_thread _ b h = false≢true b
@@ -67,7 +51,7 @@ tcap_stack : (x : Frame) (q : TcapFields) → (thread_in (with_tcap x q)).stack 
 tcap_stack (Kernel (Tcap p)) q = refl
 tcap_stack _ q = refl
 
-tcap_thread : (x : Frame) (q : TcapFields) → IsTrue (fits kind.Thread (with_tcap x q)) → IsTrue (fits kind.Thread x)
+tcap_thread : (x : Frame) (q : TcapFields) → IsTrue (fits Kind.Thread (with_tcap x q)) → IsTrue (fits Kind.Thread x)
 tcap_thread (Kernel (Tcap p)) q h = absurd (false≢true h)
 tcap_thread _ q h = h
 
@@ -75,16 +59,16 @@ runs_stack : (x : Frame) (r : Option ℕ) → (thread_in (with_thread x (record 
 runs_stack (Kernel (Thread t)) r = refl
 runs_stack _ r = refl
 
-thread_stack : (x : Frame) (t : ThreadFields) → IsTrue (fits kind.Thread x) → (thread_in (with_thread x t)).stack ≡ t.stack
+thread_stack : (x : Frame) (t : ThreadFields) → IsTrue (fits Kind.Thread x) → (thread_in (with_thread x t)).stack ≡ t.stack
 thread_stack (Kernel (Thread u)) t h = refl
 thread_stack _ t h = absurd (false≢true h)
 
 -- A frame becomes another.
 put_stack : (frames : ℕ → Frame) (f : ℕ) (y : Frame)
-    → (Stays kind.Thread (frames f) y → (thread_in y).stack ≡ (thread_in (frames f)).stack) → (g : ℕ)
-    → Stays kind.Thread (frames g) (put frames f y g) → (thread_in (put frames f y g)).stack ≡ (thread_in (frames g)).stack
-put_stack frames f y h g = put_all (λ g x. Stays kind.Thread (frames g) x → (thread_in x).stack ≡ (thread_in (frames g)).stack) frames f y g
-    (λ same. subst (λ n. Stays kind.Thread (frames n) y → (thread_in y).stack ≡ (thread_in (frames n)).stack) (sym same) h)
+    → (Stays Kind.Thread (frames f) y → (thread_in y).stack ≡ (thread_in (frames f)).stack) → (g : ℕ)
+    → Stays Kind.Thread (frames g) (put frames f y g) → (thread_in (put frames f y g)).stack ≡ (thread_in (frames g)).stack
+put_stack frames f y h g = put_all (λ g x. Stays Kind.Thread (frames g) x → (thread_in x).stack ≡ (thread_in (frames g)).stack) frames f y g
+    (λ same. subst (λ n. Stays Kind.Thread (frames n) y → (thread_in y).stack ≡ (thread_in (frames n)).stack) (sym same) h)
     (λ other stays. refl)
 
 -- So they are where a temporal capability takes the place of one.
@@ -94,13 +78,13 @@ tcaps_stack frames f q g = put_all (λ g x. (thread_in x).stack ≡ (thread_in (
     (λ same. tcap_stack (frames f) q ∙ ap (λ n. (thread_in (frames n)).stack) (sym same)) (λ other. refl)
 
 tcaps_thread : (frames : ℕ → Frame) (f : ℕ) (q : TcapFields) (g : ℕ)
-    → IsTrue (fits kind.Thread (put frames f (with_tcap (frames f) q) g)) → IsTrue (fits kind.Thread (frames g))
-tcaps_thread frames f q g = put_all (λ g x. IsTrue (fits kind.Thread x) → IsTrue (fits kind.Thread (frames g))) frames f
+    → IsTrue (fits Kind.Thread (put frames f (with_tcap (frames f) q) g)) → IsTrue (fits Kind.Thread (frames g))
+tcaps_thread frames f q g = put_all (λ g x. IsTrue (fits Kind.Thread x) → IsTrue (fits Kind.Thread (frames g))) frames f
     (with_tcap (frames f) q) g
-    (λ same fit. subst (λ n. IsTrue (fits kind.Thread (frames n))) (sym same) (tcap_thread (frames f) q fit)) (λ other fit. fit)
+    (λ same fit. subst (λ n. IsTrue (fits Kind.Thread (frames n))) (sym same) (tcap_thread (frames f) q fit)) (λ other fit. fit)
 
-module _ (act : Call) (s : State) (c : ℕ) (own : IsTrue (fits kind.Thread (s.frame (s.core c).thread))) where
-  frame_goes : (f : ℕ) (y : Frame) → (Stays kind.Thread (s.frame f) y → (thread_in y).stack ≡ (thread_in (s.frame f)).stack)
+module _ (act : Call) (s : State) (c : ℕ) (own : IsTrue (fits Kind.Thread (s.frame (s.core c).thread))) where
+  frame_goes : (f : ℕ) (y : Frame) → (Stays Kind.Thread (s.frame f) y → (thread_in y).stack ≡ (thread_in (s.frame f)).stack)
       → Remains s c (with_frame s f y)
   frame_goes f y h = record { thread = refl; stack = put_stack s.frame f y h (s.core c).thread }
 
@@ -171,7 +155,7 @@ module _ (act : Call) (s : State) (c : ℕ) (own : IsTrue (fits kind.Thread (s.f
 
   -- what changes no core, and no stack
   goes_on : (u v : State) → (v.core c).thread ≡ (u.core c).thread → ((g : ℕ) → stack_at v g ≡ stack_at u g)
-      → ((g : ℕ) → IsTrue (fits kind.Thread (v.frame g)) → IsTrue (fits kind.Thread (u.frame g))) → Goes act s c u → Goes act s c v
+      → ((g : ℕ) → IsTrue (fits Kind.Thread (v.frame g)) → IsTrue (fits Kind.Thread (u.frame g))) → Goes act s c u → Goes act s c v
   goes_on u v core stack back (inl r) = inl (record {
     thread = core ∙ r.thread;
     stack = λ stays. stack (s.core c).thread ∙ r.stack (stays.0, back (s.core c).thread stays.1);
@@ -225,10 +209,10 @@ module _ (setting : Setting) (lim : IsSetting setting) (events : List Event) (c 
   below : c < s.limits.cores
   below = (open_call.sound.inside c open_call.is).1
 
-  own : IsTrue (fits kind.Thread (s.frame (s.core c).thread))
+  own : IsTrue (fits Kind.Thread (s.frame (s.core c).thread))
   own = (open_call.sound.cores c below).0
 
-  own_after : IsTrue (fits kind.Thread (t.frame (t.core c).thread))
+  own_after : IsTrue (fits Kind.Thread (t.frame (t.core c).thread))
   own_after = ((runs_sound setting lim (Decides c act r ∷ events) run).cores c
       (subst (λ l. c < l.cores) (limits_stay setting events
       ∙ sym (limits_stay setting (Decides c act r ∷ events))) below)).0
@@ -254,8 +238,8 @@ module _ (setting : Setting) (lim : IsSetting setting) (events : List Event) (c 
 
   by_way : w (works_in s c) ≡ false → w (works_in t c) ≡ true → Goes act s c t → EntersBy act w s c
   by_way out in_it (inl r) =
-      let stays : Stays kind.Thread (s.frame (s.core c).thread) (t.frame (s.core c).thread) =
-      (own, subst (λ n. IsTrue (fits kind.Thread (t.frame n))) r.thread own_after) in
+      let stays : Stays Kind.Thread (s.frame (s.core c).thread) (t.frame (s.core c).thread) =
+      (own, subst (λ n. IsTrue (fits Kind.Thread (t.frame n))) r.thread own_after) in
       absurd (false≢true (sym out ∙ ap w (sym (top (s.core c).thread (thread_of s c).stack r.thread (r.stack stays))) ∙ in_it))
   by_way out in_it (inr (inl e)) =
       subst (λ a. EntersBy a w s c) (sym e.by_gate.is) (

@@ -1,17 +1,10 @@
 -- Worked examples, which the checker computes: states in which the world of frame 5 is not sealed, and one in which it is.
-use Rattle.std.proofs.Common.{◌≡◌, ℕ, Bool, false, ◌==◌, refl, ◌∙◌, ap, [], Some}
-use Rattle.std.proofs.lemmas.Bool.{true≢false}
-use Rattle.authority_laws.specs.spk_nums.specs.Capability.{Capability, cap_of}
-use Rattle.authority_laws.specs.spk_nums.specs.declared.kinds.Kind.{Kind}
+use Rattle.authority_laws.specs.kernel_laws.proofs.{◌≡◌, ℕ, Bool, false, ◌==◌, refl, ◌∙◌, ap, [], Some, true≢false, Capability, cap_of}
+use Rattle.authority_laws.specs.kernel_laws.proofs.{Kind, Place, Free, Holds, Quiescing, Comp, Untyped, Kernel, Unused, State, with_place}
+use Rattle.authority_laws.specs.kernel_laws.proofs.{with_frame, with_grace, plain_cap, no_grace, only, usable_in, place_all, none_some}
+use Rattle.world_laws.specs.{gates, HoldsNone, IsSealed}
+use Rattle.{authority_laws.specs.kernel_laws.proofs.some_inj, world_laws.proofs.Outside.leads_plain}
 use Rattle.authority_laws.specs.spk_nums.specs.declared.kinds.Kind.TheVariants as kind
-use Rattle.authority_laws.specs.kernel_rules.specs.State.{Place, Free, Holds, Quiescing, Comp, Untyped, Kernel, Unused, State, with_place}
-use Rattle.authority_laws.specs.kernel_rules.specs.State.{with_frame, with_grace}
-use Rattle.authority_laws.specs.kernel_rules.specs.Start.{plain_cap, no_grace}
-use Rattle.authority_laws.specs.kernel_rules.specs.Access.{only, usable_in}
-use Rattle.authority_laws.specs.kernel_invariant.proofs.SoundSteps.{place_all}
-use Rattle.authority_laws.specs.kernel_invariant.proofs.Facts.{none_some, some_inj}
-use Rattle.world_laws.specs.Worlds.{gates, HoldsNone, IsSealed}
-use Rattle.world_laws.proofs.Outside.{leads_plain}
 
 -- The world of frame 5, and a state without anything.
 abbrev five : ℕ → Bool

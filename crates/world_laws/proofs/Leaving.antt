@@ -1,43 +1,28 @@
 -- A decision of a core that works outside a sealed world leaves it alone.
-use Rattle.std.proofs.Common.{◌≡◌, ◌≢◌, ◌⊎◌, inl, inr, ℕ, Bool, true, false, refl, sym, ◌∙◌, ap, subst, IsTrue, List, ◌∷◌, Option}
-use Rattle.std.proofs.lemmas.Bool.{false≢true}
-use Rattle.authority_laws.specs.spk_nums.specs.Setting.{Setting, IsSetting}
-use Rattle.authority_laws.specs.spk_nums.specs.Capability.{Capability}
-use Rattle.authority_laws.specs.spk_nums.specs.declared.kinds.Kind.{Kind}
-use Rattle.authority_laws.specs.spk_nums.specs.declared.kinds.Kind.TheVariants as kind
-use Rattle.authority_laws.specs.spk_nums.specs.declared.calls.Call.{Call}
-use Rattle.authority_laws.specs.spk_nums.specs.declared.replies.Reply.{Reply}
-use Rattle.authority_laws.specs.kernel_rules.specs.State.{Comp, Thread, Tcap, Frame, Kernel, Live, State, comp_in, thread_in, tcap_in}
-use Rattle.authority_laws.specs.kernel_rules.specs.CapabilityCalls.{is_live}
-use Rattle.authority_laws.specs.kernel_rules.specs.Life.{is_live_in}
-use Rattle.authority_laws.specs.kernel_rules.specs.Fitting.{fits}
-use Rattle.authority_laws.specs.kernel_rules.specs.Runs.{Event, Decides, after, is_open, IsRun}
-use Rattle.authority_laws.specs.kernel_invariant.proofs.SoundCalls.{IsOpen}
-use Rattle.authority_laws.specs.kernel_invariant.proofs.SoundRuns.{opened, open_is}
-use Rattle.authority_laws.specs.Authority.{Part, PlaceIs, FrameIs, StackIs, RunsIs, BudgetIs, ListIs, NumberIs, CoreIs}
-use Rattle.authority_laws.specs.Authority.{bare_of, Over, OwnBy, IsUnderOne, SamePart, Stays}
-use Rattle.authority_laws.proofs.DecidedParts.{calls_change_their_own}
-use Rattle.world_laws.specs.Worlds.{works_in, lives_at, gates, IsSealed, LeavesAlone}
-use Rattle.world_laws.specs.Laws.{IsOf, LentAlone, OutsideLeaves}
-use Rattle.world_laws.proofs.Puts.{PutFrom, decided_put}
-use Rattle.world_laws.proofs.Living.{LivesFor, life_from, lives_for}
-use Rattle.world_laws.proofs.Links.{links_have_both}
-use Rattle.world_laws.proofs.Outside.{WorksOutside, works_outside, may_out, range_out, under_out}
+use Rattle.authority_laws.specs as low
+use low.kernel_laws.proofs.{◌≡◌, ◌≢◌, ◌⊎◌, inl, inr, ℕ, Bool, true, false, refl, sym, ◌∙◌, ap, subst, IsTrue, List, ◌∷◌, Option, false≢true}
+use low.kernel_laws.proofs.{Setting, IsSetting, Capability, Kind, Call, Reply, Comp, Thread, Tcap, Frame, Kernel, Live, State, comp_in}
+use low.kernel_laws.proofs.{thread_in, tcap_in, is_live, is_live_in, fits, Event, Decides, after, is_open, IsRun, IsOpen, opened, open_is}
+use low.{Part, PlaceIs, FrameIs, StackIs, RunsIs, BudgetIs, ListIs, NumberIs, CoreIs, bare_of, Over, OwnBy, IsUnderOne, SamePart, Stays}
+use Rattle.world_laws.specs.{works_in, lives_at, gates, IsSealed, LeavesAlone, IsOf}
+use Rattle.world_laws.proofs.{Puts.PutFrom, Puts.decided_put, Living.LivesFor, Living.life_from, Living.lives_for, Links.links_have_both}
+use Rattle.world_laws.proofs.{Outside.WorksOutside, Outside.works_outside, Outside.may_out, Outside.range_out, Outside.under_out}
+use Rattle.{authority_laws.proofs.DecidedParts.calls_change_their_own, world_laws.specs.Laws.LentAlone, world_laws.specs.Laws.OutsideLeaves}
 
 -- ---- frames that have the same parts are the same
 
-thread_back : (x y : Frame) → bare_of y ≡ bare_of x → IsTrue (fits kind.Thread x) → IsTrue (fits kind.Thread y)
-thread_back x y e h = sym (bare_fit y) ∙ ap (fits kind.Thread) e ∙ bare_fit x ∙ h
+thread_back : (x y : Frame) → bare_of y ≡ bare_of x → IsTrue (fits Kind.Thread x) → IsTrue (fits Kind.Thread y)
+thread_back x y e h = sym (bare_fit y) ∙ ap (fits Kind.Thread) e ∙ bare_fit x ∙ h
   where
-    bare_fit : (x : Frame) → fits kind.Thread (bare_of x) ≡ fits kind.Thread x
+    bare_fit : (x : Frame) → fits Kind.Thread (bare_of x) ≡ fits Kind.Thread x
     bare_fit (Kernel (Thread t)) = refl
     bare_fit (Kernel (Tcap q)) = refl
     bare_fit _ = refl
 
-tcap_back : (x y : Frame) → bare_of y ≡ bare_of x → IsTrue (fits kind.Tcap x) → IsTrue (fits kind.Tcap y)
-tcap_back x y e h = sym (bare_fit y) ∙ ap (fits kind.Tcap) e ∙ bare_fit x ∙ h
+tcap_back : (x y : Frame) → bare_of y ≡ bare_of x → IsTrue (fits Kind.Tcap x) → IsTrue (fits Kind.Tcap y)
+tcap_back x y e h = sym (bare_fit y) ∙ ap (fits Kind.Tcap) e ∙ bare_fit x ∙ h
   where
-    bare_fit : (x : Frame) → fits kind.Tcap (bare_of x) ≡ fits kind.Tcap x
+    bare_fit : (x : Frame) → fits Kind.Tcap (bare_of x) ≡ fits Kind.Tcap x
     bare_fit (Kernel (Thread t)) = refl
     bare_fit (Kernel (Tcap q)) = refl
     bare_fit _ = refl
@@ -64,20 +49,20 @@ tcap_same p q = λ i. Kernel (Tcap (record { budget = p i; qualities = q i }))
 
 pub record SameParts (x y : Frame) : Type 0 where
   pub bare : bare_of y ≡ bare_of x
-  pub stack : Stays kind.Thread x y → (thread_in y).stack ≡ (thread_in x).stack
-  pub runs : Stays kind.Thread x y → (thread_in y).runs_on ≡ (thread_in x).runs_on
-  pub budget : Stays kind.Tcap x y → (tcap_in y).budget ≡ (tcap_in x).budget
-  pub list : Stays kind.Tcap x y → (tcap_in y).qualities ≡ (tcap_in x).qualities
+  pub stack : Stays Kind.Thread x y → (thread_in y).stack ≡ (thread_in x).stack
+  pub runs : Stays Kind.Thread x y → (thread_in y).runs_on ≡ (thread_in x).runs_on
+  pub budget : Stays Kind.Tcap x y → (tcap_in y).budget ≡ (tcap_in x).budget
+  pub list : Stays Kind.Tcap x y → (tcap_in y).qualities ≡ (tcap_in x).qualities
 
 pub same_frame : (x y : Frame) → SameParts x y → y ≡ x
 unfolding rebuilt
 same_frame (Kernel (Thread t)) y h =
-    let stays : Stays kind.Thread (Kernel (Thread t)) y = (refl, thread_back (Kernel (Thread t)) y h.bare refl) in
+    let stays : Stays Kind.Thread (Kernel (Thread t)) y = (refl, thread_back (Kernel (Thread t)) y h.bare refl) in
     sym (rebuild y)
     ∙ ap (λ b. rebuilt b (thread_in y).stack (thread_in y).runs_on (tcap_in y).budget (tcap_in y).qualities) h.bare
     ∙ thread_same (h.stack stays) (h.runs stays)
 same_frame (Kernel (Tcap q)) y h =
-    let stays : Stays kind.Tcap (Kernel (Tcap q)) y = (refl, tcap_back (Kernel (Tcap q)) y h.bare refl) in
+    let stays : Stays Kind.Tcap (Kernel (Tcap q)) y = (refl, tcap_back (Kernel (Tcap q)) y h.bare refl) in
     sym (rebuild y)
     ∙ ap (λ b. rebuilt b (thread_in y).stack (thread_in y).runs_on (tcap_in y).budget (tcap_in y).qualities) h.bare
     ∙ tcap_same (h.budget stays) (h.list stays)
@@ -95,17 +80,17 @@ module _ (w : ℕ → Bool) (s : State) (c : ℕ) (h : WorksOutside w s c) where
   over_out x of one = by_kind one.cap.kind refl x one.over of
     where
       by_kind : (j : Kind) → one.cap.kind ≡ j → (x : Part) → Over s c j one.cap x → IsOf w x → ⊥
-      by_kind kind.Table is (PlaceIs f i) over of =
-          inside_out f of (under_out w s c h one.cap.frame f (may_out w s c h one.cap kind.Table one.cap.frame one.may is refl refl) over)
-      by_kind kind.Pages is (PlaceIs f i) over of =
-          inside_out f of (under_out w s c h one.cap.frame f (may_out w s c h one.cap kind.Pages one.cap.frame one.may is refl refl) over)
-      by_kind kind.Range is (PlaceIs f i) over of = inside_out f of (may_out w s c h one.cap kind.Range f one.may is refl over)
-      by_kind kind.Range is (FrameIs f) over of = inside_out f of (may_out w s c h one.cap kind.Range f one.may is refl over)
-      by_kind kind.Range is (NumberIs l) over of = of
-      by_kind kind.Comp is (NumberIs l) over of = of
-      by_kind kind.Thread is (RunsIs f) over of = inside_out f of (may_out w s c h one.cap kind.Thread f one.may is refl over)
-      by_kind kind.Tcap is (BudgetIs f) over of = inside_out f of (may_out w s c h one.cap kind.Tcap f one.may is refl over)
-      by_kind kind.Tcap is (ListIs f) over of = inside_out f of (may_out w s c h one.cap kind.Tcap f one.may is refl over)
+      by_kind Kind.Table is (PlaceIs f i) over of =
+          inside_out f of (under_out w s c h one.cap.frame f (may_out w s c h one.cap Kind.Table one.cap.frame one.may is refl refl) over)
+      by_kind Kind.Pages is (PlaceIs f i) over of =
+          inside_out f of (under_out w s c h one.cap.frame f (may_out w s c h one.cap Kind.Pages one.cap.frame one.may is refl refl) over)
+      by_kind Kind.Range is (PlaceIs f i) over of = inside_out f of (may_out w s c h one.cap Kind.Range f one.may is refl over)
+      by_kind Kind.Range is (FrameIs f) over of = inside_out f of (may_out w s c h one.cap Kind.Range f one.may is refl over)
+      by_kind Kind.Range is (NumberIs l) over of = of
+      by_kind Kind.Comp is (NumberIs l) over of = of
+      by_kind Kind.Thread is (RunsIs f) over of = inside_out f of (may_out w s c h one.cap Kind.Thread f one.may is refl over)
+      by_kind Kind.Tcap is (BudgetIs f) over of = inside_out f of (may_out w s c h one.cap Kind.Tcap f one.may is refl over)
+      by_kind Kind.Tcap is (ListIs f) over of = inside_out f of (may_out w s c h one.cap Kind.Tcap f one.may is refl over)
       by_kind _ is _ over of = over
 
 -- ---- a decision
@@ -159,26 +144,26 @@ module _ (setting : Setting) (lim : IsSetting setting) (events : List Event) (c 
   ]
     where
       no_core : (j : Kind) (k : Capability) → Over s c j k (CoreIs d) → ⊥
-      no_core kind.Range k over = over
+      no_core Kind.Range k over = over
       no_core _ k over = over
 
   -- the frame of a component is not that of the core's thread or temporal capability
-  comp_apart : (f : ℕ) → IsTrue (fits kind.Comp (s.frame f)) → (f ≢ (s.core c).thread) × (f ≢ (s.core c).tcap)
+  comp_apart : (f : ℕ) → IsTrue (fits Kind.Comp (s.frame f)) → (f ≢ (s.core c).thread) × (f ≢ (s.core c).tcap)
   comp_apart f fit =
       let own = opened_call.sound.cores c (opened_call.sound.inside c opened_call.is).1 in (
-        λ same. no_both (s.frame f) fit (subst (λ n. IsTrue (fits kind.Thread (s.frame n))) (sym same) own.0),
-        λ same. nor_both (s.frame f) fit (subst (λ n. IsTrue (fits kind.Tcap (s.frame n))) (sym same) own.1),
+        λ same. no_both (s.frame f) fit (subst (λ n. IsTrue (fits Kind.Thread (s.frame n))) (sym same) own.0),
+        λ same. nor_both (s.frame f) fit (subst (λ n. IsTrue (fits Kind.Tcap (s.frame n))) (sym same) own.1),
       )
     where
-      no_both : (x : Frame) → IsTrue (fits kind.Comp x) → IsTrue (fits kind.Thread x) → ⊥
+      no_both : (x : Frame) → IsTrue (fits Kind.Comp x) → IsTrue (fits Kind.Thread x) → ⊥
       no_both (Kernel (Comp k)) a b = false≢true b
       no_both _ a b = false≢true a
 
-      nor_both : (x : Frame) → IsTrue (fits kind.Comp x) → IsTrue (fits kind.Tcap x) → ⊥
+      nor_both : (x : Frame) → IsTrue (fits Kind.Comp x) → IsTrue (fits Kind.Tcap x) → ⊥
       nor_both (Kernel (Comp k)) a b = false≢true b
       nor_both _ a b = false≢true a
 
-  comp_is : (x : Frame) → IsTrue (fits kind.Comp x) → x ≡ Kernel (Comp (comp_in x))
+  comp_is : (x : Frame) → IsTrue (fits Kind.Comp x) → x ≡ Kernel (Comp (comp_in x))
   comp_is (Kernel (Comp k)) fit = refl
   comp_is _ fit = absurd (false≢true fit)
 
@@ -193,7 +178,7 @@ module _ (setting : Setting) (lim : IsSetting setting) (events : List Event) (c 
           | inl live ↦
               let fields = ap comp_in was in
               life_from s f (record {
-                comp = ap (fits kind.Comp) was;
+                comp = ap (fits Kind.Comp) was;
                 live = subst (λ k. s.number k.number ≡ Live k.epoch f) (sym fields) live;
               })
         ]
@@ -207,7 +192,7 @@ module _ (setting : Setting) (lim : IsSetting setting) (events : List Event) (c 
       let same : t.frame f ≡ s.frame f = frame_stays f of apart.0 apart.1 in
       let fields = ap comp_in same in
       life_from t f (record {
-        comp = ap (fits kind.Comp) same ∙ h.comp;
+        comp = ap (fits Kind.Comp) same ∙ h.comp;
         live = subst (λ k. t.number k.number ≡ Live k.epoch f) (sym fields) (number_stays f of h ∙ h.live);
       })
     where
@@ -216,8 +201,8 @@ module _ (setting : Setting) (lim : IsSetting setting) (events : List Event) (c 
 
       by_kind : (f : ℕ) → w f ≡ true → LivesFor s f → (one : IsUnderOne call s c (NumberIs (comp_in (s.frame f)).number)) → (j : Kind)
           → one.cap.kind ≡ j → Over s c j one.cap (NumberIs (comp_in (s.frame f)).number) → ⊥
-      by_kind f of h one kind.Range is none = false≢true (sym none ∙ ap is_live h.live)
-      by_kind f of h one kind.Comp is by =
+      by_kind f of h one Kind.Range is none = false≢true (sym none ∙ ap is_live h.live)
+      by_kind f of h one Kind.Comp is by =
           let g : ℕ = one.cap.frame in
           let l : ℕ = (comp_in (s.frame f)).number in
           let other : LivesFor s g = lives_for setting lim events run.0 g
@@ -225,7 +210,7 @@ module _ (setting : Setting) (lim : IsSetting setting) (events : List Event) (c 
           let same : Live (comp_in (s.frame g)).epoch g ≡ Live (comp_in (s.frame f)).epoch f =
           sym other.live ∙ ap s.number by.0 ∙ h.live in
           inside_out w s c outside f of (ap w (sym (live_inj _ _ g f same))
-          ∙ may_out w s c outside one.cap kind.Comp g one.may is refl refl)
+          ∙ may_out w s c outside one.cap Kind.Comp g one.may is refl refl)
       by_kind f of h one _ is over = over
 
       number_stays : (f : ℕ) → w f ≡ true → LivesFor s f → t.number (comp_in (s.frame f)).number ≡ s.number (comp_in (s.frame f)).number

@@ -1,22 +1,10 @@
 -- In every state that a run reaches, each link that a core may use has both rights; and who waits after a return waited before.
-use Rattle.std.proofs.Common.{◌≡◌, inl, inr, ℕ, Bool, true, false, refl, ◌∙◌, ap, subst, if◌then◌else◌, IsTrue, List, [], ◌∷◌, Some, None}
-use Rattle.std.proofs.lemmas.Bool.{false≢true}
-use Rattle.authority_laws.specs.spk_nums.specs.Setting.{Setting, IsSetting}
-use Rattle.authority_laws.specs.spk_nums.specs.Capability.{Capability}
-use Rattle.authority_laws.specs.spk_nums.specs.Rights.{both, kept_rights}
-use Rattle.authority_laws.specs.spk_nums.specs.declared.kinds.Kind.{Kind}
-use Rattle.authority_laws.specs.spk_nums.specs.declared.kinds.Kind.TheVariants as kind
-use Rattle.authority_laws.specs.spk_nums.specs.declared.calls.Call.{Call}
-use Rattle.authority_laws.specs.kernel_rules.specs.State.{Place, Free, Holds, Quiescing, PlaceOf, State}
-use Rattle.authority_laws.specs.kernel_rules.specs.Access.{Slot, only, usable, usable_in}
-use Rattle.authority_laws.specs.kernel_rules.specs.GracePeriods.{returned}
-use Rattle.authority_laws.specs.kernel_rules.specs.Runs.{Event, Enters, Decides, Returns, after, is_open, IsRun}
-use Rattle.authority_laws.specs.kernel_invariant.proofs.Facts.{none_some}
-use Rattle.authority_laws.specs.kernel_invariant.proofs.Sound.{put_all, only_is}
-use Rattle.authority_laws.specs.kernel_invariant.proofs.SoundRuns.{opened, open_is}
-use Rattle.authority_laws.specs.state_laws.proofs.BothRights.{both_stay}
-use Rattle.world_laws.proofs.Puts.{Put, usable_from}
-use Rattle.world_laws.proofs.Outside.{LinksHaveBoth}
+use Rattle.authority_laws.specs.kernel_laws.proofs as low
+use low.{◌≡◌, inl, inr, ℕ, Bool, true, false, refl, ◌∙◌, ap, subst, if◌then◌else◌, IsTrue, List, [], ◌∷◌, Some, None, false≢true, Setting}
+use low.{IsSetting, Capability, both, Kind, Call, Place, Free, Holds, Quiescing, PlaceOf, State, Slot, only, usable, usable_in, returned}
+use low.{Event, Enters, Decides, Returns, after, is_open, IsRun, none_some, put_all, only_is, opened, open_is}
+use Rattle.world_laws.proofs.{Puts.Put, Puts.usable_from, Outside.LinksHaveBoth}
+use Rattle.{authority_laws.specs.spk_nums.specs.Rights.kept_rights, authority_laws.specs.state_laws.proofs.BothRights.both_stay}
 
 fewer_use : (p : Place) (a b : Bool) (k : Capability) → (a ≡ true → b ≡ true) → usable_in p a ≡ Some k → usable_in p b ≡ Some k
 fewer_use Free a b k less e = e
@@ -30,19 +18,19 @@ returned_uses s c d at k = fewer_use (s.place at.node at.index) _ ((s.grace (Pla
     (put_all (λ d x. x ≡ true → (s.grace (PlaceOf at.node at.index)).waits d ≡ true) (s.grace (PlaceOf at.node at.index)).waits c false d
     (λ same e. absurd (false≢true e)) (λ other e. e))
 
-link_kept : (j : Kind) (own these : ℕ) → IsTrue (only kind.Link j) → own ≡ both → kept_rights j own these ≡ both
-link_kept j own these is e = by_kind j (only_is kind.Link j is)
+link_kept : (j : Kind) (own these : ℕ) → IsTrue (only Kind.Link j) → own ≡ both → kept_rights j own these ≡ both
+link_kept j own these is e = by_kind j (only_is Kind.Link j is)
   where
-    by_kind : (j : Kind) → j ≡ kind.Link → kept_rights j own these ≡ both
+    by_kind : (j : Kind) → j ≡ Kind.Link → kept_rights j own these ≡ both
     by_kind j same = ap (λ i. kept_rights i own these) same ∙ e
 
 put_both : {call : Call} (s : State) (c f : ℕ) (k : Capability) → LinksHaveBoth s → Put call s c f k
-    → IsTrue (only kind.Link k.kind) → k.rights ≡ both
+    → IsTrue (only Kind.Link k.kind) → k.rights ≡ both
 put_both s c f k h (node, inr given) is = given.rights
 put_both s c f k h (node, inl (inr part)) is =
-    absurd (false≢true (subst (λ (j : Capability). IsTrue (only kind.Link j.kind)) part.is is))
+    absurd (false≢true (subst (λ (j : Capability). IsTrue (only Kind.Link j.kind)) part.is is))
 put_both s c f k h (node, inl (inl copied)) is =
-    let link : IsTrue (only kind.Link copied.source.kind) = subst (λ (j : Capability). IsTrue (only kind.Link j.kind)) copied.is is in
+    let link : IsTrue (only Kind.Link copied.source.kind) = subst (λ (j : Capability). IsTrue (only Kind.Link j.kind)) copied.is is in
     ap (λ (j : Capability). j.rights) copied.is
     ∙ link_kept copied.source.kind copied.source.rights copied.rights link
     (h copied.at.node copied.at.index c copied.source copied.from link)

@@ -1,26 +1,14 @@
 -- What a core that works outside a sealed world names lies outside, or may not be used.
-use Rattle.std.proofs.Common.{◌≡◌, ◌⊎◌, inl, inr, ℕ, Bool, true, false, refl, sym, ◌∙◌, ap, subst, if◌then◌else◌, IsTrue}
-use Rattle.std.proofs.Common.{Option, Some, None}
-use Rattle.std.proofs.lemmas.Bool.{false≢true, true≢false}
-use Rattle.authority_laws.specs.spk_nums.specs.Capability.{Capability}
-use Rattle.authority_laws.specs.spk_nums.specs.Rights.{both, kept, has_rights, right_to_use, part_of}
-use Rattle.authority_laws.specs.spk_nums.proofs.KeptRights.{kept_has}
-use Rattle.authority_laws.specs.spk_nums.specs.declared.kinds.Kind.{Kind}
-use Rattle.authority_laws.specs.spk_nums.specs.declared.kinds.Kind.TheVariants as kind
-use Rattle.authority_laws.specs.spk_nums.specs.declared.calls.Call.{Call}
-use Rattle.authority_laws.specs.kernel_rules.specs.State.{Comp, Frame, Kernel, State, comp_in, comp_of}
-use Rattle.authority_laws.specs.kernel_rules.specs.Start.{plain_cap}
-use Rattle.authority_laws.specs.kernel_rules.specs.Access.{Slot, only, linked, usable, reached, own, found}
-use Rattle.authority_laws.specs.kernel_rules.specs.Fitting.{fits}
-use Rattle.authority_laws.specs.kernel_invariant.proofs.Sound.{only_is}
-use Rattle.authority_laws.specs.kernel_invariant.proofs.SoundCalls.{IsOpen}
-use Rattle.authority_laws.specs.kernel_invariant.proofs.Facts.{none_some, some_inj}
-use Rattle.authority_laws.specs.found_stays.proofs.Stays.{comp_fit}
-use Rattle.authority_laws.specs.Authority.{IsUnder, MayUse}
-use Rattle.authority_laws.proofs.Acts.{LedTo, InRange, InNode, IsCopied, IsParted, IsGiven, is_given, used_at, under_leaf}
-use Rattle.world_laws.specs.Worlds.{works_in, LeadsTo, gates, OnlyGates, HoldsNone, IsSealed}
-use Rattle.world_laws.proofs.Puts.{Put}
-use Rattle.authority_laws.specs.kernel_rules.proofs.PartFrames.{frame_in}
+use Rattle.authority_laws.specs.kernel_laws.proofs.{◌≡◌, ◌⊎◌, inl, inr, ℕ, Bool, true, false, refl, sym, ◌∙◌, ap, subst, if◌then◌else◌}
+use Rattle.authority_laws.specs.kernel_laws.proofs.{IsTrue, Option, Some, None, false≢true, true≢false, Capability, both, kept, has_rights}
+use Rattle.authority_laws.specs.kernel_laws.proofs.{part_of, Kind, Call, Comp, Frame, Kernel, State, comp_in, comp_of, plain_cap, Slot}
+use Rattle.authority_laws.specs.kernel_laws.proofs.{only, linked, usable, reached, own, found, fits, only_is, IsOpen, none_some, some_inj}
+use Rattle.world_laws.specs.{works_in, LeadsTo, gates, OnlyGates, HoldsNone, IsSealed}
+use Rattle.authority_laws.proofs.{LedTo, InRange, InNode, IsGiven, used_at}
+use Rattle.authority_laws.proofs.Acts.{IsCopied, IsParted, is_given, under_leaf}
+use Rattle.{authority_laws.specs.IsUnder, authority_laws.specs.MayUse, authority_laws.specs.kernel_rules.proofs.right_to_use}
+use Rattle.{authority_laws.specs.kernel_rules.proofs.frame_in, authority_laws.specs.spk_nums.proofs.KeptRights.kept_has}
+use Rattle.{authority_laws.specs.found_stays.proofs.Stays.comp_fit, world_laws.proofs.Puts.Put}
 
 -- What is sealed where fewer kinds cross is so where gates do.
 pub sealed_for_gates : (w : ℕ → Bool) (crosses : Kind → Bool) (s : State) → OnlyGates crosses → IsSealed w crosses s → IsSealed w gates s
@@ -31,12 +19,12 @@ sealed_for_gates w crosses s only h = record {
 
 -- Each link that a core may use has both rights.
 abbrev pub LinksHaveBoth : State → Type 0
-LinksHaveBoth s = (f i d : ℕ) (k : Capability) → usable s d (record { node = f; index = i }) ≡ Some k → IsTrue (only kind.Link k.kind)
+LinksHaveBoth s = (f i d : ℕ) (k : Capability) → usable s d (record { node = f; index = i }) ≡ Some k → IsTrue (only Kind.Link k.kind)
     → k.rights ≡ both
 
 -- A capability that is no range leads to its frame.
-pub leads_plain : (j : Kind) (k : Capability) (f : ℕ) → only kind.Range j ≡ false → f ≡ k.frame → LeadsTo j k f
-leads_plain kind.Range k f other e = absurd (true≢false other)
+pub leads_plain : (j : Kind) (k : Capability) (f : ℕ) → only Kind.Range j ≡ false → f ≡ k.frame → LeadsTo j k f
+leads_plain Kind.Range k f other e = absurd (true≢false other)
 leads_plain _ k f other e = e
 
 -- A capability that holds nothing leads outside, where it may be used and may not cross.
@@ -45,7 +33,7 @@ pub led_out : (w : ℕ → Bool) (k : Capability) (j : Kind) (f : ℕ) → Holds
 led_out w k j f none right is crosses leads =
     none right (ap gates is ∙ crosses) f (subst (λ i. LeadsTo i k f) (sym is) leads)
 
-comp_is : (x : Frame) → IsTrue (fits kind.Comp x) → x ≡ Kernel (Comp (comp_in x))
+comp_is : (x : Frame) → IsTrue (fits Kind.Comp x) → x ≡ Kernel (Comp (comp_in x))
 comp_is (Kernel (Comp k)) fit = refl
 comp_is _ fit = absurd (false≢true fit)
 
@@ -70,21 +58,21 @@ module _ (w : ℕ → Bool) (s : State) (c : ℕ) (h : WorksOutside w s c) where
   under_out root f out (inl same) = ap w same ∙ out
   under_out root f out (inr (i, e)) = by_link (usable s c (record { node = root; index = i })) refl e
     where
-      by_kind : (j : Capability) (b : Bool) → only kind.Link j.kind ≡ b → usable s c (record { node = root; index = i }) ≡ Some j
+      by_kind : (j : Capability) (b : Bool) → only Kind.Link j.kind ≡ b → usable s c (record { node = root; index = i }) ≡ Some j
           → (if b then Some j.frame else None) ≡ Some f → w f ≡ false
       by_kind j false is u q = absurd (none_some f q)
-      by_kind j true is u q = led_out w j kind.Link f (h.sealed.places root i c j out u)
+      by_kind j true is u q = led_out w j Kind.Link f (h.sealed.places root i c j out u)
           (subst (λ r. IsTrue (has_rights r right_to_use)) (sym (h.links root i c j u is)) refl)
-          (only_is kind.Link j.kind is) refl (sym (some_inj j.frame f q))
+          (only_is Kind.Link j.kind is) refl (sym (some_inj j.frame f q))
 
       by_link : (u : Option Capability) → usable s c (record { node = root; index = i }) ≡ u → linked u ≡ Some f → w f ≡ false
       by_link None is q = absurd (none_some f q)
-      by_link (Some j) is q = by_kind j (only kind.Link j.kind) refl is q
+      by_link (Some j) is q = by_kind j (only Kind.Link j.kind) refl is q
 
   -- a slot that a number leads to is outside
   reached_out : (n : ℕ) (at : Slot) → reached s c (own s c n) ≡ Some at → w at.node ≡ false
   reached_out n at e =
-      under_out (comp_of s c).table at.node h.table (under_leaf s c (plain_cap kind.Table (comp_of s c).table) n at e)
+      under_out (comp_of s c).table at.node h.table (under_leaf s c (plain_cap Kind.Table (comp_of s c).table) n at e)
 
   pub may_none : {call : Call} (k : Capability) → MayUse call s c k → HoldsNone w gates k
   may_none k m = let x = used_at s c k m in h.sealed.places x.at.node x.at.index c k (reached_out m.number x.at x.reaches) x.from
@@ -94,24 +82,24 @@ module _ (w : ℕ → Bool) (s : State) (c : ℕ) (h : WorksOutside w s c) where
   may_out k j f m = led_out w k j f (may_none k m) (used_at s c k m).rights
 
   pub range_out : {call : Call} (f : ℕ) → InRange call s c f → w f ≡ false
-  range_out f r = may_out r.range kind.Range f r.may r.kind refl r.has
+  range_out f r = may_out r.range Kind.Range f r.may r.kind refl r.has
 
   pub node_out : {call : Call} (f : ℕ) → InNode call s c f → w f ≡ false
   node_out f n = under_out n.root.frame f (by_kind n.kind) n.under
     where
-      by_kind : (n.root.kind ≡ kind.Table) ⊎ (n.root.kind ≡ kind.Pages) → w n.root.frame ≡ false
-      by_kind (inl is) = may_out n.root kind.Table n.root.frame n.may is refl refl
-      by_kind (inr is) = may_out n.root kind.Pages n.root.frame n.may is refl refl
+      by_kind : (n.root.kind ≡ Kind.Table) ⊎ (n.root.kind ≡ Kind.Pages) → w n.root.frame ≡ false
+      by_kind (inl is) = may_out n.root Kind.Table n.root.frame n.may is refl refl
+      by_kind (inr is) = may_out n.root Kind.Pages n.root.frame n.may is refl refl
 
   -- a capability of one kind, which is neither a gate's nor a range's
-  pub led_frame : {call : Call} (j : Kind) (f : ℕ) → gates j ≡ false → only kind.Range j ≡ false → LedTo call s c (only j) f → w f ≡ false
+  pub led_frame : {call : Call} (j : Kind) (f : ℕ) → gates j ≡ false → only Kind.Range j ≡ false → LedTo call s c (only j) f → w f ≡ false
   led_frame j f crosses other l =
       may_out l.cap j f l.may (only_is j l.cap.kind l.kind) crosses (leads_plain j l.cap f other (sym l.frame))
 
-  given_kind : (j : Kind) → IsTrue (is_given j) → (gates j ≡ false) × (only kind.Range j ≡ false)
-  given_kind kind.Leaf given = (refl, refl)
-  given_kind kind.Pleaf given = (refl, refl)
-  given_kind kind.Comp given = (refl, refl)
+  given_kind : (j : Kind) → IsTrue (is_given j) → (gates j ≡ false) × (only Kind.Range j ≡ false)
+  given_kind Kind.Leaf given = (refl, refl)
+  given_kind Kind.Pleaf given = (refl, refl)
+  given_kind Kind.Comp given = (refl, refl)
   given_kind _ given = absurd (false≢true given)
 
   -- what core c puts holds nothing of the world, whatever may cross
@@ -121,7 +109,7 @@ module _ (w : ℕ → Bool) (s : State) (c : ℕ) (h : WorksOutside w s c) where
       (kept_has x.source.kind x.source.rights x.rights right_to_use right) crossing f (leads_kept x.source.kind f leads))
     where
       leads_kept : (j : Kind) (f : ℕ) → LeadsTo j (kept x.source x.rights) f → LeadsTo j x.source f
-      leads_kept kind.Range f leads = leads
+      leads_kept Kind.Range f leads = leads
       leads_kept _ f leads = leads
 
   parted_none : (crosses : Kind → Bool) → IsSealed w crosses s → (k : Capability) → IsParted s c k → HoldsNone w crosses k
@@ -133,8 +121,8 @@ module _ (w : ℕ → Bool) (s : State) (c : ℕ) (h : WorksOutside w s c) where
   given_none : {call : Call} (crosses : Kind → Bool) (k : Capability) → IsGiven call s c k → HoldsNone w crosses k
   given_none {call = call} crosses k x right crossing f leads = ap w (leads_frame k.kind x.kind leads) ∙ by_frame x.frame
     where
-      leads_frame : (j : Kind) → only kind.Range j ≡ false → LeadsTo j k f → f ≡ k.frame
-      leads_frame kind.Range other l = absurd (true≢false other)
+      leads_frame : (j : Kind) → only Kind.Range j ≡ false → LeadsTo j k f → f ≡ k.frame
+      leads_frame Kind.Range other l = absurd (true≢false other)
       leads_frame _ other l = l
 
       by_frame : InRange call s c k.frame ⊎ LedTo call s c is_given k.frame → w k.frame ≡ false

@@ -1,32 +1,17 @@
 -- What a decision puts: what places hold and what cores may use after it was so before, or was put from what the core named; so it is of
 -- components.
-use Rattle.std.proofs.Common.{◌≡◌, ◌⊎◌, inl, inr, ℕ, ◌+◌, ◌-◌, Bool, true, false, cond, refl, sym, ◌∙◌, ap, subst, if◌then◌else◌}
-use Rattle.std.proofs.Common.{List, [], ◌∷◌, drop, Some, None, is_some}
-use Rattle.std.proofs.lemmas.Bool.{false≢true}
-use Rattle.authority_laws.specs.spk_nums.specs.Capability.{Capability}
-use Rattle.authority_laws.specs.spk_nums.specs.declared.kinds.Kind.TheVariants as kind
-use Rattle.authority_laws.specs.spk_nums.specs.declared.calls.Call.{Call}
-use Rattle.authority_laws.specs.spk_nums.specs.declared.replies.Reply.{Reply}
-use Rattle.authority_laws.specs.kernel_rules.specs.State.{Place, Free, Holds, Quiescing, CompFields, ThreadFields, TcapFields, Comp, Thread}
-use Rattle.authority_laws.specs.kernel_rules.specs.State.{Tcap, Frame, Untyped, Kernel, Live, Dead, Grace, Thing, PlaceOf, State}
-use Rattle.authority_laws.specs.kernel_rules.specs.State.{with_place, with_frame, thread_in, thread_of}
-use Rattle.authority_laws.specs.kernel_rules.specs.Start.{no_grace}
-use Rattle.authority_laws.specs.kernel_rules.specs.Access.{Slot, usable, usable_in, held_in}
-use Rattle.authority_laws.specs.kernel_rules.specs.GracePeriods.{new_grace}
-use Rattle.authority_laws.specs.kernel_rules.specs.Fitting.{fits}
-use Rattle.authority_laws.specs.kernel_rules.specs.Edits.{with_thread, running, tcap_at, with_tcap, with_budget, charge, Edit, Fill, Remove}
-use Rattle.authority_laws.specs.kernel_rules.specs.Edits.{Node, Become, Untype, Component, Deaden, Push, Pop, Switch, Charge, Move, Merge}
-use Rattle.authority_laws.specs.kernel_rules.specs.Edits.{Give, edited, after_edits}
-use Rattle.authority_laws.specs.kernel_rules.specs.CallRelation.{begins, ends, flushes, state_by, MayReply}
-use Rattle.authority_laws.specs.kernel_invariant.proofs.Sound.{put_all}
-use Rattle.authority_laws.specs.kernel_invariant.proofs.SoundSteps.{place_all, free_holds, quiescing_holds, holds_inj}
-use Rattle.authority_laws.specs.kernel_invariant.proofs.SoundCalls.{IsOpen}
-use Rattle.authority_laws.specs.kernel_invariant.proofs.Facts.{none_some, some_inj}
-use Rattle.authority_laws.specs.kernel_invariant.proofs.GraceChanges.{flushed_by, grace_is}
-use Rattle.authority_laws.specs.kernel_invariant.proofs.Edited.{AreLater, Calm}
+use Rattle.authority_laws.specs.kernel_laws.proofs as low
+use low.{◌≡◌, ◌⊎◌, inl, inr, ℕ, ◌+◌, ◌-◌, Bool, true, false, cond, refl, sym, ◌∙◌, ap, subst, if◌then◌else◌, List, [], ◌∷◌, drop, Some}
+use low.{None, is_some, false≢true, Capability, Call, Reply, Place, Free, Holds, Quiescing, CompFields, ThreadFields, TcapFields, Comp}
+use low.{Thread, Tcap, Frame, Untyped, Kernel, Live, Dead, Grace, Thing, PlaceOf, State, with_place, with_frame, thread_in, thread_of}
+use low.{no_grace, Slot, usable, usable_in, held_in, new_grace, fits, with_thread, running, tcap_at, with_tcap, with_budget, charge, Edit}
+use low.{Fill, Node, Become, Untype, Component, Deaden, Push, Pop, Charge, Move, Merge, Give, edited, after_edits, begins, ends, flushes}
+use low.{state_by, MayReply, put_all, place_all, IsOpen, none_some, some_inj, flushed_by, grace_is, AreLater, Calm, Kind}
+use Rattle.authority_laws.proofs.{InRange, InNode, IsGiven, By, EachBy, decided_from}
+use Rattle.authority_laws.specs.kernel_invariant.proofs.{free_holds, quiescing_holds, holds_inj}
+use Rattle.authority_laws.specs.kernel_rules.specs.Edits.{Remove, Switch}
 use Rattle.authority_laws.specs.state_laws.proofs.Kept.{KeptBy, decided_kept}
-use Rattle.authority_laws.proofs.Acts.{InRange, InNode, IsTaken, IsGiven, Makes, By, EachBy}
-use Rattle.authority_laws.proofs.DecidedParts.{decided_from}
+use Rattle.authority_laws.proofs.Acts.{IsTaken, Makes}
 
 -- A capability that core c puts in a node, and a component that it makes in a frame.
 abbrev pub Put : Call → State → ℕ → ℕ → Capability → Type 0
@@ -41,8 +26,8 @@ pub record PutFrom (call : Call) (s : State) (c : ℕ) (t : State) : Type 0 wher
   pub comp : (f : ℕ) (k : CompFields) → t.frame f ≡ Kernel (Comp k) → (s.frame f ≡ Kernel (Comp k)) ⊎ Made call s c f k
   pub live : (l e f : ℕ) → t.number l ≡ Live e f → (s.number l ≡ Live e f) ⊎ InRange call s c f
 
-no_comp : (x : Frame) (k : CompFields) → fits kind.Comp x ≡ false → x ≡ Kernel (Comp k) → ⊥
-no_comp x k none e = false≢true (sym none ∙ ap (fits kind.Comp) e)
+no_comp : (x : Frame) (k : CompFields) → fits Kind.Comp x ≡ false → x ≡ Kernel (Comp k) → ⊥
+no_comp x k none e = false≢true (sym none ∙ ap (fits Kind.Comp) e)
 
 thread_comp : (x : Frame) (t : ThreadFields) (k : CompFields) → with_thread x t ≡ Kernel (Comp k) → x ≡ Kernel (Comp k)
 thread_comp (Kernel (Thread u)) t k e = absurd (no_comp (Kernel (Thread t)) k refl e)

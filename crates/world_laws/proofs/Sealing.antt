@@ -1,23 +1,10 @@
 -- A sealed world stays sealed through each event but a decision of a core that works inside.
-use Rattle.std.proofs.Common.{◌≡◌, inl, inr, ℕ, Bool, true, false, refl, sym, ◌∙◌}
-use Rattle.std.proofs.lemmas.Bool.{false≢true}
-use Rattle.authority_laws.specs.spk_nums.specs.declared.kinds.Kind.{Kind}
-use Rattle.authority_laws.specs.spk_nums.specs.declared.kinds.Kind.TheVariants as kind
-use Rattle.authority_laws.specs.spk_nums.specs.declared.calls.Call.{Call}
-use Rattle.authority_laws.specs.spk_nums.specs.declared.calls.Call.TheVariants.{Tick}
-use Rattle.authority_laws.specs.spk_nums.specs.declared.replies.Reply.{Reply}
-use Rattle.authority_laws.specs.kernel_rules.specs.State.{State}
-use Rattle.authority_laws.specs.kernel_rules.specs.GracePeriods.{entered, returned}
-use Rattle.authority_laws.specs.kernel_rules.specs.CallRelation.{counted, owed_by, state_by, MayReply}
-use Rattle.authority_laws.specs.kernel_rules.specs.Runs.{after}
-use Rattle.authority_laws.specs.kernel_invariant.proofs.SoundCalls.{IsOpen}
-use Rattle.authority_laws.specs.kernel_invariant.proofs.SoundRuns.{opened}
-use Rattle.world_laws.specs.Worlds.{IsSealed}
-use Rattle.world_laws.specs.Laws.{SealsStay}
-use Rattle.world_laws.proofs.Puts.{decided_put, usable_from}
-use Rattle.world_laws.proofs.Links.{returned_uses}
-use Rattle.world_laws.proofs.Outside.{WorksOutside, sealed_for_gates, range_out, node_out, led_frame, put_none}
-use Rattle.world_laws.proofs.Leaving.{opened_call, outside}
+use Rattle.authority_laws.specs.kernel_laws.proofs.{◌≡◌, inl, inr, ℕ, Bool, true, false, refl, sym, ◌∙◌, false≢true, Kind, Call, Tick}
+use Rattle.authority_laws.specs.kernel_laws.proofs.{Reply, State, entered, returned, counted, owed_by, state_by, MayReply, after, IsOpen}
+use Rattle.world_laws.specs.{Worlds.IsSealed, Laws.SealsStay}
+use Rattle.world_laws.proofs.{Puts.decided_put, Puts.usable_from, Links.returned_uses, Outside.WorksOutside, Outside.sealed_for_gates}
+use Rattle.world_laws.proofs.{Outside.range_out, Outside.node_out, Outside.led_frame, Outside.put_none, Leaving.opened_call}
+use Rattle.{authority_laws.specs.kernel_laws.proofs.opened, world_laws.proofs.Leaving.outside}
 
 pub sealed_entered : (w : ℕ → Bool) (crosses : Kind → Bool) (s : State) (c : ℕ) → IsSealed w crosses s → IsSealed w crosses (entered s c)
 sealed_entered w crosses s c h = record { places = h.places; comps = h.comps }
@@ -53,8 +40,8 @@ module _ (w : ℕ → Bool) (s : State) (c : ℕ) (o : ℕ → Bool) (h : IsOpen
     comps = λ f k away e. elim ((decided_put s c o h call r may).comp f k e) [
       | inl was ↦ sealed.comps f k away was
       | inr made ↦ (
-        led_frame w s c out kind.Table k.table refl refl made.1.table,
-        led_frame w s c out kind.Pages k.pages refl refl made.1.pages,
+        led_frame w s c out Kind.Table k.table refl refl made.1.table,
+        led_frame w s c out Kind.Pages k.pages refl refl made.1.pages,
       )
     ];
   }

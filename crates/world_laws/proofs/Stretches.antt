@@ -1,22 +1,13 @@
 -- Sealed worlds over parts of runs.
-use Rattle.std.proofs.Common.{◌≡◌, ◌⊎◌, inl, inr, ℕ, Bool, true, false, not, refl, ◌∙◌, ap, List, [], ◌∷◌, ◌++◌}
-use Rattle.std.proofs.lemmas.Bool.{true≢false}
-use Rattle.authority_laws.specs.spk_nums.specs.Setting.{Setting, IsSetting}
-use Rattle.authority_laws.specs.spk_nums.specs.declared.kinds.Kind.{Kind}
-use Rattle.authority_laws.specs.spk_nums.specs.declared.calls.Call.{Call}
-use Rattle.authority_laws.specs.spk_nums.specs.declared.calls.Call.TheVariants.{Tick}
-use Rattle.authority_laws.specs.spk_nums.specs.declared.replies.Reply.{Reply}
-use Rattle.authority_laws.specs.spk_nums.specs.declared.replies.Reply.TheVariants as reply
-use Rattle.authority_laws.specs.kernel_rules.specs.State.{State}
-use Rattle.authority_laws.specs.kernel_rules.specs.CallRelation.{owed_by, state_by}
-use Rattle.authority_laws.specs.kernel_rules.specs.Runs.{Event, Enters, Decides, Returns, after, IsRun}
-use Rattle.authority_laws.specs.kernel_invariant.proofs.SoundRuns.{opened}
-use Rattle.world_laws.specs.Worlds.{works_in, lives_at, gates, OnlyGates, IsSealed, AreApart}
+use Rattle.authority_laws.specs.kernel_laws.proofs.{◌≡◌, ◌⊎◌, inl, inr, ℕ, Bool, true, false, not, refl, ◌∙◌, ap, List, [], ◌∷◌, ◌++◌}
+use Rattle.authority_laws.specs.kernel_laws.proofs.{true≢false, Setting, IsSetting, Kind, Call, Tick, Reply, State, owed_by, state_by}
+use Rattle.authority_laws.specs.kernel_laws.proofs.{Event, Enters, Decides, Returns, after, IsRun, opened}
+use Rattle.world_laws.specs.{works_in, lives_at, gates, OnlyGates, IsSealed, AreApart}
 use Rattle.world_laws.specs.Laws.{ActsInside, OpenedFromInside, ApartForGood, DiesByItsOwn}
-use Rattle.world_laws.proofs.Outside.{sealed_for_gates}
-use Rattle.world_laws.proofs.Leaving.{opened_call, outside, outside_leaves}
-use Rattle.world_laws.proofs.Sealing.{sealed_entered, sealed_returned, sealed_counted, sealed_owed, sealed_outside, sealed_inside}
-use Rattle.world_laws.proofs.Sealing.{seals_stay}
+use Rattle.world_laws.proofs.{Outside.sealed_for_gates, Leaving.opened_call, Leaving.outside, Leaving.outside_leaves}
+use Rattle.world_laws.proofs.{Sealing.sealed_entered, Sealing.sealed_returned, Sealing.sealed_counted, Sealing.sealed_owed}
+use Rattle.world_laws.proofs.{Sealing.sealed_outside, Sealing.sealed_inside, Sealing.seals_stay}
+use Rattle.authority_laws.specs.spk_nums.specs.declared.replies.Reply.TheVariants as reply
 
 -- From s to t a world stays sealed, and none of its components dies.
 record Lasts (w : ℕ → Bool) (crosses : Kind → Bool) (s t : State) : Type 0 where

@@ -1,38 +1,18 @@
 -- Worlds keep their ticks, but for what a core does that runs across.
-use Rattle.std.proofs.Common.{◌≡◌, ◌⊎◌, inl, inr, ℕ, ◌+◌, ◌-◌, ◌<◌, ◌≤◌, min, arith, Bool, true, false, not, refl, sym, ◌∙◌, ap, subst}
-use Rattle.std.proofs.Common.{IsTrue, List, [], ◌∷◌, ◌++◌, Some, None}
-use Rattle.std.proofs.lemmas.Bool.{false≢true, true≢false}
-use Rattle.authority_laws.specs.spk_nums.specs.Setting.{Setting, IsSetting}
-use Rattle.authority_laws.specs.spk_nums.specs.declared.kinds.Kind.{Kind}
-use Rattle.authority_laws.specs.spk_nums.specs.declared.kinds.Kind.TheVariants as kind
-use Rattle.authority_laws.specs.spk_nums.specs.declared.calls.Call.{Call}
-use Rattle.authority_laws.specs.spk_nums.specs.declared.calls.Call.TheVariants.{Tick}
-use Rattle.authority_laws.specs.spk_nums.specs.declared.replies.Reply.{Reply}
-use Rattle.authority_laws.specs.spk_nums.specs.declared.replies.Reply.TheVariants as reply
-use Rattle.authority_laws.specs.kernel_rules.specs.State.{ThreadFields, TcapFields, Blank, Comp, Thread, Tcap, Frame, Untyped, Kernel, Core}
-use Rattle.authority_laws.specs.kernel_rules.specs.State.{State, put, with_frame, with_core, tcap_in, outstanding}
-use Rattle.authority_laws.specs.kernel_rules.specs.Access.{only}
-use Rattle.authority_laws.specs.kernel_rules.specs.Fitting.{fits}
-use Rattle.authority_laws.specs.kernel_rules.specs.Edits.{with_thread, running, tcap_at, with_tcap, with_budget, charge, Edit, Fill, Node}
-use Rattle.authority_laws.specs.kernel_rules.specs.Edits.{Become, Untype, Component, Push, Pop, Switch, Cache, Flush, Charge, Move, Merge}
-use Rattle.authority_laws.specs.kernel_rules.specs.Edits.{Give, edited, after_edits}
-use Rattle.authority_laws.specs.kernel_rules.specs.CallRelation.{owed_by, state_by, MayReply}
-use Rattle.authority_laws.specs.kernel_rules.specs.Runs.{Event, Enters, Decides, Returns, after, IsRun}
-use Rattle.authority_laws.specs.kernel_rules.proofs.Within.{put_same, put_other}
-use Rattle.authority_laws.specs.kernel_invariant.proofs.Sums.{sum_same, sum_one}
-use Rattle.authority_laws.specs.kernel_invariant.proofs.Sound.{put_all, only_is}
-use Rattle.authority_laws.specs.kernel_invariant.proofs.SoundCalls.{IsOpen, tcap_below}
-use Rattle.authority_laws.specs.kernel_invariant.proofs.SoundRuns.{opened}
-use Rattle.authority_laws.specs.kernel_invariant.proofs.Facts.{usable_good}
-use Rattle.authority_laws.specs.kernel_invariant.proofs.Edited.{is_bare, AreLater, Calm}
-use Rattle.authority_laws.proofs.Acts.{LedTo, By, EachBy, used_at}
-use Rattle.authority_laws.proofs.DecidedParts.{decided_from}
-use Rattle.authority_laws.specs.kernel_laws.proofs.Back.{within_spent}
-use Rattle.world_laws.specs.Worlds.{works_in, gates, OnlyGates, AreApart}
-use Rattle.world_laws.specs.Time.{counted_if, ticks_in, RunsAcross, ActsAcross, TimeOfWorlds}
-use Rattle.world_laws.proofs.Outside.{sealed_for_gates, led_frame}
-use Rattle.world_laws.proofs.Leaving.{opened_call, outside}
-use Rattle.world_laws.proofs.Stretches.{apart_for_good}
+use Rattle.authority_laws.specs as low
+use low.kernel_laws.proofs.{◌≡◌, ◌⊎◌, inl, inr, ℕ, ◌+◌, ◌-◌, ◌<◌, ◌≤◌, min, arith, Bool, true, false, not, refl, sym, ◌∙◌, ap, subst}
+use low.kernel_laws.proofs.{IsTrue, List, [], ◌∷◌, ◌++◌, Some, None, false≢true, true≢false, Setting, IsSetting, Kind, Call, Tick, Reply}
+use low.kernel_laws.proofs.{ThreadFields, TcapFields, Blank, Comp, Thread, Tcap, Frame, Untyped, Kernel, Core, State, put, with_frame}
+use low.kernel_laws.proofs.{with_core, tcap_in, outstanding, only, fits, with_thread, running, tcap_at, with_tcap, with_budget, charge}
+use low.kernel_laws.proofs.{Edit, Fill, Node, Become, Untype, Component, Push, Pop, Cache, Charge, Move, Merge, Give, edited, after_edits}
+use low.kernel_laws.proofs.{owed_by, state_by, MayReply, Event, Enters, Decides, Returns, after, IsRun, put_same, put_other, sum_one}
+use low.kernel_laws.proofs.{put_all, only_is, IsOpen, opened, is_bare, AreLater, Calm}
+use Rattle.world_laws.specs.{works_in, gates, OnlyGates, AreApart, counted_if, ticks_in, RunsAcross}
+use Rattle.authority_laws.proofs.{LedTo, By, EachBy, used_at, decided_from}
+use Rattle.world_laws.proofs.{Outside.sealed_for_gates, Outside.led_frame, Leaving.opened_call, Leaving.outside, Stretches.apart_for_good}
+use low.{kernel_invariant.proofs.sum_same, kernel_invariant.proofs.usable_good, kernel_rules.specs.Edits.Switch}
+use low.{kernel_rules.specs.Edits.Flush, kernel_invariant.proofs.SoundCalls.tcap_below, kernel_laws.proofs.Back.within_spent}
+use Rattle.{world_laws.specs.Time.ActsAcross, world_laws.specs.Time.TimeOfWorlds}
 
 abbrev budget : Frame → ℕ
 budget x = (tcap_in x).budget
@@ -46,7 +26,7 @@ thread_budget : (x : Frame) (t : ThreadFields) → budget (with_thread x t) ≡ 
 thread_budget (Kernel (Thread u)) t = refl
 thread_budget _ t = refl
 
-put_budget : (x : Frame) (q : TcapFields) → IsTrue (fits kind.Tcap x) → budget (with_tcap x q) ≡ q.budget
+put_budget : (x : Frame) (q : TcapFields) → IsTrue (fits Kind.Tcap x) → budget (with_tcap x q) ≡ q.budget
 put_budget (Kernel (Tcap p)) q h = refl
 put_budget _ q h = absurd (false≢true h)
 
@@ -114,19 +94,19 @@ given_sum false t u s all left m p q enough = omega (arith, p, q)
 -- ---- edits
 
 module _ (w : ℕ → Bool) (call : Call) (s : State) (c : ℕ) (o : ℕ → Bool) (h : IsOpen s o c) (b : Bool)
-    (side : (j : Kind) (f : ℕ) → gates j ≡ false → only kind.Range j ≡ false → LedTo call s c (only j) f → w f ≡ b)
+    (side : (j : Kind) (f : ℕ) → gates j ≡ false → only Kind.Range j ≡ false → LedTo call s c (only j) f → w f ≡ b)
     (of_thread : w (s.core c).thread ≡ b) (of_tcap : w (s.core c).tcap ≡ b) (within : (s.core c).back ≤ (s.core c).spent) where
   below : c < s.limits.cores
   below = (h.sound.inside c h.is).1
 
-  tcap_fit : (f : ℕ) → LedTo call s c (only kind.Tcap) f → IsTrue (fits kind.Tcap (s.frame f))
+  tcap_fit : (f : ℕ) → LedTo call s c (only Kind.Tcap) f → IsTrue (fits Kind.Tcap (s.frame f))
   tcap_fit f l =
       let x = used_at s c l.cap l.may in
-      subst (λ n. IsTrue (fits kind.Tcap (s.frame n))) l.frame
-      (subst (λ i. IsTrue (fits i (s.frame l.cap.frame))) (only_is kind.Tcap l.cap.kind l.kind)
+      subst (λ n. IsTrue (fits Kind.Tcap (s.frame n))) l.frame
+      (subst (λ i. IsTrue (fits i (s.frame l.cap.frame))) (only_is Kind.Tcap l.cap.kind l.kind)
       (usable_good s o c x.at l.cap h.sound h.is x.from).fit)
 
-  own_fit : IsTrue (fits kind.Tcap (s.frame (s.core c).tcap))
+  own_fit : IsTrue (fits Kind.Tcap (s.frame (s.core c).tcap))
   own_fit = (h.sound.cores c below).1
 
   least : (x y : ℕ) → min x y ≤ y
@@ -168,7 +148,7 @@ module _ (w : ℕ → Bool) (call : Call) (s : State) (c : ℕ) (o : ℕ → Boo
       let enough = by.1 in
       let less : outstanding k ≡ left - m = omega (arith, enough) in
       given_sum b (ticks_in w (with_core u c k)) (ticks_in w u) (ticks_in w s) all left m
-      (subst (λ x. ticks_in w u + counted_if x all ≡ ticks_in w s + counted_if x (all + m)) (side kind.Tcap f refl refl by.0)
+      (subst (λ x. ticks_in w u + counted_if x all ≡ ticks_in w s + counted_if x (all + m)) (side Kind.Tcap f refl refl by.0)
       (p ∙ ap (λ n. ticks_in w s + counted_if (w f) n) e))
       (subst (λ x. ticks_in w (with_core u c k) + counted_if x left ≡ ticks_in w u + counted_if x (left - m)) of_thread
       (r ∙ ap (λ n. ticks_in w u + counted_if (w (s.core c).thread) n) less))
@@ -188,14 +168,14 @@ module _ (w : ℕ → Bool) (call : Call) (s : State) (c : ℕ) (o : ℕ → Boo
       let r = frame_put w u d (with_tcap (u.frame d) more) (tcap_below s o d h.sound onto_fit) in
       let e : budget (with_tcap (s.frame a) less) ≡ all - m = put_budget (s.frame a) less from_fit in
       let g : budget (with_tcap (u.frame d) more) ≡ had + m =
-      put_budget (u.frame d) more (subst (λ x. IsTrue (fits kind.Tcap x)) (sym same) onto_fit) in
+      put_budget (u.frame d) more (subst (λ x. IsTrue (fits Kind.Tcap x)) (sym same) onto_fit) in
       let was : budget (u.frame d) ≡ had = ap budget same in
       let enough = by.2.enough in
       let t : State = with_frame u d (with_tcap (u.frame d) more) in
       moved_sum b (ticks_in w t) (ticks_in w u) (ticks_in w s) all (all - m) had m
-      (subst (λ x. ticks_in w u + counted_if x all ≡ ticks_in w s + counted_if x (all - m)) (side kind.Tcap a refl refl by.0)
+      (subst (λ x. ticks_in w u + counted_if x all ≡ ticks_in w s + counted_if x (all - m)) (side Kind.Tcap a refl refl by.0)
       (p ∙ ap (λ n. ticks_in w s + counted_if (w a) n) e))
-      (subst (λ x. ticks_in w t + counted_if x had ≡ ticks_in w u + counted_if x (had + m)) (side kind.Tcap d refl refl by.1)
+      (subst (λ x. ticks_in w t + counted_if x had ≡ ticks_in w u + counted_if x (had + m)) (side Kind.Tcap d refl refl by.1)
       (ap (λ n. ticks_in w t + counted_if (w d) n) (sym was) ∙ r ∙ ap (λ n. ticks_in w u + counted_if (w d) n) g))
       (omega (arith, enough))
 
@@ -209,7 +189,7 @@ module _ (w : ℕ → Bool) (call : Call) (s : State) (c : ℕ) (o : ℕ → Boo
   edit_ticks (Switch f q) by =
       let idle : State = running s (s.core c).thread None in
       core_same w (running idle f (Some c)) c (record (s.core c) { thread = f; tcap = q })
-      (side kind.Thread f refl refl by.led ∙ sym of_thread) refl
+      (side Kind.Thread f refl refl by.led ∙ sym of_thread) refl
       ∙ frame_same w idle f _ (thread_budget (idle.frame f) _)
       ∙ frame_same w s (s.core c).thread _ (thread_budget (s.frame (s.core c).thread) _)
   edit_ticks (Cache t) by = core_same w s c _ refl refl
@@ -257,7 +237,7 @@ module _ (setting : Setting) (lim : IsSetting setting) (events : List Event) (c 
   abbrev now : State
   now = after setting events
 
-  side_of : (b : Bool) → w (works_in now c) ≡ b → (j : Kind) (f : ℕ) → gates j ≡ false → only kind.Range j ≡ false
+  side_of : (b : Bool) → w (works_in now c) ≡ b → (j : Kind) (f : ℕ) → gates j ≡ false → only Kind.Range j ≡ false
       → LedTo call now c (only j) f → w f ≡ b
   side_of false is j f crosses plain led =
       led_frame w now c (outside setting lim events c call r run w apart.inside is) j f crosses plain led
@@ -299,14 +279,14 @@ module _ (setting : Setting) (lim : IsSetting setting) (w : ℕ → Bool) (cross
       → ticks_in w (after setting (later ++ before)) ≡ ticks_in w (after setting before)
       → (ticks_in w (state_by (after setting (later ++ before)) c call r) ≡ ticks_in w (after setting before))
       ⊎ ActsAcross setting w before (Decides c call r ∷ later)
-  by_across c call (reply.Ok v) later across kept =
+  by_across c call (Reply.Ok v) later across kept =
       inr (record { since = later; more = []; core = c; call = call; value = v; is_part = refl; across = across })
-  by_across c call reply.CallsSpent later across kept = inl kept
-  by_across c call reply.Raced later across kept = inl (
+  by_across c call Reply.CallsSpent later across kept = inl kept
+  by_across c call Reply.Raced later across kept = inl (
       core_same w (owed_by (after setting (later ++ before)) c call) c _ refl refl
       ∙ owed_ticks w (after setting (later ++ before)) c call ∙ kept
       )
-  by_across c call (reply.Busy d) later across kept = inl (
+  by_across c call (Reply.Busy d) later across kept = inl (
       core_same w (owed_by (after setting (later ++ before)) c call) c _ refl refl
       ∙ owed_ticks w (after setting (later ++ before)) c call ∙ kept
       )

@@ -1,20 +1,10 @@
 -- Laws of sealed worlds, each the contract of a function of this crate.
-use Rattle.std.specs.Prelude.{◌≡◌, ◌⊎◌, ℕ, Bool, true, false, List, ◌∷◌, ◌++◌, drop}
-use Rattle.authority_laws.specs.spk_nums.specs.Setting.{Setting, IsSetting}
-use Rattle.authority_laws.specs.spk_nums.specs.Capability.{Capability}
-use Rattle.authority_laws.specs.spk_nums.specs.declared.calls.Call.{Call}
-use Rattle.authority_laws.specs.spk_nums.specs.declared.calls.Call.TheVariants as call
-use Rattle.authority_laws.specs.spk_nums.specs.declared.kinds.Kind.{Kind}
-use Rattle.authority_laws.specs.spk_nums.specs.declared.kinds.Kind.TheVariants as kind
-use Rattle.authority_laws.specs.spk_nums.specs.declared.replies.Value.{Value}
-use Rattle.authority_laws.specs.spk_nums.specs.declared.replies.Reply.{Reply}
-use Rattle.authority_laws.specs.spk_nums.specs.declared.replies.Reply.TheVariants.{Ok}
-use Rattle.authority_laws.specs.kernel_rules.specs.State.{State, thread_in, thread_of, first_of_stack}
-use Rattle.authority_laws.specs.kernel_rules.specs.Access.{only, to_use}
-use Rattle.authority_laws.specs.kernel_rules.specs.Rules.{Found, named}
-use Rattle.authority_laws.specs.kernel_rules.specs.Runs.{Event, Decides, after, IsRun}
-use Rattle.authority_laws.specs.Authority.{Part, PlaceIs, FrameIs, StackIs, RunsIs, BudgetIs, ListIs, OwnBy, SamePart}
+use Rattle.authority_laws.specs.kernel_rules.specs.{◌≡◌, ◌⊎◌, ℕ, Bool, true, false, List, ◌∷◌, ◌++◌, drop, Setting, IsSetting, Capability}
+use Rattle.authority_laws.specs.kernel_rules.specs.{Call, Kind, Value, Reply, thread_in, thread_of, first_of_stack, only, to_use, Found}
+use Rattle.authority_laws.specs.kernel_rules.specs.{named, Event, Decides, after, IsRun}
+use Rattle.authority_laws.specs.{Part, PlaceIs, FrameIs, StackIs, RunsIs, BudgetIs, ListIs, OwnBy, SamePart}
 use Rattle.world_laws.specs.Worlds.{works_in, lives_at, gates, OnlyGates, IsSealed, AreApart, LeavesAlone}
+use Rattle.{authority_laws.specs.spk_nums.specs.declared.replies.Reply.TheVariants.Ok, authority_laws.specs.kernel_rules.specs.State.State}
 
 -- In every run, a decision of a core that works outside a sealed world leaves it alone.
 abbrev pub OutsideLeaves : Type 0
@@ -55,11 +45,11 @@ ApartForGood = (setting : Setting) → IsSetting setting → (before later : Lis
 -- How a core comes to work in a set of frames: by a gate to a component in it that lives; by returning into one that stands below on its
 -- stack; or by going on as a thread whose top is one.
 abbrev pub EntersBy : Call → (ℕ → Bool) → State → ℕ → Type 0
-EntersBy (call.Call g) w s c =
-    (k : Capability) × (named s c g (to_use (only kind.Gate)) ≡ Found k) × (w k.frame ≡ true) × (lives_at s k.frame ≡ true)
-EntersBy call.Ret w s c = w (first_of_stack (drop 1 (thread_of s c).stack)) ≡ true
-EntersBy (call.Switch h q) w s c =
-    (k : Capability) × (named s c h (to_use (only kind.Thread)) ≡ Found k)
+EntersBy (Call.Call g) w s c =
+    (k : Capability) × (named s c g (to_use (only Kind.Gate)) ≡ Found k) × (w k.frame ≡ true) × (lives_at s k.frame ≡ true)
+EntersBy Call.Ret w s c = w (first_of_stack (drop 1 (thread_of s c).stack)) ≡ true
+EntersBy (Call.Switch h q) w s c =
+    (k : Capability) × (named s c h (to_use (only Kind.Thread)) ≡ Found k)
     × (w (first_of_stack (thread_in (s.frame k.frame)).stack) ≡ true)
 EntersBy _ w s c = ⊥
 

@@ -1,14 +1,8 @@
 -- The time of worlds.
-use Rattle.std.specs.Prelude.{◌≡◌, ◌⊎◌, ℕ, ◌+◌, Bool, not, cond, List, ◌∷◌, ◌++◌}
-use Rattle.authority_laws.specs.spk_nums.specs.Setting.{Setting, IsSetting}
-use Rattle.authority_laws.specs.spk_nums.specs.declared.calls.Call.{Call}
-use Rattle.authority_laws.specs.spk_nums.specs.declared.kinds.Kind.{Kind}
-use Rattle.authority_laws.specs.spk_nums.specs.declared.replies.Value.{Value}
-use Rattle.authority_laws.specs.spk_nums.specs.declared.replies.Reply.TheVariants.{Ok}
-use Rattle.authority_laws.specs.kernel_rules.specs.State.{State, outstanding, tcap_in}
-use Rattle.authority_laws.specs.kernel_rules.specs.References.{sum_below}
-use Rattle.authority_laws.specs.kernel_rules.specs.Runs.{Event, Decides, after, IsRun}
+use Rattle.authority_laws.specs.kernel_rules.specs.{◌≡◌, ◌⊎◌, ℕ, ◌+◌, Bool, not, cond, List, ◌∷◌, ◌++◌, Setting, IsSetting, Call, Kind}
+use Rattle.authority_laws.specs.kernel_rules.specs.{Value, outstanding, tcap_in, sum_below, Event, Decides, after, IsRun}
 use Rattle.world_laws.specs.Worlds.{works_in, OnlyGates, AreApart}
+use Rattle.{authority_laws.specs.spk_nums.specs.declared.replies.Reply.TheVariants.Ok, authority_laws.specs.kernel_rules.specs.State.State}
 
 -- The ticks of a world: the budgets of its frames, and what the cores have spent and have not had back whose threads are in it.
 abbrev pub counted_if : Bool → ℕ → ℕ

@@ -1,13 +1,7 @@
 -- Worlds: sets of frames that nothing outside holds.
-use Rattle.std.specs.Prelude.{◌≡◌, ◌≢◌, ℕ, Bool, true, false, not, Some, IsTrue}
-use Rattle.authority_laws.specs.spk_nums.specs.Capability.{Capability}
-use Rattle.authority_laws.specs.spk_nums.specs.Rights.{has_rights, right_to_use}
-use Rattle.authority_laws.specs.spk_nums.specs.declared.kinds.Kind.{Kind}
-use Rattle.authority_laws.specs.spk_nums.specs.declared.kinds.Kind.TheVariants as kind
-use Rattle.authority_laws.specs.kernel_rules.specs.State.{CompFields, Comp, Kernel, State, comp_in, thread_of, first_of_stack}
-use Rattle.authority_laws.specs.kernel_rules.specs.Access.{found, usable}
-use Rattle.authority_laws.specs.kernel_rules.specs.CapabilityCalls.{has_frame}
-use Rattle.authority_laws.specs.kernel_rules.specs.Life.{is_live_in}
+use Rattle.authority_laws.specs.kernel_rules.specs as low
+use low.{◌≡◌, ◌≢◌, ℕ, Bool, true, false, not, Some, IsTrue, Capability, has_rights, right_to_use, Kind, CompFields, Comp, Kernel, comp_in}
+use low.{thread_of, first_of_stack, found, usable, has_frame, is_live_in, State.State}
 
 -- The frame of the component in which a core works: the one on top of its current thread's stack.
 abbrev pub works_in : State → ℕ → ℕ
@@ -19,12 +13,12 @@ lives_at s f = is_live_in (s.number (comp_in (s.frame f)).number) (comp_in (s.fr
 
 -- A capability leads to a frame: a range to each that it has, any other to its own.
 abbrev pub LeadsTo : Kind → Capability → ℕ → Type 0
-LeadsTo kind.Range k f = has_frame (found k) f ≡ true
+LeadsTo Kind.Range k f = has_frame (found k) f ≡ true
 LeadsTo _ k f = f ≡ k.frame
 
 -- Gates alone may cross from world to world.
 abbrev pub gates : Kind → Bool
-gates kind.Gate = true
+gates Kind.Gate = true
 gates _ = false
 
 -- A capability holds nothing of a world: it may not be used, or is of a kind that may cross, or leads outside alone.

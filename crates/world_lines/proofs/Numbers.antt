@@ -1,11 +1,8 @@
 -- The numbers of worlds, and whether any of the first numbers is one of which something holds.
-use Rattle.std.proofs.Common.{◌≡◌, inl, inr, ℕ, zero, suc, ◌+◌, ◌<◌, ◌≤◌, ◌==◌, ◌&&◌, ◌||◌, not, Bool}
-use Rattle.std.proofs.Common.{true, false, refl, sym, ◌∙◌, ap, arith}
-use Rattle.std.proofs.Common.{List, [], ◌∷◌, length, Some, slice_get, slice_set, ◌≢◌, if◌then◌else◌}
-use Rattle.std.proofs.lemmas.Bool.{cases_lt, le-ltb}
-use Rattle.world_parts.specs.Sight.{Sight}
-use Rattle.world_lines.specs.declared.ranges.WorldRange.{WorldRange}
-use Rattle.world_lines.specs.Lines.{has_range, is_told, number_at, any_below}
+use Rattle.std.proofs.Common.{◌≡◌, inl, inr, ℕ, zero, suc, ◌+◌, ◌<◌, ◌≤◌, ◌==◌, ◌&&◌, ◌||◌, not, Bool, true, false, refl, sym, ◌∙◌, ap}
+use Rattle.std.proofs.Common.{arith, List, [], ◌∷◌, length, Some, slice_get, slice_set, ◌≢◌, if◌then◌else◌, le-ltb}
+use Rattle.world_lines.specs.{declared.ranges.WorldRange.WorldRange, Lines.has_range, Lines.is_told}
+use Rattle.{world_lines.specs.number_at, world_lines.specs.any_below, std.proofs.lemmas.Bool.cases_lt, world_parts.specs.Sight.Sight}
 
 -- What a list has at a position after a write, and elsewhere.
 pub set_here : (xs : List ℕ) (i y : ℕ) → i < length xs → slice_get (slice_set xs i y) i ≡ Some y

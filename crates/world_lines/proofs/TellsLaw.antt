@@ -1,16 +1,9 @@
 -- The lines of what an image shows are those of the final state.
-use Rattle.std.proofs.Common.{◌≡◌, ℕ, ◌++◌, List, ◌∙◌, ap, append_assoc}
-use Rattle.machine_image.specs.Views.{ImageOf}
-use Rattle.kernel_history.specs.Tables.{lines_below}
-use Rattle.world_parts.specs.Sight.{Sight}
-use Rattle.world_parts.specs.Seen.{seen}
-use Rattle.world_parts.specs.Partitions.{world_in}
-use Rattle.world_parts.specs.Finest.{TellsFinest}
-use Rattle.world_parts.proofs.SeenLaw.{seen_is}
-use Rattle.world_lines.specs.declared.table.WorldTable.{WorldTable}
-use Rattle.world_lines.specs.Lines.{world_line, gate_lines, text_by, worlds_text}
-use Rattle.world_lines.specs.Table.{IsTable}
-use Rattle.world_lines.specs.Telling.{TellsWorlds}
+use Rattle.table_lines.specs.kernel_history.proofs.{◌≡◌, ℕ, ◌++◌, List, ◌∙◌, ap, append_assoc, lines_below}
+use Rattle.world_lines.specs.{worlds_text, TellsWorlds}
+use Rattle.world_parts.specs.{Sight.Sight, Seen.seen, Partitions.world_in, Finest.TellsFinest}
+use Rattle.world_lines.specs.{declared.table.WorldTable.WorldTable, Lines.world_line, Lines.gate_lines, Lines.text_by, Table.IsTable}
+use Rattle.{world_parts.specs.machine_image.specs.Views.ImageOf, world_parts.proofs.SeenLaw.seen_is}
 
 pub tells_worlds : (m : ImageOf) (t : WorldTable) (old mid new : List ℕ) → TellsFinest m t.parts → IsTable (seen m) t
     → mid ≡ old ++ lines_below (world_line (seen m) (world_in t.parts) t.ranges.items) m.shape.frames

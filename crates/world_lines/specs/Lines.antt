@@ -1,14 +1,9 @@
 -- The lines that tell the worlds of a machine that are apart.
-use Rattle.std.specs.Prelude.{ℕ, zero, suc, ◌+◌, ◌==◌, Bool, true, false, not, ◌&&◌, ◌||◌, nat_lt, if◌then◌else◌}
-use Rattle.std.specs.Prelude.{List, [], ◌∷◌, ◌++◌, Option, Some, None, codes}
-use Rattle.std.specs.List.{flat_map, list_any}
-use Rattle.spk_nums.specs.Capability.{Capability}
-use Rattle.spk_nums.specs.declared.kinds.Kind.{Kind}
-use Rattle.spk_nums.specs.declared.kinds.Kind.TheVariants as kind
-use Rattle.kernel_history.specs.Tables.{number, lines_below}
-use Rattle.seal_check.specs.Holding.{holds}
-use Rattle.world_parts.specs.Sight.{Sight}
-use Rattle.world_lines.specs.declared.ranges.WorldRange.{WorldRange}
+use Rattle.table_lines.specs.kernel_history.specs.{ℕ, zero, suc, ◌+◌, ◌==◌, Bool, true, false, not, ◌&&◌, ◌||◌, ltb as nat_lt}
+use Rattle.table_lines.specs.kernel_history.specs.{if◌then◌else◌, List, [], ◌∷◌, ◌++◌, Option, Some, None, codes, flat_map, Capability}
+use Rattle.table_lines.specs.kernel_history.specs.{Kind, number, lines_below}
+use Rattle.{std.specs.List.list_any, seal_check.specs.Holding.holds, world_parts.specs.Sight.Sight}
+use Rattle.{world_lines.specs.declared.ranges.WorldRange.WorldRange}
 
 -- A range of a world comes before another of it: by first frame, then by count.
 abbrev pub is_less : WorldRange → WorldRange → Bool
@@ -32,7 +27,7 @@ range_if false world k = None
 range_if true world k = Some (record { world = world; first = k.frame; count = k.arg })
 
 abbrev pub range_by : Kind → ℕ → Capability → Option WorldRange
-range_by kind.Range world k = range_if (holds k) world k
+range_by Kind.Range world k = range_if (holds k) world k
 range_by _ world k = None
 
 abbrev pub range_of : ℕ → Capability → Option WorldRange
@@ -123,7 +118,7 @@ gate_between x world ranges f i g = if world f == world g then []
     else gate_words f i (number_at x world ranges (world f)) (number_at x world ranges (world g)) g
 
 abbrev pub gate_by : Kind → Sight → (ℕ → ℕ) → List WorldRange → ℕ → ℕ → ℕ → List ℕ
-gate_by kind.Gate x world ranges f i g = gate_between x world ranges f i g
+gate_by Kind.Gate x world ranges f i g = gate_between x world ranges f i g
 gate_by _ x world ranges f i g = []
 
 abbrev pub gate_line : Sight → (ℕ → ℕ) → List WorldRange → ℕ → ℕ → Option Capability → List ℕ

@@ -1,9 +1,7 @@
 -- The worlds of a machine, its ranges, and the numbers of its worlds.
 use Rattle.std.specs.Prelude.{◌≡◌, ◌<◌, ◌≤◌, ℕ, Some, slice_get}
-use Rattle.world_parts.specs.Sight.{Sight}
-use Rattle.world_parts.specs.Partitions.{world_in}
-use Rattle.world_lines.specs.Lines.{ranges_of, number_at}
-use Rattle.world_lines.specs.declared.table.WorldTable.{WorldTable}
+use Rattle.world_parts.specs.{Sight.Sight, Partitions.world_in}
+use Rattle.world_lines.specs.{Lines.ranges_of, Lines.number_at, declared.table.WorldTable.WorldTable}
 
 pub record IsTable (x : Sight) (t : WorldTable) : Type 0 where
   pub ranges : t.ranges.items ≡ ranges_of x (world_in t.parts)

@@ -1,13 +1,7 @@
 -- A text that goes on by the worlds of a state.
-use Rattle.std.specs.Prelude.{◌≡◌, ℕ, List, ◌++◌}
-use Rattle.spk_nums.specs.Setting.{Setting}
-use Rattle.machine_image.specs.Views.{ImageOf}
-use Rattle.kernel_rules.specs.State.{State}
-use Rattle.kernel_rules.specs.Runs.{Event, after}
-use Rattle.world_parts.specs.Sight.{sight_of}
-use Rattle.world_parts.specs.Last.{IsLast}
-use Rattle.world_parts.specs.Finest.{IsFinest}
-use Rattle.world_lines.specs.Lines.{worlds_text}
+use Rattle.table_lines.specs.kernel_history.specs.{◌≡◌, ℕ, List, ◌++◌, Setting, State, Event, after}
+use Rattle.world_parts.specs.{sight_of, IsLast, IsFinest}
+use Rattle.{world_parts.specs.machine_image.specs.Views.ImageOf, world_lines.specs.Lines.worlds_text}
 
 -- The text goes on by the lines of the finest partition of the state's frames into worlds that are apart.
 pub record TellsIn (s : State) (old new : List ℕ) : Type 0 where

@@ -4,7 +4,7 @@ ghost use Rattle.std.specs.Prelude.{◌≡◌, ◌==◌, ◌++◌, [], Some, OnO
 ghost use Rattle.std.specs.List.{flat_map};
 ghost use Rattle.world_parts.specs.Seen.{seen};
 ghost use Rattle.world_parts.specs.Partitions.{world_in};
-ghost use Rattle.kernel_history.specs.Tables.{number};
+ghost use Rattle.table_lines.specs.kernel_history.specs.Tables.{number};
 ghost use Rattle.world_lines.specs.Lines.{frames_in, works_there, any_below, those, core_words, range_words, memory_words};
 ghost use Rattle.world_lines.specs.Lines.{told_line, world_line, gate_words, gate_between, gate_line, number_at};
 ghost use Rattle.world_lines.specs.Table.{IsTable};

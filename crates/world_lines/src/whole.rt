@@ -1,7 +1,7 @@
 //! The lines of all worlds and gates.
 
 ghost use Rattle.std.specs.Prelude.{◌≡◌, ◌++◌, OnOk, string_bytes};
-ghost use Rattle.kernel_history.specs.Tables.{lines_below};
+ghost use Rattle.table_lines.specs.kernel_history.specs.Tables.{lines_below};
 ghost use Rattle.world_parts.specs.Seen.{seen};
 ghost use Rattle.world_parts.specs.Partitions.{world_in};
 ghost use Rattle.world_lines.specs.Lines.{world_line, gate_lines};

@@ -1,29 +1,18 @@
 -- The partition that joins what holds each other is the finest into worlds that are apart.
-use Rattle.std.proofs.Common.{◌≡◌, ◌⊎◌, inl, inr, ℕ, ◌<◌, ◌≤◌, ◌==◌, Bool, true, false, not, ◌&&◌, refl, sym, ◌∙◌, ap, subst, arith}
-use Rattle.std.proofs.Common.{List, Option, Some, None, if◌then◌else◌}
-use Rattle.std.proofs.lemmas.Bool.{false≢true, and_parts, cases_lt}
-use Rattle.spk_nums.specs.Setting.{Setting, IsSetting}
-use Rattle.spk_nums.specs.Capability.{Capability}
-use Rattle.spk_nums.specs.Rights.{has_rights, right_to_use}
-use Rattle.machine_image.specs.Views.{ImageOf}
-use Rattle.kernel_rules.specs.State.{Place, Free, Holds, Quiescing, CompFields, Blank, Table, Leaf, Pages, Pleaf, Comp, Thread, Tcap}
-use Rattle.kernel_rules.specs.State.{Frame, Untyped, User, Kernel, PlaceOf, Limits, State}
-use Rattle.kernel_rules.specs.Access.{held_in, usable, usable_in}
-use Rattle.kernel_rules.specs.Runs.{Event, after, is_in}
-use Rattle.kernel_rules.proofs.AloneLaw.{waits_inside}
-use Rattle.kernel_invariant.proofs.Facts.{some_inj, none_some}
-use Rattle.kernel_invariant.proofs.SoundRuns.{limits_stay, inside_is, runs_sound}
-use Rattle.world_laws.specs.Worlds.{LeadsTo, gates, IsSealed, AreApart}
-use Rattle.seal_check.specs.Holding.{holds}
-use Rattle.seal_check.proofs.Reached.{held_within}
-use Rattle.world_parts.specs.Sight.{Sight, fields_of, sight_of}
-use Rattle.world_parts.specs.Seen.{seen}
-use Rattle.world_parts.specs.Last.{IsLast}
-use Rattle.world_parts.specs.Led.{HasField, Reaches, HoldsFrame, IsHeldBelow}
-use Rattle.world_parts.specs.Partitions.{IsPartition, IsParts, Respects, Joins, world_in}
-use Rattle.world_parts.specs.Finest.{IsFinest, TellsFinest}
-use Rattle.world_parts.proofs.Leads.{held_leads, fields_within}
-use Rattle.world_parts.proofs.SeenLaw.{seen_is}
+use Rattle.seal_check.specs.world_laws.specs.kernel_laws.proofs.{◌≡◌, ◌⊎◌, inl, inr, ℕ, ◌<◌, ◌≤◌, ◌==◌, Bool, true, false, not, ◌&&◌, refl}
+use Rattle.seal_check.specs.world_laws.specs.kernel_laws.proofs.{sym, ◌∙◌, ap, subst, arith, List, Option, Some, None, if◌then◌else◌}
+use Rattle.seal_check.specs.world_laws.specs.kernel_laws.proofs.{false≢true, Setting, IsSetting, Capability, has_rights, Place, Free, Holds}
+use Rattle.seal_check.specs.world_laws.specs.kernel_laws.proofs.{Quiescing, CompFields, Blank, Table, Leaf, Pages, Pleaf, Comp, Thread}
+use Rattle.seal_check.specs.world_laws.specs.kernel_laws.proofs.{Tcap, Frame, Untyped, User, Kernel, PlaceOf, Limits, State, held_in}
+use Rattle.seal_check.specs.world_laws.specs.kernel_laws.proofs.{usable, usable_in, Event, after, is_in, waits_inside, some_inj, none_some}
+use Rattle.seal_check.specs.world_laws.specs.kernel_laws.proofs.{limits_stay, inside_is, runs_sound}
+use Rattle.world_parts.specs.{sight_of, IsLast, HasField, Reaches, IsHeldBelow, IsParts, Joins, world_in, IsFinest}
+use Rattle.seal_check.specs.world_laws.specs.{LeadsTo, gates, IsSealed, AreApart}
+use Rattle.std.proofs.lemmas.Bool.{and_parts, cases_lt}
+use Rattle.world_parts.specs.{Sight.Sight, Sight.fields_of, Seen.seen, Led.HoldsFrame, Partitions.IsPartition, Partitions.Respects}
+use Rattle.world_parts.proofs.{Leads.held_leads, Leads.fields_within, SeenLaw.seen_is}
+use Rattle.{spk_nums.specs.Rights.right_to_use, machine_image.specs.Views.ImageOf, seal_check.specs.Holding.holds}
+use Rattle.{seal_check.proofs.Reached.held_within, world_parts.specs.Finest.TellsFinest}
 
 not_true : (b : Bool) → not b ≡ true → b ≡ false
 not_true true e = absurd (false≢true e)

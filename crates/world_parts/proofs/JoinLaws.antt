@@ -1,11 +1,9 @@
 -- How partitions are joined.
-use Rattle.std.proofs.Common.{◌≡◌, ◌≢◌, ◌⊎◌, inl, inr, ℕ, ◌<◌, ◌≤◌, ◌==◌, Bool, true, false}
-use Rattle.std.proofs.Common.{refl, sym, ◌∙◌, ap, subst, arith, if◌then◌else◌}
-use Rattle.std.proofs.Common.{List, length, Some, None, slice_get, get_or}
-use Rattle.std.specs.Option.{option_map}
-use Rattle.std.proofs.lemmas.Bool.{cases_eq, cases_lt, eq-eqb, ne_eqb}
-use Rattle.std.proofs.lemmas.Option.{slice_get-get_or, slice_get_past}
-use Rattle.world_parts.specs.Partitions.{or_own, world_in, moved, IsPartition, IsParts, Respects, Joins}
+use Rattle.std.proofs.Common.{◌≡◌, ◌≢◌, ◌⊎◌, inl, inr, ℕ, ◌<◌, ◌≤◌, ◌==◌, Bool, true, false, refl, sym, ◌∙◌, ap, subst, arith}
+use Rattle.std.proofs.Common.{if◌then◌else◌, List, length, Some, None, slice_get, get_or, option_map, eq-eqb, ne_eqb}
+use Rattle.world_parts.specs.Partitions.{or_own, moved, IsPartition, Respects}
+use Rattle.{world_parts.specs.world_in, world_parts.specs.IsParts, world_parts.specs.Joins, std.proofs.lemmas.Bool.cases_eq}
+use Rattle.{std.proofs.lemmas.Bool.cases_lt, std.proofs.lemmas.Option.slice_get-get_or, std.proofs.lemmas.Option.slice_get_past}
 
 moved_here : (from to r : ℕ) → r ≡ from → moved from to r ≡ to
 moved_here from to r is = ap (λ b. if b then to else r) (eq-eqb r from is)

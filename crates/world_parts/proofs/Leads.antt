@@ -1,37 +1,28 @@
 -- In every state that a run reaches, what a place holds leads to frames of the machine alone.
-use Rattle.std.proofs.Common.{◌≡◌, inl, inr, ℕ, ◌+◌, ◌<◌, ◌≤◌, ◌&&◌, Bool, true, false, refl, sym, ◌∙◌, ap, subst, arith}
-use Rattle.std.proofs.Common.{List, IsTrue}
-use Rattle.std.proofs.lemmas.Bool.{false≢true, and_parts, cases_lt, ltb-true}
-use Rattle.spk_nums.specs.Setting.{Setting, IsSetting}
-use Rattle.spk_nums.specs.Capability.{Capability}
-use Rattle.spk_nums.specs.declared.kinds.Kind.{Kind}
-use Rattle.spk_nums.specs.declared.kinds.Kind.TheVariants as kind
-use Rattle.kernel_rules.specs.State.{Holds, Untyped, Kernel, Comp, CompFields, Limits, State}
-use Rattle.kernel_rules.specs.Access.{found}
-use Rattle.kernel_rules.specs.CapabilityCalls.{has_frame}
-use Rattle.kernel_rules.specs.Fitting.{fits, EndsWithin, IsGood}
-use Rattle.kernel_rules.specs.Runs.{Event, after, IsRun}
-use Rattle.kernel_invariant.proofs.Sound.{IsObjectGood, IsSound}
-use Rattle.kernel_invariant.proofs.SoundRuns.{opened, limits_stay, runs_sound}
-use Rattle.world_laws.specs.Worlds.{LeadsTo}
+use Rattle.seal_check.specs.world_laws.specs.kernel_laws.proofs.{◌≡◌, inl, inr, ℕ, ◌+◌, ◌<◌, ◌≤◌, ◌&&◌, Bool, true, false, refl, sym, ◌∙◌}
+use Rattle.seal_check.specs.world_laws.specs.kernel_laws.proofs.{ap, subst, arith, List, IsTrue, false≢true, ltb-true, Setting, IsSetting}
+use Rattle.seal_check.specs.world_laws.specs.kernel_laws.proofs.{Capability, Kind, Holds, Untyped, Kernel, Comp, CompFields, Limits, State}
+use Rattle.seal_check.specs.world_laws.specs.kernel_laws.proofs.{found, has_frame, fits, EndsWithin, IsGood, Event, after, IsRun}
+use Rattle.seal_check.specs.world_laws.specs.kernel_laws.proofs.{IsObjectGood, IsSound, opened, limits_stay, runs_sound}
+use Rattle.{std.proofs.lemmas.Bool.and_parts, std.proofs.lemmas.Bool.cases_lt, seal_check.specs.world_laws.specs.Worlds.LeadsTo}
 
 -- A capability leads to the machine's frames alone.
 abbrev pub LeadsWithin : ℕ → Capability → Type 0
 LeadsWithin n k = (f : ℕ) → LeadsTo k.kind k f → f < n
 
 -- Whether the object of a frame is one that capabilities name.
-typed : (j : Kind) → IsTrue (fits j Untyped) → j ≡ kind.Range
-typed kind.Range e = refl
-typed kind.Table e = absurd (false≢true e)
-typed kind.Leaf e = absurd (false≢true e)
-typed kind.Pages e = absurd (false≢true e)
-typed kind.Pleaf e = absurd (false≢true e)
-typed kind.Comp e = absurd (false≢true e)
-typed kind.Gate e = absurd (false≢true e)
-typed kind.Thread e = absurd (false≢true e)
-typed kind.Tcap e = absurd (false≢true e)
-typed kind.Link e = absurd (false≢true e)
-typed kind.Page e = absurd (false≢true e)
+typed : (j : Kind) → IsTrue (fits j Untyped) → j ≡ Kind.Range
+typed Kind.Range e = refl
+typed Kind.Table e = absurd (false≢true e)
+typed Kind.Leaf e = absurd (false≢true e)
+typed Kind.Pages e = absurd (false≢true e)
+typed Kind.Pleaf e = absurd (false≢true e)
+typed Kind.Comp e = absurd (false≢true e)
+typed Kind.Gate e = absurd (false≢true e)
+typed Kind.Thread e = absurd (false≢true e)
+typed Kind.Tcap e = absurd (false≢true e)
+typed Kind.Link e = absurd (false≢true e)
+typed Kind.Page e = absurd (false≢true e)
 
 in_range : (k : Capability) (f n : ℕ) → has_frame (found k) f ≡ true → k.frame + k.arg ≤ n → f < n
 in_range k f n e within =
@@ -39,24 +30,24 @@ in_range k f n e within =
     let below : f < k.frame + k.arg = ltb-true f (k.frame + k.arg) parts.1 in
     omega (arith, below, within)
 
-by_kind : (j : Kind) (k : Capability) (n : ℕ) → EndsWithin j k.frame k.arg n → ((j ≡ kind.Range → ⊥) → k.frame < n)
+by_kind : (j : Kind) (k : Capability) (n : ℕ) → EndsWithin j k.frame k.arg n → ((j ≡ Kind.Range → ⊥) → k.frame < n)
     → (f : ℕ) → LeadsTo j k f → f < n
-by_kind kind.Range k n within other f e = in_range k f n e within
-by_kind kind.Table k n within other f e = subst (λ g. g < n) (sym e) (other (λ q. cc))
-by_kind kind.Leaf k n within other f e = subst (λ g. g < n) (sym e) (other (λ q. cc))
-by_kind kind.Pages k n within other f e = subst (λ g. g < n) (sym e) (other (λ q. cc))
-by_kind kind.Pleaf k n within other f e = subst (λ g. g < n) (sym e) (other (λ q. cc))
-by_kind kind.Comp k n within other f e = subst (λ g. g < n) (sym e) (other (λ q. cc))
-by_kind kind.Gate k n within other f e = subst (λ g. g < n) (sym e) (other (λ q. cc))
-by_kind kind.Thread k n within other f e = subst (λ g. g < n) (sym e) (other (λ q. cc))
-by_kind kind.Tcap k n within other f e = subst (λ g. g < n) (sym e) (other (λ q. cc))
-by_kind kind.Link k n within other f e = subst (λ g. g < n) (sym e) (other (λ q. cc))
-by_kind kind.Page k n within other f e = subst (λ g. g < n) (sym e) (other (λ q. cc))
+by_kind Kind.Range k n within other f e = in_range k f n e within
+by_kind Kind.Table k n within other f e = subst (λ g. g < n) (sym e) (other (λ q. cc))
+by_kind Kind.Leaf k n within other f e = subst (λ g. g < n) (sym e) (other (λ q. cc))
+by_kind Kind.Pages k n within other f e = subst (λ g. g < n) (sym e) (other (λ q. cc))
+by_kind Kind.Pleaf k n within other f e = subst (λ g. g < n) (sym e) (other (λ q. cc))
+by_kind Kind.Comp k n within other f e = subst (λ g. g < n) (sym e) (other (λ q. cc))
+by_kind Kind.Gate k n within other f e = subst (λ g. g < n) (sym e) (other (λ q. cc))
+by_kind Kind.Thread k n within other f e = subst (λ g. g < n) (sym e) (other (λ q. cc))
+by_kind Kind.Tcap k n within other f e = subst (λ g. g < n) (sym e) (other (λ q. cc))
+by_kind Kind.Link k n within other f e = subst (λ g. g < n) (sym e) (other (λ q. cc))
+by_kind Kind.Page k n within other f e = subst (λ g. g < n) (sym e) (other (λ q. cc))
 
 good_within : (s : State) (o : ℕ → Bool) (k : Capability) → IsSound s o → IsGood s k → LeadsWithin s.limits.frames k
 good_within s o k sound good = by_kind k.kind k s.limits.frames good.within below
   where
-    below : (k.kind ≡ kind.Range → ⊥) → k.frame < s.limits.frames
+    below : (k.kind ≡ Kind.Range → ⊥) → k.frame < s.limits.frames
     below other = elim (cases_lt k.frame s.limits.frames) [
       | inl low ↦ low
       | inr past ↦ absurd (other (typed k.kind (subst (λ x. IsTrue (fits k.kind x)) (sound.beyond k.frame past) good.fit)))
@@ -78,14 +69,14 @@ pub fields_within : (setting : Setting) → IsSetting setting → (events : List
     → (after setting events).frame f ≡ Kernel (Comp k) → (k.table < setting.frames) × (k.pages < setting.frames)
 fields_within setting lim events run f k is =
     let s : State = after setting events in
-    let good : IsTrue (fits kind.Table (s.frame k.table)) × IsTrue (fits kind.Pages (s.frame k.pages)) =
+    let good : IsTrue (fits Kind.Table (s.frame k.table)) × IsTrue (fits Kind.Pages (s.frame k.pages)) =
     subst (IsObjectGood (after setting events)) is (sound.objects f) in
-    (within kind.Table k.table (λ e. cc) good.0, within kind.Pages k.pages (λ e. cc) good.1)
+    (within Kind.Table k.table (λ e. cc) good.0, within Kind.Pages k.pages (λ e. cc) good.1)
   where
     sound : IsSound (after setting events) (opened events)
     sound = runs_sound setting lim events run
 
-    within : (j : Kind) (g : ℕ) → (j ≡ kind.Range → ⊥) → IsTrue (fits j ((after setting events).frame g)) → g < setting.frames
+    within : (j : Kind) (g : ℕ) → (j ≡ Kind.Range → ⊥) → IsTrue (fits j ((after setting events).frame g)) → g < setting.frames
     within j g other fit = elim (cases_lt g (after setting events).limits.frames) [
       | inl low ↦ subst (λ n. g < n) (frames_are setting events) low
       | inr past ↦ absurd (other (typed j (subst (λ x. IsTrue (fits j x)) (sound.beyond g past) fit)))

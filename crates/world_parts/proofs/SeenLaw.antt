@@ -1,30 +1,18 @@
 -- What the words and the ends of a machine say of its worlds is so in the final state that they represent.
-use Rattle.std.proofs.Common.{◌≡◌, inl, inr, ℕ, ◌*◌, ◌<◌, ◌≤◌, ◌&&◌, Bool, true, false, nat_lt, refl, sym, ◌∙◌, ap, subst, arith}
-use Rattle.std.proofs.Common.{List, take, drop, slice_index, Option, Some, None, if◌then◌else◌}
-use Rattle.std.proofs.lemmas.Bool.{true≢false, cases_lt, lt-ltb, le-ltb}
-use Rattle.std.proofs.lemmas.List.{get_or-take, get_or-drop}
-use Rattle.spk_nums.specs.Setting.{Setting, IsSetting}
-use Rattle.entry_words.specs.EntryWord.{entry_of_word}
-use Rattle.entry_words.specs.declared.entry.Entry.{Entry}
-use Rattle.frame_words.specs.Comp.{comp_of_word}
-use Rattle.frame_words.specs.declared.frame_word.FrameWord.{FrameWord}
-use Rattle.word_map.specs.Word.{EntryAt}
-use Rattle.word_map.specs.Places.{Shape, place_of}
-use Rattle.machine_image.specs.Views.{ImageOf, word_at, node_words, held_by, component_of, component_at}
-use Rattle.kernel_rules.specs.State.{Place, Free, Holds, Quiescing, CompFields, Blank, Table, Leaf, Pages, Pleaf, Comp, Thread, Tcap}
-use Rattle.kernel_rules.specs.State.{Frame, Untyped, User, Kernel, Limits, State}
-use Rattle.kernel_rules.specs.Access.{held_in}
-use Rattle.kernel_rules.specs.Runs.{Event, after}
-use Rattle.kernel_invariant.proofs.SoundRuns.{limits_stay, runs_sound}
-use Rattle.kernel_history.specs.ObjectWords.{holds_node, frame_value}
-use Rattle.kernel_history.specs.FinalWords.{SaysPlace, AreComp, AreEntries, AreFrame}
-use Rattle.world_laws.specs.Worlds.{works_in}
-use Rattle.seal_check.proofs.Reached.{held_within}
-use Rattle.world_parts.specs.Sight.{fields_of, is_untyped, sight_of}
-use Rattle.world_parts.specs.Seen.{is_node, is_comp, says, says_untyped, fields, frame_said, held_seen}
-use Rattle.world_parts.specs.Seen.{comp_seen, untyped_seen, works_seen, seen}
-use Rattle.world_parts.specs.Last.{IsLast}
-use Rattle.world_parts.proofs.Leads.{fields_within}
+use Rattle.kernel_history.proofs.{◌≡◌, inl, inr, ℕ, ◌*◌, ◌<◌, ◌≤◌, ◌&&◌, Bool, true, false, ltb as nat_lt, refl, sym, ◌∙◌, ap, subst, arith}
+use Rattle.kernel_history.proofs.{List, take, drop, slice_index, Option, Some, None, if◌then◌else◌, true≢false, lt-ltb, le-ltb, Setting}
+use Rattle.kernel_history.proofs.{IsSetting, entry_of_word, Entry, comp_of_word, FrameWord, EntryAt, Shape, place_of, Place, Free, Holds}
+use Rattle.kernel_history.proofs.{Quiescing, CompFields, Blank, Table, Leaf, Pages, Pleaf, Comp, Thread, Tcap, Frame, Untyped, User, Kernel}
+use Rattle.kernel_history.proofs.{Limits, State, held_in, Event, after, holds_node, frame_value, SaysPlace, AreFrame}
+use Rattle.machine_image.specs.{ImageOf, word_at, node_words, held_by, component_at}
+use Rattle.world_parts.specs.{sight_of, IsLast}
+use Rattle.std.proofs.Common.{get_or-take, get_or-drop}
+use Rattle.seal_check.specs.world_laws.specs.kernel_laws.proofs.{limits_stay, runs_sound}
+use Rattle.kernel_history.specs.FinalWords.{AreComp, AreEntries}
+use Rattle.world_parts.specs.{Sight.fields_of, Sight.is_untyped, Seen.is_node, Seen.is_comp, Seen.says, Seen.says_untyped, Seen.fields}
+use Rattle.world_parts.specs.{Seen.frame_said, Seen.held_seen, Seen.comp_seen, Seen.untyped_seen, Seen.works_seen, Seen.seen}
+use Rattle.{std.proofs.lemmas.Bool.cases_lt, machine_image.specs.Views.component_of, seal_check.specs.world_laws.specs.Worlds.works_in}
+use Rattle.{seal_check.proofs.Reached.held_within, world_parts.proofs.Leads.fields_within}
 
 node_word : (shape : Shape) (words : List ℕ) (f i : ℕ) → i < 64 → slice_index (node_words words f) i ≡ word_at shape words (EntryAt f i)
 unfolding place_of

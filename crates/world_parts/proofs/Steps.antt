@@ -1,18 +1,10 @@
 -- Joinings one after another, in the order of frames and places.
-use Rattle.std.proofs.Common.{◌≡◌, ◌⊎◌, inl, inr, ℕ, ◌+◌, ◌<◌, ◌≤◌, Bool, true, false, refl, sym, ◌∙◌}
-use Rattle.std.proofs.Common.{ap, subst, arith, List, Option, Some, None}
-use Rattle.std.proofs.lemmas.Bool.{false≢true, cases_lt}
-use Rattle.spk_nums.specs.Capability.{Capability}
-use Rattle.spk_nums.specs.declared.kinds.Kind.{Kind}
-use Rattle.spk_nums.specs.declared.kinds.Kind.TheVariants as kind
-use Rattle.kernel_rules.specs.Access.{found}
-use Rattle.kernel_rules.specs.CapabilityCalls.{has_frame}
-use Rattle.world_laws.specs.Worlds.{LeadsTo}
-use Rattle.seal_check.specs.Holding.{holds}
-use Rattle.world_parts.specs.Sight.{Sight}
-use Rattle.world_parts.specs.Led.{HasField, Reaches, HoldsBelow, HoldsFrame, IsHeldBelow, InRange, AreWith}
-use Rattle.world_parts.specs.Partitions.{Joins, world_in}
+use Rattle.kernel_history.proofs.{◌≡◌, ◌⊎◌, inl, inr, ℕ, ◌+◌, ◌<◌, ◌≤◌, Bool, true, false, refl, sym, ◌∙◌, ap, subst, arith, List, Option}
+use Rattle.kernel_history.proofs.{Some, None, false≢true, Capability, Kind, found, has_frame}
+use Rattle.world_parts.specs.{HasField, Reaches, IsHeldBelow, AreWith, Joins, world_in}
+use Rattle.world_parts.specs.{Sight.Sight, Led.HoldsBelow, Led.HoldsFrame, Led.InRange}
 use Rattle.world_parts.proofs.JoinLaws.{joins_none, joins_then, joins_as}
+use Rattle.{std.proofs.lemmas.Bool.cases_lt, seal_check.specs.world_laws.specs.Worlds.LeadsTo, seal_check.specs.Holding.holds}
 
 -- ---- a range
 
@@ -66,19 +58,19 @@ range_again k before node least are same = joins_none (λ f g. (f ≡ node) × (
 -- ---- a place
 
 -- A capability that is no range leads to its own frame.
-pub led_other : (j : Kind) (k : Capability) (node : ℕ) (old new : ℕ → ℕ) → (j ≡ kind.Range → ⊥)
+pub led_other : (j : Kind) (k : Capability) (node : ℕ) (old new : ℕ → ℕ) → (j ≡ Kind.Range → ⊥)
     → Joins (λ f g. (f ≡ node) × (g ≡ k.frame)) old new → Joins (λ f g. (f ≡ node) × LeadsTo j k g) old new
-led_other kind.Range k node old new other a = absurd (other refl)
-led_other kind.Table k node old new other a = a
-led_other kind.Leaf k node old new other a = a
-led_other kind.Pages k node old new other a = a
-led_other kind.Pleaf k node old new other a = a
-led_other kind.Comp k node old new other a = a
-led_other kind.Gate k node old new other a = a
-led_other kind.Thread k node old new other a = a
-led_other kind.Tcap k node old new other a = a
-led_other kind.Link k node old new other a = a
-led_other kind.Page k node old new other a = a
+led_other Kind.Range k node old new other a = absurd (other refl)
+led_other Kind.Table k node old new other a = a
+led_other Kind.Leaf k node old new other a = a
+led_other Kind.Pages k node old new other a = a
+led_other Kind.Pleaf k node old new other a = a
+led_other Kind.Comp k node old new other a = a
+led_other Kind.Gate k node old new other a = a
+led_other Kind.Thread k node old new other a = a
+led_other Kind.Tcap k node old new other a = a
+led_other Kind.Link k node old new other a = a
+led_other Kind.Page k node old new other a = a
 
 pub cap_free : (k : Capability) (node : ℕ) (world : ℕ → ℕ) → holds k ≡ false
     → Joins (λ f g. (f ≡ node) × ((holds k ≡ true) × LeadsTo k.kind k g)) world world

@@ -1,12 +1,7 @@
 -- The finest partition of frames into worlds that are apart.
-use Rattle.std.specs.Prelude.{◌≡◌, ℕ, Bool, List, ◌==◌}
-use Rattle.spk_nums.specs.Setting.{Setting}
-use Rattle.machine_image.specs.Views.{ImageOf}
-use Rattle.kernel_rules.specs.State.{State}
-use Rattle.kernel_rules.specs.Runs.{Event, after}
-use Rattle.world_laws.specs.Worlds.{gates, AreApart}
-use Rattle.world_parts.specs.Last.{IsLast}
-use Rattle.world_parts.specs.Partitions.{IsPartition, Respects, world_in}
+use Rattle.kernel_history.specs.{◌≡◌, ℕ, Bool, List, ◌==◌, Setting, State, Event, after}
+use Rattle.world_parts.specs.{Last.IsLast, Partitions.IsPartition, Partitions.Respects, Partitions.world_in}
+use Rattle.{seal_check.specs.world_laws.specs.gates, seal_check.specs.world_laws.specs.AreApart, machine_image.specs.Views.ImageOf}
 
 -- Each frame has the least frame of its world. Each world and all the rest are joined by gates alone; and two frames of one world are on
 -- one side of every set of frames of which that is so.

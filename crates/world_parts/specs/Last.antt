@@ -1,9 +1,6 @@
 -- The image of a machine's final state.
-use Rattle.std.specs.Prelude.{◌≡◌, ℕ, List}
-use Rattle.spk_nums.specs.Setting.{Setting, IsSetting}
-use Rattle.machine_image.specs.Views.{ImageOf}
-use Rattle.kernel_rules.specs.Runs.{Event, after, phase_of, Out, IsRun}
-use Rattle.kernel_history.specs.FinalWords.{Represent, word_in, end_in}
+use Rattle.kernel_history.specs.{◌≡◌, ℕ, List, Setting, IsSetting, Event, after, phase_of, IsRun, Represent, word_in, end_in}
+use Rattle.{machine_image.specs.Views.ImageOf, kernel_history.specs.kernel_rules.specs.Runs.Out}
 
 -- The words and the ends represent the state after a run, and no core is then in a call.
 pub record IsLast (setting : Setting) (events : List Event) (m : ImageOf) : Type 0 where

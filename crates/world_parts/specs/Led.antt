@@ -1,12 +1,7 @@
 -- Which frames a frame of a machine is joined with.
-use Rattle.std.specs.Prelude.{◌≡◌, ◌<◌, ◌⊎◌, ℕ, List, true, Option, Some, None}
-use Rattle.spk_nums.specs.Capability.{Capability}
-use Rattle.kernel_rules.specs.Access.{found}
-use Rattle.kernel_rules.specs.CapabilityCalls.{has_frame}
-use Rattle.world_laws.specs.Worlds.{LeadsTo}
-use Rattle.seal_check.specs.Holding.{holds}
-use Rattle.world_parts.specs.Partitions.{world_in}
-use Rattle.world_parts.specs.Sight.{Sight}
+use Rattle.kernel_history.specs.{◌≡◌, ◌<◌, ◌⊎◌, ℕ, List, true, Option, Some, None, Capability, found, has_frame}
+use Rattle.world_parts.specs.{Partitions.world_in, Sight.Sight}
+use Rattle.{seal_check.specs.world_laws.specs.Worlds.LeadsTo, seal_check.specs.Holding.holds}
 
 -- A component has its table or its pages in frame g.
 abbrev pub HasField : Option (ℕ × ℕ) → ℕ → Type 0

@@ -8,3 +8,6 @@ pub mod Last
 pub mod Partitions
 pub mod Led
 pub mod Finest
+-- The names that are used most outside of this library.
+pub use Rattle.world_parts.specs.{Finest.IsFinest, Last.IsLast, Led.HasField, Led.AreWith, Led.IsHeldBelow, Led.Reaches, Partitions.world_in}
+pub use Rattle.world_parts.specs.{Partitions.Joins, Partitions.IsParts, Sight.sight_of}

@@ -1,6 +1,5 @@
 -- Partitions of frames in lists, and how they are joined.
-use Rattle.std.specs.Prelude.{◌≡◌, ◌<◌, ◌≤◌, ◌==◌, if◌then◌else◌, ℕ, Bool, List, length, Option, Some, None, slice_get}
-use Rattle.std.specs.Option.{option_map}
+use Rattle.std.specs.Prelude.{◌≡◌, ◌<◌, ◌≤◌, ◌==◌, if◌then◌else◌, ℕ, Bool, List, length, Option, Some, None, slice_get, option_map}
 
 -- What a list has at a number, or the number itself past its end.
 abbrev pub or_own : ℕ → Option ℕ → ℕ

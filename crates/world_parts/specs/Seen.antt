@@ -1,45 +1,35 @@
 -- The same as the words of a machine and the ends of its cores say it.
-use Rattle.std.specs.Prelude.{ℕ, Bool, true, false, nat_lt, ◌&&◌, if◌then◌else◌, Option, Some, None, slice_index}
-use Rattle.spk_nums.specs.Capability.{Capability}
-use Rattle.spk_nums.specs.declared.kinds.FrameKind.{FrameKind}
-use Rattle.spk_nums.specs.declared.kinds.FrameKind.TheVariants as frame_kind
-use Rattle.spk_nums.specs.declared.kinds.Obj.{Obj}
-use Rattle.spk_nums.specs.declared.kinds.Obj.TheVariants as obj
-use Rattle.entry_words.specs.EntryWord.{entry_of_word}
-use Rattle.frame_words.specs.Frame.{frame_of_word}
-use Rattle.frame_words.specs.declared.frame_word.FrameWord.{FrameWord}
-use Rattle.word_map.specs.Word.{FrameAt}
-use Rattle.machine_image.specs.declared.image.Component.{Component}
-use Rattle.machine_image.specs.Views.{ImageOf, word_at, node_words, held_by, component_at}
-use Rattle.kernel_history.specs.FinalWords.{end_in}
-use Rattle.world_parts.specs.Sight.{Sight}
+use Rattle.kernel_history.specs.{ℕ, Bool, true, false, ltb as nat_lt, ◌&&◌, if◌then◌else◌, Option, Some, None, slice_index, Capability}
+use Rattle.kernel_history.specs.{FrameKind, Obj, entry_of_word, frame_of_word, FrameWord, FrameAt, end_in}
+use Rattle.machine_image.specs.{ImageOf, word_at, node_words, held_by, component_at}
+use Rattle.{machine_image.specs.declared.image.Component.Component, world_parts.specs.Sight.Sight}
 
 -- Whether an object is a node, whose words are entries.
 abbrev pub is_node : Obj → Bool
-is_node obj.Blank = false
-is_node obj.Table = true
-is_node obj.Leaf = true
-is_node obj.Pages = true
-is_node obj.Pleaf = true
-is_node obj.Comp = false
-is_node obj.Thread = false
-is_node obj.Tcap = false
+is_node Obj.Blank = false
+is_node Obj.Table = true
+is_node Obj.Leaf = true
+is_node Obj.Pages = true
+is_node Obj.Pleaf = true
+is_node Obj.Comp = false
+is_node Obj.Thread = false
+is_node Obj.Tcap = false
 
 abbrev pub is_comp : Obj → Bool
-is_comp obj.Blank = false
-is_comp obj.Table = false
-is_comp obj.Leaf = false
-is_comp obj.Pages = false
-is_comp obj.Pleaf = false
-is_comp obj.Comp = true
-is_comp obj.Thread = false
-is_comp obj.Tcap = false
+is_comp Obj.Blank = false
+is_comp Obj.Table = false
+is_comp Obj.Leaf = false
+is_comp Obj.Pages = false
+is_comp Obj.Pleaf = false
+is_comp Obj.Comp = true
+is_comp Obj.Thread = false
+is_comp Obj.Tcap = false
 
 -- Whether a frame's word says an object of which this is so.
 abbrev pub has_kind : (Obj → Bool) → FrameKind → Obj → Bool
-has_kind is frame_kind.Untyped object = false
-has_kind is frame_kind.User object = false
-has_kind is frame_kind.Kernel object = is object
+has_kind is FrameKind.Untyped object = false
+has_kind is FrameKind.User object = false
+has_kind is FrameKind.Kernel object = is object
 
 abbrev pub says : (Obj → Bool) → Option FrameWord → Bool
 says is None = false
@@ -47,9 +37,9 @@ says is (Some v) = has_kind is v.kind v.object
 
 -- Whether it says that the frame is untyped.
 abbrev pub kind_untyped : FrameKind → Bool
-kind_untyped frame_kind.Untyped = true
-kind_untyped frame_kind.User = false
-kind_untyped frame_kind.Kernel = false
+kind_untyped FrameKind.Untyped = true
+kind_untyped FrameKind.User = false
+kind_untyped FrameKind.Kernel = false
 
 abbrev pub says_untyped : Option FrameWord → Bool
 says_untyped None = true

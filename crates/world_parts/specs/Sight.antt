@@ -1,9 +1,7 @@
 -- What of a machine its worlds are told by, once no core is in a call.
-use Rattle.std.specs.Prelude.{ℕ, Bool, true, false, nat_lt, if◌then◌else◌, Option, Some, None}
-use Rattle.spk_nums.specs.Capability.{Capability}
-use Rattle.kernel_rules.specs.State.{Comp, Frame, Untyped, Kernel, State}
-use Rattle.kernel_rules.specs.Access.{held_in}
-use Rattle.world_laws.specs.Worlds.{works_in}
+use Rattle.kernel_history.specs.{ℕ, Bool, true, false, ltb as nat_lt, if◌then◌else◌, Option, Some, None, Capability, Comp, Frame, Untyped}
+use Rattle.kernel_history.specs.{Kernel, State, held_in}
+use Rattle.seal_check.specs.world_laws.specs.Worlds.{works_in}
 
 -- How many frames and cores there are, what each place holds, the table and the pages of each component, which frames are untyped, and in
 -- which component each core works.

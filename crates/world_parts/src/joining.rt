@@ -1,9 +1,9 @@
 //! The finest partition of a machine's frames into worlds that are apart.
 
 ghost use Rattle.std.specs.Prelude.{◌≡◌, ◌⊎◌, None, true};
-ghost use Rattle.kernel_rules.specs.Access.{found};
-ghost use Rattle.kernel_rules.specs.CapabilityCalls.{has_frame};
-ghost use Rattle.world_laws.specs.Worlds.{LeadsTo};
+ghost use Rattle.kernel_history.specs.kernel_rules.specs.Access.{found};
+ghost use Rattle.kernel_history.specs.kernel_rules.specs.CapabilityCalls.{has_frame};
+ghost use Rattle.seal_check.specs.world_laws.specs.Worlds.{LeadsTo};
 ghost use Rattle.seal_check.specs.Holding.{holds};
 ghost use Rattle.world_parts.specs.Seen.{seen};
 ghost use Rattle.world_parts.specs.Partitions.{JoinsBy};

@@ -1,10 +1,8 @@
 -- On whose side a step is, where two worlds divide a machine.
-use Rattle.std.specs.Prelude.{◌≡◌, ◌<◌, ◌↔◌, ℕ, ◌%◌}
-use Rattle.spk_nums.specs.declared.steps.WordOp.{WordOp}
+use Rattle.step_views.specs.kernel_rules.specs.{◌≡◌, ◌<◌, ◌↔◌, ℕ, ◌%◌, WordOp}
 use Rattle.spk_nums.specs.declared.steps.WordOp.TheVariants.{Load, Compare, Store, Add}
-use Rattle.step_views.specs.declared.names.WordName.{WordName}
 use Rattle.step_views.specs.declared.names.WordName.TheVariants.{Entry, Frame, Count, Core, Flush, Live, Clock}
-use Rattle.step_views.specs.declared.views.StepView.{StepView}
+use Rattle.{step_views.specs.declared.names.WordName.WordName, step_views.specs.declared.views.StepView.StepView}
 
 -- A frame is this core's: it is below the given one exactly where the core is core 0.
 abbrev pub IsOfFrame : ℕ → ℕ → ℕ → Type 0

@@ -2,7 +2,7 @@
 
 ghost use Rattle.std.specs.Prelude.{◌≡◌};
 ghost use Rattle.byte_ends.specs.Ends.{HasRisen};
-ghost use Rattle.whole_ends.specs.Ends.{Gives};
+ghost use Rattle.speck_run.specs.whole_ends.specs.Ends.{Gives};
 ghost use Rattle.speck_run.specs.Top.{AsksLoad, IsCommand, IsUnderstood, IsUnlessUnwritten};
 
 use byte_ends::{Sink, Source};

@@ -2,7 +2,7 @@
 
 ghost use Rattle.std.specs.Prelude.{◌≡◌, ◌<◌, ◌^◌, All, IfOk, IfSome, length, map, string_bytes};
 ghost use Rattle.trace_run.specs.lone_kernel.specs.Machine.{AreLists};
-ghost use Rattle.ends_run.specs.Whole.{FewCalls, FewAsks};
+ghost use Rattle.speck_run.specs.ends_run.specs.Whole.{FewCalls, FewAsks};
 ghost use Rattle.load_maker.specs.Loads.{load_text};
 ghost use Rattle.one_core.specs.Scheduled.{IsSchedText};
 ghost use Rattle.speck_run.specs.Ends.{EndsText};

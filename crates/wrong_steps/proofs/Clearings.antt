@@ -1,27 +1,14 @@
 -- What the wrong retype makes is no history: a count word is still frozen.
-use Rattle.std.proofs.Common.{◌<◌, refl, sym, ap, arith}
-use Rattle.std.specs.Prelude.{is_some}
-use Rattle.std.proofs.lemmas.Bool.{false≢true}
-use Rattle.spk_nums.specs.declared.kinds.FrameKind.TheVariants as frame_kind
-use Rattle.spk_nums.specs.declared.calls.Call.TheVariants as call
-use Rattle.entry_words.specs.EntryWord.{word_of_entry}
-use Rattle.frame_words.specs.Count.{word_of_count, count_of_word}
-use Rattle.frame_words.specs.Frame.{word_of_frame}
-use Rattle.kernel_rules.specs.References.{sum_below, node_refs, refs}
-use Rattle.kernel_history.specs.Counts.{RepresentCounts}
-use Rattle.kernel_history.specs.Legal.{IsLegal}
-use Rattle.kernel_history.specs.Marks.{hold_mark}
-use Rattle.kernel_history.specs.Trace.{state_after, last_left}
-use Rattle.kernel_history.specs.Scenes.{two_cores}
-use Rattle.kernel_history.proofs.Computed.{may_follow}
-use Rattle.kernel_history.proofs.Unjustified.{carried_out}
+use Rattle.kernel_history.proofs.{◌<◌, refl, sym, ap, arith, is_some, false≢true, word_of_entry, word_of_count, count_of_word}
+use Rattle.kernel_history.proofs.{word_of_frame, sum_below, node_refs, refs, RepresentCounts, IsLegal, hold_mark, state_after, last_left}
+use Rattle.kernel_history.proofs.{two_cores, may_follow, carried_out, FrameKind, Call}
 use Rattle.wrong_steps.specs.Clearings.{made_user, counts_frozen, left_frozen, RetypesLeaveCounts}
 
 made_legal : IsLegal two_cores made_user
 unfolding two_cores made_user word_of_entry word_of_frame
 made_legal = (
   (((tt, may_follow refl refl (refl, tt) tt tt), may_follow refl refl tt tt tt), may_follow refl refl tt tt tt),
-  may_follow refl refl tt (carried_out {k = call.Retype 0 8 frame_kind.User} refl (refl, (refl, refl)) refl) tt,
+  may_follow refl refl tt (carried_out {k = Call.Retype 0 8 FrameKind.User} refl (refl, (refl, refl)) refl) tt,
 )
 
 frozen_legal : IsLegal two_cores counts_frozen
@@ -35,7 +22,7 @@ frozen_legal = (
             (
               (
                 (
-                  (made_legal, may_follow refl refl tt tt (record { call = call.Retype 0 8 frame_kind.User; was_decided = refl })),
+                  (made_legal, may_follow refl refl tt tt (record { call = Call.Retype 0 8 FrameKind.User; was_decided = refl })),
                   may_follow refl refl (refl, tt) tt tt,
                 ),
                 may_follow refl refl tt tt tt,
@@ -59,10 +46,10 @@ left_legal : IsLegal two_cores left_frozen
 unfolding two_cores made_user counts_frozen left_frozen word_of_entry word_of_frame sum_below node_refs refs
 left_legal = (
   (
-    (frozen_legal, may_follow refl refl tt (carried_out {k = call.Retype 0 8 frame_kind.Untyped} refl (refl, (refl, refl)) refl) tt),
+    (frozen_legal, may_follow refl refl tt (carried_out {k = Call.Retype 0 8 FrameKind.Untyped} refl (refl, (refl, refl)) refl) tt),
     may_follow refl refl tt tt tt,
   ),
-  may_follow refl refl tt tt (record { call = call.Retype 0 8 frame_kind.Untyped; was_decided = refl }),
+  may_follow refl refl tt tt (record { call = Call.Retype 0 8 FrameKind.Untyped; was_decided = refl }),
 )
 
 still_frozen : RepresentCounts (last_left two_cores left_frozen) (state_after two_cores left_frozen) → ⊥

@@ -1,16 +1,8 @@
 -- What the wrong copies make is no history.
-use Rattle.std.proofs.Common.{◌≡◌, ◌≤◌, [], refl, sym, ap, arith}
-use Rattle.spk_nums.specs.Rights.{whole_copy}
-use Rattle.spk_nums.specs.Bounds.{bound_of}
-use Rattle.spk_nums.specs.declared.calls.Call.{Call}
-use Rattle.entry_words.specs.EntryWord.{word_of_entry}
-use Rattle.kernel_history.specs.Legal.{IsLegal}
-use Rattle.kernel_history.specs.Scenes.{two_cores}
-use Rattle.kernel_history.proofs.Computed.{may_follow, some_call}
-use Rattle.kernel_history.proofs.Unjustified.{carried_out, not_permitted}
-use Rattle.wrong_steps.specs.Acts.{copying}
+use Rattle.kernel_history.proofs.{◌≡◌, ◌≤◌, [], refl, sym, ap, arith, whole_copy, Call, word_of_entry, IsLegal, two_cores, may_follow}
 use Rattle.wrong_steps.specs.Copies.{copied_once, copied_twice, lost, tried, CopiesOverwrite, RetriesGoOn}
-use Rattle.wrong_steps.proofs.Unanswered.{no_answer}
+use Rattle.{kernel_history.proofs.carried_out, kernel_history.proofs.not_permitted, kernel_history.specs.spk_nums.specs.Bounds.bound_of}
+use Rattle.{kernel_history.proofs.Computed.some_call, wrong_steps.specs.Acts.copying, wrong_steps.proofs.Unanswered.no_answer}
 
 both_copying : IsLegal two_cores (copying 1 (copying 0 []))
 unfolding two_cores word_of_entry

@@ -1,20 +1,8 @@
 -- What the wrong transfer makes is no history: a budget has more ticks than the state gives it.
-use Rattle.std.proofs.Common.{◌≡◌, ℕ, ◌<◌, ◌≤◌, inl, inr, refl, ap, arith}
-use Rattle.std.specs.Prelude.{Option, Some, None}
-use Rattle.spk_nums.specs.declared.calls.Call.TheVariants as call
-use Rattle.spk_nums.specs.declared.replies.Value.TheVariants.{Amount}
-use Rattle.spk_nums.specs.declared.translations.CoreEnd.{CoreEnd}
-use Rattle.entry_words.specs.EntryWord.{word_of_entry}
-use Rattle.tcap_words.specs.Head.{word_of_head, head_of_word}
-use Rattle.tcap_words.specs.declared.head_word.HeadWord.{HeadWord}
-use Rattle.stage_tcap.specs.Heads.{head}
-use Rattle.kernel_history.specs.FinalWords.{Represent}
-use Rattle.kernel_history.specs.Legal.{IsLegal}
-use Rattle.kernel_history.specs.Trace.{state_after, last_left}
-use Rattle.kernel_history.specs.Scenes.{two_cores}
-use Rattle.kernel_history.proofs.Computed.{may_follow}
-use Rattle.kernel_history.proofs.Unjustified.{carried_out}
+use Rattle.kernel_history.proofs.{◌≡◌, ℕ, ◌<◌, ◌≤◌, inl, inr, refl, ap, arith, Option, Some, None, CoreEnd, word_of_entry, word_of_head}
+use Rattle.kernel_history.proofs.{head_of_word, HeadWord, Represent, IsLegal, state_after, last_left, two_cores, may_follow, carried_out}
 use Rattle.wrong_steps.specs.Credits.{credited, ticked, kept_credit, TransfersKeep}
+use Rattle.{kernel_history.proofs.Call, act_states.specs.Amount, act_states.specs.head}
 
 credited_legal : IsLegal two_cores credited
 unfolding two_cores credited word_of_entry word_of_head
@@ -37,9 +25,9 @@ unfolding two_cores credited ticked word_of_entry word_of_head
 ticked_legal = let least : 1 ≤ 1000000 = omega arith in (
   (
     ((credited_legal, may_follow refl refl (refl, least) tt tt), may_follow refl refl tt tt tt),
-    may_follow refl refl tt (carried_out {k = call.Tick 1} {v = Amount 1} refl (refl, (refl, refl)) refl) tt,
+    may_follow refl refl tt (carried_out {k = Call.Tick 1} {v = Amount 1} refl (refl, (refl, refl)) refl) tt,
   ),
-  may_follow refl refl tt tt (record { call = call.Tick 1; was_decided = refl }),
+  may_follow refl refl tt tt (record { call = Call.Tick 1; was_decided = refl }),
 )
 
 kept_legal : IsLegal two_cores kept_credit
@@ -48,7 +36,7 @@ kept_legal = (
   (
     ticked_legal,
     may_follow refl refl tt (record {
-      call = call.Transfer 13 12 10;
+      call = Call.Transfer 13 12 10;
       is_open = refl;
       permitted = (refl, tt);
       justified = record {
@@ -60,7 +48,7 @@ kept_legal = (
       };
     }) tt,
   ),
-  may_follow refl refl tt tt (record { call = call.Transfer 13 12 10; was_decided = refl }),
+  may_follow refl refl tt tt (record { call = Call.Transfer 13 12 10; was_decided = refl }),
 )
 
 abbrev budget_in : Option HeadWord → ℕ

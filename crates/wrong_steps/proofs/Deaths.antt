@@ -1,17 +1,8 @@
 -- What the wrong kill makes is no history: the component is not dead before the kill is decided.
-use Rattle.std.proofs.Common.{refl}
-use Rattle.std.proofs.lemmas.Bool.{true≢false, false≢true}
-use Rattle.spk_nums.specs.declared.calls.Call.TheVariants as call
-use Rattle.entry_words.specs.EntryWord.{word_of_entry}
-use Rattle.frame_words.specs.Comp.{word_of_comp}
-use Rattle.frame_words.specs.Live.{word_of_live, live_of_word}
-use Rattle.kernel_history.specs.Legal.{IsLegal}
-use Rattle.kernel_history.specs.Scenes.{two_cores}
-use Rattle.kernel_history.proofs.Computed.{neither, none, may_follow}
-use Rattle.kernel_history.proofs.Unjustified.{not_permitted}
-use Rattle.wrong_steps.specs.Invocations.{gated}
-use Rattle.wrong_steps.specs.Deaths.{killing, calling, refused_dead, KillsShow}
-use Rattle.wrong_steps.proofs.Invocations.{gated_legal}
+use Rattle.kernel_history.proofs.{refl, true≢false, false≢true, word_of_entry, word_of_live, live_of_word, IsLegal, two_cores, neither}
+use Rattle.kernel_history.proofs.{none, may_follow, not_permitted, Call}
+use Rattle.wrong_steps.specs.{Invocations.gated, Deaths.killing, Deaths.calling, Deaths.refused_dead, Deaths.KillsShow}
+use Rattle.{kernel_history.specs.frame_words.specs.Comp.word_of_comp, wrong_steps.proofs.Invocations.gated_legal}
 
 killing_legal : IsLegal two_cores killing
 unfolding two_cores gated killing word_of_entry word_of_comp word_of_live
@@ -21,7 +12,7 @@ killing_legal = (
       (
         (
           (
-            (gated_legal, may_follow refl refl tt tt (record { call = call.Gate 3 1 20; was_decided = refl })),
+            (gated_legal, may_follow refl refl tt tt (record { call = Call.Gate 3 1 20; was_decided = refl })),
             may_follow refl refl (refl, tt) tt tt,
           ),
           may_follow refl refl tt tt tt,
@@ -46,6 +37,6 @@ pub kills_show : KillsShow
 unfolding two_cores gated killing calling refused_dead word_of_live live_of_word
 kills_show = record {
   legal = calling_legal;
-  refused = λ legal. not_permitted (call.Call 20) refl legal.1.decides (λ may. neither (λ lost. true≢false lost.1)
+  refused = λ legal. not_permitted (Call.Call 20) refl legal.1.decides (λ may. neither (λ lost. true≢false lost.1)
       (neither none (neither (λ deep. false≢true deep.0) (neither (λ dead. false≢true dead.0) none))) may.1);
 }

@@ -1,13 +1,7 @@
 -- What the wrong removal makes is no history: the place is filled while core 1 may still use what stood there.
-use Rattle.std.proofs.Common.{refl, arith}
-use Rattle.spk_nums.specs.Rights.{whole_copy}
-use Rattle.spk_nums.specs.declared.calls.Call.TheVariants as call
-use Rattle.entry_words.specs.EntryWord.{word_of_entry, entry_of_word}
-use Rattle.kernel_history.specs.Legal.{IsLegal}
-use Rattle.kernel_history.specs.Scenes.{two_cores, range_word}
-use Rattle.kernel_history.proofs.Computed.{may_follow}
-use Rattle.kernel_history.proofs.Unjustified.{carried_out, not_permitted}
+use Rattle.kernel_history.proofs.{refl, arith, whole_copy, word_of_entry, entry_of_word, IsLegal, two_cores, may_follow, carried_out}
 use Rattle.wrong_steps.specs.Freeings.{freed, looked_up, filled_at_once, RemovalsFree}
+use Rattle.{kernel_history.proofs.not_permitted, kernel_history.proofs.Call, kernel_history.specs.Scenes.range_word}
 
 freed_legal : IsLegal two_cores freed
 unfolding two_cores range_word freed word_of_entry
@@ -27,11 +21,11 @@ freed_legal = (
         ),
         may_follow refl refl tt tt tt,
       ),
-      may_follow refl refl tt (carried_out {k = call.Remove 1 0} refl (refl, (refl, refl)) refl) tt,
+      may_follow refl refl tt (carried_out {k = Call.Remove 1 0} refl (refl, (refl, refl)) refl) tt,
     ),
     may_follow refl refl tt tt tt,
   ),
-  may_follow refl refl tt tt (record { call = call.Remove 1 0; was_decided = refl }),
+  may_follow refl refl tt tt (record { call = Call.Remove 1 0; was_decided = refl }),
 )
 
 looked_legal : IsLegal two_cores looked_up

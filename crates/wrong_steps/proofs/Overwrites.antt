@@ -1,26 +1,14 @@
 -- What the wrong acquisition makes is no history: the counts sum to one reference less than stands.
-use Rattle.std.proofs.Common.{◌≡◌, ◌<◌, inl, inr, refl, arith}
-use Rattle.spk_nums.specs.Rights.{whole_copy}
-use Rattle.spk_nums.specs.declared.kinds.FrameKind.TheVariants as frame_kind
-use Rattle.spk_nums.specs.declared.calls.Make.TheVariants as make
-use Rattle.spk_nums.specs.declared.calls.Call.TheVariants as call
-use Rattle.entry_words.specs.EntryWord.{word_of_entry}
-use Rattle.frame_words.specs.Count.{word_of_count, count_of_word}
-use Rattle.frame_words.specs.Frame.{word_of_frame}
-use Rattle.kernel_rules.specs.References.{sum_below, node_refs, refs}
-use Rattle.kernel_history.specs.Counts.{RepresentCounts}
-use Rattle.kernel_history.specs.Legal.{IsLegal}
-use Rattle.kernel_history.specs.Trace.{state_after, last_left}
-use Rattle.kernel_history.specs.Scenes.{two_cores}
-use Rattle.kernel_history.proofs.Computed.{may_follow}
-use Rattle.kernel_history.proofs.Unjustified.{carried_out}
+use Rattle.kernel_history.proofs.{◌≡◌, ◌<◌, inl, inr, refl, arith, whole_copy, word_of_entry, word_of_count, count_of_word, word_of_frame}
+use Rattle.kernel_history.proofs.{sum_below, node_refs, refs, RepresentCounts, IsLegal, state_after, last_left, two_cores, may_follow}
+use Rattle.kernel_history.proofs.{carried_out, FrameKind, Make, Call}
 use Rattle.wrong_steps.specs.Overwrites.{typed, made, copying, frozen_counts, copied, given_back, AcquisitionsOverwrite}
 
 typed_legal : IsLegal two_cores typed
 unfolding two_cores typed word_of_entry word_of_frame
 typed_legal = (
   (((tt, may_follow refl refl (refl, tt) tt tt), may_follow refl refl tt tt tt), may_follow refl refl tt tt tt),
-  may_follow refl refl tt (carried_out {k = call.Retype 0 8 frame_kind.Kernel} refl (refl, (refl, refl)) refl) tt,
+  may_follow refl refl tt (carried_out {k = Call.Retype 0 8 FrameKind.Kernel} refl (refl, (refl, refl)) refl) tt,
 )
 
 made_legal : IsLegal two_cores made
@@ -33,7 +21,7 @@ made_legal = (
           (
             (
               (
-                (typed_legal, may_follow refl refl tt tt (record { call = call.Retype 0 8 frame_kind.Kernel; was_decided = refl })),
+                (typed_legal, may_follow refl refl tt tt (record { call = Call.Retype 0 8 FrameKind.Kernel; was_decided = refl })),
                 may_follow refl refl (refl, tt) tt tt,
               ),
               may_follow refl refl tt tt tt,
@@ -44,11 +32,11 @@ made_legal = (
         ),
         may_follow refl refl tt tt tt,
       ),
-      may_follow refl refl tt (carried_out {k = call.Make make.Table 0 8 1 20} refl (refl, (refl, refl)) refl) tt,
+      may_follow refl refl tt (carried_out {k = Call.Make Make.Table 0 8 1 20} refl (refl, (refl, refl)) refl) tt,
     ),
     may_follow refl refl tt tt tt,
   ),
-  may_follow refl refl tt tt (record { call = call.Make make.Table 0 8 1 20; was_decided = refl }),
+  may_follow refl refl tt tt (record { call = Call.Make Make.Table 0 8 1 20; was_decided = refl }),
 )
 
 copying_legal : IsLegal two_cores copying
@@ -78,7 +66,7 @@ frozen_legal = (
     may_follow refl refl tt tt tt,
   ),
   may_follow refl refl tt (record {
-    call = call.Retype 0 8 frame_kind.Untyped;
+    call = Call.Retype 0 8 FrameKind.Untyped;
     is_open = refl;
     permitted = (refl, inr (inr (inr (inl (refl, refl)))));
     justified = tt;
@@ -102,7 +90,7 @@ given_legal : IsLegal two_cores given_back
 unfolding two_cores typed made copying frozen_counts copied given_back word_of_count
 given_legal = (
   ((copied_legal, may_follow refl refl tt tt tt), may_follow refl refl tt tt tt),
-  may_follow refl refl tt tt (record { call = call.Retype 0 8 frame_kind.Untyped; was_decided = refl }),
+  may_follow refl refl tt tt (record { call = Call.Retype 0 8 FrameKind.Untyped; was_decided = refl }),
 )
 
 -- The count words sum to 1, and there are 2 references.

@@ -1,18 +1,7 @@
 -- What the wrong refusal makes is no history: its words do not represent the references.
-use Rattle.std.proofs.Common.{◌<◌, inl, refl, sym, ap, arith}
-use Rattle.std.specs.Prelude.{is_some}
-use Rattle.std.proofs.lemmas.Bool.{false≢true}
-use Rattle.spk_nums.specs.Rights.{whole_copy}
-use Rattle.entry_words.specs.EntryWord.{word_of_entry}
-use Rattle.frame_words.specs.Count.{word_of_count, count_of_word}
-use Rattle.kernel_rules.specs.References.{sum_below, node_refs, refs}
-use Rattle.kernel_history.specs.Counts.{RepresentCounts}
-use Rattle.kernel_history.specs.Legal.{IsLegal}
-use Rattle.kernel_history.specs.Marks.{hold_mark}
-use Rattle.kernel_history.specs.Trace.{state_after, last_left}
-use Rattle.kernel_history.specs.Scenes.{two_cores}
-use Rattle.kernel_history.proofs.Computed.{may_follow}
-use Rattle.kernel_history.proofs.Unjustified.{carried_out}
+use Rattle.kernel_history.proofs.{◌<◌, inl, refl, sym, ap, arith, is_some, false≢true, whole_copy, word_of_entry, word_of_count}
+use Rattle.kernel_history.proofs.{count_of_word, sum_below, node_refs, refs, RepresentCounts, IsLegal, hold_mark, state_after, last_left}
+use Rattle.kernel_history.proofs.{two_cores, may_follow, carried_out}
 use Rattle.wrong_steps.specs.Refusals.{acquired_count, filled_meanwhile, left_held, RefusalsHold}
 
 acquired_legal : IsLegal two_cores acquired_count

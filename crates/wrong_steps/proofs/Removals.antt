@@ -1,10 +1,5 @@
 -- What the wrong removal makes is no history.
-use Rattle.std.proofs.Common.{refl}
-use Rattle.spk_nums.specs.declared.calls.Call.TheVariants as call
-use Rattle.entry_words.specs.EntryWord.{word_of_entry, entry_of_word}
-use Rattle.kernel_history.specs.Scenes.{two_cores}
-use Rattle.kernel_history.proofs.Computed.{may_follow}
-use Rattle.kernel_history.proofs.Unjustified.{carried_out, not_permitted}
+use Rattle.kernel_history.proofs.{refl, word_of_entry, entry_of_word, two_cores, may_follow, carried_out, not_permitted, Call}
 use Rattle.wrong_steps.specs.Removals.{drawn, looking, found_after, RemovalsDrawFirst}
 
 pub removals_draw_first : RemovalsDrawFirst
@@ -17,11 +12,11 @@ removals_draw_first = record {
           (((tt, may_follow refl refl (refl, tt) tt tt), may_follow refl refl tt tt tt), may_follow refl refl tt tt tt),
           may_follow refl refl tt tt tt,
         ),
-        may_follow refl refl tt (carried_out {k = call.Remove 1 0} refl (refl, (refl, refl)) refl) tt,
+        may_follow refl refl tt (carried_out {k = Call.Remove 1 0} refl (refl, (refl, refl)) refl) tt,
       ),
       may_follow refl refl (refl, tt) tt tt,
     ),
     may_follow refl refl tt tt tt,
   );
-  refused = λ legal. not_permitted (call.Look 0) refl legal.1.decides (λ may. may.1.1);
+  refused = λ legal. not_permitted (Call.Look 0) refl legal.1.decides (λ may. may.1.1);
 }

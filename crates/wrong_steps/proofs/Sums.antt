@@ -1,30 +1,16 @@
 -- What the wrong sweep makes is no history: a capability to the frame stands.
-use Rattle.std.proofs.Common.{◌≡◌, ◌∷◌, true, Some, refl, sym, ◌∙◌, subst, arith}
-use Rattle.spk_nums.specs.Rights.{whole_copy}
-use Rattle.spk_nums.specs.declared.kinds.FrameKind.TheVariants as frame_kind
-use Rattle.spk_nums.specs.declared.calls.Make.TheVariants as make
-use Rattle.spk_nums.specs.declared.calls.Call.{Call}
-use Rattle.spk_nums.specs.declared.calls.Call.TheVariants as call
-use Rattle.spk_nums.specs.declared.replies.Value.{Value}
-use Rattle.spk_nums.specs.declared.replies.Reply.{Reply}
-use Rattle.spk_nums.specs.declared.replies.Reply.TheVariants as reply
-use Rattle.entry_words.specs.EntryWord.{word_of_entry}
-use Rattle.frame_words.specs.Count.{word_of_count, count_of_word}
-use Rattle.frame_words.specs.Frame.{word_of_frame}
-use Rattle.kernel_rules.specs.CallRelation.{MayReply, rule_of}
-use Rattle.kernel_rules.specs.MemoryCalls.{holds_nothing}
-use Rattle.kernel_rules.specs.References.{sum_below, node_refs, refs}
-use Rattle.kernel_history.specs.Legal.{DecidesBy, MayDecide, IsLegal}
-use Rattle.kernel_history.specs.Trace.{Step, Trace, Phase, Open, state_before}
-use Rattle.kernel_history.specs.Ways.{ways}
-use Rattle.kernel_history.proofs.Computed.{may_follow, has_stepped, has_reached}
+use Rattle.kernel_history.proofs.{◌≡◌, ◌∷◌, true, Some, refl, sym, ◌∙◌, subst, arith, whole_copy, Call, Value, Reply, word_of_entry}
+use Rattle.kernel_history.proofs.{word_of_count, count_of_word, word_of_frame, MayReply, rule_of, holds_nothing, sum_below, node_refs, refs}
+use Rattle.kernel_history.proofs.{MayDecide, IsLegal, Step, Phase, state_before, ways, may_follow, FrameKind, Make}
+use Rattle.kernel_history.specs.{Legal.DecidesBy, Trace.Trace, Trace.Open}
+use Rattle.kernel_history.proofs.Computed.{has_stepped, has_reached}
 use Rattle.wrong_steps.specs.Sums.{three_cores, typed, made, begun, looking, copied, removed, summed, untyped, SweepsSum}
 
 -- An open call is carried out at a step that has reached the places of its way.
 carried : {t : Trace} {e : Step} {p : Phase} {v : Value} (k : Call) → p ≡ Open k
-    → MayReply (state_before three_cores t e) e.core k (reply.Ok v)
+    → MayReply (state_before three_cores t e) e.core k (Reply.Ok v)
     → has_stepped (e ∷ t) e.core (ways (state_before three_cores t e) e.core (rule_of (state_before three_cores t e) e.core k)) ≡ true
-    → MayDecide three_cores t e (Some (reply.Ok v)) p
+    → MayDecide three_cores t e (Some (Reply.Ok v)) p
 carried {t} {e} {p} {v} k is may stepped = record {
   call = k;
   is_open = is;
@@ -46,7 +32,7 @@ typed_legal : IsLegal three_cores typed
 unfolding three_cores typed word_of_entry word_of_frame
 typed_legal = (
   (((tt, may_follow refl refl (refl, tt) tt tt), may_follow refl refl tt tt tt), may_follow refl refl tt tt tt),
-  may_follow refl refl tt (carried (call.Retype 0 10 frame_kind.Kernel) refl (refl, (refl, refl)) refl) tt,
+  may_follow refl refl tt (carried (Call.Retype 0 10 FrameKind.Kernel) refl (refl, (refl, refl)) refl) tt,
 )
 
 made_legal : IsLegal three_cores made
@@ -59,7 +45,7 @@ made_legal = (
           (
             (
               (
-                (typed_legal, may_follow refl refl tt tt (record { call = call.Retype 0 10 frame_kind.Kernel; was_decided = refl })),
+                (typed_legal, may_follow refl refl tt tt (record { call = Call.Retype 0 10 FrameKind.Kernel; was_decided = refl })),
                 may_follow refl refl (refl, tt) tt tt,
               ),
               may_follow refl refl tt tt tt,
@@ -70,11 +56,11 @@ made_legal = (
         ),
         may_follow refl refl tt tt tt,
       ),
-      may_follow refl refl tt (carried (call.Make make.Table 0 10 1 20) refl (refl, (refl, refl)) refl) tt,
+      may_follow refl refl tt (carried (Call.Make Make.Table 0 10 1 20) refl (refl, (refl, refl)) refl) tt,
     ),
     may_follow refl refl tt tt tt,
   ),
-  may_follow refl refl tt tt (record { call = call.Make make.Table 0 10 1 20; was_decided = refl }),
+  may_follow refl refl tt tt (record { call = Call.Make Make.Table 0 10 1 20; was_decided = refl }),
 )
 
 begun_legal : IsLegal three_cores begun
@@ -116,11 +102,11 @@ removed_legal = (
         (((copied_legal, may_follow refl refl (refl, tt) tt tt), may_follow refl refl tt tt tt), may_follow refl refl tt tt tt),
         may_follow refl refl tt tt tt,
       ),
-      may_follow refl refl tt (carried (call.Remove 1 20) refl (refl, (refl, refl)) refl) tt,
+      may_follow refl refl tt (carried (Call.Remove 1 20) refl (refl, (refl, refl)) refl) tt,
     ),
     may_follow refl refl tt tt tt,
   ),
-  may_follow refl refl tt tt (record { call = call.Remove 1 20; was_decided = refl }),
+  may_follow refl refl tt tt (record { call = Call.Remove 1 20; was_decided = refl }),
 )
 
 summed_legal : IsLegal three_cores summed
@@ -133,5 +119,5 @@ unfolding three_cores typed made begun looking copied removed summed untyped wor
 sweeps_sum = record {
   legal = summed_legal;
   passes = refl;
-  refused = λ legal. refused_by (call.Retype 0 10 frame_kind.Untyped) refl legal.1.decides (λ may. may.1.1);
+  refused = λ legal. refused_by (Call.Retype 0 10 FrameKind.Untyped) refl legal.1.decides (λ may. may.1.1);
 }

@@ -1,26 +1,9 @@
 -- What the wrong switch makes is no history: the word of the old thread says another depth than its stack has.
-use Rattle.std.proofs.Common.{◌≡◌, ℕ, ◌<◌, refl, ap, arith}
-use Rattle.std.specs.Prelude.{Option, Some, None}
-use Rattle.spk_nums.specs.declared.kinds.FrameKind.TheVariants as frame_kind
-use Rattle.spk_nums.specs.declared.calls.Make.TheVariants as make
-use Rattle.spk_nums.specs.declared.calls.Call.TheVariants as call
-use Rattle.spk_nums.specs.declared.translations.CoreEnd.{CoreEnd}
-use Rattle.entry_words.specs.EntryWord.{word_of_entry}
-use Rattle.frame_words.specs.Frame.{word_of_frame}
-use Rattle.frame_words.specs.Live.{word_of_live}
-use Rattle.tcap_words.specs.Stack.{word_of_stack}
-use Rattle.tcap_words.specs.Thread.{word_of_thread, thread_of_word}
-use Rattle.tcap_words.specs.declared.thread_word.ThreadWord.{ThreadWord}
-use Rattle.tcap_words.specs.declared.thread_word.ThreadWord.TheVariants.{Idle, Running, Claimed}
-use Rattle.kernel_history.specs.FinalWords.{Represent}
-use Rattle.kernel_history.specs.Legal.{IsLegal}
-use Rattle.kernel_history.specs.Trace.{state_after, last_left}
-use Rattle.kernel_history.specs.Scenes.{two_cores}
-use Rattle.kernel_history.proofs.Computed.{may_follow}
-use Rattle.kernel_history.proofs.Unjustified.{carried_out}
-use Rattle.wrong_steps.specs.Invocations.{gated}
+use Rattle.kernel_history.proofs.{◌≡◌, ℕ, ◌<◌, refl, ap, arith, Option, Some, None, CoreEnd, word_of_entry, word_of_frame, word_of_live}
+use Rattle.kernel_history.proofs.{word_of_stack, word_of_thread, thread_of_word, ThreadWord, Idle, Running, Claimed, Represent, IsLegal}
+use Rattle.kernel_history.proofs.{state_after, last_left, two_cores, may_follow, carried_out, FrameKind, Make, Call}
 use Rattle.wrong_steps.specs.Switches.{called, blank, marked, made_thread, claimed, mixed, SwitchesMixDepths}
-use Rattle.wrong_steps.proofs.Invocations.{gated_legal}
+use Rattle.{wrong_steps.specs.Invocations.gated, wrong_steps.proofs.Invocations.gated_legal}
 
 called_legal : IsLegal two_cores called
 unfolding two_cores gated called word_of_entry word_of_live word_of_thread word_of_stack
@@ -30,14 +13,14 @@ called_legal = (
       (
         (
           (
-            (gated_legal, may_follow refl refl tt tt (record { call = call.Gate 3 1 20; was_decided = refl })),
+            (gated_legal, may_follow refl refl tt tt (record { call = Call.Gate 3 1 20; was_decided = refl })),
             may_follow refl refl (refl, tt) tt tt,
           ),
           may_follow refl refl tt tt tt,
         ),
         may_follow refl refl tt tt tt,
       ),
-      may_follow refl refl tt (carried_out {k = call.Call 20} refl (refl, (refl, refl)) refl) tt,
+      may_follow refl refl tt (carried_out {k = Call.Call 20} refl (refl, (refl, refl)) refl) tt,
     ),
     may_follow refl refl tt tt tt,
   ),
@@ -50,14 +33,14 @@ blank_legal = (
   (
     (
       (
-        (called_legal, may_follow refl refl tt tt (record { call = call.Call 20; was_decided = refl })),
+        (called_legal, may_follow refl refl tt tt (record { call = Call.Call 20; was_decided = refl })),
         may_follow refl refl (refl, tt) tt tt,
       ),
       may_follow refl refl tt tt tt,
     ),
     may_follow refl refl tt tt tt,
   ),
-  may_follow refl refl tt (carried_out {k = call.Retype 0 8 frame_kind.Kernel} refl (refl, (refl, refl)) refl) tt,
+  may_follow refl refl tt (carried_out {k = Call.Retype 0 8 FrameKind.Kernel} refl (refl, (refl, refl)) refl) tt,
 )
 
 marked_legal : IsLegal two_cores marked
@@ -72,7 +55,7 @@ marked_legal = (
               (
                 (
                   (
-                    (blank_legal, may_follow refl refl tt tt (record { call = call.Retype 0 8 frame_kind.Kernel; was_decided = refl })),
+                    (blank_legal, may_follow refl refl tt tt (record { call = Call.Retype 0 8 FrameKind.Kernel; was_decided = refl })),
                     may_follow refl refl (refl, tt) tt tt,
                   ),
                   may_follow refl refl tt tt tt,
@@ -97,7 +80,7 @@ marked_legal = (
 made_legal : IsLegal two_cores made_thread
 unfolding two_cores gated called blank marked made_thread word_of_entry word_of_frame
 made_legal = (
-  (marked_legal, may_follow refl refl tt (carried_out {k = call.Make (make.Thread 3) 0 8 1 21} refl (refl, (refl, refl)) refl) tt),
+  (marked_legal, may_follow refl refl tt (carried_out {k = Call.Make (Make.Thread 3) 0 8 1 21} refl (refl, (refl, refl)) refl) tt),
   may_follow refl refl tt tt tt,
 )
 
@@ -115,7 +98,7 @@ claimed_legal = (
                   (
                     (
                       made_legal,
-                      may_follow refl refl tt tt (record { call = call.Make (make.Thread 3) 0 8 1 21; was_decided = refl }),
+                      may_follow refl refl tt tt (record { call = Call.Make (Make.Thread 3) 0 8 1 21; was_decided = refl }),
                     ),
                     may_follow refl refl (refl, tt) tt tt,
                   ),
@@ -143,12 +126,12 @@ unfolding two_cores gated called blank marked made_thread claimed mixed word_of_
 mixed_legal = (
   (
     (
-      (claimed_legal, may_follow refl refl tt (carried_out {k = call.Switch 21 12} refl (refl, (refl, refl)) refl) tt),
+      (claimed_legal, may_follow refl refl tt (carried_out {k = Call.Switch 21 12} refl (refl, (refl, refl)) refl) tt),
       may_follow refl refl tt tt tt,
     ),
     may_follow refl refl tt tt tt,
   ),
-  may_follow refl refl tt tt (record { call = call.Switch 21 12; was_decided = refl }),
+  may_follow refl refl tt tt (record { call = Call.Switch 21 12; was_decided = refl }),
 )
 
 abbrev depth_in : Option ThreadWord → ℕ

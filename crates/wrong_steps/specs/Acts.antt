@@ -1,17 +1,8 @@
 -- Steps by a step function of an act: its operation, and what it takes from the word that it finds.
-use Rattle.std.specs.Prelude.{ℕ, ◌∷◌, Option, Some, None}
-use Rattle.spk_nums.specs.Rights.{whole_copy}
-use Rattle.spk_nums.specs.Capability.{Capability, cap_of}
-use Rattle.spk_nums.specs.declared.kinds.Kind.TheVariants as kind
-use Rattle.spk_nums.specs.declared.replies.Reply.{Reply}
-use Rattle.spk_nums.specs.declared.replies.Reply.TheVariants.{Ok}
-use Rattle.word_map.specs.Moves.{Move, word_of}
-use Rattle.kernel_history.specs.Trace.{Trace}
-use Rattle.kernel_history.specs.Scenes.{there, enters, loads}
-use Rattle.act_states.specs.Refusals.{reply_of}
-use Rattle.act_states.specs.declared.fills.Fill.{Fill}
-use Rattle.act_states.specs.declared.work.WorkStep.{WorkStep}
+use Rattle.kernel_history.specs.{ℕ, ◌∷◌, Option, Some, None, whole_copy, Capability, cap_of, Reply, Move, word_of, there, enters, loads}
 use Rattle.act_states.specs.declared.work.WorkStep.TheVariants.{Goes, Acquires, Refuses, Answers, Changes}
+use Rattle.{kernel_history.specs.Kind, act_states.specs.Ok, act_states.specs.reply_of, kernel_history.specs.Trace.Trace}
+use Rattle.{act_states.specs.declared.fills.Fill.Fill, act_states.specs.declared.work.WorkStep.WorkStep}
 
 -- The reply that a step of an act decides, if it does.
 abbrev pub decided_in : WorkStep → Option Reply
@@ -34,7 +25,7 @@ acts c m took t = record {
 
 -- The range, which place 0 of the leaf holds.
 abbrev pub range : Capability
-range = cap_of kind.Range 8 24
+range = cap_of Kind.Range 8 24
 
 -- Place 20 of the leaf was found free, and is to hold the range.
 abbrev pub fill : Fill

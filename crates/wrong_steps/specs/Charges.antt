@@ -1,36 +1,19 @@
 -- A wrong charge loses what the budget does not cover: the rest of the ticks is not owed.
-use Rattle.std.specs.Prelude.{◌≡◌, ℕ, [], None}
-use Rattle.spk_nums.specs.declared.calls.Call.TheVariants.{Tick}
-use Rattle.spk_nums.specs.declared.replies.Reply.TheVariants.{Ok}
-use Rattle.spk_nums.specs.declared.replies.Value.{Value}
-use Rattle.spk_nums.specs.declared.steps.StageEnd.{StageEnd}
-use Rattle.spk_nums.specs.declared.steps.StageEnd.TheVariants as ends
-use Rattle.spk_nums.specs.declared.translations.CoreEnd.{CoreEnd}
-use Rattle.word_map.specs.Word.{EntryAt}
-use Rattle.word_map.specs.Moves.{LoadOf}
-use Rattle.kernel_history.specs.FinalWords.{Represent}
-use Rattle.kernel_history.specs.Legal.{IsLegal}
-use Rattle.kernel_history.specs.Trace.{Trace, state_after, last_left}
-use Rattle.kernel_history.specs.Scenes.{two_cores, there, enters, goes}
-use Rattle.stage_tcap.specs.Charging.{charge_move, charge_end}
-use Rattle.stage_tcap.specs.declared.charge.Charge.{Charge}
-use Rattle.stage_tcap.specs.declared.charge.Charge.TheVariants.{AtCompare}
-use Rattle.act_states.specs.Ticks.{charged_in, owes}
-use Rattle.act_states.specs.declared.own.OwnChange.{OwnChange}
-use Rattle.act_states.specs.declared.own.OwnChange.TheVariants.{Ticks}
-use Rattle.act_states.specs.declared.work.Act.TheVariants.{Tick as tick_act}
-use Rattle.act_states.specs.declared.work.Work.TheVariants.{Act}
-use Rattle.act_states.specs.declared.work.Tail.TheVariants.{Nothing}
-use Rattle.act_states.specs.declared.work.WorkStep.{WorkStep}
-use Rattle.act_states.specs.declared.work.WorkStep.TheVariants.{Goes, Changes}
-use Rattle.wrong_steps.specs.Acts.{acts}
+use Rattle.act_states.specs as low
+use Rattle.kernel_history.specs.{◌≡◌, ℕ, [], None, Tick, Value, StageEnd, CoreEnd, EntryAt, LoadOf, Represent, IsLegal, state_after}
+use Rattle.kernel_history.specs.{last_left, two_cores, there, enters, goes}
+use low.{Ticks.charged_in, Ticks.owes, declared.own.OwnChange.OwnChange, declared.own.OwnChange.TheVariants.Ticks}
+use low.{declared.work.Act.TheVariants.Tick as tick_act, declared.work.Work.TheVariants.Act, declared.work.Tail.TheVariants.Nothing}
+use low.{Ok, charge_move, Charge, stage_tcap.specs.Charging.charge_end, stage_tcap.specs.declared.charge.Charge.TheVariants.AtCompare}
+use low.{declared.work.WorkStep.WorkStep, declared.work.WorkStep.TheVariants.Goes, declared.work.WorkStep.TheVariants.Changes}
+use Rattle.{kernel_history.specs.Trace.Trace, wrong_steps.specs.Acts.acts}
 
 -- Wrong: a charge that is made leaves nothing owed.
 abbrev pub took_losing : ℕ → Charge → StageEnd Value → WorkStep
-took_losing due charge ends.Going = Goes (Act (tick_act charge))
-took_losing due charge (ends.Decided r) = owes r due
-took_losing due charge (ends.Done v) = Changes (Ok v) (Ticks (charged_in v) 0) None Nothing
-took_losing due charge (ends.Refuse r) = owes r due
+took_losing due charge StageEnd.Going = Goes (Act (tick_act charge))
+took_losing due charge (StageEnd.Decided r) = owes r due
+took_losing due charge (StageEnd.Done v) = Changes (Ok v) (Ticks (charged_in v) 0) None Nothing
+took_losing due charge (StageEnd.Refuse r) = owes r due
 
 -- 150 ticks are due, of which the budget of 100 in frame 6 covers a part.
 abbrev pub charge : Charge

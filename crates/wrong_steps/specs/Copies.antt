@@ -1,22 +1,11 @@
 -- Wrong copies: one stores in place of its compare, and one tries a lost compare again.
-use Rattle.std.specs.Prelude.{ℕ, ◌==◌, true, [], if◌then◌else◌, None}
-use Rattle.spk_nums.specs.declared.replies.Value.TheVariants.{Nothing as nothing}
-use Rattle.entry_words.specs.EntryWord.{word_of_entry}
-use Rattle.entry_words.specs.declared.entry.Entry.TheVariants.{Held}
-use Rattle.word_map.specs.Word.{EntryAt}
-use Rattle.word_map.specs.Moves.{Move, StoreOf}
-use Rattle.kernel_history.specs.Bounds.{KeepsBounds}
-use Rattle.kernel_history.specs.Legal.{IsLegal}
-use Rattle.kernel_history.specs.Trace.{Trace}
-use Rattle.kernel_history.specs.Scenes.{two_cores}
-use Rattle.act_states.specs.Fills.{fill_move, filled_if, took_fill}
-use Rattle.act_states.specs.declared.fills.Fill.{Fill}
-use Rattle.act_states.specs.declared.work.Act.TheVariants.{Fill as fill_act}
-use Rattle.act_states.specs.declared.work.Work.TheVariants.{Act}
-use Rattle.act_states.specs.declared.work.Tail.TheVariants.{Nothing}
-use Rattle.act_states.specs.declared.work.WorkStep.{WorkStep}
-use Rattle.act_states.specs.declared.work.WorkStep.TheVariants.{Goes, Answers}
-use Rattle.wrong_steps.specs.Acts.{acts, fill, copying}
+use Rattle.act_states.specs.{ℕ, ◌==◌, true, [], if◌then◌else◌, None, Nothing as nothing, word_of_entry, Held, EntryAt, Move, StoreOf}
+use Rattle.act_states.specs.{declared.fills.Fill.Fill, declared.work.Act.TheVariants.Fill as fill_act, declared.work.Work.TheVariants.Act}
+use Rattle.act_states.specs.{declared.work.Tail.TheVariants.Nothing, declared.work.WorkStep.WorkStep}
+use Rattle.{act_states.specs.fill_move, act_states.specs.filled_if, act_states.specs.took_fill, kernel_history.specs.KeepsBounds}
+use Rattle.{kernel_history.specs.IsLegal, kernel_history.specs.two_cores, kernel_history.specs.Trace.Trace}
+use Rattle.{act_states.specs.declared.work.WorkStep.TheVariants.Goes, act_states.specs.declared.work.WorkStep.TheVariants.Answers}
+use Rattle.{wrong_steps.specs.Acts.acts, wrong_steps.specs.Acts.fill, wrong_steps.specs.Acts.copying}
 
 -- Wrong: the place's word is stored, whatever stands there, and the copy is carried out.
 abbrev pub storing_move : Fill → Move

@@ -1,23 +1,10 @@
 -- A wrong transfer credits head B before it marks head A, and keeps the credit where that compare is lost.
-use Rattle.std.specs.Prelude.{◌≡◌, ℕ, false, [], ◌∷◌, Some}
-use Rattle.spk_nums.specs.declared.calls.Call.TheVariants.{Tick, Transfer}
-use Rattle.spk_nums.specs.declared.replies.Reply.TheVariants.{Ok, Raced}
-use Rattle.spk_nums.specs.declared.replies.Value.TheVariants.{Amount}
-use Rattle.spk_nums.specs.declared.translations.CoreEnd.{CoreEnd}
-use Rattle.word_map.specs.Moves.{Move}
-use Rattle.kernel_history.specs.FinalWords.{Represent}
-use Rattle.kernel_history.specs.Legal.{IsLegal}
-use Rattle.kernel_history.specs.Trace.{Trace, Out, phase, state_after, last_left}
-use Rattle.kernel_history.specs.Scenes.{two_cores, enters, goes, decides, loads, returns}
-use Rattle.stage_tcap.specs.Charging.{charge_move}
-use Rattle.stage_tcap.specs.Heads.{head}
-use Rattle.stage_tcap.specs.Pairs.{move_at}
-use Rattle.stage_tcap.specs.declared.charge.Charge.TheVariants.{AtCompare}
-use Rattle.stage_tcap.specs.declared.pair.Pair.{Pair}
-use Rattle.stage_tcap.specs.declared.pair.PairAt.TheVariants.{MarkA, CompareB}
-use Rattle.stage_tcap.specs.declared.pair.PairWork.TheVariants.{Transfer as transfer_work}
-use Rattle.act_states.specs.Shares.{took_share}
-use Rattle.wrong_steps.specs.Acts.{acts}
+use Rattle.kernel_history.specs.{◌≡◌, ℕ, false, [], ◌∷◌, Some, Tick, Transfer, Amount, CoreEnd, Move, Represent, IsLegal, Out, phase}
+use Rattle.kernel_history.specs.{state_after, last_left, two_cores, enters, goes, decides, loads, returns}
+use Rattle.act_states.specs.{Ok, charge_move, head, Pair, MarkA, CompareB, took_share}
+use Rattle.act_states.specs.stage_tcap.specs.{Pairs.move_at, declared.charge.Charge.TheVariants.AtCompare}
+use Rattle.{kernel_history.specs.spk_nums.specs.declared.replies.Reply.TheVariants.Raced, kernel_history.specs.Trace.Trace}
+use Rattle.{act_states.specs.stage_tcap.specs.declared.pair.PairWork.TheVariants.Transfer as transfer_work, wrong_steps.specs.Acts.acts}
 
 -- A transfer of 10 ticks from frame 7 to frame 6, whose heads were found with 100 each, before it marks head A.
 abbrev pub pair : Pair

@@ -1,19 +1,11 @@
 -- A wrong kill puts the dead number in place of its mark, before it draws its stamp.
-use Rattle.std.specs.Prelude.{ℕ, Option, Some, None}
-use Rattle.spk_nums.specs.declared.calls.Call.TheVariants.{Call, Kill}
-use Rattle.frame_words.specs.Live.{word_of_live, live_of_word}
-use Rattle.frame_words.specs.declared.live_word.LiveWord.{LiveWord}
-use Rattle.frame_words.specs.declared.live_word.LiveWord.TheVariants.{Free, Live, Closing, Dead}
-use Rattle.word_map.specs.Word.{LiveAt}
-use Rattle.word_map.specs.Moves.{LoadOf, CompareOf}
-use Rattle.kernel_history.specs.Legal.{IsLegal}
-use Rattle.kernel_history.specs.Trace.{Trace}
-use Rattle.kernel_history.specs.Scenes.{two_cores, enters, goes, loads, returns, done}
-use Rattle.act_states.specs.declared.refusals.Refusal.TheVariants.{Raced, Busy, Dead as dead}
-use Rattle.act_states.specs.declared.work.WorkStep.{WorkStep}
-use Rattle.act_states.specs.WorkSteps.{refuse}
-use Rattle.wrong_steps.specs.Acts.{acts}
-use Rattle.wrong_steps.specs.Invocations.{gated}
+use Rattle.kernel_history.specs.{ℕ, Option, Some, None, Kill, word_of_live, live_of_word, LiveWord, LiveAt, LoadOf, CompareOf, IsLegal}
+use Rattle.kernel_history.specs.{two_cores, enters, goes, loads, returns, done}
+use Rattle.kernel_history.specs.frame_words.specs.declared.live_word.LiveWord.TheVariants.{Free, Live, Closing, Dead}
+use Rattle.act_states.specs.{declared.refusals.Refusal.TheVariants.Raced, declared.refusals.Refusal.TheVariants.Busy}
+use Rattle.act_states.specs.{declared.refusals.Refusal.TheVariants.Dead as dead, declared.work.WorkStep.WorkStep, WorkSteps.refuse}
+use Rattle.wrong_steps.specs.{Acts.acts, Invocations.gated}
+use Rattle.{kernel_history.specs.spk_nums.specs.declared.calls.Call.TheVariants.Call, kernel_history.specs.Trace.Trace}
 
 -- Wrong: where it should mark the number, it is dead at once, with the stamp that will be drawn.
 abbrev pub closed_word : ℕ

@@ -1,20 +1,11 @@
 -- A wrong flush stores no stamp: a core that waits for it waits on.
-use Rattle.std.specs.Prelude.{ℕ, true, Option, Some, None}
-use Rattle.spk_nums.specs.declared.kinds.FrameKind.TheVariants as frame_kind
-use Rattle.spk_nums.specs.declared.calls.Call.TheVariants.{Retype, Flush}
-use Rattle.spk_nums.specs.declared.replies.Reply.{Reply}
-use Rattle.word_map.specs.Word.{FlushAt}
-use Rattle.kernel_history.specs.Legal.{IsLegal}
-use Rattle.kernel_history.specs.Trace.{Trace}
-use Rattle.kernel_history.specs.Scenes.{two_cores, there, enters, goes, decides, loads, returns, done}
-use Rattle.stage_quiet.specs.Clocks.{stamp_of_clock}
-use Rattle.stage_quiet.specs.Flushing.{flush_move}
-use Rattle.stage_quiet.specs.Scan.{quiet_move, quiet_refuses}
-use Rattle.stage_quiet.specs.declared.flush_mark.FlushMark.TheVariants.{AtLoad, AtStore}
-use Rattle.stage_quiet.specs.declared.quiet.Quiet.TheVariants.{AtCore, AtFlush}
-use Rattle.act_states.specs.declared.work.Tail.{Tail}
-use Rattle.act_states.specs.declared.work.Tail.TheVariants.{Nothing, StoreFlush}
-use Rattle.wrong_steps.specs.Untypings.{removed}
+use Rattle.kernel_history.specs.{ℕ, true, Option, Some, None, Retype, Flush, Reply, FlushAt, IsLegal, two_cores, there, enters, goes}
+use Rattle.kernel_history.specs.{decides, loads, returns, done, FrameKind}
+use Rattle.act_states.specs.{quiet_move, quiet_refuses, AtCore, AtFlush}
+use Rattle.act_states.specs.stage_quiet.specs.{stamp_of_clock, flush_move}
+use Rattle.act_states.specs.stage_quiet.specs.declared.flush_mark.FlushMark.TheVariants.{AtLoad, AtStore}
+use Rattle.act_states.specs.{declared.work.Tail.Tail, declared.work.Tail.TheVariants.Nothing, declared.work.Tail.TheVariants.StoreFlush}
+use Rattle.{kernel_history.specs.Trace.Trace, wrong_steps.specs.Untypings.removed}
 
 -- Wrong: a flush has nothing to store when it is decided.
 abbrev pub leaves : ℕ → Tail
@@ -32,7 +23,7 @@ flushed =
 
 -- It retypes the frame to untyped, and scans the word of core 1.
 unfoldable pub scanned : Trace
-scanned = goes 0 (quiet_move (AtCore 1 0 1 true)) (loads 0 1 0 (loads 0 0 0 (enters 0 (Retype 0 8 frame_kind.Untyped) flushed)))
+scanned = goes 0 (quiet_move (AtCore 1 0 1 true)) (loads 0 1 0 (loads 0 0 0 (enters 0 (Retype 0 8 FrameKind.Untyped) flushed)))
 
 -- It is refused where its own flush word refuses.
 abbrev pub judges : Option Reply → Trace → Trace

@@ -1,23 +1,10 @@
 -- A wrong removal leaves the place free at once, and not quiescing.
-use Rattle.std.specs.Prelude.{[], Option, Some, None}
-use Rattle.spk_nums.specs.Rights.{whole_copy}
-use Rattle.spk_nums.specs.Capability.{cap_of}
-use Rattle.spk_nums.specs.declared.kinds.Kind.TheVariants as kind
-use Rattle.spk_nums.specs.declared.calls.Call.TheVariants.{Look, Remove}
-use Rattle.entry_words.specs.EntryWord.{word_of_entry, entry_of_word}
-use Rattle.entry_words.specs.declared.entry.Entry.{Entry}
-use Rattle.entry_words.specs.declared.entry.Entry.TheVariants.{Free, Held, Closing, Quiescing}
-use Rattle.word_map.specs.Word.{EntryAt, ClockAt}
-use Rattle.word_map.specs.Moves.{Move, StoreOf, AddOf}
-use Rattle.kernel_history.specs.Legal.{IsLegal}
-use Rattle.kernel_history.specs.Trace.{Trace}
-use Rattle.kernel_history.specs.Scenes.{two_cores, there, range_word, enters, goes, decides, loads, returns, done}
-use Rattle.stage_quiet.specs.Removal.{close_move, close_after}
-use Rattle.stage_quiet.specs.declared.close.Close.{Close}
-use Rattle.stage_quiet.specs.declared.close.Close.TheVariants.{AtCompare, AtDraw, AtStore}
-use Rattle.act_states.specs.Fills.{fill_move, took_fill}
-use Rattle.act_states.specs.declared.fills.Fill.{Fill}
-use Rattle.wrong_steps.specs.Acts.{acts}
+use Rattle.kernel_history.specs.{[], Option, Some, None, whole_copy, cap_of, Look, Remove, word_of_entry, entry_of_word, Entry, Held}
+use Rattle.kernel_history.specs.{Closing, EntryAt, ClockAt, Move, StoreOf, AddOf, IsLegal, two_cores, there, range_word, enters, goes}
+use Rattle.kernel_history.specs.{decides, loads, returns, done, Kind}
+use Rattle.act_states.specs.{close_move, close_after, Close, AtCompare, AtDraw, AtStore, fill_move, took_fill}
+use Rattle.kernel_history.specs.entry_words.specs.declared.entry.Entry.TheVariants.{Free, Quiescing}
+use Rattle.{kernel_history.specs.Trace.Trace, act_states.specs.declared.fills.Fill.Fill, wrong_steps.specs.Acts.acts}
 
 -- Wrong: the last store leaves the entry free.
 abbrev pub last_move : Close → Move
@@ -36,7 +23,7 @@ unfoldable pub looked_up : Trace
 looked_up = loads 0 1 0 (loads 0 1 1 (loads 0 1 1 (loads 0 0 0 (enters 0 (whole_copy 1 1 0) freed))))
 
 abbrev pub place : Fill
-place = record { node = 1; entry = 0; word = 0; cap = cap_of kind.Table 0 0 }
+place = record { node = 1; entry = 0; word = 0; cap = cap_of Kind.Table 0 0 }
 
 -- It fills the place if it has found it free.
 abbrev pub fills : Option Entry → Trace → Trace

@@ -15,3 +15,5 @@ pub mod Sums
 pub mod Overwrites
 pub mod Deaths
 pub mod Flushes
+-- The names that are used most outside of this library.
+unfoldable pub use Rattle.wrong_steps.specs.Invocations.{gated}

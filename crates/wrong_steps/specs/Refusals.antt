@@ -1,17 +1,9 @@
 -- A wrong refusal leaves the count that its call has acquired.
-use Rattle.std.specs.Prelude.{◌≡◌, [], pos, None}
-use Rattle.spk_nums.specs.Rights.{whole_copy}
-use Rattle.spk_nums.specs.declared.replies.Reply.{Reply}
-use Rattle.spk_nums.specs.declared.replies.Reply.TheVariants as reply
-use Rattle.kernel_history.specs.Counts.{RepresentCounts}
-use Rattle.kernel_history.specs.Legal.{IsLegal}
-use Rattle.kernel_history.specs.Trace.{Trace, Out, phase, state_after, last_left}
-use Rattle.kernel_history.specs.Scenes.{two_cores, enters, goes, loads, returns, done}
-use Rattle.stage_pins.specs.Acquire.{pin_move, pinned_at}
-use Rattle.stage_pins.specs.Commit.{settle_move}
-use Rattle.stage_pins.specs.declared.pin.Pin.TheVariants.{AtLoad, AtCompare}
-use Rattle.act_states.specs.Fills.{fill_move, took_fill}
+use Rattle.kernel_history.specs.{◌≡◌, [], pos, None, whole_copy, Reply, RepresentCounts, IsLegal, Out, phase, state_after, last_left}
+use Rattle.kernel_history.specs.{two_cores, enters, goes, loads, returns, done}
+use Rattle.act_states.specs.{pin_move, pinned_at, settle_move, AtLoad, fill_move, took_fill}
 use Rattle.wrong_steps.specs.Acts.{acts, fill, copying}
+use Rattle.{kernel_history.specs.Trace.Trace, act_states.specs.stage_pins.specs.declared.pin.Pin.TheVariants.AtCompare}
 
 -- Core 0 copies the table's capability to place 20, and has acquired its count of frame 0, to which there are 2 references.
 unfoldable pub acquired_count : Trace
@@ -29,12 +21,12 @@ gives_back t = goes 0 (settle_move (record { pin = pinned_at 0 0 (pos 2) 0; chan
 
 -- Wrong: after a refusal it has nothing to store.
 abbrev pub settles : Reply → Trace → Trace
-settles (reply.Ok v) t = gives_back t
+settles (Reply.Ok v) t = gives_back t
 settles _ t = t
 
 -- Core 0 has lost the race, and returns.
 unfoldable pub left_held : Trace
-left_held = returns 0 reply.Raced (settles reply.Raced (acts 0 (fill_move fill) (took_fill fill) filled_meanwhile))
+left_held = returns 0 Reply.Raced (settles Reply.Raced (acts 0 (fill_move fill) (took_fill fill) filled_meanwhile))
 
 pub record RefusalsHold : Type 0 where
   pub legal : IsLegal two_cores left_held

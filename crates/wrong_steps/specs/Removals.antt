@@ -1,20 +1,10 @@
 -- A wrong removal draws its stamp before it closes the entry.
-use Rattle.std.specs.Prelude.{[], Option, Some, None}
-use Rattle.spk_nums.specs.declared.calls.Call.TheVariants.{Look, Remove}
-use Rattle.entry_words.specs.EntryWord.{entry_of_word}
-use Rattle.entry_words.specs.declared.entry.Entry.{Entry}
-use Rattle.entry_words.specs.declared.entry.Entry.TheVariants.{Free, Held, Closing, Quiescing}
-use Rattle.word_map.specs.Word.{EntryAt}
-use Rattle.word_map.specs.Moves.{LoadOf}
-use Rattle.kernel_history.specs.Legal.{IsLegal}
-use Rattle.kernel_history.specs.Trace.{Trace}
-use Rattle.kernel_history.specs.Scenes.{two_cores, enters, loads}
-use Rattle.stage_quiet.specs.Removal.{close_move, close_end, close_after}
-use Rattle.stage_quiet.specs.declared.close.Close.{Close}
-use Rattle.stage_quiet.specs.declared.close.Close.TheVariants.{AtDraw}
-use Rattle.act_states.specs.Acts.{took_close, looked}
-use Rattle.act_states.specs.declared.work.WorkStep.{WorkStep}
+use Rattle.act_states.specs.{[], Option, Some, None, Remove, entry_of_word, Entry, Held, Closing, EntryAt, LoadOf, close_move, close_end}
+use Rattle.act_states.specs.{close_after, Close, AtDraw, took_close, looked}
+use Rattle.kernel_history.specs.{Look, IsLegal, two_cores, enters, loads}
+use Rattle.kernel_history.specs.entry_words.specs.declared.entry.Entry.TheVariants.{Free, Quiescing}
 use Rattle.wrong_steps.specs.Acts.{acts, range}
+use Rattle.{kernel_history.specs.Trace.Trace, act_states.specs.declared.work.WorkStep.WorkStep}
 
 -- Wrong: the removal of what place 0 of the leaf holds begins with its draw; the entry would be closed after it.
 abbrev pub begins_at : Close

@@ -1,19 +1,10 @@
 -- A wrong return keeps the reference to the component that it leaves.
-use Rattle.std.specs.Prelude.{◌≡◌, ℕ, ℤ, [], pos, None}
-use Rattle.spk_nums.specs.Capability.{cap_of}
-use Rattle.spk_nums.specs.declared.kinds.Kind.TheVariants as kind
-use Rattle.spk_nums.specs.declared.calls.Call.TheVariants.{Call, Gate, Ret}
-use Rattle.entry_words.specs.EntryWord.{word_of_entry}
-use Rattle.entry_words.specs.declared.entry.Entry.TheVariants.{Held}
-use Rattle.word_map.specs.Word.{EntryAt, LiveAt, ClockAt}
-use Rattle.word_map.specs.Moves.{LoadOf, CompareOf, AddOf}
-use Rattle.kernel_history.specs.Counts.{RepresentCounts}
-use Rattle.kernel_history.specs.Legal.{IsLegal}
-use Rattle.kernel_history.specs.Trace.{Trace, Out, phase, state_after, last_left}
-use Rattle.kernel_history.specs.Scenes.{two_cores, enters, goes, decides, loads, returns, done}
-use Rattle.stage_pins.specs.Acquire.{pin_move, pinned_at}
-use Rattle.stage_pins.specs.Commit.{settle_move}
-use Rattle.stage_pins.specs.declared.pin.Pin.TheVariants.{AtLoad, AtCompare}
+use Rattle.kernel_history.specs.{◌≡◌, ℕ, ℤ, [], pos, None, cap_of, Gate, Ret, word_of_entry, Held, EntryAt, LiveAt, ClockAt, LoadOf}
+use Rattle.kernel_history.specs.{CompareOf, AddOf, RepresentCounts, IsLegal, Out, phase, state_after, last_left, two_cores, enters, goes}
+use Rattle.kernel_history.specs.{decides, loads, returns, done, Kind}
+use Rattle.act_states.specs.{pin_move, pinned_at, settle_move, AtLoad}
+use Rattle.{kernel_history.specs.spk_nums.specs.declared.calls.Call.TheVariants.Call, kernel_history.specs.Trace.Trace}
+use Rattle.{act_states.specs.stage_pins.specs.declared.pin.Pin.TheVariants.AtCompare}
 
 -- Core 0 acquires its count of frame 3, which is n, and commits it with a change.
 abbrev pub acquires : ℕ → Trace → Trace
@@ -25,7 +16,7 @@ commits n change t = goes 0 (settle_move (record { pin = pinned_at 3 0 (pos n) 0
 -- Core 0 puts a gate to the component of frame 3 into place 20. There are 4 references to the frame, and then 5.
 unfoldable pub gate_step : Trace
 gate_step =
-    decides 0 (CompareOf (EntryAt 1 20) 0 (word_of_entry (Held (cap_of kind.Gate 3 1)))) done
+    decides 0 (CompareOf (EntryAt 1 20) 0 (word_of_entry (Held (cap_of Kind.Gate 3 1)))) done
     (acquires 4 (loads 0 1 20 (loads 0 1 1 (loads 0 1 3 (loads 0 0 0 (enters 0 (Gate 3 1 20) []))))))
 
 -- It calls through the gate, whose component is entered once more: 6 references.

@@ -1,32 +1,12 @@
 -- A wrong sweep adds up the count words of a frame as it finds them, one after another, and freezes none. Three cores show it: one sweeps,
 -- one copies a capability to the frame, and one removes the first.
-use Rattle.std.specs.Prelude.{◌≡◌, ℕ, ℤ, pos, negsuc, ◌+ℤ◌, [], ◌∷◌, Option, Some, None}
-use Rattle.spk_nums.specs.Rights.{whole_copy}
-use Rattle.spk_nums.specs.Capability.{cap_of}
-use Rattle.spk_nums.specs.Setting.{Setting}
-use Rattle.spk_nums.specs.declared.kinds.Kind.TheVariants as kind
-use Rattle.spk_nums.specs.declared.kinds.FrameKind.TheVariants as frame_kind
-use Rattle.spk_nums.specs.declared.calls.Make.TheVariants as make
-use Rattle.spk_nums.specs.declared.calls.Call.{Call}
-use Rattle.spk_nums.specs.declared.calls.Call.TheVariants.{Remove, Retype, Make as make_call}
-use Rattle.spk_nums.specs.declared.replies.Reply.{Reply}
-use Rattle.spk_nums.specs.declared.steps.StageEnd.{StageEnd}
-use Rattle.spk_nums.specs.declared.steps.StageEnd.TheVariants as ends
-use Rattle.entry_words.specs.EntryWord.{word_of_entry}
-use Rattle.entry_words.specs.declared.entry.Entry.TheVariants.{Held}
-use Rattle.frame_words.specs.Count.{count_of_word}
-use Rattle.word_map.specs.Word.{Word, EntryAt, FrameAt, CountAt, CoreAt, ClockAt}
-use Rattle.word_map.specs.Moves.{Move, LoadOf, CompareOf, StoreOf, AddOf, word_of}
-use Rattle.kernel_history.specs.Counts.{count_in}
-use Rattle.kernel_history.specs.Legal.{IsLegal}
-use Rattle.kernel_history.specs.Trace.{Trace, last_left}
-use Rattle.kernel_history.specs.Scenes.{done}
-use Rattle.stage_pins.specs.Acquire.{pin_move, pin_end, pinned_at}
-use Rattle.stage_pins.specs.Commit.{settle_move}
-use Rattle.stage_pins.specs.declared.pin.Pin.TheVariants.{AtLoad, AtCompare}
-use Rattle.stage_pins.specs.declared.pin.Pinned.{Pinned}
-use Rattle.stage_sweep.specs.Freeze.{move_at, sum_refuses}
-use Rattle.stage_sweep.specs.declared.sweep.SweepAt.TheVariants.{Load}
+use Rattle.act_states.specs.{◌≡◌, ℕ, ℤ, pos, negsuc, ◌+ℤ◌, [], ◌∷◌, Option, Some, None, whole_copy, cap_of, Setting, Call, Remove, Retype}
+use Rattle.act_states.specs.{Make as make_call, Reply, StageEnd, word_of_entry, Held, count_of_word, Word, EntryAt, FrameAt, CountAt}
+use Rattle.act_states.specs.{CoreAt, ClockAt, Move, LoadOf, CompareOf, StoreOf, AddOf, word_of, pin_move, pin_end, pinned_at, settle_move}
+use Rattle.act_states.specs.{AtLoad, Pinned, move_at, Load, Kind, FrameKind}
+use Rattle.kernel_history.specs.{count_in, IsLegal, last_left, done}
+use Rattle.{kernel_history.specs.Trace.Trace, act_states.specs.stage_pins.specs.declared.pin.Pin.TheVariants.AtCompare}
+use Rattle.{act_states.specs.stage_sweep.specs.Freeze.sum_refuses, kernel_history.specs.spk_nums.specs.declared.calls.Make.Make}
 
 -- Frame 10 is the first untyped one.
 unfoldable pub three_cores : Setting
@@ -64,7 +44,7 @@ loads c f i t = goes c (LoadOf (EntryAt f i)) t
 
 -- The word of a place that names the table of frame 10, and what a core c commits of its count of that frame, which was 0.
 abbrev pub table_word : ℕ
-table_word = word_of_entry (Held (cap_of kind.Table 10 0))
+table_word = word_of_entry (Held (cap_of Kind.Table 10 0))
 
 abbrev pub commits : ℕ → ℤ → Option ℕ → Trace → Trace
 commits c change stamp t =
@@ -72,12 +52,12 @@ commits c change stamp t =
 
 -- Core 1 types frame 10, and makes a table of it in place 20: its own count of the frame is 1.
 unfoldable pub typed : Trace
-typed = decides 1 (CompareOf (FrameAt 10) 0 2) done (loads 1 1 0 (loads 1 0 0 (enters 1 (Retype 0 10 frame_kind.Kernel) [])))
+typed = decides 1 (CompareOf (FrameAt 10) 0 2) done (loads 1 1 0 (loads 1 0 0 (enters 1 (Retype 0 10 FrameKind.Kernel) [])))
 
 unfoldable pub made : Trace
 made =
     returns 1 done (commits 1 (pos 1) None (decides 1 (CompareOf (EntryAt 1 20) 0 table_word) done
-    (loads 1 1 20 (loads 1 1 1 (loads 1 1 0 (loads 1 0 0 (enters 1 (make_call make.Table 0 10 1 20) (returns 1 done typed))))))))
+    (loads 1 1 20 (loads 1 1 1 (loads 1 1 0 (loads 1 0 0 (enters 1 (make_call Make.Table 0 10 1 20) (returns 1 done typed))))))))
 
 -- Wrong: a count word is loaded, and not frozen then.
 abbrev pub sum_move : ℕ → Move
@@ -85,19 +65,19 @@ sum_move d = move_at 10 1 d Load
 
 -- Core 1 begins to retype the frame to untyped, and takes the count of core 0.
 unfoldable pub begun : Trace
-begun = goes 1 (sum_move 0) (loads 1 1 0 (loads 1 0 0 (enters 1 (Retype 0 10 frame_kind.Untyped) made)))
+begun = goes 1 (sum_move 0) (loads 1 1 0 (loads 1 0 0 (enters 1 (Retype 0 10 FrameKind.Untyped) made)))
 
 -- Core 0 copies the table's capability to place 21, if it can acquire its count,
 unfoldable pub looking : Trace
 looking = loads 0 1 21 (loads 0 1 1 (loads 0 1 20 (loads 0 0 0 (enters 0 (whole_copy 20 1 21) begun))))
 
 abbrev pub copies : StageEnd Pinned → Trace → Trace
-copies ends.Going t =
+copies StageEnd.Going t =
     returns 0 done (commits 0 (pos 1) None (decides 0 (CompareOf (EntryAt 1 21) 0 table_word) done
     (goes 0 (pin_move (AtCompare 10 0 (pos 0) 0)) (goes 0 (pin_move (AtLoad 10 0)) t))))
-copies (ends.Decided r) t = t
-copies (ends.Done pin) t = t
-copies (ends.Refuse r) t = returns 0 r (decides 0 (pin_move (AtLoad 10 0)) r t)
+copies (StageEnd.Decided r) t = t
+copies (StageEnd.Done pin) t = t
+copies (StageEnd.Refuse r) t = returns 0 r (decides 0 (pin_move (AtLoad 10 0)) r t)
 
 unfoldable pub copied : Trace
 copied = copies (pin_end (AtLoad 10 0) (there looking (CountAt 10 0))) looking

@@ -1,36 +1,16 @@
 -- A wrong switch stores the thread that it leaves with the depth of the one with which it goes on.
-use Rattle.std.specs.Prelude.{◌≡◌, ℕ, Some}
-use Rattle.spk_nums.specs.Capability.{cap_of}
-use Rattle.spk_nums.specs.declared.kinds.FrameKind.TheVariants as frame_kind
-use Rattle.spk_nums.specs.declared.kinds.Kind.TheVariants as kind
-use Rattle.spk_nums.specs.declared.calls.Make.TheVariants as make
-use Rattle.spk_nums.specs.declared.calls.Call.TheVariants.{Call, Retype, Switch, Make as make_call}
-use Rattle.spk_nums.specs.declared.translations.CoreEnd.{CoreEnd}
-use Rattle.frame_words.specs.Frame.{word_of_frame}
-use Rattle.tcap_words.specs.Stack.{word_of_stack}
-use Rattle.tcap_words.specs.Thread.{word_of_thread}
-use Rattle.tcap_words.specs.declared.thread_word.ThreadWord.TheVariants.{Idle, Claimed}
-use Rattle.word_map.specs.Word.{EntryAt, FrameAt, LiveAt, ClockAt}
-use Rattle.word_map.specs.Moves.{LoadOf, CompareOf, StoreOf, AddOf}
-use Rattle.kernel_history.specs.FinalWords.{Represent}
-use Rattle.kernel_history.specs.Legal.{IsLegal}
-use Rattle.kernel_history.specs.Trace.{Trace, Out, phase, state_after, last_left}
-use Rattle.kernel_history.specs.Scenes.{two_cores, enters, goes, decides, loads, returns, done}
-use Rattle.stage_quiet.specs.Clocks.{drawn_stamp}
-use Rattle.act_states.specs.Makings.{making_at, made}
-use Rattle.act_states.specs.Switches.{running_move, idle_move}
-use Rattle.act_states.specs.Typings.{typed}
-use Rattle.act_states.specs.declared.fills.Fill.{Fill}
-use Rattle.act_states.specs.declared.makings.MakingAt.TheVariants.{Load, Mark, Store, Fill as fill_at}
-use Rattle.act_states.specs.declared.objects.NewObject.{NewObject}
-use Rattle.act_states.specs.declared.objects.NewObject.TheVariants.{Thread}
-use Rattle.act_states.specs.declared.own.OwnChange.TheVariants.{Switches}
-use Rattle.act_states.specs.declared.work.Tail.{Tail}
-use Rattle.act_states.specs.declared.work.Tail.TheVariants.{StoreRunning}
-use Rattle.act_states.specs.declared.work.WorkStep.{WorkStep}
-use Rattle.act_states.specs.declared.work.WorkStep.TheVariants.{Changes}
-use Rattle.wrong_steps.specs.Acts.{acts}
-use Rattle.wrong_steps.specs.Invocations.{gated}
+use Rattle.kernel_history.specs as low
+use low.{◌≡◌, ℕ, Some, cap_of, Retype, Switch, Make as make_call, CoreEnd, word_of_frame, word_of_stack, word_of_thread, Idle, Claimed}
+use low.{EntryAt, FrameAt, LiveAt, ClockAt, LoadOf, CompareOf, StoreOf, AddOf, Represent, IsLegal, Out, phase, state_after, last_left}
+use low.{two_cores, enters, goes, decides, loads, returns, done, FrameKind, Kind}
+use Rattle.act_states.specs.{drawn_stamp, making_at, made, running_move, idle_move, typed}
+use Rattle.act_states.specs.{declared.fills.Fill.Fill, declared.makings.MakingAt.TheVariants.Load}
+use Rattle.act_states.specs.{declared.makings.MakingAt.TheVariants.Mark, declared.makings.MakingAt.TheVariants.Store}
+use Rattle.act_states.specs.{declared.makings.MakingAt.TheVariants.Fill as fill_at, declared.objects.NewObject.NewObject}
+use Rattle.act_states.specs.{declared.objects.NewObject.TheVariants.Thread, declared.own.OwnChange.TheVariants.Switches}
+use Rattle.act_states.specs.{declared.work.Tail.Tail, declared.work.Tail.TheVariants.StoreRunning, declared.work.WorkStep.WorkStep}
+use low.{spk_nums.specs.declared.calls.Call.TheVariants.Call, spk_nums.specs.declared.calls.Make.Make, Trace.Trace}
+use Rattle.{act_states.specs.declared.work.WorkStep.TheVariants.Changes, wrong_steps.specs.Acts.acts, wrong_steps.specs.Invocations.gated}
 
 -- Core 0, whose thread is that of frame 4, calls the gate that it has in place 20: its thread has depth 2 then.
 unfoldable pub called : Trace
@@ -40,26 +20,26 @@ called =
 
 -- It makes frame 8 a kernel frame,
 abbrev pub blank_word : ℕ
-blank_word = word_of_frame (typed frame_kind.Kernel)
+blank_word = word_of_frame (typed FrameKind.Kernel)
 
 unfoldable pub blank : Trace
 blank =
     decides 0 (CompareOf (FrameAt 8) 0 blank_word) done
-    (loads 0 1 0 (loads 0 0 0 (enters 0 (Retype 0 8 frame_kind.Kernel) (returns 0 done called))))
+    (loads 0 1 0 (loads 0 0 0 (enters 0 (Retype 0 8 FrameKind.Kernel) (returns 0 done called))))
 
 -- and a thread of it, at depth 1 in the component of frame 3, in place 21. The words above in its stack are 0 before, as they are to be.
 abbrev pub new_thread : NewObject
 new_thread = Thread 3
 
 abbrev pub place : Fill
-place = record { node = 1; entry = 21; word = 0; cap = cap_of kind.Thread 8 0 }
+place = record { node = 1; entry = 21; word = 0; cap = cap_of Kind.Thread 8 0 }
 
 unfoldable pub marked : Trace
 marked =
     goes 0 (making_at 8 new_thread 0 place (Store blank_word 1)) (goes 0 (making_at 8 new_thread 0 place (Store blank_word 0))
     (goes 0 (making_at 8 new_thread 0 place (Mark blank_word)) (goes 0 (making_at 8 new_thread 0 place Load)
     (loads 0 1 21 (loads 0 1 3 (loads 0 1 1 (loads 0 1 0 (loads 0 0 0
-    (enters 0 (make_call (make.Thread 3) 0 8 1 21) (returns 0 done blank))))))))))
+    (enters 0 (make_call (Make.Thread 3) 0 8 1 21) (returns 0 done blank))))))))))
 
 unfoldable pub made_thread : Trace
 made_thread =

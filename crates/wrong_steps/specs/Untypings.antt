@@ -1,20 +1,9 @@
 -- A wrong retype to untyped skips the flush word of a core.
-use Rattle.std.specs.Prelude.{◌≡◌, ◌+◌, ℕ, [], nat_lt, if◌then◌else◌, true, Option, Some, None}
-use Rattle.spk_nums.specs.Capability.{cap_of}
-use Rattle.spk_nums.specs.declared.kinds.Kind.TheVariants as kind
-use Rattle.spk_nums.specs.declared.kinds.FrameKind.TheVariants as frame_kind
-use Rattle.spk_nums.specs.declared.calls.Make.TheVariants as make
-use Rattle.spk_nums.specs.declared.calls.Call.TheVariants.{Remove, Retype, Flush, Make as make_call}
-use Rattle.entry_words.specs.EntryWord.{word_of_entry}
-use Rattle.entry_words.specs.declared.entry.Entry.TheVariants.{Held}
-use Rattle.word_map.specs.Word.{EntryAt, FrameAt, FlushAt, ClockAt}
-use Rattle.word_map.specs.Moves.{LoadOf, CompareOf, StoreOf, AddOf}
-use Rattle.kernel_history.specs.Legal.{IsLegal}
-use Rattle.kernel_history.specs.Trace.{Trace}
-use Rattle.kernel_history.specs.Scenes.{two_cores, there, enters, goes, decides, loads, returns, done}
-use Rattle.stage_quiet.specs.Scan.{quiet_move, quiet_next, quiet_refuses}
-use Rattle.stage_quiet.specs.declared.quiet.Quiet.{Quiet}
-use Rattle.stage_quiet.specs.declared.quiet.Quiet.TheVariants.{AtCore, AtFlush}
+use Rattle.kernel_history.specs.{◌≡◌, ◌+◌, ℕ, [], ltb as nat_lt, if◌then◌else◌, true, Option, Some, None, cap_of, Remove, Retype, Flush}
+use Rattle.kernel_history.specs.{Make as make_call, word_of_entry, Held, EntryAt, FrameAt, FlushAt, ClockAt, LoadOf, CompareOf, StoreOf}
+use Rattle.kernel_history.specs.{AddOf, IsLegal, two_cores, there, enters, goes, decides, loads, returns, done, Kind, FrameKind}
+use Rattle.act_states.specs.{quiet_move, quiet_next, quiet_refuses, Quiet, AtCore, AtFlush}
+use Rattle.{kernel_history.specs.Trace.Trace, kernel_history.specs.spk_nums.specs.declared.calls.Make.Make}
 
 -- Wrong: after the flush word of a core that of the next one is passed over.
 abbrev pub wrong_next : ℕ → Quiet → Option Quiet
@@ -23,12 +12,12 @@ wrong_next cores (AtFlush stamp at) = if nat_lt (at + 2) cores then Some (AtFlus
 
 -- Core 0 makes pages of frame 8,
 unfoldable pub typed : Trace
-typed = decides 0 (CompareOf (FrameAt 8) 0 2) done (loads 0 1 0 (loads 0 0 0 (enters 0 (Retype 0 8 frame_kind.Kernel) [])))
+typed = decides 0 (CompareOf (FrameAt 8) 0 2) done (loads 0 1 0 (loads 0 0 0 (enters 0 (Retype 0 8 FrameKind.Kernel) [])))
 
 unfoldable pub made : Trace
 made =
-    decides 0 (CompareOf (EntryAt 1 20) 0 (word_of_entry (Held (cap_of kind.Pages 8 0)))) done
-    (loads 0 1 20 (loads 0 1 1 (loads 0 1 0 (loads 0 0 0 (enters 0 (make_call make.Pages 0 8 1 20) (returns 0 done typed))))))
+    decides 0 (CompareOf (EntryAt 1 20) 0 (word_of_entry (Held (cap_of Kind.Pages 8 0)))) done
+    (loads 0 1 20 (loads 0 1 1 (loads 0 1 0 (loads 0 0 0 (enters 0 (make_call Make.Pages 0 8 1 20) (returns 0 done typed))))))
 
 -- removes them, at the time 1,
 unfoldable pub removed : Trace
@@ -43,7 +32,7 @@ flushed =
 unfoldable pub scanned : Trace
 scanned =
     goes 0 (quiet_move (AtFlush 1 0)) (goes 0 (quiet_move (AtCore 1 0 1 true))
-    (loads 0 1 0 (loads 0 0 0 (enters 0 (Retype 0 8 frame_kind.Untyped) flushed))))
+    (loads 0 1 0 (loads 0 0 0 (enters 0 (Retype 0 8 FrameKind.Untyped) flushed))))
 
 -- and as no word refuses, and none is left by the wrong step, it draws and is carried out.
 unfoldable pub untyped : Trace

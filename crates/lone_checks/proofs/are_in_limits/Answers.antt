@@ -1,8 +1,5 @@
-use Rattle.std.proofs.Common.{rules, All, List, subst}
-use Rattle.std.proofs.lemmas.List.{take_all}
+use Rattle.lone_kernel.specs.flight.proofs.{rules, All, List, subst, take_all, Call, InLimits}
 use Rattle.std.proofs.lemmas.List.Elements.{All-more}
-use Rattle.spk_nums.specs.declared.calls.Call.{Call}
-use Rattle.spk_nums.specs.CallLimits.{InLimits}
 use Rattle.lone_checks.proofs.are_in_limits.Goals as goal
 
 pub each-preserved : goal.each-preserved

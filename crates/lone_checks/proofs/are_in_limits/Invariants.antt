@@ -1,5 +1,4 @@
-use Rattle.std.proofs.Common.{All, take}
-use Rattle.spk_nums.specs.CallLimits.{InLimits}
+use Rattle.lone_kernel.specs.core_invariant.specs.{All, take, InLimits}
 use Rattle.lone_checks.proofs.are_in_limits.Given as goal
 
 abbrev pub invariant-each : goal.invariant-each

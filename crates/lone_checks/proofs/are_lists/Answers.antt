@@ -1,8 +1,6 @@
-use Rattle.std.proofs.Common.{rules, All, List, Vec, Global, subst, sym, ◌<◌, []}
-use Rattle.std.proofs.lemmas.List.{take_all, get_or-map, length-map}
-use Rattle.std.proofs.lemmas.List.Elements.{All-more, All-map}
-use Rattle.spk_nums.specs.declared.calls.Call.{Call}
-use Rattle.lone_checks.specs.Lists.{IsRunnable}
+use Rattle.lone_kernel.specs.flight.proofs.{rules, All, List, subst, sym, ◌<◌, [], take_all, get_or-map, length-map, Call}
+use Rattle.{std.proofs.Common.Vec, std.proofs.Common.Global, std.proofs.lemmas.List.Elements.All-more}
+use Rattle.{std.proofs.lemmas.List.Elements.All-map, lone_checks.specs.Lists.IsRunnable}
 use Rattle.lone_checks.proofs.are_lists.Goals as goal
 
 pub lists-preserved : goal.lists-preserved

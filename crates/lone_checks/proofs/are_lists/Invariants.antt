@@ -1,5 +1,4 @@
-use Rattle.std.proofs.Common.{All, take}
-use Rattle.lone_checks.specs.Lists.{IsRunnable}
+use Rattle.{std.proofs.Common.All, std.proofs.Common.take, lone_checks.specs.Lists.IsRunnable}
 use Rattle.lone_checks.proofs.are_lists.Given as goal
 
 abbrev pub invariant-lists : goal.invariant-lists

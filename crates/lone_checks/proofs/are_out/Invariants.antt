@@ -1,5 +1,4 @@
-use Rattle.std.proofs.Common.{◌≡◌, ℕ, ◌<◌, None}
-use Rattle.lone_kernel.specs.Machine.{core_at}
+use Rattle.{std.proofs.Common.◌≡◌, std.proofs.Common.ℕ, std.proofs.Common.◌<◌, std.proofs.Common.None, lone_kernel.specs.Machine.core_at}
 use Rattle.lone_checks.proofs.are_out.Given as goal
 
 abbrev pub invariant-cores : goal.invariant-cores

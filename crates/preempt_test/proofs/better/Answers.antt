@@ -1,8 +1,8 @@
 use Rattle.std.proofs.Common.{◌≡◌, ◌≤◌, ◌+◌, ◌∙◌, ◌&&◌, sym, ap, arith, length, drop, true, false}
 use Rattle.spk_nums.specs.Merging.{number_of, is_smaller, is_better}
 use Rattle.preempt_test.proofs.Walks.{judged, past_end, all_passed}
-use Rattle.preempt_test.proofs.better.Goals as goal
 use Rattle.preempt_test.proofs.better.Goals.{in-Some+else-not-smaller, in_default}
+use Rattle.preempt_test.proofs.better.Goals as goal
 
 pub returns-then-not-smaller : goal.returns-then-not-smaller
 returns-then-not-smaller c =

@@ -1,5 +1,4 @@
-use Rattle.std.proofs.Common.{◌≡◌, drop}
-use Rattle.spk_nums.specs.Merging.{is_better}
+use Rattle.{std.proofs.Common.◌≡◌, std.proofs.Common.drop, spk_nums.specs.Merging.is_better}
 use Rattle.preempt_test.proofs.better.Given as goal
 
 abbrev pub invariant-pairs : goal.invariant-pairs

@@ -1,8 +1,8 @@
 use Rattle.std.proofs.Common.{◌≤◌, ◌∙◌, sym, ap, arith, length}
 use Rattle.spk_nums.specs.Merging.{number_of}
 use Rattle.preempt_test.proofs.Walks.{found_here, passed_here, past_end, all_passed}
-use Rattle.preempt_test.proofs.number_in.Goals as goal
 use Rattle.preempt_test.proofs.number_in.Goals.{in-Some+else-named-sched, in_default}
+use Rattle.preempt_test.proofs.number_in.Goals as goal
 
 pub returns-then-named-sched : goal.returns-then-named-sched
 returns-then-named-sched c = sym (c.pairs.invariant

@@ -1,5 +1,4 @@
-use Rattle.std.proofs.Common.{◌≡◌, drop}
-use Rattle.spk_nums.specs.Merging.{number_of}
+use Rattle.{std.proofs.Common.◌≡◌, std.proofs.Common.drop, spk_nums.specs.Merging.number_of}
 use Rattle.preempt_test.proofs.number_in.Given as goal
 
 abbrev pub invariant-pairs : goal.invariant-pairs

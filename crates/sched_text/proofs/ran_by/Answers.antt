@@ -1,5 +1,4 @@
-use Rattle.std.proofs.Common.{arith}
-use Rattle.sched_text.proofs.Adding.{sum_most}
+use Rattle.{std.proofs.Common.arith, sched_text.proofs.Adding.sum_most}
 use Rattle.sched_text.proofs.ran_by.Goals as goal
 
 pub overflow_add-ran : goal.overflow_add-ran

@@ -1,5 +1,4 @@
-use Rattle.std.proofs.Common.{◌≡◌, ◌≤◌, length, drop}
-use Rattle.sched_rules.specs.Texts.{ran_by}
+use Rattle.{std.proofs.Common.◌≡◌, std.proofs.Common.◌≤◌, std.proofs.Common.length, std.proofs.Common.drop, sched_rules.specs.Texts.ran_by}
 use Rattle.sched_text.proofs.ran_by.Given as goal
 
 abbrev pub invariant-turns : goal.invariant-turns

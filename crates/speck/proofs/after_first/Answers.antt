@@ -1,7 +1,5 @@
-use Rattle.std.proofs.Common.{◌≡◌, ◌++◌, drop, length, sym, ap, ◌∙◌}
-use Rattle.std.proofs.lemmas.Iterator.{items_from_collect}
-use Rattle.std.proofs.lemmas.Iterator.Adapters.{YieldsList-from_vec}
-use Rattle.std.specs.Option.{option_to_list}
+use Rattle.std.proofs.Common.{◌≡◌, ◌++◌, drop, length, sym, ap, ◌∙◌, option_to_list}
+use Rattle.std.proofs.{lemmas.Iterator.items_from_collect, lemmas.Iterator.Adapters.YieldsList-from_vec}
 use Rattle.std.specs.Vec.Iter.{into_iter_items}
 use Rattle.speck.proofs.after_first.Goals as goal
 

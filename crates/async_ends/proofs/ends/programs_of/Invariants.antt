@@ -1,5 +1,4 @@
-use Rattle.std.proofs.Common.{◌≡◌, replicate}
-use Rattle.async_ends.specs.Running.{unused}
+use Rattle.{std.proofs.Common.◌≡◌, std.proofs.Common.replicate, async_ends.specs.Running.unused}
 use Rattle.async_ends.proofs.ends.programs_of.Given as goal
 
 abbrev pub invariant-loop : goal.invariant-loop

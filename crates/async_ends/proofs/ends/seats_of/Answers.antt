@@ -1,9 +1,7 @@
 use Rattle.std.proofs.Common.{rules, ◌∙◌, ◌++◌, [], ◌∷◌, length, map, ap, sym, subst, map-id}
-use Rattle.std.proofs.lemmas.List.{map-append}
-use Rattle.std.proofs.lemmas.List.Elements.{All-get_or}
-use Rattle.std.proofs.lemmas.Iterator.Consumers.{YieldsList-turn, YieldsList-end}
-use Rattle.std.proofs.lemmas.Iterator.Adapters.{YieldsList-from_vec}
-use Rattle.async_ends.specs.Tables.{seat_value, IsSeat}
+use Rattle.async_ends.specs.{seat_value, IsSeat}
+use Rattle.std.proofs.{lemmas.List.map-append, lemmas.List.Elements.All-get_or, lemmas.Iterator.Consumers.YieldsList-turn}
+use Rattle.std.proofs.{lemmas.Iterator.Consumers.YieldsList-end, lemmas.Iterator.Adapters.YieldsList-from_vec}
 use Rattle.async_ends.proofs.ends.seats_of.Goals as goal
 
 pub loop-seat-init : goal.loop-seat-init

@@ -1,5 +1,4 @@
-use Rattle.std.proofs.Common.{◌≡◌, map}
-use Rattle.async_ends.specs.Tables.{seat_value}
+use Rattle.{std.proofs.Common.◌≡◌, std.proofs.Common.map, async_ends.specs.Tables.seat_value}
 use Rattle.async_ends.proofs.ends.seats_of.Given as goal
 
 abbrev pub invariant-loop-seat : goal.invariant-loop-seat

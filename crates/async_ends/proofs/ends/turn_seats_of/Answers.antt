@@ -1,8 +1,7 @@
 use Rattle.std.proofs.Common.{rules, ◌≡◌, ◌∙◌, ◌++◌, [], ◌∷◌, refl, sym, subst, map-id}
-use Rattle.std.proofs.lemmas.Iterator.Consumers.{YieldsList-end}
-use Rattle.std.proofs.lemmas.Iterator.Adapters.{YieldsList-from_vec}
-use Rattle.async_ends.specs.Tables.{seat_value, IsWrapped, AreWrapped}
-use Rattle.async_ends.proofs.Closing.{all_zip_push}
+use Rattle.async_ends.specs.{seat_value, AreWrapped}
+use Rattle.std.proofs.{lemmas.Iterator.Consumers.YieldsList-end, lemmas.Iterator.Adapters.YieldsList-from_vec}
+use Rattle.{async_ends.specs.Tables.IsWrapped, async_ends.proofs.Closing.all_zip_push}
 use Rattle.async_ends.proofs.ends.turn_seats_of.Goals as goal
 
 pub loop-one-init : goal.loop-one-init

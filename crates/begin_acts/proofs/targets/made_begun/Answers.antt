@@ -1,7 +1,5 @@
-use Rattle.std.proofs.Common.{◌∙◌, ap}
-use Rattle.act_counts.specs.act_states.specs.Objects.{object_made}
-use Rattle.act_counts.specs.act_states.specs.Acts.{makes_at}
-use Rattle.begin_acts.proofs.OtherMakes.{makes_other}
+use Rattle.act_counts.specs.act_states.proofs.{◌∙◌, ap, makes_at}
+use Rattle.{act_counts.specs.act_states.specs.Objects.object_made, begin_acts.proofs.OtherMakes.makes_other}
 use Rattle.begin_acts.proofs.targets.made_begun.Goals as goal
 
 pub returns-in_default : goal.returns-in_default

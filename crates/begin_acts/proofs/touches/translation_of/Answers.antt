@@ -1,5 +1,4 @@
-use Rattle.std.proofs.Common.{◌&&◌, ◌==◌, sym, ◌∙◌}
-use Rattle.spk_nums.specs.declared.translations.Translation.{Translation}
+use Rattle.act_counts.specs.act_states.proofs.{◌&&◌, ◌==◌, sym, ◌∙◌, Translation}
 use Rattle.begin_acts.proofs.Searching.{found_here, found_later}
 use Rattle.begin_acts.proofs.touches.translation_of.Goals as goal
 

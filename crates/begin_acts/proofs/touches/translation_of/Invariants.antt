@@ -1,6 +1,4 @@
-use Rattle.std.proofs.Common.{◌≡◌, ◌&&◌, ◌==◌, drop}
-use Rattle.std.specs.Prelude.{find}
-use Rattle.act_counts.specs.kernel_rules.specs.MemoryCalls.{translation_of}
+use Rattle.act_counts.specs.kernel_rules.specs.{◌≡◌, ◌&&◌, ◌==◌, drop, find, translation_of}
 use Rattle.begin_acts.proofs.touches.translation_of.Given as goal
 
 abbrev pub invariant-each : goal.invariant-each

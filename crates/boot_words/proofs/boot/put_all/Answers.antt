@@ -1,4 +1,4 @@
-use Rattle.word_map.specs.Word.{LiveAt}
+use Rattle.kernel_history.specs.word_map.specs.Word.{LiveAt}
 use Rattle.boot_words.proofs.Fillings.{fills_both, frame_kept, core_kept, all_right}
 use Rattle.boot_words.proofs.boot.put_all.Goals as goal
 

@@ -1,6 +1,4 @@
-use Rattle.std.proofs.Common.{ap, ◌∙◌, refl}
-use Rattle.word_map.specs.Word.{ClockAt}
-use Rattle.word_map.specs.Places.{place_of}
+use Rattle.kernel_history.proofs.{ap, ◌∙◌, refl, ClockAt, place_of}
 use Rattle.boot_words.proofs.Fillings.{puts}
 use Rattle.boot_words.proofs.boot.put_clock.Goals as goal
 

@@ -1,5 +1,4 @@
-use Rattle.std.proofs.Common.{ℕ, ◌<◌}
-use Rattle.boot_words.specs.Filling.{Fills, IsCoreRight}
+use Rattle.{std.proofs.Common.ℕ, std.proofs.Common.◌<◌, boot_words.specs.Filling.Fills, boot_words.specs.Filling.IsCoreRight}
 use Rattle.boot_words.proofs.boot.put_cores.Given as goal
 
 abbrev pub invariant-cores : goal.invariant-cores

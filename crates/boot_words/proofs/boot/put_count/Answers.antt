@@ -1,6 +1,4 @@
-use Rattle.std.proofs.Common.{ap, ◌∙◌}
-use Rattle.word_map.specs.Word.{CountAt}
-use Rattle.word_map.specs.Places.{place_of}
+use Rattle.kernel_history.proofs.{ap, ◌∙◌, CountAt, place_of}
 use Rattle.boot_words.proofs.Fillings.{puts}
 use Rattle.boot_words.proofs.boot.put_count.Goals as goal
 

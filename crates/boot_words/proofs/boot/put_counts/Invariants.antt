@@ -1,6 +1,5 @@
-use Rattle.std.proofs.Common.{ℕ, ◌<◌}
-use Rattle.word_map.specs.Word.{CountAt}
-use Rattle.boot_words.specs.Filling.{Fills, IsRight}
+use Rattle.kernel_history.specs.{ℕ, ◌<◌, CountAt}
+use Rattle.boot_words.specs.{Fills, IsRight}
 use Rattle.boot_words.proofs.boot.put_counts.Given as goal
 
 abbrev pub invariant-counts : goal.invariant-counts

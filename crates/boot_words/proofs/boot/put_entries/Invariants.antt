@@ -1,6 +1,5 @@
-use Rattle.std.proofs.Common.{ℕ, ◌<◌}
-use Rattle.word_map.specs.Word.{EntryAt}
-use Rattle.boot_words.specs.Filling.{Fills, IsRight}
+use Rattle.kernel_history.specs.{ℕ, ◌<◌, EntryAt}
+use Rattle.boot_words.specs.{Fills, IsRight}
 use Rattle.boot_words.proofs.boot.put_entries.Given as goal
 
 abbrev pub invariant-entries : goal.invariant-entries

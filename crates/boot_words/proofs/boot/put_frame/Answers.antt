@@ -1,6 +1,4 @@
-use Rattle.std.proofs.Common.{ap, ◌∙◌}
-use Rattle.word_map.specs.Word.{FrameAt}
-use Rattle.word_map.specs.Places.{place_of}
+use Rattle.kernel_history.proofs.{ap, ◌∙◌, FrameAt, place_of}
 use Rattle.boot_words.proofs.Fillings.{puts}
 use Rattle.boot_words.proofs.boot.put_frame.Goals as goal
 

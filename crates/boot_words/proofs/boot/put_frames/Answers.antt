@@ -1,7 +1,6 @@
 use Rattle.std.proofs.Common.{inl, inr, arith, sym, subst}
-use Rattle.std.proofs.lemmas.Bool.{cases_eq}
-use Rattle.boot_words.specs.Filling.{IsFrameRight}
 use Rattle.boot_words.proofs.Fillings.{fills_both, frame_kept}
+use Rattle.{std.proofs.lemmas.Bool.cases_eq, boot_words.specs.Filling.IsFrameRight}
 use Rattle.boot_words.proofs.boot.put_frames.Goals as goal
 
 pub frames-preserved : goal.frames-preserved

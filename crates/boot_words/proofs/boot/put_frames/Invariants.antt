@@ -1,5 +1,4 @@
-use Rattle.std.proofs.Common.{ℕ, ◌<◌}
-use Rattle.boot_words.specs.Filling.{Fills, IsFrameRight}
+use Rattle.{boot_words.specs.Fills, boot_words.specs.IsFrameRight, std.proofs.Common.ℕ, std.proofs.Common.◌<◌}
 use Rattle.boot_words.proofs.boot.put_frames.Given as goal
 
 abbrev pub invariant-frames : goal.invariant-frames

@@ -1,6 +1,4 @@
-use Rattle.std.proofs.Common.{ℕ, ◌<◌}
-use Rattle.word_map.specs.Word.{LiveAt}
-use Rattle.boot_words.specs.Filling.{Fills, IsRight}
+use Rattle.{kernel_history.specs.ℕ, kernel_history.specs.◌<◌, kernel_history.specs.LiveAt, boot_words.specs.Fills, boot_words.specs.IsRight}
 use Rattle.boot_words.proofs.boot.put_lives.Given as goal
 
 abbrev pub invariant-numbers : goal.invariant-numbers

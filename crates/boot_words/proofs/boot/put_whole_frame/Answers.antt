@@ -1,4 +1,4 @@
-use Rattle.word_map.specs.Word.{EntryAt, FrameAt}
+use Rattle.kernel_history.specs.{EntryAt, FrameAt}
 use Rattle.boot_words.proofs.boot.put_whole_frame.Goals as goal
 
 pub returns-clause-right : goal.returns-clause-right

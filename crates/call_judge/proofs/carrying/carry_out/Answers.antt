@@ -1,6 +1,4 @@
-use Rattle.std.proofs.Common.{sym, refl}
-use Rattle.seq_state.specs.Maps.{state_of}
-use Rattle.seq_state.proofs.Same.{same_by}
+use Rattle.seq_state.proofs.{sym, refl, state_of, same_by}
 use Rattle.call_judge.proofs.CarriedOut.{other_result}
 use Rattle.call_judge.proofs.carrying.carry_out.Goals as goal
 

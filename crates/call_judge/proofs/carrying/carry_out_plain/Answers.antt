@@ -1,9 +1,5 @@
-use Rattle.std.proofs.Common.{Bool, sym, subst}
-use Rattle.spk_nums.specs.declared.replies.Value.TheVariants.{Nothing}
-use Rattle.kernel_rules.specs.CallRelation.{change_of}
-use Rattle.seq_state.specs.Maps.{state_of}
-use Rattle.call_judge.specs.Judged.{CarriesOut}
-use Rattle.call_judge.proofs.CarriedOut.{plain_result}
+use Rattle.seq_state.proofs.{Bool, sym, subst, Nothing, change_of, state_of}
+use Rattle.{call_judge.specs.Judged.CarriesOut, call_judge.proofs.CarriedOut.plain_result}
 use Rattle.call_judge.proofs.carrying.carry_out_plain.Goals as goal
 
 pub returns-clause-exact : goal.returns-clause-exact

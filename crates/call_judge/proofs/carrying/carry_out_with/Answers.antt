@@ -1,6 +1,4 @@
-use Rattle.kernel_rules.specs.CallRelation.{change_of}
-use Rattle.seq_state.specs.Parts.{frame_of, core_of}
-use Rattle.seq_state.specs.Maps.{state_of}
+use Rattle.seq_state.specs.{change_of, frame_of, core_of, state_of}
 use Rattle.call_judge.proofs.CarriedOut.{put_back_result, refused_result}
 use Rattle.call_judge.proofs.carrying.carry_out_with.Goals as goal
 

@@ -1,7 +1,4 @@
-use Rattle.std.proofs.Common.{◌∙◌, refl}
-use Rattle.std.proofs.lemmas.Bool.{false≢true, true≢false}
-use Rattle.seq_state.specs.Maps.{state_of}
-use Rattle.seq_state.proofs.Same.{same_by}
+use Rattle.seq_state.proofs.{◌∙◌, refl, false≢true, true≢false, state_of, same_by}
 use Rattle.call_judge.proofs.deciding.carry_out_acting.Goals as goal
 
 pub returns-then-not-acts-clause-exact : goal.returns-then-not-acts-clause-exact

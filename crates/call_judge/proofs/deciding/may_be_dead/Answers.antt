@@ -1,5 +1,4 @@
-use Rattle.seq_state.specs.Maps.{state_of}
-use Rattle.call_judge.proofs.Reached.{dead_first}
+use Rattle.{seq_state.specs.Maps.state_of, call_judge.proofs.Reached.dead_first}
 use Rattle.call_judge.proofs.deciding.may_be_dead.Goals as goal
 
 pub returns : goal.returns

@@ -1,6 +1,4 @@
-use Rattle.seq_state.specs.Maps.{state_of}
-use Rattle.seq_plans.specs.OwnCauses.{causes_in}
-use Rattle.call_judge.proofs.JudgedRules.{judged}
+use Rattle.{seq_state.specs.Maps.state_of, seq_plans.specs.OwnCauses.causes_in, call_judge.proofs.JudgedRules.judged}
 use Rattle.call_judge.proofs.deciding.rule_may.Goals as goal
 
 pub returns : goal.returns

@@ -1,5 +1,4 @@
-use Rattle.std.proofs.Common.{◌∙◌, sym}
-use Rattle.call_reader.proofs.Spelled.{found_word}
+use Rattle.{std.proofs.Common.◌∙◌, std.proofs.Common.sym, call_reader.proofs.Spelled.found_word}
 use Rattle.call_reader.proofs.first_words.first_word.Goals as goal
 
 pub returns-then-is_word : goal.returns-then-is_word

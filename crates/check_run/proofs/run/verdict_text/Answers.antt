@@ -1,7 +1,5 @@
-use Rattle.std.proofs.Common.{◌≡◌, IfOk, sym, subst}
-use Rattle.std.specs.Prelude.{string_bytes}
-use Rattle.marked_history.specs.declared.marks.Verdict.{Verdict}
-use Rattle.check_run.specs.Texts.{illegal_text, verdict_text}
+use Rattle.std.proofs.Common.{◌≡◌, IfOk, sym, subst, string_bytes}
+use Rattle.{marked_history.specs.declared.marks.Verdict.Verdict, check_run.specs.Texts.illegal_text, check_run.specs.Texts.verdict_text}
 use Rattle.check_run.proofs.run.verdict_text.Goals as goal
 
 pub returns-in-Illegal : goal.returns-in-Illegal

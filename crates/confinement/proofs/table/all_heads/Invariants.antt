@@ -1,5 +1,4 @@
-use Rattle.std.proofs.Common.{◌≡◌, length}
-use Rattle.confinement.specs.Links.{StartsAll}
+use Rattle.{std.proofs.Common.◌≡◌, std.proofs.Common.length, confinement.specs.Links.StartsAll}
 use Rattle.confinement.proofs.table.all_heads.Given as goal
 
 abbrev pub invariant-each : goal.invariant-each

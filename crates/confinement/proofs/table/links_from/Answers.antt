@@ -1,7 +1,6 @@
 use Rattle.std.proofs.Common.{◌≡◌, ◌<◌, ◌++◌, ℕ, Option, Some, length, slice_get, refl, sym, subst, arith}
-use Rattle.std.proofs.lemmas.Option.{slice_get_read}
-use Rattle.confinement.specs.Links.{chain_from, IsBelow, places_left}
-use Rattle.confinement.proofs.Chains.{below_then, fewer_left, walks_on}
+use Rattle.{confinement.specs.chain_from, confinement.specs.IsBelow, confinement.specs.places_left, std.proofs.lemmas.Option.slice_get_read}
+use Rattle.{confinement.proofs.Chains.below_then, confinement.proofs.Chains.fewer_left, confinement.proofs.Chains.walks_on}
 use Rattle.confinement.proofs.table.links_from.Goals as goal
 
 pub walk-smaller : goal.walk-smaller

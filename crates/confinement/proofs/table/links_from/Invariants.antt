@@ -1,5 +1,5 @@
+use Rattle.confinement.specs.{chain_from, IsBelow, places_left}
 use Rattle.std.proofs.Common.{◌≡◌, ◌++◌, length}
-use Rattle.confinement.specs.Links.{chain_from, IsBelow, places_left}
 use Rattle.confinement.proofs.table.links_from.Given as goal
 
 abbrev pub invariant-walk : goal.invariant-walk

@@ -1,7 +1,5 @@
-use Rattle.std.proofs.Common.{◌∙◌, None, ap}
-use Rattle.call_steps.specs.call_stages.specs.Cores.{started}
-use Rattle.core_kernel.specs.Running.{run_of}
-use Rattle.core_kernel.proofs.Closing.{programs_more}
+use Rattle.flight_laws.specs.flight.proofs.{◌∙◌, None, ap, started}
+use Rattle.{core_kernel.specs.Running.run_of, core_kernel.proofs.Closing.programs_more}
 use Rattle.core_kernel.proofs.ends.programs_of.Goals as goal
 
 pub loop-core-preserved : goal.loop-core-preserved

@@ -1,9 +1,6 @@
-use Rattle.std.proofs.Common.{rules, ◌∙◌, ◌++◌, [], ◌∷◌, length, map, ap, sym, subst, map-id}
-use Rattle.std.proofs.lemmas.List.{map-append}
-use Rattle.std.proofs.lemmas.List.Elements.{All-get_or}
-use Rattle.std.proofs.lemmas.Iterator.Consumers.{YieldsList-turn, YieldsList-end}
-use Rattle.std.proofs.lemmas.Iterator.Adapters.{YieldsList-from_vec}
-use Rattle.core_kernel.specs.Kernel.{seat_value, IsSeat}
+use Rattle.boot_words.specs.kernel_history.proofs.{rules, ◌∙◌, ◌++◌, [], ◌∷◌, length, map, ap, sym, subst, map-id, map-append}
+use Rattle.std.proofs.{lemmas.List.Elements.All-get_or, lemmas.Iterator.Consumers.YieldsList-turn, lemmas.Iterator.Consumers.YieldsList-end}
+use Rattle.{core_kernel.specs.seat_value, core_kernel.specs.IsSeat, std.proofs.lemmas.Iterator.Adapters.YieldsList-from_vec}
 use Rattle.core_kernel.proofs.ends.seats_of.Goals as goal
 
 pub loop-seat-init : goal.loop-seat-init

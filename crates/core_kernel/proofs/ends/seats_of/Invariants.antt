@@ -1,5 +1,4 @@
-use Rattle.std.proofs.Common.{◌≡◌, map}
-use Rattle.core_kernel.specs.Kernel.{seat_value}
+use Rattle.{std.proofs.Common.◌≡◌, std.proofs.Common.map, core_kernel.specs.Kernel.seat_value}
 use Rattle.core_kernel.proofs.ends.seats_of.Given as goal
 
 abbrev pub invariant-loop-seat : goal.invariant-loop-seat

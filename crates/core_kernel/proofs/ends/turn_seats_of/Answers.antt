@@ -1,10 +1,8 @@
-use Rattle.std.proofs.Common.{rules, arith, ◌≡◌, ◌∙◌, ◌++◌, ◌≤◌, [], ◌∷◌, length, map, ap, sym, subst, map-id, All}
-use Rattle.std.proofs.lemmas.List.{length-map, map-append}
-use Rattle.std.proofs.lemmas.List.Elements.{All-get_or, All-push}
-use Rattle.std.proofs.lemmas.Iterator.Consumers.{YieldsList-turn, YieldsList-end}
-use Rattle.std.proofs.lemmas.Iterator.Adapters.{YieldsList-from_vec}
-use Rattle.core_kernel.specs.Kernel.{CoreSeatValue, seat_value, IsSeat}
-use Rattle.core_kernel.specs.Turns.{AreWrapped}
+use Rattle.boot_words.specs.kernel_history.proofs.{rules, arith, ◌≡◌, ◌∙◌, ◌++◌, ◌≤◌, [], ◌∷◌, length, map, ap, sym, subst, map-id, All}
+use Rattle.boot_words.specs.kernel_history.proofs.{length-map, map-append}
+use Rattle.core_kernel.specs.{CoreSeatValue, seat_value, IsSeat, AreWrapped}
+use Rattle.std.proofs.{lemmas.List.Elements.All-get_or, lemmas.List.Elements.All-push, lemmas.Iterator.Consumers.YieldsList-turn}
+use Rattle.std.proofs.{lemmas.Iterator.Consumers.YieldsList-end, lemmas.Iterator.Adapters.YieldsList-from_vec}
 use Rattle.core_kernel.proofs.ends.turn_seats_of.Goals as goal
 
 pub loop-one-init : goal.loop-one-init

@@ -1,5 +1,4 @@
-use Rattle.std.proofs.Common.{◌≤◌, length, vec_capacity}
-use Rattle.core_kernel.specs.Turns.{AreWrapped}
+use Rattle.{std.proofs.Common.◌≤◌, std.proofs.Common.length, std.proofs.Common.vec_capacity, core_kernel.specs.Turns.AreWrapped}
 use Rattle.core_kernel.proofs.ends.turn_seats_of.Given as goal
 
 abbrev pub invariant-loop-one : goal.invariant-loop-one

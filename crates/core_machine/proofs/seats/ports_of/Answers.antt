@@ -1,7 +1,5 @@
 use Rattle.std.proofs.Common.{◌∙◌, ◌++◌, [], ◌∷◌, ap}
-use Rattle.std.specs.Arc.{arc_value}
-use Rattle.core_kernel.specs.Kernel.{CoreSeatValue}
-use Rattle.core_machine.proofs.Dealing.{turned_on}
+use Rattle.{std.specs.Arc.arc_value, core_kernel.specs.Kernel.CoreSeatValue, core_machine.proofs.Dealing.turned_on}
 use Rattle.core_machine.proofs.seats.ports_of.Goals as goal
 
 pub each-preserved : goal.each-preserved

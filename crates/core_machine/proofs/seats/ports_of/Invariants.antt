@@ -1,6 +1,4 @@
-use Rattle.std.specs.Prelude.{vec_len}
-use Rattle.std.specs.Arc.{arc_value}
-use Rattle.core_machine.proofs.Dealing.{AreTurned}
+use Rattle.{std.specs.Prelude.vec_len, std.specs.Arc.arc_value, core_machine.proofs.Dealing.AreTurned}
 use Rattle.core_machine.proofs.seats.ports_of.Given as goal
 
 abbrev pub invariant-each : goal.invariant-each

@@ -1,8 +1,8 @@
-use Rattle.std.proofs.Common.{arith, ◌≡◌, ◌∙◌, ◌≤◌, ◌<◌, refl, true, length, get_or, vec_capacity, ap, sym, subst}
-use Rattle.std.proofs.lemmas.List.Elements.{All-get_or}
-use Rattle.spk_nums.specs.CallLimits.{InLimits}
-use Rattle.core_runs.specs.Runs.{RunnerValue, IsRunner, MakesCalls}
+use Rattle.core_kernel.specs.flight_laws.specs.flight.proofs.{arith, ◌≡◌, ◌∙◌, ◌≤◌, ◌<◌, refl, true, length, get_or, vec_capacity, ap, sym}
+use Rattle.core_kernel.specs.flight_laws.specs.flight.proofs.{subst, InLimits}
+use Rattle.core_runs.specs.{RunnerValue, MakesCalls}
 use Rattle.core_runs.proofs.Lanes.{made_none, made_more, stops_held, stops_last, not_true}
+use Rattle.{std.proofs.lemmas.List.Elements.All-get_or, core_runs.specs.Runs.IsRunner}
 use Rattle.core_runs.proofs.run.run.Goals as goal
 
 pub loop-made-init : goal.loop-made-init

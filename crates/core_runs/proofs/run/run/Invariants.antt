@@ -1,5 +1,4 @@
-use Rattle.std.proofs.Common.{◌≤◌, vec_capacity}
-use Rattle.core_runs.specs.Runs.{HasMade}
+use Rattle.{std.proofs.Common.◌≤◌, std.proofs.Common.vec_capacity, core_runs.specs.Runs.HasMade}
 use Rattle.core_runs.proofs.run.run.Given as goal
 
 abbrev pub invariant-loop-made : goal.invariant-loop-made

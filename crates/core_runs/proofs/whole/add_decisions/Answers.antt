@@ -1,5 +1,4 @@
-use Rattle.std.proofs.Common.{◌<◌, length, arith}
-use Rattle.core_runs.proofs.Wholes.{decisions_more}
+use Rattle.{std.proofs.Common.◌<◌, std.proofs.Common.length, std.proofs.Common.arith, core_runs.proofs.Wholes.decisions_more}
 use Rattle.core_runs.proofs.whole.add_decisions.Goals as goal
 
 pub loop-at-preserved : goal.loop-at-preserved

@@ -1,5 +1,4 @@
-use Rattle.std.proofs.Common.{◌≡◌, ◌++◌, take}
-use Rattle.core_runs.specs.Whole.{numbered}
+use Rattle.{std.proofs.Common.◌≡◌, std.proofs.Common.◌++◌, std.proofs.Common.take, core_runs.specs.Whole.numbered}
 use Rattle.core_runs.proofs.whole.add_decisions.Given as goal
 
 abbrev pub invariant-loop-at : goal.invariant-loop-at

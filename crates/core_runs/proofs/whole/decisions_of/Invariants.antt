@@ -1,6 +1,4 @@
-use Rattle.std.proofs.Common.{◌≡◌, take}
-use Rattle.std.specs.List.{flat_map}
-use Rattle.core_runs.specs.Whole.{decided}
+use Rattle.{std.proofs.Common.◌≡◌, std.proofs.Common.take, std.proofs.Common.flat_map, core_runs.specs.Whole.decided}
 use Rattle.core_runs.proofs.whole.decisions_of.Given as goal
 
 abbrev pub invariant-loop-runner : goal.invariant-loop-runner

@@ -1,12 +1,8 @@
-use Rattle.std.proofs.Common.{◌≡◌, ◌∙◌, ◌<◌, ◌^◌, false, [], length, map, sym, ap, subst, All}
-use Rattle.std.specs.List.{flat_map}
-use Rattle.std.proofs.lemmas.List.{length-map}
-use Rattle.std.proofs.lemmas.List.Elements.{All-map}
-use Rattle.core_kernel.specs.Kernel.{AreAllSeats}
-use Rattle.core_runs.specs.Runs.{RunnerValue}
-use Rattle.core_kernel.specs.Calls.{EndsAt}
-use Rattle.core_runs.specs.Whole.{IsList, AreMade, decided}
+use Rattle.core_kernel.specs.flight_laws.specs.flight.proofs.{◌≡◌, ◌∙◌, ◌<◌, ◌^◌, false, [], length, map, sym, ap, subst, All, flat_map}
+use Rattle.core_runs.specs.{RunnerValue, IsList, AreMade, decided}
+use Rattle.core_kernel.specs.{AreAllSeats, EndsAt}
 use Rattle.core_runs.proofs.Wholes.{all_wait, all_back, all_free, few_replies, are_made, clash}
+use Rattle.{core_kernel.specs.flight_laws.specs.flight.proofs.length-map, std.proofs.lemmas.List.Elements.All-map}
 use Rattle.core_runs.proofs.whole.run_whole.Goals as goal
 
 pub run_cores-requires-after_bounds : goal.run_cores-requires-after_bounds

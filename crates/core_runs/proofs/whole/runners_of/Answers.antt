@@ -1,12 +1,8 @@
-use Rattle.std.proofs.Common.{rules, ◌≡◌, ◌∙◌, ◌<◌, ◌+◌, ℕ, [], ◌∷◌, length, get_or, map, refl, sym, ap, arith}
-use Rattle.std.proofs.lemmas.List.{length_push, get_or-map}
-use Rattle.std.proofs.lemmas.Option.{slice_get_read}
-use Rattle.std.specs.Prelude.{slice_get, Some}
-use Rattle.std.proofs.lemmas.Iterator.Consumers.{YieldsList-turn}
-use Rattle.std.proofs.lemmas.Iterator.Adapters.{YieldsList-from_vec}
-use Rattle.turn_rule.proofs.AllSeats.{each_pushed}
-use Rattle.core_kernel.specs.Kernel.{CoreSeatValue}
-use Rattle.core_runs.specs.Whole.{IsReady}
+use Rattle.core_kernel.specs.flight_laws.specs.flight.proofs.{rules, ◌≡◌, ◌∙◌, ◌<◌, ◌+◌, ℕ, [], ◌∷◌, length, get_or, map, refl, sym, ap}
+use Rattle.core_kernel.specs.flight_laws.specs.flight.proofs.{arith, get_or-map, slice_get, Some}
+use Rattle.std.proofs.{lemmas.List.length_push, lemmas.Option.slice_get_read, lemmas.Iterator.Consumers.YieldsList-turn}
+use Rattle.{std.proofs.lemmas.Iterator.Adapters.YieldsList-from_vec, core_kernel.specs.turn_rule.proofs.AllSeats.each_pushed}
+use Rattle.{core_kernel.specs.Kernel.CoreSeatValue, core_runs.specs.Whole.IsReady}
 use Rattle.core_runs.proofs.whole.runners_of.Goals as goal
 
 pub loop-seat-preserved : goal.loop-seat-preserved

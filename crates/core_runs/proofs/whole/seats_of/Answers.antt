@@ -1,7 +1,5 @@
-use Rattle.std.proofs.Common.{rules, ◌≡◌, ◌∙◌, ◌++◌, [], ◌∷◌, map, ap, sym, map-id}
-use Rattle.std.proofs.lemmas.List.{map-append}
-use Rattle.std.proofs.lemmas.Iterator.Consumers.{YieldsList-end}
-use Rattle.std.proofs.lemmas.Iterator.Adapters.{YieldsList-from_vec}
+use Rattle.core_kernel.specs.kernel_history.proofs.{rules, ◌≡◌, ◌∙◌, ◌++◌, [], ◌∷◌, map, ap, sym, map-id, map-append}
+use Rattle.std.proofs.{lemmas.Iterator.Consumers.YieldsList-end, lemmas.Iterator.Adapters.YieldsList-from_vec}
 use Rattle.core_runs.specs.Runs.{RunnerValue}
 use Rattle.core_runs.proofs.whole.seats_of.Goals as goal
 

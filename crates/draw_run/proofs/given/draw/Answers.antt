@@ -1,5 +1,4 @@
-use Rattle.std.proofs.Common.{map}
-use Rattle.draw_run.proofs.Finish.{given}
+use Rattle.{std.proofs.Common.map, draw_run.proofs.Finish.given}
 use Rattle.draw_run.proofs.given.draw.Goals as goal
 
 pub returns : goal.returns

@@ -1,7 +1,6 @@
 use Rattle.std.proofs.Common.{rules, ◌∙◌, ◌++◌, [], ◌∷◌, length, refl, sym, map-id}
-use Rattle.std.proofs.lemmas.Option.{slice_get_read}
-use Rattle.std.proofs.lemmas.Iterator.Consumers.{YieldsList-turn, YieldsList-end}
-use Rattle.std.proofs.lemmas.Iterator.Adapters.{YieldsList-from_vec}
+use Rattle.std.proofs.{lemmas.Option.slice_get_read, lemmas.Iterator.Consumers.YieldsList-turn, lemmas.Iterator.Consumers.YieldsList-end}
+use Rattle.std.proofs.{lemmas.Iterator.Adapters.YieldsList-from_vec}
 use Rattle.end_ports.proofs.seats.ends_of.Goals as goal
 
 pub new-requires-clause-table : goal.new-requires-clause-table

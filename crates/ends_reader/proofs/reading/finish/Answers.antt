@@ -1,8 +1,6 @@
 use Rattle.std.proofs.Common.{◌≡◌, ◌∙◌, sym, ap, take}
-use Rattle.std.proofs.lemmas.List.{take-map}
-use Rattle.script_reader.specs.Readings.{script_view}
 use Rattle.ends_reader.specs.Inputs.{draft_seen, ask_lists}
-use Rattle.ends_reader.proofs.InputSteps.{ended}
+use Rattle.{std.proofs.lemmas.List.take-map, script_reader.specs.Readings.script_view, ends_reader.proofs.InputSteps.ended}
 use Rattle.ends_reader.proofs.reading.finish.Goals as goal
 
 pub returns-clause-value : goal.returns-clause-value

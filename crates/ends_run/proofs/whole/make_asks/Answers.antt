@@ -1,14 +1,10 @@
-use Rattle.std.proofs.Common.{◌≡◌, ◌∙◌, ◌<◌, ◌^◌, false, length, map, refl, sym, ap, subst, arith, All}
-use Rattle.std.proofs.lemmas.List.{length-map}
-use Rattle.std.proofs.lemmas.List.Elements.{All-map}
-use Rattle.core_runs.specs.core_kernel.specs.Kernel.{AreAllSeats}
-use Rattle.core_runs.specs.core_kernel.specs.Calls.{EndsAt}
-use Rattle.core_runs.proofs.Wholes.{clash}
-use Rattle.async_ends.specs.Tables as tables
-use Rattle.ends_runners.specs.Runs.{EndRunnerValue}
-use Rattle.ends_runners.specs.Tallies.{sends_by}
+use Rattle.core_runs.specs.core_kernel.specs.flight_laws.specs.flight.proofs.{◌≡◌, ◌∙◌, ◌<◌, ◌^◌, false, length, map, refl, sym, ap, subst}
+use Rattle.core_runs.specs.core_kernel.specs.flight_laws.specs.flight.proofs.{arith, All, length-map}
 use Rattle.ends_runners.proofs.Runs.{FewOf, all_go, few_done}
 use Rattle.ends_run.proofs.Ended.{seat_count, all_of, all_await, count, who_back, ends_back, ended}
+use Rattle.{ends_runners.specs.EndRunnerValue, ends_runners.specs.sends_by, core_runs.specs.core_kernel.specs.AreAllSeats}
+use Rattle.{core_runs.specs.core_kernel.specs.EndsAt, std.proofs.lemmas.List.Elements.All-map, core_runs.proofs.Wholes.clash}
+use Rattle.async_ends.specs.Tables as tables
 use Rattle.ends_run.proofs.whole.make_asks.Goals as goal
 
 pub end_runners-requires-clause-seats : goal.end_runners-requires-clause-seats

@@ -1,12 +1,9 @@
-use Rattle.std.proofs.Common.{◌≡◌, ◌∙◌, ◌<◌, ◌^◌, false, length, map, refl, sym, ap, subst, arith, All}
-use Rattle.std.specs.List.{flat_map}
-use Rattle.std.proofs.lemmas.List.{length-map}
-use Rattle.std.proofs.lemmas.List.Elements.{All-map}
-use Rattle.core_runs.specs.Runs.{RunnerValue}
-use Rattle.core_runs.specs.Whole.{IsList, decided}
+use Rattle.core_runs.specs.core_kernel.specs.flight_laws.specs.flight.proofs.{◌≡◌, ◌∙◌, ◌<◌, ◌^◌, false, length, map, refl, sym, ap, subst}
+use Rattle.core_runs.specs.core_kernel.specs.flight_laws.specs.flight.proofs.{arith, All, flat_map, length-map}
+use Rattle.core_runs.specs.{RunnerValue, IsList, decided}
 use Rattle.core_runs.proofs.Wholes.{all_wait, all_back, all_free, few_replies, clash}
-use Rattle.ends_runners.specs.Meets.{AreOf, HaveMet}
-use Rattle.ends_run.proofs.Ended.{back_of, listed}
+use Rattle.{ends_runners.specs.AreOf, ends_runners.specs.HaveMet, std.proofs.lemmas.List.Elements.All-map, ends_run.proofs.Ended.back_of}
+use Rattle.{ends_run.proofs.Ended.listed}
 use Rattle.ends_run.proofs.whole.make_lists.Goals as goal
 
 pub run_cores-requires-after_bounds : goal.run_cores-requires-after_bounds

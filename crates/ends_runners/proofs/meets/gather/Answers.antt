@@ -1,6 +1,5 @@
 use Rattle.std.proofs.Common.{◌≡◌, length, subst, arith}
-use Rattle.ends_runners.specs.Meets.{HasGathered}
-use Rattle.ends_runners.proofs.Telling.{gathered_none, gathered_more}
+use Rattle.{ends_runners.specs.Meets.HasGathered, ends_runners.proofs.Telling.gathered_none, ends_runners.proofs.Telling.gathered_more}
 use Rattle.ends_runners.proofs.meets.gather.Goals as goal
 
 pub loop-core-init : goal.loop-core-init

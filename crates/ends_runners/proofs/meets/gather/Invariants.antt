@@ -1,5 +1,4 @@
-use Rattle.std.proofs.Common.{◌<◌}
-use Rattle.ends_runners.specs.Meets.{AreOf, HasGathered}
+use Rattle.{ends_runners.specs.AreOf, ends_runners.specs.HasGathered, std.proofs.Common.◌<◌}
 use Rattle.ends_runners.proofs.meets.gather.Given as goal
 
 abbrev pub invariant-loop-core : goal.invariant-loop-core

@@ -1,5 +1,4 @@
-use Rattle.std.proofs.Common.{arith}
-use Rattle.ends_runners.proofs.Telling.{have_met}
+use Rattle.{std.proofs.Common.arith, ends_runners.proofs.Telling.have_met}
 use Rattle.ends_runners.proofs.meets.meet_all.Goals as goal
 
 pub spread-requires-clause-some : goal.spread-requires-clause-some

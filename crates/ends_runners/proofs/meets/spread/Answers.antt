@@ -1,6 +1,5 @@
 use Rattle.std.proofs.Common.{◌≡◌, length, subst, arith}
-use Rattle.ends_runners.specs.Meets.{HasSpread}
-use Rattle.ends_runners.proofs.Telling.{spread_none, spread_more}
+use Rattle.{ends_runners.specs.Meets.HasSpread, ends_runners.proofs.Telling.spread_none, ends_runners.proofs.Telling.spread_more}
 use Rattle.ends_runners.proofs.meets.spread.Goals as goal
 
 pub loop-core-init : goal.loop-core-init

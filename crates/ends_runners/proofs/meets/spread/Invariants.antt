@@ -1,5 +1,4 @@
-use Rattle.std.proofs.Common.{◌<◌}
-use Rattle.ends_runners.specs.Meets.{AreOf, HasSpread}
+use Rattle.{ends_runners.specs.AreOf, ends_runners.specs.HasSpread, std.proofs.Common.◌<◌}
 use Rattle.ends_runners.proofs.meets.spread.Given as goal
 
 abbrev pub invariant-loop-core : goal.invariant-loop-core

@@ -1,13 +1,8 @@
-use Rattle.std.proofs.Common.{rules, ◌≡◌, ◌∙◌, ◌<◌, ◌+◌, ℕ, [], length, get_or, map, drop, refl, sym, ap, arith}
-use Rattle.std.proofs.lemmas.List.{length_push, get_or-map, get_or-drop, drop-drop}
-use Rattle.std.proofs.lemmas.Option.{slice_get_read}
-use Rattle.std.specs.Prelude.{Some}
-use Rattle.std.proofs.lemmas.Iterator.Consumers.{YieldsList-turn}
-use Rattle.std.proofs.lemmas.Iterator.Adapters.{YieldsList-from_vec}
-use Rattle.turn_rule.proofs.AllSeats.{each_pushed}
-use Rattle.core_kernel.specs.Kernel.{CoreSeatValue}
-use Rattle.async_ends.specs.Tables.{EndSeatValue}
-use Rattle.ends_runners.specs.Runners.{IsReady}
+use Rattle.std.proofs.Common.{rules, ◌≡◌, ◌∙◌, ◌<◌, ◌+◌, ℕ, [], length, get_or, map, drop, refl, sym, ap, arith, get_or-drop, drop-drop}
+use Rattle.std.proofs.{lemmas.Option.slice_get_read, lemmas.Iterator.Consumers.YieldsList-turn}
+use Rattle.{std.proofs.Common.Some, std.proofs.lemmas.List.length_push, std.proofs.lemmas.List.get_or-map}
+use Rattle.{std.proofs.lemmas.Iterator.Adapters.YieldsList-from_vec, core_kernel.specs.turn_rule.proofs.AllSeats.each_pushed}
+use Rattle.{core_kernel.specs.Kernel.CoreSeatValue, async_ends.specs.Tables.EndSeatValue, ends_runners.specs.Runners.IsReady}
 use Rattle.ends_runners.proofs.parts.end_runners.Goals as goal
 
 pub loop-seat-preserved : goal.loop-seat-preserved

@@ -1,6 +1,5 @@
 use Rattle.std.proofs.Common.{arith, ◌≡◌, ◌∙◌, ◌≤◌, ◌<◌, refl, true, length, get_or, ap, sym, subst}
-use Rattle.ends_runners.specs.Looks.{looks_in}
-use Rattle.ends_runners.specs.Runs.{EndRunnerValue, AwaitsEnds, MakesAsks}
+use Rattle.ends_runners.specs.{looks_in, EndRunnerValue, AwaitsEnds, MakesAsks}
 use Rattle.ends_runners.proofs.Runs.{asked_none, asked_more, stops_held, stops_last, not_true}
 use Rattle.ends_runners.proofs.run.run.Goals as goal
 

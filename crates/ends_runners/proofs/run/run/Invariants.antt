@@ -1,5 +1,4 @@
-use Rattle.std.proofs.Common.{◌≡◌, ◌≤◌, vec_capacity}
-use Rattle.ends_runners.proofs.Runs.{HasAsked}
+use Rattle.{std.proofs.Common.◌≡◌, std.proofs.Common.◌≤◌, std.proofs.Common.vec_capacity, ends_runners.proofs.Runs.HasAsked}
 use Rattle.ends_runners.proofs.run.run.Given as goal
 
 abbrev pub invariant-loop-made : goal.invariant-loop-made

@@ -1,8 +1,6 @@
-use Rattle.std.proofs.Common.{rules, arith, ◌≡◌, ◌∙◌, ℕ, ◌<◌, ◌++◌, length, get_or, take, drop, ap, subst, sym, append-nil}
-use Rattle.std.specs.List.{AllZip}
-use Rattle.std.proofs.lemmas.List.{drop_all, take_all}
-use Rattle.ends_runners.specs.Runs.{EndRunnerValue, MakesAsks}
-use Rattle.ends_runners.proofs.Runs.{all_zip_from}
+use Rattle.std.proofs.Common.{rules, arith, ◌≡◌, ◌∙◌, ℕ, ◌<◌, ◌++◌, length, get_or, take, drop, ap, subst, sym, append-nil, take_all}
+use Rattle.ends_runners.specs.{EndRunnerValue, MakesAsks}
+use Rattle.{std.specs.List.AllZip, std.proofs.lemmas.List.drop_all, ends_runners.proofs.Runs.all_zip_from}
 use Rattle.ends_runners.proofs.run.run_asks.Goals as goal
 
 pub returns : goal.returns

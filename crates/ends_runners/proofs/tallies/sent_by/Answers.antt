@@ -1,8 +1,6 @@
-use Rattle.std.proofs.Common.{◌∙◌, ◌+◌, ℕ, List, length, ap, arith}
-use Rattle.std.specs.Prelude.{slice_index}
-use Rattle.std.proofs.lemmas.List.{length-replicate}
-use Rattle.ends_runners.specs.Tallies.{sends_among}
+use Rattle.std.proofs.Common.{◌∙◌, ◌+◌, ℕ, List, length, ap, arith, slice_index}
 use Rattle.ends_runners.proofs.Sends.{zeros, sent_more, sent_room}
+use Rattle.{std.proofs.lemmas.List.length-replicate, ends_runners.specs.Tallies.sends_among}
 use Rattle.ends_runners.proofs.tallies.sent_by.Goals as goal
 
 pub loop-runner-init : goal.loop-runner-init

@@ -1,5 +1,4 @@
-use Rattle.std.proofs.Common.{◌≡◌, ℕ, length, take}
-use Rattle.std.specs.Prelude.{slice_index}
+use Rattle.std.proofs.Common.{◌≡◌, ℕ, length, take, slice_index}
 use Rattle.ends_runners.specs.Tallies.{sends_by}
 use Rattle.ends_runners.proofs.tallies.sent_by.Given as goal
 

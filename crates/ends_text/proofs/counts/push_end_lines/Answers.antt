@@ -1,6 +1,4 @@
-use Rattle.std.proofs.Common.{ap}
-use Rattle.std.specs.Prelude.{string_bytes}
-use Rattle.ends_text.proofs.Counted.{count_more}
+use Rattle.{std.proofs.Common.ap, std.proofs.Common.string_bytes, ends_text.proofs.Counted.count_more}
 use Rattle.ends_text.proofs.counts.push_end_lines.Goals as goal
 
 pub loop-frame-preserved : goal.loop-frame-preserved

@@ -1,6 +1,4 @@
-use Rattle.std.proofs.Common.{◌≡◌, ◌++◌}
-use Rattle.std.specs.Prelude.{string_bytes}
-use Rattle.ends_text.specs.Lines.{count_lines}
+use Rattle.{std.proofs.Common.◌≡◌, std.proofs.Common.◌++◌, std.proofs.Common.string_bytes, ends_text.specs.Lines.count_lines}
 use Rattle.ends_text.proofs.counts.push_end_lines.Given as goal
 
 abbrev pub invariant-loop-frame : goal.invariant-loop-frame

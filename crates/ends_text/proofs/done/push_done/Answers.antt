@@ -1,5 +1,4 @@
-use Rattle.std.proofs.Common.{◌≡◌, ◌++◌, ◌∙◌, ℕ, List, ap, append_assoc}
-use Rattle.std.specs.Prelude.{string_bytes, codes}
+use Rattle.std.proofs.Common.{◌≡◌, ◌++◌, ◌∙◌, ℕ, List, ap, append_assoc, string_bytes, codes}
 use Rattle.ends_text.specs.Lines.{op_word, answer_text, call_text}
 use Rattle.ends_text.proofs.done.push_done.Goals as goal
 

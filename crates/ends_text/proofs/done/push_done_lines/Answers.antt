@@ -1,5 +1,4 @@
-use Rattle.std.proofs.Common.{◌+◌, ◌<◌, length, refl, arith}
-use Rattle.std.specs.Prelude.{string_bytes}
+use Rattle.std.proofs.Common.{◌+◌, ◌<◌, length, refl, arith, string_bytes}
 use Rattle.ends_text.proofs.Counted.{done_more}
 use Rattle.ends_text.proofs.done.push_done_lines.Goals as goal
 

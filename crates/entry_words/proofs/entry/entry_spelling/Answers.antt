@@ -1,6 +1,5 @@
 use Rattle.std.proofs.Common.{refl, arith}
-use Rattle.entry_words.specs.EntryWord.{word_of_entry}
-use Rattle.entry_words.proofs.Spelling.{spelling}
+use Rattle.{entry_words.specs.EntryWord.word_of_entry, entry_words.proofs.Spelling.spelling}
 use Rattle.entry_words.proofs.entry.entry_spelling.Goals as goal
 
 pub returns-clause-spelling : goal.returns-clause-spelling

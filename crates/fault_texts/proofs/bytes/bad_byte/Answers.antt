@@ -1,5 +1,4 @@
-use Rattle.std.proofs.Common.{◌≡◌, ◌+◌, refl, true, false, slice_index_or, arith}
-use Rattle.std.specs.Prelude.{slice_get}
+use Rattle.std.proofs.Common.{◌≡◌, ◌+◌, refl, true, false, slice_index_or, arith, slice_get}
 use Rattle.script_tokens.specs.Bytes.{is_allowed}
 use Rattle.fault_texts.proofs.BadBytes.{bad_more, bad_here, bad_none, column_up}
 use Rattle.fault_texts.proofs.bytes.bad_byte.Goals as goal

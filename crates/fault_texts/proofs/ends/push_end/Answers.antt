@@ -1,10 +1,6 @@
-use Rattle.std.proofs.Common.{refl, ap}
-use Rattle.std.specs.Prelude.{codes, string_bytes}
-use Rattle.line_forms.specs.declared.slots.Slot.TheVariants.{First}
-use Rattle.fault_texts.specs.declared.notes.Note.{Note}
-use Rattle.fault_texts.specs.Notes.{note_line, end_note}
-use Rattle.fault_texts.specs.Pieces.{due_line}
-use Rattle.fault_texts.proofs.Appended.{thrice}
+use Rattle.std.proofs.Common.{refl, ap, codes, string_bytes}
+use Rattle.fault_texts.specs.{declared.notes.Note.Note, Notes.note_line, Notes.end_note, Pieces.due_line}
+use Rattle.{line_forms.specs.declared.slots.Slot.TheVariants.First, fault_texts.proofs.Appended.thrice}
 use Rattle.fault_texts.proofs.ends.push_end.Goals as goal
 
 pub returns : goal.returns

@@ -1,5 +1,4 @@
-use Rattle.std.specs.Prelude.{string_bytes}
-use Rattle.fault_texts.proofs.Appended.{blanks_more, blanks_end}
+use Rattle.{std.specs.Prelude.string_bytes, fault_texts.proofs.Appended.blanks_more, fault_texts.proofs.Appended.blanks_end}
 use Rattle.fault_texts.proofs.pieces.push_blanks.Goals as goal
 
 pub words-preserved : goal.words-preserved

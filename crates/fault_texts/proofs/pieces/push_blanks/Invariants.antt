@@ -1,7 +1,5 @@
-use Rattle.std.proofs.Common.{◌≡◌, ◌++◌, drop}
-use Rattle.std.specs.Prelude.{string_bytes}
-use Rattle.line_reader.specs.Arguments.{texts}
-use Rattle.fault_texts.specs.Pieces.{blanks_text}
+use Rattle.std.proofs.Common.{◌≡◌, ◌++◌, drop, string_bytes}
+use Rattle.{line_reader.specs.Arguments.texts, fault_texts.specs.Pieces.blanks_text}
 use Rattle.fault_texts.proofs.pieces.push_blanks.Given as goal
 
 abbrev pub invariant-words : goal.invariant-words

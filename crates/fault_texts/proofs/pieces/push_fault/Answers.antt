@@ -1,6 +1,4 @@
-use Rattle.std.specs.Prelude.{string_bytes}
-use Rattle.line_reader.specs.Arguments.{texts}
-use Rattle.fault_texts.proofs.Appended.{fault_told}
+use Rattle.{std.specs.Prelude.string_bytes, line_reader.specs.Arguments.texts, fault_texts.proofs.Appended.fault_told}
 use Rattle.fault_texts.proofs.pieces.push_fault.Goals as goal
 
 pub returns : goal.returns

@@ -1,5 +1,4 @@
-use Rattle.std.specs.Prelude.{string_bytes}
-use Rattle.fault_texts.proofs.Appended.{space_more}
+use Rattle.{std.specs.Prelude.string_bytes, fault_texts.proofs.Appended.space_more}
 use Rattle.fault_texts.proofs.pieces.push_spaces.Goals as goal
 
 pub loop-at-preserved : goal.loop-at-preserved

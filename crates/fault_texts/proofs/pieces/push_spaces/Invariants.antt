@@ -1,6 +1,4 @@
-use Rattle.std.proofs.Common.{◌≡◌, ◌++◌}
-use Rattle.std.specs.Prelude.{string_bytes}
-use Rattle.fault_texts.specs.Pieces.{blanks}
+use Rattle.{std.proofs.Common.◌≡◌, std.proofs.Common.◌++◌, std.proofs.Common.string_bytes, fault_texts.specs.Pieces.blanks}
 use Rattle.fault_texts.proofs.pieces.push_spaces.Given as goal
 
 abbrev pub invariant-loop-at : goal.invariant-loop-at

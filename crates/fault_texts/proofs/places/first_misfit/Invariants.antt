@@ -1,6 +1,5 @@
 use Rattle.std.proofs.Common.{◌≡◌, ◌-◌, ◌≤◌, drop, length}
-use Rattle.line_reader.specs.Arguments.{texts}
-use Rattle.fault_texts.specs.Places.{misfit_from, first_misfit}
+use Rattle.{fault_texts.specs.misfit_from, fault_texts.specs.first_misfit, line_reader.specs.Arguments.texts}
 use Rattle.fault_texts.proofs.places.first_misfit.Given as goal
 
 abbrev pub invariant-words : goal.invariant-words

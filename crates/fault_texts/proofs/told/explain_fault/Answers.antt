@@ -1,5 +1,4 @@
-use Rattle.fault_texts.specs.Found.{found_view}
-use Rattle.fault_texts.proofs.Telling.{told_is}
+use Rattle.{fault_texts.specs.Found.found_view, fault_texts.proofs.Telling.told_is}
 use Rattle.fault_texts.proofs.told.explain_fault.Goals as goal
 
 pub returns-in-Ok : goal.returns-in-Ok

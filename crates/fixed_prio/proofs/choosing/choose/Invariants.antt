@@ -1,5 +1,4 @@
-use Rattle.std.proofs.Common.{◌≡◌, ◌≤◌, length, drop}
-use Rattle.seq_state.specs.Maps.{state_of}
+use Rattle.plain_kernel.specs.seq_state.specs.{◌≡◌, ◌≤◌, length, drop, state_of}
 use Rattle.sched_rules.specs.Schedule.{chosen}
 use Rattle.fixed_prio.proofs.choosing.choose.Given as goal
 

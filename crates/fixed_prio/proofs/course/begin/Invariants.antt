@@ -1,5 +1,4 @@
-use Rattle.std.proofs.Common.{◌≡◌, map, take}
-use Rattle.sched_rules.specs.Schedule.{new_job}
+use Rattle.{std.proofs.Common.◌≡◌, std.proofs.Common.map, std.proofs.Common.take, sched_rules.specs.Schedule.new_job}
 use Rattle.fixed_prio.proofs.course.begin.Given as goal
 
 abbrev pub invariant-tasks : goal.invariant-tasks

@@ -1,5 +1,4 @@
-use Rattle.std.proofs.Common.{◌≡◌, drop}
-use Rattle.sched_rules.specs.Schedule.{renewal}
+use Rattle.{std.proofs.Common.◌≡◌, std.proofs.Common.drop, sched_rules.specs.Schedule.renewal}
 use Rattle.fixed_prio.proofs.jobs.renewal.Given as goal
 
 abbrev pub invariant-jobs : goal.invariant-jobs

@@ -1,7 +1,5 @@
-use Rattle.std.proofs.Common.{◌<◌, sym, subst}
-use Rattle.seq_state.specs.Maps.{state_of}
-use Rattle.plain_kernel.specs.Step.{StepsExactly}
-use Rattle.fixed_prio.proofs.Calling.{core_0, makes_both}
+use Rattle.plain_kernel.specs.seq_state.proofs.{◌<◌, sym, subst, state_of}
+use Rattle.{plain_kernel.specs.Step.StepsExactly, fixed_prio.proofs.Calling.core_0, fixed_prio.proofs.Calling.makes_both}
 use Rattle.fixed_prio.proofs.machine.call_both.Goals as goal
 
 pub plain_step-requires-clause-core : goal.plain_step-requires-clause-core

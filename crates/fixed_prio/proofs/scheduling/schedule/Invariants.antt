@@ -1,6 +1,4 @@
-use Rattle.std.proofs.Common.{◌≡◌}
-use Rattle.fixed_prio.proofs.Going.{Gone}
-use Rattle.fixed_prio.proofs.ToGo.{to_go}
+use Rattle.{std.proofs.Common.◌≡◌, fixed_prio.proofs.Going.Gone, fixed_prio.proofs.ToGo.to_go}
 use Rattle.fixed_prio.proofs.scheduling.schedule.Given as goal
 
 abbrev pub invariant-turns : goal.invariant-turns

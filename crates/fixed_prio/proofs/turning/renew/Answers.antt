@@ -1,5 +1,4 @@
-use Rattle.std.proofs.Common.{sym, ◌∙◌}
-use Rattle.fixed_prio.proofs.Taking.{renew_gives, renew_refused}
+use Rattle.{std.proofs.Common.sym, std.proofs.Common.◌∙◌, fixed_prio.proofs.Taking.renew_gives, fixed_prio.proofs.Taking.renew_refused}
 use Rattle.fixed_prio.proofs.turning.renew.Goals as goal
 
 pub returns-then-is_done-clause-takes : goal.returns-then-is_done-clause-takes

@@ -1,6 +1,5 @@
 use Rattle.std.proofs.Common.{◌<◌, arith, true, false}
-use Rattle.fixed_prio.proofs.Calling.{core_0}
-use Rattle.fixed_prio.proofs.Taking.{goes_so, runs_on, runs_anew}
+use Rattle.fixed_prio.proofs.{Calling.core_0, Taking.goes_so, Taking.runs_on, Taking.runs_anew}
 use Rattle.fixed_prio.proofs.turning.run.Goals as goal
 
 pub goes_on-requires : goal.goes_on-requires

@@ -1,8 +1,6 @@
 use Rattle.std.proofs.Common.{[], sym, ◌∙◌, subst}
-use Rattle.sched_rules.specs.Schedule.{ticks, switch_for}
-use Rattle.fixed_prio.specs.Machines.{after_calls}
-use Rattle.fixed_prio.specs.Courses.{progress, Takes}
-use Rattle.fixed_prio.proofs.Taking.{switch_ticks, switch_refused}
+use Rattle.{fixed_prio.specs.after_calls, fixed_prio.specs.progress, sched_rules.specs.ticks, sched_rules.specs.switch_for}
+use Rattle.{fixed_prio.specs.Courses.Takes, fixed_prio.proofs.Taking.switch_ticks, fixed_prio.proofs.Taking.switch_refused}
 use Rattle.fixed_prio.proofs.turning.switch.Goals as goal
 
 pub returns-then-is_done-clause-takes : goal.returns-then-is_done-clause-takes

@@ -1,7 +1,6 @@
 use Rattle.std.proofs.Common.{◌<◌, arith, refl, Some, None}
-use Rattle.fixed_prio.specs.Machines.{after_calls}
-use Rattle.fixed_prio.proofs.Calling.{core_0}
 use Rattle.fixed_prio.proofs.Taking.{come_so, none_so, chosen_so, long_so, is_renewal, is_chosen, turn_renews, turn_runs, turn_idles}
+use Rattle.{fixed_prio.specs.Machines.after_calls, fixed_prio.proofs.Calling.core_0}
 use Rattle.fixed_prio.proofs.turning.take_turn.Goals as goal
 
 pub choose-requires : goal.choose-requires

@@ -1,5 +1,4 @@
-use Rattle.std.proofs.Common.{sym, ◌∙◌}
-use Rattle.fixed_prio.proofs.Taking.{tick_runs, tick_refused}
+use Rattle.{std.proofs.Common.sym, std.proofs.Common.◌∙◌, fixed_prio.proofs.Taking.tick_runs, fixed_prio.proofs.Taking.tick_refused}
 use Rattle.fixed_prio.proofs.turning.tick.Goals as goal
 
 pub returns-then-is_done-clause-takes : goal.returns-then-is_done-clause-takes

@@ -1,6 +1,4 @@
-use Rattle.std.proofs.Common.{refl}
-use Rattle.frame_words.specs.Frame.{word_of_frame}
-use Rattle.frame_words.proofs.FrameLemmas.{spelling}
+use Rattle.{std.proofs.Common.refl, frame_words.specs.Frame.word_of_frame, frame_words.proofs.FrameLemmas.spelling}
 use Rattle.frame_words.proofs.frame_word.frame_spelling.Goals as goal
 
 pub returns-clause-spelling : goal.returns-clause-spelling

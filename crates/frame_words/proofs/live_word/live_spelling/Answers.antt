@@ -1,6 +1,4 @@
-use Rattle.std.proofs.Common.{refl}
-use Rattle.frame_words.specs.Live.{word_of_live}
-use Rattle.frame_words.proofs.LiveLemmas.{spelling}
+use Rattle.{std.proofs.Common.refl, frame_words.specs.Live.word_of_live, frame_words.proofs.LiveLemmas.spelling}
 use Rattle.frame_words.proofs.live_word.live_spelling.Goals as goal
 
 pub returns-clause-spelling : goal.returns-clause-spelling

@@ -1,5 +1,4 @@
-use Rattle.std.proofs.Common.{arith}
-use Rattle.std.proofs.lemmas.Int.{ints}
+use Rattle.std.proofs.{Common.arith, lemmas.Int.ints}
 use Rattle.frame_words.proofs.ResidueLemmas.{euclid_is, residue_small}
 use Rattle.frame_words.proofs.modulo.residue.Goals as goal
 

@@ -1,8 +1,5 @@
-use Rattle.std.proofs.Common.{sym, subst}
-use Rattle.history_check.specs.Judging.{JudgesLine}
-use Rattle.history_check.specs.Findings.{BreaksAfter}
-use Rattle.history_check.proofs.Lines.{goes_on}
-use Rattle.history_check.proofs.Ends.{breaks_after}
+use Rattle.{history_check.specs.JudgesLine, history_check.specs.BreaksAfter, std.proofs.Common.sym, std.proofs.Common.subst}
+use Rattle.{history_check.proofs.Lines.goes_on, history_check.proofs.Ends.breaks_after}
 use Rattle.history_check.proofs.coming.find_break.Goals as goal
 
 pub returns-in-Some : goal.returns-in-Some

@@ -1,5 +1,4 @@
-use Rattle.std.proofs.Common.{◌≡◌}
-use Rattle.history_check.proofs.Lines.{Goes}
+use Rattle.{std.proofs.Common.◌≡◌, history_check.proofs.Lines.Goes}
 use Rattle.history_check.proofs.coming.find_break.Given as goal
 
 abbrev pub invariant-lines : goal.invariant-lines

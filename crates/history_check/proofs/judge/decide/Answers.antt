@@ -1,9 +1,6 @@
-use Rattle.std.proofs.Common.{◌≡◌, ◌<◌, ◌+◌, ◌∙◌, refl, sym, ap, arith}
-use Rattle.kernel_rules.specs.Runs.{Open}
-use Rattle.marked_history.specs.Histories.{phase}
-use Rattle.history_check.specs.Judging.{seen_of}
-use Rattle.history_check.proofs.Cores.{seen_at, open_is}
-use Rattle.history_check.proofs.Marks.{reply_breaks, has_decided}
+use Rattle.call_judge.specs.same_changes.specs.kernel_laws.proofs.{◌≡◌, ◌<◌, ◌+◌, ◌∙◌, refl, sym, ap, arith, Open}
+use Rattle.history_check.proofs.{Cores.seen_at, Cores.open_is, Marks.reply_breaks, Marks.has_decided}
+use Rattle.{marked_history.specs.Histories.phase, history_check.specs.Judging.seen_of}
 use Rattle.history_check.proofs.judge.decide.Goals as goal
 
 pub returns-then-not-branch-clause-exact : goal.returns-then-not-branch-clause-exact

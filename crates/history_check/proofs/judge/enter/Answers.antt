@@ -1,10 +1,5 @@
-use Rattle.std.proofs.Common.{◌≡◌, ◌<◌, ◌+◌, ◌∙◌, refl, ap, subst, arith}
-use Rattle.kernel_rules.specs.GracePeriods.{entered}
-use Rattle.seq_state.specs.Maps.{state_of}
-use Rattle.seq_state.specs.Representation.{Represents}
-use Rattle.history_check.specs.Judging.{seen_of}
-use Rattle.history_check.proofs.Cores.{seen_at}
-use Rattle.history_check.proofs.Marks.{has_entered}
+use Rattle.seq_state.proofs.{◌≡◌, ◌<◌, ◌+◌, ◌∙◌, refl, ap, subst, arith, entered, state_of, Represents}
+use Rattle.{history_check.specs.Judging.seen_of, history_check.proofs.Cores.seen_at, history_check.proofs.Marks.has_entered}
 use Rattle.history_check.proofs.judge.enter.Goals as goal
 
 pub returns-clause-exact : goal.returns-clause-exact

@@ -1,10 +1,5 @@
-use Rattle.std.proofs.Common.{◌≡◌, ◌<◌, ◌∙◌, refl, sym, ap, subst, arith}
-use Rattle.kernel_rules.specs.GracePeriods.{returned}
-use Rattle.seq_state.specs.Maps.{state_of}
-use Rattle.seq_state.specs.Representation.{Represents}
-use Rattle.history_check.specs.Judging.{seen_of}
-use Rattle.history_check.proofs.Cores.{seen_at}
-use Rattle.history_check.proofs.Marks.{has_left}
+use Rattle.seq_state.proofs.{◌≡◌, ◌<◌, ◌∙◌, refl, sym, ap, subst, arith, returned, state_of, Represents}
+use Rattle.{history_check.specs.Judging.seen_of, history_check.proofs.Cores.seen_at, history_check.proofs.Marks.has_left}
 use Rattle.history_check.proofs.judge.leave.Goals as goal
 
 pub returns-clause-exact : goal.returns-clause-exact

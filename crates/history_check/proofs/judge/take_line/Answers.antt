@@ -1,9 +1,7 @@
-use Rattle.std.proofs.Common.{◌≡◌, ◌+◌, ◌∙◌, Some, IfOk, sym, subst}
-use Rattle.std.proofs.lemmas.Bool.{eqb-true, eqb-false}
-use Rattle.marked_history.specs.declared.marks.Said.{Said}
-use Rattle.marked_history.specs.declared.marks.Why.TheVariants as why
-use Rattle.history_check.specs.Judging.{seen_of, JudgesLine}
+use Rattle.call_judge.specs.same_changes.specs.kernel_laws.proofs.{◌≡◌, ◌+◌, ◌∙◌, Some, IfOk, sym, subst, eqb-true, eqb-false}
 use Rattle.history_check.proofs.Lines.{ok_map, one_mark, whole_call, other_number}
+use Rattle.{history_check.specs.seen_of, history_check.specs.JudgesLine, marked_history.specs.declared.marks.Said.Said}
+use Rattle.marked_history.specs.declared.marks.Why.TheVariants as why
 use Rattle.history_check.proofs.judge.take_line.Goals as goal
 
 pub returns-in-One-clause-exact : goal.returns-in-One-clause-exact

@@ -1,5 +1,4 @@
-use Rattle.std.proofs.Common.{arith}
-use Rattle.history_check.proofs.Lines.{beyond}
+use Rattle.{std.proofs.Common.arith, history_check.proofs.Lines.beyond}
 use Rattle.history_check.proofs.judge.take_mark.Goals as goal
 
 pub returns-then-cores-number-clause-exact : goal.returns-then-cores-number-clause-exact

@@ -1,7 +1,5 @@
-use Rattle.std.proofs.Common.{subst}
-use Rattle.marked_history.specs.declared.marks.Mark.TheVariants.{Enter}
-use Rattle.history_check.specs.Judging.{JudgesMark}
 use Rattle.history_check.proofs.Lines.{ok_map, entry_breaks, others_found}
+use Rattle.{std.proofs.Common.subst, marked_history.specs.declared.marks.Mark.TheVariants.Enter, history_check.specs.Judging.JudgesMark}
 use Rattle.history_check.proofs.judge.take_marks.Goals as goal
 
 pub returns-in-Some-clause-exact : goal.returns-in-Some-clause-exact

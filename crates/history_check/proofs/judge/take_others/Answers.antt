@@ -1,7 +1,5 @@
-use Rattle.std.proofs.Common.{subst}
-use Rattle.marked_history.specs.declared.marks.Mark.TheVariants.{Decide}
-use Rattle.history_check.specs.Judging.{JudgesMark}
 use Rattle.history_check.proofs.Lines.{ok_map, decision_breaks, return_found}
+use Rattle.{std.proofs.Common.subst, marked_history.specs.declared.marks.Mark.TheVariants.Decide, history_check.specs.Judging.JudgesMark}
 use Rattle.history_check.proofs.judge.take_others.Goals as goal
 
 pub returns-in-Some-clause-exact : goal.returns-in-Some-clause-exact

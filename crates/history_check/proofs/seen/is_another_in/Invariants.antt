@@ -1,5 +1,5 @@
 use Rattle.std.proofs.Common.{◌≡◌, ◌≢◌, ◌<◌, ◌-◌, ℕ, length, false}
-use Rattle.history_check.specs.Judging.{is_inside, seen_of}
+use Rattle.history_check.specs.{is_inside, seen_of}
 use Rattle.history_check.proofs.seen.is_another_in.Given as goal
 
 abbrev pub invariant-cores : goal.invariant-cores

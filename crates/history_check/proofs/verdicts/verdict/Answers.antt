@@ -1,6 +1,5 @@
-use Rattle.std.proofs.Common.{subst}
-use Rattle.history_check.specs.Judging.{JudgesLine}
 use Rattle.history_check.proofs.Lines.{goes_on, breaks_at}
+use Rattle.{std.proofs.Common.subst, history_check.specs.Judging.JudgesLine}
 use Rattle.history_check.proofs.verdicts.verdict.Goals as goal
 
 pub returns-in-Some : goal.returns-in-Some

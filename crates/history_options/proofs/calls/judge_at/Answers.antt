@@ -1,5 +1,4 @@
-use Rattle.std.proofs.Common.{◌∙◌}
-use Rattle.history_options.proofs.Places.{come_at}
+use Rattle.{std.proofs.Common.◌∙◌, history_options.proofs.Places.come_at}
 use Rattle.history_options.proofs.calls.judge_at.Goals as goal
 
 pub returns : goal.returns

@@ -1,5 +1,4 @@
-use Rattle.std.proofs.Common.{◌∙◌}
-use Rattle.history_options.proofs.Places.{call_advice, outlook_there}
+use Rattle.{std.proofs.Common.◌∙◌, history_options.proofs.Places.call_advice, history_options.proofs.Places.outlook_there}
 use Rattle.history_options.proofs.calls.push_call_advice.Goals as goal
 
 pub returns : goal.returns

@@ -1,7 +1,5 @@
-use Rattle.std.proofs.Common.{◌∙◌, ◌++◌, List, ℕ, ap}
-use Rattle.std.specs.Prelude.{codes, string_bytes}
-use Rattle.history_options.specs.Advice.{in_text, first_text}
-use Rattle.history_options.proofs.Adding.{four_more}
+use Rattle.std.proofs.Common.{◌∙◌, ◌++◌, List, ℕ, ap, codes, string_bytes}
+use Rattle.{history_options.specs.Advice.in_text, history_options.specs.Advice.first_text, history_options.proofs.Adding.four_more}
 use Rattle.history_options.proofs.calls.push_outlook.Goals as goal
 
 pub returns : goal.returns

@@ -1,8 +1,6 @@
-use Rattle.std.proofs.Common.{◌∙◌, ◌++◌, ap, subst}
-use Rattle.std.specs.Prelude.{string_bytes}
-use Rattle.marked_history.specs.declared.marks.Said.{Said}
-use Rattle.history_options.specs.Options.{GoesOn, option_of}
-use Rattle.history_options.proofs.Adding.{adding_more, adding_end}
+use Rattle.std.proofs.Common.{◌∙◌, ◌++◌, ap, subst, string_bytes}
+use Rattle.{marked_history.specs.declared.marks.Said.Said, history_options.specs.Options.GoesOn, history_options.specs.Options.option_of}
+use Rattle.{history_options.proofs.Adding.adding_more, history_options.proofs.Adding.adding_end}
 use Rattle.history_options.proofs.options.push_options.Goals as goal
 
 pub replies-preserved : goal.replies-preserved

@@ -1,5 +1,4 @@
-use Rattle.std.specs.Prelude.{string_bytes}
-use Rattle.history_options.proofs.Adding.{Adding}
+use Rattle.{std.specs.Prelude.string_bytes, history_options.proofs.Adding.Adding}
 use Rattle.history_options.proofs.options.push_options.Given as goal
 
 abbrev pub invariant-replies : goal.invariant-replies

@@ -1,6 +1,5 @@
 use Rattle.std.proofs.Common.{◌≡◌, ◌++◌, ℕ, subst}
-use Rattle.history_options.specs.Replies.{core_replies}
-use Rattle.history_options.proofs.Adding.{cores_more}
+use Rattle.{history_options.specs.Replies.core_replies, history_options.proofs.Adding.cores_more}
 use Rattle.history_options.proofs.replies.add_cores.Goals as goal
 
 pub cores-preserved : goal.cores-preserved

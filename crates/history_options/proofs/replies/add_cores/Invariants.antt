@@ -1,5 +1,4 @@
-use Rattle.std.proofs.Common.{◌≡◌, ◌++◌}
-use Rattle.history_options.specs.Replies.{below_replies}
+use Rattle.{std.proofs.Common.◌≡◌, std.proofs.Common.◌++◌, history_options.specs.Replies.below_replies}
 use Rattle.history_options.proofs.replies.add_cores.Given as goal
 
 abbrev pub invariant-cores : goal.invariant-cores

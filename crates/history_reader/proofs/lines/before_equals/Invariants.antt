@@ -1,6 +1,5 @@
 use Rattle.std.proofs.Common.{◌≡◌, ◌+◌, ◌≤◌, length, drop}
-use Rattle.line_reader.specs.Arguments.{texts}
-use Rattle.history_reader.specs.Lines.{before_equals}
+use Rattle.{line_reader.specs.Arguments.texts, history_reader.specs.Lines.before_equals}
 use Rattle.history_reader.proofs.lines.before_equals.Given as goal
 
 abbrev pub invariant-words : goal.invariant-words

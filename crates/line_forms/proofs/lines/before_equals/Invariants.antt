@@ -1,6 +1,5 @@
 use Rattle.std.proofs.Common.{◌≡◌, ◌+◌, ◌≤◌, length, drop}
-use Rattle.line_reader.specs.Arguments.{texts}
-use Rattle.line_forms.specs.Lines.{before_equals}
+use Rattle.{line_reader.specs.Arguments.texts, line_forms.specs.Lines.before_equals}
 use Rattle.line_forms.proofs.lines.before_equals.Given as goal
 
 abbrev pub invariant-words : goal.invariant-words

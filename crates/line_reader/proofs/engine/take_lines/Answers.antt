@@ -1,6 +1,5 @@
 use Rattle.std.proofs.Common.{◌+◌, ◌≤◌, length}
-use Rattle.line_reader.proofs.Rows.{within_line}
-use Rattle.line_reader.proofs.LineSteps.{goes_fault, goes_more}
+use Rattle.line_reader.proofs.{Rows.within_line, LineSteps.goes_fault, LineSteps.goes_more}
 use Rattle.line_reader.proofs.engine.take_lines.Goals as goal
 
 pub returns-in-Err-clause-value : goal.returns-in-Err-clause-value

@@ -1,5 +1,4 @@
-use Rattle.std.proofs.Common.{length, ◌-◌}
-use Rattle.line_reader.proofs.LineSteps.{Goes}
+use Rattle.{std.proofs.Common.length, std.proofs.Common.◌-◌, line_reader.proofs.LineSteps.Goes}
 use Rattle.line_reader.proofs.engine.take_lines.Given as goal
 
 abbrev pub invariant-lines : goal.invariant-lines

@@ -1,5 +1,4 @@
-use Rattle.std.proofs.Common.{◌≡◌, drop}
-use Rattle.line_reader.specs.Numerals.{all_digits}
+use Rattle.{std.proofs.Common.◌≡◌, std.proofs.Common.drop, line_reader.specs.Numerals.all_digits}
 use Rattle.line_reader.proofs.numerals.all_digits.Given as goal
 
 abbrev pub invariant-digits : goal.invariant-digits

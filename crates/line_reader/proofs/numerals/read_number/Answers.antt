@@ -1,5 +1,5 @@
-use Rattle.std.proofs.Common.{◌≡◌, ◌+◌, ◌-◌, ◌*◌, ◌≤◌, ◌^◌, ◌∙◌, refl, sym, length, slice_index_or, arith}
-use Rattle.std.proofs.lemmas.Bool.{eqb-true, eqb-false, le-ltb, and_left}
+use Rattle.std.proofs.Common.{◌≡◌, ◌+◌, ◌-◌, ◌*◌, ◌≤◌, ◌^◌, ◌∙◌, refl, sym, length, slice_index_or, arith, eqb-true, le-ltb}
+use Rattle.std.proofs.lemmas.Bool.{eqb-false, and_left}
 use Rattle.line_reader.proofs.Digits.{number_none, reads_none, reads_past, reads_all}
 use Rattle.line_reader.proofs.numerals.read_number.Goals as goal
 

@@ -1,5 +1,4 @@
-use Rattle.std.proofs.Common.{◌++◌, ◌∙◌, List, ℕ, sym, ap, append_assoc}
-use Rattle.std.specs.Prelude.{codes, decimal, string_bytes}
+use Rattle.std.proofs.Common.{◌++◌, ◌∙◌, List, ℕ, sym, ap, append_assoc, codes, decimal, string_bytes}
 use Rattle.spk_nums.specs.Texts.{site_text}
 use Rattle.line_texts.proofs.calls.push_thread.Goals as goal
 

@@ -1,5 +1,4 @@
-use Rattle.std.proofs.Common.{◌≡◌, sym, subst}
-use Rattle.load_maker.specs.Loads.{call_numbered}
+use Rattle.{std.proofs.Common.◌≡◌, std.proofs.Common.sym, std.proofs.Common.subst, load_maker.specs.Loads.call_numbered}
 use Rattle.load_maker.proofs.calls.call_numbered.Goals as goal
 
 pub returns-in-2-clause-value : goal.returns-in-2-clause-value

@@ -1,6 +1,4 @@
-use Rattle.std.proofs.Common.{◌*◌}
-use Rattle.load_maker.specs.Draws.{behind}
-use Rattle.load_maker.proofs.Repeats.{cut_before}
+use Rattle.{std.proofs.Common.◌*◌, load_maker.specs.Draws.behind, load_maker.proofs.Repeats.cut_before}
 use Rattle.load_maker.proofs.draws.behind.Goals as goal
 
 pub returns : goal.returns

@@ -1,7 +1,6 @@
 use Rattle.std.proofs.Common.{◌≡◌, ◌+◌, ◌++◌, sym, ap, subst, ◌∙◌, arith}
-use Rattle.load_maker.specs.Draws.{repeated}
-use Rattle.load_maker.specs.Loads.{an_item, drawn_items}
 use Rattle.load_maker.proofs.Repeats.{Drawn, drawn_none, drawn_more}
+use Rattle.{load_maker.specs.repeated, load_maker.specs.an_item, load_maker.specs.Loads.drawn_items}
 use Rattle.load_maker.proofs.script.draw_order.Goals as goal
 
 pub items-init : goal.items-init

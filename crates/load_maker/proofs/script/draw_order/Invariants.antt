@@ -1,5 +1,4 @@
-use Rattle.load_maker.specs.Loads.{an_item}
-use Rattle.load_maker.proofs.Repeats.{Drawn}
+use Rattle.{load_maker.specs.Loads.an_item, load_maker.proofs.Repeats.Drawn}
 use Rattle.load_maker.proofs.script.draw_order.Given as goal
 
 abbrev pub invariant-items : goal.invariant-items

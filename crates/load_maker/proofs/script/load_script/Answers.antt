@@ -1,6 +1,5 @@
 use Rattle.std.proofs.Common.{IfOk, Result, Ok, Err, sym, subst, ap, ◌∙◌}
-use Rattle.script_printer.specs.Law.{IsWithin}
-use Rattle.load_maker.proofs.Within.{made_within}
+use Rattle.{script_printer.specs.Law.IsWithin, load_maker.proofs.Within.made_within}
 use Rattle.load_maker.proofs.script.load_script.Goals as goal
 
 -- what holds of a value of an answer

@@ -1,7 +1,6 @@
 use Rattle.std.proofs.Common.{◌≡◌, ◌+◌, ◌++◌, sym, ap, subst, ◌∙◌, arith}
-use Rattle.load_maker.specs.Draws.{repeated}
-use Rattle.load_maker.specs.Loads.{a_call, drawn_calls}
 use Rattle.load_maker.proofs.Repeats.{Drawn, drawn_none, drawn_more}
+use Rattle.{load_maker.specs.repeated, load_maker.specs.a_call, load_maker.specs.Loads.drawn_calls}
 use Rattle.load_maker.proofs.script.push_calls.Goals as goal
 
 pub calls-init : goal.calls-init

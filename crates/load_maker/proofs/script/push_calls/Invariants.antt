@@ -1,5 +1,4 @@
-use Rattle.load_maker.specs.Loads.{a_call}
-use Rattle.load_maker.proofs.Repeats.{Drawn}
+use Rattle.{load_maker.specs.Loads.a_call, load_maker.proofs.Repeats.Drawn}
 use Rattle.load_maker.proofs.script.push_calls.Given as goal
 
 abbrev pub invariant-calls : goal.invariant-calls

@@ -1,7 +1,7 @@
 use Rattle.std.proofs.Common.{sym, ap, ◌∙◌, arith}
 use Rattle.load_summary.proofs.Tallies.{tallied_first, tallied_more, tallied_other}
-use Rattle.load_summary.proofs.counts.push_count.Goals as goal
 use Rattle.load_summary.proofs.counts.push_count.Goals.{then-reply_number-number, then-count-eq0, else-count-eq0, else-reply_number-number}
+use Rattle.load_summary.proofs.counts.push_count.Goals as goal
 
 pub overflow_add-count : goal.overflow_add-count
 overflow_add-count c = omega (arith, c.decisions.invariant.most)

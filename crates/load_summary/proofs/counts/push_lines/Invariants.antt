@@ -1,6 +1,4 @@
-use Rattle.std.proofs.Common.{◌≡◌, ◌++◌}
-use Rattle.std.specs.Prelude.{string_bytes}
-use Rattle.load_summary.specs.Summaries.{counts_below}
+use Rattle.{std.proofs.Common.◌≡◌, std.proofs.Common.◌++◌, std.proofs.Common.string_bytes, load_summary.specs.Summaries.counts_below}
 use Rattle.load_summary.proofs.counts.push_lines.Given as goal
 
 abbrev pub invariant-numbers : goal.invariant-numbers

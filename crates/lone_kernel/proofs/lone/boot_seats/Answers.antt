@@ -1,6 +1,4 @@
-use Rattle.std.proofs.Common.{◌≡◌, ◌∙◌, ◌<◌, ℕ, ap, arith, map, length, get_or, subst}
-use Rattle.std.proofs.lemmas.List.{length-map}
-use Rattle.call_steps.specs.call_stages.specs.Cores.{started}
+use Rattle.flight_laws.specs.flight.proofs.{◌≡◌, ◌∙◌, ◌<◌, ℕ, ap, arith, map, length, get_or, subst, length-map, started}
 use Rattle.lone_kernel.proofs.Boot.{fresh_none, fresh_more, fresh_is, fresh_all}
 use Rattle.lone_kernel.proofs.lone.boot_seats.Goals as goal
 

@@ -1,5 +1,4 @@
-use Rattle.std.proofs.Common.{map}
-use Rattle.lone_kernel.proofs.Boot.{AreFreshBelow}
+use Rattle.{std.proofs.Common.map, lone_kernel.proofs.Boot.AreFreshBelow}
 use Rattle.lone_kernel.proofs.lone.boot_seats.Given as goal
 
 abbrev pub invariant-loop-core : goal.invariant-loop-core

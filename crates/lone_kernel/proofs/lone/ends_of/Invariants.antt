@@ -1,5 +1,4 @@
-use Rattle.std.proofs.Common.{◌≡◌, map, take}
-use Rattle.call_steps.specs.call_stages.specs.Cores.{end_of}
+use Rattle.flight_laws.specs.core_invariant.specs.{◌≡◌, map, take, end_of}
 use Rattle.lone_kernel.proofs.lone.ends_of.Given as goal
 
 abbrev pub invariant-loop-seat : goal.invariant-loop-seat

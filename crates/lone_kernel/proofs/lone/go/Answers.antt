@@ -1,5 +1,4 @@
-use Rattle.std.proofs.Common.{refl}
-use Rattle.lone_kernel.proofs.OneStep.{makes_turn}
+use Rattle.{std.proofs.Common.refl, lone_kernel.proofs.OneStep.makes_turn}
 use Rattle.lone_kernel.proofs.lone.go.Goals as goal
 
 pub returns : goal.returns

@@ -1,12 +1,7 @@
-use Rattle.std.proofs.Common.{◌≡◌, ℕ, ◌<◌, ◌∙◌, ap, subst, sym, get_or}
-use Rattle.spk_nums.specs.WordSteps.{place_in}
-use Rattle.word_map.specs.Places.{place_of}
-use Rattle.word_map.specs.Moves.{Move, word_of, op_of, left_of}
-use Rattle.call_steps.specs.call_stages.specs.Cores.{move_of}
-use Rattle.call_steps.specs.call_stages.specs.Fits.{steps_left}
+use Rattle.flight_laws.specs.flight.specs.step_ways.proofs.{◌≡◌, ℕ, ◌<◌, ◌∙◌, ap, subst, sym, get_or, place_in, place_of, Move, word_of}
+use Rattle.flight_laws.specs.flight.specs.step_ways.proofs.{op_of, left_of, move_of, steps_left}
 use Rattle.lone_kernel.specs.Machine.{core_in}
-use Rattle.lone_kernel.proofs.OneStep.{takes_turn}
-use Rattle.lone_kernel.proofs.Shown.{word_on, word_is, found_is, leaves_as}
+use Rattle.lone_kernel.proofs.{OneStep.takes_turn, Shown.word_on, Shown.word_is, Shown.found_is, Shown.leaves_as}
 use Rattle.lone_kernel.proofs.lone.take.Goals as goal
 
 pub returns : goal.returns

@@ -1,12 +1,8 @@
-use Rattle.std.proofs.Common.{◌≡◌, length, refl, sym, ◌∙◌, ap, subst, arith, true, false}
-use Rattle.std.proofs.lemmas.List.{length-append, length-set}
-use Rattle.boot_words.specs.kernel_history.specs.Trace.{decision_at}
-use Rattle.flight_laws.specs.core_invariant.specs.Events.{decided_in}
-use Rattle.call_steps.specs.call_stages.specs.View.{Core}
-use Rattle.lone_kernel.specs.Machine.{due_in}
-use Rattle.lone_kernel.specs.Items.{is_over}
-use Rattle.lone_kernel.proofs.Fits.{count_decided, turned_shape}
+use Rattle.flight_laws.specs.flight.proofs.{◌≡◌, length, refl, sym, ◌∙◌, ap, subst, arith, true, false, length-append, decision_at}
 use Rattle.lone_kernel.proofs.Items.{Leaves, step_of_core, same_shape, inside, short_first, short_on, ends_on}
+use Rattle.{flight_laws.specs.flight.proofs.decided_in, flight_laws.specs.flight.proofs.Core, std.proofs.lemmas.List.length-set}
+use Rattle.{lone_kernel.specs.Machine.due_in, lone_kernel.specs.Items.is_over, lone_kernel.proofs.Fits.count_decided}
+use Rattle.{lone_kernel.proofs.Fits.turned_shape}
 use Rattle.lone_kernel.proofs.lone.take_item.Goals as goal
 
 pub going-init : goal.going-init

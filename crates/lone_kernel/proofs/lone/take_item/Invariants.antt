@@ -1,11 +1,7 @@
-use Rattle.std.proofs.Common.{◌≡◌, ◌+◌, ◌<◌, ◌≤◌, ◌^◌, length}
-use Rattle.std.specs.Prelude.{IsSome, vec_len, vec_capacity}
-use Rattle.word_map.specs.Places.{size_of}
-use Rattle.call_steps.specs.call_stages.specs.Fits.{steps_left}
-use Rattle.lone_kernel.specs.Machine.{Machine, core_in, begun_by, due_in, IsDone}
-use Rattle.lone_kernel.specs.declared.seats.Seat.{Seat}
-use Rattle.lone_kernel.specs.Items.{IsAt}
-use Rattle.lone_kernel.proofs.Items.{IsShort}
+use Rattle.flight_laws.specs.core_invariant.specs.{◌≡◌, ◌+◌, ◌<◌, ◌≤◌, ◌^◌, length, IsSome, vec_capacity, size_of, steps_left}
+use Rattle.lone_kernel.specs.{core_in, begun_by, due_in, IsDone, IsAt}
+use Rattle.lone_kernel.specs.{Machine.Machine, declared.seats.Seat.Seat}
+use Rattle.{std.specs.Prelude.vec_len, lone_kernel.proofs.Items.IsShort}
 use Rattle.lone_kernel.proofs.lone.take_item.Given as goal
 
 abbrev pub invariant-going : goal.invariant-going

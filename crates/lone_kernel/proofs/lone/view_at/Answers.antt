@@ -1,10 +1,6 @@
-use Rattle.std.proofs.Common.{◌≡◌, ℕ, refl, ap, ◌∙◌, get_or}
-use Rattle.spk_nums.specs.WordSteps.{place_in}
-use Rattle.word_map.specs.Places.{place_of}
-use Rattle.word_map.specs.Moves.{Move, word_of, left_of}
-use Rattle.call_steps.specs.call_stages.specs.Cores.{move_of}
-use Rattle.lone_kernel.specs.Machine.{core_in}
+use Rattle.flight_laws.specs.flight.specs.step_ways.proofs.{◌≡◌, ℕ, refl, ap, ◌∙◌, get_or, place_in, place_of, Move, word_of, left_of}
 use Rattle.lone_kernel.proofs.Shown.{word_is, found_is, leaves_as}
+use Rattle.{flight_laws.specs.flight.specs.step_ways.proofs.move_of, lone_kernel.specs.Machine.core_in}
 use Rattle.lone_kernel.proofs.lone.view_at.Goals as goal
 
 pub returns : goal.returns

@@ -1,7 +1,5 @@
-use Rattle.std.proofs.Common.{◌++◌, ◌∙◌, List, ℕ, ap}
-use Rattle.seq_state.specs.Maps.{state_of}
-use Rattle.open_calls.specs.Leads.{names_text}
-use Rattle.open_calls.proofs.Same.{outlook_is}
+use Rattle.seq_state.proofs.{◌++◌, ◌∙◌, List, ℕ, ap, state_of}
+use Rattle.{open_calls.specs.Leads.names_text, open_calls.proofs.Same.outlook_is}
 use Rattle.open_calls.proofs.outlooks.outlook_at.Goals as goal
 
 pub returns : goal.returns

@@ -1,8 +1,5 @@
-use Rattle.std.proofs.Common.{◌≡◌, ◌++◌}
-use Rattle.std.specs.Prelude.{string_bytes}
-use Rattle.kernel_history.specs.Tables.{lines_below}
-use Rattle.confinement.specs.Known.{chain_known}
-use Rattle.origin_lines.specs.Lines.{chain_line}
+use Rattle.table_lines.specs.kernel_history.specs.{◌≡◌, ◌++◌, string_bytes, lines_below}
+use Rattle.{confinement.specs.Known.chain_known, origin_lines.specs.Lines.chain_line}
 use Rattle.origin_lines.proofs.whole.push_node.Given as goal
 
 abbrev pub invariant-entries : goal.invariant-entries

@@ -1,7 +1,5 @@
-use Rattle.std.proofs.Common.{◌≡◌, ◌++◌}
-use Rattle.std.specs.Prelude.{string_bytes}
-use Rattle.confinement.specs.Known.{chain_known}
-use Rattle.origin_lines.specs.Lines.{lines_known}
+use Rattle.std.proofs.Common.{◌≡◌, ◌++◌, string_bytes}
+use Rattle.{confinement.specs.Known.chain_known, origin_lines.specs.Lines.lines_known}
 use Rattle.origin_lines.proofs.whole.push_nodes.Given as goal
 
 abbrev pub invariant-nodes : goal.invariant-nodes

@@ -1,5 +1,4 @@
-use Rattle.std.specs.Prelude.{string_bytes}
-use Rattle.origin_lines.proofs.Telling.{tells}
+use Rattle.{std.specs.Prelude.string_bytes, origin_lines.proofs.Telling.tells}
 use Rattle.origin_lines.proofs.whole.push_origins.Goals as goal
 
 pub returns : goal.returns

@@ -1,7 +1,5 @@
 use Rattle.std.proofs.Common.{ℕ, List, [], map, subst, string_bytes}
-use Rattle.origin_lines.specs.confinement.specs.Known.{Known}
-use Rattle.origin_lines.specs.Lines.{TellsOrigins}
-use Rattle.origins_run.proofs.Stepping.{given}
+use Rattle.{origin_lines.specs.confinement.specs.Known.Known, origin_lines.specs.Lines.TellsOrigins, origins_run.proofs.Stepping.given}
 use Rattle.origins_run.proofs.given.origins.Goals as goal
 
 pub returns : goal.returns

@@ -1,5 +1,4 @@
-use Rattle.std.proofs.Common.{◌≡◌, ◌≤◌}
-use Rattle.page_drawing.specs.Pictures.{cores_finished}
+use Rattle.{std.proofs.Common.◌≡◌, std.proofs.Common.◌≤◌, page_drawing.specs.Pictures.cores_finished}
 use Rattle.page_drawing.proofs.text.finish_cores.Given as goal
 
 -- The lanes of the cores before this one are finished, and no more calls stand below.

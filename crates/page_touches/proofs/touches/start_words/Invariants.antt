@@ -1,5 +1,4 @@
-use Rattle.std.proofs.Common.{◌≡◌}
-use Rattle.page_touches.specs.Touches.{start_words}
+use Rattle.{std.proofs.Common.◌≡◌, page_touches.specs.Touches.start_words}
 use Rattle.page_touches.proofs.touches.start_words.Given as goal
 
 abbrev pub invariant-frames : goal.invariant-frames

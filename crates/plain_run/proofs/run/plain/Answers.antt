@@ -1,7 +1,4 @@
-use Rattle.std.proofs.Common.{map, ◌∙◌, ap, ◌++◌}
-use Rattle.std.specs.Prelude.{string_bytes}
-use Rattle.kernel_rules.specs.Start.{start}
-use Rattle.kernel_history.specs.Order.{list_of}
+use Rattle.plain_tables.specs.kernel_history.proofs.{map, ◌∙◌, ap, ◌++◌, string_bytes, start, list_of}
 use Rattle.plain_run.proofs.PlainRuns.{started, whole_text}
 use Rattle.plain_run.proofs.run.plain.Goals as goal
 

@@ -1,5 +1,4 @@
-use Rattle.std.proofs.Common.{◌<◌, sym, subst}
-use Rattle.std.specs.Prelude.{string_bytes}
+use Rattle.std.proofs.Common.{◌<◌, sym, subst, string_bytes}
 use Rattle.plain_run.proofs.PlainRuns.{cores_of, call_ran}
 use Rattle.plain_run.proofs.run.run_call.Goals as goal
 

@@ -1,5 +1,4 @@
-use Rattle.std.proofs.Common.{◌≡◌, ◌+◌, ap, subst, arith}
-use Rattle.std.specs.Prelude.{string_bytes}
+use Rattle.std.proofs.Common.{◌≡◌, ◌+◌, ap, subst, arith, string_bytes}
 use Rattle.plain_run.specs.Plain.{RunsCall}
 use Rattle.plain_run.proofs.PlainRuns.{at_first, one_more, at_last, reached_midway}
 use Rattle.plain_run.proofs.run.run_list.Goals as goal

@@ -1,8 +1,5 @@
-use Rattle.std.proofs.Common.{◌≡◌}
-use Rattle.std.specs.Prelude.{string_bytes}
-use Rattle.kernel_rules.specs.State.{State}
-use Rattle.plain_kernel.specs.Step.{IsReached}
-use Rattle.plain_run.proofs.PlainRuns.{Midway}
+use Rattle.plain_tables.specs.kernel_history.specs.{◌≡◌, string_bytes, State}
+use Rattle.{plain_kernel.specs.Step.IsReached, plain_run.proofs.PlainRuns.Midway}
 use Rattle.plain_run.proofs.run.run_list.Given as goal
 
 abbrev pub invariant-calls : goal.invariant-calls

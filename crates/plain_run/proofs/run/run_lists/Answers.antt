@@ -1,8 +1,5 @@
-use Rattle.std.proofs.Common.{◌≡◌, ◌<◌, ◌^◌, ◌∙◌, sym, ap, subst, map, length, arith, List, []}
-use Rattle.std.specs.Prelude.{string_bytes, slice_index_or}
-use Rattle.std.proofs.lemmas.List.{length-map, get_or-map}
-use Rattle.kernel_history.specs.Order.{list_of}
-use Rattle.spk_nums.specs.declared.calls.Call.{Call}
+use Rattle.plain_tables.specs.kernel_history.proofs.{◌≡◌, ◌<◌, ◌^◌, ◌∙◌, sym, ap, subst, map, length, arith, List, [], string_bytes}
+use Rattle.plain_tables.specs.kernel_history.proofs.{get_or as slice_index_or, length-map, get_or-map, list_of, Call}
 use Rattle.plain_run.specs.Plain.{RunsList}
 use Rattle.plain_run.proofs.PlainRuns.{no_list, one_list, has_reached, list_at, runnable_at}
 use Rattle.plain_run.proofs.run.run_lists.Goals as goal

@@ -1,6 +1,4 @@
-use Rattle.std.proofs.Common.{map}
-use Rattle.std.specs.Prelude.{string_bytes}
-use Rattle.kernel_history.specs.Order.{list_of}
+use Rattle.plain_tables.specs.kernel_history.specs.{map, string_bytes, list_of}
 use Rattle.plain_run.specs.Plain.{RunsLists}
 use Rattle.plain_run.proofs.run.run_lists.Given as goal
 

@@ -1,7 +1,5 @@
-use Rattle.std.proofs.Common.{◌≡◌, sym, ap, arith}
-use Rattle.kernel_rules.specs.State.{TcapFields, tcap_in}
-use Rattle.kernel_history.proofs.Sums.{sum_none, sum_more}
-use Rattle.seq_state.specs.Maps.{state_of}
+use Rattle.plain_tables.proofs.Common.{◌≡◌, sym, ap, arith, tcap_in, sum_none, sum_more, state_of}
+use Rattle.seq_state.specs.kernel_rules.specs.State.{TcapFields}
 use Rattle.plain_tables.proofs.frames.budgets.Goals as goal
 
 pub frames-init : goal.frames-init

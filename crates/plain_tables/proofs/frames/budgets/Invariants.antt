@@ -1,7 +1,4 @@
-use Rattle.std.proofs.Common.{◌≡◌, ◌*◌, ◌≤◌}
-use Rattle.kernel_rules.specs.State.{tcap_in}
-use Rattle.kernel_rules.specs.References.{sum_below}
-use Rattle.seq_state.specs.Maps.{state_of}
+use Rattle.plain_tables.proofs.Common.{◌≡◌, ◌*◌, ◌≤◌, tcap_in, sum_below, state_of}
 use Rattle.plain_tables.proofs.frames.budgets.Given as goal
 
 abbrev pub invariant-frames : goal.invariant-frames

@@ -1,7 +1,4 @@
-use Rattle.std.proofs.Common.{◌≡◌, ◌++◌}
-use Rattle.std.specs.Prelude.{string_bytes, slice_index}
-use Rattle.kernel_history.specs.Tables.{lines_below, frame_lines}
-use Rattle.seq_state.specs.Maps.{state_of}
+use Rattle.plain_tables.proofs.Common.{◌≡◌, ◌++◌, string_bytes, slice_index, lines_below, frame_lines, state_of}
 use Rattle.plain_tables.proofs.frames.push_frames.Given as goal
 
 abbrev pub invariant-frames : goal.invariant-frames

@@ -1,8 +1,5 @@
-use Rattle.std.proofs.Common.{◌≡◌, ◌++◌, ◌∙◌, ap, subst, arith}
-use Rattle.kernel_rules.specs.State.{Core}
-use Rattle.kernel_rules.specs.References.{core_names}
-use Rattle.seq_state.specs.Maps.{state_of}
-use Rattle.table_lines.proofs.Adding.{adds_none, adds_piece, adds_more, adds_whole}
+use Rattle.plain_tables.proofs.Common.{◌≡◌, ◌++◌, ◌∙◌, ap, subst, arith, Core, core_names, state_of, adds_none, adds_piece, adds_more}
+use Rattle.plain_tables.proofs.Common.{adds_whole}
 use Rattle.plain_tables.proofs.names.push_cores.Goals as goal
 
 pub cores-init : goal.cores-init

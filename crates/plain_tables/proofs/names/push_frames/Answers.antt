@@ -1,6 +1,4 @@
-use Rattle.std.proofs.Common.{◌≡◌, arith}
-use Rattle.seq_state.specs.Maps.{state_of}
-use Rattle.table_lines.proofs.Adding.{adds_none, adds_more, adds_whole}
+use Rattle.plain_tables.proofs.Common.{◌≡◌, arith, state_of, adds_none, adds_more, adds_whole}
 use Rattle.plain_tables.proofs.names.push_frames.Goals as goal
 
 pub frames-init : goal.frames-init

@@ -1,5 +1,4 @@
-use Rattle.std.proofs.Common.{◌≡◌, arith}
-use Rattle.table_lines.proofs.Adding.{adds_none, adds_piece, adds_more, adds_whole}
+use Rattle.plain_tables.proofs.Common.{◌≡◌, arith, adds_none, adds_piece, adds_more, adds_whole}
 use Rattle.plain_tables.proofs.names.push_node.Goals as goal
 
 pub entries-init : goal.entries-init

@@ -1,6 +1,4 @@
-use Rattle.kernel_rules.specs.References.{sum_below, times, place_names}
-use Rattle.seq_state.specs.Maps.{state_of}
-use Rattle.table_lines.specs.Counting.{Adds}
+use Rattle.plain_tables.proofs.Common.{sum_below, times, place_names, state_of, Adds}
 use Rattle.plain_tables.proofs.names.push_nodes.Given as goal
 
 abbrev pub invariant-frames : goal.invariant-frames

@@ -1,4 +1,4 @@
-use Rattle.std.proofs.Common.{◌≡◌, reverse, arith}
+use Rattle.plain_tables.proofs.Common.{◌≡◌, reverse, arith}
 use Rattle.plain_tables.proofs.Stacks.{adds_begin, adds_next, adds_stack}
 use Rattle.plain_tables.proofs.names.push_stack.Goals as goal
 

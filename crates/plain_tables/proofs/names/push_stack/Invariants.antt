@@ -1,6 +1,4 @@
-use Rattle.std.proofs.Common.{take, reverse}
-use Rattle.kernel_rules.specs.References.{times}
-use Rattle.table_lines.specs.Counting.{Adds}
+use Rattle.plain_tables.proofs.Common.{take, reverse, times, Adds}
 use Rattle.plain_tables.proofs.names.push_stack.Given as goal
 
 abbrev pub invariant-heights : goal.invariant-heights

@@ -1,6 +1,4 @@
-use Rattle.std.proofs.Common.{◌≡◌, arith}
-use Rattle.kernel_history.specs.Tables.{quality_line}
-use Rattle.table_lines.proofs.Lines.{begins, goes_on}
+use Rattle.plain_tables.proofs.Common.{◌≡◌, arith, quality_line, begins, goes_on}
 use Rattle.plain_tables.proofs.Stacks.{text_begin, text_next, text_all}
 use Rattle.plain_tables.proofs.objects.push_qualities.Goals as goal
 

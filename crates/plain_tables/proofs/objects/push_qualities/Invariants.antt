@@ -1,7 +1,4 @@
-use Rattle.std.proofs.Common.{◌≡◌, ◌++◌, take}
-use Rattle.std.specs.Prelude.{string_bytes}
-use Rattle.std.specs.List.{flat_map}
-use Rattle.kernel_history.specs.Tables.{quality_line}
+use Rattle.plain_tables.proofs.Common.{◌≡◌, ◌++◌, take, string_bytes, flat_map, quality_line}
 use Rattle.plain_tables.proofs.objects.push_qualities.Given as goal
 
 abbrev pub invariant-pairs : goal.invariant-pairs

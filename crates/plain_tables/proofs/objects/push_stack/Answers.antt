@@ -1,6 +1,4 @@
-use Rattle.std.proofs.Common.{◌≡◌, reverse, arith}
-use Rattle.kernel_history.specs.Tables.{number}
-use Rattle.table_lines.proofs.Lines.{begins, goes_on}
+use Rattle.plain_tables.proofs.Common.{◌≡◌, reverse, arith, number, begins, goes_on}
 use Rattle.plain_tables.proofs.Stacks.{text_begin, text_next, stack_all}
 use Rattle.plain_tables.proofs.objects.push_stack.Goals as goal
 

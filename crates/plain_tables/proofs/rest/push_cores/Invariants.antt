@@ -1,8 +1,4 @@
-use Rattle.std.proofs.Common.{◌≡◌, ◌++◌}
-use Rattle.std.specs.Prelude.{string_bytes}
-use Rattle.kernel_rules.specs.State.{first_of_stack, thread_of}
-use Rattle.kernel_history.specs.Tables.{lines_below, core_lines}
-use Rattle.seq_state.specs.Maps.{state_of}
+use Rattle.plain_tables.proofs.Common.{◌≡◌, ◌++◌, string_bytes, first_of_stack, thread_of, lines_below, core_lines, state_of}
 use Rattle.plain_tables.proofs.rest.push_cores.Given as goal
 
 abbrev pub invariant-cores : goal.invariant-cores

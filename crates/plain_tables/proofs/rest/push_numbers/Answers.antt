@@ -1,4 +1,4 @@
-use Rattle.table_lines.proofs.Lines.{begins, goes_on, lines_none, lines_more}
+use Rattle.plain_tables.proofs.Common.{begins, goes_on, lines_none, lines_more}
 use Rattle.plain_tables.proofs.rest.push_numbers.Goals as goal
 
 pub numbers-init : goal.numbers-init

@@ -1,7 +1,4 @@
-use Rattle.std.proofs.Common.{◌≡◌, ◌++◌}
-use Rattle.std.specs.Prelude.{string_bytes}
-use Rattle.kernel_history.specs.Tables.{lines_below, number_line}
-use Rattle.seq_state.specs.Maps.{state_of}
+use Rattle.plain_tables.proofs.Common.{◌≡◌, ◌++◌, string_bytes, lines_below, number_line, state_of}
 use Rattle.plain_tables.proofs.rest.push_numbers.Given as goal
 
 abbrev pub invariant-numbers : goal.invariant-numbers

@@ -1,7 +1,4 @@
-use Rattle.std.proofs.Common.{◌≡◌, sym, ap, arith}
-use Rattle.kernel_rules.specs.State.{Core, outstanding}
-use Rattle.kernel_history.proofs.Sums.{sum_none, sum_more}
-use Rattle.seq_state.specs.Maps.{state_of}
+use Rattle.plain_tables.proofs.Common.{◌≡◌, sym, ap, arith, Core, outstanding, sum_none, sum_more, state_of}
 use Rattle.plain_tables.proofs.rest.spent.Goals as goal
 
 pub cores-init : goal.cores-init

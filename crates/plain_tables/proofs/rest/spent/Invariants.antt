@@ -1,8 +1,5 @@
-use Rattle.std.proofs.Common.{◌≡◌, ◌*◌, ◌≤◌}
-use Rattle.kernel_rules.specs.References.{sum_below}
-use Rattle.seq_state.specs.Maps.{state_of}
+use Rattle.plain_tables.proofs.Common.{◌≡◌, ◌*◌, ◌≤◌, sum_below, state_of, outstanding}
 use Rattle.plain_tables.proofs.rest.spent.Given as goal
-use Rattle.kernel_rules.specs.State.{outstanding}
 
 abbrev pub invariant-cores : goal.invariant-cores
 invariant-cores l = record {

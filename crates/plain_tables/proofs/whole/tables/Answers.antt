@@ -1,6 +1,4 @@
-use Rattle.std.proofs.Common.{◌∙◌}
-use Rattle.seq_state.specs.Maps.{state_of}
-use Rattle.plain_tables.proofs.Texts.{same_tables}
+use Rattle.{plain_tables.proofs.Common.◌∙◌, plain_tables.proofs.Common.state_of, plain_tables.proofs.Texts.same_tables}
 use Rattle.plain_tables.proofs.whole.tables.Goals as goal
 
 pub returns-clause-represented : goal.returns-clause-represented

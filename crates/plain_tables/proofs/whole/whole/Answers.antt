@@ -1,7 +1,4 @@
-use Rattle.std.proofs.Common.{◌≡◌, ◌+◌, arith}
-use Rattle.std.specs.Prelude.{string_bytes}
-use Rattle.kernel_rules.specs.Laws.{ticks}
-use Rattle.seq_state.specs.Maps.{state_of}
+use Rattle.plain_tables.proofs.Common.{◌≡◌, ◌+◌, arith, string_bytes, ticks, state_of}
 use Rattle.plain_tables.proofs.Texts.{whole_text}
 use Rattle.plain_tables.proofs.whole.whole.Goals as goal
 

@@ -1,8 +1,7 @@
-use Rattle.std.proofs.Common.{◌≤◌, ◌∙◌, sym, ap, arith, length}
-use Rattle.spk_nums.specs.Merging.{number_of}
+use Rattle.seq_state.specs.kernel_rules.proofs.{◌≤◌, ◌∙◌, sym, ap, arith, length, number_of}
 use Rattle.preempt_test.proofs.Walks.{found_here, passed_here, past_end, all_passed}
-use Rattle.sched_lookups.proofs.numbers.number_in.Goals as goal
 use Rattle.sched_lookups.proofs.numbers.number_in.Goals.{in-Some+else-named-sched, in_default}
+use Rattle.sched_lookups.proofs.numbers.number_in.Goals as goal
 
 pub returns-then-named-sched : goal.returns-then-named-sched
 returns-then-named-sched c = sym (c.pairs.invariant

@@ -1,9 +1,7 @@
-use Rattle.std.proofs.Common.{[], ◌<◌, ◌∙◌, sym, subst, arith, length, All}
-use Rattle.spk_nums.specs.CallLimits.{InLimits}
-use Rattle.sched_rules.specs.Schedule.{TaskFits}
-use Rattle.sched_text.specs.Fitting.{RunsFit}
-use Rattle.fixed_prio.specs.Machines.{after_calls, Beside}
+use Rattle.fixed_prio.specs.plain_kernel.specs.kernel_laws.proofs.{[], ◌<◌, ◌∙◌, sym, subst, arith, length, All, InLimits}
+use Rattle.fixed_prio.specs.{after_calls, Beside}
 use Rattle.sched_run.proofs.Making.{begun_beside, limits_0, runs_fit}
+use Rattle.{fixed_prio.specs.sched_rules.specs.Schedule.TaskFits, sched_text.specs.Fitting.RunsFit}
 use Rattle.sched_run.proofs.run.make.Goals as goal
 
 pub make_calls-requires-clause-beside : goal.make_calls-requires-clause-beside

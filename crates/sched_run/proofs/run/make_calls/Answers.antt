@@ -1,6 +1,4 @@
-use Rattle.std.proofs.Common.{subst, ◌∙◌}
-use Rattle.fixed_prio.specs.Machines.{MakesBoth}
-use Rattle.sched_run.proofs.Making.{one_more}
+use Rattle.{std.proofs.Common.subst, std.proofs.Common.◌∙◌, fixed_prio.specs.Machines.MakesBoth, sched_run.proofs.Making.one_more}
 use Rattle.sched_run.proofs.run.make_calls.Goals as goal
 
 pub calls-preserved : goal.calls-preserved

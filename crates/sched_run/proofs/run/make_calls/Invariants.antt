@@ -1,5 +1,4 @@
-use Rattle.std.proofs.Common.{◌≡◌, ◌++◌, take}
-use Rattle.fixed_prio.specs.Machines.{Beside}
+use Rattle.{std.proofs.Common.◌≡◌, std.proofs.Common.◌++◌, std.proofs.Common.take, fixed_prio.specs.Machines.Beside}
 use Rattle.sched_run.proofs.run.make_calls.Given as goal
 
 abbrev pub invariant-calls : goal.invariant-calls

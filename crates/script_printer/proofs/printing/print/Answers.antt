@@ -1,6 +1,5 @@
-use Rattle.std.proofs.Common.{ap, ◌∙◌}
-use Rattle.script_reader.specs.Readings.{script_of, script_view}
-use Rattle.script_printer.proofs.PrintedLines.{printed_read}
+use Rattle.{std.proofs.Common.ap, std.proofs.Common.◌∙◌, script_reader.specs.script_of, script_reader.specs.script_view}
+use Rattle.{script_printer.proofs.PrintedLines.printed_read}
 use Rattle.script_printer.proofs.printing.print.Goals as goal
 
 pub returns-clause-read : goal.returns-clause-read

@@ -1,7 +1,5 @@
-use Rattle.std.proofs.Common.{◌≡◌, ◌++◌, drop}
-use Rattle.std.specs.Prelude.{string_bytes}
-use Rattle.script_reader.specs.Readings.{lists_of}
-use Rattle.script_printer.specs.Printing.{list_lines}
+use Rattle.std.proofs.Common.{◌≡◌, ◌++◌, drop, string_bytes}
+use Rattle.{script_reader.specs.Readings.lists_of, script_printer.specs.Printing.list_lines}
 use Rattle.script_printer.proofs.printing.push_lists.Given as goal
 
 abbrev pub invariant-cores : goal.invariant-cores

@@ -1,5 +1,4 @@
-use Rattle.std.proofs.Common.{◌∙◌, sym}
-use Rattle.script_reader.proofs.Suffixes.{suffixed_is}
+use Rattle.{std.proofs.Common.◌∙◌, std.proofs.Common.sym, script_reader.proofs.Suffixes.suffixed_is}
 use Rattle.script_reader.proofs.items.suffixed.Goals as goal
 
 pub returns-then-is_digits-clause-value : goal.returns-then-is_digits-clause-value

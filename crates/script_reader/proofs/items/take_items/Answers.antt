@@ -1,5 +1,4 @@
-use Rattle.std.proofs.Common.{◌<◌, arith, length}
-use Rattle.script_reader.proofs.ItemSteps.{adds_more}
+use Rattle.{std.proofs.Common.◌<◌, std.proofs.Common.arith, std.proofs.Common.length, script_reader.proofs.ItemSteps.adds_more}
 use Rattle.script_reader.proofs.items.take_items.Goals as goal
 
 pub items-preserved : goal.items-preserved

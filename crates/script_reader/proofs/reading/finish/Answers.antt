@@ -1,8 +1,7 @@
 use Rattle.std.proofs.Common.{◌≡◌, ap, ◌∙◌, take, sym, refl}
-use Rattle.std.proofs.lemmas.List.{take-map}
-use Rattle.script_reader.specs.declared.reading.Script.{Script}
-use Rattle.script_reader.specs.Readings.{draft_view, lists_of}
+use Rattle.script_reader.specs.{draft_view, lists_of}
 use Rattle.script_reader.proofs.DraftSteps.{finished, is_script}
+use Rattle.{std.proofs.lemmas.List.take-map, script_reader.specs.declared.reading.Script.Script}
 use Rattle.script_reader.proofs.reading.finish.Goals as goal
 
 pub returns-clause-value : goal.returns-clause-value

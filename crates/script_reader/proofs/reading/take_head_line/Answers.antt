@@ -1,7 +1,5 @@
-use Rattle.std.proofs.Common.{subst}
-use Rattle.script_reader.specs.Heads.{IsLine}
-use Rattle.script_reader.specs.Readings.{draft_view}
-use Rattle.script_reader.proofs.DraftSteps.{call_kept}
+use Rattle.script_reader.specs.{Heads.IsLine, Readings.draft_view}
+use Rattle.{std.proofs.Common.subst, script_reader.proofs.DraftSteps.call_kept}
 use Rattle.script_reader.proofs.reading.take_head_line.Goals as goal
 
 pub returns-in_ok-add_call-in-Call-clause-draft : goal.returns-in_ok-add_call-in-Call-clause-draft

@@ -1,12 +1,9 @@
 use Rattle.std.proofs.Common.{◌≡◌, ◌≤◌, ◌+◌, ◌++◌, All, refl, sym, ap, subst, ◌∙◌, map, true, false, length, slice_index_or, arith}
-use Rattle.std.specs.Prelude.{slice_get}
-use Rattle.std.proofs.lemmas.List.{take-map}
-use Rattle.std.proofs.lemmas.List.Elements.{All-take}
-use Rattle.script_tokens.specs.declared.scanning.Ending.TheVariants.{Fault}
-use Rattle.script_tokens.specs.Words.{spans_of, FewLines}
 use Rattle.script_tokens.specs.Scanning.{span_of, IsSlice, is_fault, ended, word_before, last_word, whole_after}
 use Rattle.script_tokens.proofs.Steps.{turns, blank_turns, stops, told, rises, ends}
-use Rattle.script_tokens.proofs.Sizes.{few_lines, few_words}
+use Rattle.{std.proofs.Common.slice_get, std.proofs.lemmas.List.take-map, std.proofs.lemmas.List.Elements.All-take}
+use Rattle.{script_tokens.specs.declared.scanning.Ending.TheVariants.Fault, script_tokens.specs.Words.spans_of}
+use Rattle.{script_tokens.specs.Words.FewLines, script_tokens.proofs.Sizes.few_lines, script_tokens.proofs.Sizes.few_words}
 use Rattle.script_tokens.proofs.scanning.scan.Goals as goal
 
 pub returns-then-is_fault-clause-words : goal.returns-then-is_fault-clause-words

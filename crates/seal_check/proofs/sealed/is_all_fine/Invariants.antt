@@ -1,5 +1,4 @@
-use Rattle.std.proofs.Common.{◌≡◌, ◌<◌, ℕ, false}
-use Rattle.seq_state.specs.Maps.{state_of}
+use Rattle.seq_state.specs.{◌≡◌, ◌<◌, ℕ, false, state_of}
 use Rattle.seal_check.specs.Sealing.{is_in, IsFrameFree}
 use Rattle.seal_check.proofs.sealed.is_all_fine.Given as goal
 

@@ -1,12 +1,6 @@
-use Rattle.std.proofs.Common.{◌≡◌, ◌∙◌, ℕ, sym, subst}
-use Rattle.spk_nums.specs.declared.calls.Call.TheVariants.{Make as make_call}
-use Rattle.spk_nums.specs.declared.replies.Value.TheVariants.{Nothing}
-use Rattle.spk_nums.specs.declared.replies.Reply.TheVariants.{Ok as ok}
-use Rattle.kernel_rules.specs.CallRelation.{rule_of}
-use Rattle.seq_state.specs.Maps.{state_of}
-use Rattle.seq_lookups.specs.Carried.{IsCarriedOut}
-use Rattle.seq_plans.specs.Walks.{left_of}
-use Rattle.seq_plans.specs.Carrying.{change_in, MayMake}
+use Rattle.seq_state.proofs.{◌≡◌, ◌∙◌, ℕ, sym, subst, Make as make_call, Nothing, rule_of, state_of}
+use Rattle.{seq_plans.specs.left_of, seq_plans.specs.change_in, spk_nums.specs.declared.replies.Reply.TheVariants.Ok as ok}
+use Rattle.{seq_lookups.specs.Carried.IsCarriedOut, seq_plans.specs.Carrying.MayMake}
 use Rattle.seq_caps.proofs.carrying.make.Goals as goal
 
 pub returns-then-number-frames : goal.returns-then-number-frames

@@ -1,7 +1,4 @@
-use Rattle.std.proofs.Common.{◌≡◌, refl, subst, arith}
-use Rattle.kernel_rules.specs.Start.{no_grace}
-use Rattle.seq_state.specs.Maps.{state_of}
-use Rattle.seq_state.specs.Representation.{Represents}
+use Rattle.seq_state.proofs.{◌≡◌, refl, subst, arith, no_grace, state_of, Represents}
 use Rattle.seq_caps.proofs.Clearing.{cleared_to, begins, goes_on, ends}
 use Rattle.seq_caps.proofs.frames.clear.Goals as goal
 

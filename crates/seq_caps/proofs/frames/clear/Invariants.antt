@@ -1,6 +1,4 @@
-use Rattle.seq_state.specs.Maps.{state_of}
-use Rattle.seq_state.specs.Representation.{Represents}
-use Rattle.seq_caps.proofs.Clearing.{cleared_to}
+use Rattle.{seq_state.specs.state_of, seq_state.specs.Represents, seq_caps.proofs.Clearing.cleared_to}
 use Rattle.seq_caps.proofs.frames.clear.Given as goal
 
 abbrev pub invariant-each : goal.invariant-each

@@ -1,8 +1,5 @@
-use Rattle.std.proofs.Common.{◌∙◌}
-use Rattle.spk_nums.specs.CoreSets.{has_core}
-use Rattle.seq_state.specs.Parts.{thing_of}
-use Rattle.seq_state.specs.Maps.{state_of}
-use Rattle.seq_lookups.proofs.Lowest.{lowest_alike}
+use Rattle.{seq_state.specs.thing_of, seq_state.specs.state_of, seq_state.specs.kernel_rules.proofs.◌∙◌}
+use Rattle.{seq_state.specs.kernel_rules.proofs.has_core, seq_lookups.proofs.Lowest.lowest_alike}
 use Rattle.seq_lookups.proofs.waiting.first_unflushed.Goals as goal
 
 pub returns : goal.returns

@@ -1,9 +1,5 @@
-use Rattle.std.proofs.Common.{◌≡◌, ◌-◌}
-use Rattle.std.specs.Prelude.{find}
-use Rattle.std.specs.List.{range_with_len}
-use Rattle.spk_nums.specs.CoreSets.{has_core}
-use Rattle.kernel_rules.specs.GracePeriods.{lowest}
-use Rattle.seq_state.specs.Maps.{state_of}
+use Rattle.seq_state.specs.kernel_rules.specs.{◌≡◌, ◌-◌, find, has_core, lowest}
+use Rattle.{std.specs.List.range_with_len, seq_state.specs.Maps.state_of}
 use Rattle.seq_lookups.proofs.waiting.lowest.Given as goal
 
 abbrev pub invariant-each : goal.invariant-each

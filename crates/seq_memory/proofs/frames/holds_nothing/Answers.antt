@@ -1,7 +1,5 @@
-use Rattle.std.proofs.Common.{◌≡◌, ◌<◌, ℕ, true, false, not, is_some, sym, ◌∙◌, ap}
-use Rattle.kernel_rules.specs.Access.{held_in}
-use Rattle.kernel_rules.specs.MemoryCalls.{holds_nothing}
-use Rattle.seq_state.specs.Maps.{state_of}
+use Rattle.seq_state.proofs.{◌≡◌, ◌<◌, ℕ, true, false, not, is_some, sym, ◌∙◌, ap, held_in, state_of}
+use Rattle.seq_state.specs.kernel_rules.specs.MemoryCalls.{holds_nothing}
 use Rattle.seq_memory.proofs.Searching.{any_here, any_later, any_nowhere}
 use Rattle.seq_memory.proofs.frames.holds_nothing.Goals as goal
 

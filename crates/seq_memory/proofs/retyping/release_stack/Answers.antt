@@ -1,6 +1,4 @@
-use Rattle.std.proofs.Common.{refl, sym, ◌∙◌}
-use Rattle.seq_state.specs.Maps.{state_of}
-use Rattle.seq_state.proofs.Same.{same_by}
+use Rattle.seq_state.proofs.{refl, sym, ◌∙◌, state_of, same_by}
 use Rattle.seq_memory.proofs.Stacks.{one_item, no_item}
 use Rattle.seq_memory.proofs.retyping.release_stack.Goals as goal
 

@@ -1,5 +1,4 @@
-use Rattle.std.proofs.Common.{◌&&◌, ◌==◌, sym, ◌∙◌}
-use Rattle.spk_nums.specs.declared.translations.Translation.{Translation}
+use Rattle.seq_state.proofs.{◌&&◌, ◌==◌, sym, ◌∙◌, Translation}
 use Rattle.seq_plans.proofs.Searching.{found_here, found_later}
 use Rattle.seq_plans.proofs.caching.translation_of.Goals as goal
 

@@ -1,6 +1,4 @@
-use Rattle.std.proofs.Common.{◌≡◌, ◌&&◌, ◌==◌, drop}
-use Rattle.std.specs.Prelude.{find}
-use Rattle.kernel_rules.specs.MemoryCalls.{translation_of}
+use Rattle.seq_state.specs.{◌≡◌, ◌&&◌, ◌==◌, drop, find, translation_of}
 use Rattle.seq_plans.proofs.caching.translation_of.Given as goal
 
 abbrev pub invariant-each : goal.invariant-each

@@ -1,7 +1,5 @@
-use Rattle.std.proofs.Common.{◌||◌, []}
-use Rattle.seq_state.specs.Maps.{state_of}
-use Rattle.seq_plans.specs.OwnCauses.{with_cause}
-use Rattle.seq_plans.proofs.OneOfCauses.{next_decides}
+use Rattle.seq_state.specs.{◌||◌, [], state_of}
+use Rattle.{seq_plans.specs.OwnCauses.with_cause, seq_plans.proofs.OneOfCauses.next_decides}
 use Rattle.seq_plans.proofs.causes.one_may.Goals as goal
 
 pub returns : goal.returns

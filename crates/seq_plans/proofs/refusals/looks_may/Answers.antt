@@ -1,10 +1,7 @@
-use Rattle.std.proofs.Common.{◌⊎◌, ◌||◌}
-use Rattle.call_plans.specs.declared.plans.Nth.{Nth}
+use Rattle.seq_state.specs.{◌⊎◌, ◌||◌, state_of}
 use Rattle.call_plans.specs.declared.plans.Nth.TheVariants.{First, Second, Third, Fourth}
-use Rattle.seq_state.specs.Maps.{state_of}
-use Rattle.seq_plans.specs.Walks.{names_in}
-use Rattle.seq_plans.specs.Refusals.{NthMay, TargetMay}
-use Rattle.seq_plans.proofs.Deciding.{decides_either}
+use Rattle.seq_plans.specs.{Walks.names_in, Refusals.NthMay, Refusals.TargetMay}
+use Rattle.{call_plans.specs.declared.plans.Nth.Nth, seq_plans.proofs.Deciding.decides_either}
 use Rattle.seq_plans.proofs.refusals.looks_may.Goals as goal
 
 pub returns : goal.returns

@@ -1,9 +1,6 @@
-use Rattle.std.proofs.Common.{◌≡◌, subst, Option, Some}
-use Rattle.call_plans.specs.declared.plans.Name.{Name}
-use Rattle.call_plans.specs.Plans.{at_place}
-use Rattle.seq_state.specs.Maps.{state_of}
-use Rattle.seq_plans.specs.declared.walking.Looked.{Looked}
-use Rattle.seq_plans.specs.Refusals.{Decides, SomeNameMay}
+use Rattle.seq_state.proofs.{◌≡◌, subst, Option, Some, state_of}
+use Rattle.call_plans.specs.{declared.plans.Name.Name, Plans.at_place}
+use Rattle.seq_plans.specs.{declared.walking.Looked.Looked, Refusals.Decides, Refusals.SomeNameMay}
 use Rattle.seq_plans.proofs.refusals.nth_may.Goals as goal
 
 pub returns-in-Some : goal.returns-in-Some

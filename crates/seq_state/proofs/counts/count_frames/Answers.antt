@@ -1,6 +1,5 @@
-use Rattle.std.proofs.Common.{refl, ◌∙◌, ap, arith}
-use Rattle.kernel_rules.specs.References.{frame_names, times}
-use Rattle.seq_state.specs.Maps.{at, count_at, frame_or_untyped}
+use Rattle.kernel_invariant.specs.kernel_rules.proofs.{refl, ◌∙◌, ap, arith, frame_names, times}
+use Rattle.seq_state.specs.{at, count_at, frame_or_untyped}
 use Rattle.seq_state.proofs.Counting.{none_more, counted_more}
 use Rattle.seq_state.proofs.counts.count_frames.Goals as goal
 

@@ -1,6 +1,5 @@
-use Rattle.std.proofs.Common.{◌≡◌, ◌<◌, ◌≤◌, ◌+◌, ◌*◌, ℕ, length}
-use Rattle.kernel_rules.specs.References.{frame_names, sum_below, times}
-use Rattle.seq_state.specs.Maps.{at, count_at, frame_or_untyped}
+use Rattle.seq_state.specs.{◌≡◌, ◌<◌, ◌≤◌, ◌+◌, ◌*◌, ℕ, length, frame_names, sum_below, at, count_at, frame_or_untyped}
+use Rattle.kernel_invariant.specs.kernel_rules.specs.References.{times}
 use Rattle.seq_state.proofs.counts.count_frames.Given as goal
 
 abbrev pub invariant-each : goal.invariant-each

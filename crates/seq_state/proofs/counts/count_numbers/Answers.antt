@@ -1,6 +1,5 @@
-use Rattle.std.proofs.Common.{refl, ◌∙◌, ap, arith}
-use Rattle.kernel_rules.specs.References.{number_names, times}
-use Rattle.seq_state.specs.Maps.{at, count_at, number_or_unused}
+use Rattle.kernel_invariant.specs.kernel_rules.proofs.{refl, ◌∙◌, ap, arith, number_names, times}
+use Rattle.seq_state.specs.{at, count_at, number_or_unused}
 use Rattle.seq_state.proofs.Counting.{none_more, counted_more}
 use Rattle.seq_state.proofs.counts.count_numbers.Goals as goal
 

@@ -1,6 +1,5 @@
-use Rattle.std.proofs.Common.{refl, ◌∙◌, ap, arith}
-use Rattle.kernel_rules.specs.References.{place_names, times}
-use Rattle.seq_state.specs.Maps.{at, count_at, place_or_free}
+use Rattle.kernel_invariant.specs.kernel_rules.proofs.{refl, ◌∙◌, ap, arith, place_names, times}
+use Rattle.seq_state.specs.{at, count_at, place_or_free}
 use Rattle.seq_state.proofs.Counting.{none_more, counted_more}
 use Rattle.seq_state.proofs.counts.count_places.Goals as goal
 

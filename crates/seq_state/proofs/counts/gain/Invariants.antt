@@ -1,6 +1,5 @@
-use Rattle.std.proofs.Common.{◌≡◌, ◌<◌, ◌+◌, ℕ, length}
-use Rattle.kernel_rules.specs.References.{times}
-use Rattle.seq_state.specs.Maps.{count_at}
+use Rattle.seq_state.specs.{◌≡◌, ◌<◌, ◌+◌, ℕ, length, count_at}
+use Rattle.kernel_invariant.specs.kernel_rules.specs.References.{times}
 use Rattle.seq_state.proofs.counts.gain.Given as goal
 
 abbrev pub invariant-each : goal.invariant-each

@@ -1,7 +1,5 @@
-use Rattle.std.proofs.Common.{◌≡◌}
-use Rattle.kernel_rules.specs.Start.{start_core}
-use Rattle.seq_state.specs.Parts.{core_of}
-use Rattle.seq_state.proofs.StartLemmas.{all_more}
+use Rattle.seq_state.specs.{◌≡◌, core_of}
+use Rattle.{kernel_invariant.specs.kernel_rules.specs.Start.start_core, seq_state.proofs.StartLemmas.all_more}
 use Rattle.seq_state.proofs.start.all_cores.Goals as goal
 
 pub each-preserved : goal.each-preserved

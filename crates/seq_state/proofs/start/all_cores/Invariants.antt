@@ -1,7 +1,5 @@
-use Rattle.std.proofs.Common.{length, ◌≡◌}
-use Rattle.kernel_rules.specs.Start.{start_core}
-use Rattle.seq_state.specs.Parts.{core_of}
-use Rattle.seq_state.specs.Maps.{HasAll}
+use Rattle.seq_state.specs.{length, ◌≡◌, core_of, HasAll}
+use Rattle.kernel_invariant.specs.kernel_rules.specs.Start.{start_core}
 use Rattle.seq_state.proofs.start.all_cores.Given as goal
 
 abbrev pub invariant-each : goal.invariant-each

@@ -1,7 +1,5 @@
-use Rattle.std.proofs.Common.{◌≡◌}
-use Rattle.kernel_rules.specs.Start.{start_frame}
-use Rattle.seq_state.specs.Parts.{frame_of}
-use Rattle.seq_state.proofs.StartLemmas.{all_more}
+use Rattle.seq_state.specs.{◌≡◌, frame_of}
+use Rattle.{kernel_invariant.specs.kernel_rules.specs.Start.start_frame, seq_state.proofs.StartLemmas.all_more}
 use Rattle.seq_state.proofs.start.all_frames.Goals as goal
 
 pub each-preserved : goal.each-preserved

@@ -1,6 +1,4 @@
-use Rattle.std.proofs.Common.{◌≡◌}
-use Rattle.seq_state.specs.Times.{no_period}
-use Rattle.seq_state.proofs.StartLemmas.{all_more}
+use Rattle.{seq_state.specs.◌≡◌, seq_state.specs.no_period, seq_state.proofs.StartLemmas.all_more}
 use Rattle.seq_state.proofs.start.all_graces.Goals as goal
 
 pub each-preserved : goal.each-preserved

@@ -1,6 +1,4 @@
-use Rattle.std.proofs.Common.{◌≡◌, length}
-use Rattle.seq_state.specs.Times.{no_period}
-use Rattle.seq_state.specs.Maps.{HasAll}
+use Rattle.seq_state.specs.{◌≡◌, length, no_period, HasAll}
 use Rattle.seq_state.proofs.start.all_graces.Given as goal
 
 abbrev pub invariant-each : goal.invariant-each

@@ -1,7 +1,5 @@
-use Rattle.std.proofs.Common.{◌≡◌}
-use Rattle.kernel_rules.specs.Start.{start_number}
-use Rattle.seq_state.specs.Parts.{number_of}
-use Rattle.seq_state.proofs.StartLemmas.{all_more}
+use Rattle.seq_state.specs.{◌≡◌, number_of}
+use Rattle.{kernel_invariant.specs.kernel_rules.specs.Start.start_number, seq_state.proofs.StartLemmas.all_more}
 use Rattle.seq_state.proofs.start.all_numbers.Goals as goal
 
 pub each-preserved : goal.each-preserved

@@ -1,7 +1,5 @@
-use Rattle.std.proofs.Common.{◌≡◌, ◌/◌, ◌%◌}
-use Rattle.kernel_rules.specs.Start.{start_place}
-use Rattle.seq_state.specs.Parts.{place_held}
-use Rattle.seq_state.proofs.StartLemmas.{all_more}
+use Rattle.kernel_invariant.specs.kernel_rules.specs.{◌≡◌, ◌/◌, ◌%◌, start_place}
+use Rattle.{seq_state.specs.Parts.place_held, seq_state.proofs.StartLemmas.all_more}
 use Rattle.seq_state.proofs.start.all_places.Goals as goal
 
 pub each-preserved : goal.each-preserved

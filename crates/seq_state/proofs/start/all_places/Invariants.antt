@@ -1,7 +1,5 @@
-use Rattle.std.proofs.Common.{length, ◌≡◌, ◌/◌, ◌%◌}
-use Rattle.kernel_rules.specs.Start.{start_place}
-use Rattle.seq_state.specs.Parts.{place_held}
-use Rattle.seq_state.specs.Maps.{HasAll}
+use Rattle.seq_state.specs.{length, ◌≡◌, ◌%◌, place_held, HasAll}
+use Rattle.kernel_invariant.specs.kernel_rules.specs.{◌/◌, start_place}
 use Rattle.seq_state.proofs.start.all_places.Given as goal
 
 abbrev pub invariant-each : goal.invariant-each

@@ -1,5 +1,4 @@
-use Rattle.std.proofs.Common.{◌≡◌, refl}
-use Rattle.seq_state.proofs.StartLemmas.{all_more}
+use Rattle.{seq_state.specs.◌≡◌, seq_state.specs.refl, seq_state.proofs.StartLemmas.all_more}
 use Rattle.seq_state.proofs.start.no_counts.Goals as goal
 
 pub each-preserved : goal.each-preserved

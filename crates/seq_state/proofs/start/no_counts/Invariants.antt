@@ -1,5 +1,4 @@
-use Rattle.std.proofs.Common.{◌≡◌, length}
-use Rattle.seq_state.specs.Maps.{HasAll}
+use Rattle.seq_state.specs.{◌≡◌, length, HasAll}
 use Rattle.seq_state.proofs.start.no_counts.Given as goal
 
 abbrev pub invariant-each : goal.invariant-each

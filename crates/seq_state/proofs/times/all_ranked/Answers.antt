@@ -1,8 +1,6 @@
-use Rattle.std.proofs.Common.{inl, inr, sym, ◌∙◌, ap, arith}
-use Rattle.std.proofs.lemmas.Bool.{cases_eq}
-use Rattle.std.proofs.lemmas.Grind.{get_or-set_at}
-use Rattle.std.proofs.lemmas.List.{get_or-set_other, length-set}
-use Rattle.seq_state.specs.Times.{no_times, times_at, ranked}
+use Rattle.std.proofs.Common.{inl, inr, sym, ◌∙◌, ap, arith, get_or-set_other, length-set}
+use Rattle.seq_state.specs.{no_times, times_at, ranked}
+use Rattle.std.proofs.{lemmas.Bool.cases_eq, lemmas.Grind.get_or-set_at}
 use Rattle.seq_state.proofs.times.all_ranked.Goals as goal
 
 pub each-preserved : goal.each-preserved

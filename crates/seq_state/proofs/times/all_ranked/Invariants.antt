@@ -1,5 +1,4 @@
-use Rattle.std.proofs.Common.{◌≡◌, ℕ, ◌<◌, length}
-use Rattle.seq_state.specs.Times.{times_at, ranked}
+use Rattle.seq_state.specs.{◌≡◌, ℕ, ◌<◌, length, times_at, ranked}
 use Rattle.seq_state.proofs.times.all_ranked.Given as goal
 
 abbrev pub invariant-each : goal.invariant-each

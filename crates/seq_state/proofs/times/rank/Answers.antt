@@ -1,6 +1,5 @@
-use Rattle.std.proofs.Common.{refl, arith}
-use Rattle.seq_state.specs.Times.{times_at, before}
-use Rattle.seq_state.proofs.Counting.{sum_none, counted}
+use Rattle.seq_state.specs.{refl, times_at, before}
+use Rattle.{std.proofs.Common.arith, seq_state.proofs.Counting.sum_none, seq_state.proofs.Counting.counted}
 use Rattle.seq_state.proofs.times.rank.Goals as goal
 
 pub each-init : goal.each-init

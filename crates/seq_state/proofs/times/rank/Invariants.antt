@@ -1,6 +1,4 @@
-use Rattle.std.proofs.Common.{◌≡◌, ◌≤◌, ◌*◌}
-use Rattle.kernel_rules.specs.References.{sum_below}
-use Rattle.seq_state.specs.Times.{times_at, before}
+use Rattle.seq_state.specs.{◌≡◌, ◌≤◌, ◌*◌, sum_below, times_at, before}
 use Rattle.seq_state.proofs.times.rank.Given as goal
 
 abbrev pub invariant-each : goal.invariant-each

@@ -1,7 +1,4 @@
-use Rattle.std.proofs.Common.{◌≡◌, ◌<◌, ◌≤◌, ℕ}
-use Rattle.seq_state.specs.Times.{ranked_period}
-use Rattle.seq_state.specs.Maps.{at}
-use Rattle.seq_state.specs.Passing.{Becomes}
+use Rattle.seq_state.specs.{◌≡◌, ◌<◌, ◌≤◌, ℕ, at, Times.ranked_period, Passing.Becomes}
 use Rattle.seq_state.proofs.times.rank_below.Given as goal
 
 abbrev pub invariant-each : goal.invariant-each

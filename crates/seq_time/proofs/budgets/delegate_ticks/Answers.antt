@@ -1,8 +1,5 @@
-use Rattle.std.proofs.Common.{◌≡◌, ◌+◌, ◌-◌, ◌∙◌, ap, arith}
-use Rattle.kernel_rules.specs.TimeCalls.{merged_list}
-use Rattle.kernel_rules.specs.Edits.{with_tcap, tcap_at}
-use Rattle.seq_state.specs.Maps.{state_of}
-use Rattle.seq_time.proofs.Delegating.{delegated, there}
+use Rattle.seq_state.specs.kernel_rules.proofs.{◌≡◌, ◌+◌, ◌-◌, ◌∙◌, ap, arith, merged_list, with_tcap, tcap_at}
+use Rattle.{seq_state.specs.Maps.state_of, seq_time.proofs.Delegating.delegated, seq_time.proofs.Delegating.there}
 use Rattle.seq_time.proofs.budgets.delegate_ticks.Goals as goal
 
 pub returns : goal.returns

@@ -1,9 +1,5 @@
-use Rattle.std.proofs.Common.{◌∙◌, sym, subst, List, [], ◌∷◌}
-use Rattle.kernel_rules.specs.State.{thread_in}
-use Rattle.kernel_rules.specs.Rules.{Cause}
-use Rattle.seq_state.specs.Maps.{state_of}
-use Rattle.seq_plans.specs.Reaches.{named_of}
-use Rattle.seq_plans.specs.OwnCauses.{AreFitCauses}
+use Rattle.seq_state.proofs.{◌∙◌, sym, subst, List, [], ◌∷◌, thread_in, Cause, state_of}
+use Rattle.seq_plans.specs.{named_of, AreFitCauses}
 use Rattle.seq_time.proofs.Switched.{switch_causes, running_fit}
 use Rattle.seq_time.proofs.own_causes.not_switched.Goals as goal
 

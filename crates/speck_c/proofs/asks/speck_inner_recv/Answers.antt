@@ -1,7 +1,5 @@
-use Rattle.std.proofs.Common.{rules}
-use Rattle.end_ports.specs.async_ends.specs.declared.endpoint.EndOp.TheVariants.{Recv}
-use Rattle.speck_c.specs.Slots.{held_in}
-use Rattle.speck_c.proofs.Told.{told_asked}
+use Rattle.{std.proofs.Common.rules, end_ports.specs.async_ends.specs.declared.endpoint.EndOp.TheVariants.Recv, speck_c.specs.Slots.held_in}
+use Rattle.{speck_c.proofs.Told.told_asked}
 use Rattle.speck_c.proofs.asks.speck_inner_recv.Goals as goal
 
 pub returns-in-Some-told : goal.returns-in-Some-told

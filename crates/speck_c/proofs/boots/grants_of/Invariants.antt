@@ -1,5 +1,4 @@
-use Rattle.std.proofs.Common.{◌≡◌, map, take}
-use Rattle.speck_c.specs.Grants.{granted}
+use Rattle.{std.proofs.Common.◌≡◌, std.proofs.Common.map, std.proofs.Common.take, speck_c.specs.Grants.granted}
 use Rattle.speck_c.proofs.boots.grants_of.Given as goal
 
 abbrev pub invariant-each : goal.invariant-each

@@ -1,10 +1,5 @@
-use Rattle.std.proofs.Common.{◌≡◌, ◌∙◌, sym, ap, subst, map}
-use Rattle.std.specs.Prelude.{string_bytes}
-use Rattle.std.proofs.lemmas.List.{length-map}
-use Rattle.trace_run.specs.lone_kernel.specs.word_map.specs.Places.{Shape}
-use Rattle.trace_run.specs.lone_kernel.specs.kernel_history.specs.Trace.{state_after}
-use Rattle.trace_run.specs.lone_kernel.specs.kernel_history.specs.FinalWords.{Represent, word_in, end_in}
-use Rattle.spk_nums.specs.Setting.{IsSetting}
+use Rattle.trace_run.specs.lone_kernel.specs.flight.proofs.{◌≡◌, ◌∙◌, sym, ap, subst, map, string_bytes, length-map, Shape, state_after}
+use Rattle.trace_run.specs.lone_kernel.specs.flight.proofs.{Represent, word_in, end_in, IsSetting}
 use Rattle.trace_run.specs.lone_kernel.specs.flight_laws.proofs.Histories.{made_histories}
 use Rattle.world_lines.specs.world_parts.specs.machine_image.specs.Views.{ImageOf}
 use Rattle.speck_run.proofs.Finish.{all_out, run, worlds_told}

@@ -1,6 +1,4 @@
-use Rattle.std.proofs.Common.{[], subst}
-use Rattle.std.specs.Prelude.{string_bytes}
-use Rattle.world_lines.specs.Telling.{TellsWorlds}
+use Rattle.{std.proofs.Common.[], std.proofs.Common.subst, std.proofs.Common.string_bytes, world_lines.specs.Telling.TellsWorlds}
 use Rattle.speck_run.proofs.closed.worlds_text.Goals as goal
 
 pub returns : goal.returns

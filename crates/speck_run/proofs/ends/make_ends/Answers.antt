@@ -1,10 +1,7 @@
-use Rattle.std.proofs.Common.{◌≡◌, ◌++◌, ◌∙◌, ◌^◌, ◌<◌, map, length, sym, subst, All}
-use Rattle.std.specs.Prelude.{string_bytes}
-use Rattle.ends_run.specs.core_runs.specs.Whole.{IsList}
-use Rattle.ends_text.specs.Lines.{count_lines}
-use Rattle.speck_run.specs.Written.{lines_of, core_lines}
-use Rattle.speck_run.proofs.ByCores.{lists_fit}
-use Rattle.speck_run.proofs.Endings.{ended_of, ended_text, few_each}
+use Rattle.std.proofs.Common.{◌≡◌, ◌++◌, ◌∙◌, ◌^◌, ◌<◌, map, length, sym, subst, All, string_bytes}
+use Rattle.speck_run.specs.{lines_of, core_lines}
+use Rattle.speck_run.proofs.{ByCores.lists_fit, Endings.ended_of, Endings.ended_text, Endings.few_each}
+use Rattle.{ends_run.specs.core_runs.specs.Whole.IsList, ends_text.specs.Lines.count_lines}
 use Rattle.speck_run.proofs.ends.make_ends.Goals as goal
 
 pub run_ends-requires-clause-lists : goal.run_ends-requires-clause-lists

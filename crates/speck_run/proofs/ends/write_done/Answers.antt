@@ -1,8 +1,6 @@
-use Rattle.std.proofs.Common.{◌≡◌, ◌∙◌, ◌++◌, [], List, ℕ, map, sym, ap}
-use Rattle.std.specs.Prelude.{string_bytes, slice_index_or}
-use Rattle.std.proofs.lemmas.List.{get_or-map}
-use Rattle.ends_text.specs.Lines.{done_lines}
-use Rattle.speck_run.proofs.Endings.{core_none, core_more}
+use Rattle.trace_run.specs.lone_kernel.specs.flight.proofs as low
+use low.{◌≡◌, ◌∙◌, ◌++◌, [], List, ℕ, map, sym, ap, string_bytes, get_or as slice_index_or, get_or-map}
+use Rattle.{ends_text.specs.Lines.done_lines, speck_run.proofs.Endings.core_none, speck_run.proofs.Endings.core_more}
 use Rattle.speck_run.proofs.ends.write_done.Goals as goal
 
 pub loop-core-init : goal.loop-core-init

@@ -1,16 +1,8 @@
-use Rattle.std.proofs.Common.{◌≡◌, ◌++◌, ◌∙◌, sym, ap, subst, map}
-use Rattle.std.specs.Prelude.{string_bytes}
-use Rattle.std.proofs.lemmas.List.{length-map}
-use Rattle.trace_run.specs.lone_kernel.specs.word_map.specs.Places.{Shape}
-use Rattle.trace_run.specs.lone_kernel.specs.kernel_history.specs.Trace.{state_after}
-use Rattle.trace_run.specs.lone_kernel.specs.kernel_history.specs.Tables.{tables_of}
-use Rattle.trace_run.specs.lone_kernel.specs.kernel_history.specs.Counts.{RepresentCounts}
-use Rattle.trace_run.specs.lone_kernel.specs.kernel_history.specs.FinalWords.{Represent, word_in, end_in}
-use Rattle.spk_nums.specs.Setting.{IsSetting}
-use Rattle.trace_run.specs.lone_kernel.specs.core_invariant.proofs.Sounds.{limits_of}
-use Rattle.trace_run.specs.lone_kernel.specs.flight_laws.proofs.Histories.{made_histories}
-use Rattle.speck_run.specs.Written.{lines_of}
+use Rattle.trace_run.specs.lone_kernel.specs.flight.proofs.{◌≡◌, ◌++◌, ◌∙◌, sym, ap, subst, map, string_bytes, length-map, Shape}
+use Rattle.trace_run.specs.lone_kernel.specs.flight.proofs.{state_after, RepresentCounts, Represent, word_in, end_in, IsSetting, limits_of}
 use Rattle.speck_run.proofs.Finish.{all_out, run, given}
+use Rattle.{trace_run.specs.lone_kernel.specs.kernel_history.specs.Tables.tables_of}
+use Rattle.{trace_run.specs.lone_kernel.specs.flight_laws.proofs.Histories.made_histories, speck_run.specs.Written.lines_of}
 use Rattle.speck_run.proofs.given.replay.Goals as goal
 
 pub close-requires : goal.close-requires

@@ -1,7 +1,5 @@
-use Rattle.std.proofs.Common.{refl}
-use Rattle.std.specs.Prelude.{string_bytes}
-use Rattle.speck_run.specs.declared.words.Command.TheVariants.{Explain}
-use Rattle.speck_run.proofs.Due.{due_done}
+use Rattle.std.proofs.Common.{refl, string_bytes}
+use Rattle.{speck_run.specs.declared.words.Command.TheVariants.Explain, speck_run.proofs.Due.due_done}
 use Rattle.speck_run.proofs.inputs.judge_explain.Goals as goal
 
 pub returns-clause-due : goal.returns-clause-due

@@ -1,6 +1,4 @@
-use Rattle.std.specs.Prelude.{string_bytes}
-use Rattle.speck_run.specs.declared.words.Command.TheVariants.{Check}
-use Rattle.speck_run.proofs.Due.{due_done}
+use Rattle.{std.specs.Prelude.string_bytes, speck_run.specs.declared.words.Command.TheVariants.Check, speck_run.proofs.Due.due_done}
 use Rattle.speck_run.proofs.inputs.judge_history.Goals as goal
 
 pub returns-in-Ok-clause-due : goal.returns-in-Ok-clause-due

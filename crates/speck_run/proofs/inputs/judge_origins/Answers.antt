@@ -1,6 +1,5 @@
-use Rattle.std.proofs.Common.{length, arith}
-use Rattle.script_reader.specs.Readings.{lists_of}
-use Rattle.speck_run.proofs.Accepted.{accepted, few_lists}
+use Rattle.{std.proofs.Common.length, std.proofs.Common.arith, script_reader.specs.Readings.lists_of, speck_run.proofs.Accepted.accepted}
+use Rattle.{speck_run.proofs.Accepted.few_lists}
 use Rattle.speck_run.proofs.inputs.judge_origins.Goals as goal
 
 pub origins-requires-clause-can_run : goal.origins-requires-clause-can_run

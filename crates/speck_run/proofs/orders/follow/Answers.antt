@@ -1,7 +1,5 @@
-use Rattle.std.proofs.Common.{◌∙◌, refl, ap, sym, subst, take, ◌++◌, ◌∷◌, []}
-use Rattle.std.proofs.lemmas.List.{take_more}
-use Rattle.speck_run.specs.Orders.{GoesByItems}
-use Rattle.speck_run.proofs.ByItems.{items_none, items_more}
+use Rattle.trace_run.specs.lone_kernel.specs.flight.proofs.{◌∙◌, refl, ap, sym, subst, take, ◌++◌, ◌∷◌, [], take_more}
+use Rattle.{speck_run.specs.Orders.GoesByItems, speck_run.proofs.ByItems.items_none, speck_run.proofs.ByItems.items_more}
 use Rattle.speck_run.proofs.orders.follow.Goals as goal
 
 pub loop-item-init : goal.loop-item-init

@@ -1,5 +1,4 @@
-use Rattle.std.proofs.Common.{◌≡◌, take}
-use Rattle.speck_run.specs.Orders.{GoesByItems}
+use Rattle.{std.proofs.Common.◌≡◌, std.proofs.Common.take, speck_run.specs.Orders.GoesByItems}
 use Rattle.speck_run.proofs.orders.follow.Given as goal
 
 abbrev pub invariant-loop-item : goal.invariant-loop-item

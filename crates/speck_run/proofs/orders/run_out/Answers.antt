@@ -1,5 +1,4 @@
-use Rattle.std.proofs.Common.{◌∙◌, refl}
-use Rattle.speck_run.proofs.ByItems.{alone_none, alone_more}
+use Rattle.{std.proofs.Common.◌∙◌, std.proofs.Common.refl, speck_run.proofs.ByItems.alone_none, speck_run.proofs.ByItems.alone_more}
 use Rattle.speck_run.proofs.orders.run_out.Goals as goal
 
 pub going-init : goal.going-init

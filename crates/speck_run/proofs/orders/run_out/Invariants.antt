@@ -1,6 +1,4 @@
-use Rattle.std.proofs.Common.{◌≡◌}
-use Rattle.trace_run.specs.lone_kernel.specs.Moves.{calls_left}
-use Rattle.speck_run.specs.Orders.{GoesByCore}
+use Rattle.{std.proofs.Common.◌≡◌, trace_run.specs.lone_kernel.specs.Moves.calls_left, speck_run.specs.Orders.GoesByCore}
 use Rattle.speck_run.proofs.orders.run_out.Given as goal
 
 abbrev pub invariant-going : goal.invariant-going

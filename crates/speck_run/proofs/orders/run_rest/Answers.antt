@@ -1,6 +1,5 @@
 use Rattle.std.proofs.Common.{ℕ, ◌∙◌, refl, subst}
-use Rattle.speck_run.specs.Orders.{RunsCoreOut}
-use Rattle.speck_run.proofs.ByItems.{cores_none, cores_more}
+use Rattle.{speck_run.specs.Orders.RunsCoreOut, speck_run.proofs.ByItems.cores_none, speck_run.proofs.ByItems.cores_more}
 use Rattle.speck_run.proofs.orders.run_rest.Goals as goal
 
 pub loop-core-init : goal.loop-core-init

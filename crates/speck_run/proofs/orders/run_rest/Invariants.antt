@@ -1,5 +1,4 @@
-use Rattle.std.proofs.Common.{◌≡◌}
-use Rattle.speck_run.specs.Orders.{RunsCoresOut}
+use Rattle.{std.proofs.Common.◌≡◌, speck_run.specs.Orders.RunsCoresOut}
 use Rattle.speck_run.proofs.orders.run_rest.Given as goal
 
 abbrev pub invariant-loop-core : goal.invariant-loop-core

@@ -1,14 +1,8 @@
-use Rattle.std.proofs.Common.{◌≡◌, ◌++◌, ◌∙◌, Some, map, sym, ap, subst, All}
-use Rattle.std.specs.Prelude.{string_bytes, IfSome}
-use Rattle.trace_run.specs.lone_kernel.specs.word_map.specs.Places.{Shape}
-use Rattle.trace_run.specs.lone_kernel.specs.kernel_history.specs.Counts.{RepresentCounts}
-use Rattle.trace_run.specs.lone_kernel.specs.kernel_history.specs.FinalWords.{Represent, word_in, end_in}
-use Rattle.trace_run.specs.lone_kernel.specs.kernel_history.specs.Tables.{tables_of}
-use Rattle.trace_run.specs.lone_kernel.specs.kernel_history.specs.Trace.{state_after}
-use Rattle.trace_run.specs.lone_kernel.specs.core_invariant.proofs.Sounds.{limits_of}
-use Rattle.ends_run.specs.core_runs.specs.Whole.{IsList, AreMade}
-use Rattle.speck_run.specs.Written.{lines_of}
+use Rattle.trace_run.specs.lone_kernel.specs.flight.proofs.{◌≡◌, ◌++◌, ◌∙◌, Some, map, sym, ap, subst, All, string_bytes, IfSome, Shape}
+use Rattle.trace_run.specs.lone_kernel.specs.flight.proofs.{RepresentCounts, Represent, word_in, end_in, state_after, limits_of}
+use Rattle.ends_run.specs.core_runs.specs.{IsList, AreMade}
 use Rattle.speck_run.proofs.ByCores.{taken, lists_fit}
+use Rattle.{trace_run.specs.lone_kernel.specs.kernel_history.specs.Tables.tables_of, speck_run.specs.Written.lines_of}
 use Rattle.speck_run.proofs.runs.run_lists.Goals as goal
 
 pub run_whole-requires-clause-lists : goal.run_whole-requires-clause-lists

@@ -1,16 +1,8 @@
-use Rattle.std.proofs.Common.{◌≡◌, ◌∙◌, sym, ap, subst, map}
-use Rattle.std.specs.Prelude.{string_bytes}
-use Rattle.std.proofs.lemmas.List.{length-map}
-use Rattle.trace_run.specs.lone_kernel.specs.word_map.specs.Places.{Shape}
-use Rattle.trace_run.specs.lone_kernel.specs.kernel_rules.specs.Laws.{ticks}
-use Rattle.trace_run.specs.lone_kernel.specs.kernel_history.specs.Trace.{state_after}
-use Rattle.trace_run.specs.lone_kernel.specs.kernel_history.specs.FinalWords.{Represent, word_in, end_in}
-use Rattle.spk_nums.specs.Setting.{IsSetting}
-use Rattle.trace_run.specs.lone_kernel.specs.core_invariant.proofs.Sounds.{limits_of}
-use Rattle.trace_run.specs.lone_kernel.specs.flight_laws.proofs.Histories.{made_histories}
-use Rattle.load_summary.specs.Summaries.{summary_text}
-use Rattle.load_summary.proofs.Parts.{summary_is}
+use Rattle.trace_run.specs.lone_kernel.specs as low
+use low.flight.proofs.{◌≡◌, ◌∙◌, sym, ap, subst, map, string_bytes, length-map, Shape, state_after, Represent, word_in, end_in, IsSetting}
 use Rattle.speck_run.proofs.Finish.{all_out, run, summed_up}
+use low.{flight.proofs.limits_of, kernel_rules.specs.Laws.ticks, flight_laws.proofs.Histories.made_histories}
+use Rattle.{load_summary.specs.Summaries.summary_text, load_summary.proofs.Parts.summary_is}
 use Rattle.speck_run.proofs.summary.summarize.Goals as goal
 
 pub close-requires : goal.close-requires

@@ -1,11 +1,6 @@
-use Rattle.std.proofs.Common.{◌≡◌, sym, subst, ◌∙◌, All, length, arith}
-use Rattle.std.specs.Prelude.{string_bytes}
-use Rattle.std.proofs.lemmas.List.{length-map}
-use Rattle.spk_nums.specs.CallLimits.{InLimits}
-use Rattle.script_reader.specs.Readings.{Meaning, AtMost, BelowCores, lists_of}
-use Rattle.load_maker.proofs.Within.{accepted as made_accepted}
-use Rattle.speck_run.specs.Summary.{GivenSummary}
-use Rattle.speck_run.proofs.Accepted.{accepted}
+use Rattle.trace_run.specs.lone_kernel.specs.flight.proofs.{◌≡◌, sym, subst, ◌∙◌, All, length, arith, string_bytes, length-map, InLimits}
+use Rattle.script_reader.specs.{Meaning, AtMost, BelowCores, lists_of}
+use Rattle.{load_maker.proofs.Within.accepted as made_accepted, speck_run.specs.Summary.GivenSummary, speck_run.proofs.Accepted.accepted}
 use Rattle.speck_run.proofs.top.answer_load.Goals as goal
 
 pub summarize-requires-clause-can_run : goal.summarize-requires-clause-can_run

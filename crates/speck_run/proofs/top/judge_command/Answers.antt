@@ -1,7 +1,6 @@
-use Rattle.std.proofs.Common.{Err, refl, ap}
-use Rattle.speck_run.specs.declared.top.Status.TheVariants.{ReadFault, TooLong}
-use Rattle.speck_run.specs.Top.{read_line, long_line}
-use Rattle.speck_run.proofs.Due.{answer_due, answer_of_input}
+use Rattle.{std.proofs.Common.Err, std.proofs.Common.refl, std.proofs.Common.ap, speck_run.specs.declared.top.Status.TheVariants.ReadFault}
+use Rattle.{speck_run.specs.declared.top.Status.TheVariants.TooLong, speck_run.specs.Top.read_line, speck_run.specs.Top.long_line}
+use Rattle.{speck_run.proofs.Due.answer_due, speck_run.proofs.Due.answer_of_input}
 use Rattle.speck_run.proofs.top.judge_command.Goals as goal
 
 pub returns-in-Ok-clause-due : goal.returns-in-Ok-clause-due

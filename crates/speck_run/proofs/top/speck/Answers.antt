@@ -1,31 +1,28 @@
 use Rattle.std.proofs.Common.{◌≡◌, ◌∙◌, sym, subst, inl, inr}
-use Rattle.speck_run.specs.declared.words.Command.TheVariants as commands
-use Rattle.speck_run.specs.declared.top.Status.TheVariants.{Stopped}
-use Rattle.byte_ends.specs.Ends.{Adds}
-use Rattle.speck_run.specs.Script.{UsesThreads}
-use Rattle.speck_run.specs.Top.{Asked, Answers, Writes}
-use Rattle.speck_run.proofs.Due.{answers_due, answers_fault, asks_same, carries}
-use Rattle.speck_run.proofs.Due.{completes, done_asked, load_due, stops_run, summary_due, words_due, writes_due}
+use Rattle.speck_run.specs.{declared.top.Status.TheVariants.Stopped, Script.UsesThreads, Top.Asked, Top.Answers, Top.Writes}
+use Rattle.speck_run.proofs.Due.{answers_due, answers_fault, asks_same, carries, completes, done_asked, load_due, stops_run, summary_due}
+use Rattle.speck_run.proofs.Due.{words_due, writes_due}
+use Rattle.{byte_ends.specs.Ends.Adds, speck_run.specs.declared.words.Command.Command}
 use Rattle.speck_run.proofs.top.speck.Goals as goal
 
 pub returns-in-Ok-clause-replay : goal.returns-in-Ok-clause-replay
 returns-in-Ok-clause-replay g c asks done =
-    carries c.args.words.now commands.Replay asks (g.S.Source.left c.args.source.now) _ _ _ c.in-Ok.answer.status _
+    carries c.args.words.now Command.Replay asks (g.S.Source.left c.args.source.now) _ _ _ c.in-Ok.answer.status _
     _ _ (g.K.Sink.held c.args.sink.now) _ c.finish.result c.in-Ok.ensures.due c.finish.ensures done
 
 pub returns-in-Ok-clause-trace : goal.returns-in-Ok-clause-trace
 returns-in-Ok-clause-trace g c asks done =
-    carries c.args.words.now commands.Trace asks (g.S.Source.left c.args.source.now) _ _ _ c.in-Ok.answer.status _
+    carries c.args.words.now Command.Trace asks (g.S.Source.left c.args.source.now) _ _ _ c.in-Ok.answer.status _
     _ _ (g.K.Sink.held c.args.sink.now) _ c.finish.result c.in-Ok.ensures.due c.finish.ensures done
 
 pub returns-in-Ok-clause-draw : goal.returns-in-Ok-clause-draw
 returns-in-Ok-clause-draw g c page asks done =
-    carries c.args.words.now (commands.Draw page) asks (g.S.Source.left c.args.source.now) _ _ _ c.in-Ok.answer.status _
+    carries c.args.words.now (Command.Draw page) asks (g.S.Source.left c.args.source.now) _ _ _ c.in-Ok.answer.status _
     _ _ (g.K.Sink.held c.args.sink.now) _ c.finish.result c.in-Ok.ensures.due c.finish.ensures done
 
 pub returns-in-Ok-clause-run : goal.returns-in-Ok-clause-run
 returns-in-Ok-clause-run g c asks done =
-    carries c.args.words.now commands.Run asks (g.S.Source.left c.args.source.now) _ _ _ c.in-Ok.answer.status _
+    carries c.args.words.now Command.Run asks (g.S.Source.left c.args.source.now) _ _ _ c.in-Ok.answer.status _
     _ _ (g.K.Sink.held c.args.sink.now) _ c.finish.result c.in-Ok.ensures.due c.finish.ensures done
 
 pub returns-in-Ok-clause-stopped : goal.returns-in-Ok-clause-stopped
@@ -44,42 +41,42 @@ returns-in-Ok-clause-stopped g c stopped =
 
 pub returns-in-Ok-clause-plain : goal.returns-in-Ok-clause-plain
 returns-in-Ok-clause-plain g c asks done =
-    carries c.args.words.now commands.Plain asks (g.S.Source.left c.args.source.now) _ _ _ c.in-Ok.answer.status _
+    carries c.args.words.now Command.Plain asks (g.S.Source.left c.args.source.now) _ _ _ c.in-Ok.answer.status _
     _ _ (g.K.Sink.held c.args.sink.now) _ c.finish.result c.in-Ok.ensures.due c.finish.ensures done
 
 pub returns-in-Ok-clause-print : goal.returns-in-Ok-clause-print
 returns-in-Ok-clause-print g c asks done =
-    carries c.args.words.now commands.Print asks (g.S.Source.left c.args.source.now) _ _ _ c.in-Ok.answer.status _
+    carries c.args.words.now Command.Print asks (g.S.Source.left c.args.source.now) _ _ _ c.in-Ok.answer.status _
     _ _ (g.K.Sink.held c.args.sink.now) _ c.finish.result c.in-Ok.ensures.due c.finish.ensures done
 
 pub returns-in-Ok-clause-ends : goal.returns-in-Ok-clause-ends
 returns-in-Ok-clause-ends g c asks done =
-    carries c.args.words.now commands.Ends asks (g.S.Source.left c.args.source.now) _ _ _ c.in-Ok.answer.status _
+    carries c.args.words.now Command.Ends asks (g.S.Source.left c.args.source.now) _ _ _ c.in-Ok.answer.status _
     _ _ (g.K.Sink.held c.args.sink.now) _ c.finish.result c.in-Ok.ensures.due c.finish.ensures done
 
 pub returns-in-Ok-clause-sched : goal.returns-in-Ok-clause-sched
 returns-in-Ok-clause-sched g c asks done =
-    carries c.args.words.now commands.Sched asks (g.S.Source.left c.args.source.now) _ _ _ c.in-Ok.answer.status _
+    carries c.args.words.now Command.Sched asks (g.S.Source.left c.args.source.now) _ _ _ c.in-Ok.answer.status _
     _ _ (g.K.Sink.held c.args.sink.now) _ c.finish.result c.in-Ok.ensures.due c.finish.ensures done
 
 pub returns-in-Ok-clause-check : goal.returns-in-Ok-clause-check
 returns-in-Ok-clause-check g c asks done =
-    carries c.args.words.now commands.Check asks (g.S.Source.left c.args.source.now) _ _ _ c.in-Ok.answer.status _
+    carries c.args.words.now Command.Check asks (g.S.Source.left c.args.source.now) _ _ _ c.in-Ok.answer.status _
     _ _ (g.K.Sink.held c.args.sink.now) _ c.finish.result c.in-Ok.ensures.due c.finish.ensures done
 
 pub returns-in-Ok-clause-origins : goal.returns-in-Ok-clause-origins
 returns-in-Ok-clause-origins g c asks done =
-    carries c.args.words.now commands.Origins asks (g.S.Source.left c.args.source.now) _ _ _ c.in-Ok.answer.status _
+    carries c.args.words.now Command.Origins asks (g.S.Source.left c.args.source.now) _ _ _ c.in-Ok.answer.status _
     _ _ (g.K.Sink.held c.args.sink.now) _ c.finish.result c.in-Ok.ensures.due c.finish.ensures done
 
 pub returns-in-Ok-clause-worlds : goal.returns-in-Ok-clause-worlds
 returns-in-Ok-clause-worlds g c asks done =
-    carries c.args.words.now commands.Worlds asks (g.S.Source.left c.args.source.now) _ _ _ c.in-Ok.answer.status _
+    carries c.args.words.now Command.Worlds asks (g.S.Source.left c.args.source.now) _ _ _ c.in-Ok.answer.status _
     _ _ (g.K.Sink.held c.args.sink.now) _ c.finish.result c.in-Ok.ensures.due c.finish.ensures done
 
 pub returns-in-Ok-clause-explain : goal.returns-in-Ok-clause-explain
 returns-in-Ok-clause-explain g c reading asks done =
-    carries c.args.words.now (commands.Explain reading) asks (g.S.Source.left c.args.source.now) _ _ _ c.in-Ok.answer.status _
+    carries c.args.words.now (Command.Explain reading) asks (g.S.Source.left c.args.source.now) _ _ _ c.in-Ok.answer.status _
     _ _ (g.K.Sink.held c.args.sink.now) _ c.finish.result c.in-Ok.ensures.due c.finish.ensures done
 
 pub returns-in-Ok-clause-make : goal.returns-in-Ok-clause-make

@@ -1,9 +1,7 @@
-use Rattle.std.proofs.Common.{◌≡◌, ◌∙◌, true, sym, ap, subst, length, get_or, arith, eqb}
-use Rattle.std.specs.Prelude.{string_bytes}
-use lib.Pointwise.{pointwise}
+use Rattle.std.proofs.Common.{◌≡◌, ◌∙◌, true, sym, ap, subst, length, get_or, arith, eqb, string_bytes}
 use Rattle.speck_run.specs.Top.{IsReadingOf, subject_of}
-use Rattle.speck_run.proofs.Due.{reading_told}
-use Rattle.speck_run.proofs.OneWord.{first_word, two_words}
+use Rattle.speck_run.proofs.{Due.reading_told, OneWord.first_word, OneWord.two_words}
+use lib.Pointwise.{pointwise}
 use Rattle.speck_run.proofs.words.explained_after.Goals as goal
 
 pub returns-in-len2 : goal.returns-in-len2

@@ -1,7 +1,6 @@
-use Rattle.std.proofs.Common.{◌≡◌, ◌∙◌, ap, length, get_or, arith, eqb}
-use Rattle.std.specs.Prelude.{string_bytes}
-use lib.Pointwise.{pointwise}
+use Rattle.std.proofs.Common.{◌≡◌, ◌∙◌, ap, length, get_or, arith, eqb, string_bytes}
 use Rattle.speck_run.proofs.OneWord.{one_word}
+use lib.Pointwise.{pointwise}
 use Rattle.speck_run.proofs.words.is_alone.Goals as goal
 
 pub returns-in-len1 : goal.returns-in-len1

@@ -1,5 +1,4 @@
-use Rattle.std.proofs.Common.{arith}
-use Rattle.stage_sweep.proofs.SweepLemmas.{some_counter}
+use Rattle.{std.proofs.Common.arith, stage_sweep.proofs.SweepLemmas.some_counter}
 use Rattle.stage_tests.proofs.sweeps.sweep.Goals as goal
 
 pub returns : goal.returns

@@ -1,5 +1,5 @@
+use Rattle.step_starts.specs.call_stages.specs.{named_one, took_found, call_after}
 use Rattle.std.proofs.Common.{◌∙◌, ap}
-use Rattle.step_starts.specs.call_stages.specs.Steps.{named_one, took_found, call_after}
 use Rattle.step_looks.proofs.looks.found_place.Goals as goal
 
 pub returns-in-Name-clause-after : goal.returns-in-Name-clause-after

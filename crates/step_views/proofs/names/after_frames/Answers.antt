@@ -1,5 +1,4 @@
-use Rattle.std.proofs.Common.{◌+◌, arith}
-use Rattle.word_map.specs.Places.{place_of, size_of}
+use Rattle.kernel_history.proofs.{◌+◌, arith, place_of, size_of}
 use Rattle.step_views.proofs.Places.{after_rows}
 use Rattle.step_views.proofs.names.after_frames.Goals as goal
 

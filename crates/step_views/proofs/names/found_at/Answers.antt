@@ -1,5 +1,4 @@
-use Rattle.std.proofs.Common.{arith}
-use Rattle.word_map.specs.Places.{place_of}
+use Rattle.kernel_history.proofs.{arith, place_of}
 use Rattle.step_views.proofs.names.found_at.Goals as goal
 
 pub returns-then-place-frames : goal.returns-then-place-frames

@@ -1,8 +1,8 @@
-use Rattle.std.proofs.Common.{arith, ap, ◌∙◌, ◌<◌, ◌+◌, length, get_or}
-use Rattle.std.proofs.lemmas.List.{length-set, get_or_default}
+use Rattle.std.proofs.Common.{arith, ap, ◌∙◌, ◌<◌, ◌+◌, length, get_or, length-set}
+use Rattle.std.proofs.lemmas.List.{get_or_default}
 use Rattle.table_lines.proofs.Tallies.{at_most, counts_next, counts_past}
-use Rattle.table_lines.proofs.counting.tally.Goals as goal
 use Rattle.table_lines.proofs.counting.tally.Goals.{then-name-from, else-name-from}
+use Rattle.table_lines.proofs.counting.tally.Goals as goal
 
 pub overflow_add-index_mut : goal.overflow_add-index_mut
 overflow_add-index_mut c =

@@ -1,5 +1,4 @@
-use Rattle.std.proofs.Common.{◌≡◌, ℕ, ◌<◌, length, get_or, take}
-use Rattle.kernel_rules.specs.References.{times}
+use Rattle.kernel_history.specs.{◌≡◌, ℕ, ◌<◌, length, get_or, take, times}
 use Rattle.table_lines.proofs.counting.tally.Given as goal
 
 abbrev pub invariant-names : goal.invariant-names

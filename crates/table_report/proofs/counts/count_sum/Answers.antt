@@ -1,8 +1,5 @@
-use Rattle.std.proofs.Common.{arith}
-use Rattle.std.proofs.lemmas.Int.{ints, to_z-of_z}
-use Rattle.kernel_history.specs.FinalWords.{word_in}
-use Rattle.kernel_history.specs.Counts.{count_at}
-use Rattle.table_report.proofs.Counted.{sum_more}
+use Rattle.table_lines.specs.kernel_history.proofs.{arith, word_in, count_at}
+use Rattle.{std.proofs.lemmas.Int.ints, std.proofs.lemmas.Int.to_z-of_z, table_report.proofs.Counted.sum_more}
 use Rattle.table_report.proofs.counts.count_sum.Goals as goal
 
 pub counters-preserved : goal.counters-preserved

@@ -1,7 +1,5 @@
-use Rattle.std.proofs.Common.{◌≡◌, ◌*◌, ◌^◌, pos, neg_ℤ, ◌≤ℤ◌}
-use Rattle.std.specs.List.{range_with_len}
-use Rattle.kernel_history.specs.FinalWords.{word_in}
-use Rattle.kernel_history.specs.Counts.{count_at, count_sum}
+use Rattle.table_lines.specs.kernel_history.specs.{◌≡◌, ◌*◌, ◌^◌, pos, word_in, count_at, count_sum}
+use Rattle.{std.proofs.Common.neg_ℤ, std.proofs.Common.◌≤ℤ◌, std.specs.List.range_with_len}
 use Rattle.table_report.proofs.counts.count_sum.Given as goal
 
 abbrev pub invariant-counters : goal.invariant-counters

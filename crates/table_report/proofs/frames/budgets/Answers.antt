@@ -1,6 +1,4 @@
-use Rattle.std.proofs.Common.{sym, arith, ◌≡◌}
-use Rattle.kernel_rules.specs.State.{tcap_in}
-use Rattle.kernel_history.proofs.Sums.{sum_none, sum_more}
+use Rattle.table_lines.specs.kernel_history.proofs.{sym, arith, ◌≡◌, tcap_in, sum_none, sum_more}
 use Rattle.table_report.specs.Shown.{frame_at}
 use Rattle.table_report.proofs.frames.budgets.Goals as goal
 

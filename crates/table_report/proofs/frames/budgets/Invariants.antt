@@ -1,6 +1,4 @@
-use Rattle.std.proofs.Common.{◌≡◌, ◌*◌, ◌≤◌}
-use Rattle.kernel_rules.specs.State.{tcap_in}
-use Rattle.kernel_rules.specs.References.{sum_below}
+use Rattle.table_lines.specs.kernel_history.specs.{◌≡◌, ◌*◌, ◌≤◌, tcap_in, sum_below}
 use Rattle.table_report.specs.Shown.{frame_at}
 use Rattle.table_report.proofs.frames.budgets.Given as goal
 

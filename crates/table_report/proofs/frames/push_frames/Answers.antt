@@ -1,4 +1,4 @@
-use Rattle.table_lines.proofs.Lines.{begins, goes_on, lines_none, lines_more}
+use Rattle.table_lines.proofs.{begins, goes_on, lines_none, lines_more}
 use Rattle.table_report.proofs.frames.push_frames.Goals as goal
 
 pub frames-init : goal.frames-init

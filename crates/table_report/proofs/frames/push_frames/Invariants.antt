@@ -1,6 +1,4 @@
-use Rattle.std.proofs.Common.{◌≡◌, ◌++◌}
-use Rattle.std.specs.Prelude.{string_bytes}
-use Rattle.table_report.specs.Shown.{frames_text}
+use Rattle.{std.proofs.Common.◌≡◌, std.proofs.Common.◌++◌, std.proofs.Common.string_bytes, table_report.specs.Shown.frames_text}
 use Rattle.table_report.proofs.frames.push_frames.Given as goal
 
 abbrev pub invariant-frames : goal.invariant-frames

@@ -1,7 +1,4 @@
-use Rattle.std.proofs.Common.{◌≡◌, ◌++◌}
-use Rattle.std.specs.Prelude.{string_bytes}
-use Rattle.entry_words.specs.EntryWord.{entry_of_word}
-use Rattle.kernel_history.specs.Tables.{lines_below, entry_line}
+use Rattle.table_lines.specs.kernel_history.specs.{◌≡◌, ◌++◌, string_bytes, entry_of_word, lines_below, entry_line}
 use Rattle.table_report.specs.Shown.{place_shown, words_of}
 use Rattle.table_report.proofs.objects.push_node.Given as goal
 

@@ -1,8 +1,5 @@
-use Rattle.std.proofs.Common.{◌≡◌, ◌++◌}
-use Rattle.std.specs.Prelude.{string_bytes}
-use Rattle.std.specs.List.{flat_map}
-use Rattle.kernel_history.specs.Tables.{quality_line}
-use Rattle.table_report.specs.Shown.{qualities_shown, words_of}
+use Rattle.table_lines.specs.kernel_history.specs.{◌≡◌, ◌++◌, string_bytes, flat_map, quality_line}
+use Rattle.table_report.specs.{qualities_shown, words_of}
 use Rattle.table_report.proofs.objects.push_qualities.Given as goal
 
 abbrev pub invariant-pairs : goal.invariant-pairs

@@ -1,4 +1,4 @@
-use Rattle.table_lines.proofs.Lines.{begins, goes_on}
+use Rattle.table_lines.proofs.{begins, goes_on}
 use Rattle.table_report.proofs.Lines.{stack_text, stack_begins}
 use Rattle.table_report.proofs.objects.push_stack.Goals as goal
 

@@ -1,8 +1,5 @@
-use Rattle.std.proofs.Common.{◌≡◌, ◌++◌, reverse}
-use Rattle.std.specs.Prelude.{string_bytes}
-use Rattle.std.specs.List.{flat_map}
-use Rattle.kernel_history.specs.Tables.{number}
-use Rattle.table_report.specs.Shown.{stack_shown, words_of}
+use Rattle.table_lines.specs.kernel_history.specs.{◌≡◌, ◌++◌, reverse, string_bytes, flat_map, number}
+use Rattle.table_report.specs.{stack_shown, words_of}
 use Rattle.table_report.proofs.objects.push_stack.Given as goal
 
 abbrev pub invariant-heights : goal.invariant-heights

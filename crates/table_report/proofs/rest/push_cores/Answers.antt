@@ -1,9 +1,7 @@
-use Rattle.std.proofs.Common.{sym, subst, arith, ◌++◌, ◌≡◌}
-use Rattle.std.specs.Prelude.{string_bytes}
-use Rattle.kernel_history.specs.Tables.{core_lines}
-use Rattle.table_lines.specs.Ends.{core_shown}
-use Rattle.table_lines.proofs.Lines.{begins, goes_on, lines_none, lines_more}
-use Rattle.table_report.proofs.Lines.{ends_read}
+use Rattle.std.proofs.Common.{sym, subst, arith, ◌++◌, ◌≡◌, string_bytes}
+use Rattle.table_lines.proofs.{begins, goes_on, lines_none, lines_more}
+use Rattle.{table_lines.specs.kernel_history.specs.Tables.core_lines, table_lines.specs.Ends.core_shown}
+use Rattle.{table_report.proofs.Lines.ends_read}
 use Rattle.table_report.proofs.rest.push_cores.Goals as goal
 
 pub cores-init : goal.cores-init

@@ -1,4 +1,4 @@
-use Rattle.table_lines.proofs.Lines.{begins, goes_on, lines_none, lines_more}
+use Rattle.table_lines.proofs.{begins, goes_on, lines_none, lines_more}
 use Rattle.table_report.proofs.rest.push_numbers.Goals as goal
 
 pub numbers-init : goal.numbers-init

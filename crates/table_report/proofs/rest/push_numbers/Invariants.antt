@@ -1,6 +1,4 @@
-use Rattle.std.proofs.Common.{◌≡◌, ◌++◌}
-use Rattle.std.specs.Prelude.{string_bytes}
-use Rattle.table_report.specs.Shown.{numbers_text}
+use Rattle.{std.proofs.Common.◌≡◌, std.proofs.Common.◌++◌, std.proofs.Common.string_bytes, table_report.specs.Shown.numbers_text}
 use Rattle.table_report.proofs.rest.push_numbers.Given as goal
 
 abbrev pub invariant-numbers : goal.invariant-numbers

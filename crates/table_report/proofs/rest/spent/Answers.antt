@@ -1,10 +1,6 @@
-use Rattle.std.proofs.Common.{◌-◌, sym, ap, arith, ◌≡◌}
-use Rattle.kernel_history.proofs.Sums.{sum_none, sum_more}
-use Rattle.table_lines.specs.Ends.{core_shown}
-use Rattle.table_report.specs.Shown.{core_shown_at}
-use Rattle.table_report.proofs.Lines.{ends_read}
+use Rattle.table_lines.specs.kernel_history.proofs.{◌-◌, sym, ap, arith, ◌≡◌, sum_none, sum_more, outstanding}
+use Rattle.{table_lines.specs.Ends.core_shown, table_report.specs.Shown.core_shown_at, table_report.proofs.Lines.ends_read}
 use Rattle.table_report.proofs.rest.spent.Goals as goal
-use Rattle.kernel_rules.specs.State.{outstanding}
 
 pub cores-init : goal.cores-init
 cores-init c = record { sum = sym (sum_none _); most = omega arith }

@@ -1,8 +1,6 @@
-use Rattle.std.proofs.Common.{◌≡◌, ◌*◌, ◌≤◌}
-use Rattle.kernel_rules.specs.References.{sum_below}
+use Rattle.table_lines.specs.kernel_history.specs.{◌≡◌, ◌*◌, ◌≤◌, sum_below, outstanding}
 use Rattle.table_report.specs.Shown.{core_shown_at}
 use Rattle.table_report.proofs.rest.spent.Given as goal
-use Rattle.kernel_rules.specs.State.{outstanding}
 
 abbrev pub invariant-cores : goal.invariant-cores
 invariant-cores l = record {

@@ -1,5 +1,4 @@
-use Rattle.std.proofs.Common.{◌∙◌}
-use Rattle.table_report.proofs.Determined.{determined}
+use Rattle.{std.proofs.Common.◌∙◌, table_report.proofs.Determined.determined}
 use Rattle.table_report.proofs.whole.report.Goals as goal
 
 pub returns-clause-tables : goal.returns-clause-tables

@@ -1,5 +1,4 @@
-use Rattle.std.specs.Prelude.{string_bytes}
-use Rattle.table_report.proofs.Determined.{whole_text}
+use Rattle.{std.specs.Prelude.string_bytes, table_report.proofs.Determined.whole_text}
 use Rattle.table_report.proofs.whole.tables.Goals as goal
 
 pub returns : goal.returns

@@ -1,5 +1,4 @@
-use Rattle.std.proofs.Common.{◌∙◌}
-use Rattle.table_report.proofs.Determined.{ticks_told}
+use Rattle.{std.proofs.Common.◌∙◌, table_report.proofs.Determined.ticks_told}
 use Rattle.table_report.proofs.whole.total.Goals as goal
 
 pub returns-clause-total : goal.returns-clause-total

@@ -1,8 +1,6 @@
-use Rattle.std.proofs.Common.{◌≡◌, length, arith, ap}
-use Rattle.kernel_rules.specs.References.{sum_below}
+use Rattle.table_lines.specs.kernel_history.proofs.{◌≡◌, length, arith, ap, sum_below, outstanding}
 use Rattle.table_report.specs.Shown.{core_shown_at}
 use Rattle.table_report.proofs.whole.total_ticks.Goals as goal
-use Rattle.kernel_rules.specs.State.{outstanding}
 
 pub returns : goal.returns
 returns c =

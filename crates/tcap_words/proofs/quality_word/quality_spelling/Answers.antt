@@ -1,6 +1,4 @@
-use Rattle.std.proofs.Common.{refl}
-use Rattle.tcap_words.specs.Quality.{word_of_quality}
-use Rattle.tcap_words.proofs.QualityLemmas.{spelling}
+use Rattle.{std.proofs.Common.refl, tcap_words.specs.Quality.word_of_quality, tcap_words.proofs.QualityLemmas.spelling}
 use Rattle.tcap_words.proofs.quality_word.quality_spelling.Goals as goal
 
 pub returns-clause-spelling : goal.returns-clause-spelling

@@ -1,6 +1,4 @@
-use Rattle.std.proofs.Common.{refl}
-use Rattle.tcap_words.specs.Stack.{word_of_stack}
-use Rattle.tcap_words.proofs.StackLemmas.{spelling}
+use Rattle.{std.proofs.Common.refl, tcap_words.specs.Stack.word_of_stack, tcap_words.proofs.StackLemmas.spelling}
 use Rattle.tcap_words.proofs.stack_word.stack_spelling.Goals as goal
 
 pub returns-clause-spelling : goal.returns-clause-spelling

@@ -1,7 +1,5 @@
-use Rattle.std.proofs.Common.{◌∙◌, [], map, subst, sym}
-use Rattle.std.proofs.lemmas.List.{length-map}
-use Rattle.lone_kernel.specs.flight_laws.proofs.Histories.{made_histories}
-use Rattle.told_run.proofs.Finish.{given}
+use Rattle.lone_kernel.specs.flight.proofs.{◌∙◌, [], map, subst, sym, length-map}
+use Rattle.{lone_kernel.specs.flight_laws.proofs.Histories.made_histories, told_run.proofs.Finish.given}
 use Rattle.told_run.proofs.given.watch.Goals as goal
 
 pub returns : goal.returns

@@ -1,9 +1,6 @@
-use Rattle.std.proofs.Common.{◌∙◌, sym, subst, refl}
-use Rattle.std.proofs.lemmas.Bool.{false≢true}
-use Rattle.spk_nums.specs.Setting.{IsSetting}
-use Rattle.lone_kernel.specs.Machine.{IsFinished, IsDone}
-use Rattle.lone_kernel.proofs.Advance.{stays_idle}
-use Rattle.told_run.proofs.Steps.{nothing_done}
+use Rattle.lone_kernel.specs.flight.proofs.{◌∙◌, sym, subst, refl, false≢true, IsSetting}
+use Rattle.lone_kernel.specs.{IsFinished, IsDone}
+use Rattle.{lone_kernel.proofs.Advance.stays_idle, told_run.proofs.Steps.nothing_done}
 use Rattle.told_run.proofs.moves.move_told.Goals as goal
 
 pub returns-then-is_finished-clause-goes : goal.returns-then-is_finished-clause-goes

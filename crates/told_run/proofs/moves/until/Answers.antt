@@ -1,8 +1,6 @@
-use Rattle.std.proofs.Common.{◌<◌, ◌∙◌, inl, refl, ap, sym, subst, arith}
-use Rattle.std.proofs.lemmas.Bool.{false≢true}
-use Rattle.lone_kernel.specs.Machine.{IsThere, IsInCall}
+use Rattle.lone_kernel.specs.flight.proofs.{◌<◌, ◌∙◌, inl, refl, ap, sym, subst, arith, false≢true, IsSetting}
+use Rattle.lone_kernel.specs.{IsThere, IsInCall}
 use Rattle.lone_kernel.proofs.Runs.{begins_in_call, open_first, open_after, inside_after, works_on, counted_more, counted_last}
-use Rattle.spk_nums.specs.Setting.{IsSetting}
 use Rattle.told_run.proofs.Steps.{short_none, short_more, there_at_last}
 use Rattle.told_run.proofs.moves.until.Goals as goal
 

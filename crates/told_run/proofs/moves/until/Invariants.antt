@@ -1,8 +1,5 @@
-use Rattle.std.proofs.Common.{◌≡◌}
-use Rattle.lone_kernel.specs.Machine.{IsFinished}
-use Rattle.lone_kernel.specs.Moves.{work_at}
-use Rattle.lone_kernel.proofs.Runs.{StaysOpen, Counted}
-use Rattle.told_run.proofs.Steps.{GoesShort}
+use Rattle.{std.proofs.Common.◌≡◌, lone_kernel.specs.Machine.IsFinished, lone_kernel.specs.Moves.work_at, lone_kernel.proofs.Runs.StaysOpen}
+use Rattle.{lone_kernel.proofs.Runs.Counted, told_run.proofs.Steps.GoesShort}
 use Rattle.told_run.proofs.moves.until.Given as goal
 
 abbrev pub invariant-going : goal.invariant-going

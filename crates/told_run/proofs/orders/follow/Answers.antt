@@ -1,7 +1,5 @@
-use Rattle.std.proofs.Common.{◌∙◌, refl, ap, sym, subst, take, ◌++◌, ◌∷◌, []}
-use Rattle.std.proofs.lemmas.List.{take_more}
-use Rattle.told_run.specs.Watching.{GoesByItems}
-use Rattle.told_run.proofs.Items.{items_none, items_more}
+use Rattle.lone_kernel.specs.flight.proofs.{◌∙◌, refl, ap, sym, subst, take, ◌++◌, ◌∷◌, [], take_more}
+use Rattle.{told_run.specs.Watching.GoesByItems, told_run.proofs.Items.items_none, told_run.proofs.Items.items_more}
 use Rattle.told_run.proofs.orders.follow.Goals as goal
 
 pub loop-item-init : goal.loop-item-init

@@ -1,5 +1,4 @@
-use Rattle.std.proofs.Common.{◌≡◌, take}
-use Rattle.told_run.specs.Watching.{GoesByItems}
+use Rattle.{std.proofs.Common.◌≡◌, std.proofs.Common.take, told_run.specs.Watching.GoesByItems}
 use Rattle.told_run.proofs.orders.follow.Given as goal
 
 abbrev pub invariant-loop-item : goal.invariant-loop-item

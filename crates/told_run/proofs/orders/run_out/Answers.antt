@@ -1,7 +1,5 @@
-use Rattle.std.proofs.Common.{◌∙◌, refl, subst}
-use Rattle.spk_nums.specs.declared.steps.How.TheVariants.{Return}
-use Rattle.told_run.specs.Watching.{IsToldMove}
-use Rattle.told_run.proofs.Items.{alone_none, alone_more}
+use Rattle.lone_kernel.specs.call_stages.specs.act_states.proofs.{◌∙◌, refl, subst, Return}
+use Rattle.{told_run.specs.Watching.IsToldMove, told_run.proofs.Items.alone_none, told_run.proofs.Items.alone_more}
 use Rattle.told_run.proofs.orders.run_out.Goals as goal
 
 pub going-init : goal.going-init

@@ -1,6 +1,4 @@
-use Rattle.std.proofs.Common.{◌≡◌}
-use Rattle.lone_kernel.specs.Moves.{calls_left}
-use Rattle.told_run.specs.Watching.{GoesByCore}
+use Rattle.{std.proofs.Common.◌≡◌, lone_kernel.specs.Moves.calls_left, told_run.specs.Watching.GoesByCore}
 use Rattle.told_run.proofs.orders.run_out.Given as goal
 
 abbrev pub invariant-going : goal.invariant-going

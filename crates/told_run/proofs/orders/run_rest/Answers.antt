@@ -1,6 +1,5 @@
 use Rattle.std.proofs.Common.{ℕ, ◌∙◌, refl, subst}
-use Rattle.told_run.specs.Watching.{RunsCoreOut}
-use Rattle.told_run.proofs.Items.{cores_none, cores_more}
+use Rattle.{told_run.specs.Watching.RunsCoreOut, told_run.proofs.Items.cores_none, told_run.proofs.Items.cores_more}
 use Rattle.told_run.proofs.orders.run_rest.Goals as goal
 
 pub loop-core-init : goal.loop-core-init

@@ -1,5 +1,4 @@
-use Rattle.std.proofs.Common.{◌≡◌}
-use Rattle.told_run.specs.Watching.{RunsCoresOut}
+use Rattle.{std.proofs.Common.◌≡◌, told_run.specs.Watching.RunsCoresOut}
 use Rattle.told_run.proofs.orders.run_rest.Given as goal
 
 abbrev pub invariant-loop-core : goal.invariant-loop-core

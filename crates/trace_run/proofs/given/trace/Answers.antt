@@ -1,5 +1,4 @@
-use Rattle.std.proofs.Common.{map}
-use Rattle.trace_run.proofs.Finish.{given}
+use Rattle.{std.proofs.Common.map, trace_run.proofs.Finish.given}
 use Rattle.trace_run.proofs.given.trace.Goals as goal
 
 pub returns : goal.returns

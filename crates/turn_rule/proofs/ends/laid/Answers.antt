@@ -1,7 +1,6 @@
-use Rattle.std.proofs.Common.{rules, arith, ◌≡◌, ◌≢◌, ◌<◌, ℕ, length, get_or, set, ◌∙◌, subst}
-use Rattle.std.proofs.Common.{length-set, get_or-set_other, get_or-set_same, below_more}
-use Rattle.turn_rule.specs.Positions.{position}
-use Rattle.turn_rule.proofs.Positions.{position_apart, position_within}
+use Rattle.std.proofs.Common.{rules, arith, ◌≡◌, ◌≢◌, ◌<◌, ℕ, length, get_or, set, ◌∙◌, subst, length-set, get_or-set_other}
+use Rattle.{std.proofs.Common.get_or-set_same, std.proofs.Common.below_more, turn_rule.specs.Positions.position}
+use Rattle.{turn_rule.proofs.Positions.position_apart, turn_rule.proofs.Positions.position_within}
 use Rattle.turn_rule.proofs.ends.laid.Goals as goal
 
 pub index_mut-requires : goal.index_mut-requires

@@ -1,10 +1,9 @@
-use Rattle.std.proofs.Common.{rules, arith, ◌≡◌, ◌≢◌, ◌<◌, ℕ, zero, suc, List, [], ◌∷◌, length, get_or}
-use Rattle.std.proofs.Common.{set, sym, ◌∙◌, subst, length-set, get_or-set_other, get_or-set_same, below_more}
+use Rattle.std.proofs.Common.{rules, arith, ◌≡◌, ◌≢◌, ◌<◌, ℕ, zero, suc, List, [], ◌∷◌, length, get_or, set, sym, ◌∙◌, subst, length-set}
+use Rattle.std.proofs.Common.{get_or-set_other, get_or-set_same, below_more}
+use Rattle.std.specs.Slots.{slots_items, slots_len}
+use Rattle.{turn_rule.specs.Positions.position, turn_rule.proofs.Positions.position_within}
 use mathlib.Core.Option.{some, some-injective, some-ne-none}
 use lib.ListN.{get_elem?}
-use Rattle.std.specs.Slots.{slots_items, slots_len}
-use Rattle.turn_rule.specs.Positions.{position}
-use Rattle.turn_rule.proofs.Positions.{position_within}
 use Rattle.turn_rule.proofs.ends.words_of.Goals as goal
 
 read : (l : List ℕ) (i n : ℕ) → get_elem? l i ≡ some n → get_or l i 0 ≡ n

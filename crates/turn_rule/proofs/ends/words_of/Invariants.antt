@@ -1,6 +1,5 @@
 use Rattle.std.proofs.Common.{◌≡◌, ℕ, ◌<◌, length, get_or}
-use Rattle.std.specs.Slots.{slots_items}
-use Rattle.turn_rule.specs.Positions.{position}
+use Rattle.{std.specs.Slots.slots_items, turn_rule.specs.Positions.position}
 use Rattle.turn_rule.proofs.ends.words_of.Given as goal
 
 abbrev pub invariant-loop-at : goal.invariant-loop-at

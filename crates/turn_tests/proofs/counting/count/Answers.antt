@@ -1,9 +1,7 @@
 use Rattle.std.proofs.Common.{◌≡◌, ◌+◌, [], ◌∷◌, Some, None, arith, ap}
-use Rattle.spk_nums.specs.declared.steps.WordOp.TheVariants.{Load}
-use Rattle.spk_nums.specs.WordSteps.{told_by}
-use Rattle.turn_rule.specs.Seats.{MakesStep}
-use Rattle.turn_tests.specs.Counter.{counter_steps, steps_left}
 use Rattle.turn_tests.proofs.Calls.{step_makes, makes_more, fewer_left, the_some}
+use Rattle.{turn_tests.specs.counter_steps, turn_tests.specs.steps_left, spk_nums.specs.declared.steps.WordOp.TheVariants.Load}
+use Rattle.{spk_nums.specs.WordSteps.told_by, turn_rule.specs.Seats.MakesStep}
 use Rattle.turn_tests.proofs.counting.count.Goals as goal
 
 pub loop-init : goal.loop-init

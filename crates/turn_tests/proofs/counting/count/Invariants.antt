@@ -1,6 +1,5 @@
 use Rattle.std.proofs.Common.{◌+◌, ◌≤◌, ℕ, [], ◌∷◌}
-use Rattle.turn_tests.specs.Counter.{steps_left}
-use Rattle.turn_tests.specs.Counting.{Makes}
+use Rattle.turn_tests.specs.{Counter.steps_left, Counting.Makes}
 use Rattle.turn_tests.proofs.counting.count.Given as goal
 
 abbrev pub invariant-loop : goal.invariant-loop

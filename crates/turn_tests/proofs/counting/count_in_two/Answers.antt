@@ -1,7 +1,6 @@
 use Rattle.std.proofs.Common.{ℕ, List, length, sym, ap, ◌∙◌, subst}
-use Rattle.turn_rule.specs.Seats.{SeatValue, AreAllSeats}
-use Rattle.turn_tests.specs.declared.counter.Counter.{Counter}
-use Rattle.turn_tests.proofs.Kept.{all_go_on}
+use Rattle.turn_rule.specs.{SeatValue, AreAllSeats}
+use Rattle.{turn_tests.specs.declared.counter.Counter.Counter, turn_tests.proofs.Kept.all_go_on}
 use Rattle.turn_tests.proofs.counting.count_in_two.Goals as goal
 
 pub finish-requires-clause-seats : goal.finish-requires-clause-seats

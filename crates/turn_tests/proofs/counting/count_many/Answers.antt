@@ -1,5 +1,4 @@
-use Rattle.std.proofs.Common.{◌∙◌}
-use Rattle.turn_rule.proofs.Traces.{extends_on}
+use Rattle.{std.proofs.Common.◌∙◌, turn_rule.proofs.Traces.extends_on}
 use Rattle.turn_tests.proofs.counting.count_many.Goals as goal
 
 pub loop-preserved : goal.loop-preserved

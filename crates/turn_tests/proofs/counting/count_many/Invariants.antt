@@ -1,6 +1,4 @@
-use Rattle.std.proofs.Common.{IsNone}
-use Rattle.turn_tests.specs.Counter.{counter_steps}
-use Rattle.turn_tests.specs.Counting.{GoesOn}
+use Rattle.{turn_tests.specs.counter_steps, turn_tests.specs.GoesOn, std.proofs.Common.IsNone}
 use Rattle.turn_tests.proofs.counting.count_many.Given as goal
 
 abbrev pub invariant-loop : goal.invariant-loop

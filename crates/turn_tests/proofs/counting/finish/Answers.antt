@@ -1,8 +1,6 @@
 use Rattle.std.proofs.Common.{◌<◌, ◌∙◌, length, arith}
-use Rattle.std.proofs.lemmas.List.{get_or_default}
-use Rattle.turn_tests.specs.Counter.{counter_steps}
-use Rattle.turn_tests.proofs.Scores.{counts_scores}
-use Rattle.turn_tests.proofs.Wins.{wins_score}
+use Rattle.turn_tests.proofs.{Scores.counts_scores, Wins.wins_score}
+use Rattle.{std.proofs.lemmas.List.get_or_default, turn_tests.specs.Counter.counter_steps}
 use Rattle.turn_tests.proofs.counting.finish.Goals as goal
 
 pub returns : goal.returns

@@ -1,5 +1,4 @@
-use Rattle.std.proofs.lemmas.Result.{IfOk-weaker}
-use Rattle.turn_tests.proofs.Tickets.{shown_after}
+use Rattle.{std.proofs.lemmas.Result.IfOk-weaker, turn_tests.proofs.Tickets.shown_after}
 use Rattle.turn_tests.proofs.taking.close_shown.Goals as goal
 
 pub returns-clause-shown : goal.returns-clause-shown

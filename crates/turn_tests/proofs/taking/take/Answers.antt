@@ -1,5 +1,4 @@
-use Rattle.std.proofs.Common.{ap}
-use Rattle.turn_tests.proofs.Tickets.{takes_from}
+use Rattle.{std.proofs.Common.ap, turn_tests.proofs.Tickets.takes_from}
 use Rattle.turn_tests.proofs.taking.take.Goals as goal
 
 pub returns-clause-takes : goal.returns-clause-takes

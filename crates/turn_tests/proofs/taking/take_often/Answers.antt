@@ -1,6 +1,5 @@
 use Rattle.std.proofs.Common.{ap, ◌∙◌, arith}
-use Rattle.turn_rule.proofs.Traces.{extends_on}
-use Rattle.turn_tests.proofs.Tickets.{takes_goes_on}
+use Rattle.{turn_rule.proofs.Traces.extends_on, turn_tests.proofs.Tickets.takes_goes_on}
 use Rattle.turn_tests.proofs.taking.take_often.Goals as goal
 
 pub loop-preserved : goal.loop-preserved

@@ -1,5 +1,4 @@
-use Rattle.std.proofs.Common.{◌*◌}
-use Rattle.turn_tests.specs.Taking.{HasTaken}
+use Rattle.{std.proofs.Common.◌*◌, turn_tests.specs.Taking.HasTaken}
 use Rattle.turn_tests.proofs.taking.take_often.Given as goal
 
 abbrev pub invariant-loop : goal.invariant-loop

@@ -1,7 +1,6 @@
 use Rattle.std.proofs.Common.{◌≡◌, ◌<◌, ◌++◌, ◌≤◌, take, drop, length, sym, subst, arith, length-append, length-take, length-drop}
-use Rattle.std.proofs.lemmas.List.{take-append-le}
-use Rattle.whole_ends.specs.Ends.{Gives}
 use Rattle.whole_ends.proofs.Pieces.{Reads, reads_given, reads_more, reads_lost, reads_end}
+use Rattle.{std.proofs.lemmas.List.take-append-le, whole_ends.specs.Ends.Gives}
 use Rattle.whole_ends.proofs.ends.read_all.Goals as goal
 
 pub returns-then-taken-eq0-clause-all : goal.returns-then-taken-eq0-clause-all

@@ -1,5 +1,4 @@
-use Rattle.std.proofs.Common.{◌≡◌, ◌-◌, ◌≤◌, length}
-use Rattle.whole_ends.specs.Ends.{AddsFirst}
+use Rattle.{std.proofs.Common.◌≡◌, std.proofs.Common.◌-◌, std.proofs.Common.◌≤◌, std.proofs.Common.length, whole_ends.specs.Ends.AddsFirst}
 use Rattle.whole_ends.proofs.ends.write_all.Given as goal
 
 -- so many bytes of the text have been taken

@@ -1,6 +1,5 @@
 use Rattle.std.proofs.Common.{◌≡◌, ◌∙◌, ap}
-use Rattle.word_map.specs.Word.{same_word}
-use Rattle.word_map.proofs.WordLemmas.{same_same, same_word-true}
+use Rattle.{word_map.specs.Word.same_word, word_map.proofs.WordLemmas.same_same, word_map.proofs.WordLemmas.same_word-true}
 use Rattle.word_map.proofs.layout.names_are_told_apart.Goals as goal
 
 pub returns : goal.returns

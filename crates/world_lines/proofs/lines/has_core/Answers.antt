@@ -1,8 +1,6 @@
 use Rattle.std.proofs.Common.{sym, ◌∙◌, ap, ◌||◌}
-use Rattle.world_parts.specs.Seen.{seen}
-use Rattle.world_parts.specs.Partitions.{world_in}
-use Rattle.world_lines.specs.Lines.{any_below, works_there}
-use Rattle.world_lines.proofs.Numbers.{any_none, any_more}
+use Rattle.{world_lines.specs.any_below, world_lines.specs.works_there, world_parts.specs.Seen.seen, world_parts.specs.Partitions.world_in}
+use Rattle.{world_lines.proofs.Numbers.any_none, world_lines.proofs.Numbers.any_more}
 use Rattle.world_lines.proofs.lines.has_core.Goals as goal
 
 pub cores-init : goal.cores-init

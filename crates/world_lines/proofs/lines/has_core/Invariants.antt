@@ -1,7 +1,5 @@
-use Rattle.std.proofs.Common.{◌≡◌}
-use Rattle.world_parts.specs.Seen.{seen}
-use Rattle.world_parts.specs.Partitions.{world_in}
-use Rattle.world_lines.specs.Lines.{any_below, works_there}
+use Rattle.{world_lines.specs.any_below, world_lines.specs.works_there, std.proofs.Common.◌≡◌, world_parts.specs.Seen.seen}
+use Rattle.{world_parts.specs.Partitions.world_in}
 use Rattle.world_lines.proofs.lines.has_core.Given as goal
 
 abbrev pub invariant-cores : goal.invariant-cores

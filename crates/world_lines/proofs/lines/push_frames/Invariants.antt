@@ -1,7 +1,5 @@
-use Rattle.std.proofs.Common.{◌≡◌, ◌==◌, ◌++◌}
-use Rattle.std.specs.Prelude.{string_bytes}
-use Rattle.world_parts.specs.Partitions.{world_in}
-use Rattle.world_lines.specs.Lines.{those}
+use Rattle.std.proofs.Common.{◌≡◌, ◌==◌, ◌++◌, string_bytes}
+use Rattle.{world_parts.specs.Partitions.world_in, world_lines.specs.Lines.those}
 use Rattle.world_lines.proofs.lines.push_frames.Given as goal
 
 abbrev pub invariant-frames : goal.invariant-frames

@@ -1,4 +1,4 @@
-use Rattle.table_lines.proofs.Lines.{begins, goes_on, lines_none, lines_more}
+use Rattle.table_lines.proofs.{begins, goes_on, lines_none, lines_more}
 use Rattle.world_lines.proofs.lines.push_those.Goals as goal
 
 pub cores-init : goal.cores-init

@@ -1,8 +1,5 @@
-use Rattle.std.proofs.Common.{◌≡◌, ◌++◌}
-use Rattle.std.specs.Prelude.{string_bytes}
-use Rattle.world_parts.specs.Seen.{seen}
-use Rattle.world_parts.specs.Partitions.{world_in}
-use Rattle.world_lines.specs.Lines.{those, works_there}
+use Rattle.{std.proofs.Common.◌≡◌, std.proofs.Common.◌++◌, std.proofs.Common.string_bytes, world_parts.specs.Seen.seen}
+use Rattle.{world_parts.specs.Partitions.world_in, world_lines.specs.Lines.those, world_lines.specs.Lines.works_there}
 use Rattle.world_lines.proofs.lines.push_those.Given as goal
 
 abbrev pub invariant-cores : goal.invariant-cores

@@ -1,11 +1,7 @@
-use Rattle.std.proofs.Common.{◌≡◌, inl, inr, ℕ, ◌+◌, ◌<◌, ◌≤◌, Some, sym, ◌∙◌, ap, subst}
-use Rattle.std.proofs.Common.{arith, List, length, slice_get, slice_set, if◌then◌else◌}
-use Rattle.std.proofs.lemmas.Bool.{cases_lt}
-use Rattle.std.proofs.lemmas.List.{length-set}
-use Rattle.world_parts.specs.Seen.{seen}
-use Rattle.world_parts.specs.Partitions.{world_in}
-use Rattle.world_lines.specs.Lines.{is_told, number_at}
+use Rattle.std.proofs.Common.{◌≡◌, inl, inr, ℕ, ◌+◌, ◌<◌, ◌≤◌, Some, sym, ◌∙◌, ap, subst, arith, List, length, slice_get, slice_set}
 use Rattle.world_lines.proofs.Numbers.{set_here, set_apart, number_more, number_from, more_most}
+use Rattle.{std.proofs.Common.if◌then◌else◌, std.proofs.Common.length-set, std.proofs.lemmas.Bool.cases_lt, world_parts.specs.Seen.seen}
+use Rattle.{world_parts.specs.Partitions.world_in, world_lines.specs.Lines.is_told, world_lines.specs.Lines.number_at}
 use Rattle.world_lines.proofs.table.number_all.Goals as goal
 
 pub frames-preserved : goal.frames-preserved

@@ -1,7 +1,5 @@
 use Rattle.std.proofs.Common.{◌≡◌, ◌<◌, ◌≤◌, ℕ, Some, length, slice_get}
-use Rattle.world_parts.specs.Seen.{seen}
-use Rattle.world_parts.specs.Partitions.{world_in}
-use Rattle.world_lines.specs.Lines.{number_at}
+use Rattle.{world_parts.specs.Seen.seen, world_parts.specs.Partitions.world_in, world_lines.specs.Lines.number_at}
 use Rattle.world_lines.proofs.table.number_all.Given as goal
 
 abbrev pub invariant-frames : goal.invariant-frames

@@ -1,4 +1,4 @@
-use Rattle.table_lines.proofs.Lines.{begins, goes_on, lines_none, lines_more}
+use Rattle.table_lines.proofs.{begins, goes_on, lines_none, lines_more}
 use Rattle.world_lines.proofs.whole.push_all_gates.Goals as goal
 
 pub nodes-init : goal.nodes-init

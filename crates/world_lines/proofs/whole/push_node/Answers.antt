@@ -1,5 +1,5 @@
+use Rattle.table_lines.proofs.{begins, goes_on, lines_none, lines_more}
 use Rattle.world_parts.specs.Seen.{seen}
-use Rattle.table_lines.proofs.Lines.{begins, goes_on, lines_none, lines_more}
 use Rattle.world_lines.proofs.whole.push_node.Goals as goal
 
 pub entries-init : goal.entries-init

@@ -1,5 +1,4 @@
-use Rattle.std.specs.Prelude.{string_bytes}
-use Rattle.world_lines.proofs.TellsLaw.{tells_worlds}
+use Rattle.{std.specs.Prelude.string_bytes, world_lines.proofs.TellsLaw.tells_worlds}
 use Rattle.world_lines.proofs.whole.push_worlds.Goals as goal
 
 pub returns : goal.returns

@@ -1,5 +1,4 @@
-use Rattle.world_parts.specs.Seen.{seen}
-use Rattle.world_parts.specs.Partitions.{world_in}
+use Rattle.world_parts.specs.{Seen.seen, Partitions.world_in}
 use Rattle.world_parts.proofs.Steps.{frames_none, frames_more}
 use Rattle.world_parts.proofs.joining.join_all.Goals as goal
 

@@ -1,6 +1,4 @@
-use Rattle.world_parts.specs.Seen.{seen}
-use Rattle.world_parts.specs.Led.{IsHeldBelow}
-use Rattle.world_parts.specs.Partitions.{Joins, world_in}
+use Rattle.{world_parts.specs.IsHeldBelow, world_parts.specs.Joins, world_parts.specs.world_in, world_parts.specs.Seen.seen}
 use Rattle.world_parts.proofs.joining.join_all.Given as goal
 
 abbrev pub invariant-frames : goal.invariant-frames

@@ -1,6 +1,4 @@
-use Rattle.std.proofs.Common.{sym, ◌∙◌}
-use Rattle.world_parts.specs.Partitions.{world_in}
-use Rattle.world_parts.proofs.Steps.{cap_led}
+use Rattle.{std.proofs.Common.sym, std.proofs.Common.◌∙◌, world_parts.specs.Partitions.world_in, world_parts.proofs.Steps.cap_led}
 use Rattle.world_parts.proofs.joining.join_cap.Goals as goal
 
 pub returns-then-holds : goal.returns-then-holds

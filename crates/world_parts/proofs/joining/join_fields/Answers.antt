@@ -1,7 +1,5 @@
-use Rattle.std.proofs.Common.{◌≡◌, sym, subst}
-use Rattle.world_parts.specs.Led.{HasField}
-use Rattle.world_parts.specs.Partitions.{Joins, world_in}
-use Rattle.world_parts.proofs.Steps.{fields_comp}
+use Rattle.{world_parts.specs.HasField, world_parts.specs.Joins, world_parts.specs.world_in, std.proofs.Common.◌≡◌, std.proofs.Common.sym}
+use Rattle.{std.proofs.Common.subst, world_parts.proofs.Steps.fields_comp}
 use Rattle.world_parts.proofs.joining.join_fields.Goals as goal
 
 pub returns-in-Some : goal.returns-in-Some

@@ -1,8 +1,5 @@
-use Rattle.std.proofs.Common.{◌≡◌, subst}
-use Rattle.world_parts.specs.Seen.{seen}
-use Rattle.world_parts.specs.Led.{HasField}
-use Rattle.world_parts.specs.Partitions.{Joins, world_in}
-use Rattle.world_parts.proofs.Steps.{frame_both}
+use Rattle.world_parts.specs.{HasField, Joins, world_in}
+use Rattle.{std.proofs.Common.◌≡◌, std.proofs.Common.subst, world_parts.specs.Seen.seen, world_parts.proofs.Steps.frame_both}
 use Rattle.world_parts.proofs.joining.join_frame.Goals as goal
 
 pub returns : goal.returns

@@ -1,6 +1,5 @@
+use Rattle.world_parts.specs.{Reaches, Joins, world_in}
 use Rattle.std.proofs.Common.{◌≡◌, sym, subst}
-use Rattle.world_parts.specs.Led.{Reaches}
-use Rattle.world_parts.specs.Partitions.{Joins, world_in}
 use Rattle.world_parts.proofs.joining.join_held.Goals as goal
 
 pub returns-in-Some : goal.returns-in-Some

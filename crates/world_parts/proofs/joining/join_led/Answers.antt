@@ -1,13 +1,11 @@
-use Rattle.std.proofs.Common.{◌≡◌, sym, ◌∙◌, subst, ap}
-use Rattle.spk_nums.specs.declared.kinds.Kind.TheVariants as kind
-use Rattle.world_laws.specs.Worlds.{LeadsTo}
-use Rattle.world_parts.specs.Partitions.{Joins, world_in}
-use Rattle.world_parts.proofs.Steps.{led_other}
+use Rattle.kernel_history.proofs.{◌≡◌, sym, ◌∙◌, subst, ap, Kind}
+use Rattle.world_parts.specs.{Joins, world_in}
+use Rattle.{seal_check.specs.world_laws.specs.Worlds.LeadsTo, world_parts.proofs.Steps.led_other}
 use Rattle.world_parts.proofs.joining.join_led.Goals as goal
 
 pub returns-in-Range : goal.returns-in-Range
 returns-in-Range c =
-    let is : c.args.cap.kind ≡ kind.Range = sym c.kind.ensures ∙ c.in-Range.is in
+    let is : c.args.cap.kind ≡ Kind.Range = sym c.kind.ensures ∙ c.in-Range.is in
     subst (λ j. Joins (λ f g. (f ≡ c.args.node) × LeadsTo j c.args.cap g) (world_in c.args.parts.now) (world_in c.join_new.new.parts))
     (sym is) c.join_new.ensures
 

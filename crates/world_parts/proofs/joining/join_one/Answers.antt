@@ -1,8 +1,5 @@
-use Rattle.std.proofs.Common.{sym, ◌∙◌, ap}
-use Rattle.kernel_rules.specs.Access.{found}
-use Rattle.kernel_rules.specs.CapabilityCalls.{has_frame}
-use Rattle.world_parts.specs.Partitions.{world_in}
-use Rattle.world_parts.proofs.Steps.{range_one}
+use Rattle.kernel_history.proofs.{sym, ◌∙◌, ap, found, has_frame}
+use Rattle.{world_parts.specs.Partitions.world_in, world_parts.proofs.Steps.range_one}
 use Rattle.world_parts.proofs.joining.join_one.Goals as goal
 
 pub returns-then-in_range : goal.returns-then-in_range

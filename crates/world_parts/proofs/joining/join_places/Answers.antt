@@ -1,8 +1,6 @@
 use Rattle.std.proofs.Common.{◌≡◌, sym, subst, arith}
-use Rattle.world_parts.specs.Seen.{seen}
-use Rattle.world_parts.specs.Led.{AreWith}
-use Rattle.world_parts.specs.Partitions.{Joins, world_in}
 use Rattle.world_parts.proofs.Steps.{PlacesBelow, places_none, places_more, with_none, with_next}
+use Rattle.{world_parts.specs.AreWith, world_parts.specs.Joins, world_parts.specs.world_in, world_parts.specs.Seen.seen}
 use Rattle.world_parts.proofs.joining.join_places.Goals as goal
 
 pub places-init : goal.places-init

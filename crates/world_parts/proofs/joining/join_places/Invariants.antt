@@ -1,7 +1,5 @@
-use Rattle.world_parts.specs.Seen.{seen}
-use Rattle.world_parts.specs.Led.{AreWith}
-use Rattle.world_parts.specs.Partitions.{Joins, world_in}
-use Rattle.world_parts.proofs.Steps.{PlacesBelow}
+use Rattle.world_parts.specs.{AreWith, Joins, world_in}
+use Rattle.{world_parts.specs.Seen.seen, world_parts.proofs.Steps.PlacesBelow}
 use Rattle.world_parts.proofs.joining.join_places.Given as goal
 
 abbrev pub invariant-places : goal.invariant-places

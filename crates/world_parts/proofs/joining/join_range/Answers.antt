@@ -1,6 +1,5 @@
-use Rattle.std.proofs.Common.{◌≡◌, arith, subst}
-use Rattle.world_parts.specs.Partitions.{Joins, world_in}
 use Rattle.world_parts.proofs.Steps.{RangeBelow, range_none, range_more, range_all}
+use Rattle.{std.proofs.Common.◌≡◌, std.proofs.Common.arith, std.proofs.Common.subst, world_parts.specs.Joins, world_parts.specs.world_in}
 use Rattle.world_parts.proofs.joining.join_range.Goals as goal
 
 pub frames-init : goal.frames-init

@@ -1,5 +1,4 @@
-use Rattle.world_parts.specs.Partitions.{Joins, world_in}
-use Rattle.world_parts.proofs.Steps.{RangeBelow}
+use Rattle.{world_parts.specs.Joins, world_parts.specs.world_in, world_parts.proofs.Steps.RangeBelow}
 use Rattle.world_parts.proofs.joining.join_range.Given as goal
 
 abbrev pub invariant-frames : goal.invariant-frames

@@ -1,5 +1,4 @@
-use Rattle.std.proofs.Common.{◌≡◌, ◌<◌, ◌≤◌, ℕ, length, slice_get}
-use Rattle.std.specs.Option.{option_map}
+use Rattle.std.proofs.Common.{◌≡◌, ◌<◌, ◌≤◌, ℕ, length, slice_get, option_map}
 use Rattle.world_parts.specs.Partitions.{moved}
 use Rattle.world_parts.proofs.parts.move_all.Given as goal
 

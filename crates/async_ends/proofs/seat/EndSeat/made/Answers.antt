@@ -1,8 +1,6 @@
+use Rattle.async_ends.specs.{IsLegal, receiving, history_of}
 use Rattle.std.proofs.Common.{◌≡◌, None, subst}
-use Rattle.async_ends.specs.Events.{IsLegal, receiving}
-use Rattle.async_ends.specs.Seen.{history_of}
-use Rattle.async_ends.proofs.Histories.{all_crossed}
-use Rattle.async_ends.proofs.Made.{legal, between}
+use Rattle.async_ends.proofs.{Histories.all_crossed, Made.legal, Made.between}
 use Rattle.async_ends.proofs.seat.EndSeat.made.Goals as goal
 
 pub returns-clause-legal : goal.returns-clause-legal

@@ -1,7 +1,5 @@
 use Rattle.std.proofs.Common.{◌<◌, ◌+◌, ap, ◌∙◌, sym, subst}
-use Rattle.async_ends.specs.Calls.{Acts}
-use Rattle.async_ends.specs.Running.{most_calls, reply_of}
-use Rattle.async_ends.specs.Tables.{seat_value}
+use Rattle.async_ends.specs.{most_calls, seat_value, Calls.Acts, Running.reply_of}
 use Rattle.async_ends.proofs.Made.{answered, still_seat, acts}
 use Rattle.async_ends.proofs.table.EndTable.act.Goals as goal
 

@@ -1,8 +1,5 @@
-use Rattle.std.proofs.Common.{◌+◌, ◌∙◌, sym, subst}
-use Rattle.async_ends.specs.declared.endpoint.EndReply.TheVariants.{Refused}
-use Rattle.async_ends.specs.Calls.{Comes}
-use Rattle.async_ends.specs.Tables.{seat_value}
-use Rattle.async_ends.proofs.Made.{refused}
+use Rattle.{std.proofs.Common.◌+◌, std.proofs.Common.◌∙◌, std.proofs.Common.sym, std.proofs.Common.subst, async_ends.specs.Comes}
+use Rattle.{async_ends.specs.seat_value, async_ends.specs.declared.endpoint.EndReply.TheVariants.Refused, async_ends.proofs.Made.refused}
 use Rattle.async_ends.proofs.table.EndTable.answer.Goals as goal
 
 pub returns-in-Err : goal.returns-in-Err

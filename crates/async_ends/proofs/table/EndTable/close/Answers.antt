@@ -1,6 +1,5 @@
-use Rattle.std.proofs.Common.{sym, subst}
-use Rattle.async_ends.specs.Tables.{AreAllSeats, EndsAt}
-use Rattle.async_ends.proofs.Closing.{all_unwrapped, ends_at}
+use Rattle.{std.proofs.Common.sym, std.proofs.Common.subst, async_ends.specs.Tables.AreAllSeats, async_ends.specs.Tables.EndsAt}
+use Rattle.{async_ends.proofs.Closing.all_unwrapped, async_ends.proofs.Closing.ends_at}
 use Rattle.async_ends.proofs.table.EndTable.close.Goals as goal
 
 pub close-requires : goal.close-requires

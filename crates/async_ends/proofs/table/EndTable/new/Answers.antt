@@ -1,6 +1,5 @@
-use Rattle.std.proofs.Common.{◌∙◌}
-use Rattle.async_ends.specs.Tables.{IsStart}
 use Rattle.async_ends.proofs.Closing.{is_start, fresh_seats, all_wrapped, fresh_wrapped}
+use Rattle.{std.proofs.Common.◌∙◌, async_ends.specs.Tables.IsStart}
 use Rattle.async_ends.proofs.table.EndTable.new.Goals as goal
 
 pub seats_of-requires : goal.seats_of-requires

@@ -1,5 +1,4 @@
-use Rattle.std.proofs.Common.{◌∙◌, sym}
-use Rattle.call_plans.proofs.Roots.{wants_leaf}
+use Rattle.{std.proofs.Common.◌∙◌, std.proofs.Common.sym, call_plans.proofs.Roots.wants_leaf}
 use Rattle.call_plans.proofs.found.Caps.is_wanted.Goals as goal
 
 pub returns-in-Some : goal.returns-in-Some

@@ -1,5 +1,4 @@
-use Rattle.std.proofs.Common.{subst}
-use Rattle.kernel_rules.specs.Runs.{Enters}
+use Rattle.call_judge.specs.same_changes.specs.kernel_laws.proofs.{subst, Enters}
 use Rattle.confinement.specs.Known.{Known, Takes}
 use Rattle.confinement.proofs.Standing.{enters, no_core}
 use Rattle.confinement.proofs.origins.Origins.enter.Goals as goal

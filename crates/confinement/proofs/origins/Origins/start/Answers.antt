@@ -1,5 +1,4 @@
-use Rattle.std.proofs.Common.{◌<◌, sym, subst}
-use Rattle.confinement.proofs.Standing.{starts}
+use Rattle.{std.proofs.Common.◌<◌, std.proofs.Common.sym, std.proofs.Common.subst, confinement.proofs.Standing.starts}
 use Rattle.confinement.proofs.origins.Origins.start.Goals as goal
 
 pub returns : goal.returns

@@ -1,9 +1,6 @@
-use Rattle.std.proofs.Common.{Option, subst, arith}
-use Rattle.kernel_rules.specs.Runs.{Decides}
-use Rattle.origin_rules.specs.Chains.{Put}
-use Rattle.confinement.specs.Links.{PutsBy}
-use Rattle.confinement.specs.Known.{Known, Takes}
-use Rattle.confinement.proofs.Standing.{decides, no_core}
+use Rattle.call_judge.specs.same_changes.specs.kernel_laws.proofs.{Option, subst, arith, Decides}
+use Rattle.confinement.specs.{Links.PutsBy, Known.Known, Known.Takes}
+use Rattle.{origin_rules.specs.Chains.Put, confinement.proofs.Standing.decides, confinement.proofs.Standing.no_core}
 use Rattle.confinement.proofs.origins.Origins.take.Goals as goal
 
 pub returns-then-not-has-clause-exact : goal.returns-then-not-has-clause-exact

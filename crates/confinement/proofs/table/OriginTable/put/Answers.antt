@@ -1,7 +1,5 @@
 use Rattle.std.proofs.Common.{◌≡◌, Some, length, refl, ap, subst, arith}
-use Rattle.confinement.specs.declared.table.Kept.{Kept}
-use Rattle.confinement.specs.declared.table.Head.{Head}
-use Rattle.confinement.specs.Links.{Table, PutsIn, put_of}
+use Rattle.confinement.specs.{declared.table.Kept.Kept, declared.table.Head.Head, Links.Table, Links.PutsIn, Links.put_of}
 use Rattle.confinement.proofs.Tables.{IsPut, begins_below, put_exact}
 use Rattle.confinement.proofs.table.OriginTable.put.Goals as goal
 

@@ -1,5 +1,4 @@
-use Rattle.std.proofs.Common.{◌*◌}
-use Rattle.confinement.proofs.Tables.{start_table, start_origins}
+use Rattle.{std.proofs.Common.◌*◌, confinement.proofs.Tables.start_table, confinement.proofs.Tables.start_origins}
 use Rattle.confinement.proofs.table.OriginTable.start.Goals as goal
 
 pub invariant_of-result : goal.invariant_of-result

@@ -1,5 +1,4 @@
-use Rattle.std.proofs.Common.{◌∙◌, ap}
-use Rattle.word_map.specs.Places.{size_of}
+use Rattle.boot_words.specs.kernel_history.proofs.{◌∙◌, ap, size_of}
 use Rattle.flight_laws.specs.flight.proofs.AfterStep.{absorbed_shape}
 use Rattle.core_kernel.proofs.core_run.CoreRunCoreProgram.absorb.Goals as goal
 

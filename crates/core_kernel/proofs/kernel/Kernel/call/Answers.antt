@@ -1,11 +1,7 @@
 use Rattle.std.proofs.Common.{◌≡◌, ◌∙◌, Some, [], ◌∷◌, ap, sym, subst}
-use Rattle.turn_rule.specs.Seats.{MakesStep}
-use Rattle.core_kernel.specs.Running.{running}
-use Rattle.core_kernel.specs.Kernel.{seat_value}
-use Rattle.core_kernel.specs.Turns.{GoesOn, HasReturned}
-use Rattle.core_kernel.specs.Calls.{MakesCall}
-use Rattle.core_kernel.proofs.Turns.{the_some_and, goes, goes_further}
-use Rattle.core_kernel.proofs.Seats.{has_seen, still_seat, makes_call}
+use Rattle.core_kernel.specs.{running, seat_value, GoesOn, MakesCall}
+use Rattle.core_kernel.proofs.{Turns.the_some_and, Turns.goes, Turns.goes_further, Seats.has_seen, Seats.still_seat, Seats.makes_call}
+use Rattle.{turn_rule.specs.Seats.MakesStep, core_kernel.specs.Turns.HasReturned}
 use Rattle.core_kernel.proofs.kernel.Kernel.call.Goals as goal
 
 pub go-requires-clause-returned : goal.go-requires-clause-returned

@@ -1,7 +1,5 @@
-use Rattle.std.proofs.Common.{◌≡◌, ◌∙◌, None, All, map, ap, sym, subst}
-use Rattle.call_steps.specs.call_stages.specs.Cores.{end_of}
-use Rattle.core_kernel.specs.Kernel.{AreAllSeats}
-use Rattle.core_kernel.specs.Calls.{EndsAt}
+use Rattle.flight_laws.specs.flight.proofs.{◌≡◌, ◌∙◌, None, All, map, ap, sym, subst, end_of}
+use Rattle.core_kernel.specs.{AreAllSeats, EndsAt}
 use Rattle.core_kernel.proofs.Closing.{all_unwrapped, ended_between, ends_at}
 use Rattle.core_kernel.proofs.kernel.Kernel.finish_in.Goals as goal
 

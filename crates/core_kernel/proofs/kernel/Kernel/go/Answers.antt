@@ -1,8 +1,6 @@
 use Rattle.std.proofs.Common.{◌≡◌, ◌∙◌, None, [], sym, subst}
-use Rattle.turn_rule.specs.Seats.{MakesStep}
-use Rattle.core_kernel.specs.Running.{running}
-use Rattle.core_kernel.specs.Kernel.{IsBooted}
 use Rattle.core_kernel.proofs.Turns.{the_some, goes, fewer, goes_further}
+use Rattle.{core_kernel.specs.running, core_kernel.specs.IsBooted, turn_rule.specs.Seats.MakesStep}
 use Rattle.core_kernel.proofs.kernel.Kernel.go.Goals as goal
 
 pub loop-self-smaller : goal.loop-self-smaller

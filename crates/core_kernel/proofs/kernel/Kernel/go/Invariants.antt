@@ -1,6 +1,4 @@
-use Rattle.std.proofs.Common.{[]}
-use Rattle.call_steps.specs.call_stages.specs.Fits.{steps_left}
-use Rattle.core_kernel.specs.Turns.{GoesOn}
+use Rattle.{flight_laws.specs.core_invariant.specs.[], flight_laws.specs.core_invariant.specs.steps_left, core_kernel.specs.Turns.GoesOn}
 use Rattle.core_kernel.proofs.kernel.Kernel.go.Given as goal
 
 abbrev pub invariant-loop-self : goal.invariant-loop-self

@@ -1,7 +1,6 @@
 use Rattle.std.proofs.Common.{◌≡◌, ◌∙◌, ap, sym, subst}
-use Rattle.core_kernel.specs.Kernel.{seat_value, note_value}
-use Rattle.core_kernel.specs.Calls.{Meets}
 use Rattle.core_kernel.proofs.Seats.{has_seen, meets, met_seat}
+use Rattle.{core_kernel.specs.seat_value, core_kernel.specs.Meets, core_kernel.specs.Kernel.note_value}
 use Rattle.core_kernel.proofs.kernel.Kernel.meet.Goals as goal
 
 pub invariant_of-seat : goal.invariant_of-seat

@@ -1,5 +1,4 @@
-use Rattle.std.proofs.Common.{◌<◌, ◌∙◌, ap, subst}
-use Rattle.boot_words.specs.kernel_history.specs.Trace.{state_after}
+use Rattle.flight_laws.specs.flight.proofs.{◌<◌, ◌∙◌, ap, subst, state_after}
 use Rattle.core_kernel.specs.Calls.{HasSeen}
 use Rattle.core_kernel.proofs.Seats.{has_seen, front_core, front_calls, front_inside}
 use Rattle.core_kernel.proofs.seat.CoreSeat.front.Goals as goal

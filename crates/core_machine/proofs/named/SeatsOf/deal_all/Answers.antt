@@ -1,5 +1,4 @@
-use Rattle.std.proofs.Common.{◌<◌, ◌∙◌, sym, subst, refl}
-use Rattle.std.specs.Prelude.{vec_capacity}
+use Rattle.std.proofs.Common.{◌<◌, ◌∙◌, sym, subst, refl, vec_capacity}
 use Rattle.core_machine.proofs.Dealing.{AreFirst, none_yet, one_more, room_left, fewer_left, all_dealt}
 use Rattle.core_machine.proofs.named.SeatsOf.deal_all.Goals as goal
 

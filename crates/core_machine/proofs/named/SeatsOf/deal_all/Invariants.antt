@@ -1,6 +1,4 @@
-use Rattle.std.proofs.Common.{◌-◌, length}
-use Rattle.std.specs.Prelude.{vec_capacity}
-use Rattle.core_machine.proofs.Dealing.{AreFirst}
+use Rattle.{std.proofs.Common.◌-◌, std.proofs.Common.length, std.proofs.Common.vec_capacity, core_machine.proofs.Dealing.AreFirst}
 use Rattle.core_machine.proofs.named.SeatsOf.deal_all.Given as goal
 
 abbrev pub invariant-cores : goal.invariant-cores

@@ -1,8 +1,6 @@
-use Rattle.std.proofs.Common.{subst, IfSome}
-use Rattle.std.specs.Arc.{arc_value}
-use Rattle.core_kernel.specs.Kernel.{CoreSeatValue}
-use Rattle.core_machine.specs.Seats.{SeatsValue, IsDealt}
-use Rattle.core_machine.proofs.Dealing.{left_after, dealt_port}
+use Rattle.{core_machine.specs.SeatsValue, core_machine.specs.IsDealt, std.proofs.Common.subst, std.proofs.Common.IfSome}
+use Rattle.{std.specs.Arc.arc_value, core_kernel.specs.Kernel.CoreSeatValue, core_machine.proofs.Dealing.left_after}
+use Rattle.{core_machine.proofs.Dealing.dealt_port}
 use Rattle.core_machine.proofs.seats.Seats.deal.Goals as goal
 
 pub invariant_of-self : goal.invariant_of-self

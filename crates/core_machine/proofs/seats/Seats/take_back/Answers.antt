@@ -1,8 +1,6 @@
 use Rattle.std.proofs.Common.{arith, ◌≡◌, ◌∙◌, ◌++◌, ◌≤◌, [], ◌∷◌, sym, ap, subst, length}
-use Rattle.core_kernel.specs.Kernel.{CoreSeatValue}
-use Rattle.core_machine.specs.Seats.{SeatsValue}
-use Rattle.std.specs.Arc.{arc_value}
-use Rattle.core_machine.proofs.Dealing.{back_on}
+use Rattle.{core_kernel.specs.Kernel.CoreSeatValue, std.specs.Arc.arc_value, core_machine.specs.Seats.SeatsValue}
+use Rattle.{core_machine.proofs.Dealing.back_on}
 use Rattle.core_machine.proofs.seats.Seats.take_back.Goals as goal
 
 pub invariant_of-self : goal.invariant_of-self

@@ -1,7 +1,5 @@
 use Rattle.std.proofs.Common.{◌∙◌, ap}
-use Rattle.page_drawing.specs.page_layers.specs.Seen.{seen_made}
-use Rattle.page_drawing.specs.Pages.{step_taken}
-use Rattle.draw_run.proofs.Finish.{draws_next}
+use Rattle.{page_drawing.specs.page_layers.specs.Seen.seen_made, page_drawing.specs.Pages.step_taken, draw_run.proofs.Finish.draws_next}
 use Rattle.draw_run.proofs.drawing.DrawingWatcher.tell.Goals as goal
 
 pub returns : goal.returns

@@ -1,7 +1,5 @@
-use Rattle.std.proofs.Common.{◌≡◌, ◌∙◌, ap, sym}
-use Rattle.std.specs.Arc.{arc_value}
-use Rattle.spk_nums.specs.Setting.{Setting}
-use Rattle.end_ports.proofs.Dealt.{all_ends}
+use Rattle.core_machine.specs.core_kernel.specs.flight_laws.specs.flight.proofs.{◌≡◌, ◌∙◌, ap, sym, Setting}
+use Rattle.{std.specs.Arc.arc_value, end_ports.proofs.Dealt.all_ends}
 use Rattle.end_ports.proofs.seats.EndSeats.boot.Goals as goal
 
 pub invariant_of-result : goal.invariant_of-result

@@ -1,7 +1,6 @@
 use Rattle.std.proofs.Common.{◌<◌, refl, ap, sym, subst, arith, length}
-use Rattle.std.specs.Arc.{arc_value}
-use Rattle.end_ports.specs.Ports.{EndPortValue, EndSeatsValue, IsPortDealt}
 use Rattle.end_ports.proofs.Dealt.{as_many, others_left, first_dealt}
+use Rattle.{end_ports.specs.EndPortValue, end_ports.specs.EndSeatsValue, std.specs.Arc.arc_value, end_ports.specs.Ports.IsPortDealt}
 use Rattle.end_ports.proofs.seats.EndSeats.deal.Goals as goal
 
 pub remove-end-requires : goal.remove-end-requires

@@ -1,7 +1,5 @@
 use Rattle.std.proofs.Common.{◌∙◌, ap, sym, length}
-use Rattle.std.specs.Arc.{arc_value}
-use Rattle.end_ports.specs.Ports.{EndSeatsValue}
-use Rattle.end_ports.proofs.Dealt.{as_many}
+use Rattle.{std.specs.Arc.arc_value, end_ports.specs.Ports.EndSeatsValue, end_ports.proofs.Dealt.as_many}
 use Rattle.end_ports.proofs.seats.EndSeats.take_back.Goals as goal
 
 pub take_back-requires-clause-kernel : goal.take_back-requires-clause-kernel

@@ -1,7 +1,5 @@
 use Rattle.std.proofs.Common.{◌∙◌, ◌++◌, [], ◌∷◌, ap}
-use Rattle.async_ends.specs.Looks.{look}
-use Rattle.ends_runners.specs.Looks.{looks_in}
-use Rattle.ends_runners.proofs.Looks.{looks_more}
+use Rattle.{async_ends.specs.Looks.look, ends_runners.specs.Looks.looks_in, ends_runners.proofs.Looks.looks_more}
 use Rattle.ends_runners.proofs.authority.SeatAuthorityAuthority.look.Goals as goal
 
 pub returns-clause-looks : goal.returns-clause-looks

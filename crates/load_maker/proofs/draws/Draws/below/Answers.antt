@@ -1,5 +1,4 @@
-use Rattle.std.proofs.Common.{◌/◌, ◌%◌, ap, ◌∙◌}
-use Rattle.load_maker.specs.Draws.{below}
+use Rattle.{std.proofs.Common.◌/◌, std.proofs.Common.◌%◌, std.proofs.Common.ap, std.proofs.Common.◌∙◌, load_maker.specs.Draws.below}
 use Rattle.load_maker.proofs.draws.Draws.below.Goals as goal
 
 pub returns-clause-value : goal.returns-clause-value

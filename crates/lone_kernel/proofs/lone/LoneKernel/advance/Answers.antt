@@ -1,17 +1,14 @@
-use Rattle.std.proofs.Common.{◌≡◌, ℕ, ◌<◌, ◌++◌, length, map, Some, sym, ◌∙◌, ap, subst, arith, slice_set, sum_by, get_or, get_or-set_same}
-use Rattle.std.proofs.lemmas.List.{length-append}
-use Rattle.boot_words.specs.kernel_history.specs.Trace.{decision_at}
-use Rattle.flight_laws.specs.core_invariant.specs.Events.{decided_in}
-use Rattle.lone_kernel.specs.declared.seats.Seat.{Seat}
-use Rattle.lone_kernel.specs.Machine.{Machine, seat_at, core_at, list_at, IsFit, IsFitSeat, IsFinished}
-use Rattle.lone_kernel.specs.Machine.{stepped, turn_at, turn_of, seat_after, found_by, decisions_in}
-use Rattle.lone_kernel.specs.Moves.{StepsOnce}
+use Rattle.flight_laws.specs.flight.proofs.{◌≡◌, ℕ, ◌<◌, ◌++◌, length, map, Some, sym, ◌∙◌, ap, subst, arith, set as slice_set, sum_by}
+use Rattle.flight_laws.specs.flight.proofs.{get_or, length-append, decision_at, decided_in}
+use Rattle.lone_kernel.specs.{seat_at, core_at, list_at, IsFit, IsFitSeat, IsFinished, stepped, turn_at, turn_of, seat_after, found_by}
 use Rattle.lone_kernel.proofs.OneStep.{seat_is, turn_here, fit_here, calls_here, takes_here, stepped_is, fits_behind, fewer_behind}
 use Rattle.lone_kernel.proofs.Fits.{IsOf, turn_is, fits_on, due_on, further, one_decision, count_decided, undecided_due}
 use Rattle.lone_kernel.proofs.Advance.{one_step, steps_like, further_like}
-use Rattle.lone_kernel.proofs.Shown.{steps_as, next_shown}
-use Rattle.lone_kernel.proofs.lone.LoneKernel.advance.Goals as goal
 use Rattle.lone_kernel.proofs.lone.LoneKernel.advance.Goals.{In-Some, After-take-arg-2-1, After-note}
+use Rattle.{lone_kernel.specs.decisions_in, lone_kernel.specs.StepsOnce, std.proofs.Common.get_or-set_same}
+use Rattle.{lone_kernel.specs.declared.seats.Seat.Seat, lone_kernel.specs.Machine.Machine, lone_kernel.proofs.Shown.steps_as}
+use Rattle.{lone_kernel.proofs.Shown.next_shown}
+use Rattle.lone_kernel.proofs.lone.LoneKernel.advance.Goals as goal
 
 abbrev machine : In-Some → Machine
 machine c = record {

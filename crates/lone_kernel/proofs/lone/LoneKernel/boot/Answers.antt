@@ -1,7 +1,6 @@
 use Rattle.std.proofs.Common.{◌<◌, ◌^◌, sym, subst, map, sum_by, []}
-use Rattle.flight_laws.specs.flight.proofs.CoreFits.{started_fits}
-use Rattle.lone_kernel.specs.Machine.{AreFresh}
 use Rattle.lone_kernel.proofs.Boot.{fits, stands, few_due}
+use Rattle.{flight_laws.specs.flight.proofs.CoreFits.started_fits, lone_kernel.specs.Machine.AreFresh}
 use Rattle.lone_kernel.proofs.lone.LoneKernel.boot.Goals as goal
 
 pub count_due-room-requires : goal.count_due-room-requires

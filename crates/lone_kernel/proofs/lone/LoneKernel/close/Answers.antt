@@ -1,13 +1,7 @@
-use Rattle.std.proofs.Common.{◌<◌, [], length, get_or, map, arith, sym, ◌∙◌, ap, subst}
-use Rattle.spk_nums.specs.Setting.{IsSetting}
-use Rattle.boot_words.specs.kernel_history.specs.BootWords.{shape_of}
-use Rattle.boot_words.specs.kernel_history.specs.Counts.{RepresentCounts}
-use Rattle.boot_words.specs.kernel_history.specs.FinalWords.{Represent, word_in, end_in}
-use Rattle.boot_words.specs.kernel_history.specs.Trace.{state_after}
-use Rattle.call_steps.specs.call_stages.specs.Cores.{end_of}
-use Rattle.lone_kernel.specs.Machine.{fresh_seat, IsFit}
-use Rattle.flight_laws.specs.flight.proofs.Alike.{same_default}
-use Rattle.lone_kernel.proofs.Close.{closes, closes_counts}
+use Rattle.flight_laws.specs.flight.proofs.{◌<◌, [], length, get_or, map, arith, sym, ◌∙◌, ap, subst, IsSetting, shape_of, RepresentCounts}
+use Rattle.flight_laws.specs.flight.proofs.{Represent, word_in, end_in, state_after, end_of}
+use Rattle.{lone_kernel.specs.fresh_seat, lone_kernel.specs.IsFit, flight_laws.specs.flight.proofs.Alike.same_default}
+use Rattle.{lone_kernel.proofs.Close.closes, lone_kernel.proofs.Close.closes_counts}
 use Rattle.lone_kernel.proofs.lone.LoneKernel.close.Goals as goal
 
 pub ends_of-requires : goal.ends_of-requires

@@ -1,9 +1,5 @@
-use Rattle.std.proofs.Common.{◌∙◌, sym, subst, ap}
-use Rattle.std.proofs.lemmas.Bool.{false≢true}
-use Rattle.spk_nums.specs.Setting.{IsSetting}
-use Rattle.lone_kernel.specs.Machine.{IsFinished}
-use Rattle.lone_kernel.proofs.Advance.{stays_idle}
-use Rattle.lone_kernel.proofs.Runs.{nothing_done}
+use Rattle.flight_laws.specs.flight.proofs.{◌∙◌, sym, subst, ap, false≢true, IsSetting}
+use Rattle.{lone_kernel.specs.Machine.IsFinished, lone_kernel.proofs.Advance.stays_idle, lone_kernel.proofs.Runs.nothing_done}
 use Rattle.lone_kernel.proofs.lone.LoneKernel.go_on.Goals as goal
 
 pub returns-then-is_finished-clause-goes : goal.returns-then-is_finished-clause-goes

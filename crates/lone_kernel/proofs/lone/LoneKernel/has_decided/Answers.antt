@@ -1,6 +1,5 @@
 use Rattle.std.proofs.Common.{◌<◌, ap, arith}
-use Rattle.lone_kernel.specs.Machine.{IsFitSeat}
-use Rattle.lone_kernel.proofs.OneStep.{fit_here}
+use Rattle.{lone_kernel.specs.Machine.IsFitSeat, lone_kernel.proofs.OneStep.fit_here}
 use Rattle.lone_kernel.proofs.lone.LoneKernel.has_decided.Goals as goal
 
 pub overflow_sub-result : goal.overflow_sub-result

@@ -1,10 +1,7 @@
-use Rattle.std.proofs.Common.{sym, ap, subst, ◌≡◌, None, IfSome, ◌↔◌}
-use Rattle.spk_nums.specs.Setting.{IsSetting}
-use Rattle.boot_words.specs.kernel_history.specs.Trace.{Trace, steps_in_call}
-use Rattle.lone_kernel.specs.Machine.{core_at, IsFit}
-use Rattle.lone_kernel.specs.Stands.{StandsFor}
-use Rattle.lone_kernel.specs.Inside.{IsBelowBound}
+use Rattle.flight_laws.specs.flight.proofs.{sym, ap, subst, ◌≡◌, None, IfSome, IsSetting, Trace}
+use Rattle.lone_kernel.specs.{core_at, IsFit, StandsFor}
 use Rattle.lone_kernel.proofs.Inside.{between_only, steps_of, below_bound}
+use Rattle.{std.proofs.Common.◌↔◌, boot_words.specs.kernel_history.specs.Trace.steps_in_call, lone_kernel.specs.Inside.IsBelowBound}
 use Rattle.lone_kernel.proofs.lone.LoneKernel.inside.Goals as goal
 
 pub returns-clause-none : goal.returns-clause-none

@@ -1,10 +1,7 @@
 use Rattle.std.proofs.Common.{◌≡◌, ◌<◌, ◌∙◌, Some, sym, ap, subst, arith}
-use Rattle.lone_kernel.specs.Machine.{turn_of}
-use Rattle.lone_kernel.specs.Shown.{IsNextView}
-use Rattle.lone_kernel.proofs.OneStep.{fit_here}
-use Rattle.lone_kernel.proofs.Shown.{can_here, next_shown}
+use Rattle.lone_kernel.specs.{Machine.turn_of, Shown.IsNextView}
+use Rattle.lone_kernel.proofs.{OneStep.fit_here, Shown.can_here, Shown.next_shown, lone.LoneKernel.next_step.Goals.In-Some}
 use Rattle.lone_kernel.proofs.lone.LoneKernel.next_step.Goals as goal
-use Rattle.lone_kernel.proofs.lone.LoneKernel.next_step.Goals.{In-Some}
 
 at : (c : In-Some) → c.from-at.result < c.self.inside.setup.cores
 at c =

@@ -1,8 +1,5 @@
-use Rattle.std.proofs.Common.{ap, subst}
-use Rattle.spk_nums.specs.Setting.{IsSetting}
-use Rattle.lone_kernel.specs.Machine.{IsFit}
-use Rattle.lone_kernel.proofs.Advance.{stays_idle}
-use Rattle.lone_kernel.proofs.Shown.{tells_step}
+use Rattle.flight_laws.specs.flight.proofs.{ap, subst, IsSetting}
+use Rattle.{lone_kernel.specs.Machine.IsFit, lone_kernel.proofs.Advance.stays_idle, lone_kernel.proofs.Shown.tells_step}
 use Rattle.lone_kernel.proofs.lone.LoneKernel.step_told.Goals as goal
 
 pub returns-clause-tells : goal.returns-clause-tells

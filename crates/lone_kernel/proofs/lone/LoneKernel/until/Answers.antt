@@ -1,13 +1,10 @@
 use Rattle.std.proofs.Common.{◌≡◌, ℕ, ◌<◌, ◌≤◌, map, Some, refl, sym, ◌∙◌, ap, subst, arith, slice_set, sum_by, get_or}
+use Rattle.lone_kernel.specs.{seat_at, turn_at, turn_of, IsFitSeat, IsDone, GoesBy, calls_left, IsAt}
 use Rattle.std.proofs.lemmas.List.Sums.{sum_by-set}
-use Rattle.lone_kernel.specs.declared.seats.Seat.{Seat}
-use Rattle.lone_kernel.specs.Machine.{Machine, seat_at, turn_at, turn_of, IsFitSeat, IsDone}
-use Rattle.lone_kernel.specs.Moves.{GoesBy, calls_left}
-use Rattle.lone_kernel.specs.Items.{placed, IsAt, TakesItem}
-use Rattle.lone_kernel.proofs.OneStep.{seat_is, turn_here, fit_here, calls_here}
-use Rattle.lone_kernel.proofs.Fits.{IsOf, turn_is}
+use Rattle.lone_kernel.specs.{declared.seats.Seat.Seat, Machine.Machine, Items.placed, Items.TakesItem}
+use Rattle.lone_kernel.proofs.{OneStep.seat_is, OneStep.turn_here, OneStep.fit_here, OneStep.calls_here, Fits.IsOf, Fits.turn_is}
+use Rattle.lone_kernel.proofs.{lone.LoneKernel.until.Goals.In-Some, lone.LoneKernel.until.Goals.After-self-1}
 use Rattle.lone_kernel.proofs.lone.LoneKernel.until.Goals as goal
-use Rattle.lone_kernel.proofs.lone.LoneKernel.until.Goals.{In-Some, After-self-1}
 
 abbrev machine : In-Some → Machine
 machine c = record {

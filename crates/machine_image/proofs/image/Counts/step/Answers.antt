@@ -1,8 +1,6 @@
 use Rattle.std.proofs.Common.{sym, ap, ◌∙◌, arith}
-use Rattle.frame_words.specs.Count.{count_of_word}
-use Rattle.word_map.specs.Word.{CountAt}
-use Rattle.machine_image.specs.Views.{word_at}
 use Rattle.machine_image.proofs.Lists.{counts_end, counts_pass, counts_give}
+use Rattle.{frame_words.specs.Count.count_of_word, word_map.specs.Word.CountAt, machine_image.specs.Views.word_at}
 use Rattle.machine_image.proofs.image.Counts.step.Goals as goal
 
 pub returns-in-Some : goal.returns-in-Some

@@ -1,7 +1,6 @@
 use Rattle.std.proofs.Common.{sym, ap, ◌∙◌, arith}
-use Rattle.tcap_words.specs.Quality.{quality_of_word}
-use Rattle.machine_image.specs.Views.{listed}
 use Rattle.machine_image.proofs.Lists.{pairs_end, pairs_pass, pairs_give}
+use Rattle.{tcap_words.specs.Quality.quality_of_word, machine_image.specs.Views.listed}
 use Rattle.machine_image.proofs.objects.Qualities.step.Goals as goal
 
 pub returns-in-Some : goal.returns-in-Some

@@ -1,7 +1,6 @@
 use Rattle.std.proofs.Common.{sym, ap, ◌∙◌, arith}
-use Rattle.tcap_words.specs.Stack.{stack_of_word}
-use Rattle.machine_image.specs.Views.{stacked}
 use Rattle.machine_image.proofs.Lists.{stack_ends, stack_passes, stack_gives}
+use Rattle.{tcap_words.specs.Stack.stack_of_word, machine_image.specs.Views.stacked}
 use Rattle.machine_image.proofs.objects.Stack.step.Goals as goal
 
 pub returns-in-Some : goal.returns-in-Some

@@ -1,6 +1,5 @@
 use Rattle.std.proofs.Common.{◌≡◌, ◌<◌, ◌≤◌, ◌-◌, length}
-use Rattle.word_map.specs.Places.{size_of}
-use Rattle.machine_image.specs.Views.{stack_from}
+use Rattle.{word_map.specs.Places.size_of, machine_image.specs.Views.stack_from}
 use Rattle.machine_image.proofs.objects.Stack.step.Given as goal
 
 abbrev pub invariant-heights : goal.invariant-heights

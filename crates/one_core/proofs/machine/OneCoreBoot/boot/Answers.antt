@@ -1,8 +1,5 @@
-use Rattle.std.proofs.Common.{◌≡◌, ◌∙◌, ap}
-use Rattle.core_kernel.specs.kernel_history.specs.Trace.{calls_of, Trace}
-use Rattle.core_kernel.specs.Kernel.{KernelValue}
-use Rattle.spk_nums.specs.Setting.{Setting}
-use Rattle.one_core.proofs.Seats.{only_seat}
+use Rattle.core_kernel.specs.flight_laws.specs.flight.proofs.{◌≡◌, ◌∙◌, ap, calls_of, Trace, Setting}
+use Rattle.{core_kernel.specs.Kernel.KernelValue, one_core.proofs.Seats.only_seat}
 use Rattle.one_core.proofs.machine.OneCoreBoot.boot.Goals as goal
 
 pub invariant_of-result : goal.invariant_of-result

@@ -1,9 +1,6 @@
-use Rattle.std.proofs.Common.{◌≡◌, ◌∙◌, [], ◌∷◌, ◌++◌, ap, subst}
-use Rattle.core_kernel.specs.kernel_history.specs.Trace.{calls_of}
-use Rattle.core_kernel.specs.Kernel.{KernelValue, CoreSeatValue}
-use Rattle.sched_rules.specs.Schedule.{reply_to}
-use Rattle.sched_run.specs.fixed_prio.specs.Machines.{after_calls}
-use Rattle.one_core.proofs.Calls.{made_more, replied}
+use Rattle.core_kernel.specs.flight_laws.specs.flight.proofs.{◌≡◌, ◌∙◌, [], ◌∷◌, ◌++◌, ap, subst, calls_of}
+use Rattle.{core_kernel.specs.KernelValue, core_kernel.specs.CoreSeatValue, sched_start.specs.sched_rules.specs.Schedule.reply_to}
+use Rattle.{sched_run.specs.fixed_prio.specs.Machines.after_calls, one_core.proofs.Calls.made_more, one_core.proofs.Calls.replied}
 use Rattle.one_core.proofs.machine.OneCoreMachine.call.Goals as goal
 
 pub call-requires-clause-kernel : goal.call-requires-clause-kernel

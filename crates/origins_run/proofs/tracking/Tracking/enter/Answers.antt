@@ -1,5 +1,4 @@
-use Rattle.std.proofs.Common.{◌≡◌, ◌∙◌, Option, Some, ap, subst, sym, slice_set}
-use Rattle.spk_nums.specs.declared.calls.Call.{Call}
+use Rattle.told_run.specs.lone_kernel.specs.flight.proofs.{◌≡◌, ◌∙◌, Option, Some, ap, subst, sym, set as slice_set, Call}
 use Rattle.origins_run.specs.Tracked.{Tracked, EntersBy}
 use Rattle.origins_run.proofs.tracking.Tracking.enter.Goals as goal
 

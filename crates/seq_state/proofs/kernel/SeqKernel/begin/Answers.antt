@@ -1,7 +1,5 @@
-use Rattle.std.proofs.Common.{◌≤◌, arith}
-use Rattle.seq_state.specs.Parts.{thing_of}
-use Rattle.seq_state.specs.Maps.{state_of}
-use Rattle.seq_state.proofs.TimeLemmas.{begins}
+use Rattle.seq_state.specs.{◌≤◌, thing_of, state_of}
+use Rattle.{std.proofs.Common.arith, seq_state.proofs.TimeLemmas.begins}
 use Rattle.seq_state.proofs.kernel.SeqKernel.begin.Goals as goal
 
 pub set_period-requires-clause-begun : goal.set_period-requires-clause-begun

@@ -1,9 +1,6 @@
-use Rattle.std.proofs.Common.{◌≡◌, ap, subst, arith}
-use Rattle.seq_state.specs.declared.times.Period.{Period}
-use Rattle.seq_state.specs.Parts.{thing_of}
-use Rattle.seq_state.specs.Maps.{state_of, grace_from}
-use Rattle.seq_state.specs.Representation.{with_grace_of, SameState}
-use Rattle.seq_state.proofs.TimeLemmas.{clears}
+use Rattle.seq_state.specs.{◌≡◌, thing_of, state_of, grace_from, with_grace_of, SameState}
+use Rattle.std.proofs.Common.{ap, subst, arith}
+use Rattle.{seq_state.specs.declared.times.Period.Period, seq_state.proofs.TimeLemmas.clears}
 use Rattle.seq_state.proofs.kernel.SeqKernel.clear.Goals as goal
 
 pub set_period-requires-clause-begun : goal.set_period-requires-clause-begun

@@ -1,5 +1,4 @@
-use Rattle.std.proofs.Common.{ap, arith}
-use Rattle.kernel_rules.specs.State.{Limits}
+use Rattle.kernel_invariant.specs.kernel_rules.proofs.{ap, arith, Limits}
 use Rattle.seq_state.specs.Kernel.{maps_of}
 use Rattle.seq_state.proofs.MapLemmas as maps
 use Rattle.seq_state.proofs.kernel.SeqKernel.core.Goals as goal

@@ -1,5 +1,4 @@
-use Rattle.seq_state.specs.Kernel.{maps_of}
-use Rattle.seq_state.proofs.RankLemmas.{counted_anew, whole_anew}
+use Rattle.{seq_state.specs.Kernel.maps_of, seq_state.proofs.RankLemmas.counted_anew, seq_state.proofs.RankLemmas.whole_anew}
 use Rattle.seq_state.proofs.kernel.SeqKernel.count_anew.Goals as goal
 
 pub returns-clause-same : goal.returns-clause-same

@@ -1,6 +1,4 @@
-use Rattle.std.proofs.Common.{ap, sym, ◌∙◌}
-use Rattle.seq_state.specs.Maps.{frame_or_untyped}
-use Rattle.seq_state.specs.Kernel.{maps_of}
+use Rattle.{std.proofs.Common.ap, std.proofs.Common.sym, std.proofs.Common.◌∙◌, seq_state.specs.frame_or_untyped, seq_state.specs.maps_of}
 use Rattle.seq_state.proofs.MapLemmas as maps
 use Rattle.seq_state.proofs.kernel.SeqKernel.frame.Goals as goal
 

@@ -1,9 +1,7 @@
-use Rattle.std.proofs.Common.{◌<◌, subst, sym, ◌∙◌, ap, arith}
-use Rattle.kernel_rules.specs.State.{Limits}
-use Rattle.seq_state.specs.Maps.{Maps, state_of}
-use Rattle.seq_state.specs.Kernel.{maps_of}
+use Rattle.kernel_invariant.specs.kernel_rules.proofs.{◌<◌, subst, sym, ◌∙◌, ap, arith, Limits}
+use Rattle.{seq_state.specs.state_of, seq_state.specs.maps_of, seq_state.specs.Maps.Maps, seq_state.proofs.TimeLemmas.leave_done}
+use Rattle.{seq_state.proofs.TimeLemmas.leave_whole}
 use Rattle.seq_state.proofs.MapLemmas as maps
-use Rattle.seq_state.proofs.TimeLemmas.{leave_done, leave_whole}
 use Rattle.seq_state.proofs.kernel.SeqKernel.leave.Goals as goal
 
 pub returns : goal.returns

@@ -1,6 +1,5 @@
-use Rattle.std.proofs.Common.{◌&&◌, nat_lt, get_or, ◌∙◌, ap}
-use Rattle.seq_state.specs.Times.{no_times}
-use Rattle.seq_state.specs.Maps.{at, core_or_none}
+use Rattle.seq_state.specs.{◌&&◌, ltb as nat_lt, get_or, no_times, at, core_or_none}
+use Rattle.std.proofs.Common.{◌∙◌, ap}
 use Rattle.seq_state.proofs.kernel.SeqKernel.part.Goals as goal
 
 pub returns-clause-waits : goal.returns-clause-waits

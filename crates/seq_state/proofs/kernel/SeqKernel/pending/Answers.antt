@@ -1,5 +1,4 @@
-use Rattle.std.proofs.Common.{◌∙◌, ap}
-use Rattle.seq_state.specs.Maps.{state_of, grace_from}
+use Rattle.{seq_state.specs.state_of, seq_state.specs.grace_from, std.proofs.Common.◌∙◌, std.proofs.Common.ap}
 use Rattle.seq_state.proofs.kernel.SeqKernel.pending.Goals as goal
 
 pub returns-clause-waits : goal.returns-clause-waits

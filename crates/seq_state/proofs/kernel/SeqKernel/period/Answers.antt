@@ -1,7 +1,7 @@
 use Rattle.seq_state.specs.Kernel.{maps_of}
+use Rattle.seq_state.proofs.kernel.SeqKernel.period.Goals.{in-PlaceOf, in-FrameOf, in-NumberOf}
 use Rattle.seq_state.proofs.MapLemmas as maps
 use Rattle.seq_state.proofs.kernel.SeqKernel.period.Goals as goal
-use Rattle.seq_state.proofs.kernel.SeqKernel.period.Goals.{in-PlaceOf, in-FrameOf, in-NumberOf}
 
 pub returns : goal.returns
 returns c = rw (← c.self.view_is, c.unwrap_or.ensures) (elim c.match-thing.branch [

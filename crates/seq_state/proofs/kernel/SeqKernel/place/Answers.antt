@@ -1,5 +1,4 @@
-use Rattle.std.proofs.Common.{refl}
-use Rattle.seq_state.specs.Kernel.{maps_of}
+use Rattle.seq_state.specs.{refl, maps_of}
 use Rattle.seq_state.proofs.MapLemmas as maps
 use Rattle.seq_state.proofs.kernel.SeqKernel.place.Goals as goal
 

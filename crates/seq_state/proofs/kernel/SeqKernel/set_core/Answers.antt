@@ -1,8 +1,5 @@
-use Rattle.std.proofs.Common.{◌<◌, sym, ◌∙◌, ap, subst, arith}
-use Rattle.kernel_rules.specs.State.{Limits}
-use Rattle.kernel_rules.specs.References.{core_names}
-use Rattle.seq_state.specs.Maps.{Maps, state_of}
-use Rattle.seq_state.specs.Kernel.{maps_of}
+use Rattle.kernel_invariant.specs.kernel_rules.proofs.{◌<◌, sym, ◌∙◌, ap, subst, arith, Limits, core_names}
+use Rattle.{seq_state.specs.state_of, seq_state.specs.maps_of, seq_state.specs.Maps.Maps}
 use Rattle.seq_state.proofs.MapLemmas as maps
 use Rattle.seq_state.proofs.SetterLemmas as setters
 use Rattle.seq_state.proofs.kernel.SeqKernel.set_core.Goals as goal

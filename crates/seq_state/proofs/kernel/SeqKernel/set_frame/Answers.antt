@@ -1,11 +1,6 @@
-use Rattle.std.proofs.Common.{◌∙◌, ap, arith}
-use Rattle.kernel_rules.specs.State.{Limits}
-use Rattle.kernel_rules.specs.References.{frame_names}
-use Rattle.seq_state.specs.Parts.{frame_of}
-use Rattle.seq_state.specs.Maps.{NamesFew}
-use Rattle.seq_state.specs.Kernel.{maps_of}
+use Rattle.seq_state.specs.{Limits, frame_names, frame_of, NamesFew, maps_of}
+use Rattle.{std.proofs.Common.◌∙◌, std.proofs.Common.ap, std.proofs.Common.arith, seq_state.proofs.Same.same_by}
 use Rattle.seq_state.proofs.MapLemmas as maps
-use Rattle.seq_state.proofs.Same.{same_by}
 use Rattle.seq_state.proofs.SetLemmas as sets
 use Rattle.seq_state.proofs.SetterLemmas as setters
 use Rattle.seq_state.proofs.kernel.SeqKernel.set_frame.Goals as goal

@@ -1,8 +1,5 @@
-use Rattle.std.proofs.Common.{◌∙◌, ap, arith}
-use Rattle.kernel_rules.specs.References.{number_names}
-use Rattle.seq_state.specs.Parts.{number_of}
-use Rattle.seq_state.specs.Kernel.{maps_of}
-use Rattle.seq_state.proofs.Same.{same_by}
+use Rattle.kernel_invariant.specs.kernel_rules.proofs.{◌∙◌, ap, arith, number_names}
+use Rattle.{seq_state.specs.number_of, seq_state.specs.maps_of, seq_state.proofs.Same.same_by}
 use Rattle.seq_state.proofs.SetLemmas as sets
 use Rattle.seq_state.proofs.SetterLemmas as setters
 use Rattle.seq_state.proofs.kernel.SeqKernel.set_number.Goals as goal

@@ -1,6 +1,5 @@
 use Rattle.std.proofs.Common.{◌≤◌, sym, subst}
-use Rattle.seq_state.specs.Maps.{Maps}
-use Rattle.seq_state.specs.Kernel.{maps_of}
+use Rattle.seq_state.specs.{Maps.Maps, Kernel.maps_of}
 use Rattle.seq_state.proofs.SetLemmas as sets
 use Rattle.seq_state.proofs.SetterLemmas as setters
 use Rattle.seq_state.proofs.kernel.SeqKernel.set_period.Goals as goal

@@ -1,10 +1,6 @@
-use Rattle.std.proofs.Common.{◌∙◌, ap, arith}
-use Rattle.kernel_rules.specs.State.{Limits}
-use Rattle.kernel_rules.specs.References.{place_names}
-use Rattle.seq_state.specs.Parts.{place_held}
-use Rattle.seq_state.specs.Kernel.{maps_of}
+use Rattle.kernel_invariant.specs.kernel_rules.proofs.{◌∙◌, ap, arith, Limits, place_names}
+use Rattle.{seq_state.specs.place_held, seq_state.specs.maps_of, seq_state.proofs.Same.same_by}
 use Rattle.seq_state.proofs.MapLemmas as maps
-use Rattle.seq_state.proofs.Same.{same_by}
 use Rattle.seq_state.proofs.SetLemmas as sets
 use Rattle.seq_state.proofs.SetterLemmas as setters
 use Rattle.seq_state.proofs.kernel.SeqKernel.set_place.Goals as goal

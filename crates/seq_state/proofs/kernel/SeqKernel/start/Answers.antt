@@ -1,5 +1,4 @@
-use Rattle.std.proofs.Common.{refl, arith}
-use Rattle.seq_state.proofs.StartLemmas.{starts, whole_start}
+use Rattle.{std.proofs.Common.refl, std.proofs.Common.arith, seq_state.proofs.StartLemmas.starts, seq_state.proofs.StartLemmas.whole_start}
 use Rattle.seq_state.proofs.kernel.SeqKernel.start.Goals as goal
 
 pub returns : goal.returns

@@ -1,9 +1,6 @@
-use Rattle.std.proofs.Common.{arith, ◌+◌, refl, sym, subst}
-use Rattle.seq_state.specs.Maps.{state_of}
-use Rattle.seq_state.specs.Kernel.{maps_of}
-use Rattle.seq_state.specs.Representation.{SameState}
-use Rattle.seq_state.proofs.Same.{same_then}
-use Rattle.seq_state.proofs.TimeLemmas.{same_later, all_before, whole_later}
+use Rattle.seq_state.specs.{◌+◌, refl, state_of, maps_of, SameState}
+use Rattle.std.proofs.Common.{arith, sym, subst}
+use Rattle.seq_state.proofs.{Same.same_then, TimeLemmas.same_later, TimeLemmas.all_before, TimeLemmas.whole_later}
 use Rattle.seq_state.proofs.kernel.SeqKernel.tick.Goals as goal
 
 pub returns-clause-same : goal.returns-clause-same

@@ -1,7 +1,5 @@
-use Rattle.std.proofs.Common.{◌<◌, ◌∙◌, ap, arith}
-use Rattle.spk_nums.specs.CoreSets.{has_core}
-use Rattle.seq_state.specs.Maps.{state_of, grace_from}
-use Rattle.seq_state.proofs.TimeLemmas.{put_on}
+use Rattle.kernel_invariant.specs.kernel_rules.proofs.{◌<◌, ◌∙◌, ap, arith, has_core}
+use Rattle.{seq_state.specs.state_of, seq_state.specs.grace_from, seq_state.proofs.TimeLemmas.put_on}
 use Rattle.seq_state.proofs.kernel.SeqKernel.unflushed.Goals as goal
 
 pub each-preserved : goal.each-preserved

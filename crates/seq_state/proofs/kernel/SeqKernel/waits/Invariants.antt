@@ -1,6 +1,4 @@
-use Rattle.std.proofs.Common.{◌≡◌, ℕ, ◌<◌}
-use Rattle.spk_nums.specs.CoreSets.{has_core}
-use Rattle.seq_state.specs.Maps.{grace_from}
+use Rattle.{seq_state.specs.◌≡◌, seq_state.specs.ℕ, seq_state.specs.◌<◌, seq_state.specs.grace_from, spk_nums.specs.CoreSets.has_core}
 use Rattle.seq_state.proofs.kernel.SeqKernel.waits.Given as goal
 
 abbrev pub invariant-each : goal.invariant-each

@@ -1,5 +1,4 @@
-use Rattle.std.proofs.Common.{arith}
-use Rattle.seq_state.proofs.StackLemmas.{removed, depth_of}
+use Rattle.{std.proofs.Common.arith, seq_state.proofs.StackLemmas.removed, seq_state.proofs.StackLemmas.depth_of}
 use Rattle.seq_state.proofs.stack.Stack.pop.Goals as goal
 
 pub invariant_of-self : goal.invariant_of-self

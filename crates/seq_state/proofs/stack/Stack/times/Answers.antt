@@ -1,5 +1,4 @@
-use Rattle.std.proofs.Common.{◌≡◌, take, arith, ap, sym, ◌∙◌}
-use Rattle.kernel_rules.specs.References.{times}
+use Rattle.kernel_invariant.specs.kernel_rules.proofs.{◌≡◌, take, arith, ap, sym, ◌∙◌, times}
 use Rattle.seq_state.proofs.StackLemmas.{times_reverse}
 use Rattle.seq_state.proofs.stack.Stack.times.Goals as goal
 

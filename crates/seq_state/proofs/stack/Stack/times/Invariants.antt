@@ -1,5 +1,4 @@
-use Rattle.std.proofs.Common.{◌≡◌, ◌≤◌, take}
-use Rattle.kernel_rules.specs.References.{times}
+use Rattle.kernel_invariant.specs.kernel_rules.specs.{◌≡◌, ◌≤◌, take, times}
 use Rattle.seq_state.proofs.stack.Stack.times.Given as goal
 
 abbrev pub invariant-each : goal.invariant-each

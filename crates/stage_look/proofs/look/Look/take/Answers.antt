@@ -1,7 +1,5 @@
-use Rattle.std.proofs.Common.{◌≡◌}
-use Rattle.stage_look.specs.Shown.{shown_in}
-use Rattle.stage_look.specs.Lookup.{look_end, look_after}
-use Rattle.stage_look.proofs.LookLemmas.{shown_names, after_fits, end_fits}
+use Rattle.{stage_look.specs.shown_in, stage_look.specs.look_end, stage_look.specs.look_after, std.proofs.Common.◌≡◌}
+use Rattle.{stage_look.proofs.LookLemmas.shown_names, stage_look.proofs.LookLemmas.after_fits, stage_look.proofs.LookLemmas.end_fits}
 use Rattle.stage_look.proofs.look.Look.take.Goals as goal
 
 pub returns-clause-fits : goal.returns-clause-fits

@@ -1,6 +1,4 @@
-use Rattle.std.proofs.Common.{◌≡◌}
-use Rattle.stage_pins.specs.Acquire.{pin_after}
-use Rattle.stage_pins.proofs.PinLemmas.{after_fits}
+use Rattle.{std.proofs.Common.◌≡◌, stage_pins.specs.Acquire.pin_after, stage_pins.proofs.PinLemmas.after_fits}
 use Rattle.stage_pins.proofs.pin.Pin.take.Goals as goal
 
 pub returns-clause-fits : goal.returns-clause-fits

@@ -1,5 +1,4 @@
-use Rattle.std.proofs.Common.{rules}
-use Rattle.stage_sweep.proofs.CountLemmas.{filled}
+use Rattle.{std.proofs.Common.rules, stage_sweep.proofs.CountLemmas.filled}
 use Rattle.stage_sweep.proofs.count_words.CountWords.add.Goals as goal
 
 pub invariant_of-self : goal.invariant_of-self

@@ -1,5 +1,4 @@
-use Rattle.std.proofs.Common.{sym, ap, ◌∙◌, arith}
-use Rattle.std.specs.Prelude.{slice_get}
+use Rattle.std.proofs.Common.{sym, ap, ◌∙◌, arith, slice_get}
 use Rattle.stage_sweep.proofs.CountLemmas.{cell_fits, past_none}
 use Rattle.stage_sweep.proofs.count_words.CountWords.get.Goals as goal
 

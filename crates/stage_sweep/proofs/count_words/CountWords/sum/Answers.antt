@@ -1,6 +1,4 @@
-use Rattle.std.proofs.Common.{arith}
-use Rattle.std.proofs.lemmas.Int.{ints, to_z-of_z}
-use Rattle.std.proofs.lemmas.List.Sums.{fold_more}
+use Rattle.std.proofs.{Common.arith, lemmas.Int.ints, lemmas.Int.to_z-of_z, lemmas.List.Sums.fold_more}
 use Rattle.stage_sweep.proofs.count_words.CountWords.sum.Goals as goal
 
 pub loop-word-preserved : goal.loop-word-preserved

@@ -1,5 +1,5 @@
 use Rattle.std.proofs.Common.{◌≡◌, ◌++◌, ◌∷◌, [], ap, sym, ◌∙◌, Some}
-use Rattle.stage_sweep.specs.Freeze.{frozen_at, kept_with}
+use Rattle.stage_sweep.specs.{frozen_at, kept_with}
 use Rattle.stage_sweep.proofs.SweepLemmas.{room_for, added_so}
 use Rattle.stage_sweep.proofs.sweep.Sweep.keep.Goals as goal
 

@@ -1,7 +1,6 @@
 use Rattle.std.proofs.Common.{rules, ◌≡◌, sym, ◌∙◌}
-use Rattle.stage_sweep.specs.Freeze.{sweep_after, sweep_end}
-use Rattle.stage_sweep.specs.declared.sweep.Sweep.{Sweep}
-use Rattle.stage_sweep.proofs.SweepLemmas.{keep_fits, sweep_after_fits}
+use Rattle.{stage_sweep.specs.sweep_after, stage_sweep.specs.sweep_end, stage_sweep.specs.declared.sweep.Sweep.Sweep}
+use Rattle.{stage_sweep.proofs.SweepLemmas.keep_fits, stage_sweep.proofs.SweepLemmas.sweep_after_fits}
 use Rattle.stage_sweep.proofs.sweep.Sweep.take.Goals as goal
 
 pub keep-requires : goal.keep-requires

@@ -1,6 +1,4 @@
-use Rattle.std.proofs.Common.{◌≡◌}
-use Rattle.stage_tcap.specs.Charging.{charge_after}
-use Rattle.stage_tcap.proofs.PairLemmas.{charge_after_fits}
+use Rattle.{stage_tcap.specs.◌≡◌, stage_tcap.specs.charge_after, stage_tcap.proofs.PairLemmas.charge_after_fits}
 use Rattle.stage_tcap.proofs.charge.Charge.take.Goals as goal
 
 pub returns-clause-fits : goal.returns-clause-fits

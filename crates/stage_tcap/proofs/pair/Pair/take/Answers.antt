@@ -1,7 +1,5 @@
-use Rattle.std.proofs.Common.{rules, ◌≡◌}
-use Rattle.stage_tcap.specs.Pairs.{pair_after}
-use Rattle.stage_tcap.specs.declared.pair.Pair.{Pair}
 use Rattle.stage_tcap.proofs.PairLemmas.{head_a_fits, head_b_fits, pair_after_fits}
+use Rattle.{stage_tcap.specs.◌≡◌, stage_tcap.specs.pair_after, std.proofs.Common.rules, stage_tcap.specs.declared.pair.Pair.Pair}
 use Rattle.stage_tcap.proofs.pair.Pair.take.Goals as goal
 
 pub end-end-requires-clause-a : goal.end-end-requires-clause-a

@@ -1,7 +1,5 @@
-use Rattle.std.proofs.Common.{rules, ◌≡◌}
-use Rattle.stage_tcap.specs.Refilling.{refill_after}
-use Rattle.stage_tcap.specs.declared.refill.Refill.{Refill}
-use Rattle.stage_tcap.proofs.RefillLemmas.{refill_head_fits, refill_after_fits}
+use Rattle.{stage_tcap.specs.◌≡◌, stage_tcap.specs.refill_after, std.proofs.Common.rules, stage_tcap.specs.declared.refill.Refill.Refill}
+use Rattle.{stage_tcap.proofs.RefillLemmas.refill_head_fits, stage_tcap.proofs.RefillLemmas.refill_after_fits}
 use Rattle.stage_tcap.proofs.refill.Refill.take.Goals as goal
 
 pub end-end-requires : goal.end-end-requires

@@ -1,6 +1,4 @@
-use Rattle.std.proofs.Common.{◌≡◌}
-use Rattle.stage_thread.specs.Living.{alive_after}
-use Rattle.stage_thread.proofs.ThreadLemmas.{alive_after_fits}
+use Rattle.{std.proofs.Common.◌≡◌, stage_thread.specs.Living.alive_after, stage_thread.proofs.ThreadLemmas.alive_after_fits}
 use Rattle.stage_thread.proofs.alive.Alive.take.Goals as goal
 
 pub returns-clause-fits : goal.returns-clause-fits

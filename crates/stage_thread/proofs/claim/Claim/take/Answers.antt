@@ -1,6 +1,4 @@
-use Rattle.std.proofs.Common.{◌≡◌}
-use Rattle.stage_thread.specs.Claiming.{claim_after}
-use Rattle.stage_thread.proofs.ThreadLemmas.{claim_after_fits}
+use Rattle.{std.proofs.Common.◌≡◌, stage_thread.specs.Claiming.claim_after, stage_thread.proofs.ThreadLemmas.claim_after_fits}
 use Rattle.stage_thread.proofs.claim.Claim.take.Goals as goal
 
 pub returns-clause-fits : goal.returns-clause-fits

@@ -1,7 +1,5 @@
-use Rattle.std.proofs.Common.{◌∙◌, ap}
-use Rattle.trace_lines.specs.Traces.{step_told}
-use Rattle.trace_lines.specs.Views.{view_text, made_lines}
-use Rattle.trace_run.proofs.Finish.{writes_next}
+use Rattle.trace_lines.specs.{step_told, view_text, made_lines}
+use Rattle.{std.proofs.Common.◌∙◌, std.proofs.Common.ap, trace_run.proofs.Finish.writes_next}
 use Rattle.trace_run.proofs.writing.WritingWatcher.tell.Goals as goal
 
 pub returns : goal.returns

@@ -1,5 +1,5 @@
+use Rattle.turn_rule.specs.{SeatValue, FollowsTrace, Turns, TurnsOn}
 use Rattle.std.proofs.Common.{◌≡◌, ℕ, Some}
-use Rattle.turn_rule.specs.Seats.{SeatValue, FollowsTrace, Turns, TurnsOn}
 use Rattle.turn_rule.proofs.table.TurnTable.call.Given as goal
 
 abbrev pub invariant-loop : goal.invariant-loop

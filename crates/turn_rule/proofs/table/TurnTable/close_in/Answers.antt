@@ -1,9 +1,6 @@
 use Rattle.std.proofs.Common.{rules, arith, ◌≡◌, ◌<◌, ℕ, List, [], length, get_or, refl, sym, ap, ◌∙◌, subst}
-use Rattle.turn_rule.specs.declared.view.Start.{Start}
-use Rattle.turn_rule.specs.Positions.{SpreadValue, position}
-use Rattle.turn_rule.specs.Rule.{start_of, part, view, Kept}
-use Rattle.turn_rule.proofs.Views.{comes}
-use Rattle.turn_rule.proofs.AllSeats.{ends}
+use Rattle.turn_rule.specs.{SpreadValue, position, start_of, part, Kept, declared.view.Start.Start, Rule.view}
+use Rattle.turn_rule.proofs.{Views.comes, AllSeats.ends}
 use Rattle.turn_rule.proofs.table.TurnTable.close_in.Goals as goal
 
 pub load_new_seat-requires : goal.load_new_seat-requires

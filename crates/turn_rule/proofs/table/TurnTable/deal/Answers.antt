@@ -1,14 +1,9 @@
 use Rattle.std.proofs.Common.{rules, ◌≡◌, ◌+◌, ◌<◌, ℕ, [], length, slice_get, Some, refl, sym, ap, ◌∙◌, subst, map-id}
-use Rattle.std.proofs.lemmas.Option.{slice_get_read}
-use Rattle.std.proofs.lemmas.List.{length_push}
-use Rattle.std.proofs.lemmas.List.Elements.{All-get_or}
-use Rattle.std.proofs.lemmas.Iterator.Consumers.{YieldsList-turn, YieldsList-end}
-use Rattle.std.proofs.lemmas.Iterator.Adapters.{YieldsList-from_vec}
-use Rattle.turn_rule.specs.declared.view.Part.{Part}
-use Rattle.turn_rule.specs.Rule.{view, part, first_core, other_cores}
-use Rattle.turn_rule.specs.Seats.{SeatValue}
-use Rattle.turn_rule.proofs.Views.{deals}
-use Rattle.turn_rule.proofs.AllSeats.{each_pushed, dealt}
+use Rattle.std.proofs.{lemmas.Option.slice_get_read, lemmas.List.length_push, lemmas.List.Elements.All-get_or}
+use Rattle.std.proofs.{lemmas.Iterator.Consumers.YieldsList-turn, lemmas.Iterator.Consumers.YieldsList-end}
+use Rattle.turn_rule.specs.{declared.view.Part.Part, Rule.view, Rule.first_core, Rule.other_cores}
+use Rattle.turn_rule.proofs.{Views.deals, AllSeats.each_pushed, AllSeats.dealt}
+use Rattle.{turn_rule.specs.part, turn_rule.specs.SeatValue, std.proofs.lemmas.Iterator.Adapters.YieldsList-from_vec}
 use Rattle.turn_rule.proofs.table.TurnTable.deal.Goals as goal
 
 pub split_seat-seat-requires : goal.split_seat-seat-requires

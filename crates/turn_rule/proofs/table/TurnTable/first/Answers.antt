@@ -1,6 +1,5 @@
 use Rattle.std.proofs.Common.{Some, sym, ap, ◌∙◌, subst}
-use Rattle.turn_rule.specs.Trace.{MayCall}
-use Rattle.turn_rule.proofs.Keeps.{seated_on}
+use Rattle.{turn_rule.specs.Trace.MayCall, turn_rule.proofs.Keeps.seated_on}
 use Rattle.turn_rule.proofs.table.TurnTable.first.Goals as goal
 
 pub invariant_of-seat : goal.invariant_of-seat

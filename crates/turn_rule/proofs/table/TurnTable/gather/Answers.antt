@@ -1,12 +1,8 @@
 use Rattle.std.proofs.Common.{rules, arith, true, ◌≡◌, ◌+◌, ◌≤◌, ℕ, [], ◌∷◌, ◌++◌, length, Some, refl, sym, ap, ◌∙◌, subst}
-use Rattle.std.proofs.lemmas.Option.{slice_get_read, slice_get_within}
-use Rattle.std.proofs.lemmas.List.{length_push}
-use Rattle.std.proofs.lemmas.Iterator.Consumers.{YieldsList-turn}
-use Rattle.std.proofs.lemmas.Iterator.Adapters.{YieldsList-from_vec}
-use Rattle.turn_rule.specs.declared.view.View.{View}
-use Rattle.turn_rule.specs.Trace.{program_after}
-use Rattle.turn_rule.specs.Rule.{part, Gathers, Stays, Begins}
-use Rattle.turn_rule.specs.Seats.{SeatValue}
+use Rattle.turn_rule.specs.{program_after, part, Stays, Begins, SeatValue}
+use Rattle.std.proofs.{lemmas.Option.slice_get_read, lemmas.Option.slice_get_within, lemmas.List.length_push}
+use Rattle.std.proofs.{lemmas.Iterator.Consumers.YieldsList-turn, lemmas.Iterator.Adapters.YieldsList-from_vec}
+use Rattle.turn_rule.specs.{declared.view.View.View, Rule.Gathers}
 use Rattle.turn_rule.proofs.Views.{takes, gathers_all}
 use Rattle.turn_rule.proofs.AllSeats.{each_pushed, begins_as, begins_on, gathered_on}
 use Rattle.turn_rule.proofs.table.TurnTable.gather.Goals as goal

@@ -1,6 +1,5 @@
 use Rattle.std.proofs.Common.{◌≡◌, ◌+◌, ◌≤◌, ℕ, length, slice_get, Some, vec_capacity}
-use Rattle.turn_rule.specs.Trace.{program_after}
-use Rattle.turn_rule.specs.Rule.{part, Stays, Begins}
+use Rattle.turn_rule.specs.{program_after, part, Stays, Begins}
 use Rattle.turn_rule.proofs.table.TurnTable.gather.Given as goal
 
 abbrev pub invariant-loop-one : goal.invariant-loop-one

@@ -1,7 +1,6 @@
 use Rattle.std.proofs.Common.{length, sym, ap, ◌∙◌}
 use Rattle.spk_nums.specs.declared.steps.WordOp.TheVariants.{Load, Compare, Store, Add}
-use Rattle.turn_rule.specs.Rule.{start_of}
-use Rattle.turn_rule.proofs.Keeps.{made_on}
+use Rattle.{turn_rule.specs.Rule.start_of, turn_rule.proofs.Keeps.made_on}
 use Rattle.turn_rule.proofs.table.TurnTable.make.Goals as goal
 
 pub load-requires : goal.load-requires

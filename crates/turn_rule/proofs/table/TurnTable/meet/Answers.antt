@@ -1,6 +1,5 @@
 use Rattle.std.proofs.Common.{true, ◌≡◌, subst, sym, ap, ◌∙◌}
-use Rattle.turn_rule.specs.declared.view.View.{View}
-use Rattle.turn_rule.specs.Rule.{Gathers}
+use Rattle.turn_rule.specs.{declared.view.View.View, Rule.Gathers}
 use Rattle.turn_rule.proofs.Views.{takes, meets, met_on}
 use Rattle.turn_rule.proofs.table.TurnTable.meet.Goals as goal
 

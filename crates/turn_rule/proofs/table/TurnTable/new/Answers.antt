@@ -1,8 +1,6 @@
 use Rattle.std.proofs.Common.{rules, arith, ◌≡◌, ◌<◌, ℕ, List, length, sym, ap, ◌∙◌, subst}
-use Rattle.turn_rule.specs.Positions.{position, IsLaid}
-use Rattle.turn_rule.specs.Rule.{start_of}
-use Rattle.turn_rule.proofs.Positions.{position_within}
-use Rattle.turn_rule.proofs.Views.{begins}
+use Rattle.{turn_rule.specs.position, turn_rule.specs.start_of, turn_rule.specs.Positions.IsLaid}
+use Rattle.{turn_rule.proofs.Positions.position_within, turn_rule.proofs.Views.begins}
 use Rattle.turn_rule.proofs.table.TurnTable.new.Goals as goal
 
 pub of_words-requires : goal.of_words-requires

@@ -1,5 +1,4 @@
-use Rattle.std.proofs.Common.{sym, ap, ◌∙◌}
-use Rattle.turn_rule.proofs.Views.{notes}
+use Rattle.{std.proofs.Common.sym, std.proofs.Common.ap, std.proofs.Common.◌∙◌, turn_rule.proofs.Views.notes}
 use Rattle.turn_rule.proofs.table.TurnTable.split.Goals as goal
 
 pub split_seat-requires : goal.split_seat-requires

@@ -1,5 +1,4 @@
-use Rattle.std.proofs.Common.{None, sym, ◌∙◌}
-use Rattle.turn_rule.proofs.Keeps.{seated_on}
+use Rattle.{std.proofs.Common.None, std.proofs.Common.sym, std.proofs.Common.◌∙◌, turn_rule.proofs.Keeps.seated_on}
 use Rattle.turn_rule.proofs.table.TurnTable.turn.Goals as goal
 
 pub invariant_of-seat : goal.invariant_of-seat

@@ -1,5 +1,4 @@
-use Rattle.std.proofs.Common.{subst}
-use Rattle.world_parts.specs.Partitions.{IsParts}
+use Rattle.{std.proofs.Common.subst, world_parts.specs.Partitions.IsParts}
 use Rattle.world_parts.proofs.parts.Parts.first.Goals as goal
 
 pub returns : goal.returns

@@ -1,6 +1,5 @@
 use Rattle.std.proofs.Common.{◌≡◌, ◌<◌, ◌⊎◌, inl, inr, refl, sym, ◌∙◌, ap, subst, arith, List, ℕ}
-use Rattle.world_parts.specs.Partitions.{world_in, Joins}
-use Rattle.world_parts.proofs.JoinLaws.{joined_after}
+use Rattle.{world_parts.specs.world_in, world_parts.specs.Joins, world_parts.proofs.JoinLaws.joined_after}
 use Rattle.world_parts.proofs.parts.Parts.join.Goals as goal
 
 pub returns-then-first-second : goal.returns-then-first-second
