@@ -11,17 +11,5 @@ pub mod Charging
 pub mod Restoring
 pub mod Exactly
 pub mod Working
-pub mod Jobs
-pub mod Counting
-pub mod Highest
-pub mod Above
-pub mod Pausing
-pub mod Loads
-pub mod Periodic
-pub mod OnTime
-pub mod Lists
-pub mod Returning
-pub mod Supplying
-pub mod Sufficing
 -- The names that are used most outside of this library.
 pub use Rattle.sched_laws.proofs.{Picks.place_of, Turns.come_at}

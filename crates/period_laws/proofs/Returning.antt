@@ -1,17 +1,18 @@
 -- A budget of a task's own comes back.
-use Rattle.sched_laws.proofs as low
-use low.Common.{◌≡◌, ◌≢◌, inl, inr, ℕ, ◌+◌, ◌-◌, Bool, true, false, refl, sym, ◌∙◌, ap, subst, arith, if◌then◌else◌, List, [], ◌∷◌, Option}
-use low.Common.{Some, None, slice_set, slice_get, option_map, IsTrue, option_and_then, cases_eq, slice_get-map, Capability, has_rights}
-use low.Common.{State, Slot, Want, only, to_use, usable, reached, own, Found, named, of_kind, with_rights, and_then, or_refuse, fits}
-use low.Common.{tcap_at, Task, Rule, Job, Choice, Renewal, Back, Progress, Step, reach, chosen, length_of, turn_of, begun, refused}
-use low.Common.{gives_back, put_out, replenish_for, new_job, at_first, IsSchedule, Kind, Reply}
-use Rattle.sched_laws.specs.{Throughout, Charges, TurnsCharge, IsOwn, LacksUsed}
-use Rattle.sched_rules.specs.kernel_rules.specs.Rules.{Refused}
-use Rattle.sched_laws.specs.Charging.{ChargesNothing, Restores, TurnCharges}
-use Rattle.sched_laws.specs.Budgets.{LeadsTo, IsWholeAfter, OwnBudgetReturns}
-use low.{Picks.best, Picks.place_of, Readiness.ready_tells, Turns.Way, Turns.Runs, Turns.Refuses, Turns.Idles, Turns.Begins, Turns.Lacks}
-use low.{Turns.RunsOne, Turns.BeginsOne, Turns.way, Turns.come_at, Weights.set_here, Weights.set_apart, Exactly.exact_ticks, Jobs.the_job}
-use low.{OnTime.is_of, OnTime.comes_by, Pausing.Kept, Pausing.kept_on, Pausing.kept_first, Lists.turn_keeps}
+use Rattle.sched_laws.proofs.Common.{◌≡◌, ◌≢◌, inl, inr, ℕ, ◌+◌, ◌-◌, Bool, true, false, refl, sym, ◌∙◌, ap, subst, arith, if◌then◌else◌}
+use Rattle.sched_laws.proofs.Common.{List, [], ◌∷◌, Option, Some, None, slice_set, slice_get, option_map, IsTrue, option_and_then, cases_eq}
+use Rattle.sched_laws.proofs.Common.{slice_get-map, Capability, has_rights, State, Slot, Want, only, to_use, usable, reached, own, Found}
+use Rattle.sched_laws.proofs.Common.{named, of_kind, with_rights, and_then, or_refuse, fits, tcap_at, Task, Rule, Job, Choice, Renewal}
+use Rattle.sched_laws.proofs.Common.{Back, Progress, Step, reach, chosen, length_of, turn_of, begun, refused, gives_back, put_out}
+use Rattle.sched_laws.proofs.Common.{replenish_for, new_job, at_first, IsSchedule, Kind, Reply}
+use Rattle.sched_laws.specs.sched_rules.specs.kernel_rules.specs.Rules.{Refused}
+use Rattle.sched_laws.specs.{Throughout, Charges, TurnsCharge, Charging.ChargesNothing, Charging.Restores, Charging.TurnCharges}
+use Rattle.sched_laws.proofs.{Picks.best, Picks.place_of, Readiness.ready_tells, Turns.Way, Turns.Runs, Turns.Refuses, Turns.Idles}
+use Rattle.sched_laws.proofs.{Turns.Begins, Turns.Lacks, Turns.RunsOne, Turns.BeginsOne, Turns.way, Turns.come_at, Weights.set_here}
+use Rattle.sched_laws.proofs.{Weights.set_apart, Exactly.exact_ticks}
+use Rattle.period_laws.specs.Budgets.{IsOwn, LacksUsed, LeadsTo, IsWholeAfter, OwnBudgetReturns}
+use Rattle.period_laws.proofs.{Jobs.the_job, OnTime.is_of, OnTime.comes_by, Pausing.Kept, Pausing.kept_on, Pausing.kept_first}
+use Rattle.period_laws.proofs.{Lists.turn_keeps}
 
 -- ---- where names lead
 

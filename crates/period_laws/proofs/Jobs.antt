@@ -1,14 +1,17 @@
 -- The jobs of a task with a period, as they arrive.
-use Rattle.sched_laws.proofs as low
-use low.Common.{◌≡◌, ◌≢◌, inl, inr, ℕ, zero, suc, ◌+◌, ◌*◌, ◌-◌, ◌<◌, ◌≤◌, min, Bool, true, false, not, ◌&&◌, refl, sym, ◌∙◌, ap, subst}
-use low.Common.{arith, suc-mul, one-mul, nat_le, nat_lt, if◌then◌else◌, List, [], ◌∷◌, Option, Some, None, slice_set, slice_get, option_map}
-use low.Common.{cases_lt, cases_eq, eq-eqb, ne_eqb, leb-true, le-leb, lt-leb, le-ltb, and_parts, false≢true, slice_get-map, Reply, State}
-use low.Common.{Task, Rule, Job, Choice, Renewal, Ran, Back, Refused, Progress, Step, later, sooner, next_arrival, length_of, turn_of}
-use low.Common.{within_last, job_after, next_of, has_come, is_renewed, renewal, begun, ran, refused, gives_back, put_out, replenish_for}
-use low.Common.{new_job, at_first, ran_in, come_in}
-use low.{Picks.place_of, Arriving.IsBefore, Arriving.before_each, Arriving.later_is, Arriving.cut_by, Arriving.not_before, Turns.Way}
-use low.{Turns.Runs, Turns.Refuses, Turns.Idles, Turns.Begins, Turns.Lacks, Turns.RunsOne, Turns.IdlesOn, Turns.BeginsOne, Turns.way}
-use low.{Turns.come_at, Weights.set_here, Weights.set_apart, Bound.length_most}
+use Rattle.sched_laws.proofs.Common.{◌≡◌, ◌≢◌, inl, inr, ℕ, zero, suc, ◌+◌, ◌*◌, ◌-◌, ◌<◌, ◌≤◌, min, Bool, true, false, not, ◌&&◌, refl}
+use Rattle.sched_laws.proofs.Common.{sym, ◌∙◌, ap, subst, arith, nat_le, nat_lt, if◌then◌else◌, List, [], ◌∷◌, Option, Some, None}
+use Rattle.sched_laws.proofs.Common.{slice_set, slice_get, option_map, cases_lt, cases_eq, eq-eqb, ne_eqb, leb-true, le-leb, lt-leb, le-ltb}
+use Rattle.sched_laws.proofs.Common.{and_parts, false≢true, slice_get-map, Reply, State, Task, Rule, Job, Choice, Renewal, Ran, Back}
+use Rattle.sched_laws.proofs.Common.{Refused, Progress, Step, later, sooner, next_arrival, length_of, turn_of, job_after, has_come}
+use Rattle.sched_laws.proofs.Common.{is_renewed, renewal, begun, ran, refused, gives_back, put_out, replenish_for, new_job, at_first}
+use Rattle.sched_laws.proofs.Common.{ran_in, come_in}
+use Rattle.std.proofs.Common.{suc-mul, one-mul}
+use Rattle.sched_laws.specs.sched_rules.specs.{Schedule.within_last, next_of}
+use Rattle.sched_laws.proofs.{Picks.place_of, Arriving.IsBefore, Arriving.before_each, Arriving.later_is, Arriving.cut_by}
+use Rattle.sched_laws.proofs.{Arriving.not_before, Turns.Way, Turns.Runs, Turns.Refuses, Turns.Idles, Turns.Begins, Turns.Lacks}
+use Rattle.sched_laws.proofs.{Turns.RunsOne, Turns.IdlesOn, Turns.BeginsOne, Turns.way, Turns.come_at, Weights.set_here, Weights.set_apart}
+use Rattle.sched_laws.proofs.{Bound.length_most}
 
 pub the_job : (a b : Job) → Some a ≡ Some b → a ≡ b
 the_job a b e = cc

@@ -1,12 +1,15 @@
 -- The work that the tasks that come before one ask for up to a time.
 use Rattle.sched_laws.proofs.Common.{◌≡◌, ◌≢◌, inl, inr, ℕ, zero, suc, ◌+◌, ◌*◌, ◌-◌, ◌<◌, ◌≤◌, Bool, true, false, not, ◌&&◌, ◌==◌, refl}
-use Rattle.sched_laws.proofs.Common.{sym, ◌∙◌, ap, subst, arith, mul-le-mul_right, zero-mul, nat_le, nat_lt, if◌then◌else◌, List, [], ◌∷◌}
-use Rattle.sched_laws.proofs.Common.{map, Option, Some, None, slice_set, slice_get, IfSome, div_ceil, cases_lt, ltb-true, leb-true}
-use Rattle.sched_laws.proofs.Common.{eqb-true, eq-eqb, ne_eqb, or_cases, and_parts, and_from, false≢true, div_ceil_times, Task, Job}
-use Rattle.sched_laws.proofs.Common.{PeriodFits, TaskFits, job_after, next_of, begun}
-use Rattle.sched_laws.specs.{ComesFirst, is_not_after, is_above, work_above}
-use Rattle.sched_laws.specs.Periods.{jobs_in}
-use Rattle.sched_laws.proofs.{Jobs.the_job, Jobs.times_next, Weights.first_not_after}
+use Rattle.sched_laws.proofs.Common.{sym, ◌∙◌, ap, subst, arith, nat_le, nat_lt, if◌then◌else◌, List, [], ◌∷◌, map, Option, Some, None}
+use Rattle.sched_laws.proofs.Common.{slice_set, slice_get, cases_lt, ltb-true, leb-true, eqb-true, eq-eqb, ne_eqb, and_parts, and_from}
+use Rattle.sched_laws.proofs.Common.{false≢true, Task, Job, job_after, begun}
+use Rattle.std.{proofs.Common.mul-le-mul_right, proofs.Common.zero-mul, specs.Prelude.IfSome, specs.Int.div_ceil}
+use Rattle.std.{proofs.lemmas.Bool.or_cases, proofs.lemmas.Grind.div_ceil_times}
+use Rattle.sched_laws.specs.sched_rules.specs.{PeriodFits, TaskFits, next_of}
+use Rattle.sched_laws.specs.{ComesFirst, is_not_after}
+use Rattle.sched_laws.proofs.{Weights.first_not_after}
+use Rattle.period_laws.specs.Periods.{is_above, work_above, jobs_in}
+use Rattle.period_laws.proofs.{Jobs.the_job, Jobs.times_next}
 
 -- ---- rounding up
 

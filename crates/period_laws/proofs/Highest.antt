@@ -1,14 +1,17 @@
 -- A job of a task that no other comes before is done within its work of ticks.
-use Rattle.sched_laws.proofs.Common.{◌≡◌, inl, inr, ℕ, ◌+◌, ◌*◌, ◌<◌, ◌≤◌, min, refl, sym, ap, subst, arith, zero-mul, if◌then◌else◌, List}
-use Rattle.sched_laws.proofs.Common.{[], ◌∷◌, Option, Some, None, IsSome, cases_lt, cases_eq, eq-eqb, ne_eqb, false≢true, Task, Rule, Ready}
-use Rattle.sched_laws.proofs.Common.{Choice, Renewal, Ran, Back, Progress, Step, ready, next_arrival, length_of, turn_of, renewal, at_first}
+use Rattle.sched_laws.proofs.Common.{◌≡◌, inl, inr, ℕ, ◌+◌, ◌*◌, ◌<◌, ◌≤◌, min, refl, sym, ap, subst, arith, if◌then◌else◌, List, [], ◌∷◌}
+use Rattle.sched_laws.proofs.Common.{Option, Some, None, IsSome, cases_lt, cases_eq, eq-eqb, ne_eqb, false≢true, Task, Rule, Ready, Choice}
+use Rattle.sched_laws.proofs.Common.{Renewal, Ran, Back, Progress, Step, ready, next_arrival, length_of, turn_of, renewal, at_first}
 use Rattle.sched_laws.proofs.Common.{IsSchedule, ran, refused, gives_back, put_out, replenish_for, ran_in, come_in}
+use Rattle.std.proofs.Common.{zero-mul}
+use Rattle.sched_laws.specs.{Throughout, IsSupplied, NeverRefused}
 use Rattle.sched_laws.proofs.{Picks.best, Picks.none_ready, Picks.place_of, Picks.first_of_all, Arriving.IsBefore, Arriving.cut_by}
 use Rattle.sched_laws.proofs.{Arriving.due_is, Turns.Way, Turns.Runs, Turns.Refuses, Turns.Idles, Turns.Begins, Turns.Lacks, Turns.RunsOne}
-use Rattle.sched_laws.proofs.{Turns.way, Turns.ends, Jobs.Follows, Jobs.FollowsOn, Jobs.follows_on, Jobs.follows_first, Jobs.first_left}
-use Rattle.sched_laws.proofs.{Jobs.begins_at, Jobs.not_first, Jobs.not_past, Jobs.none_left, Jobs.times_next, Counting.Tracks}
-use Rattle.{sched_laws.specs.Throughout, sched_laws.specs.IsSupplied, sched_laws.specs.NeverRefused, sched_laws.specs.Periods.IsHighest}
-use Rattle.{sched_laws.specs.Periods.HighestIsDone, sched_laws.proofs.Counting.Tracked, sched_laws.proofs.Counting.done_by}
+use Rattle.sched_laws.proofs.{Turns.way, Turns.ends}
+use Rattle.period_laws.specs.Periods.{IsHighest, HighestIsDone}
+use Rattle.period_laws.proofs.{Jobs.Follows, Jobs.FollowsOn, Jobs.follows_on, Jobs.follows_first, Jobs.first_left, Jobs.begins_at}
+use Rattle.period_laws.proofs.{Jobs.not_first, Jobs.not_past, Jobs.none_left, Jobs.times_next, Counting.Tracks, Counting.Tracked}
+use Rattle.period_laws.proofs.{Counting.done_by}
 
 none_some : {A B : Type 0} (o : Option A) → o ≡ None → IsSome o → B
 none_some None e h = absurd (false≢true h)

@@ -1,9 +1,10 @@
 -- When further jobs of tasks arrive.
-use Rattle.sched_rules.specs as low
 use Rattle.std.specs.Prelude.{◌≡◌, ◌≤◌, ℕ, ◌+◌, ◌*◌, ◌==◌, Bool, false, ◌||◌, List, [], ◌∷◌, ◌++◌, slice_get, Some}
-use low.{declared.tasks.Task.Task, declared.tasks.Rule.Rule, declared.turns.Turn.Turn, declared.turns.Turn.TheVariants.Ran}
-use low.{Step, at_first, turns_of, IsSchedule, come_by, kernel_rules.specs.State.State, declared.turns.Turn.TheVariants.Idle}
-use low.{declared.turns.Turn.TheVariants.Back, declared.turns.Turn.TheVariants.Refused}
+use Rattle.sched_laws.specs.sched_rules.specs.{declared.tasks.Task.Task, declared.tasks.Rule.Rule, declared.turns.Turn.Turn}
+use Rattle.sched_laws.specs.sched_rules.specs.{declared.turns.Turn.TheVariants.Ran, Step, at_first, turns_of, IsSchedule, come_by}
+use Rattle.sched_laws.specs.sched_rules.specs.{declared.turns.Turn.TheVariants.Idle, declared.turns.Turn.TheVariants.Back}
+use Rattle.sched_laws.specs.sched_rules.specs.{declared.turns.Turn.TheVariants.Refused}
+use Rattle.sched_laws.specs.sched_rules.specs.kernel_rules.specs.State.{State}
 
 -- When a turn begins.
 abbrev pub begins_at : Turn → ℕ

@@ -1,11 +1,11 @@
 -- A temporal capability of a task's own, and how its budget comes back.
-use Rattle.sched_rules.specs.kernel_rules.specs.{◌≡◌, ◌≢◌, ◌≤◌, ℕ, ◌+◌, ◌*◌, true, List, [], ◌∷◌, slice_get, Some, IsSome, IsTrue, All}
-use Rattle.sched_rules.specs.kernel_rules.specs.{Capability, number_of, only, fits, tcap_at, Kind}
-use Rattle.sched_rules.specs.{Progress, Step, TaskFits, reach, at_first, turns_of, IsSchedule}
-use Rattle.sched_rules.specs.{declared.tasks.Task.Task, declared.tasks.Rule.Rule, declared.tasks.Job.Job}
+use Rattle.sched_laws.specs.sched_rules.specs.kernel_rules.specs.{◌≡◌, ◌≢◌, ◌≤◌, ℕ, ◌+◌, ◌*◌, true, List, [], ◌∷◌, slice_get, Some, IsSome}
+use Rattle.sched_laws.specs.sched_rules.specs.kernel_rules.specs.{IsTrue, All, Capability, number_of, only, fits, tcap_at, Kind}
+use Rattle.sched_laws.specs.sched_rules.specs.{Progress, Step, TaskFits, reach, at_first, turns_of, IsSchedule, declared.tasks.Task.Task}
+use Rattle.sched_laws.specs.sched_rules.specs.{declared.tasks.Rule.Rule, declared.tasks.Job.Job, declared.turns.Turn.TheVariants.Back}
+use Rattle.sched_laws.specs.sched_rules.specs.kernel_rules.specs.State.{State}
 use Rattle.sched_laws.specs.Response.{Throughout, HasNumbers, IsSupplied, NeverRefused, is_not_after}
-use Rattle.sched_laws.specs.Periods.{ran_until, work_above}
-use Rattle.{sched_rules.specs.kernel_rules.specs.State.State, sched_rules.specs.declared.turns.Turn.TheVariants.Back}
+use Rattle.period_laws.specs.Periods.{ran_until, work_above}
 
 -- A name of core 0 leads to the temporal capability in a frame.
 pub record LeadsTo (s : State) (name f : ℕ) : Type 0 where

@@ -1,12 +1,15 @@
 -- When a job of a task with a period is done.
 use Rattle.std.specs.Prelude.{◌≡◌, ◌≤◌, ℕ, ◌+◌, ◌-◌, ◌*◌, ◌==◌, min, Bool, true, not, ◌&&◌, if◌then◌else◌, List, [], ◌∷◌, slice_get, Option}
 use Rattle.std.specs.Prelude.{Some, None, All}
-use Rattle.sched_rules.specs.{Progress, Step, TaskFits, ready, at_first, turns_of, IsSchedule}
-use Rattle.sched_rules.specs.{declared.tasks.Task.Task, declared.tasks.Rule.Rule, declared.tasks.Job.Job, declared.tasks.Ready.Ready}
-use Rattle.sched_rules.specs.{declared.turns.Turn.Turn, declared.turns.Turn.TheVariants.Ran, declared.turns.Turn.TheVariants.Idle}
-use Rattle.sched_rules.specs.{declared.turns.Turn.TheVariants.Back, declared.turns.Turn.TheVariants.Refused}
+use Rattle.std.specs.Int.{div_ceil}
+use Rattle.sched_laws.specs.sched_rules.specs.{Progress, Step, TaskFits, ready, at_first, turns_of, IsSchedule, declared.tasks.Task.Task}
+use Rattle.sched_laws.specs.sched_rules.specs.{declared.tasks.Rule.Rule, declared.tasks.Job.Job, declared.tasks.Ready.Ready}
+use Rattle.sched_laws.specs.sched_rules.specs.{declared.turns.Turn.Turn, declared.turns.Turn.TheVariants.Ran}
+use Rattle.sched_laws.specs.sched_rules.specs.{declared.turns.Turn.TheVariants.Idle, declared.turns.Turn.TheVariants.Back}
+use Rattle.sched_laws.specs.sched_rules.specs.{declared.turns.Turn.TheVariants.Refused}
+use Rattle.sched_laws.specs.sched_rules.specs.kernel_rules.specs.State.{State}
 use Rattle.sched_laws.specs.Response.{Throughout, HasNumbers, IsSupplied, NeverRefused, is_not_after}
-use Rattle.{std.specs.Int.div_ceil, sched_rules.specs.kernel_rules.specs.State.State, sched_laws.specs.Least.ComesFirst}
+use Rattle.sched_laws.specs.Least.{ComesFirst}
 
 -- The ticks that a task, counted from 1, ran before a time.
 abbrev pub ran_before : ℕ → ℕ → Turn → ℕ

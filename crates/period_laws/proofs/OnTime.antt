@@ -1,15 +1,19 @@
 -- Further jobs of tasks arrive when they are due.
-use Rattle.sched_laws.proofs as low
-use low.Common.{◌≡◌, inl, inr, ℕ, ◌+◌, ◌*◌, ◌-◌, ◌<◌, ◌≤◌, min, Bool, true, false, ◌||◌, ◌==◌, refl, sym, ◌∙◌, ap, subst, arith, one-mul}
-use low.Common.{List, [], ◌∷◌, ◌++◌, Option, Some, None, slice_set, if◌then◌else◌, slice_get, option_map, cases_lt, cases_eq, eq-eqb}
-use low.Common.{ne_eqb, true≢false, slice_get-map, State, Task, Rule, Job, Choice, Renewal, Turn, Ran, Idle, Back, Refused, Progress, Step}
-use low.Common.{next_arrival, length_of, turn_of, within_last, job_after, next_of, begun, new_job, at_first, turns_of, IsSchedule, renewal}
-use low.Common.{ran, refused, gives_back, put_out, replenish_for, come_in, come_by}
-use Rattle.sched_laws.specs.Arrivals.{begins_at, refuses, is_refused, NextDue, ArriveOnTime}
-use low.{Picks.place_of, Arriving.IsBefore, Arriving.before_each, Arriving.later_is, Arriving.cut_by, Turns.Way, Turns.Runs, Turns.Refuses}
-use low.{Turns.Idles, Turns.Begins, Turns.Lacks, Turns.RunsOne, Turns.IdlesOn, Turns.BeginsOne, Turns.way, Turns.ends, Turns.come_at}
-use low.{Weights.set_here, Weights.set_apart, Jobs.the_job, Jobs.has_come_of, Jobs.later_next, Jobs.within_is, Jobs.within_tells}
-use low.{Jobs.times_next, Pausing.Kept, Pausing.kept_on, Pausing.kept_first}
+use Rattle.sched_laws.proofs.Common.{◌≡◌, inl, inr, ℕ, ◌+◌, ◌*◌, ◌-◌, ◌<◌, ◌≤◌, min, Bool, true, false, ◌==◌, refl, sym, ◌∙◌, ap, subst}
+use Rattle.sched_laws.proofs.Common.{arith, List, [], ◌∷◌, ◌++◌, Option, Some, None, slice_set, if◌then◌else◌, slice_get, option_map}
+use Rattle.sched_laws.proofs.Common.{cases_lt, cases_eq, eq-eqb, ne_eqb, true≢false, slice_get-map, State, Task, Rule, Job, Choice, Renewal}
+use Rattle.sched_laws.proofs.Common.{Ran, Idle, Back, Refused, Progress, Step, next_arrival, length_of, turn_of, job_after, begun, new_job}
+use Rattle.sched_laws.proofs.Common.{at_first, turns_of, IsSchedule, renewal, ran, refused, gives_back, put_out, replenish_for, come_in}
+use Rattle.sched_laws.proofs.Common.{come_by}
+use Rattle.std.specs.Prelude.{◌||◌}
+use Rattle.std.proofs.Common.{one-mul}
+use Rattle.sched_laws.specs.sched_rules.specs.{declared.turns.Turn.Turn, Schedule.within_last, next_of}
+use Rattle.sched_laws.proofs.{Picks.place_of, Arriving.IsBefore, Arriving.before_each, Arriving.later_is, Arriving.cut_by, Turns.Way}
+use Rattle.sched_laws.proofs.{Turns.Runs, Turns.Refuses, Turns.Idles, Turns.Begins, Turns.Lacks, Turns.RunsOne, Turns.IdlesOn}
+use Rattle.sched_laws.proofs.{Turns.BeginsOne, Turns.way, Turns.ends, Turns.come_at, Weights.set_here, Weights.set_apart}
+use Rattle.period_laws.specs.Arrivals.{begins_at, refuses, is_refused, NextDue, ArriveOnTime}
+use Rattle.period_laws.proofs.{Jobs.the_job, Jobs.has_come_of, Jobs.later_next, Jobs.within_is, Jobs.within_tells, Jobs.times_next}
+use Rattle.period_laws.proofs.{Pausing.Kept, Pausing.kept_on, Pausing.kept_first}
 
 -- ---- when the next job is due
 

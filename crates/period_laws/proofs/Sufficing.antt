@@ -1,15 +1,20 @@
 -- Budgets of their own are enough for tasks that have a bound.
-use Rattle.sched_laws.proofs.Common.{◌≡◌, ◌≢◌, ℕ, ◌+◌, ◌*◌, ◌≤◌, Bool, true, false, ◌||◌, refl, sym, ◌∙◌, ap, subst, arith, List, [], ◌∷◌}
-use Rattle.sched_laws.proofs.Common.{Some, IsSome, slice_get, eq-eqb, or_parts, true≢false, number_of, Reply, State, tcap_at, Task, Rule}
-use Rattle.sched_laws.proofs.Common.{Job, Renewal, Turn, Refused, Progress, Step, TaskFits, renewal, turn_of, at_first, IsSchedule, ran_in}
-use Rattle.sched_laws.specs.{Throughout, HasNumbers, IsSupplied, is_not_after, IsOwn, LacksUsed, Arrivals.refuses, Budgets.IsBound}
-use Rattle.sched_laws.proofs.{Arriving.due_tells, Weights.first_not_after, Jobs.Follows, Jobs.follows_on, Jobs.follows_first}
-use Rattle.sched_laws.proofs.{Jobs.begins_at, Jobs.none_left, Jobs.the_job, Jobs.times_next, Above.not_after_tells, Pausing.Kept}
-use Rattle.sched_laws.proofs.{Pausing.kept_on, Pausing.kept_first, Loads.Load, Loads.loaded_on, Periodic.load_first, Periodic.each_fits}
-use Rattle.sched_laws.proofs.{Periodic.periodic_bound, OnTime.Expects, OnTime.expects_on, OnTime.expects_first, OnTime.comes_by}
-use Rattle.sched_laws.proofs.{OnTime.comes_now, OnTime.is_of, Lists.turn_keeps, Returning.own_budget_returns, Returning.first_of_all}
-use Rattle.sched_laws.proofs.{Supplying.IsOneJob, Supplying.FindsNone, Supplying.one_job_on, Supplying.first_job, Supplying.has_list}
-use Rattle.{sched_laws.proofs.Common.come_in, sched_laws.specs.Budgets.OwnBudgetsSuffice, sched_laws.proofs.Supplying.supplied}
+use Rattle.sched_laws.proofs.Common.{◌≡◌, ◌≢◌, ℕ, ◌+◌, ◌*◌, ◌≤◌, Bool, true, false, refl, sym, ◌∙◌, ap, subst, arith, List, [], ◌∷◌, Some}
+use Rattle.sched_laws.proofs.Common.{IsSome, slice_get, eq-eqb, true≢false, number_of, Reply, State, tcap_at, Task, Rule, Job, Renewal}
+use Rattle.sched_laws.proofs.Common.{Refused, Progress, Step, renewal, turn_of, at_first, IsSchedule, ran_in, come_in}
+use Rattle.std.specs.Prelude.{◌||◌}
+use Rattle.std.proofs.lemmas.Bool.{or_parts}
+use Rattle.sched_laws.specs.sched_rules.specs.{declared.turns.Turn.Turn, TaskFits}
+use Rattle.sched_laws.specs.{Throughout, HasNumbers, IsSupplied, is_not_after}
+use Rattle.sched_laws.proofs.{Arriving.due_tells, Weights.first_not_after}
+use Rattle.period_laws.specs.Budgets.{IsOwn, LacksUsed, IsBound, OwnBudgetsSuffice}
+use Rattle.period_laws.specs.Arrivals.{refuses}
+use Rattle.period_laws.proofs.{Jobs.Follows, Jobs.follows_on, Jobs.follows_first, Jobs.begins_at, Jobs.none_left, Jobs.the_job}
+use Rattle.period_laws.proofs.{Jobs.times_next, Above.not_after_tells, Pausing.Kept, Pausing.kept_on, Pausing.kept_first, Loads.Load}
+use Rattle.period_laws.proofs.{Loads.loaded_on, Periodic.load_first, Periodic.each_fits, Periodic.periodic_bound, OnTime.Expects}
+use Rattle.period_laws.proofs.{OnTime.expects_on, OnTime.expects_first, OnTime.comes_by, OnTime.comes_now, OnTime.is_of, Lists.turn_keeps}
+use Rattle.period_laws.proofs.{Returning.own_budget_returns, Returning.first_of_all, Supplying.IsOneJob, Supplying.FindsNone}
+use Rattle.period_laws.proofs.{Supplying.one_job_on, Supplying.first_job, Supplying.has_list, Supplying.supplied}
 
 -- What is not after a task that is not after another is not after that one.
 not_after_both : (numbers : ℕ → ℕ) (i k q : ℕ) → is_not_after numbers i k ≡ true → is_not_after numbers k q ≡ true

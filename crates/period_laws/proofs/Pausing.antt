@@ -1,15 +1,17 @@
 -- What holds of all tasks in a schedule, and what those above one ask for after a turn in which none of them was due.
 use Rattle.sched_laws.proofs.Common.{◌≡◌, inl, inr, ℕ, zero, suc, ◌+◌, ◌-◌, ◌<◌, ◌≤◌, min, Bool, true, false, refl, sym, ◌∙◌, ap, subst}
 use Rattle.sched_laws.proofs.Common.{arith, List, [], ◌∷◌, map, Option, Some, None, slice_set, slice_get, option_map, cases_lt, cases_eq}
-use Rattle.sched_laws.proofs.Common.{slice_get-map, State, Task, Rule, Job, Choice, Renewal, Progress, Step, TaskFits, is_due, later}
-use Rattle.sched_laws.proofs.Common.{sooner, next_arrival, cut_at, length_of, turn_of, job_after, renewal, begun, new_job, at_first, ran}
-use Rattle.sched_laws.proofs.Common.{refused, gives_back, put_out, replenish_for}
-use Rattle.sched_laws.specs.{is_above, work_above}
+use Rattle.sched_laws.proofs.Common.{slice_get-map, State, Task, Rule, Job, Choice, Renewal, Progress, Step, is_due, later, sooner}
+use Rattle.sched_laws.proofs.Common.{next_arrival, cut_at, length_of, turn_of, job_after, renewal, begun, new_job, at_first, ran, refused}
+use Rattle.sched_laws.proofs.Common.{gives_back, put_out, replenish_for}
+use Rattle.sched_laws.specs.sched_rules.specs.{TaskFits}
 use Rattle.sched_laws.proofs.{Picks.best, Picks.place_of, Arriving.IsBefore, Arriving.later_is, Arriving.due_is, Arriving.due_tells}
 use Rattle.sched_laws.proofs.{Readiness.ready_tells, Turns.Way, Turns.Runs, Turns.Refuses, Turns.Idles, Turns.Begins, Turns.Lacks}
-use Rattle.sched_laws.proofs.{Turns.RunsOne, Turns.IdlesOn, Turns.way, Turns.come_at, Weights.set_here, Weights.set_apart, Jobs.the_job}
-use Rattle.sched_laws.proofs.{Jobs.has_come_of, Jobs.later_next, Jobs.idles_on, Jobs.within_tells, Jobs.none_come, Jobs.none_left}
-use Rattle.sched_laws.proofs.{Above.IsFrom, Above.Quiet, Above.Out, Above.Done, Above.New, Above.left_above, Above.quiet_all}
+use Rattle.sched_laws.proofs.{Turns.RunsOne, Turns.IdlesOn, Turns.way, Turns.come_at, Weights.set_here, Weights.set_apart}
+use Rattle.period_laws.specs.Periods.{is_above, work_above}
+use Rattle.period_laws.proofs.{Jobs.the_job, Jobs.has_come_of, Jobs.later_next, Jobs.idles_on, Jobs.within_tells, Jobs.none_come}
+use Rattle.period_laws.proofs.{Jobs.none_left, Above.IsFrom, Above.Quiet, Above.Out, Above.Done, Above.New, Above.left_above}
+use Rattle.period_laws.proofs.{Above.quiet_all}
 
 -- ---- all tasks
 

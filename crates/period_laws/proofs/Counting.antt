@@ -1,10 +1,11 @@
 -- What a task with a period has run by a time, where each of its jobs is done within so many ticks.
 use Rattle.sched_laws.proofs.Common.{◌≡◌, inl, inr, ℕ, ◌+◌, ◌*◌, ◌-◌, ◌<◌, ◌≤◌, min, Bool, true, false, ◌==◌, refl, ◌∙◌, ap, subst, arith}
-use Rattle.sched_laws.proofs.Common.{mul-le-mul_right, mul-zero, if◌then◌else◌, List, [], ◌∷◌, Some, cases_lt, Task, Rule, Progress, Step}
-use Rattle.sched_laws.proofs.Common.{length_of, turn_of, turns_of, IsSchedule, ran_in, come_in}
-use Rattle.sched_laws.specs.Periods.{ran_before, ran_until}
-use Rattle.sched_laws.proofs.Turns.{Way, Runs, Refuses, Idles, Begins, Lacks, way}
-use Rattle.sched_laws.proofs.Jobs.{Follows, idles_on, none_left, times_next}
+use Rattle.sched_laws.proofs.Common.{if◌then◌else◌, List, [], ◌∷◌, Some, cases_lt, Task, Rule, Progress, Step, length_of, turn_of, turns_of}
+use Rattle.sched_laws.proofs.Common.{IsSchedule, ran_in, come_in}
+use Rattle.std.proofs.Common.{mul-le-mul_right, mul-zero}
+use Rattle.sched_laws.proofs.{Turns.Way, Turns.Runs, Turns.Refuses, Turns.Idles, Turns.Begins, Turns.Lacks, Turns.way}
+use Rattle.period_laws.specs.Periods.{ran_before, ran_until}
+use Rattle.period_laws.proofs.{Jobs.Follows, Jobs.idles_on, Jobs.none_left, Jobs.times_next}
 
 -- ---- one turn
 

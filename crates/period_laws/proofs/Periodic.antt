@@ -1,13 +1,16 @@
 -- The response bound of tasks with periods.
-use Rattle.sched_laws.proofs.Common.{◌≡◌, inl, inr, ℕ, zero, suc, ◌+◌, ◌*◌, ◌<◌, ◌≤◌, true, refl, sym, ap, subst, arith, zero-mul, one-mul}
-use Rattle.sched_laws.proofs.Common.{List, [], ◌∷◌, map, Some, slice_get, All, cases_lt, slice_get_within, get_or_from_slice_get, State}
-use Rattle.sched_laws.proofs.Common.{Task, Rule, Job, Progress, Step, TaskFits, ready, at_first, new_job, IsSchedule, ran_in, come_in}
-use Rattle.sched_laws.specs.{Throughout, HasNumbers, IsSupplied, NeverRefused, is_not_after, work_above}
-use Rattle.sched_laws.specs.Periods.{PeriodicBound}
-use Rattle.sched_laws.proofs.{Picks.none_ready, Arriving.IsBefore, Arriving.due_is, Turns.ends, Weights.not_after_itself, Jobs.Follows}
-use Rattle.sched_laws.proofs.{Jobs.follows_on, Jobs.follows_first, Jobs.not_first, Jobs.not_past, Jobs.none_left, Jobs.the_job}
-use Rattle.sched_laws.proofs.{Counting.Tracked, Counting.done_by, Above.Quiet, Above.New, Above.quiet_all, Pausing.Kept, Pausing.kept_on}
-use Rattle.sched_laws.proofs.{Pausing.kept_first, Loads.Load, Loads.load_anew, Loads.loaded_on, Loads.none_some}
+use Rattle.sched_laws.proofs.Common.{◌≡◌, inl, inr, ℕ, zero, suc, ◌+◌, ◌*◌, ◌<◌, ◌≤◌, true, refl, sym, ap, subst, arith, List, [], ◌∷◌, map}
+use Rattle.sched_laws.proofs.Common.{Some, slice_get, cases_lt, State, Task, Rule, Job, Progress, Step, ready, at_first, new_job}
+use Rattle.sched_laws.proofs.Common.{IsSchedule, ran_in, come_in}
+use Rattle.std.{proofs.Common.zero-mul, proofs.Common.one-mul, specs.Prelude.All, proofs.lemmas.Option.slice_get_within}
+use Rattle.std.{proofs.lemmas.Option.get_or_from_slice_get}
+use Rattle.sched_laws.specs.sched_rules.specs.{TaskFits}
+use Rattle.sched_laws.specs.{Throughout, HasNumbers, IsSupplied, NeverRefused, is_not_after}
+use Rattle.sched_laws.proofs.{Picks.none_ready, Arriving.IsBefore, Arriving.due_is, Turns.ends, Weights.not_after_itself}
+use Rattle.period_laws.specs.Periods.{work_above, PeriodicBound}
+use Rattle.period_laws.proofs.{Jobs.Follows, Jobs.follows_on, Jobs.follows_first, Jobs.not_first, Jobs.not_past, Jobs.none_left}
+use Rattle.period_laws.proofs.{Jobs.the_job, Counting.Tracked, Counting.done_by, Above.Quiet, Above.New, Above.quiet_all, Pausing.Kept}
+use Rattle.period_laws.proofs.{Pausing.kept_on, Pausing.kept_first, Loads.Load, Loads.load_anew, Loads.loaded_on, Loads.none_some}
 
 module _ (rule : Rule) (numbers : ℕ → ℕ) (i : ℕ) (task : Task) (period ticks : ℕ) (tasks : List Task)
     (enough : task.work + work_above numbers i ticks 0 tasks ≤ ticks) (own : task.period ≡ Some period) (short : ticks ≤ period)

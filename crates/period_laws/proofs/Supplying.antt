@@ -4,12 +4,13 @@ use Rattle.sched_laws.proofs.Common.{◌∷◌, Option, Some, None, IsSome, slic
 use Rattle.sched_laws.proofs.Common.{false≢true, slice_get-map, number_of, Frame, Kernel, Tcap, TcapFields, State, tcap_in, fits, tcap_at}
 use Rattle.sched_laws.proofs.Common.{Task, Rule, Job, Choice, Renewal, Back, Progress, Step, reach, with_number, time_in, time_of, is_due}
 use Rattle.sched_laws.proofs.Common.{ready, length_of, turn_of, begun, ran, refused, gives_back, put_out, replenish_for, new_job, at_first}
-use Rattle.sched_laws.specs.{Throughout, IsSupplied, IsOwn, LacksUsed}
-use Rattle.sched_laws.specs.Budgets.{LeadsTo, DoneByNext, OwnBudgetSupplies}
+use Rattle.sched_laws.proofs.Common.{IsSchedule, Kind}
+use Rattle.sched_laws.specs.{Throughout, IsSupplied}
 use Rattle.sched_laws.proofs.{Picks.place_of, Arriving.due_tells, Turns.Way, Turns.Runs, Turns.Refuses, Turns.Idles, Turns.Begins}
-use Rattle.sched_laws.proofs.{Turns.Lacks, Turns.way, Turns.come_at, Weights.set_here, Weights.set_apart, Bound.length_most, Jobs.the_job}
-use Rattle.sched_laws.proofs.{OnTime.is_of, Pausing.Kept, Pausing.kept_on, Pausing.kept_first, Lists.turn_keeps}
-use Rattle.{sched_laws.proofs.Common.IsSchedule, sched_laws.proofs.Common.Kind, sched_laws.proofs.Returning.own_budget_returns}
+use Rattle.sched_laws.proofs.{Turns.Lacks, Turns.way, Turns.come_at, Weights.set_here, Weights.set_apart, Bound.length_most}
+use Rattle.period_laws.specs.Budgets.{IsOwn, LacksUsed, LeadsTo, DoneByNext, OwnBudgetSupplies}
+use Rattle.period_laws.proofs.{Jobs.the_job, OnTime.is_of, Pausing.Kept, Pausing.kept_on, Pausing.kept_first, Lists.turn_keeps}
+use Rattle.period_laws.proofs.{Returning.own_budget_returns}
 
 -- ---- what a task has left of its last job
 

@@ -2,12 +2,13 @@
 use Rattle.sched_laws.proofs.Common.{◌≡◌, ℕ, ◌+◌, ◌-◌, Bool, true, false, ◌==◌, refl, sym, ◌∙◌, subst, if◌then◌else◌, List, [], ◌∷◌, ◌++◌}
 use Rattle.sched_laws.proofs.Common.{Option, Some, None, eqb-true, Capability, Call, Switch, Tick, Replenish, Reply, ThreadFields}
 use Rattle.sched_laws.proofs.Common.{TcapFields, Frame, Kernel, Thread, Tcap, State, tcap_in, thread_in, put, found, entered, Change}
-use Rattle.sched_laws.proofs.Common.{Judged, Found, fits, switch_to, switch_rule, tick_rule, replenish_rule, with_thread, running, switched}
-use Rattle.sched_laws.proofs.Common.{tcap_at, with_tcap, with_budget, charge, change_of, changed, owed_by, state_by, plain_reply, IfFound}
-use Rattle.sched_laws.proofs.Common.{AllChanges, outcome_all, Rule, Choice, Renewal, Progress, Step, chosen, next_arrival, length_of}
-use Rattle.sched_laws.proofs.Common.{reply_to, state_past, is_done, refused, ran, ticks, switches as switches_turn, switch_for, goes_on}
-use Rattle.sched_laws.proofs.Common.{runs, idles, turn_by, turn_of, renewal, put_out, gives_back, renews, replenish_for, turn_for, Kind}
-use Rattle.sched_rules.specs.kernel_rules.specs.Rules.{Refused}
+use Rattle.sched_laws.proofs.Common.{Judged, Found, fits, switch_to, switch_rule, with_thread, running, switched, tcap_at, with_tcap}
+use Rattle.sched_laws.proofs.Common.{charge, change_of, changed, state_by, plain_reply, IfFound, AllChanges, outcome_all, Rule, Choice}
+use Rattle.sched_laws.proofs.Common.{Renewal, Progress, Step, chosen, next_arrival, length_of, reply_to, state_past, is_done, refused, ran}
+use Rattle.sched_laws.proofs.Common.{ticks, switches as switches_turn, switch_for, goes_on, runs, idles, turn_by, turn_of, renewal, put_out}
+use Rattle.sched_laws.proofs.Common.{gives_back, renews, replenish_for, turn_for, Kind}
+use Rattle.sched_laws.specs.sched_rules.specs.kernel_rules.specs.{TimeCalls.tick_rule, replenish_rule, with_budget, owed_by}
+use Rattle.sched_laws.specs.sched_rules.specs.kernel_rules.specs.Rules.{Refused}
 
 -- ---- frames
 

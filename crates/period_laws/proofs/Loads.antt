@@ -1,17 +1,21 @@
 -- The response bound of tasks with periods, turn by turn: time up to which a task and those above it have what they ask for.
-use Rattle.sched_laws.proofs as low
-use low.Common.{◌≡◌, ◌≢◌, inl, inr, ℕ, ◌+◌, ◌*◌, ◌-◌, ◌<◌, ◌≤◌, Bool, true, false, refl, sym, ◌∙◌, ap, subst, arith, if◌then◌else◌, List}
-use low.Common.{[], Option, Some, None, slice_set, IsSome, slice_get, cases_lt, cases_eq, eq-eqb, ne_eqb, false≢true, Task, Rule, Job}
-use low.Common.{Ready, Choice, Renewal, Ran, Idle, Back, Progress, Step, TaskFits, is_due, ready, chosen, next_arrival, length_of, turn_of}
-use low.Common.{begun, ran, refused, gives_back, put_out, replenish_for, ran_in, come_in}
-use Rattle.sched_laws.specs.{HasNumbers, IsSupplied, is_not_after, is_above, work_above}
-use low.{Picks.best, Picks.none_ready, Picks.place_of, Picks.first_of_all, Arriving.IsBefore, Arriving.due_is, Arriving.due_tells}
-use low.{Readiness.ready_tells, Turns.Way, Turns.Runs, Turns.Refuses, Turns.Idles, Turns.Begins, Turns.Lacks, Turns.RunsOne, Turns.IdlesOn}
-use low.{Turns.BeginsOne, Turns.way, Turns.come_at, Weights.not_after_itself, Bound.length_most, Jobs.Follows, Jobs.FollowsOn}
-use low.{Jobs.has_come_of, Jobs.first_left, Jobs.begins_at, Jobs.not_first, Jobs.none_left, Jobs.times_next, Above.IsFrom, Above.weight}
-use low.{Above.weight_in, Above.weight_out, Above.begun_weight, Above.left_above, Above.above_in, Above.above_out, Above.above_not_after}
-use low.{Above.own_not_above, Above.first_above, Above.first_of_above, Pausing.Kept, Pausing.task_fits, Pausing.run_from, Pausing.idle_from}
-use low.{Pausing.rests}
+use Rattle.sched_laws.proofs.Common.{◌≡◌, ◌≢◌, inl, inr, ℕ, ◌+◌, ◌*◌, ◌-◌, ◌<◌, ◌≤◌, Bool, true, false, refl, sym, ◌∙◌, ap, subst, arith}
+use Rattle.sched_laws.proofs.Common.{if◌then◌else◌, List, [], Option, Some, None, slice_set, IsSome, slice_get, cases_lt, cases_eq, eq-eqb}
+use Rattle.sched_laws.proofs.Common.{ne_eqb, false≢true, Task, Rule, Job, Ready, Choice, Renewal, Ran, Idle, Back, Progress, Step, is_due}
+use Rattle.sched_laws.proofs.Common.{ready, chosen, next_arrival, length_of, turn_of, begun, ran, refused, gives_back, put_out}
+use Rattle.sched_laws.proofs.Common.{replenish_for, ran_in, come_in}
+use Rattle.sched_laws.specs.sched_rules.specs.{TaskFits}
+use Rattle.sched_laws.specs.{HasNumbers, IsSupplied, is_not_after}
+use Rattle.sched_laws.proofs.{Picks.best, Picks.none_ready, Picks.place_of, Picks.first_of_all, Arriving.IsBefore, Arriving.due_is}
+use Rattle.sched_laws.proofs.{Arriving.due_tells, Readiness.ready_tells, Turns.Way, Turns.Runs, Turns.Refuses, Turns.Idles, Turns.Begins}
+use Rattle.sched_laws.proofs.{Turns.Lacks, Turns.RunsOne, Turns.IdlesOn, Turns.BeginsOne, Turns.way, Turns.come_at}
+use Rattle.sched_laws.proofs.{Weights.not_after_itself, Bound.length_most}
+use Rattle.period_laws.specs.Periods.{is_above, work_above}
+use Rattle.period_laws.proofs.{Jobs.Follows, Jobs.FollowsOn, Jobs.has_come_of, Jobs.first_left, Jobs.begins_at, Jobs.not_first}
+use Rattle.period_laws.proofs.{Jobs.none_left, Jobs.times_next, Above.IsFrom, Above.weight, Above.weight_in, Above.weight_out}
+use Rattle.period_laws.proofs.{Above.begun_weight, Above.left_above, Above.above_in, Above.above_out, Above.above_not_after}
+use Rattle.period_laws.proofs.{Above.own_not_above, Above.first_above, Above.first_of_above, Pausing.Kept, Pausing.task_fits}
+use Rattle.period_laws.proofs.{Pausing.run_from, Pausing.idle_from, Pausing.rests}
 
 pub none_some : {A B : Type 0} (o : Option A) → o ≡ None → IsSome o → B
 none_some None e h = absurd (false≢true h)

@@ -1,0 +1,12 @@
+pub mod Jobs
+pub mod Counting
+pub mod Highest
+pub mod Above
+pub mod Pausing
+pub mod Loads
+pub mod Periodic
+pub mod OnTime
+pub mod Lists
+pub mod Returning
+pub mod Supplying
+pub mod Sufficing

@@ -1,5 +1,0 @@
-use Rattle.sched_laws.proofs.OnTime.{arrive_on_time}
-use Rattle.sched_laws.proofs.arrive_on_time.Goals as goal
-
-pub returns : goal.returns
-returns c = arrive_on_time

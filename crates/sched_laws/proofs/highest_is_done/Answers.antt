@@ -1,5 +1,0 @@
-use Rattle.sched_laws.proofs.Highest.{highest_is_done}
-use Rattle.sched_laws.proofs.highest_is_done.Goals as goal
-
-pub returns : goal.returns
-returns c = highest_is_done

@@ -1,5 +1,0 @@
-use Rattle.sched_laws.proofs.Supplying.{own_budget_supplies}
-use Rattle.sched_laws.proofs.own_budget_supplies.Goals as goal
-
-pub returns : goal.returns
-returns c = own_budget_supplies
