@@ -1,5 +1,6 @@
 -- The acts of calls, and the counts that they change.
-use Rattle.stage_tcap.specs.{ℕ, ◌<◌, Bool, true, false, ◌&&◌, ltb as nat_lt, leb as nat_le, Option, Some, None, List, if◌then◌else◌}
+use Rattle.std.specs.Prelude.{◌<◌, ◌&&◌, if◌then◌else◌}
+use Rattle.stage_tcap.specs.{ℕ, Bool, true, false, ltb as nat_lt, leb as nat_le, Option, Some, None, List}
 use Rattle.stage_tcap.specs.{Capability, cap_of, part_of, Call, Look, Copy, Remove, Shrink, Retype, Unmap, Tick, Gate, Kill, Grow, Flush}
 use Rattle.stage_tcap.specs.{Map, Ret, Switch, Transfer, Delegate, Test, Part, Replenish, Make, Nothing as nothing, StageEnd, Shape, Move}
 use Rattle.stage_tcap.specs.{LoadOf, ChargeFits, charge_move, RefillFits, refill_move, PairFits, pair_move, Kind, FrameKind, Untyped, User}

@@ -1,6 +1,7 @@
 -- The act that makes a component in a blank kernel frame.
-use Rattle.stage_tcap.specs.{ℕ, ◌+◌, ◌-◌, ◌<◌, ◌≤◌, ◌≡◌, ◌^◌, ◌==◌, pos, ltb as nat_lt, Bool, true, false, Option, Some, None, List, []}
-use Rattle.stage_tcap.specs.{◌∷◌, if◌then◌else◌, FrameKind, Obj, Nothing as nothing, StageEnd, EntryAt, FrameAt, LiveAt, Shape, Move}
+use Rattle.std.specs.Prelude.{◌+◌, ◌-◌, ◌<◌, ◌≤◌, ◌≡◌, ◌^◌, ◌==◌, ◌∷◌, if◌then◌else◌}
+use Rattle.stage_tcap.specs.{ℕ, pos, ltb as nat_lt, Bool, true, false, Option, Some, None, List, []}
+use Rattle.stage_tcap.specs.{FrameKind, Obj, Nothing as nothing, StageEnd, EntryAt, FrameAt, LiveAt, Shape, Move}
 use Rattle.stage_tcap.specs.{LoadOf, CompareOf, StoreOf}
 use Rattle.stage_sweep.specs.stage_quiet.specs.{QuietFits, quiet_move, quiet_scan}
 use Rattle.stage_sweep.specs.frame_words.specs.{word_of_comp, word_of_frame, word_of_live, declared.frame_word.FrameWord.FrameWord}

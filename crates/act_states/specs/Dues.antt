@@ -1,6 +1,7 @@
 -- The counts that an act changes, in the order in which they are acquired.
-use Rattle.call_plans.specs.kernel_invariant.specs.kernel_rules.specs.{ℕ, ℤ, pos, negsuc, ◌≤◌, Option, Some, None, List, map, slice_get, []}
-use Rattle.call_plans.specs.kernel_invariant.specs.kernel_rules.specs.{◌∷◌, Capability, named_by}
+use Rattle.std.specs.Prelude.{◌≤◌, ◌∷◌}
+use Rattle.call_plans.specs.kernel_invariant.specs.kernel_rules.specs.{ℕ, ℤ, pos, negsuc, Option, Some, None, List, map, slice_get, []}
+use Rattle.call_plans.specs.kernel_invariant.specs.kernel_rules.specs.{Capability, named_by}
 use Rattle.stage_sweep.specs.stage_pins.specs.declared.pin.Pin.TheVariants.{AtLoad}
 use Rattle.act_states.specs.{declared.work.Act.Act, declared.work.Act.TheVariants.Fill as fill_act}
 use Rattle.act_states.specs.{declared.work.Act.TheVariants.Remove as remove_act, declared.work.Act.TheVariants.Retype as type_act}

@@ -1,5 +1,6 @@
 -- The act that fills a place.
-use Rattle.stage_tcap.specs.{ℕ, ◌==◌, ◌<◌, None, Bool, if◌then◌else◌, Nothing as nothing, EntryAt, Shape, Move, CompareOf}
+use Rattle.std.specs.Prelude.{◌==◌, ◌<◌, if◌then◌else◌}
+use Rattle.stage_tcap.specs.{ℕ, None, Bool, Nothing as nothing, EntryAt, Shape, Move, CompareOf}
 use Rattle.stage_sweep.specs.entry_words.specs.{EntryWord.word_of_entry, declared.entry.Entry.TheVariants.Held}
 use Rattle.act_states.specs.{declared.refusals.Refusal.TheVariants.Raced, declared.fills.Fill.Fill, declared.work.Tail.TheVariants.Nothing}
 use Rattle.act_states.specs.{declared.work.WorkStep.WorkStep, declared.work.WorkStep.TheVariants.Refuses}

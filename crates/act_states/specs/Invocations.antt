@@ -1,6 +1,7 @@
 -- The acts by which a core enters a component through a gate, and leaves it.
-use Rattle.stage_tcap.specs.{◌≡◌, ℕ, ◌+◌, ◌-◌, ◌<◌, ◌≤◌, ◌==◌, ◌^◌, min, Bool, true, false, ltb as nat_lt, Option, Some, None}
-use Rattle.stage_tcap.specs.{if◌then◌else◌, Ok, Nothing as nothing, stack_of_word, StackWord, EntryAt, LiveAt, ClockAt, Shape, Move, LoadOf}
+use Rattle.std.specs.Prelude.{◌≡◌, ◌+◌, ◌-◌, ◌<◌, ◌≤◌, ◌==◌, ◌^◌, if◌then◌else◌}
+use Rattle.stage_tcap.specs.{ℕ, min, Bool, true, false, ltb as nat_lt, Option, Some, None}
+use Rattle.stage_tcap.specs.{Ok, Nothing as nothing, stack_of_word, StackWord, EntryAt, LiveAt, ClockAt, Shape, Move, LoadOf}
 use Rattle.stage_tcap.specs.{AddOf}
 use Rattle.stage_sweep.specs.frame_words.specs.{Comp.CompFits, declared.live_word.LiveWord.LiveWord}
 use Rattle.act_states.specs.{declared.invocations.Invoking.Invoking, declared.invocations.InvokingAt.InvokingAt}

@@ -1,5 +1,6 @@
 -- The act that kills a component.
-use Rattle.stage_tcap.specs.{ℕ, ◌<◌, Bool, true, false, EntryAt, LiveAt, ClockAt, Shape, Move, LoadOf, CompareOf, StoreOf, AddOf}
+use Rattle.std.specs.Prelude.{◌<◌}
+use Rattle.stage_tcap.specs.{ℕ, Bool, true, false, EntryAt, LiveAt, ClockAt, Shape, Move, LoadOf, CompareOf, StoreOf, AddOf}
 use Rattle.stage_sweep.specs.frame_words.specs.{CompFits, word_of_live}
 use Rattle.stage_sweep.specs.frame_words.specs.declared.live_word.LiveWord.TheVariants.{Closing, Dead}
 use Rattle.act_states.specs.declared.kills.KillingAt.TheVariants.{LoadComp, LoadLive, Close, Draw}

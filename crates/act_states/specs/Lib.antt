@@ -68,17 +68,18 @@ pub use Rattle.act_states.specs.Typings.{is_typing, took_typing_at, typed, typed
 pub use Rattle.act_states.specs.Untypings.{release_of, is_drawing, released_dues, UntypingFits, untyping_dues, OwnedBy, owned_dues, release_after, untyping_undo}
 pub use Rattle.act_states.specs.Untypings.{thaw_left_by, untyping_at}
 pub use Rattle.act_states.specs.WorkSteps.{refuse}
-pub use Rattle.call_plans.specs.kernel_invariant.specs.kernel_rules.specs.{◌≡◌, ℕ, Some, refl, None, ◌<◌, [], List, ◌∷◌, Setting, Option, true}
-pub use Rattle.call_plans.specs.kernel_invariant.specs.kernel_rules.specs.{false, length, IsSetting, Bool, Call, Reply, ◌≤◌, ◌+◌, if◌then◌else◌}
-pub use Rattle.call_plans.specs.kernel_invariant.specs.kernel_rules.specs.{◌≢◌, ◌++◌, ◌==◌, Capability, map, IsTrue, ◌^◌, suc, Kernel, Kind}
-pub use Rattle.call_plans.specs.kernel_invariant.specs.kernel_rules.specs.{◌&&◌, ◌⊎◌, All, slice_get, PlaceOf, ltb, rule_of, put, zero, get_or}
-pub use Rattle.call_plans.specs.kernel_invariant.specs.kernel_rules.specs.{found, IsSome, change_of, Frame, Thing, Found, FrameKind, not, ◌||◌}
-pub use Rattle.call_plans.specs.kernel_invariant.specs.kernel_rules.specs.{pos, FrameOf, ◌-◌, leb, Slot, fits, thread_of, ℤ, Tcap, counted}
+pub use Rattle.std.specs.Prelude.{◌≡◌, ◌<◌, ◌∷◌, ◌≤◌, ◌+◌, if◌then◌else◌, ◌≢◌, ◌++◌, ◌==◌, ◌^◌, ◌&&◌, ◌⊎◌, ◌||◌, ◌-◌, ◌*◌, ◌+ℤ◌, ◌/◌, ◌%◌}
+pub use Rattle.call_plans.specs.kernel_invariant.specs.kernel_rules.specs.{ℕ, Some, refl, None, [], List, Setting, Option, true}
+pub use Rattle.call_plans.specs.kernel_invariant.specs.kernel_rules.specs.{false, length, IsSetting, Bool, Call, Reply}
+pub use Rattle.call_plans.specs.kernel_invariant.specs.kernel_rules.specs.{Capability, map, IsTrue, suc, Kernel, Kind}
+pub use Rattle.call_plans.specs.kernel_invariant.specs.kernel_rules.specs.{All, slice_get, PlaceOf, ltb, rule_of, put, zero, get_or}
+pub use Rattle.call_plans.specs.kernel_invariant.specs.kernel_rules.specs.{found, IsSome, change_of, Frame, Thing, Found, FrameKind, not}
+pub use Rattle.call_plans.specs.kernel_invariant.specs.kernel_rules.specs.{pos, FrameOf, leb, Slot, fits, thread_of, ℤ, Tcap, counted}
 pub use Rattle.call_plans.specs.kernel_invariant.specs.kernel_rules.specs.{Value, take, does, Thread, comp_in, Retype, thread_in, Nothing}
 pub use Rattle.call_plans.specs.kernel_invariant.specs.kernel_rules.specs.{is_some, MayReply, Comp, NumberOf, Target, RuleMay, Blank, Refused}
 pub use Rattle.call_plans.specs.kernel_invariant.specs.kernel_rules.specs.{first_of_stack, Leaf, Pages, comp_of, InLimits, first_of, Table}
-pub use Rattle.call_plans.specs.kernel_invariant.specs.kernel_rules.specs.{User, is_node, unless, Pleaf, ◌*◌, Under, Want, times, frame_names}
-pub use Rattle.call_plans.specs.kernel_invariant.specs.kernel_rules.specs.{TcapFields, Holds, Untyped, Tick, StageEnd, string_bytes, ◌+ℤ◌}
+pub use Rattle.call_plans.specs.kernel_invariant.specs.kernel_rules.specs.{User, is_node, unless, Pleaf, Under, Want, times, frame_names}
+pub use Rattle.call_plans.specs.kernel_invariant.specs.kernel_rules.specs.{TcapFields, Holds, Untyped, Tick, StageEnd, string_bytes}
 pub use Rattle.call_plans.specs.kernel_invariant.specs.kernel_rules.specs.{reached, IsFoundAnd, negsuc, IfSome, only, changed, named_by}
 pub use Rattle.call_plans.specs.kernel_invariant.specs.kernel_rules.specs.{outcome, Kill, Does, left_if, Map, cond, begins_in, Place, Switch}
 pub use Rattle.call_plans.specs.kernel_invariant.specs.kernel_rules.specs.{to_use, calls_counted, Flush, Remove, has_frame, Change, named, Gate}
@@ -90,10 +91,10 @@ pub use Rattle.call_plans.specs.kernel_invariant.specs.kernel_rules.specs.{IsGua
 pub use Rattle.call_plans.specs.kernel_invariant.specs.kernel_rules.specs.{Obj, min, drop, flat_map, place_at, begins, is_live_in, Grace, Live}
 pub use Rattle.call_plans.specs.kernel_invariant.specs.kernel_rules.specs.{Liveness, whole_copy, Decision, Translation, slice_index, sum_by}
 pub use Rattle.call_plans.specs.kernel_invariant.specs.kernel_rules.specs.{IsSomeAnd, root_slot, usable, flushes, plain_cap, tcap_in}
-pub use Rattle.call_plans.specs.kernel_invariant.specs.kernel_rules.specs.{with_frame, ◌/◌, option_map, Err, linked, root_at, outside}
+pub use Rattle.call_plans.specs.kernel_invariant.specs.kernel_rules.specs.{with_frame, option_map, Err, linked, root_at, outside}
 pub use Rattle.call_plans.specs.kernel_invariant.specs.kernel_rules.specs.{translation_of, Cause, or_refuse, Core, Object, vec_capacity, Result}
 pub use Rattle.call_plans.specs.kernel_invariant.specs.kernel_rules.specs.{is_frame, frames_of, place_names, vacant, Unused, bound_of, Amount}
-pub use Rattle.call_plans.specs.kernel_invariant.specs.kernel_rules.specs.{How, Return, ◌%◌, usable_in, has_frames, Edit, new_grace, asks_life}
+pub use Rattle.call_plans.specs.kernel_invariant.specs.kernel_rules.specs.{How, Return, usable_in, has_frames, Edit, new_grace, asks_life}
 pub use Rattle.call_plans.specs.kernel_invariant.specs.kernel_rules.specs.{Judged, Rule, IsRun, with_place, is_short, Range, PageFlags, eqb}
 pub use Rattle.call_plans.specs.kernel_invariant.specs.kernel_rules.specs.{MatchOption, is_blank, not_blank, Component, is_empty, is_untyped}
 pub use Rattle.call_plans.specs.kernel_invariant.specs.kernel_rules.specs.{Vacant, not_vacant, after, are_many, are_unlike, covers, has_rights}

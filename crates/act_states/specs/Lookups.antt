@@ -1,5 +1,6 @@
 -- The look-ups of a call, driven by its plan.
-use Rattle.call_plans.specs.kernel_invariant.specs.kernel_rules.specs.{ℕ, Bool, leb as nat_le, if◌then◌else◌, Option, Some, None, List}
+use Rattle.std.specs.Prelude.{if◌then◌else◌}
+use Rattle.call_plans.specs.kernel_invariant.specs.kernel_rules.specs.{ℕ, Bool, leb as nat_le, Option, Some, None, List}
 use Rattle.call_plans.specs.kernel_invariant.specs.kernel_rules.specs.{Capability, has_rights, Call, Want, Target as place, Under, InRoot}
 use Rattle.call_plans.specs.{NextName, NextFree, NextHeld, NextOwn, NextNothing}
 use Rattle.stage_sweep.specs.stage_look.specs.declared.look.Look.TheVariants.{AtRoot, AtEntry}

@@ -1,5 +1,6 @@
 -- The act that makes an object in a blank kernel frame.
-use Rattle.stage_tcap.specs.{ℕ, ◌+◌, ◌-◌, ◌*◌, ◌<◌, ◌≤◌, ltb as nat_lt, Bool, true, false, Some, None, if◌then◌else◌, EntryAt, FrameAt}
+use Rattle.std.specs.Prelude.{◌+◌, ◌-◌, ◌*◌, ◌<◌, ◌≤◌, if◌then◌else◌}
+use Rattle.stage_tcap.specs.{ℕ, ltb as nat_lt, Bool, true, false, Some, None, EntryAt, FrameAt}
 use Rattle.stage_tcap.specs.{Shape, Move, LoadOf, CompareOf, StoreOf, FrameKind, Obj}
 use Rattle.stage_sweep.specs.frame_words.specs.{Frame.word_of_frame, declared.frame_word.FrameWord.FrameWord}
 use Rattle.act_states.specs.{Fills.FillFits, Fills.fill_move, declared.fills.Fill.Fill, Objects.object_obj, Objects.object_word}

@@ -1,5 +1,6 @@
 -- The objects that are made in a blank kernel frame: their words, and the references that they take.
-use Rattle.stage_tcap.specs.{ℕ, ◌+◌, ◌<◌, ◌≤◌, ◌^◌, ◌==◌, pos, Option, Some, None, List, [], ◌∷◌, map, length, if◌then◌else◌, Capability}
+use Rattle.std.specs.Prelude.{◌+◌, ◌<◌, ◌≤◌, ◌^◌, ◌==◌, ◌∷◌, if◌then◌else◌}
+use Rattle.stage_tcap.specs.{ℕ, pos, Option, Some, None, List, [], map, length, Capability}
 use Rattle.stage_tcap.specs.{cap_of, Kind, Obj, Make, word_of_head, word_of_stack, word_of_thread, Idle, Shape}
 use Rattle.stage_sweep.specs.entry_words.specs.{EntryWord.word_of_entry, declared.entry.Entry.TheVariants.Free}
 use Rattle.call_plans.specs.{Plans.at_place, declared.plans.Nth.TheVariants.Third}

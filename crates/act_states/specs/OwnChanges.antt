@@ -1,5 +1,6 @@
 -- What a decision changes of what its core has of its own, beside the calls that it has made.
-use Rattle.call_plans.specs.kernel_invariant.specs.kernel_rules.specs.{ℕ, ◌+◌, ◌-◌, ◌^◌, min, [], caching}
+use Rattle.std.specs.Prelude.{◌+◌, ◌-◌, ◌^◌}
+use Rattle.call_plans.specs.kernel_invariant.specs.kernel_rules.specs.{ℕ, min, [], caching}
 use Rattle.act_states.specs.declared.own.OwnChange.TheVariants.{Ticks, GivesBack, Empties, Works, Switches, Caches}
 use Rattle.{act_states.specs.declared.own.Own.Own, act_states.specs.declared.own.OwnChange.OwnChange}
 

@@ -1,5 +1,6 @@
 -- The act that gives back to a temporal capability what its core has spent.
-use Rattle.stage_tcap.specs.{ℕ, ◌-◌, ◌^◌, min, Bool, true, false, Option, Some, None, [], Capability, Ok, Value, StageEnd, head, refill_end}
+use Rattle.std.specs.Prelude.{◌-◌, ◌^◌}
+use Rattle.stage_tcap.specs.{ℕ, min, Bool, true, false, Option, Some, None, [], Capability, Ok, Value, StageEnd, head, refill_end}
 use Rattle.stage_tcap.specs.declared.refill.RefillAt.TheVariants.{Load, List as at_list, Compare, Again}
 use Rattle.act_states.specs.{declared.own.Own.Own, declared.own.OwnChange.TheVariants.GivesBack}
 use Rattle.act_states.specs.{declared.refusals.Refusal.TheVariants.Raced, declared.work.Act.TheVariants.Refill as refill_act}

@@ -1,5 +1,6 @@
 -- The scans of the other cores' words and of flush words.
-use Rattle.stage_tcap.specs.{ℕ, ◌+◌, ◌-◌, ◌<◌, ◌≤◌, ◌≡◌, false, ltb as nat_lt, if◌then◌else◌, Shape}
+use Rattle.std.specs.Prelude.{◌+◌, ◌-◌, ◌<◌, ◌≤◌, ◌≡◌, if◌then◌else◌}
+use Rattle.stage_tcap.specs.{ℕ, false, ltb as nat_lt, Shape}
 use Rattle.stage_sweep.specs.stage_quiet.specs.declared.quiet.Quiet.{Quiet}
 use Rattle.stage_sweep.specs.stage_quiet.specs.declared.quiet.Quiet.TheVariants.{AtCore, AtFlush}
 

@@ -1,6 +1,7 @@
 -- The acts on two temporal capabilities: a transfer, a delegation, and a test of preemption.
 use Rattle.stage_tcap.specs as low
-use low.{ℕ, ◌-◌, ◌+◌, ◌==◌, Bool, true, false, Option, Some, None, if◌then◌else◌, [], IsTrue, Capability, Reply, Ok, Value, StageEnd, Shape}
+use Rattle.std.specs.Prelude.{◌-◌, ◌+◌, ◌==◌, if◌then◌else◌}
+use low.{ℕ, Bool, true, false, Option, Some, None, [], IsTrue, Capability, Reply, Ok, Value, StageEnd, Shape}
 use low.declared.pair.PairAt.TheVariants.{LoadA, MarkA, ListA, LoadB, ListB, CompareB, AgainB, StoreList, StoreB, StoreA}
 use Rattle.act_states.specs.{declared.refusals.Refusal.TheVariants.Raced, declared.refusals.Refusal.TheVariants.Same}
 use Rattle.act_states.specs.{declared.work.Act.TheVariants.Share as share_act, declared.work.Work.TheVariants.Act, declared.work.Tail.Tail}

@@ -1,5 +1,6 @@
 -- The act by which a core goes on as another thread, with a temporal capability.
-use Rattle.stage_tcap.specs.{◌≡◌, ℕ, ◌<◌, ◌≤◌, ◌==◌, pos, negsuc, Bool, true, false, Option, Some, None, List, [], ◌∷◌, if◌then◌else◌, Ok}
+use Rattle.std.specs.Prelude.{◌≡◌, ◌<◌, ◌≤◌, ◌==◌, ◌∷◌, if◌then◌else◌}
+use Rattle.stage_tcap.specs.{ℕ, pos, negsuc, Bool, true, false, Option, Some, None, List, [], Ok}
 use Rattle.stage_tcap.specs.{Nothing as nothing, StageEnd, DepthFits, word_of_thread, Idle, Running, Claimed as claimed_thread, EntryAt}
 use Rattle.stage_tcap.specs.{ClockAt, Shape, Move, LoadOf, StoreOf, AddOf}
 use Rattle.stage_thread.specs.{Claiming.ClaimFits, Claiming.ClaimedFits, Claiming.claim_move, declared.claim.Claim.Claim as ClaimOf}

@@ -1,5 +1,6 @@
 -- What the act of a call takes from its step: what it goes on with, or what it is decided with.
-use Rattle.stage_tcap.specs.{ℕ, ◌==◌, Bool, true, false, Option, Some, None, if◌then◌else◌, [], Nothing as nothing, StageEnd, Shape}
+use Rattle.std.specs.Prelude.{◌==◌, if◌then◌else◌}
+use Rattle.stage_tcap.specs.{ℕ, Bool, true, false, Option, Some, None, [], Nothing as nothing, StageEnd, Shape}
 use Rattle.stage_tcap.specs.{FrameKind, Untyped, User, Kernel, Obj, Blank}
 use Rattle.stage_sweep.specs.frame_words.specs.{comp_of_word, live_of_word, word_of_frame, frame_of_word}
 use Rattle.stage_sweep.specs.{swept_of, sweep_end, sweep_after}

@@ -1,5 +1,6 @@
 -- The act that charges ticks to the core's temporal capability.
-use Rattle.stage_tcap.specs.{ℕ, ◌+◌, ◌-◌, ◌^◌, min, Bool, true, false, None, Reply, Ok, Value, Amount, StageEnd, charge_end, charge_after}
+use Rattle.std.specs.Prelude.{◌+◌, ◌-◌, ◌^◌}
+use Rattle.stage_tcap.specs.{ℕ, min, Bool, true, false, None, Reply, Ok, Value, Amount, StageEnd, charge_end, charge_after}
 use Rattle.stage_tcap.specs.declared.charge.Charge.{Charge}
 use Rattle.stage_tcap.specs.declared.charge.Charge.TheVariants.{AtLoad, AtCompare}
 use Rattle.act_states.specs.{declared.own.Own.Own, declared.own.OwnChange.TheVariants.Ticks, declared.work.Act.TheVariants.Tick as tick_act}

@@ -1,5 +1,6 @@
 -- The act that touches a page of the core's own pages.
-use Rattle.call_plans.specs.kernel_invariant.specs.kernel_rules.specs.{◌≡◌, ◌%◌, ◌||◌, ℕ, Bool, true, false, leb as nat_le, if◌then◌else◌}
+use Rattle.std.specs.Prelude.{◌≡◌, ◌%◌, ◌||◌, if◌then◌else◌}
+use Rattle.call_plans.specs.kernel_invariant.specs.kernel_rules.specs.{ℕ, Bool, true, false, leb as nat_le}
 use Rattle.call_plans.specs.kernel_invariant.specs.kernel_rules.specs.{is_some, Option, Some, None, Capability, Reply, StageEnd}
 use Rattle.call_plans.specs.kernel_invariant.specs.kernel_rules.specs.{Translation, translation_of, translated}
 use Rattle.stage_sweep.specs.stage_look.specs.{shown_in, LookFits, look_end, look_after}

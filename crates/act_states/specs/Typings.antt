@@ -1,5 +1,6 @@
 -- The act that makes an untyped frame a user frame or a blank kernel frame.
-use Rattle.stage_tcap.specs.{ℕ, ◌==◌, ◌<◌, Bool, true, false, Option, Some, None, if◌then◌else◌, FrameKind, Blank, Nothing as nothing}
+use Rattle.std.specs.Prelude.{◌==◌, ◌<◌, if◌then◌else◌}
+use Rattle.stage_tcap.specs.{ℕ, Bool, true, false, Option, Some, None, FrameKind, Blank, Nothing as nothing}
 use Rattle.stage_tcap.specs.{FrameAt, Shape, Move, LoadOf, CompareOf}
 use Rattle.stage_sweep.specs.frame_words.specs.{word_of_frame, frame_of_word}
 use Rattle.stage_sweep.specs.frame_words.specs.declared.frame_word.FrameWord.{FrameWord}

@@ -1,6 +1,7 @@
 -- The act that makes a user frame or a kernel frame untyped again.
-use Rattle.stage_tcap.specs.{ℕ, negsuc, ◌+◌, ◌-◌, ◌*◌, ◌<◌, ◌≤◌, ◌≡◌, ltb as nat_lt, Bool, true, false, Option, Some, None, IfSome, List}
-use Rattle.stage_tcap.specs.{[], ◌∷◌, length, if◌then◌else◌, FrameKind, Obj, StageEnd, FrameAt, ClockAt, Shape, Move, LoadOf, CompareOf}
+use Rattle.std.specs.Prelude.{◌+◌, ◌-◌, ◌*◌, ◌<◌, ◌≤◌, ◌≡◌, ◌∷◌, if◌then◌else◌}
+use Rattle.stage_tcap.specs.{ℕ, negsuc, ltb as nat_lt, Bool, true, false, Option, Some, None, IfSome, List}
+use Rattle.stage_tcap.specs.{[], length, FrameKind, Obj, StageEnd, FrameAt, ClockAt, Shape, Move, LoadOf, CompareOf}
 use Rattle.stage_tcap.specs.{StoreOf, AddOf}
 use Rattle.stage_sweep.specs.{counters_of, loads_of, SweepFits, sweep_move, swept_of, ThawFits, thaw_of}
 use Rattle.stage_sweep.specs.frame_words.specs.{FrameFits, word_of_frame}

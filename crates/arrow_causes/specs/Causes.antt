@@ -1,5 +1,6 @@
 -- Which call the arrow of a reply comes from that says what is in the way.
-use Rattle.flight_laws.specs.core_invariant.specs.{◌≡◌, ◌≢◌, ◌≤◌, ℕ, true, ◌∷◌, length, Some, Setting, IsSetting, Step, Trace, Out, phase}
+use Rattle.std.specs.Prelude.{◌≡◌, ◌≢◌, ◌≤◌, ◌∷◌}
+use Rattle.flight_laws.specs.core_invariant.specs.{ℕ, true, length, Some, Setting, IsSetting, Step, Trace, Out, phase}
 use Rattle.flight_laws.specs.core_invariant.specs.{calls_of, Reply}
 use Rattle.arrow_laws.specs.Arrows.{HasTaken, arrow_to, is_line, entered_at}
 use Rattle.{flight_laws.specs.Histories.IsHistory, arrow_laws.specs.page_layers.specs.declared.lanes.Change.Change}

@@ -1,6 +1,7 @@
 -- What the arrows of a picture say of its trace.
-use Rattle.page_drawing.specs.kernel_history.specs.{◌≡◌, ◌≢◌, ◌<◌, ℕ, suc, Bool, true, false, ◌==◌, ◌&&◌, not, ltb as nat_lt, if◌then◌else◌}
-use Rattle.page_drawing.specs.kernel_history.specs.{[], ◌∷◌, length, Option, Some, is_some, Setting, IsSetting, Word, same_word, word_of}
+use Rattle.std.specs.Prelude.{◌≡◌, ◌≢◌, ◌<◌, ◌==◌, ◌&&◌, if◌then◌else◌, ◌∷◌}
+use Rattle.page_drawing.specs.kernel_history.specs.{ℕ, suc, Bool, true, false, not, ltb as nat_lt}
+use Rattle.page_drawing.specs.kernel_history.specs.{[], length, Option, Some, is_some, Setting, IsSetting, Word, same_word, word_of}
 use Rattle.page_drawing.specs.kernel_history.specs.{left_of, Step, calls_of, IsLegal, shape_of, Reply}
 use Rattle.page_drawing.specs.{Page, page_after, next_step}
 use Rattle.page_drawing.specs.page_layers.specs.{Seen.Seen, Seen.seen, Lanes.overlaps, declared.lanes.Change.Change}

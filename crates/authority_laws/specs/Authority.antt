@@ -1,5 +1,6 @@
 -- Authority: which parts of the state a core may change, and by which capability.
-use Rattle.state_laws.specs.kernel_rules.specs.{◌≡◌, ◌⊎◌, ℕ, Bool, true, false, List, [], ◌∷◌, Some, None, IsTrue, Setting, IsSetting, Call}
+use Rattle.std.specs.Prelude.{◌≡◌, ◌⊎◌, ◌∷◌}
+use Rattle.state_laws.specs.kernel_rules.specs.{ℕ, Bool, true, false, List, [], Some, None, IsTrue, Setting, IsSetting, Call}
 use Rattle.state_laws.specs.kernel_rules.specs.{Reply, Capability, Kind, Thread, Tcap, Frame, Kernel, comp_in, thread_in, tcap_in, found}
 use Rattle.state_laws.specs.kernel_rules.specs.{to_use, usable, linked, fits, Found, named, has_frame, is_live, is_live_in, rule_of, Event}
 use Rattle.state_laws.specs.kernel_rules.specs.{Decides, after, IsRun}

@@ -1,5 +1,6 @@
 -- Why grace periods begin.
-use Rattle.state_laws.specs.kernel_rules.specs.{◌≡◌, ◌<◌, ℕ, true, false, List, [], ◌∷◌, Setting, IsSetting, Capability, Call, Reply, Holds}
+use Rattle.std.specs.Prelude.{◌≡◌, ◌<◌, ◌∷◌}
+use Rattle.state_laws.specs.kernel_rules.specs.{ℕ, true, false, List, [], Setting, IsSetting, Capability, Call, Reply, Holds}
 use Rattle.state_laws.specs.kernel_rules.specs.{Quiescing, Thing, PlaceOf, FrameOf, NumberOf, place_names, frame_names, number_names}
 use Rattle.state_laws.specs.kernel_rules.specs.{core_names, times, is_live, begins, Event, Decides, after, IsRun}
 use Rattle.state_laws.specs.kernel_rules.specs.State.{State}

@@ -1,5 +1,6 @@
 -- The table as it is filled with the words of the start.
-use Rattle.kernel_history.specs.{◌≡◌, ◌<◌, ℕ, List, length, Setting, Word, EntryAt, FrameAt, CountAt, CoreAt, FlushAt, IsIn, boot_word}
+use Rattle.std.specs.Prelude.{◌≡◌, ◌<◌}
+use Rattle.kernel_history.specs.{ℕ, List, length, Setting, Word, EntryAt, FrameAt, CountAt, CoreAt, FlushAt, IsIn, boot_word}
 use Rattle.kernel_history.specs.{shape_of, word_in}
 
 -- The word of this name is that of the start.

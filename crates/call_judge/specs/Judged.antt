@@ -1,5 +1,6 @@
 -- What it means that the plain kernel has judged a decision.
-use Rattle.seq_state.specs.{◌≡◌, ◌⊎◌, ℕ, Bool, true, false, List, Option, Some, None, IsTrue, IsFalse, Setting, IsSetting, Call, Value}
+use Rattle.std.specs.Prelude.{◌≡◌, ◌⊎◌}
+use Rattle.seq_state.specs.{ℕ, Bool, true, false, List, Option, Some, None, IsTrue, IsFalse, Setting, IsSetting, Call, Value}
 use Rattle.seq_state.specs.{Reply, State, RuleMay, Change, Judged, Refused as refused, Found as carried, IsRefusal, acts, MayReply}
 use Rattle.seq_state.specs.{change_of, owed_by, state_by, reply_in, Event, after, Open, phase_of, IsRun, Represents}
 use Rattle.seq_plans.specs.{judged_rule, Decides}

@@ -1,5 +1,6 @@
 -- Putting back what a call that answers a value may have changed.
-use Rattle.seq_state.specs.{◌≡◌, ◌≢◌, ◌<◌, ℕ, Bool, true, false, Call, Look, Touch, Tick, Test, State, IsThing, SameGrace}
+use Rattle.std.specs.Prelude.{◌≡◌, ◌≢◌, ◌<◌}
+use Rattle.seq_state.specs.{ℕ, Bool, true, false, Call, Look, Touch, Tick, Test, State, IsThing, SameGrace}
 use Rattle.seq_state.specs.kernel_rules.specs.State.{Thing}
 
 -- Two states are one for all that the machine has, but for a frame and a core, which is in its call in both or in neither.

@@ -1,5 +1,6 @@
 -- What a call names: the numbers that it looks up in the table of the component in which its core works.
-use Rattle.kernel_rules.specs.{◌≡◌, ◌⊎◌, ℕ, List, [], ◌∷◌, Call, Look, Copy, Remove, Grow, Shrink, Retype, Map, Unmap, Gate, Kill, Switch}
+use Rattle.std.specs.Prelude.{◌≡◌, ◌⊎◌, ◌∷◌}
+use Rattle.kernel_rules.specs.{ℕ, List, [], Call, Look, Copy, Remove, Grow, Shrink, Retype, Map, Unmap, Gate, Kill, Switch}
 use Rattle.kernel_rules.specs.{Transfer, Delegate, Test, Part, Replenish, Make, Want, Rule, Name, Vacant, Held, Mapped, Does, named}
 use Rattle.kernel_rules.specs.{name_of, rule_of}
 use Rattle.kernel_rules.specs.spk_nums.specs.declared.calls.Call.TheVariants.{Make as make_call, Call as call_gate}

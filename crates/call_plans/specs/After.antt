@@ -1,5 +1,6 @@
 -- What is left of a rule and of a plan after the names that have led to capabilities, and what is looked up next.
-use Rattle.kernel_invariant.specs.kernel_rules.specs.{◌≡◌, ℕ, Bool, List, [], ◌∷◌, ◌++◌, Option, Some, None, IsFalse, Capability, Reply}
+use Rattle.std.specs.Prelude.{◌≡◌, ◌∷◌, ◌++◌}
+use Rattle.kernel_invariant.specs.kernel_rules.specs.{ℕ, Bool, List, [], Option, Some, None, IsFalse, Capability, Reply}
 use Rattle.kernel_invariant.specs.kernel_rules.specs.{Named, found, Want, Target as place, Rule, Name as name_rule, Found, named, NameMay}
 use Rattle.kernel_invariant.specs.kernel_rules.specs.{VacantMay, HeldMay, MappedMay}
 use Rattle.call_plans.specs.{declared.plans.Name.Name, declared.plans.Target.Target, declared.plans.Target.TheVariants.Nowhere}

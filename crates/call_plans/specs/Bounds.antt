@@ -1,6 +1,7 @@
 -- The most own steps of a call, by its plan: three for entry and exit, those by which it asks whether its component lives, those of its
 -- look-ups, and those of its act.
-use Rattle.kernel_invariant.specs.kernel_rules.specs.{ℕ, ◌+◌, ◌*◌, Bool, List, length, if◌then◌else◌, FrameKind, Make, Call, Look, Copy}
+use Rattle.std.specs.Prelude.{◌+◌, ◌*◌, if◌then◌else◌}
+use Rattle.kernel_invariant.specs.kernel_rules.specs.{ℕ, Bool, List, length, FrameKind, Make, Call, Look, Copy}
 use Rattle.kernel_invariant.specs.kernel_rules.specs.{Remove, Grow, Shrink, Retype, Map, Unmap, Touch, Flush, Gate, Kill, Ret, Switch, Tick}
 use Rattle.kernel_invariant.specs.kernel_rules.specs.{Transfer, Delegate, Test, Part, Replenish}
 use Rattle.kernel_invariant.specs.spk_nums.specs.declared.kinds.FrameKind.TheVariants.{Untyped}

@@ -1,5 +1,6 @@
 -- The capabilities to which the names of a call have led, as a list.
-use Rattle.kernel_invariant.specs.kernel_rules.specs.{◌≡◌, List, length, take, Capability, cap_of, Range}
+use Rattle.std.specs.Prelude.{◌≡◌}
+use Rattle.kernel_invariant.specs.kernel_rules.specs.{List, length, take, Capability, cap_of, Range}
 use Rattle.kernel_invariant.specs.spk_nums.specs.Listed.{IsListed, padded, padded-listed, length-listed}
 use Rattle.call_plans.specs.declared.found.Caps.TheInside.{Inside}
 

@@ -1,5 +1,6 @@
 -- A rule goes by a plan: its names, what they want, and its target are those of the plan, whatever the names lead to.
-use Rattle.kernel_invariant.specs.kernel_rules.specs.{◌≡◌, ℕ, Bool, List, [], ◌∷◌, ◌++◌, Option, Some, None, is_some, IsTrue, IsFalse}
+use Rattle.std.specs.Prelude.{◌≡◌, ◌∷◌, ◌++◌}
+use Rattle.kernel_invariant.specs.kernel_rules.specs.{ℕ, Bool, List, [], Option, Some, None, is_some, IsTrue, IsFalse}
 use Rattle.kernel_invariant.specs.kernel_rules.specs.{Capability, Kind, comp_of, translation_of, Slot, Named, not_found, Want, any, only}
 use Rattle.kernel_invariant.specs.kernel_rules.specs.{root, Target as place, Under as under, InRoot as in_root, Rule, Name as name_rule}
 use Rattle.kernel_invariant.specs.kernel_rules.specs.{Vacant as vacant_rule, Held as held_rule, Mapped as mapped_rule, Does, leaf_for}

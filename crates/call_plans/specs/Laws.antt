@@ -1,5 +1,6 @@
 -- What is proved of plans.
-use Rattle.kernel_invariant.specs.kernel_rules.specs.{◌≡◌, ℕ, ◌+◌, List, [], ◌∷◌, ◌++◌, Capability, Call, Reply, Rule, outcome, RuleMay}
+use Rattle.std.specs.Prelude.{◌≡◌, ◌+◌, ◌∷◌, ◌++◌}
+use Rattle.kernel_invariant.specs.kernel_rules.specs.{ℕ, List, [], Capability, Call, Reply, Rule, outcome, RuleMay}
 use Rattle.kernel_invariant.specs.kernel_rules.specs.{asks_life, rule_of, bound_of}
 use Rattle.kernel_invariant.specs.kernel_rules.specs.State.{State}
 use Rattle.call_plans.specs.{declared.plans.Plan.Plan, Bounds.living_steps, Bounds.look_steps, Bounds.act_steps, PlanOf.plan_for}

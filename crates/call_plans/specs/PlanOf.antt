@@ -1,5 +1,6 @@
 -- The plan of each call.
-use Rattle.kernel_invariant.specs.kernel_rules.specs.{ℕ, true, false, List, [], ◌∷◌, right_to_copy, right_to_use, both, FrameKind, Kind}
+use Rattle.std.specs.Prelude.{◌∷◌}
+use Rattle.kernel_invariant.specs.kernel_rules.specs.{ℕ, true, false, List, [], right_to_copy, right_to_use, both, FrameKind, Kind}
 use Rattle.kernel_invariant.specs.kernel_rules.specs.{Make, Call, Look, Copy, Remove, Grow, Shrink, Retype, Map, Unmap, Touch, Flush, Gate}
 use Rattle.kernel_invariant.specs.kernel_rules.specs.{Kill, Ret, Switch, Tick, Transfer, Delegate, Test, Part, Replenish}
 use Rattle.kernel_invariant.specs.spk_nums.specs.declared.calls.Call.TheVariants.{Make as make_call, Call as call_gate}

@@ -1,5 +1,6 @@
 -- The steps of a core: its next one, and the core after it. Which calls there are is not said here.
-use Rattle.act_states.specs.{ℕ, ◌+◌, Bool, false, [], Option, Some, None, slice_get, Setting, Call, Reply, CoreEnd, ClockAt, Move, LoadOf}
+use Rattle.std.specs.Prelude.{◌+◌}
+use Rattle.act_states.specs.{ℕ, Bool, false, [], Option, Some, None, slice_get, Setting, Call, Reply, CoreEnd, ClockAt, Move, LoadOf}
 use Rattle.act_states.specs.{calls_counted, own_changed}
 use Rattle.call_stages.specs.{declared.stages.Stage.TheVariants.Enter, declared.stages.ActiveCall.ActiveCall}
 use Rattle.call_stages.specs.{declared.stages.Absorbed.Absorbed, View.Core, Steps.stage_move, Steps.Took, Steps.GoesOn, Steps.Decides}

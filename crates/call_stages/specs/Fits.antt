@@ -1,6 +1,7 @@
 -- What holds of a core at every moment: its numbers are in range, and its call keeps within its bound of steps.
 use Rattle.act_states.specs as low
-use low.{ℕ, ◌+◌, ◌*◌, ◌-◌, ◌<◌, ◌≤◌, ◌≡◌, Bool, IsTrue, List, [], ◌∷◌, length, Option, Some, None, ◌^◌, bound_of, InLimits, Capability}
+use Rattle.std.specs.Prelude.{◌+◌, ◌*◌, ◌-◌, ◌<◌, ◌≤◌, ◌≡◌, ◌∷◌, ◌^◌}
+use low.{ℕ, Bool, IsTrue, List, [], length, Option, Some, None, bound_of, InLimits, Capability}
 use low.{Call, Gate, CompFits, Want, Shape, IsShape, CapNames, Look, AtRoot, AtLeaf, AtEntry, Name, Plan, plan_for, Leads, names_after}
 use low.{look_steps, act_steps, QuietFits, Pin, AtLoad, Acquired, AllFit, Alive, AtComp, AtLive, ActFits, act_left, dues, ScanFits}
 use low.declared.work.Work.TheVariants.{Lookup, Read, Scan, Acquire, Act}

@@ -1,5 +1,6 @@
 -- When a call is decided, and what a step of it may decide. Each is the contract of a function of this crate.
-use Rattle.act_states.specs.kernel_rules.specs.{◌≡◌, ℕ, true, false, Option, Some, None, Reply, IsRefusal}
+use Rattle.std.specs.Prelude.{◌≡◌}
+use Rattle.act_states.specs.kernel_rules.specs.{ℕ, true, false, Option, Some, None, Reply, IsRefusal}
 use Rattle.call_stages.specs.declared.stages.Stage.TheVariants.{Enter, Living, Undecided, Decided, Leave}
 use Rattle.call_stages.specs.Steps.{Took, GoesOn, Decides, Returns, Changes, took, is_ready}
 use Rattle.{act_states.specs.declared.own.Own.Own, call_stages.specs.declared.stages.Stage.Stage}

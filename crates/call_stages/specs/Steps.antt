@@ -1,7 +1,8 @@
 -- The steps of a call: the next one, and what it takes from the word found. They depend on what the core has of its own, on
 -- where the call stands, and on the word found, and on nothing else.
 use Rattle.act_states.specs as low
-use low.{ℕ, ℤ, ◌+◌, Bool, true, false, ◌&&◌, ◌==◌, leb as nat_le, length, Option, Some, None, if◌then◌else◌, List, pushed, Capability}
+use Rattle.std.specs.Prelude.{◌+◌, ◌&&◌, ◌==◌, if◌then◌else◌}
+use low.{ℕ, ℤ, Bool, true, false, leb as nat_le, length, Option, Some, None, List, pushed, Capability}
 use low.{Reply, Ok, StageEnd, Entry, comp_of_word, CompWord, EntryAt, CoreAt, Move, LoadOf, StoreOf, shown_in, look_move, look_end}
 use low.{look_after, Look, AtRoot, AtLeaf, AtEntry, Quiet, quiet_move, quiet_end, quiet_after, Pin, Pinned, Acquired, pin_move, pin_after}
 use low.{pin_end, alive_end, alive_after, Alive, AtComp, Plan, Next, NextName, NextFree, NextHeld, NextOwn, NextNothing, next_of, reply_of}

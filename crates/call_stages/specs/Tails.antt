@@ -1,6 +1,7 @@
 -- What a decided call has still to store, and its exit.
 use Rattle.act_states.specs as low
-use low.{ℕ, ◌-◌, ◌^◌, Bool, true, false, ltb as nat_lt, Option, List, [], ◌∷◌, if◌then◌else◌, Reply, Ok, ClockAt, FrameAt, LiveAt, Move}
+use Rattle.std.specs.Prelude.{◌-◌, ◌^◌, ◌∷◌, if◌then◌else◌}
+use low.{ℕ, Bool, true, false, ltb as nat_lt, Option, List, [], Reply, Ok, ClockAt, FrameAt, LiveAt, Move}
 use low.{LoadOf, StoreOf, close_move, Acquired, settle_move, commit_of, Push, Pop, running_move, idle_move, release_after, after_share}
 use low.declared.work.Tail.TheVariants.{Nothing, Quiesce, Unmark, StoreDead, StoreFlush, Release, StoreLive, Push as push_tail}
 use low.declared.work.Tail.TheVariants.{Pop as pop_tail, StoreRunning, StoreIdle, Share}

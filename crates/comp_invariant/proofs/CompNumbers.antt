@@ -40,6 +40,7 @@ use Rattle.scan_invariant.specs.step_ways.proofs.Counting as counting
 use Rattle.comp_invariant.proofs.CompCalls as calls
 use Rattle.state_laws.specs.kernel_rules.specs.Rules as rules
 use Rattle.scan_invariant.specs.frame_words.proofs.LiveLemmas as lives
+use Rattle.scan_invariant.specs.act_states.specs.declared.comps.CompAt.TheVariants.{Close}
 
 -- A liveness number waits for no flush.
 number_awaits : (setup : Setting) (t : Trace) (l : ℕ) → awaits_flushes setup t (NumberOf l) ≡ false

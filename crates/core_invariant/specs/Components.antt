@@ -1,5 +1,6 @@
 -- What a call knows of components, of the words of one that it has read, and of the stack of its core's thread.
-use Rattle.act_fits.specs.act_states.specs.{◌≡◌, ℕ, List, [], ◌∷◌, drop, length, Option, Some, None, IsTrue, Capability, Call, Ret}
+use Rattle.std.specs.Prelude.{◌≡◌, ◌∷◌}
+use Rattle.act_fits.specs.act_states.specs.{ℕ, List, [], drop, length, Option, Some, None, IsTrue, Capability, Call, Ret}
 use Rattle.act_fits.specs.act_states.specs.{CompFits, CompWord, CompFields, State, first_of_stack, thread_of, comp_in, fits, IsGuarded}
 use Rattle.kernel_history.specs.spk_nums.specs.declared.kinds.Kind.TheVariants.{Comp as comp_kind, Gate as gate_kind}
 use Rattle.kernel_history.specs.spk_nums.specs.declared.calls.Call.TheVariants.{Call as call_gate}

@@ -1,5 +1,6 @@
 -- What the count words of a frame show together beside their counts.
-use Rattle.act_fits.specs.act_states.specs.{ℕ, max, List, [], ◌∷◌, Option, Some, None, CountWord}
+use Rattle.std.specs.Prelude.{◌∷◌}
+use Rattle.act_fits.specs.act_states.specs.{ℕ, max, List, [], Option, Some, None, CountWord}
 
 -- The stamp of a count word, 0 for none.
 abbrev pub stamp_in : Option CountWord → ℕ

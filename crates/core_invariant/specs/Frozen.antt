@@ -1,6 +1,7 @@
 -- What a core holds of a frame that it makes untyped: the frame's word, and the counters that it has frozen.
-use Rattle.act_fits.specs.act_states.specs.{ℕ, ◌&&◌, ◌==◌, ltb as nat_lt, leb as nat_le, Bool, true, false, length, slice_get, Option, Some}
-use Rattle.act_fits.specs.act_states.specs.{None, if◌then◌else◌, word_of_count, Word, CountAt, FrameAt, swept_of, released, Thaw}
+use Rattle.std.specs.Prelude.{◌&&◌, ◌==◌, if◌then◌else◌}
+use Rattle.act_fits.specs.act_states.specs.{ℕ, ltb as nat_lt, leb as nat_le, Bool, true, false, length, slice_get, Option, Some}
+use Rattle.act_fits.specs.act_states.specs.{None, word_of_count, Word, CountAt, FrameAt, swept_of, released, Thaw}
 use Rattle.act_fits.specs.act_states.specs.declared.untypings.UntypingAt.TheVariants.{Load, Mark, Sweep as sweep_at, Draw}
 use Rattle.core_invariant.specs.Holding.{Holding, keeps}
 use Rattle.{act_fits.specs.act_states.specs.release_of, act_fits.specs.act_states.specs.declared.untypings.Release.Release}

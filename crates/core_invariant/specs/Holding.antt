@@ -2,8 +2,9 @@
 -- its settled value, and all that is said of words is said of settled ones. So a step that only marks a word, or gives it
 -- back, changes nothing that is said. A core may also keep a word that carries no mark, where it alone may store it: this settles to what
 -- the core has still to store there.
-use Rattle.act_fits.specs.act_states.specs.{◌≡◌, ℕ, zero, suc, Bool, true, false, List, [], ◌∷◌, Option, Some, None, if◌then◌else◌, ◌==◌}
-use Rattle.act_fits.specs.act_states.specs.{◌&&◌, leb as nat_le, Setting, word_of_count, Word, EntryAt, FrameAt, CountAt, CoreAt, FlushAt}
+use Rattle.std.specs.Prelude.{◌≡◌, ◌∷◌, if◌then◌else◌, ◌==◌, ◌&&◌}
+use Rattle.act_fits.specs.act_states.specs.{ℕ, zero, suc, Bool, true, false, List, [], Option, Some, None}
+use Rattle.act_fits.specs.act_states.specs.{leb as nat_le, Setting, word_of_count, Word, EntryAt, FrameAt, CountAt, CoreAt, FlushAt}
 use Rattle.act_fits.specs.act_states.specs.{LiveAt, ClockAt, same_word, Capability, word_of_entry, Held, Close, AtCompare, AtDraw, AtStore}
 use Rattle.{act_fits.specs.act_states.specs.Acquired, act_fits.specs.act_states.specs.commit_of, kernel_history.specs.marked_by}
 use Rattle.{kernel_history.specs.last_left, kernel_history.specs.entry_words.specs.declared.entry.Entry.TheVariants.Quiescing}

@@ -1,6 +1,7 @@
 -- When the cores of a machine stand for a trace: what holds between two steps, whatever the calls.
 use Rattle.act_fits.specs.act_states.specs as low
-use low.{word_of_live, word_of_stack, word_of_thread, thread_of_word, Running, Push as PushOf, Pop as PopOf, ◌≡◌, ◌⊎◌, ◌+◌, ◌-◌, ◌<◌, ◌≤◌}
+use Rattle.std.specs.Prelude.{◌≡◌, ◌⊎◌, ◌+◌, ◌-◌, ◌<◌, ◌≤◌}
+use low.{word_of_live, word_of_stack, word_of_thread, thread_of_word, Running, Push as PushOf, Pop as PopOf}
 use low.{ℕ, Bool, true, false, List, [], length, Option, Some, None, Setting, count_of_word, CountWord, Word, CountAt, FrameAt, FlushAt}
 use low.{LiveAt, EntryAt, Thing, FrameOf, State, thread_of, sum_below, Reply, Ok, Acquired, word_of_head, credited, in_order, amount_of}
 use low.{Pair, PairAt, LoadA, MarkA, ListA, LoadB, ListB, CompareB, AgainB, StoreList, StoreB, StoreA}

@@ -48,17 +48,18 @@ pub use Rattle.core_invariant.specs.Sweeps.{IsQuiet, KnowsSweep, UntypesBy, Know
 pub use Rattle.core_invariant.specs.Sweeps.{IsSwept, KnowsSweepAt, KnowsSweepScan, KnowsUntyping}
 pub use Rattle.core_invariant.specs.Threads.{claimed_by, holds_switching, HasThread, is_claimed, holds_idle, SwitchesBy, IsTop, KnowsIdle, KnowsRunning, KnowsSwitchAt}
 pub use Rattle.core_invariant.specs.Words.{IsFrameWord, WordIs, PlaceIs, NumberIs, HeadIs, SaysCount, IsThreadWord}
-pub use Rattle.act_fits.specs.act_states.specs.{◌≡◌, ℕ, Some, refl, ◌<◌, [], Setting, ◌∷◌, List, None, IsSetting, false, true, Option, length}
-pub use Rattle.act_fits.specs.act_states.specs.{Call, Bool, Reply, State, ◌≤◌, ◌≢◌, ◌+◌, if◌then◌else◌, ◌++◌, EntryAt, map, ◌==◌, IsTrue}
-pub use Rattle.act_fits.specs.act_states.specs.{word_of, Word, plan_for, Capability, ◌^◌, Move, Kernel, suc, CountAt, Acquired, ◌⊎◌, All, ◌&&◌}
+pub use Rattle.std.specs.Prelude.{◌≡◌, ◌<◌, ◌∷◌, ◌≤◌, ◌≢◌, ◌+◌, if◌then◌else◌, ◌++◌, ◌==◌, ◌^◌, ◌⊎◌, ◌&&◌, ◌||◌, ◌-◌, ◌*◌, ◌+ℤ◌, ◌%◌, ◌/◌}
+pub use Rattle.act_fits.specs.act_states.specs.{ℕ, Some, refl, [], Setting, List, None, IsSetting, false, true, Option, length}
+pub use Rattle.act_fits.specs.act_states.specs.{Call, Bool, Reply, State, EntryAt, map, IsTrue}
+pub use Rattle.act_fits.specs.act_states.specs.{word_of, Word, plan_for, Capability, Move, Kernel, suc, CountAt, Acquired, All}
 pub use Rattle.act_fits.specs.act_states.specs.{left_of, rule_of, Kind, PlaceOf, put, get_or, FrameAt, slice_get, LoadOf, LeadsIn, change_of}
-pub use Rattle.act_fits.specs.act_states.specs.{Found, Frame, zero, LiveAt, Leads, IsSome, ◌||◌, Thing, ltb, FrameOf, CoreAt, own_pages}
+pub use Rattle.act_fits.specs.act_states.specs.{Found, Frame, zero, LiveAt, Leads, IsSome, Thing, ltb, FrameOf, CoreAt, own_pages}
 pub use Rattle.act_fits.specs.act_states.specs.{ClockAt, not, Slot, counted, found, Tcap, FlushAt, take, does, fits, Thread, thread_in}
 pub use Rattle.act_fits.specs.act_states.specs.{thread_of, told_of, pos, MayReply, Pair, leb, Comp, CountWord, Refused, RuleMay, Blank, comp_in}
-pub use Rattle.act_fits.specs.act_states.specs.{◌-◌, same_word, first_of, NumberOf, Value, head_of_word, CompareOf, is_node, unless, Leaf}
+pub use Rattle.act_fits.specs.act_states.specs.{same_word, first_of, NumberOf, Value, head_of_word, CompareOf, is_node, unless, Leaf}
 pub use Rattle.act_fits.specs.act_states.specs.{Pages, is_some, times, Table, comp_of, StoreOf, GoesBy, Entry, Target, Pleaf, first_of_stack, ℤ}
 pub use Rattle.act_fits.specs.act_states.specs.{frame_names, TcapFields, User, InLimits, string_bytes, refuse, Want, IsFoundAnd, Holds, Untyped}
-pub use Rattle.act_fits.specs.act_states.specs.{HeadWord, rule_after, Plan, count_of_word, FrameWord, changed, outcome, FrameKind, ◌*◌, ◌+ℤ◌}
+pub use Rattle.act_fits.specs.act_states.specs.{HeadWord, rule_after, Plan, count_of_word, FrameWord, changed, outcome, FrameKind}
 pub use Rattle.act_fits.specs.act_states.specs.{release_of, next_of, only, named_by, Does, left_if, PairAt, Under, reached, AtCompare, AtDraw}
 pub use Rattle.act_fits.specs.act_states.specs.{AtStore, cond, frame_of_word, to_use, Place, names_after, live_of_word, Change, named, Item}
 pub use Rattle.act_fits.specs.act_states.specs.{AtFlush, swept_of, HeadFits, IsIn, Shape, negsuc, dues, NextFree, Quiet, AtCore, max}
@@ -79,7 +80,7 @@ pub use Rattle.act_fits.specs.act_states.specs.{CapNames, shown_in, AtLeaf, load
 pub use Rattle.act_fits.specs.act_states.specs.{comp_due_list, comp_dues, Next, comp_of_word, FrameFits, Closed, root_slot, usable, usable_in}
 pub use Rattle.act_fits.specs.act_states.specs.{Edit, new_grace, IsGuarded, Judged, Rule, IsRun, Unused, with_place, is_short, rank, Obj}
 pub use Rattle.act_fits.specs.act_states.specs.{StageEnd, look_move, acquired, quiet_after, quiet_end, quiet_scan, frozen, released, head}
-pub use Rattle.act_fits.specs.act_states.specs.{same_list, AtComp, Claimed, op_of, ◌%◌, ◌/◌, eqb, page_cap, starts, object_dues, took_refilled}
+pub use Rattle.act_fits.specs.act_states.specs.{same_list, AtComp, Claimed, op_of, eqb, page_cap, starts, object_dues, took_refilled}
 pub use Rattle.act_fits.specs.act_states.specs.{reply_of, UntypingFits, NextNothing, NextOwn, Spot, Nowhere, MatchOption, word_of_live, Hold}
 pub use Rattle.act_fits.specs.act_states.specs.{linked, root_at, is_blank, not_blank, Component, is_empty, is_untyped, Vacant, not_vacant}
 pub use Rattle.act_fits.specs.act_states.specs.{after, are_many, are_unlike, place_in, WordOp, Translation, drawn_stamp, core_scan, quiet_next}

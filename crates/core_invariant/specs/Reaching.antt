@@ -1,8 +1,9 @@
 -- What a call knows of where its look-ups have led, and of the place that it fills or removes, said of the state.
 use Rattle.act_fits.specs.act_states.specs as low
 use low.{Charge, head, HeadFits, word_of_head, ticks_due, ticks_of, is_charging, object_word, last_word, LiveWord, comp_cap, dues, put_by}
-use low.{reads_of, removes_by, stamp_of_act, fills_page, comp_is_marked, comp_meets_number, comp_word_at, is_marked, ◌≡◌, ◌≢◌, ◌<◌, ◌≤◌}
-use low.{◌+◌, ◌++◌, ◌/◌, ℕ, ℤ, Bool, true, false, map, All, List, [], ◌∷◌, length, Option, Some, None, IsSome, IsTrue, not, ◌^◌, ◌⊎◌}
+use Rattle.std.specs.Prelude.{◌≡◌, ◌≢◌, ◌<◌, ◌≤◌, ◌+◌, ◌++◌, ◌/◌, ◌∷◌, ◌^◌, ◌⊎◌}
+use low.{reads_of, removes_by, stamp_of_act, fills_page, comp_is_marked, comp_meets_number, comp_word_at, is_marked}
+use low.{ℕ, ℤ, Bool, true, false, map, All, List, [], length, Option, Some, None, IsSome, IsTrue, not}
 use low.{is_some, Capability, has_rights, Setting, Kind, Call, Retype, Make as make_call, Flush, Tick, Kill, Map, Touch, FrameKind}
 use low.{frame_of_word, FrameWord, EntryFits, entry_of_word, Entry, CompFits, CountFits, word_of_count, live_of_word, CompWord, EntryAt}
 use low.{CountAt, FrameAt, LiveAt, User, Thing, PlaceOf, State, first_of_stack, thread_of, comp_of, comp_in, NumberOf, Dead, translation_of}

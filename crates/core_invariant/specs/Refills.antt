@@ -1,5 +1,6 @@
 -- What a call knows that gives ticks back to a temporal capability, where it stands.
-use Rattle.act_fits.specs.act_states.specs.{◌≡◌, ◌≤◌, ℕ, zero, suc, Bool, true, false, List, [], ◌∷◌, Setting, Capability, covers, Call}
+use Rattle.std.specs.Prelude.{◌≡◌, ◌≤◌, ◌∷◌}
+use Rattle.act_fits.specs.act_states.specs.{ℕ, zero, suc, Bool, true, false, List, [], Setting, Capability, covers, Call}
 use Rattle.act_fits.specs.act_states.specs.{State, left_among, in_order, Refill, RefillAt, Again}
 use Rattle.kernel_history.specs.spk_nums.specs.declared.kinds.Kind.TheVariants.{Tcap as tcap_kind}
 use Rattle.kernel_history.specs.Trace.{Trace, state_after}

@@ -1,7 +1,8 @@
 -- What a call on two temporal capabilities knows where it stands, and which steps on the words of a temporal capability it relies on.
 use Rattle.act_fits.specs.act_states.specs as low
-use low.{◌≡◌, ◌≢◌, ◌⊎◌, ◌<◌, ◌≤◌, ◌==◌, ◌&&◌, not, ℕ, zero, suc, Bool, true, false, IsTrue, IsSome, List, [], ◌∷◌, ◌^◌, ◌+◌, Option, Some}
-use low.{None, if◌then◌else◌, slice_get, Setting, Capability, Call, HeadFits, word_of_head, head_of_word, quality_of_word, HeadWord, Word}
+use Rattle.std.specs.Prelude.{◌≡◌, ◌≢◌, ◌⊎◌, ◌<◌, ◌≤◌, ◌==◌, ◌&&◌, ◌∷◌, ◌^◌, ◌+◌, if◌then◌else◌}
+use low.{not, ℕ, zero, suc, Bool, true, false, IsTrue, IsSome, List, [], Option, Some}
+use low.{None, slice_get, Setting, Capability, Call, HeadFits, word_of_head, head_of_word, quality_of_word, HeadWord, Word}
 use low.{EntryAt, FrameAt, CountAt, CoreAt, FlushAt, LiveAt, ClockAt, word_of, left_of, State, fits, IsGuarded, marked, read_word, in_order}
 use low.{amount_of, judged, Pair, PairAt, LoadA, MarkA, ListA, LoadB, ListB, CompareB, AgainB, StoreList, StoreB, StoreA, PairWork}
 use Rattle.kernel_history.specs.{Step, state_after, last_left, own_read, WasAt, marked_by, changes_budgets, IsInFootprint}

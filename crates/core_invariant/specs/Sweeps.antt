@@ -1,8 +1,9 @@
 -- What a call knows that makes a frame untyped: of the frame's word, of the counters that it has frozen, of those who may still use the
 -- frame, and of the object in it.
 use Rattle.act_fits.specs.act_states.specs as low
-use low.{◌≡◌, ◌≢◌, ◌<◌, ◌≤◌, ◌&&◌, ◌==◌, ltb as nat_lt, leb as nat_le, ℕ, Bool, true, false, All, List, [], ◌∷◌, ◌++◌, length, Option, Some}
-use low.{None, IsTrue, if◌then◌else◌, Capability, Setting, Call, Retype, CountFits, word_of_count, frame_of_word, residue, CountWord}
+use Rattle.std.specs.Prelude.{◌≡◌, ◌≢◌, ◌<◌, ◌≤◌, ◌&&◌, ◌==◌, ◌∷◌, ◌++◌, if◌then◌else◌}
+use low.{ltb as nat_lt, leb as nat_le, ℕ, Bool, true, false, All, List, [], length, Option, Some}
+use low.{None, IsTrue, Capability, Setting, Call, Retype, CountFits, word_of_count, frame_of_word, residue, CountWord}
 use low.{FrameWord, CountAt, FrameAt, Frame, Kernel, Table, Leaf, Pages, Pleaf, Comp, Thread, Tcap, FrameOf, State, found, held_in}
 use low.{has_frame, frame_names, unheld, Acquired, Quiet, AtCore, AtFlush, sum_of_counts, latest_stamp, loads_of, may_be_cached, Owned}
 use low.{Sweep, SweepAt, Load as sweep_load, Compare, Scan, Empty, Swept, Thaw}

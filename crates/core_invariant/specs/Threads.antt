@@ -1,6 +1,7 @@
 -- What a switch holds of the words of threads, and what it knows: the thread to which it goes on, the component at the top of its stack,
 -- and the thread that it leaves.
-use Rattle.kernel_history.specs.{◌≡◌, ◌≢◌, ℕ, Bool, true, false, length, List, [], ◌∷◌, Some, IsTrue, Capability, Setting, Call, Switch}
+use Rattle.std.specs.Prelude.{◌≡◌, ◌≢◌, ◌∷◌}
+use Rattle.kernel_history.specs.{ℕ, Bool, true, false, length, List, [], Some, IsTrue, Capability, Setting, Call, Switch}
 use Rattle.kernel_history.specs.{word_of_thread, Idle, Running, EntryAt, State, comp_in, first_of_stack, thread_in, thread_of, fits}
 use Rattle.kernel_history.specs.{IsGuarded, changes_threads, IsInFootprint, WasAt, own_read, state_after, Kind}
 use Rattle.act_fits.specs.act_states.specs.{Claim as ClaimOf, AtStack, Claimed}

@@ -1,5 +1,6 @@
 -- What the settled words say of the state, kind by kind.
-use Rattle.kernel_history.specs.{◌≡◌, ◌<◌, ◌≤◌, ℕ, zero, suc, ℤ, pos, length, slice_get, Option, Some, None, Entry, entry_of_word}
+use Rattle.std.specs.Prelude.{◌≡◌, ◌<◌, ◌≤◌}
+use Rattle.kernel_history.specs.{ℕ, zero, suc, ℤ, pos, length, slice_get, Option, Some, None, Entry, entry_of_word}
 use Rattle.kernel_history.specs.{comp_of_word, frame_of_word, count_of_word, residue, core_of_word, flush_of_word, live_of_word, CountWord}
 use Rattle.kernel_history.specs.{Unheld, LiveWord, head_of_word, quality_of_word, stack_of_word, thread_of_word, HeadWord, Word, EntryAt}
 use Rattle.kernel_history.specs.{FrameAt, CountAt, CoreAt, FlushAt, LiveAt, ClockAt, Place, Free, Holds, Quiescing, CompFields}

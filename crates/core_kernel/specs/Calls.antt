@@ -1,5 +1,6 @@
 -- What a seat's trace is after a call and after a meet, and what all seats leave behind.
-use Rattle.flight_laws.specs.core_invariant.specs.{◌≡◌, ℕ, List, [], ◌∷◌, ◌++◌, length, slice_get, Some, Call, Reply, CoreEnd, size_of}
+use Rattle.std.specs.Prelude.{◌≡◌, ◌∷◌, ◌++◌}
+use Rattle.flight_laws.specs.core_invariant.specs.{ℕ, List, [], length, slice_get, Some, Call, Reply, CoreEnd, size_of}
 use Rattle.flight_laws.specs.core_invariant.specs.{shape_of, RepresentCounts, Represent, word_in, end_in, Trace, Out, phase, calls_of}
 use Rattle.core_kernel.specs.Replies.{replies_of, AreOfOthers, EndsWith}
 use Rattle.core_kernel.specs.Kernel.{KernelValue, CoreSeatValue, CoreNoteValue}

@@ -1,5 +1,6 @@
 -- A kernel, its seats and its notes as contracts see them.
-use Rattle.flight_laws.specs.core_invariant.specs.{◌≡◌, ℕ, List, [], length, slice_get, Some, None, Call, Setting, IsSetting, Trace}
+use Rattle.std.specs.Prelude.{◌≡◌}
+use Rattle.flight_laws.specs.core_invariant.specs.{ℕ, List, [], length, slice_get, Some, None, Call, Setting, IsSetting, Trace}
 use Rattle.core_kernel.specs.{declared.core_run.CoreRun.CoreRun, Running.running, Seen.IsStart, Seen.trace_of}
 use Rattle.{turn_rule.specs.TableValue, turn_rule.specs.SeatValue, turn_rule.specs.FollowsTrace, turn_rule.specs.Seats.NoteValue}
 

@@ -1,5 +1,6 @@
 -- The replies of a core's calls in a trace.
-use Rattle.flight_laws.specs.core_invariant.specs.{◌≡◌, ◌≢◌, ℕ, ◌==◌, List, [], ◌∷◌, ◌++◌, All, if◌then◌else◌, option_to_list, Some, Reply}
+use Rattle.std.specs.Prelude.{◌≡◌, ◌≢◌, ◌==◌, ◌∷◌, ◌++◌, if◌then◌else◌}
+use Rattle.flight_laws.specs.core_invariant.specs.{ℕ, List, [], All, option_to_list, Some, Reply}
 use Rattle.flight_laws.specs.core_invariant.specs.{Step, Trace}
 
 -- The replies that the core's calls have decided, in order.

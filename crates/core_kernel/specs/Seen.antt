@@ -1,6 +1,7 @@
 -- What the entries of the shared table are as a trace of the kernel: each is a step of the step machine, made by its core's state
 -- with the word found.
-use Rattle.flight_laws.specs.core_invariant.specs.{◌≡◌, ℕ, ◌<◌, List, [], ◌∷◌, length, slice_get, Some, None, Call, Setting, Word, IsIn}
+use Rattle.std.specs.Prelude.{◌≡◌, ◌<◌, ◌∷◌}
+use Rattle.flight_laws.specs.core_invariant.specs.{ℕ, List, [], length, slice_get, Some, None, Call, Setting, Word, IsIn}
 use Rattle.flight_laws.specs.core_invariant.specs.{size_of, shape_of, boot_word, word_in, Step, Trace, Core, started}
 use Rattle.flight_laws.specs.flight.specs.{turned, step_of, cores_after}
 use Rattle.turn_rule.specs.{declared.view.Entry.Entry, declared.view.Start.Start}

@@ -1,5 +1,6 @@
 -- What the turns of a seat of the table are as steps of the kernel.
-use Rattle.flight_laws.specs.core_invariant.specs.{◌≡◌, ℕ, ◌<◌, List, ◌++◌, length, map, slice_get, All, Some, None, IsSomeAnd, Call}
+use Rattle.std.specs.Prelude.{◌≡◌, ◌<◌, ◌++◌}
+use Rattle.flight_laws.specs.core_invariant.specs.{ℕ, List, length, map, slice_get, All, Some, None, IsSomeAnd, Call}
 use Rattle.flight_laws.specs.core_invariant.specs.{Setting, Trace, calls_of, started}
 use Rattle.turn_rule.specs.{SeatValue, FollowsTrace}
 use Rattle.core_kernel.specs.{declared.core_run.CoreRun.CoreRun, Running.running, Running.run_of, Seen.trace_of, Replies.EndsWith}

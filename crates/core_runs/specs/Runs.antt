@@ -1,5 +1,6 @@
 -- What runners do.
-use Rattle.core_kernel.specs.flight_laws.specs.core_invariant.specs.{◌≡◌, ℕ, ◌≤◌, ◌<◌, ◌^◌, Bool, true, false, List, [], ◌++◌, take, length}
+use Rattle.std.specs.Prelude.{◌≡◌, ◌≤◌, ◌<◌, ◌^◌, ◌++◌}
+use Rattle.core_kernel.specs.flight_laws.specs.core_invariant.specs.{ℕ, Bool, true, false, List, [], take, length}
 use Rattle.core_kernel.specs.flight_laws.specs.core_invariant.specs.{All, InLimits, Call, Reply, Trace, calls_of}
 use Rattle.core_kernel.specs.{replies_of, KernelValue, CoreSeatValue, HasSeen}
 

@@ -1,5 +1,6 @@
 -- Whole lists of calls, made by threads.
-use Rattle.core_kernel.specs.flight_laws.specs.core_invariant.specs.{◌≡◌, ℕ, zero, suc, ◌+◌, ◌<◌, ◌^◌, Bool, false, List, [], ◌∷◌, ◌++◌}
+use Rattle.std.specs.Prelude.{◌≡◌, ◌+◌, ◌<◌, ◌^◌, ◌∷◌, ◌++◌}
+use Rattle.core_kernel.specs.flight_laws.specs.core_invariant.specs.{ℕ, zero, suc, Bool, false, List, []}
 use Rattle.core_kernel.specs.flight_laws.specs.core_invariant.specs.{length, slice_get, get_or as slice_index_or, Some, All, InLimits, Call}
 use Rattle.core_kernel.specs.flight_laws.specs.core_invariant.specs.{Reply, Decision, Setting, size_of, shape_of, RepresentCounts}
 use Rattle.core_kernel.specs.flight_laws.specs.core_invariant.specs.{Represent, word_in, end_in, HasCalls, decisions_by, Trace, state_after}

@@ -1,5 +1,6 @@
 -- What is drawn of a trace by one who watches it.
-use Rattle.told_run.specs.lone_kernel.specs.core_invariant.specs.{◌≡◌, ℕ, Setting, Trace}
+use Rattle.std.specs.Prelude.{◌≡◌}
+use Rattle.told_run.specs.lone_kernel.specs.core_invariant.specs.{ℕ, Setting, Trace}
 use Rattle.page_drawing.specs.{Page, blank, page_after}
 
 -- After a blank page, the page that is asked for of the trace.

@@ -1,5 +1,6 @@
 -- A port with its seat at the endpoints, and the machine that deals it.
-use Rattle.core_machine.specs.core_kernel.specs.flight_laws.specs.core_invariant.specs.{◌≡◌, ℕ, ◌+◌, List, [], length, slice_get, Some}
+use Rattle.std.specs.Prelude.{◌≡◌, ◌+◌}
+use Rattle.core_machine.specs.core_kernel.specs.flight_laws.specs.core_invariant.specs.{ℕ, List, [], length, slice_get, Some}
 use Rattle.async_ends.specs.{Comes, look, EndTableValue, EndSeatValue}
 use Rattle.core_machine.specs.{SeatsValue, IsDealt}
 use Rattle.async_ends.specs.{declared.endpoint.EndOp.EndOp, declared.endpoint.EndReply.EndReply}

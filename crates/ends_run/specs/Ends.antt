@@ -1,5 +1,6 @@
 -- Lists of calls, and the endpoint calls that are made after them.
-use Rattle.core_runs.specs.core_kernel.specs.flight_laws.specs.core_invariant.specs.{◌≡◌, ℕ, ◌+◌, List, ◌++◌, map, Call, Setting, HasCalls}
+use Rattle.std.specs.Prelude.{◌≡◌, ◌+◌, ◌++◌}
+use Rattle.core_runs.specs.core_kernel.specs.flight_laws.specs.core_invariant.specs.{ℕ, List, map, Call, Setting, HasCalls}
 use Rattle.core_runs.specs.core_kernel.specs.flight_laws.specs.core_invariant.specs.{Trace, Out, phase, calls_of}
 use Rattle.async_ends.specs.{Event, IsLegal, events_by, sent_to, taken_at, untaken, AreStepsOfAll}
 use Rattle.ends_runners.specs.{look_call, asks_of}

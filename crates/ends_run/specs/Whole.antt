@@ -1,6 +1,7 @@
 -- Lists of calls and endpoint calls, made by threads.
 use Rattle.core_runs.specs.core_kernel.specs.flight_laws.specs.core_invariant.specs as low
-use low.{◌≡◌, ℕ, ◌<◌, ◌^◌, List, [], length, map, slice_get, slice_index, get_or as slice_index_or, Some, Call, Setting, HasCalls, Trace}
+use Rattle.std.specs.Prelude.{◌≡◌, ◌<◌, ◌^◌}
+use low.{ℕ, List, [], length, map, slice_get, slice_index, get_or as slice_index_or, Some, Call, Setting, HasCalls, Trace}
 use Rattle.core_runs.specs.core_kernel.specs.{CoreSeatValue, AreAllSeats, HasSeen, ExtendsByOthers}
 use Rattle.ends_run.specs.{declared.whole.EndsRan.EndsRan, declared.whole.Listed.Listed, Ends.EndsHistory}
 use Rattle.{async_ends.specs.sent_to, async_ends.specs.untaken, core_runs.specs.core_kernel.specs.flight_laws.specs.Histories.IsHistory}

@@ -1,5 +1,6 @@
 -- The looks of a core in the kernel's trace.
-use Rattle.core_kernel.specs.flight_laws.specs.core_invariant.specs.{List, [], ◌∷◌, ◌++◌, Call, Reply, calls_of}
+use Rattle.std.specs.Prelude.{◌∷◌, ◌++◌}
+use Rattle.core_kernel.specs.flight_laws.specs.core_invariant.specs.{List, [], Call, Reply, calls_of}
 use Rattle.core_kernel.specs.{replies_of, CoreSeatValue, HasSeen, MakesCall}
 use Rattle.async_ends.specs.{declared.asks.Look.Look, Looks.look}
 

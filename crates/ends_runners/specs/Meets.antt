@@ -1,5 +1,6 @@
 -- What seats have seen when they have told each other.
-use Rattle.core_kernel.specs.flight_laws.specs.core_invariant.specs.{◌≡◌, ℕ, ◌<◌, ◌≤◌, List, length, slice_get, set as slice_set, Some}
+use Rattle.std.specs.Prelude.{◌≡◌, ◌<◌, ◌≤◌}
+use Rattle.core_kernel.specs.flight_laws.specs.core_invariant.specs.{ℕ, List, length, slice_get, set as slice_set, Some}
 use Rattle.core_kernel.specs.flight_laws.specs.core_invariant.specs.{Trace}
 use Rattle.core_kernel.specs.{KernelValue, CoreSeatValue, HasSeen, Extends, ExtendsByOthers}
 

@@ -1,5 +1,6 @@
 -- Runners of seats and lists, and what becomes of them.
-use Rattle.core_kernel.specs.flight_laws.specs.core_invariant.specs.{◌≡◌, ℕ, ◌≤◌, false, List, [], length, map, slice_get}
+use Rattle.std.specs.Prelude.{◌≡◌, ◌≤◌}
+use Rattle.core_kernel.specs.flight_laws.specs.core_invariant.specs.{ℕ, false, List, [], length, map, slice_get}
 use Rattle.core_kernel.specs.flight_laws.specs.core_invariant.specs.{get_or as slice_index_or, Some, Call}
 use Rattle.async_ends.specs.{declared.asks.EndAsk.EndAsk, declared.asks.EndDone.EndDone, Tables.EndSeatValue}
 use Rattle.{std.specs.Global.Vec, core_kernel.specs.Kernel.CoreSeatValue, ends_runners.specs.Runs.EndRunnerValue}

@@ -1,5 +1,6 @@
 -- What runners of endpoint calls do.
-use Rattle.core_kernel.specs.flight_laws.specs.core_invariant.specs.{◌≡◌, ℕ, ◌+◌, ◌<◌, ◌≤◌, ◌^◌, Bool, true, false, List, [], ◌++◌, take}
+use Rattle.std.specs.Prelude.{◌≡◌, ◌+◌, ◌<◌, ◌≤◌, ◌^◌, ◌++◌}
+use Rattle.core_kernel.specs.flight_laws.specs.core_invariant.specs.{ℕ, Bool, true, false, List, [], take}
 use Rattle.core_kernel.specs.flight_laws.specs.core_invariant.specs.{length, map, Call, Trace, calls_of}
 use Rattle.async_ends.specs.{Event, events_by, history_of, EndTableValue, EndSeatValue, AreStepsOfAll}
 use Rattle.core_kernel.specs.{replies_of, CoreSeatValue, HasSeen}

@@ -1,5 +1,6 @@
 -- How often was sent to a frame.
-use Rattle.core_kernel.specs.flight_laws.specs.core_invariant.specs.{ℕ, ◌+◌, ◌==◌, List, [], ◌∷◌, if◌then◌else◌, Result, Ok, Err, Reply}
+use Rattle.std.specs.Prelude.{◌+◌, ◌==◌, ◌∷◌, if◌then◌else◌}
+use Rattle.core_kernel.specs.flight_laws.specs.core_invariant.specs.{ℕ, List, [], Result, Ok, Err, Reply}
 use Rattle.async_ends.specs.{declared.endpoint.EndReply.EndReply, declared.endpoint.EndReply.TheVariants.Sent}
 use Rattle.{async_ends.specs.declared.asks.EndDone.EndDone, async_ends.specs.Looks.reached, ends_runners.specs.Runs.EndRunnerValue}
 

@@ -1,5 +1,6 @@
 -- What a turn, and a whole schedule, make of a machine and of where the schedule has come to.
-use Rattle.plain_kernel.specs.seq_state.specs.{◌≡◌, ◌<◌, ◌≤◌, ◌^◌, ◌*◌, ℕ, ◌+◌, ◌-◌, List, [], ◌∷◌, ◌++◌, length, slice_get, All, false}
+use Rattle.std.specs.Prelude.{◌≡◌, ◌<◌, ◌≤◌, ◌^◌, ◌*◌, ◌+◌, ◌-◌, ◌∷◌, ◌++◌}
+use Rattle.plain_kernel.specs.seq_state.specs.{ℕ, List, [], length, slice_get, All, false}
 use Rattle.plain_kernel.specs.seq_state.specs.{Option, Some, None, IfSome, Setting, Call}
 use Rattle.sched_rules.specs.{Progress, Step, TaskFits, at_first, turns_of, calls_of, IsSchedule}
 use Rattle.plain_kernel.specs.seq_state.specs.Maps.{Maps}

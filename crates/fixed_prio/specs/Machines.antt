@@ -1,5 +1,6 @@
 -- A machine of one core, and the plain kernel beside it.
-use Rattle.plain_kernel.specs.kernel_rules.specs.{◌≡◌, List, [], ◌∷◌, ◌++◌, Setting, IsSetting, Call, Reply, start, plain_steps}
+use Rattle.std.specs.Prelude.{◌≡◌, ◌∷◌, ◌++◌}
+use Rattle.plain_kernel.specs.kernel_rules.specs.{List, [], Setting, IsSetting, Call, Reply, start, plain_steps}
 use Rattle.{plain_kernel.specs.kernel_rules.specs.State.State, plain_kernel.specs.seq_state.specs.Maps.Maps}
 use Rattle.{plain_kernel.specs.Step.IsReached, sched_rules.specs.Schedule.reply_to}
 

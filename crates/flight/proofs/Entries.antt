@@ -16,6 +16,7 @@ use Rattle.call_fits.specs.call_stages.specs.act_states.specs.{declared.work.Act
 use Rattle.call_fits.specs.call_stages.specs.act_states.specs.{declared.invocations.ReturningAt.TheVariants.LoadBelow, Acts.returns_at}
 use Rattle.call_fits.specs.call_stages.specs.act_states.specs.{Flushes.flushes, Ticks.charges}
 use Rattle.work_invariant.specs.kept_facts.proofs.Calm.{calm_entered, calm_then}
+use Rattle.std.proofs.Common.{[], ◌∷◌}
 use Rattle.{work_invariant.specs.trace_laws.proofs.AloneCalls.spent_first}
 use Rattle.{call_fits.specs.call_stages.specs.call_plans.proofs.Lives.lives as lives_asked}
 use Rattle.{work_invariant.specs.step_ways.proofs.Writes.enters_on, flight.specs.Made.MayBegin}

@@ -1,5 +1,6 @@
 -- When the call of a core is decided, and what a step of it leads to.
-use Rattle.work_invariant.specs.core_invariant.specs.{◌≡◌, Bool, true, false, Option, Some, None, Stage, Enter, Living, Undecided, Decided}
+use Rattle.std.specs.Prelude.{◌≡◌}
+use Rattle.work_invariant.specs.core_invariant.specs.{Bool, true, false, Option, Some, None, Stage, Enter, Living, Undecided, Decided}
 use Rattle.work_invariant.specs.core_invariant.specs.{Leave, ActiveCall, Took, GoesOn, Decides, Returns, Changes}
 
 -- Whether a call is decided that stands at this stage.

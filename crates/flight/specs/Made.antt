@@ -1,6 +1,7 @@
 -- The steps that the machine makes: a step of a core is a function of the core and of the word found, and where each core stands
 -- after a trace is a function of the trace. So a trace is the machine's own, or it is not.
-use Rattle.work_invariant.specs.core_invariant.specs.{◌≡◌, ◌<◌, Bool, ℕ, [], ◌∷◌, Option, Some, None, IsSome, InLimits, Setting, Call, Move}
+use Rattle.std.specs.Prelude.{◌≡◌, ◌<◌, ◌∷◌}
+use Rattle.work_invariant.specs.core_invariant.specs.{Bool, ℕ, [], Option, Some, None, IsSome, InLimits, Setting, Call, Move}
 use Rattle.work_invariant.specs.core_invariant.specs.{word_of, told_of, put, Step, Trace, last_left, Absorbed, Core, decided_in}
 use Rattle.work_invariant.specs.core_invariant.specs.{returned_in, started, begun, move_of, ready_of, absorbed, told_of_step}
 

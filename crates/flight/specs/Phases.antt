@@ -1,5 +1,6 @@
 -- Where the cores of the machine stand, and the phases of the trace that has brought them there.
-use Rattle.work_invariant.specs.core_invariant.specs.{◌≡◌, ◌≢◌, ◌<◌, ◌≤◌, [], ℕ, true, false, Option, None, IsSome, Setting, IsSetting}
+use Rattle.std.specs.Prelude.{◌≡◌, ◌≢◌, ◌<◌, ◌≤◌}
+use Rattle.work_invariant.specs.core_invariant.specs.{[], ℕ, true, false, Option, None, IsSome, Setting, IsSetting}
 use Rattle.work_invariant.specs.core_invariant.specs.{Reply, IsIn, word_of, Step, Trace, Phase, Out, phase, calls_of, Core, move_of}
 use Rattle.work_invariant.specs.core_invariant.specs.{ready_of, IsCore}
 use Rattle.work_invariant.specs.boot_words.specs.kernel_history.specs.Order.{IsDecided}

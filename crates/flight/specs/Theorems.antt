@@ -1,5 +1,6 @@
 -- What is proved of the cores that stand for a trace.
-use Rattle.work_invariant.specs.core_invariant.specs.{◌≡◌, ◌<◌, ℕ, [], ◌∷◌, Option, None, Setting, IsSetting, Call, word_of, put, Trace}
+use Rattle.std.specs.Prelude.{◌≡◌, ◌<◌, ◌∷◌}
+use Rattle.work_invariant.specs.core_invariant.specs.{ℕ, [], Option, None, Setting, IsSetting, Call, word_of, put, Trace}
 use Rattle.work_invariant.specs.core_invariant.specs.{state_after, last_left, RepresentCounts, Represent, Core, move_of, end_of}
 use Rattle.work_invariant.specs.boot_words.specs.kernel_history.specs.Moments.{WordsSay}
 use Rattle.work_invariant.specs.core_invariant.specs.Invariant.{Invariant}

@@ -1,5 +1,6 @@
 -- What it means that a judge has come to a place of a history.
-use Rattle.seq_state.specs.{◌≡◌, ◌≢◌, ◌<◌, ◌^◌, ◌+◌, ◌==◌, ◌&&◌, not, ℕ, Bool, true, false, List, [], ◌∷◌, ◌++◌, reverse, length, get_or}
+use Rattle.std.specs.Prelude.{◌≡◌, ◌≢◌, ◌<◌, ◌^◌, ◌+◌, ◌==◌, ◌&&◌, ◌∷◌, ◌++◌}
+use Rattle.seq_state.specs.{not, ℕ, Bool, true, false, List, [], reverse, length, get_or}
 use Rattle.seq_state.specs.{Option, Some, None, IsTrue, All, Setting, IsSetting, InLimits, Call, Reply, Phase, Out, Open, Decided, is_in}
 use Rattle.marked_history.specs.{phase, state, HasMet, IsOfMachine, IsHistory, said_marks, entered, decisions, AllFollow, MarkBreaks}
 use Rattle.marked_history.specs.{FirstBreaks, SaidFits, LineBreaks, LineFollows}

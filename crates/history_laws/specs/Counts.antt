@@ -1,7 +1,8 @@
 -- What the count words of a frame show at each moment, also while calls hold them: with what these calls have still to store, the
 -- references to the frame, modulo 2 ^ 16.
-use Rattle.kernel_history.specs.{◌≡◌, ℕ, ℤ, pos, ◌+ℤ◌, ◌-ℤ◌, ◌==◌, ◌&&◌, Bool, false, true, List, [], ◌∷◌, Option, Some, None, is_some}
-use Rattle.kernel_history.specs.{if◌then◌else◌, Setting, Retype, residue, CountWord, Hold, Unheld, Pinned, Closed, refs, call_in, counters}
+use Rattle.std.specs.Prelude.{◌≡◌, ◌+ℤ◌, ◌-ℤ◌, ◌==◌, ◌&&◌, ◌∷◌, if◌then◌else◌}
+use Rattle.kernel_history.specs.{ℕ, ℤ, pos, Bool, false, true, List, [], Option, Some, None, is_some}
+use Rattle.kernel_history.specs.{Setting, Retype, residue, CountWord, Hold, Unheld, Pinned, Closed, refs, call_in, counters}
 use Rattle.kernel_history.specs.{count_at, Phase, Decided, phase, state_after, state_before, last_left}
 use Rattle.state_laws.specs.spk_nums.specs.{declared.kinds.FrameKind.TheVariants.Untyped, declared.replies.Reply.TheVariants.Ok}
 use Rattle.{kernel_history.specs.frame_words.specs.Residue.wrapped, kernel_history.specs.Trace.Trace}

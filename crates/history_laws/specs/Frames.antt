@@ -1,5 +1,6 @@
 -- Frames that are made untyped again: what then held, and which frames stay as they are.
-use Rattle.kernel_history.specs.{◌≡◌, ◌≢◌, ◌<◌, ◌==◌, ◌⊎◌, ℕ, Bool, true, false, [], ◌∷◌, ◌++◌, Option, Some, None, IsTrue, Setting, Call}
+use Rattle.std.specs.Prelude.{◌≡◌, ◌≢◌, ◌<◌, ◌==◌, ◌⊎◌, ◌∷◌, ◌++◌}
+use Rattle.kernel_history.specs.{ℕ, Bool, true, false, [], Option, Some, None, IsTrue, Setting, Call}
 use Rattle.kernel_history.specs.{Retype, Value, entry_of_word, Entry, Held, word_of, EntryAt, CountAt, FrameOf, State, refs, is_node}
 use Rattle.kernel_history.specs.{marked_by, Step, phase, after_enter, state_after, state_before, own_read, reads}
 use Rattle.state_laws.specs.spk_nums.specs.{declared.kinds.FrameKind.TheVariants.Untyped, declared.replies.Reply.TheVariants.Ok}

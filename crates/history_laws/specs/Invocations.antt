@@ -1,5 +1,6 @@
 -- Which components calls through gates enter.
-use Rattle.kernel_history.specs.{◌≡◌, ◌<◌, ℕ, [], ◌∷◌, ◌++◌, true, Some, Capability, Setting, Value, Dead, State, comp_in, to_use, only}
+use Rattle.std.specs.Prelude.{◌≡◌, ◌<◌, ◌∷◌, ◌++◌}
+use Rattle.kernel_history.specs.{ℕ, [], true, Some, Capability, Setting, Value, Dead, State, comp_in, to_use, only}
 use Rattle.kernel_history.specs.{Found, named, is_live_in, Step, phase, after_enter, state_before, state_after}
 use Rattle.state_laws.specs.spk_nums.specs.{declared.calls.Call.TheVariants.Call as call_gate, declared.kinds.Kind.TheVariants.Gate}
 use Rattle.state_laws.specs.spk_nums.specs.{declared.replies.Reply.TheVariants.Ok}

@@ -1,5 +1,6 @@
 -- Liveness numbers and components that were killed.
-use Rattle.kernel_history.specs.{◌≡◌, ◌<◌, ℕ, [], ◌∷◌, ◌++◌, false, Some, Setting, Call, Value, live_of_word, LiveAt, CompFields, Dead}
+use Rattle.std.specs.Prelude.{◌≡◌, ◌<◌, ◌∷◌, ◌++◌}
+use Rattle.kernel_history.specs.{ℕ, [], false, Some, Setting, Call, Value, live_of_word, LiveAt, CompFields, Dead}
 use Rattle.kernel_history.specs.{comp_of, asks_life, Step, Out, phase, after_enter, state_before, state_after, last_left, LiveWord}
 use Rattle.state_laws.specs.spk_nums.specs.declared.replies.Reply.TheVariants.{Ok}
 use Rattle.kernel_history.specs.Trace.{Open, Trace}

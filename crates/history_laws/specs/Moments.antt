@@ -1,5 +1,6 @@
 -- What holds at each moment of a trace: after each of its beginnings, at each of its steps, and between two of its moments.
-use Rattle.kernel_history.specs.{◌≡◌, ◌∷◌, ◌++◌, Step}
+use Rattle.std.specs.Prelude.{◌≡◌, ◌∷◌, ◌++◌}
+use Rattle.kernel_history.specs.{Step}
 use Rattle.kernel_history.specs.Trace.{Trace}
 
 -- This holds after each beginning v of the trace; so of the whole trace, where no step comes after v.

@@ -1,5 +1,6 @@
 -- The translations that cores have cached.
-use Rattle.kernel_history.specs.{◌≡◌, ◌<◌, ◌++◌, ℕ, false, [], ◌∷◌, Some, Setting, Touch, PageFlags, User, State, comp_of, flushes_at}
+use Rattle.std.specs.Prelude.{◌≡◌, ◌<◌, ◌++◌, ◌∷◌}
+use Rattle.kernel_history.specs.{ℕ, false, [], Some, Setting, Touch, PageFlags, User, State, comp_of, flushes_at}
 use Rattle.kernel_history.specs.{state_after, state_before, phase, after_enter, Step}
 use Rattle.state_laws.specs.{Stands, Begins, Answers}
 use Rattle.std.specs.List.{AllByRecursion}

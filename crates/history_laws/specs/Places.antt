@@ -1,5 +1,6 @@
 -- What may be concluded from a word that a step has found: that of a place which is held, and that of a core which has passed a stamp.
-use Rattle.kernel_history.specs.{◌≡◌, ◌<◌, ◌⊎◌, ℕ, false, [], ◌∷◌, ◌++◌, Some, IsTrue, Capability, Setting, Call, entry_of_word, Held}
+use Rattle.std.specs.Prelude.{◌≡◌, ◌<◌, ◌⊎◌, ◌∷◌, ◌++◌}
+use Rattle.kernel_history.specs.{ℕ, false, [], Some, IsTrue, Capability, Setting, Call, entry_of_word, Held}
 use Rattle.kernel_history.specs.{core_of_word, CoreWord, EntryAt, CoreAt, word_of, Thing, State, Slot, usable, is_node, Relies, phase}
 use Rattle.kernel_history.specs.{state_after, own_read, stamp, clock}
 use Rattle.kernel_history.specs.Trace.{Trace, Open}

@@ -1,5 +1,6 @@
 -- When the calls of a machine are decided: what it is for a core to be ready. Which cores are ready after a trace, the machine tells.
-use Rattle.kernel_history.specs.{◌≡◌, ℕ, Bool, true, false, Some, IsSome, Call, Reply, Step, phase}
+use Rattle.std.specs.Prelude.{◌≡◌}
+use Rattle.kernel_history.specs.{ℕ, Bool, true, false, Some, IsSome, Call, Reply, Step, phase}
 use Rattle.{state_laws.specs.kernel_rules.specs.Laws.IsRefusal, kernel_history.specs.Trace.Trace, kernel_history.specs.Trace.Open}
 
 -- The step e after t decides where its core's call is open and ready there, whatever word it finds.

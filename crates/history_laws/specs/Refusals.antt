@@ -1,7 +1,8 @@
 -- What each law of a history refuses. Of the laws that say more than that a trace is legal it is a trace that is legal, in the footprints
 -- of its calls, within their bounds and disciplined. Of those that follow from a legal trace it is a trace, or a state, that is none.
 use Rattle.history_laws.specs as low
-use Rattle.kernel_history.specs.{◌≡◌, start, FrameOf, KeepsBounds, counters, KeepsDiscipline, KeepsFootprints, IsLegal, two_cores}
+use Rattle.std.specs.Prelude.{◌≡◌}
+use Rattle.kernel_history.specs.{start, FrameOf, KeepsBounds, counters, KeepsDiscipline, KeepsFootprints, IsLegal, two_cores}
 use low.{Moments.AtEachMoment, Moments.AtEachStep, Moments.OfEachStretch, Ready.ReadyDecides, Ready.UnreadyRefuses, Places.PlacesFound}
 use low.{Places.ScannedCores, Frames.LookedNodesStay, Frames.ReadNodesStay, Frames.CountedFramesStay, Frames.UntypedFramesAreUnused}
 use low.{Counts.CountsTell, Counts.FrozenSay, Stamps.newest_then, Stamps.StampsTell, Sums.FrozenSums, Sums.TimeSums, Pages.AllStand}

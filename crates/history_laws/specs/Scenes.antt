@@ -1,5 +1,6 @@
 -- Worked traces and states of two cores, at least one for each law of a history: what the laws are seen to refuse.
-use Rattle.kernel_history.specs.{ℕ, pos, false, Bool, [], ◌∷◌, Option, Some, None, whole_copy, PageFlags, Translation, Call, Nothing, start}
+use Rattle.std.specs.Prelude.{◌∷◌}
+use Rattle.kernel_history.specs.{ℕ, pos, false, Bool, [], Option, Some, None, whole_copy, PageFlags, Translation, Call, Nothing, start}
 use Rattle.kernel_history.specs.{State, with_core, with_budget, word_of_count, Hold, Unheld, Pinned, Closed, word_of_head, word_of_thread}
 use Rattle.kernel_history.specs.{Idle, EntryAt, CountAt, CoreAt, ClockAt, LoadOf, StoreOf, AddOf, two_cores, enters, goes, decides, returns}
 use Rattle.kernel_history.specs.{loads, range_word, done, FrameKind, Reply}

@@ -1,6 +1,7 @@
 -- The stamps that the count words of a frame show at each moment, also while calls hold them: with what these calls have still to store,
 -- the newest is that of the grace period of the frame which began last.
-use Rattle.kernel_history.specs.{◌≡◌, ℕ, ◌==◌, ◌&&◌, max, List, [], ◌∷◌, Option, Some, None, is_some, if◌then◌else◌, Setting, CountWord}
+use Rattle.std.specs.Prelude.{◌≡◌, ◌==◌, ◌&&◌, ◌∷◌, if◌then◌else◌}
+use Rattle.kernel_history.specs.{ℕ, max, List, [], Option, Some, None, is_some, Setting, CountWord}
 use Rattle.kernel_history.specs.{Hold, Unheld, Pinned, Closed, FrameOf, counters, count_at, begins_at, stamp, phase, last_left}
 use Rattle.{kernel_history.specs.Trace.Trace, history_laws.specs.Counts.is_carried_out, history_laws.specs.Counts.has_cleared}
 

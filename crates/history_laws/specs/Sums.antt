@@ -1,5 +1,6 @@
 -- Time and references as sums over words: what words show at a moment, and what the calls in progress have still to store there.
-use Rattle.kernel_history.specs.{◌≡◌, ◌<◌, ℕ, false, All, Option, Some, None, Setting, head_of_word, residue, CountWord, Closed, EntryAt}
+use Rattle.std.specs.Prelude.{◌≡◌, ◌<◌}
+use Rattle.kernel_history.specs.{ℕ, false, All, Option, Some, None, Setting, head_of_word, residue, CountWord, Closed, EntryAt}
 use Rattle.kernel_history.specs.{CountAt, ticks, refs, Kernel, Tcap, TcapFields, State, counters, count_at, count_sum, marked_by, Phase}
 use Rattle.kernel_history.specs.{Out, Decided, phase, state_after, last_left}
 use Rattle.history_laws.specs.{Time.state_of_decision, Time.Owes, Counts.has_cleared}

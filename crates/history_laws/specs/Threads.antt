@@ -1,5 +1,6 @@
 -- The threads that cores run, and what the words of threads say of them.
-use Rattle.kernel_history.specs.{◌≡◌, ◌≢◌, ◌<◌, ℕ, Some, IsTrue, Setting, thread_of_word, ThreadWord, Idle, Running, Claimed, EntryAt, fits}
+use Rattle.std.specs.Prelude.{◌≡◌, ◌≢◌, ◌<◌}
+use Rattle.kernel_history.specs.{ℕ, Some, IsTrue, Setting, thread_of_word, ThreadWord, Idle, Running, Claimed, EntryAt, fits}
 use Rattle.kernel_history.specs.{State, state_after, last_left, Kind}
 use Rattle.kernel_history.specs.Trace.{Trace}
 

@@ -1,6 +1,7 @@
 -- The time of a machine: what its temporal capabilities hold and its cores have spent and owe.
 use Rattle.kernel_history.specs as low
-use low.{◌≡◌, ℕ, suc, ◌+◌, ◌<◌, ◌≤◌, ◌==◌, ◌&&◌, ◌⊎◌, [], ◌∷◌, slice_get, Option, Some, None, is_some, if◌then◌else◌, Setting, Capability}
+use Rattle.std.specs.Prelude.{◌≡◌, ◌+◌, ◌<◌, ◌≤◌, ◌==◌, ◌&&◌, ◌⊎◌, ◌∷◌, if◌then◌else◌}
+use low.{ℕ, suc, [], slice_get, Option, Some, None, is_some, Setting, Capability}
 use low.{Call, Transfer, Delegate, Test, Reply, Value, quality_of_word, head_of_word, HeadWord, EntryAt, to_use, only, ticks, Found, named}
 use low.{start, Kernel, Tcap, TcapFields, State, preemption, preempts, tcap_at, events_of, marked_by, Step, Decided, phase, after_enter}
 use low.{state_after, state_before, last_left, Kind, Trace.Trace, Trace.Open}

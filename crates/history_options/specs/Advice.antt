@@ -1,5 +1,6 @@
 -- What may stand in the place of a line.
-use Rattle.open_calls.specs.seq_state.specs.{◌≡◌, ℕ, ◌+◌, Bool, true, false, List, ◌++◌, reverse, codes, decimal, string_bytes, Setting}
+use Rattle.std.specs.Prelude.{◌≡◌, ◌+◌, ◌++◌}
+use Rattle.open_calls.specs.seq_state.specs.{ℕ, Bool, true, false, List, reverse, codes, decimal, string_bytes, Setting}
 use Rattle.open_calls.specs.seq_state.specs.{reply_text, Call, Reply, State, alone}
 use Rattle.marked_history.specs.{phase, state, marks_of, entered}
 use Rattle.open_calls.specs.{declared.outlooks.Outlook.Outlook, Leads.names_text, Told.told}

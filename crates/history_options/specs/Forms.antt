@@ -1,5 +1,6 @@
 -- Where a line stands, and how a reply is written in its place.
-use Rattle.open_calls.specs.seq_state.specs.{◌≡◌, ◌<◌, ℕ, List, [], ◌∷◌, ◌++◌, InLimits, Call, Reply, Out as out, Open}
+use Rattle.std.specs.Prelude.{◌≡◌, ◌<◌, ◌∷◌, ◌++◌}
+use Rattle.open_calls.specs.seq_state.specs.{ℕ, List, [], InLimits, Call, Reply, Out as out, Open}
 use Rattle.marked_history.specs.{declared.marks.Mark.Mark, declared.marks.Mark.TheVariants.Enter, declared.marks.Mark.TheVariants.Decide}
 use Rattle.marked_history.specs.{declared.marks.Mark.TheVariants.Return, declared.marks.Said.Said, declared.marks.Said.TheVariants.One}
 use Rattle.marked_history.specs.{declared.marks.Said.TheVariants.Whole as whole_line, declared.marks.Line.Line, Histories.phase}

@@ -1,5 +1,6 @@
 -- The lines that may stand in the place of one.
-use Rattle.open_calls.specs.seq_state.specs.{◌≡◌, ℕ, List, [], ◌∷◌, ◌++◌, Bool, true, false, if◌then◌else◌, Setting, Call, Reply}
+use Rattle.std.specs.Prelude.{◌≡◌, ◌∷◌, ◌++◌, if◌then◌else◌}
+use Rattle.open_calls.specs.seq_state.specs.{ℕ, List, [], Bool, true, false, Setting, Call, Reply}
 use Rattle.marked_history.specs.{declared.marks.Said.Said, declared.marks.Line.Line, declared.marks.Verdict.Verdict}
 use Rattle.marked_history.specs.{declared.marks.Verdict.TheVariants.Legal, declared.marks.Verdict.TheVariants.Illegal, Verdicts.IsVerdict}
 use Rattle.history_options.specs.{declared.forms.Form.Form, Forms.with_form, Texts.said_line}

@@ -1,5 +1,6 @@
 -- The replies that are tried.
-use Rattle.open_calls.specs.seq_state.specs.{ℕ, zero, suc, List, [], ◌∷◌, ◌++◌, Option, Some, None, Reply}
+use Rattle.std.specs.Prelude.{◌∷◌, ◌++◌}
+use Rattle.open_calls.specs.seq_state.specs.{ℕ, zero, suc, List, [], Option, Some, None, Reply}
 
 -- a reply that is no refusal, alone
 abbrev pub ok_of : Reply → List Reply

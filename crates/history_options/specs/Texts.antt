@@ -1,5 +1,6 @@
 -- A line of a given history, as it is written.
-use Rattle.open_calls.specs.kernel_rules.specs.{List, ℕ, ◌++◌, codes, decimal, call_text, reply_text}
+use Rattle.std.specs.Prelude.{◌++◌}
+use Rattle.open_calls.specs.kernel_rules.specs.{List, ℕ, codes, decimal, call_text, reply_text}
 use Rattle.marked_history.specs.declared.marks.Mark.TheVariants.{Enter, Decide, Return}
 use Rattle.marked_history.specs.declared.marks.Said.{Said}
 use Rattle.marked_history.specs.declared.marks.Said.TheVariants.{One, Whole}

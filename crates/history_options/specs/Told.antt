@@ -1,5 +1,6 @@
 -- All that is told of a given history.
-use Rattle.open_calls.specs.seq_state.specs.{◌≡◌, ◌⊎◌, ℕ, List, ◌∷◌, ◌++◌, reverse, Setting}
+use Rattle.std.specs.Prelude.{◌≡◌, ◌⊎◌, ◌∷◌, ◌++◌}
+use Rattle.open_calls.specs.seq_state.specs.{ℕ, List, reverse, Setting}
 use Rattle.marked_history.specs.{marks_of, AreHistory, LineBreaks, AreLegal, declared.marks.Line.Line, declared.marks.Why.Why}
 use Rattle.{marked_history.specs.declared.marks.Verdict.TheVariants.Legal, marked_history.specs.declared.marks.Verdict.TheVariants.Illegal}
 use Rattle.{check_run.specs.Texts.verdict_text, history_options.specs.Texts.said_line, history_options.specs.Advice.IsAdvice}

@@ -1,5 +1,6 @@
 -- The authority of one step of a legal trace.
-use Rattle.kernel_history.specs.{◌≡◌, ◌⊎◌, ◌∷◌, Setting, IsSetting, Step, state_after, state_before, IsLegal}
+use Rattle.std.specs.Prelude.{◌≡◌, ◌⊎◌, ◌∷◌}
+use Rattle.kernel_history.specs.{Setting, IsSetting, Step, state_after, state_before, IsLegal}
 use Rattle.world_laws.specs.authority_laws.specs.{Part, CoreIs, IsUnderOne, OwnBy, SamePart}
 use Rattle.{kernel_history.specs.Trace.Trace, isolation_laws.specs.Carried.CarriesOut}
 

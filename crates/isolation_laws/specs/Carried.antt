@@ -1,5 +1,6 @@
 -- Calls that steps carry out.
-use Rattle.kernel_history.specs.{◌≡◌, ℕ, ◌∷◌, ◌++◌, Some, Setting, Call, Value, State, Step, phase, after_enter, state_before}
+use Rattle.std.specs.Prelude.{◌≡◌, ◌∷◌, ◌++◌}
+use Rattle.kernel_history.specs.{ℕ, Some, Setting, Call, Value, State, Step, phase, after_enter, state_before}
 use Rattle.kernel_history.specs.spk_nums.specs.declared.replies.Reply.TheVariants.{Ok}
 use Rattle.kernel_history.specs.Trace.{Trace, Open}
 

@@ -1,5 +1,6 @@
 -- Where the capabilities of legal traces come from.
-use Rattle.kernel_history.specs.{◌≡◌, ◌⊎◌, ℕ, true, ◌∷◌, ◌++◌, Option, Some, None, Capability, Setting, IsSetting, Place, Free, Holds}
+use Rattle.std.specs.Prelude.{◌≡◌, ◌⊎◌, ◌∷◌, ◌++◌}
+use Rattle.kernel_history.specs.{ℕ, true, Option, Some, None, Capability, Setting, IsSetting, Place, Free, Holds}
 use Rattle.kernel_history.specs.{Quiescing, Step, state_after, state_before, events_of, IsLegal}
 use Rattle.origin_laws.specs.origin_rules.specs.{origin_of, is_own, Gives, HasChain}
 use Rattle.origin_laws.specs.{IsForeign, IsCovered}

@@ -1,5 +1,6 @@
 -- What follows from the laws of steps and of stretches by their words alone: so these refuse laws that say nothing.
-use Rattle.kernel_history.specs.{◌≡◌, ◌≢◌, ℕ, Bool, true, false, [], ◌∷◌, ◌++◌, None, Setting, Kind, State, Step, state_after, state_before}
+use Rattle.std.specs.Prelude.{◌≡◌, ◌≢◌, ◌∷◌, ◌++◌}
+use Rattle.kernel_history.specs.{ℕ, Bool, true, false, [], None, Setting, Kind, State, Step, state_after, state_before}
 use Rattle.world_laws.specs.{works_in, lives_at, gates, OnlyGates, IsSealed, AreApart, ticks_in, RunsAcross}
 use Rattle.world_laws.specs.authority_laws.specs.{Part, CoreIs, SamePart}
 use Rattle.kernel_history.specs.Trace.{Trace}

@@ -1,5 +1,6 @@
 -- Sealed worlds along legal traces.
-use Rattle.kernel_history.specs.{◌≡◌, ◌⊎◌, ℕ, Bool, true, false, ◌∷◌, ◌++◌, Setting, IsSetting, Kind, State, Step, state_after}
+use Rattle.std.specs.Prelude.{◌≡◌, ◌⊎◌, ◌∷◌, ◌++◌}
+use Rattle.kernel_history.specs.{ℕ, Bool, true, false, Setting, IsSetting, Kind, State, Step, state_after}
 use Rattle.world_laws.specs.{works_in, lives_at, gates, OnlyGates, IsSealed, AreApart, LeavesAlone, EntersBy, IsOf, ticks_in, RunsAcross}
 use Rattle.world_laws.specs.authority_laws.specs.{Part, OwnBy, SamePart}
 use Rattle.{kernel_history.specs.state_before, kernel_history.specs.IsLegal, kernel_history.specs.Trace.Trace}

@@ -1,5 +1,6 @@
 -- Calls that are made alone: no other core is in a call from the entry to the decision.
-use Rattle.kernel_rules.specs.{◌≡◌, ◌≢◌, ℕ, [], ◌∷◌, Option, Some, None, Setting, Call, Reply, alone}
+use Rattle.std.specs.Prelude.{◌≡◌, ◌≢◌, ◌∷◌}
+use Rattle.kernel_rules.specs.{ℕ, [], Option, Some, None, Setting, Call, Reply, alone}
 use Rattle.kernel_history.specs.Trace.{Step, Trace, Phase, Out, Open, Decided, phase, after_enter, state_before}
 
 -- What is said, unless the step enters a call.

@@ -1,5 +1,6 @@
 -- The words of the machine at the start: those of the start state, where the clock is 1 and every stamp and version is 0.
-use Rattle.kernel_rules.specs.{ℕ, ◌-◌, ◌==◌, false, if◌then◌else◌, length, pos, None, Setting, Place, Free, Holds, Quiescing, ThreadFields}
+use Rattle.std.specs.Prelude.{◌-◌, ◌==◌, if◌then◌else◌}
+use Rattle.kernel_rules.specs.{ℕ, false, length, pos, None, Setting, Place, Free, Holds, Quiescing, ThreadFields}
 use Rattle.kernel_rules.specs.{TcapFields, Object, Blank, Table, Leaf, Pages, Pleaf, Comp, Thread, Tcap, Frame, Untyped, User, Kernel}
 use Rattle.kernel_rules.specs.{Liveness, Unused, Live, Dead, start, refs}
 use Rattle.word_map.specs.{Shape, EntryAt, FrameAt, CountAt, CoreAt, FlushAt, LiveAt, ClockAt}

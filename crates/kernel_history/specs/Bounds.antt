@@ -1,5 +1,6 @@
 -- Traces whose calls keep within the most steps of their kinds.
-use Rattle.kernel_rules.specs.{◌≡◌, ◌≤◌, ℕ, [], ◌∷◌, Option, Some, None, bound_of, Call}
+use Rattle.std.specs.Prelude.{◌≡◌, ◌≤◌, ◌∷◌}
+use Rattle.kernel_rules.specs.{ℕ, [], Option, Some, None, bound_of, Call}
 use Rattle.kernel_history.specs.Trace.{Step, Trace, Phase, Out, Open, Decided, phase, after_enter, steps_in_call}
 
 -- The call in which a core is, if it is in one.

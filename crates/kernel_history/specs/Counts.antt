@@ -1,6 +1,7 @@
 -- The counts of references in the words of a machine: a frame has a list of count words, and the references to it are their sum, modulo
 -- 2 ^ 16.
-use Rattle.kernel_rules.specs.{◌≡◌, ◌<◌, ℕ, List, [], ◌∷◌, All, Option, Some, None, ℤ, pos, ◌+ℤ◌, refs}
+use Rattle.std.specs.Prelude.{◌≡◌, ◌<◌, ◌∷◌, ◌+ℤ◌}
+use Rattle.kernel_rules.specs.{ℕ, List, [], All, Option, Some, None, ℤ, pos, refs}
 use Rattle.{frame_words.specs.count_of_word, frame_words.specs.residue, std.specs.List.range_with_len}
 use Rattle.{frame_words.specs.declared.count_word.CountWord.CountWord, frame_words.specs.declared.count_word.Hold.TheVariants.Unheld}
 use Rattle.{word_map.specs.Word.Word, word_map.specs.Word.CountAt, kernel_rules.specs.State.State}

@@ -1,5 +1,6 @@
 -- Who may step on a word, and who may change it: what other cores and other calls may rely on, whatever the plans of the calls.
-use Rattle.kernel_rules.specs.{◌≡◌, ◌≢◌, ◌⊎◌, ℕ, ◌==◌, ◌&&◌, ◌||◌, Bool, true, false, [], ◌∷◌, Some, IsTrue, Setting, Make, Call, Look}
+use Rattle.std.specs.Prelude.{◌≡◌, ◌≢◌, ◌⊎◌, ◌==◌, ◌&&◌, ◌||◌, ◌∷◌}
+use Rattle.kernel_rules.specs.{ℕ, Bool, true, false, [], Some, IsTrue, Setting, Make, Call, Look}
 use Rattle.kernel_rules.specs.{Copy, Remove, Grow, Shrink, Retype, Map, Unmap, Touch, Flush, Gate, Kill, Ret, Switch, Tick, Transfer}
 use Rattle.kernel_rules.specs.{Delegate, Test, Part, Replenish, Object, Blank, Table, Leaf, Pages, Pleaf, Comp, Thread, Tcap, Frame}
 use Rattle.kernel_rules.specs.{Untyped, User, Kernel, asks_life}

@@ -1,5 +1,6 @@
 -- The events of a trace: the invocations, decisions and responses of its steps, the newest first.
-use Rattle.kernel_rules.specs.{ℕ, List, [], ◌∷◌, Option, Some, None, Call, Reply, Event, Enters, Decides, Returns, Phase as event_phase}
+use Rattle.std.specs.Prelude.{◌∷◌}
+use Rattle.kernel_rules.specs.{ℕ, List, [], Option, Some, None, Call, Reply, Event, Enters, Decides, Returns, Phase as event_phase}
 use Rattle.kernel_rules.specs.{Out as is_out, Open as is_open, Decided as is_decided}
 use Rattle.kernel_history.specs.Trace.{Trace, Phase, Out, Open, Decided, phase, after_enter}
 

@@ -1,5 +1,6 @@
 -- When words and core ends represent a state in which no core is in a call.
-use Rattle.kernel_rules.specs.{◌≡◌, ◌<◌, ◌≤◌, ◌+◌, ℕ, false, [], List, length, Option, Some, None, unwrap_or, slice_index, slice_get}
+use Rattle.std.specs.Prelude.{◌≡◌, ◌<◌, ◌≤◌, ◌+◌}
+use Rattle.kernel_rules.specs.{ℕ, false, [], List, length, Option, Some, None, unwrap_or, slice_index, slice_get}
 use Rattle.kernel_rules.specs.{CoreEnd, Place, Free, Holds, Quiescing, CompFields, ThreadFields, TcapFields, Object, Blank, Table, Leaf}
 use Rattle.kernel_rules.specs.{Pages, Pleaf, Comp, Thread, Tcap, Frame, Untyped, User, Kernel, Liveness, Unused, Live, Dead, first_of_stack}
 use Rattle.word_map.specs.{EntryAt, FrameAt, CoreAt, LiveAt, Shape, place_of}

@@ -1,5 +1,6 @@
 -- The footprint of a call: the frames and liveness numbers whose words its steps may be on.
-use Rattle.kernel_rules.specs.{◌≡◌, ℕ, ◌==◌, Bool, List, [], ◌∷◌, ◌++◌, map, Option, Some, None, IsTrue, flat_map, Capability, Setting}
+use Rattle.std.specs.Prelude.{◌≡◌, ◌==◌, ◌∷◌, ◌++◌}
+use Rattle.kernel_rules.specs.{ℕ, Bool, List, [], map, Option, Some, None, IsTrue, flat_map, Capability, Setting}
 use Rattle.kernel_rules.specs.{Call, Retype, Map, Make, Frame, Kernel, Comp, thread_of, comp_of, named_by, frame_names, Slot, place_at}
 use Rattle.kernel_rules.specs.{Rule, Name, Vacant, Held, Mapped, Does, Judged, Refused, Found, named, name_of, rule_of}
 use Rattle.word_map.specs.{EntryAt, FrameAt, CountAt, CoreAt, FlushAt, LiveAt, ClockAt, word_of}

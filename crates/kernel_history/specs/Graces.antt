@@ -1,5 +1,6 @@
 -- Grace periods go with stamps: what holds of every thing at every time, and what a step must keep for it.
-use Rattle.kernel_rules.specs.{◌≡◌, ℕ, ◌<◌, ◌≤◌, Bool, true, ◌∷◌, Option, Some, None, Reply, Setting, Thing}
+use Rattle.std.specs.Prelude.{◌≡◌, ◌<◌, ◌≤◌, ◌∷◌}
+use Rattle.kernel_rules.specs.{ℕ, Bool, true, Option, Some, None, Reply, Setting, Thing}
 use Rattle.kernel_history.specs.Trace.{Step, Trace, state_after}
 use Rattle.kernel_history.specs.Stamps.{begins_at, flushes_at, stamp, awaits_flushes, clock, clock_seen, exit_of, flush_of, flush_stored}
 

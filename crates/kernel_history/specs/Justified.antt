@@ -1,6 +1,7 @@
 -- When a decision is justified by the steps of its own call.
-use Rattle.kernel_rules.specs.{◌≡◌, ◌≢◌, ◌⊎◌, ℕ, ◌==◌, ◌&&◌, Bool, Option, Some, None, List, ◌∷◌, IsSome, is_some, IsTrue, All}
-use Rattle.kernel_rules.specs.{if◌then◌else◌, Call, Reply, Setting, Place, Free, Holds, Quiescing, Thread, Tcap, Frame, Kernel, Liveness}
+use Rattle.std.specs.Prelude.{◌≡◌, ◌≢◌, ◌⊎◌, ◌==◌, ◌&&◌, ◌∷◌, if◌then◌else◌}
+use Rattle.kernel_rules.specs.{ℕ, Bool, Option, Some, None, List, IsSome, is_some, IsTrue, All}
+use Rattle.kernel_rules.specs.{Call, Reply, Setting, Place, Free, Holds, Quiescing, Thread, Tcap, Frame, Kernel, Liveness}
 use Rattle.kernel_rules.specs.{Unused, Live, Dead, Thing, PlaceOf, FrameOf, NumberOf, Slot, same_thing, MayWait, MayBeUnflushed, rule_of}
 use Rattle.word_map.specs.{EntryAt, FrameAt, CountAt, CoreAt, FlushAt, LiveAt, ClockAt, word_of}
 use Rattle.kernel_history.specs.{ObjectWords.holds_node, Marks.mark_of, Marking.HasMarked, Ways.ways, Ways.wide_ways, Ways.target_of}

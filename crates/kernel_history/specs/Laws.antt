@@ -1,5 +1,6 @@
 -- Laws of legal traces, each the contract of a function of this crate.
-use Rattle.kernel_rules.specs.{◌≡◌, ◌≢◌, ◌⊎◌, ◌||◌, ◌+◌, ◌==◌, ◌&&◌, ◌++◌, ℕ, if◌then◌else◌, [], ◌∷◌, length, Option, Some, None, is_some}
+use Rattle.std.specs.Prelude.{◌≡◌, ◌≢◌, ◌⊎◌, ◌||◌, ◌+◌, ◌==◌, ◌&&◌, ◌++◌, if◌then◌else◌, ◌∷◌}
+use Rattle.kernel_rules.specs.{ℕ, [], length, Option, Some, None, is_some}
 use Rattle.kernel_rules.specs.{Reply, Setting, after, IsRun}
 use Rattle.kernel_history.specs.{Trace.Step, Trace.Trace, Trace.phase, Trace.state_after, Trace.calls_of, Trace.IfNot, Stamps.is_in}
 use Rattle.{word_map.specs.same_word, word_map.specs.word_of, word_map.specs.left_of, word_map.specs.Word.Word}

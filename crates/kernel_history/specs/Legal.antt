@@ -1,5 +1,6 @@
 -- When a trace is a legal history.
-use Rattle.kernel_rules.specs.{◌≡◌, ◌≢◌, ◌<◌, ◌^◌, [], ◌∷◌, Option, Some, None, Call, Reply, Setting, InLimits, MayReply}
+use Rattle.std.specs.Prelude.{◌≡◌, ◌≢◌, ◌<◌, ◌^◌, ◌∷◌}
+use Rattle.kernel_rules.specs.{[], Option, Some, None, Call, Reply, Setting, InLimits, MayReply}
 use Rattle.word_map.specs.{IsIn, word_of, left_of}
 use Rattle.kernel_history.specs.{BootWords.shape_of, Justified.IsJustified, Trace.Step, Trace.Trace, Trace.Phase, Trace.Out, Trace.Open}
 use Rattle.kernel_history.specs.{Trace.Decided, Trace.phase, Trace.after_enter, Trace.after_decide, Trace.state_before, Trace.last_left}

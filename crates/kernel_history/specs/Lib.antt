@@ -59,26 +59,28 @@ pub use Rattle.kernel_history.specs.Trace.{state_after, Step, last_left, phase, 
 pub use Rattle.kernel_history.specs.Trace.{state_decided_in, state_entered, WasAt, after_return, state_decided, state_returned, decisions_of, decision_at, steps_in_call}
 pub use Rattle.kernel_history.specs.Trace.{IfNot, reads, WasBefore, only_reads}
 pub use Rattle.kernel_history.specs.Ways.{ways, way_to, target_of, wide_ways, root_passed, asked_of, wide_way_to, capability_in, led_to, waited_in}
-pub use Rattle.kernel_rules.specs.{◌≡◌, ℕ, Some, [], ◌<◌, refl, ◌∷◌, List, None, Setting, Option, true, false, Call, length, IsSetting, Bool}
-pub use Rattle.kernel_rules.specs.{◌++◌, ◌≤◌, Reply, ◌+◌, ◌≢◌, if◌then◌else◌, ◌==◌, IsTrue, map, Capability, suc, ◌^◌, Kernel, ◌⊎◌, ◌&&◌, Kind}
-pub use Rattle.kernel_rules.specs.{All, get_or, slice_get, zero, rule_of, PlaceOf, Frame, put, ltb, not, string_bytes, take, ◌||◌, Thing, Found}
+pub use Rattle.std.specs.Prelude.{◌≡◌, ◌<◌, ◌∷◌, ◌++◌, ◌≤◌, ◌+◌, ◌≢◌, if◌then◌else◌, ◌==◌, ◌^◌, ◌⊎◌, ◌&&◌, ◌||◌, ◌-◌, ◌*◌, ◌+ℤ◌, ◌/◌, ◌%◌}
+pub use Rattle.std.specs.Prelude.{◌-ℤ◌}
+pub use Rattle.kernel_rules.specs.{ℕ, Some, [], refl, List, None, Setting, Option, true, false, Call, length, IsSetting, Bool}
+pub use Rattle.kernel_rules.specs.{Reply, IsTrue, map, Capability, suc, Kernel, Kind}
+pub use Rattle.kernel_rules.specs.{All, get_or, slice_get, zero, rule_of, PlaceOf, Frame, put, ltb, not, string_bytes, take, Thing, Found}
 pub use Rattle.kernel_rules.specs.{change_of, IsSome, Tcap, found, FrameOf, is_some, Slot, Thread, thread_of, FrameKind, pos, fits, Comp, Value}
-pub use Rattle.kernel_rules.specs.{thread_in, ◌-◌, leb, MayReply, times, Blank, counted, comp_in, Nothing, does, Leaf, User, Pages, Untyped}
-pub use Rattle.kernel_rules.specs.{◌*◌, cond, NumberOf, Table, comp_of, first_of_stack, Retype, Holds, Pleaf, ℤ, is_node, TcapFields, Place}
-pub use Rattle.kernel_rules.specs.{RuleMay, Target, frame_names, first_of, reached, unless, InLimits, ◌+ℤ◌, drop, Want, changed, Free, Under}
+pub use Rattle.kernel_rules.specs.{thread_in, leb, MayReply, times, Blank, counted, comp_in, Nothing, does, Leaf, User, Pages, Untyped}
+pub use Rattle.kernel_rules.specs.{cond, NumberOf, Table, comp_of, first_of_stack, Retype, Holds, Pleaf, ℤ, is_node, TcapFields, Place}
+pub use Rattle.kernel_rules.specs.{RuleMay, Target, frame_names, first_of, reached, unless, InLimits, drop, Want, changed, Free, Under}
 pub use Rattle.kernel_rules.specs.{named_by, IsFoundAnd, Tick, flat_map, only, named, outcome, Quiescing, Does, after, codes, to_use, state_by}
 pub use Rattle.kernel_rules.specs.{Change, max, set, option_to_list, own, has_frame, left_if, Event, CompFields, Kill, CoreEnd, Named, tcap_at}
 pub use Rattle.kernel_rules.specs.{Dead, Map, Item, negsuc, Ok, IsRun, tcap_in, Flush, slice_index, alone, are_calls_spent, ends_by, acts}
 pub use Rattle.kernel_rules.specs.{IsGuarded, Core, Liveness, ThreadFields, Remove, Switch, Touch, reverse, IfSome, held_in, ends, same_thing}
 pub use Rattle.kernel_rules.specs.{calls_counted, and_then, first_cause, start, InRoot, Grace, Live, cap_of, Look, Test, Transfer, Decision}
 pub use Rattle.kernel_rules.specs.{decimal, usable, is_live_in, Judged, Object, whole_copy, Delegate, Gate, Replenish, Ret, Obj, Result, Err}
-pub use Rattle.kernel_rules.specs.{flushes_by, place_names, Rule, Part, Shrink, Unmap, ◌/◌, option_map, place_at, begins, Fill, ticks, vacant}
+pub use Rattle.kernel_rules.specs.{flushes_by, place_names, Rule, Part, Shrink, Unmap, option_map, place_at, begins, Fill, ticks, vacant}
 pub use Rattle.kernel_rules.specs.{plain_cap, with_frame, Grow, StageEnd, Translation, sum_by, root_slot, flushes, translation_of, Cause}
 pub use Rattle.kernel_rules.specs.{Unused, Copy, min, IsSomeAnd, linked, root_at, outside, or_refuse, Decides, Enters, Returns, outstanding}
-pub use Rattle.kernel_rules.specs.{vec_capacity, ◌%◌, replicate, usable_in, owed_by, is_frame, Edit, frames_of, new_grace, asks_life}
+pub use Rattle.kernel_rules.specs.{vec_capacity, replicate, usable_in, owed_by, is_frame, Edit, frames_of, new_grace, asks_life}
 pub use Rattle.kernel_rules.specs.{core_names, number_names, Vacant, of_kind, Limits, with_place, reply_text, with_one, place_in, How, Return}
 pub use Rattle.kernel_rules.specs.{WordOp, eqb, Component, Pop, Push, with_budget, with_tcap, with_thread, phase_of, with_core, is_short}
-pub use Rattle.kernel_rules.specs.{Amount, ◌-ℤ◌, IsFalse, MatchOption, epoch_of, has_frames, is_blank, not_blank, moved, running, IsGood}
+pub use Rattle.kernel_rules.specs.{Amount, IsFalse, MatchOption, epoch_of, has_frames, is_blank, not_blank, moved, running, IsGood}
 pub use Rattle.kernel_rules.specs.{is_paging, is_empty, is_untyped, held, not_vacant, no_grace, are_many, are_unlike, preemption, preempts}
 pub use Rattle.kernel_rules.specs.{bound_of, part_of, Grant, PageFlags}
 pub use Rattle.word_map.specs.{EntryAt, word_of, CountAt, Move, FrameAt, LiveAt, left_of, LoadOf, ClockAt, CoreAt, FlushAt, CompareOf, StoreOf}

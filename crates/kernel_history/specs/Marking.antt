@@ -1,5 +1,6 @@
 -- The marks that words carry after a trace, and whose step has put a mark there.
-use Rattle.kernel_rules.specs.{◌≡◌, ◌≢◌, ◌⊎◌, ℕ, ◌==◌, ◌&&◌, [], ◌∷◌, Option, Some, is_some, Setting}
+use Rattle.std.specs.Prelude.{◌≡◌, ◌≢◌, ◌⊎◌, ◌==◌, ◌&&◌, ◌∷◌}
+use Rattle.kernel_rules.specs.{ℕ, [], Option, Some, is_some, Setting}
 use Rattle.word_map.specs.{Word.Word, Moves.word_of}
 use Rattle.kernel_history.specs.{Marks.mark_of, Trace.Step, Trace.Trace, Trace.state_after, Trace.last_left, Trace.IfNot}
 

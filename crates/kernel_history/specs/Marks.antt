@@ -1,5 +1,6 @@
 -- The marks that cores set in words: a core's mark keeps a word for it, until that core gives the word back.
-use Rattle.kernel_rules.specs.{ℕ, ◌==◌, if◌then◌else◌, Option, Some, None, Object, Blank, Table, Leaf, Pages, Pleaf, Comp, Thread, Tcap}
+use Rattle.std.specs.Prelude.{◌==◌, if◌then◌else◌}
+use Rattle.kernel_rules.specs.{ℕ, Option, Some, None, Object, Blank, Table, Leaf, Pages, Pleaf, Comp, Thread, Tcap}
 use Rattle.kernel_rules.specs.{Frame, Untyped, User, Kernel}
 use Rattle.word_map.specs.{EntryAt, FrameAt, CountAt, CoreAt, FlushAt, LiveAt, ClockAt}
 use Rattle.frame_words.specs.{frame_of_word, count_of_word, live_of_word}

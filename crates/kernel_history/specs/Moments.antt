@@ -1,5 +1,6 @@
 -- What the words say at each moment of a trace.
-use Rattle.kernel_rules.specs.{◌≡◌, ◌≢◌, ◌<◌, ◌⊎◌, ◌↔◌, ℕ, [], ◌∷◌, Some, IsTrue, Setting}
+use Rattle.std.specs.Prelude.{◌≡◌, ◌≢◌, ◌<◌, ◌⊎◌, ◌↔◌, ◌∷◌}
+use Rattle.kernel_rules.specs.{ℕ, [], Some, IsTrue, Setting}
 use Rattle.kernel_history.specs.{ObjectWords.holds_node, FinalWords.SaysPlace, Trace.Trace, Trace.Out, Trace.phase, Trace.state_after}
 use Rattle.{word_map.specs.EntryAt, word_map.specs.CoreAt, entry_words.specs.EntryWord.entry_of_word}
 use Rattle.{entry_words.specs.declared.entry.Entry.Entry, frame_words.specs.Core.core_of_word}

@@ -1,5 +1,6 @@
 -- The words of the objects of frames: what each field of the state is in words.
-use Rattle.kernel_rules.specs.{ℕ, ◌==◌, Bool, true, false, if◌then◌else◌, List, slice_get, reverse, Option, Some, None, Obj, CompFields}
+use Rattle.std.specs.Prelude.{◌==◌, if◌then◌else◌}
+use Rattle.kernel_rules.specs.{ℕ, Bool, true, false, List, slice_get, reverse, Option, Some, None, Obj, CompFields}
 use Rattle.kernel_rules.specs.{Object, Blank, Table, Leaf, Pages, Pleaf, Comp, Thread, Tcap, Frame, Untyped, User, Kernel, FrameKind}
 use Rattle.tcap_words.specs.{word_of_quality, word_of_stack}
 use Rattle.frame_words.specs.{Comp.word_of_comp, declared.frame_word.FrameWord.FrameWord}

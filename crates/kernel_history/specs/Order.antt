@@ -1,5 +1,6 @@
 -- Traces that have the calls of lists, and that follow an order.
-use Rattle.kernel_rules.specs.{◌≡◌, ◌⊎◌, ℕ, zero, suc, Bool, List, [], ◌∷◌, ◌++◌, length, All, get_or as slice_index_or, Option, None}
+use Rattle.std.specs.Prelude.{◌≡◌, ◌⊎◌, ◌∷◌, ◌++◌}
+use Rattle.kernel_rules.specs.{ℕ, zero, suc, Bool, List, [], length, All, get_or as slice_index_or, Option, None}
 use Rattle.kernel_rules.specs.{IsSome, IsTrue, IsFalse, Call, Reply, Item, How, One, Ready, Decide, Return}
 use Rattle.kernel_history.specs.Trace.{Step, Trace, Phase, Out, Open, Decided, phase, calls_of}
 

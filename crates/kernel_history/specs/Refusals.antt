@@ -1,5 +1,6 @@
 -- What each permissive definition refuses: traces that break it, and keep the others.
-use Rattle.kernel_rules.specs.{◌≡◌, ◌<◌, ℕ, [], ◌∷◌, Some, None, whole_copy, PageFlags, Item, One, Ready, Decide, Return, Call, Reply}
+use Rattle.std.specs.Prelude.{◌≡◌, ◌<◌, ◌∷◌}
+use Rattle.kernel_rules.specs.{ℕ, [], Some, None, whole_copy, PageFlags, Item, One, Ready, Decide, Return, Call, Reply}
 use Rattle.word_map.specs.{EntryAt, FrameAt, CountAt, CoreAt, FlushAt, LiveAt, ClockAt, Move, LoadOf, CompareOf, StoreOf, AddOf, word_of}
 use Rattle.kernel_history.specs.{Trace.Step, Trace.Trace, Trace.Open, Trace.phase, Trace.state_before, Justified.IsJustified, Legal.IsLegal}
 use Rattle.kernel_history.specs.{Bounds.KeepsBounds, Footprint.KeepsFootprints, Discipline.KeepsDiscipline, Moments.WordsSayAlong}

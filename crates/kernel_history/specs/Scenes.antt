@@ -1,6 +1,7 @@
 -- Worked traces of two cores, built step by step: what the definitions of a legal history, of its discipline, its footprints, its
 -- bounds, its order and its words are seen to refuse.
-use Rattle.kernel_rules.specs.{ℕ, Bool, leb as nat_le, [], ◌∷◌, List, Some, None, whole_copy, cap_of, Setting, FrameKind, Call, Nothing}
+use Rattle.std.specs.Prelude.{◌∷◌}
+use Rattle.kernel_rules.specs.{ℕ, Bool, leb as nat_le, [], List, Some, None, whole_copy, cap_of, Setting, FrameKind, Call, Nothing}
 use Rattle.kernel_rules.specs.{Cap, Reply, Kind}
 use Rattle.word_map.specs.{EntryAt, FrameAt, CoreAt, ClockAt, Move, LoadOf, CompareOf, StoreOf, AddOf, word_of}
 use Rattle.kernel_history.specs.Trace.{Trace, steps_in_call, last_left}

@@ -1,5 +1,6 @@
 -- Stamps: the value of the clock at which a grace period began, at which a core left its last call, and at which it flushed last.
-use Rattle.kernel_rules.specs.{ℕ, Bool, true, false, ◌==◌, ◌&&◌, if◌then◌else◌, [], ◌∷◌, Option, Some, None, Reply, Setting, Thing}
+use Rattle.std.specs.Prelude.{◌==◌, ◌&&◌, if◌then◌else◌, ◌∷◌}
+use Rattle.kernel_rules.specs.{ℕ, Bool, true, false, [], Option, Some, None, Reply, Setting, Thing}
 use Rattle.kernel_rules.specs.{needs_flush, begins, ends, flushes}
 use Rattle.word_map.specs.{FlushAt, ClockAt, same_word, word_of}
 use Rattle.kernel_rules.specs.State.{State}

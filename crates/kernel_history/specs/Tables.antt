@@ -1,5 +1,6 @@
 -- The tables of a state, as they are printed.
-use Rattle.kernel_rules.specs.{ℕ, zero, suc, ◌==◌, ◌||◌, ◌&&◌, Bool, ltb as nat_lt, List, [], ◌∷◌, ◌++◌, codes, decimal, if◌then◌else◌}
+use Rattle.std.specs.Prelude.{◌==◌, ◌||◌, ◌&&◌, ◌∷◌, ◌++◌, if◌then◌else◌}
+use Rattle.kernel_rules.specs.{ℕ, zero, suc, Bool, ltb as nat_lt, List, [], codes, decimal}
 use Rattle.kernel_rules.specs.{reverse, flat_map, Translation, Place, Free, Holds, Quiescing, CompFields, ThreadFields, TcapFields, Object}
 use Rattle.kernel_rules.specs.{Blank, Table, Leaf, Pages, Pleaf, Comp, Thread, Tcap, Frame, Untyped, User, Kernel, Liveness, Unused, Live}
 use Rattle.kernel_rules.specs.{Dead, Core, first_of_stack, thread_of, refs, ticks}

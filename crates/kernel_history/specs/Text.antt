@@ -1,5 +1,6 @@
 -- The texts of finished traces, and of the sequential kernel's run.
-use Rattle.kernel_rules.specs.{ℕ, zero, suc, ◌+◌, ◌-◌, ◌==◌, List, [], ◌∷◌, ◌++◌, Option, Some, None, slice_get, flat_map, Call, Decision}
+use Rattle.std.specs.Prelude.{◌+◌, ◌-◌, ◌==◌, ◌∷◌, ◌++◌}
+use Rattle.kernel_rules.specs.{ℕ, zero, suc, List, [], Option, Some, None, slice_get, flat_map, Call, Decision}
 use Rattle.kernel_rules.specs.{Setting, start, plain_reply, plain_step, plain_steps}
 use Rattle.kernel_history.specs.{Trace.Trace, Trace.state_after, Trace.calls_of, Trace.decisions_of, Tables.tables_of, Tables.lines_below}
 use Rattle.{std.specs.List.filter, entry_words.specs.spk_nums.specs.Texts.reply_line_text, kernel_rules.specs.State.State}

@@ -1,5 +1,6 @@
 -- Traces of atomic steps, and what they leave. A trace lists its steps with the newest first.
-use Rattle.kernel_rules.specs.{ℕ, Bool, true, false, ◌⊎◌, ◌+◌, ◌==◌, ◌&&◌, List, [], ◌∷◌, ◌++◌, Option, Some, None, is_some, if◌then◌else◌}
+use Rattle.std.specs.Prelude.{◌⊎◌, ◌+◌, ◌==◌, ◌&&◌, ◌∷◌, ◌++◌, if◌then◌else◌}
+use Rattle.kernel_rules.specs.{ℕ, Bool, true, false, List, [], Option, Some, None, is_some}
 use Rattle.kernel_rules.specs.{option_to_list, length, Call, Reply, Decision, Setting, start, entered, returned, state_by}
 use Rattle.word_map.specs.{same_word, Move, LoadOf, CompareOf, StoreOf, AddOf, word_of, left_of}
 use Rattle.{word_map.specs.Word.Word, kernel_rules.specs.State.State, kernel_history.specs.BootWords.boot_word}

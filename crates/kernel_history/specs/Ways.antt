@@ -1,5 +1,6 @@
 -- The places through which the names, the target and the page of a call are reached, and the things that it waits for.
-use Rattle.kernel_rules.specs.{ℕ, ◌%◌, ◌&&◌, leb as nat_le, if◌then◌else◌, List, [], ◌∷◌, ◌++◌, option_to_list, Option, Some, None}
+use Rattle.std.specs.Prelude.{◌%◌, ◌&&◌, if◌then◌else◌, ◌∷◌, ◌++◌}
+use Rattle.kernel_rules.specs.{ℕ, leb as nat_le, List, [], option_to_list, Option, Some, None}
 use Rattle.kernel_rules.specs.{Capability, Place, Free, Holds, Quiescing, Thing, PlaceOf, Slot, Target, Under, InRoot, place_at, linked}
 use Rattle.kernel_rules.specs.{slot_in, root_slot, reached, root_at, own, Rule, Name, Vacant, Held, Mapped, Does, Cause, When, WaitedFor}
 use Rattle.kernel_rules.specs.{Unflushed, Judged, Refused, Found, named, held, name_of, slot_of}

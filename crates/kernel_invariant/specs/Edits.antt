@@ -1,5 +1,6 @@
 -- What the laws ask of a list of edits besides: the grace periods that it ends, whether it flushes, and the ticks that it charges.
-use Rattle.kernel_rules.specs.{ℕ, ◌+◌, ◌||◌, Bool, true, false, if◌then◌else◌, List, [], ◌∷◌, Call, Tick, Replenish, Grace, Thing, FrameOf}
+use Rattle.std.specs.Prelude.{◌+◌, ◌||◌, if◌then◌else◌, ◌∷◌}
+use Rattle.kernel_rules.specs.{ℕ, Bool, true, false, List, [], Call, Tick, Replenish, Grace, Thing, FrameOf}
 use Rattle.kernel_rules.specs.{put, no_grace, same_thing, Edit, Node, Untype, Charge, Give, is_place_of}
 use Rattle.kernel_rules.specs.Edits.{Flush}
 

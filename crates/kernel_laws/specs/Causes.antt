@@ -1,6 +1,7 @@
 -- The cause of each refusal, by its reply: what must be so where a call is refused with it. Said apart from the rules of calls.
 use Rattle.found_stays.specs.kernel_rules.specs as low
-use low.{◌≡◌, ◌≢◌, ◌⊎◌, ℕ, ◌+◌, ◌<◌, ◌≤◌, Bool, ◌&&◌, if◌then◌else◌, List, [], ◌∷◌, length, Option, Some, None, is_some, IsTrue, IsFalse}
+use Rattle.std.specs.Prelude.{◌≡◌, ◌≢◌, ◌⊎◌, ◌+◌, ◌<◌, ◌≤◌, ◌&&◌, if◌then◌else◌, ◌∷◌}
+use low.{ℕ, Bool, List, [], length, Option, Some, None, is_some, IsTrue, IsFalse}
 use low.{IsSomeAnd, Capability, has_rights, covers, merged, Kind, Make, Call, Look, Copy, Remove, Grow, Shrink, Retype, Map, Unmap, Touch}
 use low.{Flush, Gate, Kill, Ret, Switch, Tick, Transfer, Delegate, Test, Part, Replenish, Reply, TcapFields, Blank, Untyped, User, Kernel}
 use low.{Live, Thing, PlaceOf, FrameOf, NumberOf, comp_in, thread_in, tcap_in, thread_of, comp_of, outstanding, refs, Slot, Named, found}

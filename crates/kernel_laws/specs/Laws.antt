@@ -1,5 +1,6 @@
 -- Laws of the sequential kernel, each the contract of a function of this crate.
-use Rattle.found_stays.specs.kernel_rules.specs.{ℕ, ◌≡◌, ◌<◌, ◌≤◌, ◌+◌, ◌==◌, if◌then◌else◌, List, [], ◌∷◌, sum_by, IsFalse, Setting}
+use Rattle.std.specs.Prelude.{◌≡◌, ◌<◌, ◌≤◌, ◌+◌, ◌==◌, if◌then◌else◌, ◌∷◌}
+use Rattle.found_stays.specs.kernel_rules.specs.{ℕ, List, [], sum_by, IsFalse, Setting}
 use Rattle.found_stays.specs.kernel_rules.specs.{IsSetting, Call, Tick, Replenish, Reply, tcap_in, are_calls_spent, MayReply, Event, Enters}
 use Rattle.found_stays.specs.kernel_rules.specs.{Decides, Returns, after, IsRun, ticks, InRanges, refs, sum_below}
 use Rattle.{found_stays.specs.kernel_rules.specs.State.State, kernel_laws.specs.Causes.HasCause, kernel_laws.specs.Causes.HasNoRight}

@@ -1,6 +1,7 @@
 -- What nodes hold: roots of capability tables links to leaves, leaves no links and no pages, roots of page tables links to leaves
 -- of pages, and these pages alone.
-use Rattle.found_stays.specs.kernel_rules.specs.{◌≡◌, ℕ, Bool, true, false, not, ◌||◌, List, Some, IsTrue, Setting, IsSetting, Capability}
+use Rattle.std.specs.Prelude.{◌≡◌, ◌||◌}
+use Rattle.found_stays.specs.kernel_rules.specs.{ℕ, Bool, true, false, not, List, Some, IsTrue, Setting, IsSetting, Capability}
 use Rattle.found_stays.specs.kernel_rules.specs.{Kind, Holds, Table, Leaf, Pages, Pleaf, Frame, Kernel, comp_of, Slot, only, usable, Found}
 use Rattle.found_stays.specs.kernel_rules.specs.{mapped, is_node, Event, after, is_open, phase_of, IsRun}
 

@@ -1,5 +1,6 @@
 -- The theorem on given steps.
-use Rattle.flight_laws.specs.core_invariant.specs.{◌≡◌, ℕ, List, Call, Item, Setting, Trace, HasCalls, Follows}
+use Rattle.std.specs.Prelude.{◌≡◌}
+use Rattle.flight_laws.specs.core_invariant.specs.{ℕ, List, Call, Item, Setting, Trace, HasCalls, Follows}
 use Rattle.{boot_words.specs.kernel_history.specs.Text.text_of, flight_laws.specs.flight.specs.Made.ready_after}
 use Rattle.{flight_laws.specs.Histories.IsHistory}
 

@@ -1,5 +1,6 @@
 -- How far a core is inside its call.
-use Rattle.flight_laws.specs.core_invariant.specs.{ℕ, ◌<◌, Option, Some, None, ActiveCall}
+use Rattle.std.specs.Prelude.{◌<◌}
+use Rattle.flight_laws.specs.core_invariant.specs.{ℕ, Option, Some, None, ActiveCall}
 use Rattle.spk_nums.specs.Bounds.{bound_of}
 
 -- So many steps are fewer than the bound of the call in which a core is, on so many cores.

@@ -1,5 +1,6 @@
 -- How a core takes an item of an order, by what its steps change: its seat, the words and the decisions.
-use Rattle.boot_words.specs.kernel_rules.specs.{◌≡◌, Bool, true, false, ℕ, ◌+◌, ◌<◌, List, length, set as slice_set, sum_by, Some}
+use Rattle.std.specs.Prelude.{◌≡◌, ◌+◌, ◌<◌}
+use Rattle.boot_words.specs.kernel_rules.specs.{Bool, true, false, ℕ, List, length, set as slice_set, sum_by, Some}
 use Rattle.boot_words.specs.kernel_rules.specs.{IsSetting, Decision, How, One, Ready, Decide, Return}
 use Rattle.flight_laws.specs.core_invariant.specs.{Core, ready_of, Absorbed}
 use Rattle.call_steps.specs.call_stages.specs.declared.stages.Absorbed.TheVariants.{Going, Decided, Returned}

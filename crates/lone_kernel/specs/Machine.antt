@@ -1,5 +1,6 @@
 -- What a machine for given orders is, and one step of a core.
-use Rattle.flight_laws.specs.core_invariant.specs.{◌≡◌, ◌≢◌, Bool, true, false, ℕ, ◌+◌, ◌-◌, ◌<◌, ◌≤◌, ◌^◌, List, [], ◌++◌, length}
+use Rattle.std.specs.Prelude.{◌≡◌, ◌≢◌, ◌+◌, ◌-◌, ◌<◌, ◌≤◌, ◌^◌, ◌++◌}
+use Rattle.flight_laws.specs.core_invariant.specs.{Bool, true, false, ℕ, List, [], length}
 use Rattle.flight_laws.specs.core_invariant.specs.{slice_get, slice_index, get_or as slice_index_or, set as slice_set, Option, Some, None}
 use Rattle.flight_laws.specs.core_invariant.specs.{option_map, All, IsSome, InLimits, Call, Decision, How, Setting, Shape, place_of}
 use Rattle.flight_laws.specs.core_invariant.specs.{size_of, word_of, left_of, told_of, Step, decision_at, Core, IsCore, started, move_of}

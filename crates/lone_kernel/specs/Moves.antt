@@ -1,5 +1,6 @@
 -- How the moves of a machine extend each trace for which it stood.
-use Rattle.flight_laws.specs.core_invariant.specs.{◌≡◌, ◌≢◌, false, ℕ, ◌+◌, ◌-◌, ◌*◌, ◌<◌, ◌≤◌, length, Option, Some, None, How, Trace}
+use Rattle.std.specs.Prelude.{◌≡◌, ◌≢◌, ◌+◌, ◌-◌, ◌*◌, ◌<◌, ◌≤◌}
+use Rattle.flight_laws.specs.core_invariant.specs.{false, ℕ, length, Option, Some, None, How, Trace}
 use Rattle.flight_laws.specs.core_invariant.specs.{IsIdle, steps_left, ActiveCall}
 use Rattle.flight_laws.specs.flight.specs.{is_decided_in, ready_after}
 use Rattle.boot_words.specs.kernel_history.specs.{MakesOne, Stretch}

@@ -1,5 +1,6 @@
 -- What a machine shows of the step that a core makes next, and tells of one that it has made.
-use Rattle.flight_laws.specs.core_invariant.specs.{◌≡◌, ℕ, List, ◌∷◌, slice_index, Option, Some, None, Shape, Step, Trace, IsIdle, shape_of}
+use Rattle.std.specs.Prelude.{◌≡◌, ◌∷◌}
+use Rattle.flight_laws.specs.core_invariant.specs.{ℕ, List, slice_index, Option, Some, None, Shape, Step, Trace, IsIdle, shape_of}
 use Rattle.flight_laws.specs.core_invariant.specs.{Absorbed}
 use Rattle.flight_laws.specs.flight.specs.{IsMadeStep, step_of}
 use Rattle.step_views.specs.{IsShown, IsTold, declared.views.StepMade.StepMade, declared.views.StepView.StepView}

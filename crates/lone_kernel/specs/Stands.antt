@@ -1,5 +1,6 @@
 -- When a machine stands for a trace.
-use Rattle.flight_laws.specs.core_invariant.specs.{◌≡◌, ℕ, ◌<◌, take, slice_index, Word, IsIn, place_of, Trace, last_left, calls_of}
+use Rattle.std.specs.Prelude.{◌≡◌, ◌<◌}
+use Rattle.flight_laws.specs.core_invariant.specs.{ℕ, take, slice_index, Word, IsIn, place_of, Trace, last_left, calls_of}
 use Rattle.flight_laws.specs.core_invariant.specs.{decisions_of, shape_of}
 use Rattle.flight_laws.specs.flight.specs.{cores_after, IsMade}
 use Rattle.lone_kernel.specs.Machine.{Machine, core_at, seat_at, list_at}

@@ -1,5 +1,6 @@
 -- What a decision leaves of how the words of frames are read.
-use Rattle.kernel_history.specs.{◌≡◌, ℕ, true, false, IsTrue, Capability, Call, Reply, Quiescing, State, is_node, state_by, mark_in_frame}
+use Rattle.std.specs.Prelude.{◌≡◌}
+use Rattle.kernel_history.specs.{ℕ, true, false, IsTrue, Capability, Call, Reply, Quiescing, State, is_node, state_by, mark_in_frame}
 use Rattle.kernel_history.specs.{changes_frames, changes_places}
 
 -- The words of all frames are read for marks as before.

@@ -1,5 +1,6 @@
 -- When marks are a history. Marks are listed with the newest first.
-use Rattle.kernel_rules.specs.{◌≡◌, ◌≢◌, ◌<◌, ◌⊎◌, ◌==◌, ℕ, Bool, true, false, List, [], ◌∷◌, IsTrue, Setting, InLimits, Call, Reply}
+use Rattle.std.specs.Prelude.{◌≡◌, ◌≢◌, ◌<◌, ◌⊎◌, ◌==◌, ◌∷◌}
+use Rattle.kernel_rules.specs.{ℕ, Bool, true, false, List, [], IsTrue, Setting, InLimits, Call, Reply}
 use Rattle.kernel_rules.specs.{MayReply, Event, Enters, Decides, Returns, after, Phase, Out, Open, Decided, is_in, is_decided, phase_of}
 use Rattle.marked_history.specs.declared.marks.Mark.TheVariants.{Enter, Decide, Return}
 use Rattle.{kernel_rules.specs.State.State, marked_history.specs.declared.marks.Mark.Mark}

@@ -1,5 +1,6 @@
 -- Laws of histories, each the contract of a function of this crate.
-use Rattle.kernel_rules.specs.{◌≡◌, List, Setting, IsRun}
+use Rattle.std.specs.Prelude.{◌≡◌}
+use Rattle.kernel_rules.specs.{List, Setting, IsRun}
 use Rattle.marked_history.specs.{declared.marks.Mark.Mark, declared.marks.Line.Line, declared.marks.Verdict.Verdict, Histories.events_of}
 use Rattle.marked_history.specs.{Histories.IsHistory, Verdicts.IsVerdict}
 

@@ -1,5 +1,6 @@
 -- What is found of the lines of a text. Lines that came before are listed with the newest first, as marks are.
-use Rattle.kernel_rules.specs.{◌≡◌, ◌<◌, ◌⊎◌, ◌==◌, ℕ, ◌+◌, All, List, [], ◌∷◌, ◌++◌, reverse, if◌then◌else◌, Setting, InLimits}
+use Rattle.std.specs.Prelude.{◌≡◌, ◌<◌, ◌⊎◌, ◌==◌, ◌+◌, ◌∷◌, ◌++◌, if◌then◌else◌}
+use Rattle.kernel_rules.specs.{ℕ, All, List, [], reverse, Setting, InLimits}
 use Rattle.marked_history.specs.{declared.marks.Mark.Mark, declared.marks.Mark.TheVariants.Enter, declared.marks.Mark.TheVariants.Decide}
 use Rattle.marked_history.specs.{declared.marks.Mark.TheVariants.Return, declared.marks.Said.Said, declared.marks.Said.TheVariants.One}
 use Rattle.marked_history.specs.{declared.marks.Said.TheVariants.Whole, declared.marks.Line.Line, declared.marks.Why.Why}

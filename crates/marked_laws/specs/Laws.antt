@@ -1,5 +1,6 @@
 -- The law of the marks of legal traces.
-use Rattle.kernel_history.specs.{◌≡◌, length, Setting, decisions_of, events_of, IsLegal}
+use Rattle.std.specs.Prelude.{◌≡◌}
+use Rattle.kernel_history.specs.{length, Setting, decisions_of, events_of, IsLegal}
 use Rattle.marked_history.specs.{IsHistory, events_of as events_of_marks, decisions}
 use Rattle.{kernel_history.specs.Trace.Trace, marked_laws.specs.Marks.marks_of}
 

@@ -1,5 +1,6 @@
 -- The marks of a trace: the entries, decisions and returns of its steps, the newest first.
-use Rattle.kernel_history.specs.{ℕ, List, [], ◌∷◌, Option, Some, None, Call, Reply}
+use Rattle.std.specs.Prelude.{◌∷◌}
+use Rattle.kernel_history.specs.{ℕ, List, [], Option, Some, None, Call, Reply}
 use Rattle.marked_history.specs.declared.marks.Mark.TheVariants.{Enter, Decide, Return}
 use Rattle.{kernel_history.specs.Trace.Trace, marked_history.specs.declared.marks.Mark.Mark}
 

@@ -1,5 +1,6 @@
 -- What a script with tasks after it comes to on a machine of one core.
-use Rattle.core_kernel.specs.flight_laws.specs.core_invariant.specs.{◌≡◌, ℕ, List, [], ◌∷◌, ◌++◌, Ok, HasCalls, Trace}
+use Rattle.std.specs.Prelude.{◌≡◌, ◌∷◌, ◌++◌}
+use Rattle.core_kernel.specs.flight_laws.specs.core_invariant.specs.{ℕ, List, [], Ok, HasCalls, Trace}
 use Rattle.sched_start.specs.sched_rules.specs.{Progress, Step, at_first, turns_of, calls_of, IsSchedule}
 use Rattle.sched_run.specs.sched_reader.specs.{Input, input_of}
 use Rattle.{core_kernel.specs.flight_laws.specs.Histories.IsHistory, one_core_laws.specs.Plainly.IsPlain}

@@ -1,5 +1,6 @@
 -- A history of one core is the sequential kernel's run of its calls.
-use Rattle.kernel_history.specs.{◌≡◌, ◌≢◌, ℕ, List, [], ◌∷◌, ◌++◌, All, map, Some, Setting, InLimits, Call, Reply, start, Step, Out, phase}
+use Rattle.std.specs.Prelude.{◌≡◌, ◌≢◌, ◌∷◌, ◌++◌}
+use Rattle.kernel_history.specs.{ℕ, List, [], All, map, Some, Setting, InLimits, Call, Reply, start, Step, Out, phase}
 use Rattle.kernel_history.specs.{calls_of, decisions_of, state_after, IsLegal, KeepsFirst}
 use Rattle.kernel_history.specs.kernel_rules.specs.{plain_reply, plain_replies, plain_steps}
 use Rattle.kernel_history.specs.Trace.{Trace}

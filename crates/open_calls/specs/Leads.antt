@@ -1,5 +1,6 @@
 -- What the names of a call lead to.
-use Rattle.seq_state.specs.kernel_rules.specs.{ℕ, List, [], ◌++◌, Option, Some, None, codes, decimal, Capability, reply_text, Call, any}
+use Rattle.std.specs.Prelude.{◌++◌}
+use Rattle.seq_state.specs.kernel_rules.specs.{ℕ, List, [], Option, Some, None, codes, decimal, Capability, reply_text, Call, any}
 use Rattle.seq_state.specs.kernel_rules.specs.{to_look, Judged, Refused, Found, named}
 use Rattle.call_plans.specs.{at_place, plan_for}
 use Rattle.call_plans.specs.declared.plans.Nth.TheVariants.{First, Second, Third, Fourth}

@@ -1,5 +1,6 @@
 -- All that is found of an open call.
-use Rattle.seq_state.specs.{◌≡◌, ℕ, List, string_bytes, Setting, IsSetting, Call, State, alone, Event, after, Open, phase_of, IsRun}
+use Rattle.std.specs.Prelude.{◌≡◌}
+use Rattle.seq_state.specs.{ℕ, List, string_bytes, Setting, IsSetting, Call, State, alone, Event, after, Open, phase_of, IsRun}
 use Rattle.open_calls.specs.{declared.outlooks.Outlook.Outlook, Leads.names_text, Told.told}
 use Rattle.{seq_state.specs.Represents, seq_state.specs.Maps.Maps}
 

@@ -1,5 +1,6 @@
 -- The replies that tell a number of the state.
-use Rattle.seq_state.specs.{ℕ, Option, Some, None, min, ltb as nat_lt, if◌then◌else◌, Capability, Call, Retype, Transfer, Delegate}
+use Rattle.std.specs.Prelude.{if◌then◌else◌}
+use Rattle.seq_state.specs.{ℕ, Option, Some, None, min, ltb as nat_lt, Capability, Call, Retype, Transfer, Delegate}
 use Rattle.seq_state.specs.{Replenish, Reply, State, outstanding, only, to_use, refs, Judged, Refused, Found, named, tcap_at, Kind}
 use Rattle.seq_state.specs.{FrameKind}
 

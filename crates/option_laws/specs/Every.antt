@@ -1,5 +1,6 @@
 -- That no reply which may stand is left out.
-use Rattle.history_options.specs.open_calls.specs.seq_state.specs.{◌≡◌, ℕ, List, Setting, IsSetting, Call, Reply, alone, Open}
+use Rattle.std.specs.Prelude.{◌≡◌}
+use Rattle.history_options.specs.open_calls.specs.seq_state.specs.{ℕ, List, Setting, IsSetting, Call, Reply, alone, Open}
 use Rattle.history_options.specs.marked_history.specs.{phase, state, MayFollow, IsHistory}
 use Rattle.history_options.specs.marked_history.specs.{declared.marks.Mark.Mark, declared.marks.Mark.TheVariants.Decide}
 use Rattle.{std.specs.List.Contains, history_options.specs.open_calls.specs.Told.told, history_options.specs.Replies.replies_of}

@@ -1,5 +1,6 @@
 -- Confinement: what a core puts in a part of a run is covered by what it reached there and had not put itself.
-use Rattle.call_names.specs.kernel_rules.specs.{◌≡◌, ◌≢◌, ◌⊎◌, ℕ, ◌+◌, ◌≤◌, true, List, [], ◌∷◌, ◌++◌, IsTrue, Capability, has_rights}
+use Rattle.std.specs.Prelude.{◌≡◌, ◌≢◌, ◌⊎◌, ◌+◌, ◌≤◌, ◌∷◌, ◌++◌}
+use Rattle.call_names.specs.kernel_rules.specs.{ℕ, true, List, [], IsTrue, Capability, has_rights}
 use Rattle.call_names.specs.kernel_rules.specs.{right_to_use, Setting, IsSetting, Call, Value, Holds, Want, found, Found, named, has_frame}
 use Rattle.call_names.specs.kernel_rules.specs.{rule_of, Event, Decides, after, IsRun, Kind, Reply}
 use Rattle.origin_rules.specs.{decided, origin_of, is_own, HasChain}

@@ -1,6 +1,7 @@
 -- The lines that tell where each capability came from.
 use Rattle.confinement.specs.origin_rules.specs as low
-use Rattle.table_lines.specs.kernel_history.specs.{◌≡◌, ℕ, List, [], ◌++◌, codes, decimal, Option, Some, None, flat_map, Capability}
+use Rattle.std.specs.Prelude.{◌≡◌, ◌++◌}
+use Rattle.table_lines.specs.kernel_history.specs.{ℕ, List, [], codes, decimal, Option, Some, None, flat_map, Capability}
 use Rattle.table_lines.specs.kernel_history.specs.{Setting, IsSetting, Event, IsRun, lines_below}
 use low.declared.chains.Step.TheVariants.{Copied, Made, Gated, Parted}
 use low.{ChainValue, chain_of, declared.chains.Step.Step, declared.chains.ChainLink.ChainLink}

@@ -1,6 +1,7 @@
 -- Where capabilities come from: what each decision puts, and the chain of what a place holds.
 use Rattle.kernel_invariant.specs as low
-use low.kernel_rules.specs.{ℕ, ◌+◌, Bool, true, false, ◌&&◌, ◌==◌, ltb as nat_lt, if◌then◌else◌, List, [], ◌∷◌, Option, Some, None}
+use Rattle.std.specs.Prelude.{◌+◌, ◌&&◌, ◌==◌, if◌then◌else◌, ◌∷◌}
+use low.kernel_rules.specs.{ℕ, Bool, true, false, ltb as nat_lt, List, [], Option, Some, None}
 use low.kernel_rules.specs.{option_map, Capability, Setting, Kind, Call, Copy, Gate, Part, Reply, Place, Free, Holds, Quiescing, Slot}
 use low.kernel_rules.specs.{Under, only, to_use, own, reached, named, name_of, Event, Enters, Decides, Returns, after}
 use Rattle.origin_rules.specs.declared.chains.Step.TheVariants.{Copied, Made, Gated, Parted}

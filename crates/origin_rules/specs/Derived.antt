@@ -1,7 +1,8 @@
 -- Chains said a second time, by what each call named: a capability has a chain if it is one of the start, or was put by a call that
 -- named a capability which has the rest of the chain.
 use Rattle.kernel_invariant.specs.kernel_rules.specs as low
-use low.{◌≡◌, ℕ, ◌+◌, true, List, [], ◌∷◌, ◌++◌, Some, IsTrue, Capability, cap_of, kept, part_of, has_rights, right_to_use, right_to_copy}
+use Rattle.std.specs.Prelude.{◌≡◌, ◌+◌, ◌∷◌, ◌++◌}
+use low.{ℕ, true, List, [], Some, IsTrue, Capability, cap_of, kept, part_of, has_rights, right_to_use, right_to_copy}
 use low.{Setting, IsSetting, Kind, Make, Call, Copy, Gate, Part, Value, Holds, comp_in, plain_cap, start_cap, any, only, to_copy, to_part}
 use low.{to_use, found, Found, named, has_frame, has_frames, Event, Decides, after, IsRun}
 use Rattle.kernel_invariant.specs.spk_nums.specs.declared.calls.Call.TheVariants.{Make as make_call}

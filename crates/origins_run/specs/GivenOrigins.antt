@@ -1,5 +1,6 @@
 -- The theorem on the origins after given steps.
-use Rattle.told_run.specs.lone_kernel.specs.core_invariant.specs.{◌≡◌, ℕ, List, Setting, Call, Item, Trace, events_of, HasCalls, Follows}
+use Rattle.std.specs.Prelude.{◌≡◌}
+use Rattle.told_run.specs.lone_kernel.specs.core_invariant.specs.{ℕ, List, Setting, Call, Item, Trace, events_of, HasCalls, Follows}
 use Rattle.{told_run.specs.lone_kernel.specs.flight.specs.Made.ready_after}
 use Rattle.{told_run.specs.lone_kernel.specs.flight_laws.specs.Histories.IsHistory, origin_lines.specs.Lines.origins_text}
 

@@ -1,5 +1,6 @@
 -- Origins that go on with the steps of a trace.
-use Rattle.told_run.specs.lone_kernel.specs.kernel_history.specs.{◌≡◌, ◌<◌, ◌^◌, ℕ, List, [], Option, Some, None, slice_get}
+use Rattle.std.specs.Prelude.{◌≡◌, ◌<◌, ◌^◌}
+use Rattle.told_run.specs.lone_kernel.specs.kernel_history.specs.{ℕ, List, [], Option, Some, None, slice_get}
 use Rattle.told_run.specs.lone_kernel.specs.kernel_history.specs.{set as slice_set, Setting, InLimits, Call, Reply, Enters, Decides}
 use Rattle.told_run.specs.lone_kernel.specs.kernel_history.specs.{Returns, Phase, Out, Decided, phase, events_of}
 use Rattle.told_run.specs.lone_kernel.specs.core_invariant.specs.{Trace, Open}

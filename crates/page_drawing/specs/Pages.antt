@@ -1,7 +1,8 @@
 -- The pages of a trace. A page has at most 60 calls and 2,000 steps: it ends before the step at which a 61st call would be entered, or
 -- before the 2,001st step, and the next begins there. One of them is drawn.
-use Rattle.step_views.specs.kernel_history.specs.{ℕ, ◌+◌, ◌*◌, ◌≤◌, All, ltb as nat_lt, ◌==◌, ◌&&◌, not, Bool, true, false, if◌then◌else◌}
-use Rattle.step_views.specs.kernel_history.specs.{is_some, List, [], ◌∷◌, replicate, get_or as slice_index_or, set as slice_set, Option}
+use Rattle.std.specs.Prelude.{◌+◌, ◌*◌, ◌≤◌, ◌==◌, ◌&&◌, if◌then◌else◌, ◌∷◌}
+use Rattle.step_views.specs.kernel_history.specs.{ℕ, All, ltb as nat_lt, not, Bool, true, false}
+use Rattle.step_views.specs.kernel_history.specs.{is_some, List, [], replicate, get_or as slice_index_or, set as slice_set, Option}
 use Rattle.step_views.specs.kernel_history.specs.{Some, None, Setting, size_of, shape_of}
 use Rattle.page_layers.specs.{seen, no_call, lane_entered, lane_decided, lane_topped}
 use Rattle.picture_rows.specs.{is_full, no_rows, rows_after}

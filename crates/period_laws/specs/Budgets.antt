@@ -1,5 +1,6 @@
 -- A temporal capability of a task's own, and how its budget comes back.
-use Rattle.sched_laws.specs.sched_rules.specs.kernel_rules.specs.{◌≡◌, ◌≢◌, ◌≤◌, ℕ, ◌+◌, ◌*◌, true, List, [], ◌∷◌, slice_get, Some, IsSome}
+use Rattle.std.specs.Prelude.{◌≡◌, ◌≢◌, ◌≤◌, ◌+◌, ◌*◌, ◌∷◌}
+use Rattle.sched_laws.specs.sched_rules.specs.kernel_rules.specs.{ℕ, true, List, [], slice_get, Some, IsSome}
 use Rattle.sched_laws.specs.sched_rules.specs.kernel_rules.specs.{IsTrue, All, Capability, number_of, only, fits, tcap_at, Kind}
 use Rattle.sched_laws.specs.sched_rules.specs.{Progress, Step, TaskFits, reach, at_first, turns_of, IsSchedule, declared.tasks.Task.Task}
 use Rattle.sched_laws.specs.sched_rules.specs.{declared.tasks.Rule.Rule, declared.tasks.Job.Job, declared.turns.Turn.TheVariants.Back}

@@ -1,5 +1,6 @@
 -- What a call made whole does to the plain kernel.
-use Rattle.seq_state.specs.{◌≡◌, ℕ, List, Setting, IsSetting, Call, Reply, State, plain_step, Event, after, Out, phase_of, IsRun}
+use Rattle.std.specs.Prelude.{◌≡◌}
+use Rattle.seq_state.specs.{ℕ, List, Setting, IsSetting, Call, Reply, State, plain_step, Event, after, Out, phase_of, IsRun}
 use Rattle.{seq_state.specs.Represents, seq_state.specs.kernel_rules.specs.Alone.plain_reply, seq_state.specs.Maps.Maps}
 
 -- The kernel represents a state that a run reaches, and in which no core is in a call.

@@ -1,5 +1,6 @@
 -- Calls made alone by the plain kernel, and what is written of them.
-use Rattle.plain_kernel.specs.kernel_rules.specs.{◌≡◌, ◌<◌, ◌^◌, ℕ, List, ◌++◌, length, All, Setting, InLimits, Call, plain_reply}
+use Rattle.std.specs.Prelude.{◌≡◌, ◌<◌, ◌^◌, ◌++◌}
+use Rattle.plain_kernel.specs.kernel_rules.specs.{ℕ, List, length, All, Setting, InLimits, Call, plain_reply}
 use Rattle.plain_kernel.specs.kernel_rules.specs.{plain_step, plain_steps}
 use Rattle.plain_tables.specs.kernel_history.specs.{State, lines_below}
 use Rattle.plain_tables.specs.kernel_history.specs.Text.{plain_lines, plain_state}

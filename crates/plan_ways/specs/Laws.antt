@@ -1,5 +1,6 @@
 -- What is proved of the ways of a call by its plan, where its first names have led to some capabilities.
-use Rattle.kernel_history.specs.{◌≡◌, ℕ, true, List, [], Option, Some, None, IsFalse, Capability, Call, Reply, FrameAt, CountAt, State}
+use Rattle.std.specs.Prelude.{◌≡◌}
+use Rattle.kernel_history.specs.{ℕ, true, List, [], Option, Some, None, IsFalse, Capability, Call, Reply, FrameAt, CountAt, State}
 use Rattle.kernel_history.specs.{Thing, Slot, Target as place, own, reached, Cause, Rule, named, vacant, held, outcome, named_by, way_to}
 use Rattle.kernel_history.specs.{ways, wide_way_to, wide_ways, target_of, asked_of, is_slot_in, HasReached, frames_named, is_one_of}
 use Rattle.call_plans.specs.{at_place, plan_for, OwnPages, rule_after, Leads, LeadsIn, NextName, NextFree, NextHeld, NextOwn, NextNothing}

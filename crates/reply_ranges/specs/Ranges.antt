@@ -1,5 +1,6 @@
 -- The ranges of replies.
-use Rattle.state_laws.specs.kernel_rules.specs.{◌≡◌, ℕ, ◌<◌, ◌≤◌, List, Setting, IsSetting, Call, Capability, least_rights, Value, Reply}
+use Rattle.std.specs.Prelude.{◌≡◌, ◌<◌, ◌≤◌}
+use Rattle.state_laws.specs.kernel_rules.specs.{ℕ, List, Setting, IsSetting, Call, Capability, least_rights, Value, Reply}
 use Rattle.state_laws.specs.kernel_rules.specs.{Event, MayDecide, IsRun}
 use Rattle.state_laws.specs.spk_nums.specs.Limits.{least_arg, end_of_arg}
 

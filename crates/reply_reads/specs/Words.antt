@@ -1,5 +1,6 @@
 -- The words of replies.
-use Rattle.kernel_history.specs.{ℕ, ◌==◌, Bool, true, false, List, [], ◌∷◌, ◌++◌, codes, decimal, Capability, Kind, Value, Reply}
+use Rattle.std.specs.Prelude.{◌==◌, ◌∷◌, ◌++◌}
+use Rattle.kernel_history.specs.{ℕ, Bool, true, false, List, [], codes, decimal, Capability, Kind, Value, Reply}
 use Rattle.kernel_history.specs.spk_nums.specs.Names.{kind_word, reply_word}
 
 -- words, with a space between each two

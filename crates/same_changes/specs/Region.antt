@@ -1,5 +1,6 @@
 -- A part of a machine, and when a call comes to the same there in two states.
-use Rattle.kernel_laws.specs.kernel_rules.specs.{◌≡◌, ◌<◌, ℕ, Bool, true, ltb as nat_lt, List, Some, Setting, IsSetting, Capability, Kind}
+use Rattle.std.specs.Prelude.{◌≡◌, ◌<◌}
+use Rattle.kernel_laws.specs.kernel_rules.specs.{ℕ, Bool, true, ltb as nat_lt, List, Some, Setting, IsSetting, Capability, Kind}
 use Rattle.kernel_laws.specs.kernel_rules.specs.{Call, CompFields, ThreadFields, Comp, Thread, Kernel, Thing, PlaceOf, FrameOf, NumberOf}
 use Rattle.kernel_laws.specs.kernel_rules.specs.{Limits, refs, Slot, found, usable, Change, Judged, Refused, Found, has_frame, acts}
 use Rattle.kernel_laws.specs.kernel_rules.specs.{change_of, Event, after, Open, phase_of, IsRun, Make}

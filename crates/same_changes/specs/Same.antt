@@ -1,5 +1,6 @@
 -- When a call comes to the same in two states.
-use Rattle.seq_lookups.specs.seq_state.specs.{◌≡◌, ℕ, List, Setting, IsSetting, Call, State, Change, Judged, Refused, Found, acts}
+use Rattle.std.specs.Prelude.{◌≡◌}
+use Rattle.seq_lookups.specs.seq_state.specs.{ℕ, List, Setting, IsSetting, Call, State, Change, Judged, Refused, Found, acts}
 use Rattle.seq_lookups.specs.seq_state.specs.{change_of, Event, after, Open, phase_of, IsRun, SameState}
 use Rattle.seq_lookups.specs.Ranges.{IsInRange}
 

@@ -1,6 +1,7 @@
 -- What the turns of a schedule charge and give back, and to which temporal capability.
 use Rattle.sched_rules.specs as low
-use low.kernel_rules.specs.{◌≡◌, ◌≢◌, ℕ, ◌+◌, List, [], ◌∷◌, Some, IsTrue, Capability, only, to_use, Found, named, fits, tcap_at, Kind}
+use Rattle.std.specs.Prelude.{◌≡◌, ◌≢◌, ◌+◌, ◌∷◌}
+use low.kernel_rules.specs.{ℕ, List, [], Some, IsTrue, Capability, only, to_use, Found, named, fits, tcap_at, Kind}
 use low.{declared.tasks.Rule.Rule, declared.tasks.Choice.Choice, declared.tasks.Renewal.Renewal, declared.turns.Turn.Turn}
 use low.{declared.turns.Turn.TheVariants.Ran, declared.turns.Turn.TheVariants.Idle, declared.turns.Turn.TheVariants.Back}
 use low.{Progress, Step, chosen, renewal, IsSchedule, kernel_rules.specs.State.State, declared.turns.Turn.TheVariants.Refused}

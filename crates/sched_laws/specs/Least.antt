@@ -1,5 +1,6 @@
 -- Which task runs: the least among the ready ones, at every tick.
-use Rattle.sched_rules.specs.kernel_rules.specs.{◌≡◌, ◌<◌, ◌≤◌, ℕ, ◌+◌, false, List, slice_get, Some, None, preempts, tcap_at}
+use Rattle.std.specs.Prelude.{◌≡◌, ◌<◌, ◌≤◌, ◌+◌}
+use Rattle.sched_rules.specs.kernel_rules.specs.{ℕ, false, List, slice_get, Some, None, preempts, tcap_at}
 use Rattle.sched_rules.specs.{Progress, Step, ready, chosen, turn_of}
 use Rattle.sched_rules.specs.kernel_rules.specs.State.{State}
 use Rattle.sched_rules.specs.{declared.tasks.Rule.Rule, declared.tasks.Job.Job, declared.tasks.Ready.Ready, declared.tasks.Choice.Choice}

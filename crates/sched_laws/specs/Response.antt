@@ -1,6 +1,7 @@
 -- When a task ends.
-use Rattle.sched_rules.specs.kernel_rules.specs.{◌≡◌, ◌≢◌, ◌≤◌, ℕ, ◌+◌, Bool, true, ◌||◌, ◌&&◌, ◌==◌, ltb as nat_lt, leb as nat_le}
-use Rattle.sched_rules.specs.kernel_rules.specs.{if◌then◌else◌, List, [], ◌∷◌, slice_get, Some, None, IsSome, Reply}
+use Rattle.std.specs.Prelude.{◌≡◌, ◌≢◌, ◌≤◌, ◌+◌, ◌||◌, ◌&&◌, ◌==◌, if◌then◌else◌, ◌∷◌}
+use Rattle.sched_rules.specs.kernel_rules.specs.{ℕ, Bool, true, ltb as nat_lt, leb as nat_le}
+use Rattle.sched_rules.specs.kernel_rules.specs.{List, [], slice_get, Some, None, IsSome, Reply}
 use Rattle.sched_rules.specs.{Progress, Step, is_due, ready, at_first, turns_of, IsSchedule, ran_by}
 use Rattle.sched_rules.specs.kernel_rules.specs.State.{State}
 use Rattle.sched_rules.specs.{declared.tasks.Task.Task, declared.tasks.Rule.Rule, declared.tasks.Job.Job, declared.tasks.Ready.Ready}

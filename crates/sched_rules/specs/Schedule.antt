@@ -1,7 +1,8 @@
 -- Fixed-priority scheduling on core 0: which task is ready, which is chosen, what a turn is, and the schedule that turns make; and what is
 -- given back to a task as its further jobs arrive. It is said of the states of the sequential kernel, whose calls core 0 makes alone.
-use Rattle.kernel_rules.specs.{◌≡◌, ◌<◌, ◌≤◌, ℕ, ◌+◌, ◌-◌, min, Bool, true, false, not, ◌&&◌, ◌==◌, ltb as nat_lt, leb as nat_le}
-use Rattle.kernel_rules.specs.{if◌then◌else◌, List, [], ◌∷◌, ◌++◌, map, set as slice_set, Option, Some, None, IfSome, option_and_then}
+use Rattle.std.specs.Prelude.{◌≡◌, ◌<◌, ◌≤◌, ◌+◌, ◌-◌, ◌&&◌, ◌==◌, if◌then◌else◌, ◌∷◌, ◌++◌}
+use Rattle.kernel_rules.specs.{ℕ, min, Bool, true, false, not, ltb as nat_lt, leb as nat_le}
+use Rattle.kernel_rules.specs.{List, [], map, set as slice_set, Option, Some, None, IfSome, option_and_then}
 use Rattle.kernel_rules.specs.{Capability, number_of, Call, Switch, Tick, Replenish, Reply, TcapFields, only, usable, reached, own, tcap_at}
 use Rattle.kernel_rules.specs.{plain_reply, plain_step, Kind}
 use Rattle.sched_rules.specs.{declared.tasks.Task.Task, declared.tasks.Rule.Rule, declared.tasks.Job.Job, declared.tasks.Ready.Ready}

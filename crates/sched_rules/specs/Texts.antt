@@ -1,5 +1,6 @@
 -- How turns and tasks are written.
-use Rattle.kernel_rules.specs.{ℕ, ◌+◌, ◌-◌, ◌*◌, ◌==◌, if◌then◌else◌, List, [], ◌∷◌, ◌++◌, codes, decimal, reply_text}
+use Rattle.std.specs.Prelude.{◌+◌, ◌-◌, ◌*◌, ◌==◌, if◌then◌else◌, ◌∷◌, ◌++◌}
+use Rattle.kernel_rules.specs.{ℕ, List, [], codes, decimal, reply_text}
 use Rattle.sched_rules.specs.declared.turns.Turn.TheVariants.{Ran, Idle, Back, Refused}
 use Rattle.{sched_rules.specs.declared.tasks.Task.Task, sched_rules.specs.declared.turns.Turn.Turn}
 

@@ -1,5 +1,6 @@
 -- What the command `sched` writes.
-use Rattle.fixed_prio.specs.seq_state.specs.{◌≡◌, ℕ, List, ◌++◌, Result, Ok, Setting, Call}
+use Rattle.std.specs.Prelude.{◌≡◌, ◌++◌}
+use Rattle.fixed_prio.specs.seq_state.specs.{ℕ, List, Result, Ok, Setting, Call}
 use Rattle.fixed_prio.specs.sched_rules.specs.{Step, at_first, turns_of, calls_of as calls_of_turns, IsSchedule}
 use Rattle.{sched_reader.specs.Input, sched_reader.specs.input_of, sched_reader.specs.script_reader.specs.Meaning}
 use Rattle.{sched_reader.specs.script_reader.specs.calls_of, line_reader.specs.declared.cause.ReadFault.ReadFault}

@@ -1,5 +1,6 @@
 -- What core 0 owes before a schedule begins.
-use Rattle.kernel_laws.specs.kernel_rules.specs.{◌≡◌, ℕ, ◌<◌, List, All, Ok, Setting, InLimits, Call, Tick, start, plain_steps}
+use Rattle.std.specs.Prelude.{◌≡◌, ◌<◌}
+use Rattle.kernel_laws.specs.kernel_rules.specs.{ℕ, List, All, Ok, Setting, InLimits, Call, Tick, start, plain_steps}
 use Rattle.sched_reader.specs.{Input, input_of}
 
 -- The call is no `tick`.

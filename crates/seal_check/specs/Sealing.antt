@@ -1,5 +1,6 @@
 -- Whether what a machine has is sealed.
-use Rattle.seq_state.specs.kernel_rules.specs.{◌≡◌, ◌<◌, ◌↔◌, ◌&&◌, not, ℕ, Bool, true, false, List, Option, Some, None, slice_get, IsTrue}
+use Rattle.std.specs.Prelude.{◌≡◌, ◌<◌, ◌↔◌, ◌&&◌}
+use Rattle.seq_state.specs.kernel_rules.specs.{not, ℕ, Bool, true, false, List, Option, Some, None, slice_get, IsTrue}
 use Rattle.seq_state.specs.kernel_rules.specs.{Capability, Setting, IsSetting, Kind, Comp, Frame, Kernel, Slot, found, usable, has_frame}
 use Rattle.seq_state.specs.kernel_rules.specs.{Event, after, IsRun}
 use Rattle.world_laws.specs.{gates, HoldsNone, IsSealed}

@@ -1,5 +1,6 @@
 -- What a port tells of worlds.
-use Rattle.core_kernel.specs.flight_laws.specs.core_invariant.specs.{◌≡◌, ◌⊎◌, ℕ, Bool, List, ◌++◌, slice_get, Some, Setting, Kind, CoreEnd}
+use Rattle.std.specs.Prelude.{◌≡◌, ◌⊎◌, ◌++◌}
+use Rattle.core_kernel.specs.flight_laws.specs.core_invariant.specs.{ℕ, Bool, List, slice_get, Some, Setting, Kind, CoreEnd}
 use Rattle.core_kernel.specs.flight_laws.specs.core_invariant.specs.{shape_of, Represent, word_in, end_in, Trace, state_after}
 use Rattle.core_kernel.specs.flight_laws.specs.isolation_laws.specs.{CarriedOutBy, WorksInside, WorldsStay}
 use Rattle.core_kernel.specs.flight_laws.specs.isolation_laws.specs.world_laws.specs.{OnlyGates, IsSealed, AreApart}

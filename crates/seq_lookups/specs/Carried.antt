@@ -1,5 +1,6 @@
 -- What the plain kernel makes of a call.
-use Rattle.seq_state.specs.{◌≡◌, ◌∷◌, Capability, Reply, State, Holds, Quiescing, PlaceOf, with_place, place_names, Slot, begun, Change}
+use Rattle.std.specs.Prelude.{◌≡◌, ◌∷◌}
+use Rattle.seq_state.specs.{Capability, Reply, State, Holds, Quiescing, PlaceOf, with_place, place_names, Slot, begun, Change}
 use Rattle.seq_state.specs.{Judged, changed, reply_in, Represents}
 use Rattle.{seq_state.specs.kernel_rules.specs.Edits.frames_of, seq_state.specs.Maps.Maps}
 

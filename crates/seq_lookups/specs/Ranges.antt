@@ -1,5 +1,6 @@
 -- What a call finds in the state, within the ranges of the plain kernel's words. It holds in every state that a run reaches.
-use Rattle.seq_state.specs.kernel_rules.specs.{◌≡◌, ◌≢◌, ◌<◌, ◌≤◌, ◌+◌, ◌^◌, ℕ, Make, Call, Retype, Map, Touch, Gate, Tick, Transfer}
+use Rattle.std.specs.Prelude.{◌≡◌, ◌≢◌, ◌<◌, ◌≤◌, ◌+◌, ◌^◌}
+use Rattle.seq_state.specs.kernel_rules.specs.{ℕ, Make, Call, Retype, Map, Touch, Gate, Tick, Transfer}
 use Rattle.seq_state.specs.kernel_rules.specs.{Delegate, Part, Replenish, comp_in, comp_of, outstanding, to_use, to_part, only, Judged}
 use Rattle.seq_state.specs.kernel_rules.specs.{Refused, Found, named, mapped, epoch_of, budget_at, Kind}
 use Rattle.seq_state.specs.{Make as make_call, State}

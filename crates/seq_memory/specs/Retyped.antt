@@ -1,5 +1,6 @@
 -- What becomes of a frame that is retyped.
-use Rattle.seq_state.specs.kernel_rules.specs.{ℕ, if◌then◌else◌, FrameKind, Untyped, User, Kernel, Blank, FrameOf, with_frame, with_grace}
+use Rattle.std.specs.Prelude.{if◌then◌else◌}
+use Rattle.seq_state.specs.kernel_rules.specs.{ℕ, FrameKind, Untyped, User, Kernel, Blank, FrameOf, with_frame, with_grace}
 use Rattle.seq_state.specs.kernel_rules.specs.{no_grace, frame_names, same_thing, begun, frames_of}
 use Rattle.seq_state.specs.kernel_rules.specs.State.{State}
 

@@ -1,6 +1,7 @@
 -- The change of a call, given what was looked up, and what it must have found beside that none of its causes stands.
 use Rattle.seq_state.specs.kernel_rules.specs as low
-use low.{◌≡◌, ◌≢◌, ◌<◌, ◌≤◌, ◌+◌, ◌^◌, ℕ, length, Option, Some, None, IsSome, IsSomeAnd, IsTrue, Capability, FrameKind, Translation, Make}
+use Rattle.std.specs.Prelude.{◌≡◌, ◌≢◌, ◌<◌, ◌≤◌, ◌+◌, ◌^◌}
+use low.{ℕ, length, Option, Some, None, IsSome, IsSomeAnd, IsTrue, Capability, FrameKind, Translation, Make}
 use low.{Call, Look, Copy, Remove, Grow, Shrink, Retype, Map, Unmap, Touch, Flush, Gate, Kill, Ret, Switch, Tick, Transfer, Delegate, Test}
 use low.{Part, Replenish, comp_in, comp_of, thread_in, thread_of, Rule, Name as name_rule, Vacant, Held as held_rule, Mapped, Does, Change}
 use low.{does, Judged, Refused, Found as Carried, epoch_of, translation_of, is_live_in, merged_list, budget_at, Kind, Reply}

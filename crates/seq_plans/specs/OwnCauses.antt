@@ -1,5 +1,6 @@
 -- Causes of refusal as data, as those of the definitions.
-use Rattle.seq_state.specs.{ℕ, ltb as nat_lt, if◌then◌else◌, List, [], ◌∷◌, Option, Some, None, Call, Retype, Nothing, State, IsRefusal}
+use Rattle.std.specs.Prelude.{if◌then◌else◌, ◌∷◌}
+use Rattle.seq_state.specs.{ℕ, ltb as nat_lt, List, [], Option, Some, None, Call, Retype, Nothing, State, IsRefusal}
 use Rattle.seq_state.specs.{only, to_use, outside, retype_rule, rule_of, Cause, When, Rule, Name, Does, thing_of, HasIndex, Kind, FrameKind}
 use Rattle.seq_state.specs.kernel_rules.specs.{Untype, WaitedFor, Unflushed}
 use Rattle.seq_plans.specs.{declared.causes.Cause.Cause as Asked, declared.causes.Causes.Causes}

@@ -1,5 +1,6 @@
 -- How far a look-up goes: to what a core may use itself, or to all that places show, be it removed or not.
-use Rattle.seq_state.specs.kernel_rules.specs.{ℕ, ◌%◌, ◌&&◌, leb as nat_le, if◌then◌else◌, Option, Some, None, Capability, Place, Free}
+use Rattle.std.specs.Prelude.{◌%◌, ◌&&◌, if◌then◌else◌}
+use Rattle.seq_state.specs.kernel_rules.specs.{ℕ, leb as nat_le, Option, Some, None, Capability, Place, Free}
 use Rattle.seq_state.specs.kernel_rules.specs.{Holds, Quiescing, Slot, Named, found, not_found, Target, Under, InRoot, place_at, usable}
 use Rattle.seq_state.specs.kernel_rules.specs.{reached, linked, slot_in, root_slot}
 use Rattle.seq_plans.specs.{declared.reaching.Aim.Aim, declared.reaching.Reach.Reach, declared.reaching.Reach.TheVariants.Own}

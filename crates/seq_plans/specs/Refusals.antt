@@ -1,5 +1,6 @@
 -- How the look-ups of a plan may be refused, where its names have led to what was looked up.
-use Rattle.seq_state.specs.kernel_rules.specs.{◌⊎◌, ◌≤◌, ℕ, length, Bool, List, Option, Some, None, is_some, IsFalse, Reply, comp_of, Named}
+use Rattle.std.specs.Prelude.{◌⊎◌, ◌≤◌}
+use Rattle.seq_state.specs.kernel_rules.specs.{ℕ, length, Bool, List, Option, Some, None, is_some, IsFalse, Reply, comp_of, Named}
 use Rattle.seq_state.specs.kernel_rules.specs.{translation_of, Rule, NameMay, VacantMay, HeldMay, MappedMay, OneMay, RuleMay}
 use Rattle.call_plans.specs.{at_place, own_pages, want_of, place_of_spot}
 use Rattle.call_plans.specs.{declared.plans.Nth.Nth, declared.plans.Nth.TheVariants.First, declared.plans.Nth.TheVariants.Second}

@@ -1,6 +1,7 @@
 -- What a call finds by its plan: all that it looks up, or the first refusal of its look-ups in their order.
 use Rattle.call_plans.specs as low
-use Rattle.seq_state.specs.{◌≡◌, ◌≤◌, ℕ, Bool, true, false, length, Option, Some, None, is_some, Capability, State, comp_of, translation_of}
+use Rattle.std.specs.Prelude.{◌≡◌, ◌≤◌}
+use Rattle.seq_state.specs.{ℕ, Bool, true, false, length, Option, Some, None, is_some, Capability, State, comp_of, translation_of}
 use Rattle.seq_state.specs.{Rule, Judged, Refused, Found, and_then, named, vacant, held, mapped, outcome}
 use low.{at_place, OnlyDoes, own_pages, want_of, place_of_spot, declared.plans.Nth.TheVariants.First, declared.plans.Nth.TheVariants.Second}
 use low.{declared.plans.Nth.TheVariants.Third, declared.plans.Nth.TheVariants.Fourth, declared.plans.Name.Name}

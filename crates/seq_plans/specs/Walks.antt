@@ -1,5 +1,6 @@
 -- What a call looks up by its plan, and what is then left of its rule.
-use Rattle.seq_state.specs.{ℕ, ◌&&◌, if◌then◌else◌, List, [], ◌∷◌, Option, Some, None, option_and_then, Capability, has_rights, State}
+use Rattle.std.specs.Prelude.{◌&&◌, if◌then◌else◌, ◌∷◌}
+use Rattle.seq_state.specs.{ℕ, List, [], Option, Some, None, option_and_then, Capability, has_rights, State}
 use Rattle.seq_state.specs.{comp_of, Slot, Named, Want, Under, root_at, place_at, held_in, own, Rule, Name as name_rule, Vacant}
 use Rattle.seq_state.specs.{Held as held_rule, Mapped, Does, Cause}
 use Rattle.call_plans.specs.{at_place, want_of, place_of_spot}

@@ -1,5 +1,6 @@
 -- The references to each frame, as the lists have them.
-use Rattle.kernel_invariant.specs.kernel_rules.specs.{◌≡◌, ◌<◌, ◌+◌, ◌*◌, ℕ, List, length, place_names, frame_names, number_names}
+use Rattle.std.specs.Prelude.{◌≡◌, ◌<◌, ◌+◌, ◌*◌}
+use Rattle.kernel_invariant.specs.kernel_rules.specs.{ℕ, List, length, place_names, frame_names, number_names}
 use Rattle.kernel_invariant.specs.kernel_rules.specs.{core_names, sum_below, times}
 use Rattle.seq_state.specs.{declared.parts.Place.Place, declared.parts.Frame.Frame, declared.parts.Liveness.Liveness}
 use Rattle.seq_state.specs.{declared.parts.Core.Core, Maps.at, Maps.count_at, Maps.place_or_free, Maps.frame_or_untyped}

@@ -1,5 +1,6 @@
 -- The plain kernel as contracts see it: lists by number, and the state that they stand for.
-use Rattle.kernel_invariant.specs.kernel_rules.specs.{◌≡◌, ◌<◌, ◌≤◌, ◌^◌, ℕ, ◌+◌, ◌-◌, ◌*◌, false, ltb as nat_lt, if◌then◌else◌, List, []}
+use Rattle.std.specs.Prelude.{◌≡◌, ◌<◌, ◌≤◌, ◌^◌, ◌+◌, ◌-◌, ◌*◌, if◌then◌else◌}
+use Rattle.kernel_invariant.specs.kernel_rules.specs.{ℕ, false, ltb as nat_lt, List, []}
 use Rattle.kernel_invariant.specs.kernel_rules.specs.{length, get_or, slice_get, Bool, Option, Some, None, IsSome, IsSomeAnd, frame_names}
 use Rattle.kernel_invariant.specs.kernel_rules.specs.{refs}
 use Rattle.seq_state.specs.{declared.parts.Place.Place, declared.parts.Frame.Frame, declared.parts.Liveness.Liveness}

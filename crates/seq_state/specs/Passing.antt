@@ -1,5 +1,6 @@
 -- What a beginning, a return and a flush make of the plain kernel's times and grace periods.
-use Rattle.kernel_invariant.specs.kernel_rules.specs.{◌≡◌, ◌<◌, ℕ, Bool, true, Option, Some, None, Grace}
+use Rattle.std.specs.Prelude.{◌≡◌, ◌<◌}
+use Rattle.kernel_invariant.specs.kernel_rules.specs.{ℕ, Bool, true, Option, Some, None, Grace}
 use Rattle.kernel_invariant.specs.kernel_rules.specs.State.{State}
 use Rattle.seq_state.specs.{declared.times.Times.Times, declared.times.Period.Period}
 

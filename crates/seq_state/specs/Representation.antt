@@ -1,5 +1,6 @@
 -- When two states are one for all that a machine has, and which states the plain kernel represents.
-use Rattle.kernel_invariant.specs.kernel_rules.specs.{◌≡◌, ◌<◌, ℕ, if◌then◌else◌, Grace, Thing, PlaceOf, FrameOf, NumberOf, Limits}
+use Rattle.std.specs.Prelude.{◌≡◌, ◌<◌, if◌then◌else◌}
+use Rattle.kernel_invariant.specs.kernel_rules.specs.{ℕ, Grace, Thing, PlaceOf, FrameOf, NumberOf, Limits}
 use Rattle.{kernel_invariant.specs.kernel_rules.specs.with_grace, kernel_invariant.specs.kernel_rules.specs.same_thing}
 use Rattle.{kernel_invariant.specs.kernel_rules.specs.State.State, seq_state.specs.Maps.Maps, seq_state.specs.Maps.state_of}
 

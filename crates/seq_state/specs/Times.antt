@@ -1,5 +1,6 @@
 -- Grace periods by times: when each began, and what each core did last, as a clock then stood.
-use Rattle.kernel_invariant.specs.kernel_rules.specs.{◌≤◌, ◌+◌, ℕ, Bool, false, ◌&&◌, if◌then◌else◌, ltb as nat_lt, cond, List, get_or}
+use Rattle.std.specs.Prelude.{◌≤◌, ◌+◌, ◌&&◌, if◌then◌else◌}
+use Rattle.kernel_invariant.specs.kernel_rules.specs.{ℕ, Bool, false, ltb as nat_lt, cond, List, get_or}
 use Rattle.kernel_invariant.specs.kernel_rules.specs.{Grace, sum_below}
 use Rattle.seq_state.specs.{declared.times.Times.Times, declared.times.Period.Period}
 

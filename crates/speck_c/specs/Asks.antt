@@ -1,6 +1,7 @@
 -- Sends and receives as C asks for them.
 use Rattle.end_ports.specs.core_machine.specs.core_kernel.specs.flight_laws.specs.core_invariant.specs.act_states.specs as low
-use low.{◌≡◌, ℕ, ◌<◌, ◌≤◌, ltb as nat_lt, if◌then◌else◌, Option, Some, MatchOption, Nothing, Amount}
+use Rattle.std.specs.Prelude.{◌≡◌, ◌<◌, ◌≤◌, if◌then◌else◌}
+use low.{ℕ, ltb as nat_lt, Option, Some, MatchOption, Nothing, Amount}
 use Rattle.end_ports.specs.async_ends.specs.declared.endpoint.EndReply.TheVariants.{Sent, Taken, Raced, Refused}
 use Rattle.speck_c.specs.{declared.held.Held.Held, declared.reply.SpeckReply.SpeckReply, Flat.blank, Flat.carried, Flat.flat}
 use Rattle.{spk_nums.specs.declared.replies.Reply.TheVariants.Raced as raced, spk_nums.specs.declared.replies.Reply.TheVariants.CallsSpent}

@@ -1,6 +1,7 @@
 -- The kinds of frame by number.
 use Rattle.end_ports.specs.core_machine.specs.core_kernel.specs.flight_laws.specs.core_invariant.specs.stage_tcap.specs as low
-use low.{ℕ, ◌==◌, if◌then◌else◌, Option, Some, None, MatchOption, Retype, FrameKind, Untyped, User, Kernel}
+use Rattle.std.specs.Prelude.{◌==◌, if◌then◌else◌}
+use low.{ℕ, Option, Some, None, MatchOption, Retype, FrameKind, Untyped, User, Kernel}
 use Rattle.speck_c.specs.{declared.held.Held.Held, declared.reply.SpeckReply.SpeckReply, Slots.IsCalled, Slots.IsOutside}
 
 -- the kind of this number

@@ -1,6 +1,7 @@
 -- What the exports on machines, ports and notes make of what their slots hold.
 use Rattle.end_ports.specs.core_machine.specs.core_kernel.specs as low
-use low.flight_laws.specs.core_invariant.specs.{◌≡◌, ℕ, ◌+◌, ◌≤◌, ◌⊎◌, Option, Some, None, [], Setting, IsSetting}
+use Rattle.std.specs.Prelude.{◌≡◌, ◌+◌, ◌≤◌, ◌⊎◌}
+use low.flight_laws.specs.core_invariant.specs.{ℕ, Option, Some, None, [], Setting, IsSetting}
 use Rattle.speck_c.specs.{declared.held.Held.Held, declared.held.What.What, declared.held.What.TheVariants.Machine}
 use Rattle.speck_c.specs.{declared.held.What.TheVariants.Core, declared.held.What.TheVariants.Told, declared.held.What.TheVariants.Final}
 use Rattle.{end_ports.specs.EndPortValue, end_ports.specs.EndSeatsValue, spk_nums.specs.SetupFaults.FaultOf}

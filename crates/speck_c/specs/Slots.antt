@@ -1,6 +1,7 @@
 -- What a slot of C's holds, and what the exports make of it.
 use Rattle.end_ports.specs.core_machine.specs.core_kernel.specs.flight_laws.specs.core_invariant.specs as low
-use low.{◌≡◌, Bool, true, false, Option, Some, None, MatchOption, Call, Reply}
+use Rattle.std.specs.Prelude.{◌≡◌}
+use low.{Bool, true, false, Option, Some, None, MatchOption, Call, Reply}
 use Rattle.speck_c.specs.{declared.held.Held.Held, declared.held.What.What, declared.held.What.TheVariants.Machine}
 use Rattle.speck_c.specs.{declared.held.What.TheVariants.Core, declared.held.What.TheVariants.Told, declared.held.What.TheVariants.Final}
 use Rattle.speck_c.specs.{declared.held.What.TheVariants.Tables, declared.reply.SpeckReply.SpeckReply, declared.slot.Slot.Slot, Flat.flat}

@@ -1,5 +1,6 @@
 -- The theorem on endpoint calls after lists.
-use Rattle.trace_run.specs.lone_kernel.specs.kernel_history.specs.{◌≡◌, ◌++◌, ℕ, List, Call, Setting, lines_below, decisions_by}
+use Rattle.std.specs.Prelude.{◌≡◌, ◌++◌}
+use Rattle.trace_run.specs.lone_kernel.specs.kernel_history.specs.{ℕ, List, Call, Setting, lines_below, decisions_by}
 use Rattle.trace_run.specs.lone_kernel.specs.kernel_history.specs.{reply_lines, calls_of}
 use Rattle.ends_text.specs.{done_lines, end_lines}
 use Rattle.{async_ends.specs.declared.asks.EndAsk.EndAsk, ends_run.specs.Ends.EndsHistory}

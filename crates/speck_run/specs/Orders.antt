@@ -1,6 +1,7 @@
 -- How orders extend each trace for which a machine stood.
 use Rattle.trace_run.specs.lone_kernel.specs as low
-use low.kernel_history.specs.{ℕ, List, ◌++◌, Item, AreOf, FollowsItem, FollowsItems, RunsOut, FollowsCores}
+use Rattle.std.specs.Prelude.{◌++◌}
+use low.kernel_history.specs.{ℕ, List, Item, AreOf, FollowsItem, FollowsItems, RunsOut, FollowsCores}
 use low.{kernel_history.specs.Trace.Trace, Machine.Machine, Stands.StandsFor, flight.specs.Made.ready_after}
 
 -- Each trace goes on by an item of the order.

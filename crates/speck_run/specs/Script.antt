@@ -1,5 +1,6 @@
 -- What a command takes, a script or another input, what is none, and what the command makes of it.
-use Rattle.trace_run.specs.lone_kernel.specs.core_invariant.specs.{◌≡◌, ℕ, List, Result, Ok, Err, list_of}
+use Rattle.std.specs.Prelude.{◌≡◌}
+use Rattle.trace_run.specs.lone_kernel.specs.core_invariant.specs.{ℕ, List, Result, Ok, Err, list_of}
 use Rattle.check_run.specs.history_reader.specs.{History, history_of}
 use Rattle.one_core.specs.sched_reader.specs.{Input as Sched_input, input_of as sched_input_of}
 use Rattle.script_reader.specs.{Meaning, script_of}

@@ -1,6 +1,7 @@
 -- The theorem on the summary of given steps.
 use Rattle.trace_run.specs.lone_kernel.specs as low
-use low.core_invariant.specs.{◌≡◌, ℕ, List, string_bytes, Call, Item, Setting, Trace, state_after, decisions_of, HasCalls, Follows}
+use Rattle.std.specs.Prelude.{◌≡◌}
+use low.core_invariant.specs.{ℕ, List, string_bytes, Call, Item, Setting, Trace, state_after, decisions_of, HasCalls, Follows}
 use Rattle.speck_run.specs.{declared.summary.Summed.Summed, declared.summary.Summed.TheVariants.Done}
 use Rattle.speck_run.specs.{declared.summary.Summed.TheVariants.NoScript, Script.IsScript, Script.IsFirstFault}
 use low.{kernel_rules.specs.Laws.ticks, flight.specs.Made.ready_after, flight_laws.specs.Histories.IsHistory}

@@ -1,5 +1,6 @@
 -- The theorem on the worlds after given steps.
-use Rattle.trace_run.specs.lone_kernel.specs.core_invariant.specs.{◌≡◌, ℕ, List, Setting, Call, Item, Trace, state_after, HasCalls, Follows}
+use Rattle.std.specs.Prelude.{◌≡◌}
+use Rattle.trace_run.specs.lone_kernel.specs.core_invariant.specs.{ℕ, List, Setting, Call, Item, Trace, state_after, HasCalls, Follows}
 use Rattle.world_lines.specs.world_parts.specs.{sight_of, IsFinest}
 use Rattle.{trace_run.specs.lone_kernel.specs.flight.specs.Made.ready_after}
 use Rattle.{trace_run.specs.lone_kernel.specs.flight_laws.specs.Histories.IsHistory, world_lines.specs.Lines.worlds_text}

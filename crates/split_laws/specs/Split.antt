@@ -1,5 +1,6 @@
 -- Worlds that are split: nothing crosses, not even a gate. Of the others a world sees no more than when they enter calls, return and flush.
-use Rattle.world_laws.specs.kernel_rules.specs.{◌≡◌, ◌<◌, ℕ, ◌+◌, Bool, true, not, if◌then◌else◌, List, [], ◌∷◌, ◌++◌, Some, Capability}
+use Rattle.std.specs.Prelude.{◌≡◌, ◌<◌, ◌+◌, if◌then◌else◌, ◌∷◌, ◌++◌}
+use Rattle.world_laws.specs.kernel_rules.specs.{ℕ, Bool, true, not, List, [], Some, Capability}
 use Rattle.world_laws.specs.kernel_rules.specs.{Setting, IsSetting, Call, Retype, Map, Touch, Flush, PageFlags, Page, Reply, Translation}
 use Rattle.world_laws.specs.kernel_rules.specs.{CompFields, ThreadFields, Comp, Thread, Kernel, Thing, PlaceOf, FrameOf, NumberOf}
 use Rattle.world_laws.specs.kernel_rules.specs.{frame_names, number_names, core_names, sum_below, times, node_refs, refs, usable, alone}

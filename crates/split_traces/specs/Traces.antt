@@ -1,5 +1,6 @@
 -- Split worlds in legal traces: what stays so over any stretch of steps of all cores, and what the others leave of it.
-use Rattle.kernel_history.specs.{◌≡◌, List, [], ◌∷◌, ◌++◌, Setting, IsSetting, Event, after, IsRun, phase, after_enter, state_after}
+use Rattle.std.specs.Prelude.{◌≡◌, ◌∷◌, ◌++◌}
+use Rattle.kernel_history.specs.{List, [], Setting, IsSetting, Event, after, IsRun, phase, after_enter, state_after}
 use Rattle.kernel_history.specs.{with_entry, with_decision, with_return, events_of, IsLegal}
 use Rattle.split_laws.specs.Split.{KeepsNumbers, TellsInside, hushed, told_inside}
 use Rattle.{split_laws.specs.World, split_laws.specs.IsSplit, split_laws.specs.AgreeIn, kernel_history.specs.Trace.Trace}

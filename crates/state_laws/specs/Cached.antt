@@ -1,6 +1,7 @@
 -- Cached translations in the states that runs reach.
 use Rattle.kernel_laws.specs.kernel_rules.specs as low
-use low.{◌≡◌, ◌⊎◌, ◌<◌, ◌≤◌, ◌++◌, ℕ, ◌/◌, ◌%◌, List, ◌∷◌, length, Some, IsTrue, Setting, IsSetting, Translation, PageFlags, Touch, Page}
+use Rattle.std.specs.Prelude.{◌≡◌, ◌⊎◌, ◌<◌, ◌≤◌, ◌++◌, ◌/◌, ◌%◌, ◌∷◌}
+use low.{ℕ, List, length, Some, IsTrue, Setting, IsSetting, Translation, PageFlags, Touch, Page}
 use low.{Place, Free, Holds, Quiescing, Pages, Pleaf, User, Kernel, Thing, PlaceOf, FrameOf, comp_of, refs, translation_of, Event, Decides}
 use low.{after, MayDecide, IsRun, Kind, State.State}
 use Rattle.{std.specs.List.AllByRecursion, kernel_laws.specs.spk_nums.specs.declared.replies.Reply.TheVariants.Ok}

@@ -1,5 +1,6 @@
 -- Liveness numbers, gates and threads in the states that runs reach.
-use Rattle.kernel_laws.specs.kernel_rules.specs.{◌≡◌, ◌<◌, ℕ, List, ◌++◌, Some, IsTrue, Setting, IsSetting, Capability, Holds, Frame, Live}
+use Rattle.std.specs.Prelude.{◌≡◌, ◌<◌, ◌++◌}
+use Rattle.kernel_laws.specs.kernel_rules.specs.{ℕ, List, Some, IsTrue, Setting, IsSetting, Capability, Holds, Frame, Live}
 use Rattle.kernel_laws.specs.kernel_rules.specs.{Dead, comp_in, thread_in, Slot, usable, fits, Event, after, is_open, phase_of, IsRun, Kind}
 use Rattle.kernel_laws.specs.kernel_rules.specs.State.{State}
 

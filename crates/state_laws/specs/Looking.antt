@@ -1,5 +1,6 @@
 -- What a core in an open call has found, and the nodes through which it looks, while other cores go on.
-use Rattle.kernel_laws.specs.kernel_rules.specs.{◌≡◌, ◌≢◌, ◌⊎◌, ℕ, Bool, true, false, List, [], ◌∷◌, ◌++◌, Some, IsTrue, Setting, IsSetting}
+use Rattle.std.specs.Prelude.{◌≡◌, ◌≢◌, ◌⊎◌, ◌∷◌, ◌++◌}
+use Rattle.kernel_laws.specs.kernel_rules.specs.{ℕ, Bool, true, false, List, [], Some, IsTrue, Setting, IsSetting}
 use Rattle.kernel_laws.specs.kernel_rules.specs.{Capability, Kind, Call, Value, CompFields, Dead, comp_of, may_act, asks_life, Want, Slot}
 use Rattle.kernel_laws.specs.kernel_rules.specs.{Named, Under, usable, reached, Found, named, is_node, Event, Decides, Out, after, core_of}
 use Rattle.kernel_laws.specs.kernel_rules.specs.{is_open, phase_of, IsRun}

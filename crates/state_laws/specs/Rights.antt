@@ -1,6 +1,7 @@
 -- Rights: a copy puts none that its source lacks, and where each copy keeps both, every capability has both.
 use Rattle.kernel_laws.specs as low
-use low.kernel_rules.specs.{◌≡◌, ℕ, List, [], ◌∷◌, Some, IsTrue, Capability, both, has_rights, Setting, Call, Copy, Value, Holds, Slot}
+use Rattle.std.specs.Prelude.{◌≡◌, ◌∷◌}
+use low.kernel_rules.specs.{ℕ, List, [], Some, IsTrue, Capability, both, has_rights, Setting, Call, Copy, Value, Holds, Slot}
 use low.kernel_rules.specs.{Under, place_at, only, usable, reached, MayReply, state_by, Event, Enters, Decides, Returns, after}
 use low.spk_nums.specs.{declared.kinds.Kind.TheVariants.Table, declared.rights.Rights.Rights}
 use low.{leads, leads_as, spk_nums.specs.declared.replies.Reply.TheVariants.Ok as ok_reply}

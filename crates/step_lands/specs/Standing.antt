@@ -1,6 +1,7 @@
 -- Where a call stands that makes a step after its look-ups, and what a step leads to that ends a scan or the acquiring of a count.
 use Rattle.call_stages.specs.act_states.specs as low
-use low.{◌+◌, length, Pinned, Acquired, Value, StageEnd, next_of, refusal_of, refuse, next_work, starts, took_shared, plan_for}
+use Rattle.std.specs.Prelude.{◌+◌}
+use low.{length, Pinned, Acquired, Value, StageEnd, next_of, refusal_of, refuse, next_work, starts, took_shared, plan_for}
 use Rattle.call_stages.specs.{Took, GoesOn, went, landed, next_by, took_found, gives_up}
 use low.declared.work.Act.TheVariants.{Invoke, Remove, Return, Share, Switch, Tick}
 use low.declared.work.Work.TheVariants.{Lookup, Read, Scan, Acquire, Act}

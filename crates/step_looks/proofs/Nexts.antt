@@ -2,7 +2,8 @@
 use Rattle.step_starts.specs.act_states.specs.{◌≡◌, length, List, [], ◌∷◌, refl, Capability, Call, asks_life, plan_for, Name, want_of}
 use Rattle.step_starts.specs.act_states.specs.{names_after, next_in, with_found, NextName}
 use Rattle.step_starts.specs.call_plans.specs.{declared.plans.Target.Target, After.next_target}
-use Rattle.{std.proofs.Common.⊥, step_starts.specs.call_plans.proofs.Lives.lives}
+use Rattle.step_starts.specs.call_plans.proofs.Lives.{lives}
+use Rattle.std.proofs.Common.{arith}
 
 pub living : (call : Call) → (plan_for call).living ≡ asks_life call
 living = lives
@@ -15,6 +16,7 @@ none_next (k ∷ ks) target = refl
 pub first_next : (name : Name) (names : List Name) (ks : List Capability) (target : Target) → length ks ≡ 0
     → NextName name.number (want_of (with_found [] ks) name) ≡ next_in (with_found [] ks) (names_after (name ∷ names) ks) target
 first_next name names [] target zero = refl
+first_next name names (k ∷ ks) target zero = absurd (omega arith)
 
 pub one_next : (name : Name) (ks : List Capability) (target : Target) → (length ks ≡ 0 → ⊥)
     → next_target (with_found [] ks) target ≡ next_in (with_found [] ks) (names_after (name ∷ []) ks) target
@@ -24,7 +26,9 @@ one_next name (k ∷ j ∷ ks) target some = refl
 
 pub second_next : (a b : Name) (ks : List Capability) (target : Target) → length ks ≡ 1
     → NextName b.number (want_of (with_found [] ks) b) ≡ next_in (with_found [] ks) (names_after (a ∷ b ∷ []) ks) target
+second_next a b [] target one = absurd (omega arith)
 second_next a b (k ∷ []) target one = refl
+second_next a b (k ∷ j ∷ ks) target one = absurd (omega arith)
 
 pub two_next : (a b : Name) (ks : List Capability) (target : Target) → (length ks ≡ 0 → ⊥) → (length ks ≡ 1 → ⊥)
     → next_target (with_found [] ks) target ≡ next_in (with_found [] ks) (names_after (a ∷ b ∷ []) ks) target

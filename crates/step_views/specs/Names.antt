@@ -1,5 +1,6 @@
 -- The words of the table by the names that the code has for them.
-use Rattle.kernel_history.specs.{◌≡◌, ℕ, Word, EntryAt, FrameAt, CountAt, CoreAt, FlushAt, LiveAt, ClockAt, Shape, IsIn, place_of}
+use Rattle.std.specs.Prelude.{◌≡◌}
+use Rattle.kernel_history.specs.{ℕ, Word, EntryAt, FrameAt, CountAt, CoreAt, FlushAt, LiveAt, ClockAt, Shape, IsIn, place_of}
 use Rattle.step_views.specs.declared.names.WordName.{WordName}
 use Rattle.step_views.specs.declared.names.WordName.TheVariants.{Entry, Frame, Count, Core, Flush, Live, Clock}
 

@@ -1,5 +1,6 @@
 -- When a view shows a step of a trace.
-use Rattle.kernel_history.specs.{◌≡◌, Shape, word_of, op_of, left_of, Step}
+use Rattle.std.specs.Prelude.{◌≡◌}
+use Rattle.kernel_history.specs.{Shape, word_of, op_of, left_of, Step}
 use Rattle.step_views.specs.{declared.views.StepMade.StepMade, declared.views.StepView.StepView, Names.named}
 
 -- The view has the step's core, the call that begins with it, its operation by the place of its word, the word's name, and the

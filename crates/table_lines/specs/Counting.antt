@@ -1,5 +1,6 @@
 -- Counting references by a list of the frames that are named.
-use Rattle.kernel_history.specs.{◌≡◌, ◌<◌, ◌+◌, ℕ, List, slice_index, times}
+use Rattle.std.specs.Prelude.{◌≡◌, ◌<◌, ◌+◌}
+use Rattle.kernel_history.specs.{ℕ, List, slice_index, times}
 
 -- The new list names each frame so much more often than the old one.
 pub record Adds (old new : List ℕ) (by : ℕ → ℕ) : Type 0 where

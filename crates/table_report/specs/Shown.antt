@@ -1,7 +1,8 @@
 -- The state that words and ends show, whatever they are: a word that unpacks to nothing, or to a core's mark, shows nothing.
 -- A count word shows its count, whoever holds it.
 use Rattle.table_lines.specs.kernel_history.specs as low
-use low.{ℕ, zero, suc, ◌+◌, Bool, true, false, List, [], ◌++◌, Option, Some, None, option_to_list, FrameKind, Obj, CoreEnd, Entry}
+use Rattle.std.specs.Prelude.{◌+◌, ◌++◌}
+use low.{ℕ, zero, suc, Bool, true, false, List, [], Option, Some, None, option_to_list, FrameKind, Obj, CoreEnd, Entry}
 use low.{entry_of_word, comp_of_word, frame_of_word, live_of_word, residue, CompWord, FrameWord, LiveWord, head_of_word, quality_of_word}
 use low.{stack_of_word, HeadWord, QualityWord, EntryAt, FrameAt, LiveAt, Shape, Place, Free, Holds, CompFields, Object, Blank, Table, Leaf}
 use low.{Pages, Pleaf, Comp, Thread, Tcap, Frame, Untyped, User, Kernel, Liveness, Unused, Live, Dead, Core, State, no_grace, ticks}

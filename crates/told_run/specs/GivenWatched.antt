@@ -1,5 +1,6 @@
 -- The theorem on given steps that are watched.
-use Rattle.lone_kernel.specs.core_invariant.specs.{◌≡◌, ℕ, List, [], Setting, IsSetting, Call, Item, Trace, Out, phase, HasCalls, Follows}
+use Rattle.std.specs.Prelude.{◌≡◌}
+use Rattle.lone_kernel.specs.core_invariant.specs.{ℕ, List, [], Setting, IsSetting, Call, Item, Trace, Out, phase, HasCalls, Follows}
 use Rattle.{lone_kernel.specs.flight.specs.Made.ready_after, lone_kernel.specs.flight_laws.specs.Histories.IsHistory}
 
 -- There is one trace that is a history of the machine, has the calls of the lists once and in order, follows the order, and which the

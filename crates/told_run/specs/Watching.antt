@@ -1,5 +1,6 @@
 -- How moves that are told extend each trace for which a machine stood, and what a watcher has seen of it.
-use Rattle.step_views.specs.kernel_history.specs.{◌≡◌, ℕ, List, ◌∷◌, ◌++◌, Setting, IsSetting, How, Item, Step, AreOf, IsIdle, Stretch}
+use Rattle.std.specs.Prelude.{◌≡◌, ◌∷◌, ◌++◌}
+use Rattle.step_views.specs.kernel_history.specs.{ℕ, List, Setting, IsSetting, How, Item, Step, AreOf, IsIdle, Stretch}
 use Rattle.step_views.specs.kernel_history.specs.{FollowsItem, FollowsItems, RunsOut, FollowsCores, shape_of}
 use Rattle.lone_kernel.specs.{declared.lone.Moved.Moved, declared.lone.Moved.TheVariants.Idle, declared.lone.Moved.TheVariants.Went}
 use Rattle.{lone_kernel.specs.flight.specs.ready_after, lone_kernel.specs.flight.specs.IsMade}

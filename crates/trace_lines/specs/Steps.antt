@@ -1,5 +1,6 @@
 -- A step of a trace as it is written, and the lines of its events.
-use Rattle.step_views.specs.kernel_history.specs.{ℕ, false, ◌==◌, if◌then◌else◌, List, [], ◌∷◌, ◌++◌, Option, Some, None, codes, decimal}
+use Rattle.std.specs.Prelude.{◌==◌, if◌then◌else◌, ◌∷◌, ◌++◌}
+use Rattle.step_views.specs.kernel_history.specs.{ℕ, false, List, [], Option, Some, None, codes, decimal}
 use Rattle.step_views.specs.kernel_history.specs.{with_one, reply_text, Call, Reply, Word, EntryAt, FrameAt, CountAt, CoreAt, FlushAt}
 use Rattle.step_views.specs.kernel_history.specs.{LiveAt, ClockAt, Move, LoadOf, CompareOf, StoreOf, AddOf, word_of, left_of, Step}
 use Rattle.{std.specs.Fmt.digits, spk_nums.specs.Texts.with_two, spk_nums.specs.Texts.call_text}

@@ -1,6 +1,7 @@
 -- The text of a trace: the head of its script, then a line for each event, in the order of the trace. In the comment after a line
 -- stands every step since the line before.
-use Rattle.step_views.specs.kernel_history.specs.{ℕ, List, [], ◌∷◌, ◌++◌, codes, Setting, Step}
+use Rattle.std.specs.Prelude.{◌∷◌, ◌++◌}
+use Rattle.step_views.specs.kernel_history.specs.{ℕ, List, [], codes, Setting, Step}
 use Rattle.trace_lines.specs.Steps.{step_text, event_lines}
 use Rattle.{step_views.specs.kernel_history.specs.Trace.Trace, script_printer.specs.Printing.setup_lines}
 

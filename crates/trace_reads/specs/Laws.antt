@@ -1,5 +1,6 @@
 -- That the text of a trace is read back, and found legal.
-use Rattle.marked_laws.specs.kernel_history.specs.{◌≡◌, ℕ, All, List, length, Ok, Setting, Step, decisions_of, IsLegal}
+use Rattle.std.specs.Prelude.{◌≡◌}
+use Rattle.marked_laws.specs.kernel_history.specs.{ℕ, All, List, length, Ok, Setting, Step, decisions_of, IsLegal}
 use Rattle.marked_laws.specs.marked_history.specs.{declared.marks.Verdict.TheVariants.Legal, Verdicts.IsVerdict}
 use Rattle.check_run.specs.{Texts.verdict_text, Checked.IsChecked}
 use Rattle.trace_reads.specs.Texts.{history_told, EntersWithin, IsStepWithin, IsTextOf}

@@ -1,5 +1,6 @@
 -- What the text of a trace says as a given history, and which traces have such a text.
-use Rattle.marked_laws.specs.kernel_history.specs.{ℕ, ◌+◌, ◌<◌, ◌≤◌, List, [], ◌∷◌, reverse, Option, Some, None, Setting, IsSetting, Call}
+use Rattle.std.specs.Prelude.{◌+◌, ◌<◌, ◌≤◌, ◌∷◌}
+use Rattle.marked_laws.specs.kernel_history.specs.{ℕ, List, [], reverse, Option, Some, None, Setting, IsSetting, Call}
 use Rattle.marked_laws.specs.kernel_history.specs.{Reply, Step}
 use Rattle.marked_laws.specs.marked_history.specs.{declared.marks.Mark.Mark, declared.marks.Said.TheVariants.One, declared.marks.Line.Line}
 use Rattle.{marked_laws.specs.kernel_history.specs.Trace.Trace, trace_lines.specs.script_tokens.specs.Words.line_count}

@@ -1,5 +1,6 @@
 -- The theorem on the text of given steps.
-use Rattle.told_run.specs.lone_kernel.specs.core_invariant.specs.{◌≡◌, ℕ, List, [], Setting, Call, Item, Trace, HasCalls, Follows}
+use Rattle.std.specs.Prelude.{◌≡◌}
+use Rattle.told_run.specs.lone_kernel.specs.core_invariant.specs.{ℕ, List, [], Setting, Call, Item, Trace, HasCalls, Follows}
 use Rattle.{trace_lines.specs.told, trace_lines.specs.trace_text, told_run.specs.lone_kernel.specs.flight.specs.Made.ready_after}
 use Rattle.{told_run.specs.lone_kernel.specs.flight_laws.specs.Histories.IsHistory}
 use Rattle.{trace_lines.specs.script_printer.specs.Printing.setup_lines}

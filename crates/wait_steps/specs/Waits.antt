@@ -1,6 +1,7 @@
 -- When a step of a call says that it waits for a core.
 use Rattle.call_stages.specs.act_states.specs as low
-use low.{◌≡◌, ℕ, Option, Some, None, Word, CoreAt, word_of, Reply, StageEnd, PairAt}
+use Rattle.std.specs.Prelude.{◌≡◌}
+use low.{ℕ, Option, Some, None, Word, CoreAt, word_of, Reply, StageEnd, PairAt}
 use Rattle.call_stages.specs.{Took, GoesOn, Decides, Returns, Changes, took_at, stage_move}
 use low.{declared.refusals.Refusal.Refusal, declared.own.Own.Own, declared.work.Act.Act as ActType, declared.work.Work.Work}
 use low.{declared.work.Work.TheVariants.Act, declared.work.WorkStep.WorkStep, declared.work.WorkStep.TheVariants.Goes}

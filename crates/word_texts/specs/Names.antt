@@ -1,5 +1,6 @@
 -- The names of words.
-use Rattle.step_views.specs.kernel_history.specs.{ℕ, zero, suc, List, ◌++◌, codes, decimal, ◌==◌, if◌then◌else◌, with_one, Obj, Word}
+use Rattle.std.specs.Prelude.{◌++◌, ◌==◌, if◌then◌else◌}
+use Rattle.step_views.specs.kernel_history.specs.{ℕ, zero, suc, List, codes, decimal, with_one, Obj, Word}
 use Rattle.step_views.specs.kernel_history.specs.{EntryAt, FrameAt, CountAt, CoreAt, FlushAt, LiveAt, ClockAt}
 use Rattle.spk_nums.specs.declared.kinds.Obj.TheVariants.{Blank, Comp, Thread, Tcap}
 use Rattle.{spk_nums.specs.Texts.with_two, word_texts.specs.Objects.object_of, word_texts.specs.Objects.object_text}

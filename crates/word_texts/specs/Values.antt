@@ -1,5 +1,6 @@
 -- The values of words. A word that has no reading is `unknown`; the machine has none.
-use Rattle.step_views.specs.kernel_history.specs.{ℕ, ℤ, List, [], ◌++◌, codes, decimal, ◌==◌, if◌then◌else◌, Option, Some, None, with_one}
+use Rattle.std.specs.Prelude.{◌++◌, ◌==◌, if◌then◌else◌}
+use Rattle.step_views.specs.kernel_history.specs.{ℕ, ℤ, List, [], codes, decimal, Option, Some, None, with_one}
 use Rattle.step_views.specs.kernel_history.specs.{FrameKind, Obj, entry_of_word, Entry, frame_of_word, count_of_word, core_of_word}
 use Rattle.step_views.specs.kernel_history.specs.{flush_of_word, live_of_word, FrameWord, CountWord, Hold, Unheld, Pinned, Closed, CoreWord}
 use Rattle.step_views.specs.kernel_history.specs.{LiveWord, thread_of_word, stack_of_word, head_of_word, quality_of_word, ThreadWord}

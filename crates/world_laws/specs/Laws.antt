@@ -1,5 +1,6 @@
 -- Laws of sealed worlds, each the contract of a function of this crate.
-use Rattle.authority_laws.specs.kernel_rules.specs.{◌≡◌, ◌⊎◌, ℕ, Bool, true, false, List, ◌∷◌, ◌++◌, drop, Setting, IsSetting, Capability}
+use Rattle.std.specs.Prelude.{◌≡◌, ◌⊎◌, ◌∷◌, ◌++◌}
+use Rattle.authority_laws.specs.kernel_rules.specs.{ℕ, Bool, true, false, List, drop, Setting, IsSetting, Capability}
 use Rattle.authority_laws.specs.kernel_rules.specs.{Call, Kind, Value, Reply, thread_in, thread_of, first_of_stack, only, to_use, Found}
 use Rattle.authority_laws.specs.kernel_rules.specs.{named, Event, Decides, after, IsRun}
 use Rattle.authority_laws.specs.{Part, PlaceIs, FrameIs, StackIs, RunsIs, BudgetIs, ListIs, OwnBy, SamePart}

@@ -1,5 +1,6 @@
 -- The time of worlds.
-use Rattle.authority_laws.specs.kernel_rules.specs.{◌≡◌, ◌⊎◌, ℕ, ◌+◌, Bool, not, cond, List, ◌∷◌, ◌++◌, Setting, IsSetting, Call, Kind}
+use Rattle.std.specs.Prelude.{◌≡◌, ◌⊎◌, ◌+◌, ◌∷◌, ◌++◌}
+use Rattle.authority_laws.specs.kernel_rules.specs.{ℕ, Bool, not, cond, List, Setting, IsSetting, Call, Kind}
 use Rattle.authority_laws.specs.kernel_rules.specs.{Value, outstanding, tcap_in, sum_below, Event, Decides, after, IsRun}
 use Rattle.world_laws.specs.Worlds.{works_in, OnlyGates, AreApart}
 use Rattle.{authority_laws.specs.spk_nums.specs.declared.replies.Reply.TheVariants.Ok, authority_laws.specs.kernel_rules.specs.State.State}

@@ -1,6 +1,7 @@
 -- Worlds: sets of frames that nothing outside holds.
 use Rattle.authority_laws.specs.kernel_rules.specs as low
-use low.{◌≡◌, ◌≢◌, ℕ, Bool, true, false, not, Some, IsTrue, Capability, has_rights, right_to_use, Kind, CompFields, Comp, Kernel, comp_in}
+use Rattle.std.specs.Prelude.{◌≡◌, ◌≢◌}
+use low.{ℕ, Bool, true, false, not, Some, IsTrue, Capability, has_rights, right_to_use, Kind, CompFields, Comp, Kernel, comp_in}
 use low.{thread_of, first_of_stack, found, usable, has_frame, is_live_in, State.State}
 
 -- The frame of the component in which a core works: the one on top of its current thread's stack.

@@ -1,6 +1,7 @@
 -- The lines that tell the worlds of a machine that are apart.
-use Rattle.table_lines.specs.kernel_history.specs.{ℕ, zero, suc, ◌+◌, ◌==◌, Bool, true, false, not, ◌&&◌, ◌||◌, ltb as nat_lt}
-use Rattle.table_lines.specs.kernel_history.specs.{if◌then◌else◌, List, [], ◌∷◌, ◌++◌, Option, Some, None, codes, flat_map, Capability}
+use Rattle.std.specs.Prelude.{◌+◌, ◌==◌, ◌&&◌, ◌||◌, if◌then◌else◌, ◌∷◌, ◌++◌}
+use Rattle.table_lines.specs.kernel_history.specs.{ℕ, zero, suc, Bool, true, false, not, ltb as nat_lt}
+use Rattle.table_lines.specs.kernel_history.specs.{List, [], Option, Some, None, codes, flat_map, Capability}
 use Rattle.table_lines.specs.kernel_history.specs.{Kind, number, lines_below}
 use Rattle.{std.specs.List.list_any, seal_check.specs.Holding.holds, world_parts.specs.Sight.Sight}
 use Rattle.{world_lines.specs.declared.ranges.WorldRange.WorldRange}

@@ -1,5 +1,6 @@
 -- A text that goes on by the worlds of a state.
-use Rattle.table_lines.specs.kernel_history.specs.{◌≡◌, ℕ, List, ◌++◌, Setting, State, Event, after}
+use Rattle.std.specs.Prelude.{◌≡◌, ◌++◌}
+use Rattle.table_lines.specs.kernel_history.specs.{ℕ, List, Setting, State, Event, after}
 use Rattle.world_parts.specs.{sight_of, IsLast, IsFinest}
 use Rattle.{world_parts.specs.machine_image.specs.Views.ImageOf, world_lines.specs.Lines.worlds_text}
 

@@ -1,5 +1,6 @@
 -- The finest partition of frames into worlds that are apart.
-use Rattle.kernel_history.specs.{◌≡◌, ℕ, Bool, List, ◌==◌, Setting, State, Event, after}
+use Rattle.std.specs.Prelude.{◌≡◌, ◌==◌}
+use Rattle.kernel_history.specs.{ℕ, Bool, List, Setting, State, Event, after}
 use Rattle.world_parts.specs.{Last.IsLast, Partitions.IsPartition, Partitions.Respects, Partitions.world_in}
 use Rattle.{seal_check.specs.world_laws.specs.gates, seal_check.specs.world_laws.specs.AreApart, machine_image.specs.Views.ImageOf}
 

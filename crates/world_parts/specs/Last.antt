@@ -1,5 +1,6 @@
 -- The image of a machine's final state.
-use Rattle.kernel_history.specs.{◌≡◌, ℕ, List, Setting, IsSetting, Event, after, phase_of, IsRun, Represent, word_in, end_in}
+use Rattle.std.specs.Prelude.{◌≡◌}
+use Rattle.kernel_history.specs.{ℕ, List, Setting, IsSetting, Event, after, phase_of, IsRun, Represent, word_in, end_in}
 use Rattle.{machine_image.specs.Views.ImageOf, kernel_history.specs.kernel_rules.specs.Runs.Out}
 
 -- The words and the ends represent the state after a run, and no core is then in a call.

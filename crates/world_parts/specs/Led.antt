@@ -1,5 +1,6 @@
 -- Which frames a frame of a machine is joined with.
-use Rattle.kernel_history.specs.{◌≡◌, ◌<◌, ◌⊎◌, ℕ, List, true, Option, Some, None, Capability, found, has_frame}
+use Rattle.std.specs.Prelude.{◌≡◌, ◌<◌, ◌⊎◌}
+use Rattle.kernel_history.specs.{ℕ, List, true, Option, Some, None, Capability, found, has_frame}
 use Rattle.world_parts.specs.{Partitions.world_in, Sight.Sight}
 use Rattle.{seal_check.specs.world_laws.specs.Worlds.LeadsTo, seal_check.specs.Holding.holds}
 

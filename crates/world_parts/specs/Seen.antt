@@ -1,5 +1,6 @@
 -- The same as the words of a machine and the ends of its cores say it.
-use Rattle.kernel_history.specs.{ℕ, Bool, true, false, ltb as nat_lt, ◌&&◌, if◌then◌else◌, Option, Some, None, slice_index, Capability}
+use Rattle.std.specs.Prelude.{◌&&◌, if◌then◌else◌}
+use Rattle.kernel_history.specs.{ℕ, Bool, true, false, ltb as nat_lt, Option, Some, None, slice_index, Capability}
 use Rattle.kernel_history.specs.{FrameKind, Obj, entry_of_word, frame_of_word, FrameWord, FrameAt, end_in}
 use Rattle.machine_image.specs.{ImageOf, word_at, node_words, held_by, component_at}
 use Rattle.{machine_image.specs.declared.image.Component.Component, world_parts.specs.Sight.Sight}

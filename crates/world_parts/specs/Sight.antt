@@ -1,5 +1,6 @@
 -- What of a machine its worlds are told by, once no core is in a call.
-use Rattle.kernel_history.specs.{ℕ, Bool, true, false, ltb as nat_lt, if◌then◌else◌, Option, Some, None, Capability, Comp, Frame, Untyped}
+use Rattle.std.specs.Prelude.{if◌then◌else◌}
+use Rattle.kernel_history.specs.{ℕ, Bool, true, false, ltb as nat_lt, Option, Some, None, Capability, Comp, Frame, Untyped}
 use Rattle.kernel_history.specs.{Kernel, State, held_in}
 use Rattle.seal_check.specs.world_laws.specs.Worlds.{works_in}
 

@@ -1,5 +1,6 @@
 -- On whose side a step is, where two worlds divide a machine.
-use Rattle.step_views.specs.kernel_rules.specs.{◌≡◌, ◌<◌, ◌↔◌, ℕ, ◌%◌, WordOp}
+use Rattle.std.specs.Prelude.{◌≡◌, ◌<◌, ◌↔◌, ◌%◌}
+use Rattle.step_views.specs.kernel_rules.specs.{ℕ, WordOp}
 use Rattle.spk_nums.specs.declared.steps.WordOp.TheVariants.{Load, Compare, Store, Add}
 use Rattle.step_views.specs.declared.names.WordName.TheVariants.{Entry, Frame, Count, Core, Flush, Live, Clock}
 use Rattle.{step_views.specs.declared.names.WordName.WordName, step_views.specs.declared.views.StepView.StepView}

@@ -1,5 +1,6 @@
 -- Steps by a step function of an act: its operation, and what it takes from the word that it finds.
-use Rattle.kernel_history.specs.{ℕ, ◌∷◌, Option, Some, None, whole_copy, Capability, cap_of, Reply, Move, word_of, there, enters, loads}
+use Rattle.std.specs.Prelude.{◌∷◌}
+use Rattle.kernel_history.specs.{ℕ, Option, Some, None, whole_copy, Capability, cap_of, Reply, Move, word_of, there, enters, loads}
 use Rattle.act_states.specs.declared.work.WorkStep.TheVariants.{Goes, Acquires, Refuses, Answers, Changes}
 use Rattle.{kernel_history.specs.Kind, act_states.specs.Ok, act_states.specs.reply_of, kernel_history.specs.Trace.Trace}
 use Rattle.{act_states.specs.declared.fills.Fill.Fill, act_states.specs.declared.work.WorkStep.WorkStep}

@@ -1,6 +1,7 @@
 -- A wrong charge loses what the budget does not cover: the rest of the ticks is not owed.
 use Rattle.act_states.specs as low
-use Rattle.kernel_history.specs.{◌≡◌, ℕ, [], None, Tick, Value, StageEnd, CoreEnd, EntryAt, LoadOf, Represent, IsLegal, state_after}
+use Rattle.std.specs.Prelude.{◌≡◌}
+use Rattle.kernel_history.specs.{ℕ, [], None, Tick, Value, StageEnd, CoreEnd, EntryAt, LoadOf, Represent, IsLegal, state_after}
 use Rattle.kernel_history.specs.{last_left, two_cores, there, enters, goes}
 use low.{Ticks.charged_in, Ticks.owes, declared.own.OwnChange.OwnChange, declared.own.OwnChange.TheVariants.Ticks}
 use low.{declared.work.Act.TheVariants.Tick as tick_act, declared.work.Work.TheVariants.Act, declared.work.Tail.TheVariants.Nothing}

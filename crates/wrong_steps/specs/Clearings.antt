@@ -1,5 +1,6 @@
 -- A wrong retype to untyped leaves the counters of its frame.
-use Rattle.kernel_history.specs.{◌≡◌, ℕ, true, [], ◌∷◌, pos, Some, None, Retype, Nothing as nothing, word_of_count, word_of_frame, Hold}
+use Rattle.std.specs.Prelude.{◌≡◌, ◌∷◌}
+use Rattle.kernel_history.specs.{ℕ, true, [], pos, Some, None, Retype, Nothing as nothing, word_of_count, word_of_frame, Hold}
 use Rattle.kernel_history.specs.{Unheld, Closed, FrameAt, CountAt, ClockAt, LoadOf, CompareOf, AddOf, RepresentCounts, IsLegal, Out, phase}
 use Rattle.kernel_history.specs.{state_after, last_left, two_cores, enters, goes, decides, loads, returns, done, FrameKind}
 use Rattle.act_states.specs.{unheld, drawn_stamp, typed, release_of, release_after}

@@ -1,5 +1,6 @@
 -- Wrong copies: one stores in place of its compare, and one tries a lost compare again.
-use Rattle.act_states.specs.{ℕ, ◌==◌, true, [], if◌then◌else◌, None, Nothing as nothing, word_of_entry, Held, EntryAt, Move, StoreOf}
+use Rattle.std.specs.Prelude.{◌==◌, if◌then◌else◌}
+use Rattle.act_states.specs.{ℕ, true, [], None, Nothing as nothing, word_of_entry, Held, EntryAt, Move, StoreOf}
 use Rattle.act_states.specs.{declared.fills.Fill.Fill, declared.work.Act.TheVariants.Fill as fill_act, declared.work.Work.TheVariants.Act}
 use Rattle.act_states.specs.{declared.work.Tail.TheVariants.Nothing, declared.work.WorkStep.WorkStep}
 use Rattle.{act_states.specs.fill_move, act_states.specs.filled_if, act_states.specs.took_fill, kernel_history.specs.KeepsBounds}

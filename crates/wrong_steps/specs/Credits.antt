@@ -1,5 +1,6 @@
 -- A wrong transfer credits head B before it marks head A, and keeps the credit where that compare is lost.
-use Rattle.kernel_history.specs.{◌≡◌, ℕ, false, [], ◌∷◌, Some, Tick, Transfer, Amount, CoreEnd, Move, Represent, IsLegal, Out, phase}
+use Rattle.std.specs.Prelude.{◌≡◌, ◌∷◌}
+use Rattle.kernel_history.specs.{ℕ, false, [], Some, Tick, Transfer, Amount, CoreEnd, Move, Represent, IsLegal, Out, phase}
 use Rattle.kernel_history.specs.{state_after, last_left, two_cores, enters, goes, decides, loads, returns}
 use Rattle.act_states.specs.{Ok, charge_move, head, Pair, MarkA, CompareB, took_share}
 use Rattle.act_states.specs.stage_tcap.specs.{Pairs.move_at, declared.charge.Charge.TheVariants.AtCompare}

@@ -1,5 +1,6 @@
 -- A wrong acquisition of a count stores in place of its compare: it overwrites what a sweep has frozen.
-use Rattle.kernel_history.specs.{◌≡◌, ℕ, pos, true, [], None, whole_copy, cap_of, Retype, Make as make_call, StageEnd, word_of_entry, Held}
+use Rattle.std.specs.Prelude.{◌≡◌}
+use Rattle.kernel_history.specs.{ℕ, pos, true, [], None, whole_copy, cap_of, Retype, Make as make_call, StageEnd, word_of_entry, Held}
 use Rattle.kernel_history.specs.{word_of_count, EntryAt, FrameAt, CountAt, Move, LoadOf, CompareOf, StoreOf, RepresentCounts, IsLegal, Out}
 use Rattle.kernel_history.specs.{phase, state_after, last_left, two_cores, there, enters, goes, decides, loads, returns, done, Kind}
 use Rattle.act_states.specs.{pin_move, pinned_at, compare_end, settle_move, unheld, acquired, Pin, AtLoad, Pinned, move_at, Compare}

@@ -1,5 +1,6 @@
 -- A wrong refusal leaves the count that its call has acquired.
-use Rattle.kernel_history.specs.{◌≡◌, [], pos, None, whole_copy, Reply, RepresentCounts, IsLegal, Out, phase, state_after, last_left}
+use Rattle.std.specs.Prelude.{◌≡◌}
+use Rattle.kernel_history.specs.{[], pos, None, whole_copy, Reply, RepresentCounts, IsLegal, Out, phase, state_after, last_left}
 use Rattle.kernel_history.specs.{two_cores, enters, goes, loads, returns, done}
 use Rattle.act_states.specs.{pin_move, pinned_at, settle_move, AtLoad, fill_move, took_fill}
 use Rattle.wrong_steps.specs.Acts.{acts, fill, copying}

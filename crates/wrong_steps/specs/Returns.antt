@@ -1,5 +1,6 @@
 -- A wrong return keeps the reference to the component that it leaves.
-use Rattle.kernel_history.specs.{◌≡◌, ℕ, ℤ, [], pos, None, cap_of, Gate, Ret, word_of_entry, Held, EntryAt, LiveAt, ClockAt, LoadOf}
+use Rattle.std.specs.Prelude.{◌≡◌}
+use Rattle.kernel_history.specs.{ℕ, ℤ, [], pos, None, cap_of, Gate, Ret, word_of_entry, Held, EntryAt, LiveAt, ClockAt, LoadOf}
 use Rattle.kernel_history.specs.{CompareOf, AddOf, RepresentCounts, IsLegal, Out, phase, state_after, last_left, two_cores, enters, goes}
 use Rattle.kernel_history.specs.{decides, loads, returns, done, Kind}
 use Rattle.act_states.specs.{pin_move, pinned_at, settle_move, AtLoad}

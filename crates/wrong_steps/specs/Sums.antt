@@ -1,6 +1,7 @@
 -- A wrong sweep adds up the count words of a frame as it finds them, one after another, and freezes none. Three cores show it: one sweeps,
 -- one copies a capability to the frame, and one removes the first.
-use Rattle.act_states.specs.{◌≡◌, ℕ, ℤ, pos, negsuc, ◌+ℤ◌, [], ◌∷◌, Option, Some, None, whole_copy, cap_of, Setting, Call, Remove, Retype}
+use Rattle.std.specs.Prelude.{◌≡◌, ◌+ℤ◌, ◌∷◌}
+use Rattle.act_states.specs.{ℕ, ℤ, pos, negsuc, [], Option, Some, None, whole_copy, cap_of, Setting, Call, Remove, Retype}
 use Rattle.act_states.specs.{Make as make_call, Reply, StageEnd, word_of_entry, Held, count_of_word, Word, EntryAt, FrameAt, CountAt}
 use Rattle.act_states.specs.{CoreAt, ClockAt, Move, LoadOf, CompareOf, StoreOf, AddOf, word_of, pin_move, pin_end, pinned_at, settle_move}
 use Rattle.act_states.specs.{AtLoad, Pinned, move_at, Load, Kind, FrameKind}

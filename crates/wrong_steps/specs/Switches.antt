@@ -1,6 +1,7 @@
 -- A wrong switch stores the thread that it leaves with the depth of the one with which it goes on.
 use Rattle.kernel_history.specs as low
-use low.{◌≡◌, ℕ, Some, cap_of, Retype, Switch, Make as make_call, CoreEnd, word_of_frame, word_of_stack, word_of_thread, Idle, Claimed}
+use Rattle.std.specs.Prelude.{◌≡◌}
+use low.{ℕ, Some, cap_of, Retype, Switch, Make as make_call, CoreEnd, word_of_frame, word_of_stack, word_of_thread, Idle, Claimed}
 use low.{EntryAt, FrameAt, LiveAt, ClockAt, LoadOf, CompareOf, StoreOf, AddOf, Represent, IsLegal, Out, phase, state_after, last_left}
 use low.{two_cores, enters, goes, decides, loads, returns, done, FrameKind, Kind}
 use Rattle.act_states.specs.{drawn_stamp, making_at, made, running_move, idle_move, typed}

@@ -1,5 +1,6 @@
 -- A wrong retype to untyped skips the flush word of a core.
-use Rattle.kernel_history.specs.{◌≡◌, ◌+◌, ℕ, [], ltb as nat_lt, if◌then◌else◌, true, Option, Some, None, cap_of, Remove, Retype, Flush}
+use Rattle.std.specs.Prelude.{◌≡◌, ◌+◌, if◌then◌else◌}
+use Rattle.kernel_history.specs.{ℕ, [], ltb as nat_lt, true, Option, Some, None, cap_of, Remove, Retype, Flush}
 use Rattle.kernel_history.specs.{Make as make_call, word_of_entry, Held, EntryAt, FrameAt, FlushAt, ClockAt, LoadOf, CompareOf, StoreOf}
 use Rattle.kernel_history.specs.{AddOf, IsLegal, two_cores, there, enters, goes, decides, loads, returns, done, Kind, FrameKind}
 use Rattle.act_states.specs.{quiet_move, quiet_next, quiet_refuses, Quiet, AtCore, AtFlush}
