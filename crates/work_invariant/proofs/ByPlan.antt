@@ -210,16 +210,9 @@ module _ (setup : Setting) (setting : IsSetting setup) (cores : ℕ → Core) (t
         (landed (found_more a ks) (act_begun (cores c).own (look_call n) ks None None))) (sym more_is)
         (looked_good setup setting cores t stands c here a active opens held_is no_counts room at looks n
         (subst (λ (m : ℕ). Arrives setup t c (own_in table m) at) (ap (λ (x : Name). x.number) only_one.1) arrives) k named_it is has.acts)
-    acts_at_name (Copy b u v rights) is nowhere none = absurd (free_somewhere (Spot.Under Second v) nowhere)
     acts_at_name (Replenish x m) is nowhere none =
         refills_good setup setting cores t stands c here a active opens held_is no_counts room goes_by (LoadOf (EntryAt at.node at.index))
         looks has.acts more leads_then none names_then x m is
-    acts_at_name (Part r f n u v) is nowhere none = absurd (free_somewhere (Spot.Under Second v) nowhere)
-    acts_at_name (Grow u i l) is nowhere none = absurd (free_somewhere (Spot.InRoot First i) nowhere)
-    acts_at_name (Remove u v) is nowhere none = absurd (held_somewhere (Spot.Under First v) nowhere)
-    acts_at_name (Shrink u i) is nowhere none = absurd (held_somewhere (Spot.InRoot First i) nowhere)
-    acts_at_name (Map p v r f w) is nowhere none = absurd (free_somewhere (Spot.Under First v) nowhere)
-    acts_at_name (Unmap p v) is nowhere none = absurd (held_somewhere (Spot.Under First v) nowhere)
     acts_at_name (Retype r f FrameKind.Untyped) is nowhere none =
         range_at_name r f FrameKind.Untyped is refl (inr (refl, refl))
     acts_at_name (Retype r f FrameKind.User) is nowhere none =
@@ -228,7 +221,6 @@ module _ (setup : Setting) (setting : IsSetting setup) (cores : ℕ → Core) (t
         range_at_name r f FrameKind.Kernel is refl (inl ((λ h. cc), refl))
     acts_at_name (make_call what r f u b) is nowhere none =
         absurd (free_somewhere (Spot.Under Second b) (sym (make_target what r u b) ∙ nowhere))
-    acts_at_name (Gate n u b) is nowhere none = absurd (free_somewhere (Spot.Under Second b) nowhere)
     acts_at_name (Kill n) is nowhere none =
         let plan_kill : plan_for a.call ≡ plan_for (Kill n) = ap plan_for is in
         let only_one = one_name (plan_for a.call).names (of_kind comp_kind n) name rest a.found k.kind
@@ -259,7 +251,6 @@ module _ (setup : Setting) (setting : IsSetting setup) (cores : ℕ → Core) (t
         (λ carries. subst (λ (ks : List Capability). NamesAre setup (e ∷ t) c table (plan_for a.call) ks) more_is (names_then carries))
         has.acts)
     acts_at_name Ret is nowhere none = absurd (is_named (ap (λ (p : Plan). p.names) (ap plan_for is)))
-    acts_at_name (Touch v) is nowhere none = absurd (own_somewhere v nowhere)
     acts_at_name Flush is nowhere none = absurd (is_named (ap (λ (p : Plan). p.names) (ap plan_for is)))
     acts_at_name (Tick n) is nowhere none = absurd (is_named (ap (λ (p : Plan). p.names) (ap plan_for is)))
     acts_at_name (Transfer x y m) is nowhere none =
@@ -274,6 +265,8 @@ module _ (setup : Setting) (setting : IsSetting setup) (cores : ℕ → Core) (t
     acts_at_name (Switch x y) is nowhere none =
         switches_good setup setting cores t stands c here a active opens held_is no_counts (LoadOf (EntryAt at.node at.index))
         looks more leads_then none names_then x y is has.acts
+    -- the others have a target
+    acts_at_name _ is nowhere none = absurd (cc)
 
     -- the name is found
     found_good : GoodTook setup cores t c (LoadOf (EntryAt at.node at.index)) (named_one (cores c).own a (Finds k))
