@@ -40,7 +40,7 @@ ghost use Rattle.call_steps.specs.call_stages.specs.Cores.{move_of};
 
 use crate::seats::{Seat, Turn};
 use boot_words::boot_words;
-use call_steps::{Absorbed, CoreState};
+use call_steps::{Absorbed, CoreState, Words};
 use spk_nums::{Call, CoreEnd, CoreNo, Decision, How, Memory, Reply, Setup, WordOp};
 use std::alloc::{AllocError, Global};
 use std::marker::Model;
@@ -106,7 +106,22 @@ fn turn(list: &Vec<Call>, seat: &Seat) -> Option<Turn>
     }
 }
 
+// Words that nobody else changes.
+#[derive(Drop)]
+struct LoneWords<'a> {
+    words: &'a mut Vec<u64>,
+}
+
+impl<'a> Words for LoneWords<'a> {
+    #[inline(always)]
+    fn make(&mut self, op: WordOp) -> u64 {
+        let found = perform(self.words, &op);
+        told(&op, found)
+    }
+}
+
 // One atomic step over the words: what it finds.
+#[inline(always)]
 fn perform(words: &mut Vec<u64>, op: &WordOp) -> u64
     requires { place_in op.now < length words.old.items }
     ensures found { result ≡ slice_index words.old.items (place_in op.now) }
@@ -135,6 +150,7 @@ fn perform(words: &mut Vec<u64>, op: &WordOp) -> u64
 }
 
 // What a core is told of the word found: a store tells it what it has stored.
+#[inline(always)]
 fn told(op: &WordOp, found: u64) -> u64
     ensures { result ≡ told_by op.now found }
 {
@@ -308,6 +324,15 @@ fn take_item(
         → TakesItem how m (placed m core seat.new words.new.items decisions.new.items) core }
     ensures room { vec_capacity decisions.old ≤ vec_capacity decisions.new }
 {
+    if let Turn::Begins { call } = *turn {
+        if let How::Return = how {
+            let reply = seat.state.whole(call, &mut LoneWords { words });
+            seat.begun += 1;
+            seat.due -= 1;
+            note_reply(decisions, &reply, core, seat.begun as u32);
+            return;
+        }
+    }
     begin(seat, turn);
     'going: loop {
         let mut absorbed = Absorbed::Going;
