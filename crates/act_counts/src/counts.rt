@@ -39,21 +39,15 @@ fn due(act: &Act, n: u8) -> Option<Due>
     match act {
         Act::Fill { fill } => cap_due(&fill.cap, 1, n),
         Act::Remove { close: _, cap } => cap_due(cap, -1, n),
-        Act::Retype { typing: _ } => None,
         Act::Make { making } => made_due(making, n),
         Act::Map { fill } => cap_due(&fill.cap, 1, n),
-        Act::Outside { .. } => None,
-        Act::Tick { charge: _ } => None,
-        Act::Touch { touching: _ } => None,
-        Act::Flush { core: _ } => None,
         Act::Kill { killing } => killing_due(killing, n),
         Act::Untype { untyping } => untyping_due(untyping, n),
         Act::MakeComp { making } => comp_due(making, n),
         Act::Invoke { invoking } => invoking_due(invoking, n),
         Act::Return { returning } => returning_due(returning, n),
         Act::Switch { switching } => switching_due(switching, n),
-        Act::Share { pair: _ } => None,
-        Act::Refill { refill: _ } => None,
+        _ => None,
     }
 }
 

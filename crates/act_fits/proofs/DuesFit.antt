@@ -2,14 +2,13 @@
 use Rattle.act_fits.proofs.Common.{◌≡◌, ℕ, suc, ℤ, pos, negsuc, ◌+◌, ◌*◌, ◌-◌, slice_get, ◌<◌, ◌≤◌, Bool, true, false, ◌==◌, List, [], ◌∷◌}
 use Rattle.act_fits.proofs.Common.{length, Option, Some, None, IfSome, refl, subst, arith, Acquired, cap_of, Kind, Range, Shape, CapNames}
 use Rattle.act_fits.proofs.Common.{NewObject, NewTable, NewLeaf, NewPages, NewPleaf, NewThread, NewTcap, object_dues, counts_of, last_word}
-use Rattle.act_fits.proofs.Common.{MakingAt, make_load, Mark, Store, fill_at, KillingAt, LoadComp, LoadLive, kill_close, kill_draw}
-use Rattle.act_fits.proofs.Common.{GivesBack, Caches, InvokingAt, ReturningAt, ActType, fill_act, remove_act, type_act, make_act, Outside}
-use Rattle.act_fits.proofs.Common.{tick_act, kill_act, flush_act, untype_act, map_act, comp_act, invoke_act, return_act, switch_act}
-use Rattle.act_fits.proofs.Common.{touch_act, share_act, refill_act, WorkStep, Goes, Acquires, Refuses, Answers, Changes, Due, ActFits}
-use Rattle.act_fits.proofs.Common.{act_left, cap_dues, dues, made_dues, killing_dues, invoking_dues, returning_dues, UntypingAt}
-use Rattle.act_fits.proofs.Common.{released_dues, untyping_dues, comp_dues, Switching, SwitchAt, SwitchAtFits, SwitchingFits, tcap_dues}
-use Rattle.act_fits.proofs.Common.{switch_due_list, switching_dues, Claimed, CompAt, CompMaking, tail_left, TailFits, work_left}
-use Rattle.call_stages.specs.act_states.specs.{zero, NamesFit, acquires}
+use Rattle.act_fits.proofs.Common.{MakingAt, make_load, Mark, KillingAt, LoadComp, LoadLive, GivesBack, Caches, InvokingAt, ReturningAt}
+use Rattle.act_fits.proofs.Common.{ActType, fill_act, remove_act, make_act, kill_act, untype_act, map_act, comp_act, invoke_act, return_act}
+use Rattle.act_fits.proofs.Common.{switch_act, WorkStep, Goes, Acquires, Refuses, Answers, Changes, Due, ActFits, act_left, cap_dues, dues}
+use Rattle.act_fits.proofs.Common.{made_dues, killing_dues, invoking_dues, returning_dues, UntypingAt, released_dues, untyping_dues}
+use Rattle.act_fits.proofs.Common.{comp_dues, Switching, SwitchAt, SwitchAtFits, SwitchingFits, tcap_dues, switch_due_list, switching_dues}
+use Rattle.act_fits.proofs.Common.{Claimed, CompAt, CompMaking, tail_left, TailFits, work_left}
+use Rattle.call_stages.specs.act_states.specs.{zero, NamesFit, acquires, map, named_by, IsSmallChange, ◌++◌, Capability}
 use Rattle.call_stages.specs.act_states.specs.declared.own.OwnChange.TheVariants.{Ticks, Works, Empties, Switches}
 use Rattle.{std.proofs.lemmas.Option.slice_get_within, call_stages.specs.act_states.specs.declared.own.OwnChange.OwnChange}
 use Rattle.{call_stages.specs.act_states.specs.Untypings.UntypingAtFits, call_stages.specs.Fits.WorkFits, call_stages.specs.Fits.CountsWait}
@@ -60,35 +59,6 @@ returning_one f (ReturningAt.LoadTable comp) = omega arith
 returning_one f (ReturningAt.LoadPages comp table) = omega arith
 returning_one f (ReturningAt.Draw comp table pages) = omega arith
 
-pub killing_one : (f : ℕ) (at : KillingAt) → length (killing_dues f at) ≤ 1
-killing_one f LoadComp = omega arith
-killing_one f (LoadLive life) = omega arith
-killing_one f (kill_close life word) = omega arith
-killing_one f (kill_draw life word) = omega arith
-
-pub comp_few : (m : CompMaking) (at : CompAt) → length (comp_dues m at) ≤ 3
-comp_few m CompAt.Load = omega arith
-comp_few m (CompAt.Mark word) = omega arith
-comp_few m (CompAt.LoadLive word) = omega arith
-comp_few m (CompAt.Scan word last q) = omega arith
-comp_few m (CompAt.Close word last) = omega arith
-comp_few m (CompAt.Store word last entry) = omega arith
-comp_few m (CompAt.Fill word last) = omega arith
-
-pub counts_few : (object : NewObject) → counts_of object ≤ 4
-counts_few NewTable = omega arith
-counts_few NewLeaf = omega arith
-counts_few NewPages = omega arith
-counts_few NewPleaf = omega arith
-counts_few (NewThread comp) = omega arith
-counts_few (NewTcap sched quality) = omega arith
-
-pub made_few : (object : NewObject) (f : ℕ) (at : MakingAt) → length (made_dues object f at) ≤ 4
-made_few object f make_load = omega arith
-made_few object f (Mark word) = omega arith
-made_few object f (Store word entry) = let many = object_count object f in let few = counts_few object in omega (arith, many, few)
-made_few object f (fill_at word) = let many = object_count object f in let few = counts_few object in omega (arith, many, few)
-
 pub last_small : (object : NewObject) → last_word object < 64
 last_small NewTable = omega arith
 last_small NewLeaf = omega arith
@@ -97,205 +67,186 @@ last_small NewPleaf = omega arith
 last_small (NewThread comp) = omega arith
 last_small (NewTcap sched quality) = omega arith
 
-pub released_few : (f g : Option ℕ) → length (released_dues f g) ≤ 2
-released_few None None = omega arith
-released_few None (Some g) = omega arith
-released_few (Some f) None = omega arith
-released_few (Some f) (Some g) = omega arith
+-- no more than so many dues, each of them a small change
+abbrev pub AreFew : ℕ → List Due → Type 0
+AreFew n [] = Unit {0}
+AreFew zero (d ∷ ds) = ⊥
+AreFew (suc n) (d ∷ ds) = IsSmallChange d.change × AreFew n ds
 
-pub untyped_few : (at : UntypingAt) → length (untyping_dues at) ≤ 2
-untyped_few UntypingAt.Load = omega arith
-untyped_few (UntypingAt.Mark word v) = omega arith
-untyped_few (UntypingAt.Sweep word w) = omega arith
+few_of : (n : ℕ) (ds : List Due) → AreFew n ds → length ds ≤ n
+few_of n [] few = omega arith
+few_of zero (d ∷ ds) few = absurd few
+few_of (suc n) (d ∷ ds) few = let rest = few_of n ds few.1 in omega (arith, rest)
+
+small_of : (n : ℕ) (xs : List Due) (d : Due) (ys : List Due) → AreFew n (xs ++ d ∷ ys) → IsSmallChange d.change
+small_of zero [] d ys few = absurd few
+small_of zero (x ∷ xs) d ys few = absurd few
+small_of (suc n) [] d ys few = few.0
+small_of (suc n) (x ∷ xs) d ys few = small_of n xs d ys few.1
+
+-- an act changes four counts at most, and none by more than two
+cap_few : (k : Capability) (z : ℤ) → IsSmallChange z → AreFew 4 (cap_dues k z)
+cap_few k z small = by k.kind
+  where
+    by : (d : Kind) → AreFew 4 (map (λ (f : ℕ). record { frame = f; change = z }) (named_by d k.frame))
+    by Range = tt
+    by d = (small, tt)
+
+object_few : (object : NewObject) (f : ℕ) → AreFew 4 (object_dues object f)
+object_few (NewThread comp) f = (omega arith, (omega arith, tt))
+object_few object f = (omega arith, tt)
+
+made_few : (object : NewObject) (f : ℕ) (at : MakingAt) → AreFew 4 (made_dues object f at)
+made_few object f make_load = tt
+made_few object f (Mark word) = tt
+made_few object f at = object_few object f
+
+killing_few : (f : ℕ) (at : KillingAt) → AreFew 4 (killing_dues f at)
+killing_few f LoadComp = tt
+killing_few f (LoadLive life) = tt
+killing_few f at = (omega arith, tt)
+
+released_few : (f g : Option ℕ) → AreFew 4 (released_dues f g)
+released_few None None = tt
+released_few None (Some g) = (omega arith, tt)
+released_few (Some f) None = (omega arith, tt)
+released_few (Some f) (Some g) = (omega arith, (omega arith, tt))
+
+untyped_few : (at : UntypingAt) → AreFew 4 (untyping_dues at)
 untyped_few (UntypingAt.Draw word w) = released_few w.owned.first w.owned.second
+untyped_few at = tt
 
-pub tcaps_few : (same : Bool) (q old : ℕ) → length (tcap_dues same q old) ≤ 2
-tcaps_few true q old = omega arith
-tcaps_few false q old = omega arith
+comp_few : (m : CompMaking) (at : CompAt) → AreFew 4 (comp_dues m at)
+comp_few m CompAt.Load = tt
+comp_few m (CompAt.Mark word) = tt
+comp_few m at = (omega arith, (omega arith, (omega arith, tt)))
 
-pub switching_few : (m : Switching) (at : SwitchAt) → length (switching_dues m at) ≤ 4
-switching_few m (SwitchAt.Claim claim) = omega arith
-switching_few m (SwitchAt.LoadTable to) = omega arith
-switching_few m (SwitchAt.LoadPages to table) = omega arith
-switching_few m (SwitchAt.Leave to table pages) =
-    let two : length (tcap_dues (m.tcap == m.old_tcap) m.tcap m.old_tcap) ≤ 2 = tcaps_few (m.tcap == m.old_tcap) m.tcap m.old_tcap in
-    omega (arith, two)
-switching_few m (SwitchAt.Draw to table pages) =
-    let two : length (tcap_dues (m.tcap == m.old_tcap) m.tcap m.old_tcap) ≤ 2 = tcaps_few (m.tcap == m.old_tcap) m.tcap m.old_tcap in
-    omega (arith, two)
+invoking_few : (f : ℕ) (at : InvokingAt) → AreFew 4 (invoking_dues f at)
+invoking_few f (InvokingAt.LoadLive table pages life) = (omega arith, tt)
+invoking_few f at = tt
 
--- an act changes four counts at most
+returning_few : (f : ℕ) (at : ReturningAt) → AreFew 4 (returning_dues f at)
+returning_few f (ReturningAt.Draw comp table pages) = (omega arith, tt)
+returning_few f at = tt
+
+switch_few : (m : Switching) (to : Claimed) → AreFew 4 (switch_due_list m to)
+switch_few m to = (omega arith, (omega arith, by (m.tcap == m.old_tcap)))
+  where
+    by : (same : Bool) → AreFew 2 (tcap_dues same m.tcap m.old_tcap)
+    by true = tt
+    by false = (omega arith, (omega arith, tt))
+
+switching_few : (m : Switching) (at : SwitchAt) → AreFew 4 (switching_dues m at)
+switching_few m (SwitchAt.Leave to table pages) = switch_few m to
+switching_few m (SwitchAt.Draw to table pages) = switch_few m to
+switching_few m at = tt
+
+are_few : (act : ActType) → AreFew 4 (dues act)
+are_few (fill_act fill) = cap_few fill.cap (pos 1) (omega arith)
+are_few (remove_act close cap) = cap_few cap (negsuc 0) (omega arith)
+are_few (make_act m) = made_few m.object m.frame m.at
+are_few (map_act fill) = cap_few fill.cap (pos 1) (omega arith)
+are_few (kill_act m) = killing_few m.comp m.at
+are_few (untype_act m) = untyped_few m.at
+are_few (comp_act m) = comp_few m m.at
+are_few (invoke_act m) = invoking_few m.comp m.at
+are_few (return_act m) = returning_few m.top m.at
+are_few (switch_act m) = switching_few m m.at
+are_few act = tt
+
 pub few_dues : (act : ActType) → length (dues act) ≤ 4
-few_dues (fill_act fill) = let one = cap_one fill.cap.kind fill.cap.frame fill.cap.arg (pos 1) in omega (arith, one)
-few_dues (remove_act close cap) = let one = cap_one cap.kind cap.frame cap.arg (negsuc 0) in omega (arith, one)
-few_dues (type_act typing) = omega arith
-few_dues (make_act m) = made_few m.object m.frame m.at
-few_dues (map_act fill) = let one = cap_one fill.cap.kind fill.cap.frame fill.cap.arg (pos 1) in omega (arith, one)
-few_dues (Outside node entry word) = omega arith
-few_dues (tick_act charge) = omega arith
-few_dues (touch_act m) = omega arith
-few_dues (flush_act core) = omega arith
-few_dues (kill_act m) = let one = killing_one m.comp m.at in omega (arith, one)
-few_dues (untype_act m) = let two = untyped_few m.at in omega (arith, two)
-few_dues (share_act p) = omega arith
-few_dues (refill_act r) = omega arith
-few_dues (comp_act m) = let few = comp_few m m.at in omega (arith, few)
-few_dues (invoke_act m) = let one = invoking_one m.comp m.at in omega (arith, one)
-few_dues (return_act m) = let one = returning_one m.top m.at in omega (arith, one)
-few_dues (switch_act m) = switching_few m m.at
+few_dues act = few_of 4 (dues act) (are_few act)
+
+pub due_small : (act : ActType) (xs : List Due) (d : Due) (ys : List Due) → dues act ≡ xs ++ d ∷ ys → IsSmallChange d.change
+due_small act xs d ys is = small_of 4 xs d ys (subst (AreFew 4) is (are_few act))
 
 -- the counts that an act changes are of frames of the machine
-abbrev pub DueFits : Shape → Option Due → Type 0
-DueFits s None = Unit {0}
-DueFits s (Some due) = due.frame < s.frames
+abbrev pub AreWithin : ℕ → List Due → Type 0
+AreWithin frames [] = Unit {0}
+AreWithin frames (d ∷ ds) = (d.frame < frames) × AreWithin frames ds
 
-pub cap_fit : (s : Shape) (kind : Kind) (frame arg : ℕ) (change : ℤ) (n : ℕ)
-    → CapNames s.frames (cap_of kind frame arg)
-    → DueFits s (slice_get (cap_dues (cap_of kind frame arg) change) n)
-cap_fit s Range frame arg change n names = tt
-cap_fit s kind frame arg change zero names = omega arith
-cap_fit s kind frame arg change (suc n) names = tt
+abbrev pub DueFits : ℕ → Option Due → Type 0
+DueFits frames None = Unit {0}
+DueFits frames (Some due) = due.frame < frames
 
-pub object_fit : (s : Shape) (object : NewObject) (f n : ℕ) → f < s.frames → NamesFit s.frames object
-    → DueFits s (slice_get (object_dues object f) n)
-object_fit s object f zero below names = below
-object_fit s NewTable f (suc n) below names = tt
-object_fit s NewLeaf f (suc n) below names = tt
-object_fit s NewPages f (suc n) below names = tt
-object_fit s NewPleaf f (suc n) below names = tt
-object_fit s (NewThread comp) f (suc zero) below names = names
-object_fit s (NewThread comp) f (suc (suc n)) below names = tt
-object_fit s (NewTcap sched quality) f (suc n) below names = tt
+due_within : (frames : ℕ) (ds : List Due) (n : ℕ) → AreWithin frames ds → DueFits frames (slice_get ds n)
+due_within frames [] zero within = tt
+due_within frames [] (suc n) within = tt
+due_within frames (d ∷ ds) zero within = within.0
+due_within frames (d ∷ ds) (suc n) within = due_within frames ds n within.1
 
-pub made_fit : (s : Shape) (object : NewObject) (f : ℕ) (at : MakingAt) (n : ℕ) → f < s.frames → NamesFit s.frames object
-    → DueFits s (slice_get (made_dues object f at) n)
-made_fit s object f make_load zero below names = tt
-made_fit s object f make_load (suc n) below names = tt
-made_fit s object f (Mark word) zero below names = tt
-made_fit s object f (Mark word) (suc n) below names = tt
-made_fit s object f (Store word entry) n below names = object_fit s object f n below names
-made_fit s object f (fill_at word) n below names = object_fit s object f n below names
+cap_within : (frames : ℕ) (kind : Kind) (frame arg : ℕ) (change : ℤ) → CapNames frames (cap_of kind frame arg)
+    → AreWithin frames (cap_dues (cap_of kind frame arg) change)
+cap_within frames Range frame arg change names = tt
+cap_within frames kind frame arg change names = (omega arith, tt)
 
-pub killing_fit : (s : Shape) (f : ℕ) (at : KillingAt) (n : ℕ) → f < s.frames → DueFits s (slice_get (killing_dues f at) n)
-killing_fit s f LoadComp zero below = tt
-killing_fit s f LoadComp (suc n) below = tt
-killing_fit s f (LoadLive life) zero below = tt
-killing_fit s f (LoadLive life) (suc n) below = tt
-killing_fit s f (kill_close life word) zero below = below
-killing_fit s f (kill_close life word) (suc n) below = tt
-killing_fit s f (kill_draw life word) zero below = below
-killing_fit s f (kill_draw life word) (suc n) below = tt
+object_within : (frames : ℕ) (object : NewObject) (f : ℕ) → f < frames → NamesFit frames object → AreWithin frames (object_dues object f)
+object_within frames (NewThread comp) f below names = (below, (names, tt))
+object_within frames object f below names = (below, tt)
 
-pub released_fit : (s : Shape) (f g : Option ℕ) (n : ℕ) → IfSome f (λ x. x < s.frames) → IfSome g (λ x. x < s.frames)
-    → DueFits s (slice_get (released_dues f g) n)
-released_fit s None None zero first second = tt
-released_fit s None None (suc n) first second = tt
-released_fit s None (Some g) zero first second = second
-released_fit s None (Some g) (suc n) first second = tt
-released_fit s (Some f) None zero first second = first
-released_fit s (Some f) None (suc n) first second = tt
-released_fit s (Some f) (Some g) zero first second = first
-released_fit s (Some f) (Some g) (suc zero) first second = second
-released_fit s (Some f) (Some g) (suc (suc n)) first second = tt
+made_within : (frames : ℕ) (object : NewObject) (f : ℕ) (at : MakingAt) → f < frames → NamesFit frames object
+    → AreWithin frames (made_dues object f at)
+made_within frames object f make_load below names = tt
+made_within frames object f (Mark word) below names = tt
+made_within frames object f at below names = object_within frames object f below names
 
-pub untyped_fit : (s : Shape) (at : UntypingAt) (n : ℕ) → UntypingAtFits s at → DueFits s (slice_get (untyping_dues at) n)
-untyped_fit s UntypingAt.Load zero fits = tt
-untyped_fit s UntypingAt.Load (suc n) fits = tt
-untyped_fit s (UntypingAt.Mark word v) zero fits = tt
-untyped_fit s (UntypingAt.Mark word v) (suc n) fits = tt
-untyped_fit s (UntypingAt.Sweep word w) zero fits = tt
-untyped_fit s (UntypingAt.Sweep word w) (suc n) fits = tt
-untyped_fit s (UntypingAt.Draw word w) n fits = released_fit s w.owned.first w.owned.second n fits.owned.first fits.owned.second
+killing_within : (frames f : ℕ) (at : KillingAt) → f < frames → AreWithin frames (killing_dues f at)
+killing_within frames f LoadComp below = tt
+killing_within frames f (LoadLive life) below = tt
+killing_within frames f at below = (below, tt)
 
-pub three_fit : (s : Shape) (m : CompMaking) (n : ℕ) → m.frame < s.frames → m.table < s.frames → m.pages < s.frames
-    → DueFits s (slice_get (comp_dues m (CompAt.LoadLive 0)) n)
-three_fit s m zero frame table pages = frame
-three_fit s m (suc zero) frame table pages = table
-three_fit s m (suc (suc zero)) frame table pages = pages
-three_fit s m (suc (suc (suc n))) frame table pages = tt
+released_within : (frames : ℕ) (f g : Option ℕ) → IfSome f (λ x. x < frames) → IfSome g (λ x. x < frames)
+    → AreWithin frames (released_dues f g)
+released_within frames None None first second = tt
+released_within frames None (Some g) first second = (second, tt)
+released_within frames (Some f) None first second = (first, tt)
+released_within frames (Some f) (Some g) first second = (first, (second, tt))
 
-pub comp_fit : (s : Shape) (m : CompMaking) (at : CompAt) (n : ℕ) → m.frame < s.frames → m.table < s.frames → m.pages < s.frames
-    → DueFits s (slice_get (comp_dues m at) n)
-comp_fit s m CompAt.Load zero frame table pages = tt
-comp_fit s m CompAt.Load (suc n) frame table pages = tt
-comp_fit s m (CompAt.Mark word) zero frame table pages = tt
-comp_fit s m (CompAt.Mark word) (suc n) frame table pages = tt
-comp_fit s m (CompAt.LoadLive word) n frame table pages = three_fit s m n frame table pages
-comp_fit s m (CompAt.Scan word last q) n frame table pages = three_fit s m n frame table pages
-comp_fit s m (CompAt.Close word last) n frame table pages = three_fit s m n frame table pages
-comp_fit s m (CompAt.Store word last entry) n frame table pages = three_fit s m n frame table pages
-comp_fit s m (CompAt.Fill word last) n frame table pages = three_fit s m n frame table pages
+untyped_within : (s : Shape) (at : UntypingAt) → UntypingAtFits s at → AreWithin s.frames (untyping_dues at)
+untyped_within s (UntypingAt.Draw word w) fits =
+    released_within s.frames w.owned.first w.owned.second fits.owned.first fits.owned.second
+untyped_within s at fits = tt
 
-pub invoking_fit : (s : Shape) (f : ℕ) (at : InvokingAt) (n : ℕ) → f < s.frames → DueFits s (slice_get (invoking_dues f at) n)
-invoking_fit s f InvokingAt.LoadTable zero below = tt
-invoking_fit s f InvokingAt.LoadTable (suc n) below = tt
-invoking_fit s f (InvokingAt.LoadPages table) zero below = tt
-invoking_fit s f (InvokingAt.LoadPages table) (suc n) below = tt
-invoking_fit s f (InvokingAt.LoadComp table pages) zero below = tt
-invoking_fit s f (InvokingAt.LoadComp table pages) (suc n) below = tt
-invoking_fit s f (InvokingAt.LoadLive table pages life) zero below = below
-invoking_fit s f (InvokingAt.LoadLive table pages life) (suc n) below = tt
+comp_within : (frames : ℕ) (m : CompMaking) (at : CompAt) → m.frame < frames → m.table < frames → m.pages < frames
+    → AreWithin frames (comp_dues m at)
+comp_within frames m CompAt.Load frame table pages = tt
+comp_within frames m (CompAt.Mark word) frame table pages = tt
+comp_within frames m at frame table pages = (frame, (table, (pages, tt)))
 
-pub returning_fit : (s : Shape) (f : ℕ) (at : ReturningAt) (n : ℕ) → f < s.frames → DueFits s (slice_get (returning_dues f at) n)
-returning_fit s f ReturningAt.LoadBelow zero below = tt
-returning_fit s f ReturningAt.LoadBelow (suc n) below = tt
-returning_fit s f (ReturningAt.LoadTable comp) zero below = tt
-returning_fit s f (ReturningAt.LoadTable comp) (suc n) below = tt
-returning_fit s f (ReturningAt.LoadPages comp table) zero below = tt
-returning_fit s f (ReturningAt.LoadPages comp table) (suc n) below = tt
-returning_fit s f (ReturningAt.Draw comp table pages) zero below = below
-returning_fit s f (ReturningAt.Draw comp table pages) (suc n) below = tt
+invoking_within : (frames f : ℕ) (at : InvokingAt) → f < frames → AreWithin frames (invoking_dues f at)
+invoking_within frames f (InvokingAt.LoadLive table pages life) below = (below, tt)
+invoking_within frames f at below = tt
 
-pub tcaps_fit : (s : Shape) (same : Bool) (q old n : ℕ) → q < s.frames → old < s.frames → DueFits s (slice_get (tcap_dues same q old) n)
-tcaps_fit s true q old zero to from = tt
-tcaps_fit s true q old (suc n) to from = tt
-tcaps_fit s false q old zero to from = to
-tcaps_fit s false q old (suc zero) to from = from
-tcaps_fit s false q old (suc (suc n)) to from = tt
+returning_within : (frames f : ℕ) (at : ReturningAt) → f < frames → AreWithin frames (returning_dues f at)
+returning_within frames f (ReturningAt.Draw comp table pages) below = (below, tt)
+returning_within frames f at below = tt
 
-pub switch_list_fits : (s : Shape) (m : Switching) (to : Claimed) (n : ℕ) → SwitchingFits s m → to.thread < s.frames
-    → DueFits s (slice_get (switch_due_list m to) n)
-switch_list_fits s m to zero fits below = below
-switch_list_fits s m to (suc zero) fits below = fits.old
-switch_list_fits s m to (suc (suc n)) fits below =
-    tcaps_fit s (m.tcap == m.old_tcap) m.tcap m.old_tcap n fits.tcap fits.old_tcap
+switch_within : (s : Shape) (m : Switching) (to : Claimed) → SwitchingFits s m → to.thread < s.frames
+    → AreWithin s.frames (switch_due_list m to)
+switch_within s m to fits below = (below, (fits.old, by (m.tcap == m.old_tcap)))
+  where
+    by : (same : Bool) → AreWithin s.frames (tcap_dues same m.tcap m.old_tcap)
+    by true = tt
+    by false = (fits.tcap, (fits.old_tcap, tt))
 
-pub switching_fit : (s : Shape) (m : Switching) (at : SwitchAt) (n : ℕ) → SwitchingFits s m → SwitchAtFits s at
-    → DueFits s (slice_get (switching_dues m at) n)
-switching_fit s m (SwitchAt.Claim claim) zero fits there = tt
-switching_fit s m (SwitchAt.Claim claim) (suc n) fits there = tt
-switching_fit s m (SwitchAt.LoadTable to) zero fits there = tt
-switching_fit s m (SwitchAt.LoadTable to) (suc n) fits there = tt
-switching_fit s m (SwitchAt.LoadPages to table) zero fits there = tt
-switching_fit s m (SwitchAt.LoadPages to table) (suc n) fits there = tt
-switching_fit s m (SwitchAt.Leave to table pages) n fits there = switch_list_fits s m to n fits there.0.thread
-switching_fit s m (SwitchAt.Draw to table pages) n fits there = switch_list_fits s m to n fits there.0.thread
+switching_within : (s : Shape) (m : Switching) (at : SwitchAt) → SwitchingFits s m → SwitchAtFits s at
+    → AreWithin s.frames (switching_dues m at)
+switching_within s m (SwitchAt.Leave to table pages) fits there = switch_within s m to fits there.0.thread
+switching_within s m (SwitchAt.Draw to table pages) fits there = switch_within s m to fits there.0.thread
+switching_within s m at fits there = tt
 
-pub dues_fit : (s : Shape) (act : ActType) (n : ℕ) → ActFits s act → DueFits s (slice_get (dues act) n)
-dues_fit s (fill_act fill) n fits = cap_fit s fill.cap.kind fill.cap.frame fill.cap.arg (pos 1) n fits.cap
-dues_fit s (remove_act close cap) n fits = cap_fit s cap.kind cap.frame cap.arg (negsuc 0) n fits.1
-dues_fit s (type_act typing) zero fits = tt
-dues_fit s (type_act typing) (suc n) fits = tt
-dues_fit s (make_act m) n fits = made_fit s m.object m.frame m.at n fits.frame fits.object.names
-dues_fit s (map_act fill) n fits = cap_fit s fill.cap.kind fill.cap.frame fill.cap.arg (pos 1) n fits.0.cap
-dues_fit s (Outside node entry word) zero fits = tt
-dues_fit s (Outside node entry word) (suc n) fits = tt
-dues_fit s (tick_act charge) zero fits = tt
-dues_fit s (tick_act charge) (suc n) fits = tt
-dues_fit s (touch_act m) zero fits = tt
-dues_fit s (touch_act m) (suc n) fits = tt
-dues_fit s (share_act p) zero fits = tt
-dues_fit s (share_act p) (suc n) fits = tt
-dues_fit s (refill_act r) zero fits = tt
-dues_fit s (refill_act r) (suc n) fits = tt
-dues_fit s (flush_act core) zero fits = tt
-dues_fit s (flush_act core) (suc n) fits = tt
-dues_fit s (kill_act m) n fits = killing_fit s m.comp m.at n fits.comp
-dues_fit s (untype_act m) n fits = untyped_fit s m.at n fits.at
-dues_fit s (comp_act m) n fits = comp_fit s m m.at n fits.frame fits.table fits.pages
-dues_fit s (invoke_act m) n fits = invoking_fit s m.comp m.at n fits.comp
-dues_fit s (return_act m) n fits = returning_fit s m.top m.at n fits.top
-dues_fit s (switch_act m) n fits = switching_fit s m m.at n fits fits.at
+are_within : (s : Shape) (act : ActType) → ActFits s act → AreWithin s.frames (dues act)
+are_within s (fill_act fill) fits = cap_within s.frames fill.cap.kind fill.cap.frame fill.cap.arg (pos 1) fits.cap
+are_within s (remove_act close cap) fits = cap_within s.frames cap.kind cap.frame cap.arg (negsuc 0) fits.1
+are_within s (make_act m) fits = made_within s.frames m.object m.frame m.at fits.frame fits.object.names
+are_within s (map_act fill) fits = cap_within s.frames fill.cap.kind fill.cap.frame fill.cap.arg (pos 1) fits.0.cap
+are_within s (kill_act m) fits = killing_within s.frames m.comp m.at fits.comp
+are_within s (untype_act m) fits = untyped_within s m.at fits.at
+are_within s (comp_act m) fits = comp_within s.frames m m.at fits.frame fits.table fits.pages
+are_within s (invoke_act m) fits = invoking_within s.frames m.comp m.at fits.comp
+are_within s (return_act m) fits = returning_within s.frames m.top m.at fits.top
+are_within s (switch_act m) fits = switching_within s m m.at fits fits.at
+are_within s act fits = tt
 
 -- what a core does for an act of whose counts it has acquired so many
 pub work_next : (s : Shape) (later core n : ℕ) (act : ActType) (o : Option Due) → slice_get (dues act) n ≡ o → core < s.cores
@@ -305,7 +256,7 @@ pub work_next : (s : Shape) (later core n : ℕ) (act : ActType) (o : Option Due
 work_next s later core n act None is here fits = (fits, omega arith)
 work_next s later core n act (Some due) is here fits =
     let some : n < length (dues act) = slice_get_within (dues act) n due is in
-    (((subst (DueFits s) is (dues_fit s act n fits), here), fits), omega arith)
+    (((subst (DueFits s.frames) is (due_within s.frames (dues act) n (are_within s act fits)), here), fits), omega arith)
 
 pub past_none : (xs : List Due) (i : ℕ) → slice_get xs i ≡ None → length xs ≤ i
 past_none [] i h = omega arith

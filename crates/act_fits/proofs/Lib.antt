@@ -3,7 +3,6 @@ pub mod Common
 -- What holds of all acts.
 pub mod NamedFit
 pub mod DuesFit
-pub mod DuesSmall
 pub mod StepsFit
 pub mod LandsFit
 pub mod ScansFit

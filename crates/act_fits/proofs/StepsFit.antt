@@ -2,19 +2,17 @@
 use Rattle.call_stages.specs.act_states.specs as low
 use low.{◌≡◌, ℕ, pos, negsuc, ◌≢◌, ltb as nat_lt, if◌then◌else◌, ◌+◌, ◌*◌, ◌-◌, slice_get, ◌<◌, ◌≤◌, Bool, true, false, leb as nat_le}
 use low.{IsTrue, ◌==◌, List, [], ◌∷◌, length, Option, Some, None, IfSome, IsSomeAnd, refl, ◌&&◌, Quiet, QuietFits, first_other, flush_scan}
-use low.{core_scan, quiet_scan, Capability, cap_of, part_of, InLimits, Kind, Range, Call, Copy, Remove, Shrink, Unmap, Retype}
-use low.{Make as make_call, Tick, Gate, Kill, Grow, Flush, Map, Ret, Switch, Transfer, Delegate, Test, Part, Replenish, Entry, Shape, Named}
-use low.{found, Target as place, Under as place_under, InRoot as place_in, end_of_frames, CapNames, First, Second, Third, Fourth, Name}
-use low.{Spot, Nowhere, Plan, at_place, earlier, with_found, names_after, Leads, next_in, look_steps, act_steps, PageFlags, FrameKind}
-use low.{has_frame, has_frames, counts_of, last_word, ActFits, act_left, looked, dues, scans, stamp_in, filling, fills_with, removes_held}
-use low.{removes_at, types_if, types_at, gate_if, gate_to, reads_of, starts, makes_at, act_begun, next_work, kills_in, kills_at, page_cap}
-use low.{maps_if, maps_at, comps_at, made_begun, invokes_in, invokes_if, invokes_at, returns_if, switches_at, parts_at, LoadA, PairWork}
-use low.{share_left, shares_if, shares_at, refills_at, ScanFits, left_of_scan, touches_if, looks_under, looks_entry, looks_at, read_first}
-use Rattle.act_fits.proofs.Common.{sym, ap, subst, arith, ltb-true, ltb-false, eqb-true, eqb-false, Table, Pages, KindComp, root}
-use Rattle.act_fits.proofs.Common.{EntryNames, rooted, Untyped, User, Kernel, Make, NewObject, NewTable, NewLeaf, NewPages, NewPleaf}
-use Rattle.act_fits.proofs.Common.{NewThread, NewTcap, Own, ActType, fill_act, remove_act, type_act, make_act, Outside, tick_act, kill_act}
-use Rattle.act_fits.proofs.Common.{flush_act, untype_act, map_act, comp_act, invoke_act, return_act, switch_act, touch_act, share_act}
-use Rattle.act_fits.proofs.Common.{refill_act, WorkStep, Goes, Acquires, Refuses, Answers, Changes, left_of_cores, FoundFits, IsOwn}
+use low.{core_scan, quiet_scan, Capability, cap_of, part_of, InLimits, Kind, Call, Copy, Remove, Shrink, Unmap, Retype, Make as make_call}
+use low.{Tick, Gate, Kill, Grow, Flush, Map, Ret, Switch, Transfer, Delegate, Test, Part, Replenish, Entry, Shape, Named, found}
+use low.{Target as place, Under as place_under, InRoot as place_in, end_of_frames, CapNames, First, Second, Third, Fourth, Name, Spot}
+use low.{Nowhere, Plan, at_place, earlier, with_found, names_after, Leads, next_in, look_steps, act_steps, PageFlags, FrameKind, has_frame}
+use low.{has_frames, counts_of, last_word, ActFits, act_left, looked, dues, scans, stamp_in, filling, fills_with, removes_held, removes_at}
+use low.{types_if, types_at, gate_if, gate_to, reads_of, starts, makes_at, act_begun, next_work, kills_in, kills_at, page_cap, maps_if}
+use low.{maps_at, comps_at, made_begun, invokes_in, invokes_if, invokes_at, returns_if, switches_at, parts_at, LoadA, PairWork, share_left}
+use low.{shares_if, shares_at, refills_at, ScanFits, left_of_scan, touches_if, looks_under, looks_entry, looks_at, read_first}
+use Rattle.act_fits.proofs.Common.{sym, ap, subst, arith, ltb-true, ltb-false, eqb-true, eqb-false, Table, Pages, root, EntryNames, rooted}
+use Rattle.act_fits.proofs.Common.{Untyped, User, Kernel, Make, NewObject, NewTable, NewLeaf, NewPages, NewPleaf, NewThread, NewTcap, Own}
+use Rattle.act_fits.proofs.Common.{ActType, Outside, WorkStep, Goes, Acquires, Refuses, Answers, Changes, left_of_cores, FoundFits, IsOwn}
 use Rattle.call_stages.specs.kernel_rules.proofs.{leb-false, leb-true, Look as look_call, frames_in}
 use Rattle.call_stages.specs.call_plans.specs.{place_of_spot, WantsRoot}
 use Rattle.call_stages.specs.spk_nums.specs.{CallLimits.MakeInLimits, declared.calls.Call.TheVariants.Call as call_gate}
@@ -26,7 +24,8 @@ use Rattle.call_stages.specs.call_plans.specs.{Bounds.retype_steps, Bounds.make_
 use Rattle.call_stages.specs.call_plans.proofs.Roots.{earlier_is, Led, nth_led}
 use low.Objects.{object_cap, object_made, thread_on, ObjectFits}
 use low.Acts.{removing, frame_named, making, making_if, makes_in, kept_of, link_to, is_pages, mapping, mapping_if, comp_making, comp_if}
-use low.Acts.{comps_in, returns_at, part_if}
+use low.Acts.{comps_in, returns_at, part_if, starts_if}
+use low.{phases_of}
 use Rattle.call_stages.specs.Fits.{IsWanted, looks_later, after_reading, acts_later}
 use Rattle.act_fits.proofs.NamedFit.{TwoNamed, ObjectNamed}
 use Rattle.act_fits.proofs.DuesFit.{StepFits, cap_one, work_next, counts_next}
@@ -125,23 +124,11 @@ first_fits s later most core act here fits some =
 
 pub starts_fit : (s : Shape) (later most core : ℕ) (act : ActType) → core < s.cores → ActFits s act
     → 3 * length (dues act) + act_left s.cores act ≤ most → StepFits s [] later most (starts core act)
-starts_fit s later most core (Outside node entry word) here fits some = (omega arith, tt)
-starts_fit s later most core (fill_act fill) here fits some = first_fits s later most core (fill_act fill) here fits some
-starts_fit s later most core (remove_act close cap) here fits some = first_fits s later most core (remove_act close cap) here fits some
-starts_fit s later most core (type_act typing) here fits some = first_fits s later most core (type_act typing) here fits some
-starts_fit s later most core (make_act m) here fits some = first_fits s later most core (make_act m) here fits some
-starts_fit s later most core (map_act fill) here fits some = first_fits s later most core (map_act fill) here fits some
-starts_fit s later most core (tick_act charge) here fits some = first_fits s later most core (tick_act charge) here fits some
-starts_fit s later most core (touch_act m) here fits some = first_fits s later most core (touch_act m) here fits some
-starts_fit s later most core (flush_act by) here fits some = first_fits s later most core (flush_act by) here fits some
-starts_fit s later most core (kill_act m) here fits some = first_fits s later most core (kill_act m) here fits some
-starts_fit s later most core (untype_act m) here fits some = first_fits s later most core (untype_act m) here fits some
-starts_fit s later most core (share_act p) here fits some = first_fits s later most core (share_act p) here fits some
-starts_fit s later most core (refill_act r) here fits some = first_fits s later most core (refill_act r) here fits some
-starts_fit s later most core (comp_act m) here fits some = first_fits s later most core (comp_act m) here fits some
-starts_fit s later most core (invoke_act m) here fits some = first_fits s later most core (invoke_act m) here fits some
-starts_fit s later most core (return_act m) here fits some = first_fits s later most core (return_act m) here fits some
-starts_fit s later most core (switch_act m) here fits some = first_fits s later most core (switch_act m) here fits some
+starts_fit s later most core act here fits some = by (phases_of act).within
+  where
+    by : (within : Bool) → StepFits s [] later most (starts_if within core act)
+    by true = first_fits s later most core act here fits some
+    by false = (omega arith, tt)
 
 pub scans_fit : (s : Shape) (later most core : ℕ) (act : ActType) (page : Bool) (o : Option Quiet) → core < s.cores → ActFits s act
     → ScanMay s page o

@@ -1,18 +1,17 @@
 -- The acts of calls, and the counts that they change.
 use Rattle.std.specs.Prelude.{◌<◌, ◌&&◌, if◌then◌else◌}
-use Rattle.stage_tcap.specs.{ℕ, Bool, true, false, ltb as nat_lt, leb as nat_le, Option, Some, None, List}
-use Rattle.stage_tcap.specs.{Capability, cap_of, part_of, Call, Look, Copy, Remove, Shrink, Retype, Unmap, Tick, Gate, Kill, Grow, Flush}
-use Rattle.stage_tcap.specs.{Map, Ret, Switch, Transfer, Delegate, Test, Part, Replenish, Make, Nothing as nothing, StageEnd, Shape, Move}
-use Rattle.stage_tcap.specs.{LoadOf, ChargeFits, charge_move, RefillFits, refill_move, PairFits, pair_move, Kind, FrameKind, Untyped, User}
-use Rattle.stage_tcap.specs.{Kernel, PageFlags, EntryAt, FrameAt}
+use Rattle.stage_tcap.specs.{ℕ, Bool, true, false, ltb as nat_lt, leb as nat_le, Option, Some, None, List, Capability, cap_of, part_of}
+use Rattle.stage_tcap.specs.{Call, Look, Copy, Remove, Shrink, Retype, Unmap, Tick, Gate, Kill, Grow, Flush, Map, Ret, Switch, Transfer}
+use Rattle.stage_tcap.specs.{Delegate, Test, Part, Replenish, Make, Nothing as nothing, StageEnd, Shape, ChargeFits, RefillFits, PairFits}
+use Rattle.stage_tcap.specs.{Kind, FrameKind, Untyped, User, Kernel, PageFlags}
 use Rattle.call_plans.specs.kernel_invariant.specs.kernel_rules.specs.{kept, Cap, found as named, only, plain_cap, has_frame, has_frames}
-use Rattle.stage_sweep.specs.stage_quiet.specs.{CloseFits, close_move, close_end, close_after, quiet_scan, flush_move}
-use Rattle.stage_sweep.specs.stage_look.specs.{CapNames, look_move}
+use Rattle.stage_sweep.specs.stage_quiet.specs.{CloseFits, close_end, close_after, quiet_scan}
+use Rattle.stage_sweep.specs.stage_look.specs.{CapNames}
 use Rattle.spk_nums.specs.declared.calls.Call.TheVariants.{Make as make_call, Call as call_gate}
-use Rattle.stage_sweep.specs.entry_words.specs.{EntryWord.entry_of_word, declared.entry.Entry.Entry}
+use Rattle.stage_sweep.specs.entry_words.specs.{declared.entry.Entry.Entry}
 use Rattle.stage_sweep.specs.stage_quiet.specs.{declared.close.Close.Close, declared.close.Close.TheVariants.AtCompare as close_compare}
 use Rattle.stage_sweep.specs.stage_quiet.specs.{declared.close.Close.TheVariants.AtDraw, declared.close.Close.TheVariants.AtStore}
-use Rattle.stage_sweep.specs.stage_quiet.specs.{declared.quiet.Quiet.Quiet, declared.flush_mark.FlushMark.TheVariants.AtLoad as flush_load}
+use Rattle.stage_sweep.specs.stage_quiet.specs.{declared.quiet.Quiet.Quiet}
 use Rattle.call_plans.specs.declared.plans.Nth.TheVariants.{First, Second, Third, Fourth}
 use Rattle.act_states.specs.{declared.own.Own.Own, declared.refusals.Refusal.TheVariants.Raced}
 use Rattle.act_states.specs.{declared.refusals.Refusal.TheVariants.OutOfRange, declared.refusals.Refusal.TheVariants.Deep}
@@ -26,31 +25,25 @@ use Rattle.act_states.specs.{declared.work.Act.TheVariants.MakeComp as comp_act,
 use Rattle.act_states.specs.{declared.work.Act.TheVariants.Return as return_act, declared.work.Act.TheVariants.Switch as switch_act}
 use Rattle.act_states.specs.{declared.work.Act.TheVariants.Touch as touch_act, declared.work.Act.TheVariants.Share as share_act}
 use Rattle.act_states.specs.{declared.work.Act.TheVariants.Refill as refill_act, declared.work.Work.TheVariants.Scan}
-use Rattle.act_states.specs.{declared.work.Work.TheVariants.Act as act_work, declared.work.Tail.Tail}
-use Rattle.act_states.specs.{declared.work.Tail.TheVariants.Nothing, declared.work.Tail.TheVariants.Quiesce}
-use Rattle.act_states.specs.{declared.work.WorkStep.WorkStep, declared.work.WorkStep.TheVariants.Goes}
-use Rattle.act_states.specs.{declared.work.WorkStep.TheVariants.Answers, Refusals.refusal_of, WorkSteps.refuse, Fills.FillFits}
-use Rattle.act_states.specs.{Fills.fill_move, Fills.took_fill, declared.typings.TypingAt.TheVariants.Load, Typings.TypingFits}
-use Rattle.act_states.specs.{Typings.typing_move, Typings.took_typing, Typings.is_typing, Typings.typing_left}
-use Rattle.act_states.specs.{declared.objects.NewObject.NewObject, Objects.object_cap, Objects.object_made}
-use Rattle.act_states.specs.{declared.makings.MakingAt.TheVariants.Load as make_load, Comps.CompMakingFits, Comps.comp_move}
-use Rattle.act_states.specs.{Comps.comp_undo, Comps.comp_filling, Comps.comp_left, Makings.MakingFits, Makings.making_move, Makings.undo_at}
-use Rattle.act_states.specs.{Makings.is_filling, Makings.making_left, Ticks.charges, Ticks.took_tick, Ticks.is_charging, Ticks.charge_left}
-use Rattle.act_states.specs.{Refills.refills_at, Refills.took_refill, Refills.is_refilling, Refills.refill_left, Shares.took_share}
-use Rattle.act_states.specs.{Shares.is_sharing, Shares.share_left, Shares.shares_at, Flushes.flushes, Flushes.took_flush, Touches.TouchFits}
-use Rattle.act_states.specs.{Touches.took_touch, Touches.is_answering, Touches.touch_left, declared.kills.KillingAt.TheVariants.LoadComp}
-use Rattle.act_states.specs.{Invocations.InvokingFits, Invocations.invoking_move, Invocations.is_entering, Invocations.invoking_left}
-use Rattle.act_states.specs.{Invocations.ReturningFits, Invocations.returning_move, Invocations.is_leaving, Invocations.returning_left}
-use Rattle.act_states.specs.{declared.switches.Switching.Switching, Switches.SwitchingFits, Switches.switching_move, Switches.is_switching}
-use Rattle.act_states.specs.{Switches.switching_left, Switches.switching_undo, Kills.KillingFits, Kills.killing_move, Kills.is_killing}
-use Rattle.act_states.specs.{Kills.killing_left, declared.untypings.UntypingAt.TheVariants.Load as untype_load, Untypings.UntypingFits}
-use Rattle.act_states.specs.{Untypings.untyping_move, Untypings.is_drawing, Untypings.untyping_undo, Untypings.untyping_left}
+use Rattle.act_states.specs.{declared.work.Work.TheVariants.Act as act_work, declared.work.Tail.TheVariants.Nothing}
+use Rattle.act_states.specs.{declared.work.Tail.TheVariants.Quiesce, declared.work.WorkStep.WorkStep}
+use Rattle.act_states.specs.{declared.work.WorkStep.TheVariants.Goes, declared.work.WorkStep.TheVariants.Answers, Refusals.refusal_of}
+use Rattle.act_states.specs.{WorkSteps.refuse, Fills.FillFits, Fills.took_fill, declared.typings.TypingAt.TheVariants.Load}
+use Rattle.act_states.specs.{Typings.TypingFits, Typings.took_typing, declared.objects.NewObject.NewObject, Objects.object_cap}
+use Rattle.act_states.specs.{Objects.object_made, declared.makings.MakingAt.TheVariants.Load as make_load, Comps.CompMakingFits}
+use Rattle.act_states.specs.{Makings.MakingFits, Ticks.charges, Ticks.took_tick, Refills.refills_at, Refills.took_refill, Shares.took_share}
+use Rattle.act_states.specs.{Shares.shares_at, Flushes.flushes, Flushes.took_flush, Touches.TouchFits, Touches.took_touch}
+use Rattle.act_states.specs.{declared.kills.KillingAt.TheVariants.LoadComp, Invocations.InvokingFits, Invocations.ReturningFits}
+use Rattle.act_states.specs.{declared.switches.Switching.Switching, Switches.SwitchingFits, Kills.KillingFits}
+use Rattle.act_states.specs.{declared.untypings.UntypingAt.TheVariants.Load as untype_load, Untypings.UntypingFits}
 use Rattle.act_states.specs.{declared.comps.CompAt.CompAt, declared.invocations.InvokingAt.InvokingAt}
 use Rattle.act_states.specs.{declared.invocations.ReturningAt.ReturningAt, declared.switches.SwitchAt.SwitchAt}
 use Rattle.{stage_sweep.specs.stage_look.specs.declared.look.Found.Found, call_plans.specs.Plans.at_place}
 use Rattle.{stage_sweep.specs.frame_words.specs.Frame.frame_of_word, stage_tcap.specs.declared.pair.PairWork.PairWork}
 use Rattle.{stage_thread.specs.declared.claim.Claim.Claim}
-pub use Rattle.act_states.specs.Dues.{cap_dues, made_dues, killing_dues, invoking_dues, returning_dues, dues, acquires, next_work}
+pub use Rattle.act_states.specs.Dues.{cap_dues, made_dues, killing_dues, invoking_dues, returning_dues}
+pub use Rattle.act_states.specs.Phases.{Phases, phases_of, dues, acquires, next_work, act_move, act_ready, act_left, undo, stamp_of_act}
+pub use Rattle.act_states.specs.Phases.{stamp_shown, stamp_in, is_draw, close_left}
 pub use Rattle.act_states.specs.Taking.{meets_object, meets_kernel, meets_blank, meets_making, marks_if, published, took_making_at}
 pub use Rattle.act_states.specs.Taking.{took_making, meets_comp, meets_life, meets_number, meets_live, closes_if, drawn_dead}
 pub use Rattle.act_states.specs.Taking.{took_killing_at, took_killing, meets_untyped, meets_untyping, sweep_from, sweeps_if}
@@ -93,78 +86,6 @@ took_close cap close (StageEnd.Decided r) = Answers nothing (drawn_by close) (Qu
 took_close cap close (StageEnd.Done stamp) = refuse Raced
 took_close cap close (StageEnd.Refuse r) = refuse (refusal_of r)
 
--- the next step of an act; one that is out of range makes none
-abbrev pub act_move : Act → Move
-act_move (fill_act fill) = fill_move fill
-act_move (remove_act close cap) = close_move close
-act_move (type_act typing) = typing_move typing
-act_move (make_act m) = making_move m
-act_move (map_act fill) = LoadOf (FrameAt fill.cap.frame)
-act_move (Outside node entry word) = LoadOf (EntryAt node entry)
-act_move (tick_act charge) = charge_move charge
-act_move (touch_act m) = look_move m.look
-act_move (flush_act core) = flush_move (flush_load core)
-act_move (kill_act m) = killing_move m
-act_move (untype_act m) = untyping_move m
-act_move (comp_act m) = comp_move m
-act_move (invoke_act m) = invoking_move m
-act_move (return_act m) = returning_move m
-act_move (switch_act m) = switching_move m
-act_move (share_act p) = pair_move p
-act_move (refill_act r) = refill_move r
-
--- whether the next step of a removal draws its stamp
-abbrev pub is_draw : Close → Bool
-is_draw (close_compare node entry word core) = false
-is_draw (AtDraw node entry) = true
-is_draw (AtStore node entry stamp) = false
-
--- whether the next step is the one that decides `ok`
-abbrev pub act_ready : Act → Bool
-act_ready (fill_act fill) = true
-act_ready (remove_act close cap) = is_draw close
-act_ready (type_act typing) = is_typing typing.at
-act_ready (make_act m) = is_filling m.at
-act_ready (map_act fill) = false
-act_ready (Outside node entry word) = false
-act_ready (tick_act charge) = is_charging charge
-act_ready (touch_act m) = is_answering m
-act_ready (flush_act core) = true
-act_ready (kill_act m) = is_killing m.at
-act_ready (untype_act m) = is_drawing m.at
-act_ready (comp_act m) = comp_filling m.at
-act_ready (invoke_act m) = is_entering m.at
-act_ready (return_act m) = is_leaving m.at
-act_ready (switch_act m) = is_switching m.at
-act_ready (share_act p) = is_sharing p.at
-act_ready (refill_act r) = is_refilling r.at
-
--- the steps of a removal that are still to come
-abbrev pub close_left : Close → ℕ
-close_left (close_compare node entry word core) = 3
-close_left (AtDraw node entry) = 2
-close_left (AtStore node entry stamp) = 1
-
--- the most steps of an act that are still to come, with those of what it leaves to be stored, on so many cores
-abbrev pub act_left : ℕ → Act → ℕ
-act_left cores (fill_act fill) = 1
-act_left cores (remove_act close cap) = close_left close
-act_left cores (type_act typing) = typing_left typing.at
-act_left cores (make_act m) = making_left m.object m.at
-act_left cores (map_act fill) = 2
-act_left cores (Outside node entry word) = 1
-act_left cores (tick_act charge) = charge_left charge
-act_left cores (touch_act m) = touch_left m.look
-act_left cores (flush_act core) = 2
-act_left cores (kill_act m) = killing_left m.at
-act_left cores (untype_act m) = untyping_left cores m.at
-act_left cores (comp_act m) = comp_left m.cores m.at
-act_left cores (invoke_act m) = invoking_left m.at
-act_left cores (return_act m) = returning_left m.at
-act_left cores (switch_act m) = switching_left m.at
-act_left cores (share_act p) = share_left p.what p.at
-act_left cores (refill_act r) = refill_left r.at
-
 -- a look answers what its name has led to
 abbrev pub looked : Option Capability → WorkStep
 looked None = refuse Raced
@@ -190,42 +111,17 @@ took_act s (switch_act m) found = took_switching m found
 took_act s (share_act p) found = took_share p found
 took_act s (refill_act r) found = took_refill r found
 
--- what a refused call has still to store where it acquires a count for an act
-abbrev pub undo : Act → Tail
-undo (fill_act fill) = Nothing
-undo (remove_act close cap) = Nothing
-undo (type_act typing) = Nothing
-undo (make_act m) = undo_at m.frame m.at
-undo (map_act fill) = Nothing
-undo (Outside node entry word) = Nothing
-undo (tick_act charge) = Nothing
-undo (touch_act m) = Nothing
-undo (flush_act core) = Nothing
-undo (kill_act m) = Nothing
-undo (untype_act m) = untyping_undo m.frame m.at
-undo (comp_act m) = comp_undo m m.at
-undo (invoke_act m) = Nothing
-undo (return_act m) = Nothing
-undo (switch_act m) = switching_undo m.at
-undo (share_act p) = Nothing
-undo (refill_act r) = Nothing
-
 -- an act starts with its first count, where it is not out of range
+abbrev pub starts_if : Bool → ℕ → Act → WorkStep
+starts_if within core act = if within then Goes (next_work core 0 act) else refuse OutOfRange
+
 abbrev pub starts : ℕ → Act → WorkStep
-starts core (Outside node entry word) = refuse OutOfRange
-starts core act = Goes (next_work core 0 act)
+starts core act = starts_if (phases_of act).within core act
 
 -- it starts after a scan, if there is one
 abbrev pub scans : ℕ → Option Quiet → Act → WorkStep
 scans core None act = starts core act
 scans core (Some q) act = Goes (Scan q act)
-
--- the stamp since which an entry is quiescing, 0 for one that is not
-abbrev pub stamp_in : Entry → ℕ
-stamp_in Entry.Free = 0
-stamp_in (Entry.Held k) = 0
-stamp_in (Entry.Closing by) = 0
-stamp_in (Entry.Quiescing stamp) = stamp
 
 -- a place is filled with a capability; one that is quiescing is scanned for first, and where it is one of a page table, so are the flushes
 abbrev pub filling : Capability → Found → Act
@@ -319,30 +215,6 @@ removes_by (Remove t b) = true
 removes_by (Shrink t i) = true
 removes_by (Unmap p v) = true
 removes_by _ = false
-
--- the stamp of the word that an act is to fill
-abbrev pub stamp_shown : Option Entry → ℕ
-stamp_shown None = 0
-stamp_shown (Some e) = stamp_in e
-
-abbrev pub stamp_of_act : Act → ℕ
-stamp_of_act (fill_act fill) = stamp_shown (entry_of_word fill.word)
-stamp_of_act (remove_act close cap) = 0
-stamp_of_act (type_act typing) = 0
-stamp_of_act (make_act m) = stamp_shown (entry_of_word m.fill.word)
-stamp_of_act (map_act fill) = stamp_shown (entry_of_word fill.word)
-stamp_of_act (Outside node entry word) = stamp_shown (entry_of_word word)
-stamp_of_act (tick_act charge) = 0
-stamp_of_act (touch_act m) = 0
-stamp_of_act (flush_act core) = 0
-stamp_of_act (kill_act m) = 0
-stamp_of_act (untype_act m) = 0
-stamp_of_act (comp_act m) = stamp_shown (entry_of_word m.fill.word)
-stamp_of_act (invoke_act m) = 0
-stamp_of_act (return_act m) = 0
-stamp_of_act (switch_act m) = 0
-stamp_of_act (share_act p) = 0
-stamp_of_act (refill_act r) = 0
 
 -- a frame is typed, or made untyped again, where it is in the range, which has none past the machine's
 abbrev pub typing_to : ℕ → ℕ → FrameKind → Act

@@ -1,8 +1,7 @@
 -- The act that makes a component in a blank kernel frame.
 use Rattle.std.specs.Prelude.{◌+◌, ◌-◌, ◌<◌, ◌≤◌, ◌≡◌, ◌^◌, ◌==◌, ◌∷◌, if◌then◌else◌}
-use Rattle.stage_tcap.specs.{ℕ, pos, ltb as nat_lt, Bool, true, false, Option, Some, None, List, []}
-use Rattle.stage_tcap.specs.{FrameKind, Obj, Nothing as nothing, StageEnd, EntryAt, FrameAt, LiveAt, Shape, Move}
-use Rattle.stage_tcap.specs.{LoadOf, CompareOf, StoreOf}
+use Rattle.stage_tcap.specs.{ℕ, pos, ltb as nat_lt, Bool, true, false, Option, Some, None, List, [], FrameKind, Obj, Nothing as nothing}
+use Rattle.stage_tcap.specs.{StageEnd, EntryAt, FrameAt, LiveAt, Shape, Move, LoadOf, CompareOf, StoreOf}
 use Rattle.stage_sweep.specs.stage_quiet.specs.{QuietFits, quiet_move, quiet_scan}
 use Rattle.stage_sweep.specs.frame_words.specs.{word_of_comp, word_of_frame, word_of_live, declared.frame_word.FrameWord.FrameWord}
 use Rattle.act_states.specs.{Fills.FillFits, Fills.fill_move, Makings.marked, Refusals.refusal_of, Scans.IsUnpaged, Scans.ScanFits}
@@ -18,6 +17,7 @@ use Rattle.act_states.specs.{declared.work.Due.Due, declared.work.Tail.Tail, dec
 use Rattle.act_states.specs.{declared.work.Tail.TheVariants.Unmark, declared.work.Tail.TheVariants.StoreLive}
 use Rattle.act_states.specs.{declared.work.Work.TheVariants.Act as act_work, declared.work.WorkStep.WorkStep}
 use Rattle.act_states.specs.{declared.work.WorkStep.TheVariants.Goes, declared.work.WorkStep.TheVariants.Refuses}
+use Rattle.act_states.specs.Keeping.{Keeping, KeepsWord}
 use Rattle.{stage_sweep.specs.frame_words.specs.declared.live_word.LiveWord.LiveWord}
 use Rattle.{stage_sweep.specs.stage_quiet.specs.declared.quiet.Quiet.Quiet, act_states.specs.declared.work.WorkStep.TheVariants.Answers}
 
@@ -99,6 +99,16 @@ comp_undo m (Scan word last q) = Unmark m.frame word
 comp_undo m (Close word last) = Unmark m.frame word
 comp_undo m (Store word last entry) = StoreLive m.number last.word m.frame word
 comp_undo m (fill_at word last) = StoreLive m.number last.word m.frame word
+
+-- the frame is marked, and then the number: each stands for its word as it was found
+abbrev pub comp_keeps : CompMaking → CompAt → List Keeping
+comp_keeps m Load = []
+comp_keeps m (Mark word) = []
+comp_keeps m (LoadLive word) = KeepsWord (FrameAt m.frame) word ∷ []
+comp_keeps m (Scan word last q) = KeepsWord (FrameAt m.frame) word ∷ []
+comp_keeps m (Close word last) = KeepsWord (FrameAt m.frame) word ∷ []
+comp_keeps m (Store word last entry) = KeepsWord (LiveAt m.number) last.word ∷ KeepsWord (FrameAt m.frame) word ∷ []
+comp_keeps m (fill_at word last) = KeepsWord (LiveAt m.number) last.word ∷ KeepsWord (FrameAt m.frame) word ∷ []
 
 abbrev pub comp_refuses : CompMaking → ℕ → Refusal → WorkStep
 comp_refuses m word r = Refuses r (Unmark m.frame word)

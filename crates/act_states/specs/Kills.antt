@@ -1,11 +1,11 @@
 -- The act that kills a component.
-use Rattle.std.specs.Prelude.{◌<◌}
-use Rattle.stage_tcap.specs.{ℕ, Bool, true, false, EntryAt, LiveAt, ClockAt, Shape, Move, LoadOf, CompareOf, StoreOf, AddOf}
+use Rattle.std.specs.Prelude.{◌<◌, ◌∷◌}
+use Rattle.stage_tcap.specs.{ℕ, Bool, true, false, List, [], EntryAt, LiveAt, ClockAt, Shape, Move, LoadOf, CompareOf, StoreOf, AddOf}
 use Rattle.stage_sweep.specs.frame_words.specs.{CompFits, word_of_live}
 use Rattle.stage_sweep.specs.frame_words.specs.declared.live_word.LiveWord.TheVariants.{Closing, Dead}
 use Rattle.act_states.specs.declared.kills.KillingAt.TheVariants.{LoadComp, LoadLive, Close, Draw}
 use Rattle.{stage_sweep.specs.frame_words.specs.declared.comp_word.CompWord.CompWord, act_states.specs.declared.kills.Killing.Killing}
-use Rattle.{act_states.specs.declared.kills.KillingAt.KillingAt}
+use Rattle.act_states.specs.{declared.kills.KillingAt.KillingAt, Keeping.Keeping, Keeping.KeepsWord}
 
 -- what it names is of the machine
 abbrev pub KillingAtFits : KillingAt → Type 0
@@ -39,6 +39,13 @@ is_killing LoadComp = false
 is_killing (LoadLive life) = false
 is_killing (Close life word) = false
 is_killing (Draw life word) = true
+
+-- the number is marked, and its word stands for what was found there until the stamp is drawn
+abbrev pub killing_keeps : KillingAt → List Keeping
+killing_keeps LoadComp = []
+killing_keeps (LoadLive life) = []
+killing_keeps (Close life word) = []
+killing_keeps (Draw life word) = KeepsWord (LiveAt life.number) word ∷ []
 
 -- the steps that are still to come, with the acquiring and the commit of the count where the number's word is not loaded yet
 abbrev pub killing_left : KillingAt → ℕ

@@ -28,6 +28,8 @@ pub mod Refills
 pub mod Invocations
 pub mod Switches
 pub mod Dues
+pub mod Keeping
+pub mod Phases
 pub mod Taking
 pub mod Acts
 pub mod Lookups
@@ -44,7 +46,9 @@ pub use Rattle.act_states.specs.Acts.{maps_at, parts_at, removes_held, stamp_in,
 pub use Rattle.act_states.specs.Comps.{comp_dues, comp_is_marked, comp_due_list, comp_meets_number, comp_published, CompMakingFits, comp_goes, comp_word_at}
 pub use Rattle.act_states.specs.Comps.{number_scanned, closes_number, comp_at, comp_meets, comp_meets_blank, comp_meets_object, comp_refuses, number_met, number_shown}
 pub use Rattle.act_states.specs.Comps.{scans_number, takes_number, CompAtFits, comp_filling, comp_undo}
-pub use Rattle.act_states.specs.Dues.{dues, next_work, invoking_dues, made_dues, returning_dues, cap_dues, killing_dues, acquires, IsSmallChange}
+pub use Rattle.act_states.specs.Dues.{invoking_dues, made_dues, returning_dues, cap_dues, killing_dues, IsSmallChange}
+pub use Rattle.act_states.specs.Phases.{dues, next_work, acquires, phases_of, Aim, is_first_of}
+pub use Rattle.act_states.specs.Keeping.{KeepsWord, KeepsCounters}
 pub use Rattle.act_states.specs.Fills.{filled_if, fill_move, took_fill}
 pub use Rattle.act_states.specs.Invocations.{frame_in, is_entering, is_leaving, enters_if, enters_live, below_in, invoking_at, returning_at}
 pub use Rattle.act_states.specs.Kills.{is_killing, killing_at}

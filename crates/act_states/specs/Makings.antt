@@ -1,14 +1,15 @@
 -- The act that makes an object in a blank kernel frame.
-use Rattle.std.specs.Prelude.{◌+◌, ◌-◌, ◌*◌, ◌<◌, ◌≤◌, if◌then◌else◌}
-use Rattle.stage_tcap.specs.{ℕ, ltb as nat_lt, Bool, true, false, Some, None, EntryAt, FrameAt}
-use Rattle.stage_tcap.specs.{Shape, Move, LoadOf, CompareOf, StoreOf, FrameKind, Obj}
+use Rattle.std.specs.Prelude.{◌+◌, ◌-◌, ◌*◌, ◌<◌, ◌≤◌, ◌∷◌, if◌then◌else◌}
+use Rattle.stage_tcap.specs.{ℕ, ltb as nat_lt, Bool, true, false, List, [], Some, None, EntryAt, FrameAt, Shape, Move, LoadOf, CompareOf}
+use Rattle.stage_tcap.specs.{StoreOf, FrameKind, Obj}
 use Rattle.stage_sweep.specs.frame_words.specs.{Frame.word_of_frame, declared.frame_word.FrameWord.FrameWord}
 use Rattle.act_states.specs.{Fills.FillFits, Fills.fill_move, declared.fills.Fill.Fill, Objects.object_obj, Objects.object_word}
 use Rattle.act_states.specs.{Objects.last_word, Objects.counts_of, Objects.ObjectFits, declared.objects.NewObject.NewObject}
 use Rattle.act_states.specs.{declared.makings.MakingAt.MakingAt, declared.makings.MakingAt.TheVariants.Load}
 use Rattle.act_states.specs.{declared.makings.MakingAt.TheVariants.Mark, declared.makings.MakingAt.TheVariants.Store}
 use Rattle.act_states.specs.{declared.makings.MakingAt.TheVariants.Fill as fill_at, declared.makings.Making.Making, declared.work.Tail.Tail}
-use Rattle.act_states.specs.{declared.work.Tail.TheVariants.Nothing, declared.work.Tail.TheVariants.Unmark}
+use Rattle.act_states.specs.{declared.work.Tail.TheVariants.Nothing, declared.work.Tail.TheVariants.Unmark, Keeping.Keeping}
+use Rattle.act_states.specs.{Keeping.KeepsWord}
 
 -- the word of a blank frame that a core has marked, and that of a frame that holds an object
 abbrev pub marked : ℕ → FrameWord
@@ -57,6 +58,13 @@ undo_at f Load = Nothing
 undo_at f (Mark word) = Nothing
 undo_at f (Store word entry) = Unmark f word
 undo_at f (fill_at word) = Unmark f word
+
+-- the frame is marked, and stands for its word as it was found
+abbrev pub making_keeps : ℕ → MakingAt → List Keeping
+making_keeps f Load = []
+making_keeps f (Mark word) = []
+making_keeps f (Store word entry) = KeepsWord (FrameAt f) word ∷ []
+making_keeps f (fill_at word) = KeepsWord (FrameAt f) word ∷ []
 
 -- whether the next step is the compare of the target
 abbrev pub is_filling : MakingAt → Bool

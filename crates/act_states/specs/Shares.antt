@@ -1,6 +1,6 @@
 -- The acts on two temporal capabilities: a transfer, a delegation, and a test of preemption.
 use Rattle.stage_tcap.specs as low
-use Rattle.std.specs.Prelude.{◌-◌, ◌+◌, ◌==◌, if◌then◌else◌}
+use Rattle.std.specs.Prelude.{◌-◌, ◌+◌, ◌==◌, if◌then◌else◌, ◌∷◌}
 use low.{ℕ, Bool, true, false, Option, Some, None, [], IsTrue, Capability, Reply, Ok, Value, StageEnd, Shape}
 use low.declared.pair.PairAt.TheVariants.{LoadA, MarkA, ListA, LoadB, ListB, CompareB, AgainB, StoreList, StoreB, StoreA}
 use Rattle.act_states.specs.{declared.refusals.Refusal.TheVariants.Raced, declared.refusals.Refusal.TheVariants.Same}
@@ -10,7 +10,8 @@ use Rattle.act_states.specs.{declared.work.WorkStep.WorkStep, declared.work.Work
 use Rattle.act_states.specs.{declared.work.WorkStep.TheVariants.Refuses, declared.work.WorkStep.TheVariants.Answers, Refusals.refusal_of}
 use low.{head, PairFits, pair_after, pair_end, declared.pair.Pair.Pair, declared.pair.PairAt.PairAt, declared.pair.PairWork.PairWork}
 use low.{declared.pair.PairWork.TheVariants.Transfer, declared.pair.PairWork.TheVariants.Delegate, declared.pair.PairWork.TheVariants.Test}
-use Rattle.{act_states.specs.WorkSteps.refuse}
+use low.{List, EntryAt, word_of_head, Pairs.left_a, Pairs.amount_of}
+use Rattle.act_states.specs.{WorkSteps.refuse, Keeping.Keeping, Keeping.KeepsWord}
 
 -- the call is decided with this reply, and has still to store what stands here
 abbrev pub shared : Pair → Reply → WorkStep
@@ -57,6 +58,22 @@ is_storing (AgainB r) = false
 is_storing (StoreList entry) = true
 is_storing StoreB = true
 is_storing (StoreA moved v) = true
+
+-- the first head is marked till it is decided, and stands for what was found there
+abbrev pub head_keeps : Pair → List Keeping
+head_keeps p = KeepsWord (EntryAt p.a 0) (word_of_head (left_a false p.head_a (amount_of p.what))) ∷ []
+
+abbrev pub share_keeps : Pair → PairAt → List Keeping
+share_keeps p LoadA = []
+share_keeps p MarkA = []
+share_keeps p (ListA n) = head_keeps p
+share_keeps p LoadB = head_keeps p
+share_keeps p (ListB n) = head_keeps p
+share_keeps p CompareB = head_keeps p
+share_keeps p (AgainB r) = head_keeps p
+share_keeps p (StoreList n) = []
+share_keeps p StoreB = []
+share_keeps p (StoreA moved v) = []
 
 -- the stores after the deciding step: a delegation stores the eight words of list B and head B before head A
 abbrev pub stores_of : PairWork → ℕ

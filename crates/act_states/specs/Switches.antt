@@ -1,8 +1,8 @@
 -- The act by which a core goes on as another thread, with a temporal capability.
 use Rattle.std.specs.Prelude.{◌≡◌, ◌<◌, ◌≤◌, ◌==◌, ◌∷◌, if◌then◌else◌}
-use Rattle.stage_tcap.specs.{ℕ, pos, negsuc, Bool, true, false, Option, Some, None, List, [], Ok}
-use Rattle.stage_tcap.specs.{Nothing as nothing, StageEnd, DepthFits, word_of_thread, Idle, Running, Claimed as claimed_thread, EntryAt}
-use Rattle.stage_tcap.specs.{ClockAt, Shape, Move, LoadOf, StoreOf, AddOf}
+use Rattle.stage_tcap.specs.{ℕ, pos, negsuc, Bool, true, false, Option, Some, None, List, [], Ok, Nothing as nothing, StageEnd, DepthFits}
+use Rattle.stage_tcap.specs.{word_of_thread, Idle, Running, Claimed as claimed_thread, EntryAt, ClockAt, Shape, Move, LoadOf, StoreOf}
+use Rattle.stage_tcap.specs.{AddOf}
 use Rattle.stage_thread.specs.{Claiming.ClaimFits, Claiming.ClaimedFits, Claiming.claim_move, declared.claim.Claim.Claim as ClaimOf}
 use Rattle.stage_thread.specs.{declared.claim.Claim.TheVariants.AtLoad, declared.claim.Claim.TheVariants.AtCompare}
 use Rattle.stage_thread.specs.{declared.claim.Claim.TheVariants.AtStack, declared.claim.Claimed.Claimed}
@@ -14,7 +14,8 @@ use Rattle.act_states.specs.{declared.switches.SwitchAt.TheVariants.Draw, declar
 use Rattle.act_states.specs.{declared.work.Tail.Tail, declared.work.Tail.TheVariants.Nothing, declared.work.Tail.TheVariants.StoreRunning}
 use Rattle.act_states.specs.{declared.work.Tail.TheVariants.StoreIdle, declared.work.Work.TheVariants.Act as act_work}
 use Rattle.act_states.specs.{declared.work.WorkStep.WorkStep, declared.work.WorkStep.TheVariants.Goes}
-use Rattle.act_states.specs.{declared.work.WorkStep.TheVariants.Refuses, declared.work.WorkStep.TheVariants.Changes}
+use Rattle.act_states.specs.{declared.work.WorkStep.TheVariants.Refuses, declared.work.WorkStep.TheVariants.Changes, Keeping.Keeping}
+use Rattle.act_states.specs.{Keeping.KeepsWord}
 
 -- what it names is of the machine
 abbrev pub SwitchAtFits : Shape → SwitchAt → Type 0
@@ -108,6 +109,26 @@ switching_undo (LoadTable to) = gives_back to
 switching_undo (LoadPages to table) = gives_back to
 switching_undo (Leave to table pages) = gives_back to
 switching_undo (Draw to table pages) = gives_back to
+
+-- a thread that is claimed stands for the idle one that was found, and the core's own, from when it is stored as claimed, for the running
+-- one
+abbrev pub idle_keeps : ℕ → ℕ → List Keeping
+idle_keeps f depth = KeepsWord (EntryAt f 0) (word_of_thread (Idle depth)) ∷ []
+
+abbrev pub claim_keeps : ClaimOf → List Keeping
+claim_keeps (AtLoad f core) = []
+claim_keeps (AtCompare f core depth) = []
+claim_keeps (AtStack f depth) = idle_keeps f depth
+
+abbrev pub switching_keeps : Switching → SwitchAt → List Keeping
+switching_keeps m (Claim claim) = claim_keeps claim
+switching_keeps m (LoadTable to) = idle_keeps to.thread to.depth
+switching_keeps m (LoadPages to table) = idle_keeps to.thread to.depth
+switching_keeps m (Leave to table pages) = idle_keeps to.thread to.depth
+switching_keeps m (Draw to table pages) =
+    KeepsWord (EntryAt to.thread 0) (word_of_thread (Idle to.depth))
+    ∷ KeepsWord (EntryAt m.old 0) (word_of_thread (Running m.core m.old_depth))
+    ∷ []
 
 -- it goes on here
 abbrev pub switch_goes : Switching → SwitchAt → WorkStep

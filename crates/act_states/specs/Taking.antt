@@ -1,7 +1,7 @@
 -- What the act of a call takes from its step: what it goes on with, or what it is decided with.
 use Rattle.std.specs.Prelude.{◌==◌, if◌then◌else◌}
-use Rattle.stage_tcap.specs.{ℕ, Bool, true, false, Option, Some, None, [], Nothing as nothing, StageEnd, Shape}
-use Rattle.stage_tcap.specs.{FrameKind, Untyped, User, Kernel, Obj, Blank}
+use Rattle.stage_tcap.specs.{ℕ, Bool, true, false, Option, Some, None, [], Nothing as nothing, StageEnd, Shape, FrameKind, Untyped, User}
+use Rattle.stage_tcap.specs.{Kernel, Obj, Blank}
 use Rattle.stage_sweep.specs.frame_words.specs.{comp_of_word, live_of_word, word_of_frame, frame_of_word}
 use Rattle.stage_sweep.specs.{swept_of, sweep_end, sweep_after}
 use Rattle.stage_sweep.specs.stage_quiet.specs.{quiet_after, quiet_end, drawn_stamp}
@@ -36,7 +36,7 @@ use Rattle.act_states.specs.{Switches.switch_table, Switches.switched, declared.
 use Rattle.act_states.specs.{declared.untypings.UntypingAt.UntypingAt, declared.untypings.UntypingAt.TheVariants.Load as untype_load}
 use Rattle.act_states.specs.{declared.untypings.UntypingAt.TheVariants.Mark as untype_mark}
 use Rattle.act_states.specs.{declared.untypings.UntypingAt.TheVariants.Sweep as untype_sweep}
-use Rattle.act_states.specs.{declared.untypings.UntypingAt.TheVariants.Draw as untype_draw, Untypings.release_of, Dues.next_work}
+use Rattle.act_states.specs.{declared.untypings.UntypingAt.TheVariants.Draw as untype_draw, Untypings.release_of, Phases.next_work}
 use Rattle.{stage_thread.specs.declared.claim.Claimed.Claimed, stage_sweep.specs.frame_words.specs.declared.frame_word.FrameWord.FrameWord}
 
 -- what a making takes from its step

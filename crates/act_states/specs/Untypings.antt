@@ -1,8 +1,7 @@
 -- The act that makes a user frame or a kernel frame untyped again.
 use Rattle.std.specs.Prelude.{◌+◌, ◌-◌, ◌*◌, ◌<◌, ◌≤◌, ◌≡◌, ◌∷◌, if◌then◌else◌}
-use Rattle.stage_tcap.specs.{ℕ, negsuc, ltb as nat_lt, Bool, true, false, Option, Some, None, IfSome, List}
-use Rattle.stage_tcap.specs.{[], length, FrameKind, Obj, StageEnd, FrameAt, ClockAt, Shape, Move, LoadOf, CompareOf}
-use Rattle.stage_tcap.specs.{StoreOf, AddOf}
+use Rattle.stage_tcap.specs.{ℕ, negsuc, ltb as nat_lt, Bool, true, false, Option, Some, None, IfSome, List, [], length, FrameKind, Obj}
+use Rattle.stage_tcap.specs.{StageEnd, FrameAt, ClockAt, Shape, Move, LoadOf, CompareOf, StoreOf, AddOf}
 use Rattle.stage_sweep.specs.{counters_of, loads_of, SweepFits, sweep_move, swept_of, ThawFits, thaw_of}
 use Rattle.stage_sweep.specs.frame_words.specs.{FrameFits, word_of_frame}
 use Rattle.spk_nums.specs.declared.steps.StageEnd.TheVariants.{Going, Decided, Done, Refuse}
@@ -14,6 +13,7 @@ use Rattle.act_states.specs.{declared.untypings.UntypingAt.TheVariants.Mark, dec
 use Rattle.act_states.specs.{declared.untypings.UntypingAt.TheVariants.Draw, declared.untypings.Untyping.Untyping}
 use Rattle.act_states.specs.{declared.untypings.Release.Release, declared.work.Due.Due, declared.work.Tail.Tail}
 use Rattle.act_states.specs.{declared.work.Tail.TheVariants.Nothing, declared.work.Tail.TheVariants.Release as release_tail}
+use Rattle.act_states.specs.{Keeping.Keeping, Keeping.KeepsWord, Keeping.KeepsCounters}
 use Rattle.{stage_sweep.specs.frame_words.specs.declared.frame_word.FrameWord.FrameWord}
 use Rattle.{stage_sweep.specs.stage_quiet.specs.declared.quiet.Quiet.Quiet, stage_sweep.specs.declared.thaw.Thaw.Thaw}
 
@@ -151,6 +151,16 @@ untyping_undo f Load = Nothing
 untyping_undo f (Mark word v) = Nothing
 untyping_undo f (sweep_at word w) = release_tail (release_of f word (swept_of w) false)
 untyping_undo f (Draw word w) = release_tail (release_of f word w false)
+
+-- until then the frame is marked, and so are its frozen counters: these stand for what is to be stored
+abbrev pub release_keeps : Release → List Keeping
+release_keeps x = KeepsWord (FrameAt x.frame) x.word ∷ KeepsCounters x.thaw ∷ []
+
+abbrev pub untyping_keeps : ℕ → UntypingAt → List Keeping
+untyping_keeps f Load = []
+untyping_keeps f (Mark word v) = []
+untyping_keeps f (sweep_at word w) = release_keeps (release_of f word (swept_of w) false)
+untyping_keeps f (Draw word w) = release_keeps (release_of f word w false)
 
 -- the loads of a scan that are still to come, on so many cores: of the other cores' words, and then of all flush words
 abbrev pub others_left : ℕ → ℕ → ℕ → ℕ

@@ -266,9 +266,6 @@ module _ (own : Own) (a : ActiveCall) (facts : Facts own a) (room : own.made < o
 
   undo_fits : (act : ActType) → ActFits own.layout act
       → TailFits own.layout (undo act) × (tail_left (undo act) ≤ act_left own.layout.cores act)
-  undo_fits (fill_act fill) fits = (tt, omega arith)
-  undo_fits (remove_act close cap) fits = (tt, omega arith)
-  undo_fits (type_act typing) fits = (tt, omega arith)
   undo_fits (make_act m) fits = by m.at
     where
       by : (at : MakingAt) → TailFits own.layout (undo_at m.frame at) × (tail_left (undo_at m.frame at) ≤ making_left m.object at)
@@ -276,19 +273,10 @@ module _ (own : Own) (a : ActiveCall) (facts : Facts own a) (room : own.made < o
       by (Mark word) = (tt, omega arith)
       by (Store word entry) = (fits.frame, omega arith)
       by (fill_at word) = (fits.frame, omega arith)
-  undo_fits (map_act fill) fits = (tt, omega arith)
-  undo_fits (Outside node entry word) fits = (tt, omega arith)
-  undo_fits (tick_act charge) fits = (tt, omega arith)
-  undo_fits (touch_act m) fits = (tt, omega arith)
-  undo_fits (flush_act core) fits = (tt, omega arith)
-  undo_fits (kill_act m) fits = (tt, omega arith)
-  undo_fits (invoke_act m) fits = (tt, omega arith)
-  undo_fits (return_act m) fits = (tt, omega arith)
   undo_fits (switch_act m) fits = switching_undone own m m.at fits
   undo_fits (untype_act m) fits = undone_fits own.layout m m.at facts.own_fits.shape fits
   undo_fits (comp_act m) fits = comp_undone own m m.at fits
-  undo_fits (share_act p) fits = (tt, omega arith)
-  undo_fits (refill_act r) fits = (tt, omega arith)
+  undo_fits act fits = (tt, omega arith)
 
   scan_end_fits : (left : ℕ) (act : ActType) (q : Quiet) (end : StageEnd (Unit {0})) → a.counts ≡ [] → ActFits own.layout act
       → (end ≡ StageEnd.Going → QuietFits own.layout q × ScanFits own.layout q ×

@@ -1,13 +1,13 @@
 -- A call carried out with a value, or put back.
-use Rattle.seq_state.proofs.{◌≡◌, ◌≢◌, inl, inr, ℕ, ◌<◌, ◌==◌, true, false, if◌then◌else◌, refl, sym, ◌∙◌, ap, subst, [], ◌∷◌, Option, Some}
-use Rattle.seq_state.proofs.{None, IsTrue, IsFalse, false≢true, true≢false, FrameKind, Call, Look, Copy, Remove, Grow, Shrink, Retype}
-use Rattle.seq_state.proofs.{Make as make_call, Map, Unmap, Touch, Flush, Gate, Kill, Ret, Switch, Tick, Transfer, Delegate, Test, Part}
-use Rattle.seq_state.proofs.{Replenish, Translation, Value, Nothing, Reply, Limits, State, with_frame, with_core, comp_of, thread_in, found}
+use Rattle.seq_state.proofs.{◌≡◌, ◌≢◌, inl, inr, ℕ, ◌<◌, true, false, refl, sym, ◌∙◌, ap, subst, [], Option, Some}
+use Rattle.seq_state.proofs.{None, IsTrue, IsFalse, false≢true, true≢false, FrameKind, Call, Look, Retype}
+use Rattle.seq_state.proofs.{Make as make_call, Touch, Switch, Tick, Test}
+use Rattle.seq_state.proofs.{Translation, Value, Nothing, Reply, Limits, State, with_frame, with_core, comp_of, thread_in, found}
 use Rattle.seq_state.proofs.{begun, Change, Judged, Refused, Found, translation_of, touch_by, switch_to, rule_of, change_of, reply_in}
 use Rattle.seq_state.proofs.{IfFound, state_of, SameState, Represents, same_then, same_grace_by, same_frame, same_core}
 use Rattle.seq_state.specs.kernel_rules.proofs.{Make, Core, Frame, IsRefusal, AllChanges, outcome_all, put_same, put_other}
 use Rattle.call_judge.specs.{Judged.RefusesPlainly, Judged.CarriesOut, Judged.IsAnswerOf, Putting.AgreesBut, Putting.answers_value}
-use Rattle.{std.proofs.lemmas.Bool.cases_eq, spk_nums.specs.declared.calls.Call.TheVariants.Call as call_gate}
+use Rattle.{std.proofs.lemmas.Bool.cases_eq}
 use Rattle.{seq_state.specs.kernel_rules.proofs.AloneLaw.core_inside, seq_state.specs.Maps.Maps, seq_lookups.specs.Carried.IsCarriedOut}
 
 value_is : (v u : Value) → Reply.Ok v ≡ Reply.Ok u → v ≡ u
@@ -18,19 +18,6 @@ value_is v u e = cc
 answers_nothing : Change → Type 0
 answers_nothing change = change.value ≡ Nothing
 
-nothing_made : (s : State) (c : ℕ) (what : Make) (r f x b : ℕ)
-    → AllChanges s c (λ change. change.value ≡ Nothing) (Rattle.seq_state.specs.kernel_rules.specs.CapabilityCalls.make_rule s what r f x b)
-nothing_made s c Make.Table r f x b = λ range table at. refl
-nothing_made s c (Make.Thread comp) r f x b = λ range table comp at. refl
-nothing_made s c (Make.Comp y p l) r f x b = λ range table own_table own_pages at. refl
-nothing_made s c _ r f x b = λ range table at. refl
-
-nothing_typed : (s : State) (c : ℕ) (r f : ℕ) (k : FrameKind)
-    → AllChanges s c (λ change. change.value ≡ Nothing) (Rattle.seq_state.specs.kernel_rules.specs.MemoryCalls.retype_rule s r f k)
-nothing_typed s c r f FrameKind.Untyped = λ range. refl
-nothing_typed s c r f FrameKind.User = λ range. refl
-nothing_typed s c r f FrameKind.Kernel = λ range. refl
-
 nothing_switched : (s : State) (c : ℕ) (h : Rattle.seq_state.specs.kernel_rules.specs.Access.Named) (q : ℕ) (e : Option ℕ)
     → AllChanges s c (λ change. change.value ≡ Nothing) (switch_to h q e)
 nothing_switched s c h q None = refl
@@ -39,28 +26,14 @@ nothing_switched s c h q (Some e) = refl
 nothing : (s : State) (c : ℕ) (call : Call) → IsFalse (answers_value call)
     → AllChanges s c (λ change. change.value ≡ Nothing) (rule_of s c call)
 nothing s c (Look a) plain = absurd (true≢false plain)
-nothing s c (Copy a x b rights) plain = λ cap table at. refl
-nothing s c (Remove x b) plain = λ table at k. refl
-nothing s c (Grow x i l) plain = λ table leaf at. refl
-nothing s c (Shrink x i) plain = λ table at k. refl
-nothing s c (Retype r f k) plain = nothing_typed s c r f k
-nothing s c (make_call what r f x b) plain = nothing_made s c what r f x b
-nothing s c (Map p v r f w) plain = λ pages range at. refl
-nothing s c (Unmap p v) plain = λ pages at k. refl
+nothing s c (Retype r f FrameKind.Untyped) plain = λ range. refl
+nothing s c (make_call Make.Table r f x b) plain = λ range table at. refl
 nothing s c (Touch v) plain = absurd (true≢false plain)
-nothing s c Flush plain = refl
-nothing s c (Gate k x b) plain = λ comp table at. refl
-nothing s c (Kill k) plain = λ comp. refl
-nothing s c (call_gate g) plain = λ gate. refl
-nothing s c Ret plain = refl
 nothing s c (Switch h q) plain = λ thread tcap.
     nothing_switched s c (found thread) tcap.frame (thread_in (s.frame thread.frame)).runs_on
 nothing s c (Tick n) plain = absurd (true≢false plain)
-nothing s c (Transfer a b m) plain = λ x y. refl
-nothing s c (Delegate a b m) plain = λ x y. refl
 nothing s c (Test a b) plain = absurd (true≢false plain)
-nothing s c (Replenish a m) plain = λ x. refl
-nothing s c (Part r f n x b) plain = λ range table at. refl
+nothing s c _ plain = search
 
 -- ---- calls that answer a value
 

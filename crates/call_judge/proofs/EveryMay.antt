@@ -1,9 +1,9 @@
 -- Every call may be refused alike in two states that are one for the machine, one of them reached.
 use Rattle.plain_kernel.specs.kernel_laws.proofs as low
-use low.{◌≡◌, ℕ, ◌+◌, ◌<◌, ◌==◌, Bool, true, false, not, ◌&&◌, refl, sym, ◌∙◌, ap, subst, leb as nat_le, ltb as nat_lt, if◌then◌else◌}
-use low.{arith, [], ◌∷◌, length, Option, Some, None, IsTrue, min, false≢true, ltb-true, Capability, covers, InLimits, Kind, Translation}
-use low.{Call, Look, Copy, Remove, Grow, Shrink, Retype, Make as make_call, Map, Unmap, Touch, Flush, Gate, Kill, Ret, Switch, Tick}
-use low.{Transfer, Delegate, Test, Part, Replenish, Limits, CompFields, ThreadFields, TcapFields, Object, State, comp_in, comp_of}
+use low.{◌≡◌, ℕ, ◌<◌, ◌==◌, Bool, true, false, not, ◌&&◌, refl, sym, ◌∙◌, ap, subst, leb as nat_le, ltb as nat_lt, if◌then◌else◌}
+use low.{arith, [], length, Option, Some, None, IsTrue, min, false≢true, ltb-true, Capability, covers, InLimits, Kind, Translation}
+use low.{Call, Retype, Make as make_call, Map, Touch, Gate, Kill, Ret, Switch}
+use low.{Transfer, Delegate, Replenish, Limits, CompFields, ThreadFields, TcapFields, Object, State, comp_in, comp_of}
 use low.{thread_in, tcap_in, Core, outstanding, to_use, Named, found, only, root, Judged, Refused, Found, named, name_of, is_live, epoch_of}
 use low.{is_blank, not_blank, is_untyped, is_user, is_empty, translation_of, touch_by, retype_rule, switch_to, is_live_in, are_alike}
 use low.{tcap_at, rule_of, fits, is_node, named_fit, FrameKind, Reply}
@@ -305,28 +305,18 @@ retype_judged {t} {s} {o} {c} w r f =
 
 pub every_may : {t s : State} {o : ℕ → Bool} {c : ℕ} (w : Twins t s o c) (call : Call) → InLimits call
     → SameMayRule w (judged_rule t c call) (judged_rule s c call)
-every_may w (Look a) fits = (refl, refl, tt)
-every_may w (Copy a x b rights) fits = (refl, refl, (refl, refl, (refl, table_root w x, tt)))
-every_may w (Remove x b) fits = (refl, refl, (refl, table_root w x, λ at k. tt))
-every_may w (Grow x i l) fits = (refl, refl, (refl, refl, (refl, root_root w x, tt)))
-every_may w (Shrink x i) fits = (refl, refl, (refl, root_root w x, λ at k. tt))
 every_may w (Retype r f FrameKind.Untyped) fits = retype_judged w r f
 every_may w (Retype r f FrameKind.User) fits = user_may w r f
 every_may w (Retype r f FrameKind.Kernel) fits = kernel_may w r f
 every_may w (make_call what r f x b) fits = make_may w what r f x b fits
 every_may w (Map p v r f flags) fits =
     (refl, refl, (refl, refl, (refl, pages_root w p, ((refl, λ on. refl), ((frame_test w f (λ x. not (is_user x)), λ on. refl), tt)))))
-every_may w (Unmap p v) fits = (refl, refl, (refl, pages_root w p, λ at k. tt))
 every_may w (Touch v) fits = touch_may w v
-every_may w Flush fits = tt
-every_may w (Gate k x b) fits = (refl, refl, (refl, refl, (refl, table_root w x, tt)))
 every_may w (Kill k) fits = kill_may w k
 every_may w (call_gate g) fits = call_may w g
 every_may w Ret fits = ret_may w
 every_may w (Switch h q) fits = switch_may w h q
-every_may w (Tick n) fits = tt
 every_may w (Transfer a b m) fits = transfer_may w a b m
 every_may w (Delegate a b m) fits = delegate_may w a b m
-every_may w (Test a b) fits = (refl, refl, (refl, refl, ((refl, λ on. refl), tt)))
 every_may w (Replenish a m) fits = replenish_may w a m
-every_may w (Part r f n x b) fits = (refl, refl, (refl, refl, (refl, table_root w x, ((refl, λ on. refl), tt))))
+every_may w _ fits = search (table_root w, pages_root w, root_root w)

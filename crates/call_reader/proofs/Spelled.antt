@@ -7,27 +7,7 @@ use Rattle.{std.proofs.lemmas.Slice.Eq.bytes_eq-Decides, line_reader.specs.Argum
 word_of : (version : ℕ) (v : Verb) → first_word version (spelled v) ≡ in_version version v
 unfolding first_word verb_of later_verb_of is_word
 word_of version Verb.Look = refl
-word_of version Verb.Copy = refl
-word_of version Verb.Remove = refl
-word_of version Verb.Grow = refl
-word_of version Verb.Shrink = refl
-word_of version Verb.Retype = refl
-word_of version Verb.Make = refl
-word_of version Verb.Map = refl
-word_of version Verb.Unmap = refl
-word_of version Verb.Touch = refl
-word_of version Verb.Flush = refl
-word_of version Verb.Gate = refl
-word_of version Verb.Kill = refl
-word_of version Verb.Call = refl
-word_of version Verb.Ret = refl
-word_of version Verb.Switch = refl
-word_of version Verb.Tick = refl
-word_of version Verb.Transfer = refl
-word_of version Verb.Delegate = refl
-word_of version Verb.Test = refl
-word_of version Verb.Part = refl
-word_of version Verb.Replenish = refl
+word_of version _ = refl
 
 is_same : (word name : List ℕ) → is_word word name ≡ true → word ≡ name
 unfolding is_word

@@ -5,15 +5,12 @@ use low.{PageFlags, FrameKind, Call, Copy, Remove, Shrink, Unmap, Retype, Make a
 use low.{Delegate, Test, Part, Replenish, Entry, found, Target as place, Under, InRoot, plan_for, fills_with, removes_held, removes_at}
 use low.{act_begun, types_if, types_at, stamp_in, filling, starts, scans, makes_at, kills_in, kills_at, maps_if, maps_at, parts_at}
 use low.{comps_at, made_begun, invokes_if, invokes_in, invokes_at, returns_if, switches_at, First, Second, Third, Fourth, Kind, looks_under}
-use low.{looks_entry, looks_at, refills_at, PairWork}
-use low.declared.work.Act.TheVariants.{Fill as fill_act, Remove as remove_act, Retype as type_act, Make as make_act, Outside}
-use low.declared.work.Act.TheVariants.{Tick as tick_act, Flush as flush_act, Kill as kill_act, Untype as untype_act, Map as map_act}
-use low.declared.work.Act.TheVariants.{MakeComp as comp_act, Invoke as invoke_act, Return as return_act, Switch as switch_act}
-use low.declared.work.Act.TheVariants.{Touch as touch_act, Share as share_act, Refill as refill_act}
-use low.{stage_tcap.specs.Make, stage_tcap.specs.Look as look_call, stage_look.specs.declared.look.Found.Found, declared.own.Own.Own}
-use low.{declared.objects.NewObject.NewObject, Objects.object_made, declared.work.Act.Act as ActType}
+use low.{looks_entry, looks_at, refills_at, PairWork, stage_tcap.specs.Make, stage_tcap.specs.Look as look_call}
+use low.{stage_look.specs.declared.look.Found.Found, declared.own.Own.Own, declared.objects.NewObject.NewObject, Objects.object_made}
+use low.{declared.work.Act.Act as ActType}
 use Rattle.{spk_nums.specs.declared.calls.Call.TheVariants.Call as call_gate, call_stages.specs.Steps.decides_at_name}
 use Rattle.{call_stages.proofs.Answering.NoAnswer, call_stages.proofs.ShareDecisions.shares_no}
+use Rattle.act_states.specs.{phases_of, Acts.starts_if}
 
 pub under_no : (within : Bool) (top n : ℕ) → NoAnswer (looks_under within top n)
 under_no true top n = tt
@@ -29,23 +26,11 @@ target_no (InRoot table i) = entry_no _ table.frame i
 
 -- The act of a call that is not decided where its last name is found answers nothing when it begins.
 pub starts_no : (core : ℕ) (act : ActType) → NoAnswer (starts core act)
-starts_no core (Outside node entry word) = tt
-starts_no core (fill_act fill) = tt
-starts_no core (remove_act close cap) = tt
-starts_no core (type_act typing) = tt
-starts_no core (make_act m) = tt
-starts_no core (map_act fill) = tt
-starts_no core (tick_act charge) = tt
-starts_no core (touch_act m) = tt
-starts_no core (flush_act by) = tt
-starts_no core (kill_act m) = tt
-starts_no core (untype_act m) = tt
-starts_no core (comp_act m) = tt
-starts_no core (invoke_act m) = tt
-starts_no core (return_act m) = tt
-starts_no core (switch_act m) = tt
-starts_no core (share_act p) = tt
-starts_no core (refill_act r) = tt
+starts_no core act = by (phases_of act).within
+  where
+    by : (within : Bool) → NoAnswer (starts_if within core act)
+    by true = tt
+    by false = tt
 
 pub scans_no : (core : ℕ) (o : Option Quiet) (act : ActType) → NoAnswer (scans core o act)
 scans_no core None act = starts_no core act

@@ -1,33 +1,17 @@
 -- When a call is decided, and what a step of it may decide.
 use Rattle.act_states.specs as low
-use low.{AtCompare, AtDraw, AtStore, Quiet, quiet_after, quiet_end, Pin, Pinned, Acquired, pin_after, pin_end, ◌≡◌, ℕ, ℤ, ◌+◌, ◌==◌, ◌&&◌}
-use low.{Bool, true, false, List, [], ◌∷◌, length, Option, Some, None, refl, leb as nat_le, ◌||◌, pushed, Capability, FrameKind, Call, Copy}
-use low.{Remove, Shrink, Unmap, Retype, Make as make_call, Tick, Gate, Kill, Grow, Flush, Map, Ret, Switch, Transfer, Delegate, Test, Part}
-use low.{Replenish, Reply, Entry, found, shown_in, is_link, look_end, look_after, end_by_link, place_end, Look, AtRoot, AtLeaf, AtEntry}
-use low.{StageEnd, Name, Nowhere, Plan, plan_for, took_charge, took_tick, is_charging, Charge, charged_end, head, word_of_head, min}
-use low.{is_some, is_filling, alive_end, alive_after, Alive, refusal_of, filled_if, refuse, took_act, act_ready, reads_of, act_begun}
-use low.{starts, published, took_making_at, took_killing_at, took_untyping_at, took_comp_at, took_invoking_at, took_returning_at}
-use low.{took_switching_at, comp_filling, comp_published, live_of_word, CompWord, LiveWord, is_killing, Shape, is_drawing, is_entering}
-use low.{enters_if, enters_live, is_leaving, is_switching, typed_if, took_typing_at, is_typing, read_first, next_step, met_free, met_held}
-use low.{Translation, touches_if, touch_end, touched, is_at_page, with_found, names_after, next_in, next_of, Next, NextName, NextFree}
-use low.{NextHeld, NextOwn, NextNothing, took_refilled, took_refill, refill_after, Refill, RefillAt}
+use low.{Quiet, quiet_after, quiet_end, Pin, Pinned, Acquired, pin_after, pin_end, ◌≡◌, ℕ, ℤ, ◌+◌, ◌==◌, ◌&&◌, Bool, true, false, List, []}
+use low.{◌∷◌, length, Option, Some, None, refl, leb as nat_le, pushed, Capability, FrameKind, Call, Copy, Remove, Shrink, Unmap, Retype}
+use low.{Make as make_call, Tick, Gate, Kill, Grow, Flush, Map, Ret, Switch, Transfer, Delegate, Test, Part, Replenish, Reply, Entry, found}
+use low.{is_link, end_by_link, place_end, Look, AtRoot, AtLeaf, AtEntry, StageEnd, Name, Nowhere, Plan, plan_for, alive_end, alive_after}
+use low.{Alive, refusal_of, refuse, took_act, reads_of, act_begun, starts, CompWord, read_first, next_step, met_free, met_held, touches_if}
+use low.{with_found, names_after, next_in, next_of, Next, NextName, NextFree, NextHeld, NextOwn, NextNothing}
 use Rattle.call_stages.specs.{FoundFits, IsFirst, IsActive, took_tail, tail_counts, GoesOn, landed, next_by, found_more, took_first}
 use Rattle.call_stages.specs.{took_enter, took_alive, named_one, read_more, took_read, took_found, took_end, took_look, took_scan}
 use Rattle.call_stages.specs.{took_count, gives_up, took_work, went_with, took_at, reply_at}
 use low.stage_tcap.proofs.{sym, ap, subst, arith, eqb-true, Untyped, User, Kernel, Make, Look as look_call}
 use low.{declared.own.Own.Own, declared.lookups.Met.Met, declared.lookups.Met.TheVariants.Finds, declared.lookups.Met.TheVariants.Refused}
-use low.{declared.makings.Making.Making, declared.makings.MakingAt.MakingAt, declared.makings.MakingAt.TheVariants.Load as make_load}
-use low.{declared.makings.MakingAt.TheVariants.Mark, declared.makings.MakingAt.TheVariants.Store}
-use low.{declared.makings.MakingAt.TheVariants.Fill as fill_at, declared.work.Act.Act as ActType}
-use low.{declared.work.Act.TheVariants.Fill as fill_act, declared.work.Act.TheVariants.Remove as remove_act}
-use low.{declared.work.Act.TheVariants.Retype as type_act, declared.work.Act.TheVariants.Make as make_act}
-use low.{declared.work.Act.TheVariants.Outside, declared.work.Act.TheVariants.Tick as tick_act}
-use low.{declared.work.Act.TheVariants.Flush as flush_act, declared.work.Act.TheVariants.Kill as kill_act}
-use low.{declared.work.Act.TheVariants.Untype as untype_act, declared.work.Act.TheVariants.Map as map_act}
-use low.{declared.work.Act.TheVariants.MakeComp as comp_act, declared.work.Act.TheVariants.Invoke as invoke_act}
-use low.{declared.work.Act.TheVariants.Return as return_act, declared.work.Act.TheVariants.Switch as switch_act}
-use low.{declared.work.Act.TheVariants.Touch as touch_act, declared.work.Act.TheVariants.Share as share_act}
-use low.{declared.work.Act.TheVariants.Refill as refill_act, declared.work.Work.Work, declared.work.Work.TheVariants.Lookup}
+use low.{declared.work.Act.Act as ActType, declared.work.Work.Work, declared.work.Work.TheVariants.Lookup}
 use low.{declared.work.Work.TheVariants.Read, declared.work.Work.TheVariants.Scan, declared.work.Work.TheVariants.Acquire}
 use low.{declared.work.Work.TheVariants.Act, declared.work.Tail.Tail, declared.work.Tail.TheVariants.Nothing}
 use low.{declared.work.Tail.TheVariants.Quiesce, declared.work.Tail.TheVariants.Unmark, declared.work.Tail.TheVariants.StoreDead}
@@ -36,22 +20,13 @@ use low.{declared.work.Tail.TheVariants.Push as push_tail, declared.work.Tail.Th
 use low.{declared.work.Tail.TheVariants.StoreRunning, declared.work.Tail.TheVariants.StoreIdle, declared.work.Tail.TheVariants.Share}
 use low.{declared.work.WorkStep.WorkStep, declared.work.WorkStep.TheVariants.Goes, declared.work.WorkStep.TheVariants.Acquires}
 use low.{declared.work.WorkStep.TheVariants.Refuses as refuses_to, declared.work.WorkStep.TheVariants.Answers}
-use low.{declared.work.WorkStep.TheVariants.Changes as work_changes, declared.comps.CompAt.CompAt, declared.comps.CompMaking.CompMaking}
-use low.{declared.kills.Killing.Killing, declared.kills.KillingAt.KillingAt, declared.kills.KillingAt.TheVariants.LoadComp}
-use low.{declared.kills.KillingAt.TheVariants.LoadLive, declared.kills.KillingAt.TheVariants.Close as kill_close}
-use low.{declared.kills.KillingAt.TheVariants.Draw as kill_draw, declared.untypings.Untyping.Untyping}
-use low.{declared.untypings.UntypingAt.UntypingAt, declared.invocations.Invoking.Invoking, declared.invocations.InvokingAt.InvokingAt}
-use low.{declared.invocations.Returning.Returning, declared.invocations.ReturningAt.ReturningAt, declared.switches.Switching.Switching}
-use low.{declared.switches.SwitchAt.SwitchAt, declared.typings.Typing.Typing, declared.typings.TypingAt.TypingAt}
-use low.{declared.typings.TypingAt.TheVariants.Load, declared.typings.TypingAt.TheVariants.Compare as type_compare}
+use low.{declared.work.WorkStep.TheVariants.Changes as work_changes}
 use Rattle.call_stages.specs.declared.stages.Stage.TheVariants.{Enter, Living, Undecided, Decided, Leave}
 use Rattle.call_stages.specs.Steps.{is_last, decides_at_name, is_last_name, work_ready, ready_at}
 use Rattle.call_stages.specs.Laws.{Turns, DecidesOnce, Refuses, UnreadyRefuses, IsDecision, ReadyDecides}
-use Rattle.call_stages.proofs.{Answering.NoAnswer, Answering.IsOver, ShareDecisions.share_over, Unready.act_unready, Beginning.under_no}
+use Rattle.call_stages.proofs.{Answering.NoAnswer, Answering.IsOver, Ends.act_unready, Ends.act_over, Beginning.under_no}
 use low.{call_plans.specs.any_cap, call_plans.specs.plan_of_retype, call_plans.specs.plan_of_make, stage_look.specs.Lookup.root_end}
-use low.{stage_look.specs.declared.look.Found.Found, call_plans.specs.declared.plans.Target.Target, declared.touches.Touching.Touching}
-use low.{Refills.is_refilling, declared.refusals.Refusal.Refusal, stage_tcap.specs.declared.charge.Charge.TheVariants.AtLoad as charge_load}
-use low.{stage_tcap.specs.declared.charge.Charge.TheVariants.AtCompare as charge_compare, stage_tcap.specs.Refilling.won}
+use low.{stage_look.specs.declared.look.Found.Found, call_plans.specs.declared.plans.Target.Target, declared.refusals.Refusal.Refusal}
 use Rattle.{spk_nums.specs.Rights.neither, spk_nums.specs.declared.calls.Call.TheVariants.Call as call_gate}
 use Rattle.{act_states.proofs.Refusing.refusal_refuses, call_stages.specs.declared.stages.Stage.Stage}
 use Rattle.{call_stages.specs.declared.stages.ActiveCall.ActiveCall, call_stages.proofs.Beginning.target_no}
@@ -370,152 +345,6 @@ landed_decides a (refuses_to r tail) over = tt
 landed_decides a (Answers v drawn tail) over = tt
 landed_decides a (work_changes r change drawn tail) over = tt
 
-fill_decides : (a : ActiveCall) (equal : Bool) → IsDecision (landed a (filled_if equal))
-fill_decides a true = tt
-fill_decides a false = tt
-
-typed_decides : (a : ActiveCall) (equal : Bool) → IsDecision (landed a (typed_if equal))
-typed_decides a true = tt
-typed_decides a false = tt
-
-typing_decides : (a : ActiveCall) (y : Typing) (at : TypingAt) (found : ℕ) → is_typing at ≡ true
-    → IsDecision (landed a (took_typing_at y at found))
-typing_decides a y Load found ready = absurd (cc)
-typing_decides a y (type_compare word) found ready = typed_decides a _
-
-published_decides : (a : ActiveCall) (m : Making) (word : ℕ) (equal : Bool) → IsDecision (landed a (published m word equal))
-published_decides a m word true = tt
-published_decides a m word false = tt
-
-making_decides : (a : ActiveCall) (m : Making) (at : MakingAt) (found : ℕ) → is_filling at ≡ true
-    → IsDecision (landed a (took_making_at m at found))
-making_decides a m make_load found ready = absurd (cc)
-making_decides a m (Mark word) found ready = absurd (cc)
-making_decides a m (Store word entry) found ready = absurd (cc)
-making_decides a m (fill_at word) found ready = published_decides a m word _
-
-charge_decides : (a : ActiveCall) (charge : Charge) (found : ℕ) → is_charging charge ≡ true → IsDecision (landed a (took_tick charge found))
-charge_decides a (charge_load tcap ticks) found ready = absurd (cc)
-charge_decides a (charge_compare tcap ticks budget version) found ready = by (found == word_of_head (head budget version))
-  where
-    by : (equal : Bool) → IsDecision (landed a (took_charge ticks (charge_compare tcap ticks budget version)
-        (charged_end equal (min ticks budget))))
-    by true = tt
-    by false = tt
-
-refill_decides : (a : ActiveCall) (r : Refill) (at : RefillAt) (found : ℕ) → is_refilling at ≡ true
-    → IsDecision (landed a (took_refill (record r { at = at }) found))
-refill_decides a r RefillAt.Load found ready = absurd (cc)
-refill_decides a r (RefillAt.List entry) found ready = absurd (cc)
-refill_decides a r RefillAt.Compare found ready = by (found == word_of_head r.head)
-  where
-    by : (equal : Bool) → IsDecision (landed a (took_refilled (refill_after (record r { at = RefillAt.Compare }) found) (won equal)))
-    by true = tt
-    by false = tt
-refill_decides a r RefillAt.Again found ready = absurd (cc)
-
-killing_decides : (a : ActiveCall) (m : Killing) (at : KillingAt) (found : ℕ) → is_killing at ≡ true
-    → IsDecision (landed a (took_killing_at m at found))
-killing_decides a m LoadComp found ready = absurd (cc)
-killing_decides a m (LoadLive life) found ready = absurd (cc)
-killing_decides a m (kill_close life word) found ready = absurd (cc)
-killing_decides a m (kill_draw life word) found ready = tt
-
-invoking_decides : (a : ActiveCall) (m : Invoking) (at : InvokingAt) (found : ℕ) → is_entering at ≡ true
-    → IsDecision (landed a (took_invoking_at m at found))
-invoking_decides a m InvokingAt.LoadTable found ready = absurd (cc)
-invoking_decides a m (InvokingAt.LoadPages table) found ready = absurd (cc)
-invoking_decides a m (InvokingAt.LoadComp table pages) found ready = absurd (cc)
-invoking_decides a m (InvokingAt.LoadLive table pages life) found ready = by (live_of_word found)
-  where
-    lives : (same : Bool) → IsDecision (landed a (enters_if m table pages same))
-    lives true = tt
-    lives false = tt
-
-    by : (o : Option LiveWord) → IsDecision (landed a (enters_live m table pages o))
-    by None = tt
-    by (Some LiveWord.Free) = tt
-    by (Some (LiveWord.Live epoch f)) = lives (epoch == m.epoch)
-    by (Some (LiveWord.Closing epoch d)) = tt
-    by (Some (LiveWord.Dead epoch stamp)) = tt
-
-returning_decides : (a : ActiveCall) (m : Returning) (at : ReturningAt) (found : ℕ) → is_leaving at ≡ true
-    → IsDecision (landed a (took_returning_at m at found))
-returning_decides a m ReturningAt.LoadBelow found ready = absurd (cc)
-returning_decides a m (ReturningAt.LoadTable comp) found ready = absurd (cc)
-returning_decides a m (ReturningAt.LoadPages comp table) found ready = absurd (cc)
-returning_decides a m (ReturningAt.Draw comp table pages) found ready = tt
-
-switching_decides : (a : ActiveCall) (m : Switching) (at : SwitchAt) (found : ℕ) → is_switching at ≡ true
-    → IsDecision (landed a (took_switching_at m at found))
-switching_decides a m (SwitchAt.Claim claim) found ready = absurd (cc)
-switching_decides a m (SwitchAt.LoadTable to) found ready = absurd (cc)
-switching_decides a m (SwitchAt.LoadPages to table) found ready = absurd (cc)
-switching_decides a m (SwitchAt.Leave to table pages) found ready = absurd (cc)
-switching_decides a m (SwitchAt.Draw to table pages) found ready = tt
-
-component_decides : (a : ActiveCall) (m : CompMaking) (at : CompAt) (found : ℕ) → comp_filling at ≡ true
-    → IsDecision (landed a (took_comp_at m at found))
-component_decides a m CompAt.Load found ready = absurd (cc)
-component_decides a m (CompAt.Mark word) found ready = absurd (cc)
-component_decides a m (CompAt.LoadLive word) found ready = absurd (cc)
-component_decides a m (CompAt.Scan word last q) found ready = absurd (cc)
-component_decides a m (CompAt.Close word last) found ready = absurd (cc)
-component_decides a m (CompAt.Store word last entry) found ready = absurd (cc)
-component_decides a m (CompAt.Fill word last) found ready = by (found == m.fill.word)
-  where
-    by : (equal : Bool) → IsDecision (landed a (comp_published m word last equal))
-    by true = tt
-    by false = tt
-
-untyping_decides : (s : Shape) (a : ActiveCall) (m : Untyping) (at : UntypingAt) (found : ℕ) → is_drawing at ≡ true
-    → IsDecision (landed a (took_untyping_at s m at found))
-untyping_decides s a m UntypingAt.Load found ready = absurd (cc)
-untyping_decides s a m (UntypingAt.Mark word v) found ready = absurd (cc)
-untyping_decides s a m (UntypingAt.Sweep word w) found ready = absurd (cc)
-untyping_decides s a m (UntypingAt.Draw word w) found ready = tt
-
-page_decides : (a : ActiveCall) (m : Touching) (look : Look) (node index word : ℕ) (shown : Option Entry)
-    → IsDecision (landed a (touch_end m look (place_end node index word shown)))
-page_decides a m look node index word None = tt
-page_decides a m look node index word (Some Entry.Free) = tt
-page_decides a m look node index word (Some (Entry.Held k)) = tt
-page_decides a m look node index word (Some (Entry.Closing by)) = tt
-page_decides a m look node index word (Some (Entry.Quiescing stamp)) = tt
-
-touched_decides : (a : ActiveCall) (m : Touching) (found : ℕ) (cached : Option Translation)
-    → (is_some cached || is_at_page m.look) ≡ true → IsDecision (landed a (touched m found cached))
-touched_decides a m found (Some item) ready = tt
-touched_decides a m found None ready = by m.look ready
-  where
-    by : (look : Look) → is_at_page look ≡ true → IsDecision
-        (landed a (touch_end m (look_after look (shown_in m.frames found)) (look_end look found (shown_in m.frames found))))
-    by (AtRoot root number) ready = absurd (cc)
-    by (AtLeaf leaf number) ready = page_decides a m _ _ _ found (shown_in m.frames found)
-    by (AtEntry root index) ready = page_decides a m _ _ _ found (shown_in m.frames found)
-
-act_decides : (s : Shape) (a : ActiveCall) (act : ActType) (found : ℕ) → act_ready act ≡ true
-    → IsDecision (landed a (took_act s act found))
-act_decides s a (fill_act fill) found ready = fill_decides a _
-act_decides s a (remove_act (AtCompare node index word core) cap) found ready = absurd (cc)
-act_decides s a (remove_act (AtDraw node index) cap) found ready = tt
-act_decides s a (remove_act (AtStore node index stamp) cap) found ready = absurd (cc)
-act_decides s a (type_act typing) found ready = typing_decides a typing typing.at found ready
-act_decides s a (make_act m) found ready = making_decides a m m.at found ready
-act_decides s a (map_act fill) found ready = absurd (cc)
-act_decides s a (Outside node entry word) found ready = absurd (cc)
-act_decides s a (tick_act charge) found ready = charge_decides a charge found ready
-act_decides s a (touch_act m) found ready = touched_decides a m found m.cached ready
-act_decides s a (flush_act core) found ready = tt
-act_decides s a (kill_act m) found ready = killing_decides a m m.at found ready
-act_decides s a (untype_act m) found ready = untyping_decides s a m m.at found ready
-act_decides s a (comp_act m) found ready = component_decides a m m.at found ready
-act_decides s a (invoke_act m) found ready = invoking_decides a m m.at found ready
-act_decides s a (return_act m) found ready = returning_decides a m m.at found ready
-act_decides s a (switch_act m) found ready = switching_decides a m m.at found ready
-act_decides s a (share_act p) found ready = landed_decides a _ (share_over p p.at found ready)
-act_decides s a (refill_act r) found ready = refill_decides a r r.at found ready
-
 begun_over : (own : Own) (call : Call) (k : Capability) → decides_at_name (plan_for call).decides ≡ true
     → IsOver (act_begun own call (k ∷ []) None None)
 begun_over own (look_call a) k is = tt
@@ -603,7 +432,7 @@ work_decides : (own : Own) (a : ActiveCall) (work : Work) (found : ℕ) → IsAc
 work_decides own a (Read comp look) found active ready = absurd (cc)
 work_decides own a (Scan q act) found active ready = absurd (cc)
 work_decides own a (Acquire pin change act) found active ready = absurd (cc)
-work_decides own a (Act act) found active ready = act_decides own.layout a act found ready
+work_decides own a (Act act) found active ready = landed_decides a (took_act own.layout act found) (act_over own.layout act found ready)
 work_decides own a (Lookup look) found active ready =
     let all = three (decides_at_name (plan_for a.call).decides) (is_last_name (plan_for a.call) a.found) (is_last look) ready in
     let is = all.0 in

@@ -1,5 +1,5 @@
 pub mod Decisions
-pub mod Unready
+pub mod Ends
 pub mod Beginning
 pub mod Answering
 pub mod ShareDecisions

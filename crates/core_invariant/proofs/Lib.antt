@@ -4,6 +4,7 @@ pub mod Residues
 pub mod Bare
 pub mod Freezing
 pub mod ThreadHolds
+pub mod Keepings
 pub mod ActBares
 -- What calls know.
 pub mod Markers

@@ -1,10 +1,10 @@
--- What a core holds of a frame that it makes untyped: the frame's word, and the counters that it has frozen.
-use Rattle.std.specs.Prelude.{◌&&◌, ◌==◌, if◌then◌else◌}
-use Rattle.act_fits.specs.act_states.specs.{ℕ, ltb as nat_lt, leb as nat_le, Bool, true, false, length, slice_get, Option, Some}
-use Rattle.act_fits.specs.act_states.specs.{None, word_of_count, Word, CountAt, FrameAt, swept_of, released, Thaw}
-use Rattle.act_fits.specs.act_states.specs.declared.untypings.UntypingAt.TheVariants.{Load, Mark, Sweep as sweep_at, Draw}
+-- What a core holds of what a call has marked beside its counts: words, and the counters that it has frozen.
+use Rattle.std.specs.Prelude.{◌&&◌, ◌==◌, if◌then◌else◌, ◌∷◌}
+use Rattle.act_fits.specs.act_states.specs.{ℕ, ltb as nat_lt, leb as nat_le, Bool, true, false, length, slice_get, Option, Some, None}
+use Rattle.act_fits.specs.act_states.specs.{word_of_count, Word, CountAt, released, Thaw, List, [], Keeping.Keeping, KeepsWord}
+use Rattle.act_fits.specs.act_states.specs.{KeepsCounters, Untypings.release_keeps, Untypings.untyping_keeps}
 use Rattle.core_invariant.specs.Holding.{Holding, keeps}
-use Rattle.{act_fits.specs.act_states.specs.release_of, act_fits.specs.act_states.specs.declared.untypings.Release.Release}
+use Rattle.{act_fits.specs.act_states.specs.declared.untypings.Release.Release}
 use Rattle.{act_fits.specs.act_states.specs.declared.untypings.UntypingAt.UntypingAt}
 
 -- Whether a word is a counter that is frozen and still to be released.
@@ -25,13 +25,19 @@ holds_thaw (Some t) h = record {
   bare = h.bare;
 }
 
+-- What is held where one thing more is kept, and where all of these are.
+abbrev pub holds_one : Keeping → Holding → Holding
+holds_one (KeepsWord w x) h = keeps w x h
+holds_one (KeepsCounters o) h = holds_thaw o h
+
+abbrev pub holds_all : List Keeping → Holding → Holding
+holds_all [] h = h
+holds_all (k ∷ ks) h = holds_one k (holds_all ks h)
+
 -- What is held until the release of a frame is done: its counters, and its word.
 abbrev pub holds_release : Release → Holding → Holding
-holds_release x h = keeps (FrameAt x.frame) x.word (holds_thaw x.thaw h)
+holds_release x h = holds_all (release_keeps x) h
 
 -- Before its decision an untyping holds what a refusal would have to release, from when the frame is marked.
 abbrev pub holds_untyping : ℕ → UntypingAt → Holding → Holding
-holds_untyping f Load h = h
-holds_untyping f (Mark word v) h = h
-holds_untyping f (sweep_at word w) h = holds_release (release_of f word (swept_of w) false) h
-holds_untyping f (Draw word w) h = holds_release (release_of f word w false) h
+holds_untyping f at h = holds_all (untyping_keeps f at) h

@@ -3,9 +3,9 @@
 -- back, changes nothing that is said. A core may also keep a word that carries no mark, where it alone may store it: this settles to what
 -- the core has still to store there.
 use Rattle.std.specs.Prelude.{◌≡◌, ◌∷◌, if◌then◌else◌, ◌==◌, ◌&&◌}
-use Rattle.act_fits.specs.act_states.specs.{ℕ, zero, suc, Bool, true, false, List, [], Option, Some, None}
-use Rattle.act_fits.specs.act_states.specs.{leb as nat_le, Setting, word_of_count, Word, EntryAt, FrameAt, CountAt, CoreAt, FlushAt}
-use Rattle.act_fits.specs.act_states.specs.{LiveAt, ClockAt, same_word, Capability, word_of_entry, Held, Close, AtCompare, AtDraw, AtStore}
+use Rattle.act_fits.specs.act_states.specs.{ℕ, zero, suc, Bool, true, false, List, [], Option, Some, None, leb as nat_le, Setting}
+use Rattle.act_fits.specs.act_states.specs.{word_of_count, Word, EntryAt, FrameAt, CountAt, CoreAt, FlushAt, LiveAt, ClockAt, same_word}
+use Rattle.act_fits.specs.act_states.specs.{word_of_entry, Close, AtCompare, AtDraw, AtStore}
 use Rattle.{act_fits.specs.act_states.specs.Acquired, act_fits.specs.act_states.specs.commit_of, kernel_history.specs.marked_by}
 use Rattle.{kernel_history.specs.last_left, kernel_history.specs.entry_words.specs.declared.entry.Entry.TheVariants.Quiescing}
 use Rattle.{act_fits.specs.stage_pins.specs.Commit.settled_word, kernel_history.specs.Trace.Trace}
@@ -64,13 +64,7 @@ abbrev pub holds_counts : Option (Option ℕ) → List Acquired → Holding
 holds_counts fate [] = nothing
 holds_counts fate (x ∷ xs) = keeps (count_of x) (committed fate x) (holds_counts fate xs)
 
--- An entry that a call has closed is held: it stands for what it held until the stamp is drawn, and then for the entry that quiesces
--- since the stamp.
-abbrev pub holds_closed : Close → Capability → Holding → Holding
-holds_closed (AtCompare node entry word core) cap h = h
-holds_closed (AtDraw node entry) cap h = keeps (EntryAt node entry) (word_of_entry (Held cap)) h
-holds_closed (AtStore node entry stamp) cap h = h
-
+-- An entry that a call has closed stands, once the stamp is drawn, for the entry that quiesces since the stamp.
 abbrev pub holds_drawn : Close → Holding → Holding
 holds_drawn (AtCompare node entry word core) h = h
 holds_drawn (AtDraw node entry) h = h

@@ -1,24 +1,21 @@
 -- When the cores of a machine stand for a trace: what holds between two steps, whatever the calls.
 use Rattle.act_fits.specs.act_states.specs as low
 use Rattle.std.specs.Prelude.{◌≡◌, ◌⊎◌, ◌+◌, ◌-◌, ◌<◌, ◌≤◌}
-use low.{word_of_live, word_of_stack, word_of_thread, thread_of_word, Running, Push as PushOf, Pop as PopOf}
-use low.{ℕ, Bool, true, false, List, [], length, Option, Some, None, Setting, count_of_word, CountWord, Word, CountAt, FrameAt, FlushAt}
-use low.{LiveAt, EntryAt, Thing, FrameOf, State, thread_of, sum_below, Reply, Ok, Acquired, word_of_head, credited, in_order, amount_of}
-use low.{Pair, PairAt, LoadA, MarkA, ListA, LoadB, ListB, CompareB, AgainB, StoreList, StoreB, StoreA}
+use low.{word_of_live, word_of_stack, word_of_thread, thread_of_word, Running, Push as PushOf, Pop as PopOf, ℕ, Bool, true, List, []}
+use low.{length, Option, Some, None, Setting, count_of_word, CountWord, Word, CountAt, FrameAt, FlushAt, LiveAt, EntryAt, Thing, FrameOf}
+use low.{State, thread_of, sum_below, Reply, Ok, Acquired, word_of_head, credited, in_order, amount_of, phases_of, Makings.making_keeps}
+use low.{Kills.killing_keeps, Comps.comp_keeps, Shares.share_keeps, Pair, PairAt, LoadA, MarkA, ListA, LoadB, ListB, CompareB, AgainB}
+use low.{StoreList, StoreB, StoreA}
 use Rattle.kernel_history.specs.{Out, phase, calls_of, state_after, last_left, IsLegal, KeepsBounds, marked_by, HasMarked, KeepsDiscipline}
 use Rattle.kernel_history.specs.{KeepsFootprints, KeepsFirst, stamp, clock, exit_of, flush_stored, GraceIs}
 use Rattle.act_fits.specs.stage_tcap.specs.{relisted, left_a, word_of_list}
-use low.declared.makings.MakingAt.TheVariants.{Load, Mark, Store, Fill as making_fill}
-use low.declared.kills.KillingAt.TheVariants.{LoadComp, LoadLive, Close as kill_close, Draw as kill_draw}
-use low.declared.work.Act.TheVariants.{Fill, Remove, Retype, Make, Outside, Tick, Flush, Kill, Untype, Map as map_act, MakeComp, Invoke}
-use low.declared.work.Act.TheVariants.{Return, Touch, Share, Refill, Switch}
 use low.declared.work.Work.TheVariants.{Lookup, Read, Scan, Acquire, Act as act_work}
 use low.declared.work.Tail.TheVariants.{Nothing, Quiesce, Unmark, StoreDead, StoreFlush, Release, StoreLive, Push, Pop, Share as share_tail}
 use Rattle.act_fits.specs.call_stages.specs.declared.stages.Stage.TheVariants.{Enter, Living, Undecided, Decided, Leave}
-use Rattle.core_invariant.specs.{Holding.Holding, Holding.nothing, Holding.holds_counts, Holding.holds_closed, Holding.holds_drawn}
-use Rattle.core_invariant.specs.{Holding.settled, Holding.MarkIs, Holding.keeps, Holding.will_store, Holding.keeps_bare, Holding.keeps_list}
-use Rattle.core_invariant.specs.{Frozen.holds_untyping, Frozen.holds_release, Threads.holds_switching, Threads.holds_running}
-use Rattle.core_invariant.specs.{Threads.holds_idle, Shares.HasTcap, Words.Times, Words.WordIs, Words.CountsAre, Knows.CoreIs}
+use Rattle.core_invariant.specs.{Holding.Holding, Holding.nothing, Holding.holds_counts, Holding.holds_drawn, Holding.settled}
+use Rattle.core_invariant.specs.{Holding.MarkIs, Holding.keeps, Holding.will_store, Holding.keeps_bare, Holding.keeps_list}
+use Rattle.core_invariant.specs.{Frozen.holds_all, Frozen.holds_release, Threads.holds_running, Threads.holds_idle, Shares.HasTcap}
+use Rattle.core_invariant.specs.{Words.Times, Words.WordIs, Words.CountsAre, Knows.CoreIs}
 use low.{declared.makings.MakingAt.MakingAt, declared.comps.CompAt.CompAt, declared.comps.CompMaking.CompMaking}
 use low.{declared.kills.KillingAt.KillingAt, declared.work.Act.Act, declared.work.Work.Work, declared.work.Tail.Tail}
 use low.{declared.work.Tail.TheVariants.StoreRunning, declared.work.Tail.TheVariants.StoreIdle}
@@ -39,19 +36,21 @@ is_done (Undecided work) = None
 is_done (Decided r drawn tail) = done_by r drawn
 is_done (Leave r x) = None
 
--- The frame in which a call makes an object: it is marked, and stands for its word as it was found.
-abbrev pub holds_making : ℕ → MakingAt → Holding → Holding
-holds_making f Load h = h
-holds_making f (Mark word) h = h
-holds_making f (Store word entry) h = keeps (FrameAt f) word h
-holds_making f (making_fill word) h = keeps (FrameAt f) word h
+-- The words that a call has marked beside the counts that it acquires: at an act these are read off its record.
+abbrev pub holds_act : Act → Holding → Holding
+holds_act act h = holds_all (phases_of act).keeps h
 
--- The number of a component that a call has closed: its word stands for what was found there until the stamp is drawn.
+abbrev pub holds_making : ℕ → MakingAt → Holding → Holding
+holds_making f at h = holds_all (making_keeps f at) h
+
 abbrev pub holds_killing : KillingAt → Holding → Holding
-holds_killing LoadComp h = h
-holds_killing (LoadLive life) h = h
-holds_killing (kill_close life word) h = h
-holds_killing (kill_draw life word) h = keeps (LiveAt life.number) word h
+holds_killing at h = holds_all (killing_keeps at) h
+
+abbrev pub holds_comp : CompMaking → CompAt → Holding → Holding
+holds_comp m at h = holds_all (comp_keeps m at) h
+
+abbrev pub holds_share : Pair → PairAt → Holding → Holding
+holds_share p at h = holds_all (share_keeps p at) h
 
 -- The words of its thread's stack that a core has still to store are kept without a mark.
 abbrev pub holds_push : PushOf → Holding → Holding
@@ -64,32 +63,10 @@ holds_pop (PopOf.AtThread f core depth) h =
     keeps_bare f 0 (word_of_thread (Running core (depth - 1))) (keeps_bare f depth (word_of_stack (record { 0 = None })) h)
 holds_pop (PopOf.AtStack f depth) h = keeps_bare f depth (word_of_stack (record { 0 = None })) h
 
--- The frame in which a call makes a component, and then the number that it takes: each stands for its word as it was found.
-abbrev pub holds_comp : CompMaking → CompAt → Holding → Holding
-holds_comp m CompAt.Load h = h
-holds_comp m (CompAt.Mark word) h = h
-holds_comp m (CompAt.LoadLive word) h = keeps (FrameAt m.frame) word h
-holds_comp m (CompAt.Scan word last q) h = keeps (FrameAt m.frame) word h
-holds_comp m (CompAt.Close word last) h = keeps (FrameAt m.frame) word h
-holds_comp m (CompAt.Store word last entry) h = keeps (LiveAt m.number) last.word (keeps (FrameAt m.frame) word h)
-holds_comp m (CompAt.Fill word last) h = keeps (LiveAt m.number) last.word (keeps (FrameAt m.frame) word h)
-
 -- The head of the first of two temporal capabilities, from when it is marked: it stands for what was found there, and once the call is
 -- decided for what is still to be stored.
 abbrev pub holds_head : Pair → Bool → Holding → Holding
 holds_head p moved h = keeps (EntryAt p.a 0) (word_of_head (left_a moved p.head_a (amount_of p.what))) h
-
-abbrev pub holds_share : Pair → PairAt → Holding → Holding
-holds_share p LoadA h = h
-holds_share p MarkA h = h
-holds_share p (ListA n) h = holds_head p false h
-holds_share p LoadB h = holds_head p false h
-holds_share p (ListB n) h = holds_head p false h
-holds_share p CompareB h = holds_head p false h
-holds_share p (AgainB r) h = holds_head p false h
-holds_share p (StoreList n) h = h
-holds_share p StoreB h = h
-holds_share p (StoreA moved v) h = h
 
 -- The heads of both, once a delegation is decided: each stands for what is still to be stored, and so do the words of the second's list.
 abbrev pub holds_heads : Pair → Holding → Holding
@@ -110,26 +87,7 @@ holds_shared p (StoreList n) h = holds_list p n h
 holds_shared p StoreB h = holds_heads p h
 holds_shared p (StoreA moved v) h = holds_head p moved h
 
--- The words that a call has marked beside the counts that it acquires, at an act and at a tail.
-abbrev pub holds_act : Act → Holding → Holding
-holds_act (Fill fill) h = h
-holds_act (Remove close cap) h = holds_closed close cap h
-holds_act (Retype typing) h = h
-holds_act (Make making) h = holds_making making.frame making.at h
-holds_act (map_act fill) h = h
-holds_act (Outside node entry word) h = h
-holds_act (Tick charge) h = h
-holds_act (Touch m) h = h
-holds_act (Flush by) h = h
-holds_act (Kill m) h = holds_killing m.at h
-holds_act (Untype m) h = holds_untyping m.frame m.at h
-holds_act (MakeComp m) h = holds_comp m m.at h
-holds_act (Invoke m) h = h
-holds_act (Return m) h = h
-holds_act (Share p) h = holds_share p p.at h
-holds_act (Refill r) h = h
-holds_act (Switch m) h = holds_switching m m.at h
-
+-- And at a tail.
 abbrev pub holds_tail : Tail → Holding → Holding
 holds_tail Nothing h = h
 holds_tail (Quiesce close) h = holds_drawn close h

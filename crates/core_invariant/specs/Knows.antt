@@ -1,27 +1,15 @@
 -- What a call knows where it stands, said of the state; and what a core is after a trace.
 use Rattle.act_fits.specs.act_states.specs as low
-use low.{Charge, head, HeadFits, word_of_head, IsSmallChange, ticks_due, ticks_of, is_charging, object_word, last_word, LiveWord, comp_cap}
-use Rattle.std.specs.Prelude.{◌≡◌, ◌≢◌, ◌<◌, ◌≤◌, ◌+◌, ◌++◌, ◌/◌, ◌∷◌, ◌^◌, ◌⊎◌}
-use low.{dues, put_by, reads_of, removes_by, stamp_of_act, fills_page, comp_is_marked, comp_meets_number, comp_word_at, is_marked}
-use low.{ℕ, ℤ, Bool, true, false, map, All, List, [], length, Option, Some, None, IsSome, IsTrue, not}
-use low.{is_some, Capability, Setting, Kind, Call, Retype, Make as make_call, Flush, Tick, Kill, Map, Touch, FrameKind, frame_of_word}
-use low.{FrameWord, EntryFits, entry_of_word, Entry, CompFits, CountFits, word_of_count, live_of_word, CompWord, EntryAt, CountAt, FrameAt}
-use low.{LiveAt, User, Thing, PlaceOf, State, first_of_stack, thread_of, comp_of, comp_in, NumberOf, Dead, translation_of, is_at_page, Slot}
-use low.{Named, root_at, Target, Under, InRoot, usable, linked, root_slot, reached, found, fits, IsGuarded, Relies, Push as PushOf}
-use low.{Pop as PopOf, Look, AtRoot, AtLeaf, AtEntry, unheld, Pin, AtLoad, Acquired, Plan, Leads, Next, NextName, NextFree, NextHeld}
-use low.{NextOwn, NextNothing, next_of, is_killing, is_entering, is_leaving, is_switching, is_typing, has_frame, Alive, AtComp, AtLive}
-use low.{asks_life, acts, Close, AtCompare as close_compare, AtDraw, AtStore, Quiet, AtCore, AtFlush, is_drawing, plan_for}
-use Rattle.kernel_history.specs.{marked_by, frame_mark, live_mark, IsLeave, shape_of, Phase, Out, phase, state_after, own_left, own_read}
-use Rattle.kernel_history.specs.{steps_in_call, WasAt, last_left, root_passed, counts_references, changes_places, changes_frames}
-use Rattle.kernel_history.specs.{changes_numbers, stores_flush, changes_threads, IsInFootprint, is_one_of, frame_argument, HasReached}
-use Rattle.kernel_history.specs.{IsRemoved, clock, stamp, exit_of, flush_of, flush_stored}
-use Rattle.act_fits.specs.stage_tcap.specs.{Blank, Comp as comp_kind, Untyped, Kernel as FrameKernel}
+use Rattle.std.specs.Prelude.{◌≡◌, ◌≢◌, ◌<◌, ◌≤◌, ◌+◌, ◌++◌, ◌∷◌, ◌^◌}
+use low.{IsSmallChange, dues, reads_of, stamp_of_act, fills_page, ℕ, ℤ, Bool, true, false, map, All, List, [], length, Option, Some, None}
+use low.{IsTrue, not, Capability, Setting, Call, frame_of_word, CountFits, word_of_count, live_of_word, CompWord, EntryAt, CountAt, LiveAt}
+use low.{Thing, PlaceOf, State, first_of_stack, thread_of, comp_of, Target, found, fits, Relies, Push as PushOf, Pop as PopOf, Look, unheld}
+use low.{Pin, AtLoad, Acquired, Plan, Next, NextName, NextFree, NextHeld, NextOwn, NextNothing, next_of, Alive, AtComp, AtLive, asks_life}
+use low.{acts, Close, AtCompare as close_compare, AtDraw, AtStore, Quiet, AtCore, AtFlush, plan_for, phases_of, Aim}
+use Rattle.kernel_history.specs.{frame_mark, live_mark, IsLeave, shape_of, Phase, Out, phase, state_after, own_read, steps_in_call, WasAt}
+use Rattle.kernel_history.specs.{counts_references, changes_places, changes_frames, changes_numbers, stores_flush, changes_threads}
+use Rattle.kernel_history.specs.{IsInFootprint, is_one_of, frame_argument, clock, stamp, exit_of, flush_of, flush_stored}
 use Rattle.act_fits.specs.call_stages.specs.{Core, IsCore}
-use Rattle.act_fits.specs.stage_tcap.specs.declared.charge.Charge.TheVariants.{AtLoad as charge_load, AtCompare as charge_compare}
-use low.Objects.{object_cap, object_made}
-use low.declared.makings.MakingAt.TheVariants.{Load as making_load, Mark, Store, Fill as making_fill}
-use low.declared.kills.KillingAt.TheVariants.{LoadComp, LoadLive, Close as kill_close, Draw as kill_draw}
-use low.declared.typings.TypingAt.TheVariants.{Load, Compare as type_compare}
 use low.declared.work.Act.TheVariants.{Fill as fill_act, Remove as remove_act, Retype as type_act, Make as make_act, Outside}
 use low.declared.work.Act.TheVariants.{Tick as tick_act, Flush as flush_act, Kill as kill_act, Untype as untype_act, Map as map_act}
 use low.declared.work.Act.TheVariants.{MakeComp as comp_act, Invoke as invoke_act, Return as return_act, Touch as touch_act}
@@ -32,11 +20,8 @@ use Rattle.kernel_history.specs.Trace.{Trace, Open}
 use Rattle.act_fits.specs.call_stages.specs.declared.stages.Stage.TheVariants.{Enter, Living, Undecided, Decided, Leave}
 use Rattle.core_invariant.specs.{Shares.KnowsShare, Shares.KnowsShared, Refills.KnowsRefill, Holding.count_of, Holding.holds_counts}
 use Rattle.core_invariant.specs.{Holding.AreApart, Threads.KnowsSwitch, Threads.KnowsRunning, Threads.KnowsIdle, Sweeps.KnowsUntyping}
-use low.{declared.comps.CompAt.CompAt, declared.comps.CompMaking.CompMaking, declared.comps.LastEpoch.LastEpoch}
-use low.{declared.makings.MakingAt.MakingAt, declared.makings.Making.Making, declared.objects.NewObject.NewObject}
-use low.{declared.touches.Touching.Touching, declared.kills.Killing.Killing, declared.kills.KillingAt.KillingAt, declared.own.Own.Own}
-use low.{declared.fills.Fill.Fill, declared.typings.Typing.Typing, declared.typings.TypingAt.TypingAt, declared.work.Act.Act as ActOf}
-use low.{declared.work.Work.Work, declared.work.Due.Due, declared.work.Tail.Tail, declared.work.Tail.TheVariants.StoreIdle}
+use low.{declared.own.Own.Own, declared.work.Act.Act as ActOf, declared.work.Work.Work, declared.work.Due.Due, declared.work.Tail.Tail}
+use low.{declared.work.Tail.TheVariants.StoreIdle}
 use Rattle.{act_fits.specs.stage_pins.specs.declared.pin.Pin.TheVariants.AtCompare}
 use Rattle.{act_fits.specs.call_stages.specs.declared.stages.Stage.Stage}
 use Rattle.{act_fits.specs.call_stages.specs.declared.stages.ActiveCall.ActiveCall, core_invariant.specs.Sweeps.KnowsRelease}
@@ -78,55 +63,23 @@ KnowsAct setup t c call plan found upto (share_act p) = KnowsShare setup t c cal
 KnowsAct setup t c call plan found upto (refill_act r) = KnowsRefill setup t c call found r
 KnowsAct setup t c call plan found upto (switch_act m) = KnowsSwitch setup t c call found m
 
--- An act is before its first step.
-abbrev pub is_first_of : Close → Bool
-is_first_of (close_compare node index word core) = true
-is_first_of (AtDraw node index) = false
-is_first_of (AtStore node index at) = false
-
+-- An act is before its first step; its counts may be acquired; it goes on, since it is within its range.
 abbrev pub is_start : ActOf → Bool
-is_start (fill_act fill) = true
-is_start (remove_act close cap) = is_first_of close
-is_start (type_act typing) = not (is_typing typing.at)
-is_start (make_act making) = not (is_marked making.at)
-is_start (map_act fill) = true
-is_start (Outside node entry word) = true
-is_start (tick_act charge) = not (is_charging charge)
-is_start (touch_act m) = true
-is_start (flush_act by) = true
-is_start (kill_act m) = not (is_killing m.at)
-is_start (untype_act m) = false
-is_start (comp_act m) = not (comp_is_marked m.at)
-is_start (invoke_act m) = not (is_entering m.at)
-is_start (return_act m) = not (is_leaving m.at)
-is_start (share_act p) = false
-is_start (refill_act r) = false
-is_start (switch_act m) = false
+is_start act = (phases_of act).first
 
--- Its counts may be acquired here: no entry and no liveness number is closed yet, and a sweep is over.
 abbrev pub is_counting : ActOf → Bool
-is_counting (remove_act close cap) = is_first_of close
-is_counting (kill_act m) = not (is_killing m.at)
-is_counting (comp_act m) = not (comp_meets_number m.at)
-is_counting (untype_act m) = is_drawing m.at
-is_counting (switch_act m) = not (is_switching m.at)
-is_counting (share_act p) = false
-is_counting (refill_act r) = false
-is_counting act = true
+is_counting act = (phases_of act).counting
 
--- It goes on: it is not out of range.
 abbrev pub goes_on : ActOf → Bool
-goes_on (Outside node entry word) = false
-goes_on act = true
+goes_on act = (phases_of act).within
 
 -- The thing for which an act is scanned.
+abbrev pub place_aimed : Option Aim → Thing
+place_aimed None = PlaceOf 0 0
+place_aimed (Some aim) = PlaceOf aim.node aim.entry
+
 abbrev pub scanned_for : ActOf → Thing
-scanned_for (fill_act fill) = PlaceOf fill.node fill.entry
-scanned_for (make_act m) = PlaceOf m.fill.node m.fill.entry
-scanned_for (comp_act m) = PlaceOf m.fill.node m.fill.entry
-scanned_for (map_act fill) = PlaceOf fill.node fill.entry
-scanned_for (Outside node entry word) = PlaceOf node entry
-scanned_for act = PlaceOf 0 0
+scanned_for act = place_aimed (phases_of act).aim
 
 -- What it knows at a scan for the place that it fills: the core words before this one were scanned, and so many flush words; these are
 -- scanned where the place is one of a page table.

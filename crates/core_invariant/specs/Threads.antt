@@ -1,13 +1,14 @@
 -- What a switch holds of the words of threads, and what it knows: the thread to which it goes on, the component at the top of its stack,
 -- and the thread that it leaves.
 use Rattle.std.specs.Prelude.{◌≡◌, ◌≢◌, ◌∷◌}
-use Rattle.kernel_history.specs.{ℕ, Bool, true, false, length, List, [], Some, IsTrue, Capability, Setting, Call, Switch}
-use Rattle.kernel_history.specs.{word_of_thread, Idle, Running, EntryAt, State, comp_in, first_of_stack, thread_in, thread_of, fits}
-use Rattle.kernel_history.specs.{IsGuarded, changes_threads, IsInFootprint, WasAt, own_read, state_after, Kind}
+use Rattle.kernel_history.specs.{ℕ, Bool, true, false, length, List, [], Some, IsTrue, Capability, Setting, Call, Switch, word_of_thread}
+use Rattle.kernel_history.specs.{Idle, Running, EntryAt, State, comp_in, first_of_stack, thread_in, thread_of, fits, IsGuarded}
+use Rattle.kernel_history.specs.{changes_threads, IsInFootprint, WasAt, own_read, state_after, Kind}
 use Rattle.act_fits.specs.act_states.specs.{Claim as ClaimOf, AtStack, Claimed}
 use Rattle.act_fits.specs.stage_thread.specs.declared.claim.Claim.TheVariants.{AtLoad, AtCompare}
 use Rattle.act_fits.specs.act_states.specs.declared.switches.SwitchAt.TheVariants.{Claim, LoadTable, LoadPages, Leave, Draw}
-use Rattle.core_invariant.specs.{Holding.Holding, Holding.keeps, Components.HasComp}
+use Rattle.core_invariant.specs.{Holding.Holding, Holding.keeps, Frozen.holds_all, Components.HasComp}
+use Rattle.act_fits.specs.act_states.specs.Switches.{switching_keeps}
 use Rattle.{kernel_history.specs.Trace.Trace, act_fits.specs.act_states.specs.declared.switches.Switching.Switching}
 use Rattle.{act_fits.specs.act_states.specs.declared.switches.SwitchAt.SwitchAt}
 
@@ -15,19 +16,9 @@ use Rattle.{act_fits.specs.act_states.specs.declared.switches.SwitchAt.SwitchAt}
 abbrev pub holds_idle : ℕ → ℕ → Holding → Holding
 holds_idle f depth h = keeps (EntryAt f 0) (word_of_thread (Idle depth)) h
 
-abbrev pub holds_claim : ClaimOf → Holding → Holding
-holds_claim (AtLoad f core) h = h
-holds_claim (AtCompare f core depth) h = h
-holds_claim (AtStack f depth) h = holds_idle f depth h
-
 -- So does the core's own thread for the running one, from when it is stored as claimed.
 abbrev pub holds_switching : Switching → SwitchAt → Holding → Holding
-holds_switching m (Claim claim) h = holds_claim claim h
-holds_switching m (LoadTable to) h = holds_idle to.thread to.depth h
-holds_switching m (LoadPages to table) h = holds_idle to.thread to.depth h
-holds_switching m (Leave to table pages) h = holds_idle to.thread to.depth h
-holds_switching m (Draw to table pages) h =
-    holds_idle to.thread to.depth (keeps (EntryAt m.old 0) (word_of_thread (Running m.core m.old_depth)) h)
+holds_switching m at h = holds_all (switching_keeps m at) h
 
 -- After the decision the thread stands for the running one, and the thread that was left for an idle one.
 abbrev pub holds_running : ℕ → ℕ → ℕ → ℕ → ℕ → Holding → Holding

@@ -8,32 +8,32 @@ use low.{word_of_count, count_of_word, CountWord, left_if, Word, EntryAt, CountA
 use low.{StoreOf, word_of, left_of, Place, Holds, PlaceOf, State, put, named_by, put_same, count_mark, marked_by, counts_references}
 use low.{changes_places, raises_clock, IsInFootprint, frame_at_slot, frame_argument, frames_named, is_one_of, footprint_frames, target_of}
 use low.{rule_of, usable_in, AtDraw, AtStore, Step, Trace, Open, phase, state_after, last_left, own_read, was_now, cases_word}
-use low.{own_read-here, own_read-there, last_left-here, last_left-there, unheld, Pin, Acquired, plan_for, Leads, LeadsIn, Plan, leads_by}
-use low.{GoesBy, own_pages, calls_go, Due, Outside, Nothing, Acquire, Undecided, Decided, ActiveCall, Goes, dues, next_work, CountsAt}
-use low.{HasRoom, StageFits, GoesOn, landed, went_with, Core, UntypingAt, Holding, count_of, committed, holds_counts, settled_by, settled}
-use low.{SaysCount, AreDuesApart, own_in, HasFound, NamesAre, due_of, KnowsAct, KnowsWork, KnowsUndecided, IsCount, phase_at, KnowsTail}
-use low.{goes_on, untypes, done_by, holds_act, holds_work, holds_at, holds_in, holds, held_by, Invariant, holds_tail, names_on, counts_on}
+use low.{own_read-here, own_read-there, last_left-here, last_left-there, unheld, Pin, Acquired, plan_for, Leads, LeadsIn, leads_by, GoesBy}
+use low.{own_pages, calls_go, Due, Nothing, Acquire, Undecided, Decided, ActiveCall, Goes, dues, next_work, CountsAt, HasRoom, StageFits}
+use low.{GoesOn, landed, went_with, Core, UntypingAt, Holding, count_of, committed, holds_counts, settled_by, settled, SaysCount}
+use low.{AreDuesApart, own_in, HasFound, NamesAre, due_of, KnowsAct, KnowsWork, KnowsUndecided, IsCount, phase_at, KnowsTail, goes_on}
+use low.{untypes, done_by, holds_act, holds_work, holds_at, holds_in, holds, held_by, Invariant, holds_tail, names_on, counts_on}
 use low.{length-append, lt-ltb, Hold, Free as Vacant, Quiescing as Removed, AtCompare as close_compare, acquired, Fill as fill_act}
-use low.{Remove as remove_act, Tick as tick_act, Flush as flush_act, Kill as kill_act, Untype as untype_act, Map as map_act}
-use low.{MakeComp as comp_act, Invoke as invoke_act, Return as return_act, Touch as touch_act, Share as share_act, Refill as refill_act}
-use low.{Switch as switch_act, Acquires, took_count, is_ok, same_marks, IsGood, spares_other, users_kept, IsOfCall, Lands, step_to}
-use low.{core_in_call, inner, call_is, is_active, loads_on, GoodTook, ticks_at, Refusal}
+use low.{Remove as remove_act, Tick as tick_act, Kill as kill_act, Untype as untype_act, Map as map_act, MakeComp as comp_act}
+use low.{Invoke as invoke_act, Return as return_act, Switch as switch_act, Acquires, took_count, is_ok, same_marks, IsGood, spares_other}
+use low.{users_kept, IsOfCall, Lands, step_to, core_in_call, inner, call_is, is_active, loads_on, GoodTook, ticks_at, Refusal}
 use Rattle.step_ways.specs.act_states.specs.{Remove, Close, AtLoad, removes_by, undo, comp_meets_number, pinned_at, compare_end, pin_move}
 use Rattle.step_ways.specs.act_states.specs.{pin_end, pin_after, commit_of, acquires, is_drawing}
-use Rattle.step_ways.specs.core_invariant.specs.{AreApart, Retype as type_act, Make as make_act, pin_frame, KnowsClose, is_counting}
+use Rattle.step_ways.specs.core_invariant.specs.{AreApart, Make as make_act, pin_frame, KnowsClose, is_counting}
 use Rattle.plan_ways.proofs.{target_is, one_left, one_right, footprint_about}
 use Rattle.step_ways.specs.stage_pins.specs.{load_end, after_load, settled_word}
 use Rattle.plan_ways.specs.kernel_history.specs.{capability_in, may_count}
 use Rattle.step_ways.specs.kept_facts.proofs.{act_on, KeepsUsers}
 use Rattle.std.proofs.lemmas.List.Elements.{All-nil, All-cons, All-head, All-tail, All-append}
-use Rattle.step_ways.specs.act_fits.proofs.{DuesFit.few_dues, DuesSmall.due_small}
+use Rattle.step_ways.specs.act_fits.proofs.{DuesFit.few_dues, DuesFit.due_small}
 use Rattle.step_ways.specs.core_invariant.specs.{Knows.pin_core, Knows.HasRead, Reaching.IsRemoval}
 use Rattle.step_ways.specs.kept_facts.proofs.KeptReads.{KeepsThreads, claimed_in, ReadsSame, freezes_at, reads_counts, due_pairs}
 use low.Refusals.{IsRefusing, ticks_in, raced_knowing, busy_knowing}
 use Rattle.count_invariant.proofs.SwitchCounts.{switch_of, switch_counts, switch_due_footprint, switch_left}
 use Rattle.count_invariant.proofs.StackCounts.{invoke_counts, invoke_footprint, invoking_due, returning_due, top_footprint}
 use Rattle.count_invariant.proofs.ActBares.{acquired_bares, committed_bares}
-use Rattle.count_invariant.proofs.ActHolds.{SparesSwept, undo_holds, act_count, act_over}
+use Rattle.count_invariant.proofs.ActHolds.{SparesSwept, undo_holds, act_count}
+use Rattle.step_ways.specs.core_invariant.proofs.Keepings.{act_over}
 use Rattle.count_invariant.proofs.CompCounts.{comp_call, comp_counts, comp_due_footprint, comp_left}
 use Rattle.count_invariant.proofs.MakingCounts.{no_due, made_counts, made_changes, made_argument, due_footprint, made_left, due_named}
 use Rattle.count_invariant.proofs.SweepCounts.{sweep_counts, sweep_footprint, sweep_left, sweep_spares}
@@ -101,23 +101,8 @@ counting_unread act is = refl
 
 -- An act that changes a count charges no ticks.
 counts_plain : (act : ActOf) (before : List Due) (due : Due) (rest : List Due) → dues act ≡ before ++ due ∷ rest → ticks_in act ≡ false
-counts_plain (fill_act fill) before due rest is = refl
-counts_plain (remove_act close cap) before due rest is = refl
-counts_plain (type_act typing) before due rest is = refl
-counts_plain (make_act m) before due rest is = refl
-counts_plain (map_act fill) before due rest is = refl
-counts_plain (Outside node entry word) before due rest is = refl
 counts_plain (tick_act charge) before due rest is = absurd (no_due before due rest is)
-counts_plain (touch_act m) before due rest is = refl
-counts_plain (flush_act core) before due rest is = refl
-counts_plain (kill_act m) before due rest is = refl
-counts_plain (invoke_act m) before due rest is = refl
-counts_plain (return_act m) before due rest is = refl
-counts_plain (comp_act m) before due rest is = refl
-counts_plain (share_act p) before due rest is = absurd (no_due before due rest is)
-counts_plain (refill_act r) before due rest is = absurd (no_due before due rest is)
-counts_plain (switch_act m) before due rest is = refl
-counts_plain (untype_act m) before due rest is = refl
+counts_plain act before due rest is = refl
 
 -- The word of an acquired count stands for the word that was found.
 stands_found : (frame core : ℕ) (count change : ℤ) (stamp : ℕ) → CountFits (unheld count stamp)
@@ -578,8 +563,6 @@ acquire_good setup setting cores t stands c here a active pin change (map_act fi
     has.knows.knows.puts (call_leads setup setting cores t stands c here a active has.names) (pin_frame pin)
     (due_named (named_by fill.cap.kind fill.cap.frame) (pos 1) (map due_of a.counts) (record { frame = pin_frame pin; change = change })
     has.knows.rest has.knows.due)) (λ e by. tt) tt refl
-acquire_good setup setting cores t stands c here a active pin change (type_act typing) is has =
-    absurd (no_due (map due_of a.counts) (record { frame = pin_frame pin; change = change }) has.knows.rest has.knows.due)
 acquire_good setup setting cores t stands c here a active pin change (remove_act close cap) is has =
     acquire_footprint setup setting cores t stands c here a active pin change (remove_act close cap) is has
     (removal_counts a.call (removal_does setup setting cores t stands c here a active has.names close cap has.knows.knows))
@@ -594,14 +577,6 @@ acquire_good setup setting cores t stands c here a active pin change (make_act m
     (record { frame = pin_frame pin; change = change }) has.knows.rest has.knows.due)
     (λ e by. made_left setup t (e ∷ t) c a.counts m.frame m.object m.at a.call (made_changes a.call a.found m has.knows.knows.makes)
     (made_argument a.call a.found m has.knows.knows.makes) has.knows.knows.at) tt refl
-acquire_good setup setting cores t stands c here a active pin change (Outside node entry word) is has =
-    absurd (no_due (map due_of a.counts) (record { frame = pin_frame pin; change = change }) has.knows.rest has.knows.due)
-acquire_good setup setting cores t stands c here a active pin change (tick_act charge) is has =
-    absurd (no_due (map due_of a.counts) (record { frame = pin_frame pin; change = change }) has.knows.rest has.knows.due)
-acquire_good setup setting cores t stands c here a active pin change (touch_act m) is has =
-    absurd (no_due (map due_of a.counts) (record { frame = pin_frame pin; change = change }) has.knows.rest has.knows.due)
-acquire_good setup setting cores t stands c here a active pin change (flush_act core) is has =
-    absurd (no_due (map due_of a.counts) (record { frame = pin_frame pin; change = change }) has.knows.rest has.knows.due)
 acquire_good setup setting cores t stands c here a active pin change (invoke_act m) is has =
     acquire_footprint setup setting cores t stands c here a active pin change (invoke_act m) is has
     (invoke_counts a.call a.found m has.knows.knows.invokes)
@@ -630,10 +605,6 @@ acquire_good setup setting cores t stands c here a active pin change (untype_act
     (sweep_footprint setup setting cores t stands c here a active pin change m is has)
     (λ e by. sweep_left setup setting cores t stands c here a active pin change m is has (e ∷ t))
     (sweep_spares setup setting cores t stands c here a active pin change m is has) refl
-acquire_good setup setting cores t stands c here a active pin change (share_act p) is has =
-    absurd (no_due (map due_of a.counts) (record { frame = pin_frame pin; change = change }) has.knows.rest has.knows.due)
-acquire_good setup setting cores t stands c here a active pin change (refill_act r) is has =
-    absurd (no_due (map due_of a.counts) (record { frame = pin_frame pin; change = change }) has.knows.rest has.knows.due)
 acquire_good setup setting cores t stands c here a active pin change (switch_act m) is has =
     let call = switch_of a.call a.found (claimed_by m.at) m.tcap has.knows.knows.switches in
     acquire_footprint setup setting cores t stands c here a active pin change (switch_act m) is has
@@ -657,6 +628,8 @@ acquire_good setup setting cores t stands c here a active pin change (comp_act m
     not_true : (b : Bool) → not b ≡ true → b ≡ false
     not_true true h = cc
     not_true false h = refl
+acquire_good setup setting cores t stands c here a active pin change act is has =
+    absurd (no_due (map due_of a.counts) (record { frame = pin_frame pin; change = change }) has.knows.rest has.knows.due)
 
 -- A decided call commits its earliest count.
 module _ (setup : Setting) (setting : IsSetting setup) (cores : ℕ → Core) (t : Trace) (stands : Invariant setup cores t) (c : ℕ)

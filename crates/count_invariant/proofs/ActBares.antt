@@ -1,7 +1,7 @@
 -- An act that acquires counts, and a call that commits them, keep no word without a mark.
 use Rattle.step_ways.proofs.{◌≡◌, ℕ, List, Option, None, ◌∙◌, ap, Word, Acquired, Holding, holds_counts, holds_act, AsBefore, as_none}
 use Rattle.{step_ways.proofs.counts_bare, step_ways.specs.act_states.specs.declared.work.Act.Act as ActOf}
-use Rattle.{step_ways.specs.core_invariant.proofs.ActBares.act_bare}
+use Rattle.{step_ways.specs.core_invariant.proofs.Keepings.act_bare}
 
 pub acquired_bares : (h h' : Holding) (act : ActOf) (xs ys : List Acquired) (w : Word) → h ≡ holds_act act (holds_counts None xs)
     → h' ≡ holds_act act (holds_counts None ys) → AsBefore h h' w

@@ -33,28 +33,12 @@ part_unnamed (Some range) g n k puts f names_it = by (has_frames (found range) g
 -- A call that fills its target with what names a frame changes references, and that frame is in its footprint: a line a call.
 pub put_counts : (call : Call) (ks : List Capability) (read : Option ℕ) (k : Capability) → put_by call ks read ≡ Some k
     → (d : ℕ) → is_one_of d (named_by k.kind k.frame) ≡ true → IsTrue (counts_references call)
-put_counts (Look a) ks read k puts d names_it = absurd (cc)
 put_counts (Copy a u b rights) ks read k puts d names_it = refl
 put_counts (Grow u i l) ks read k puts d names_it = refl
-put_counts (Remove u b) ks read k puts d names_it = absurd (cc)
-put_counts (Shrink u i) ks read k puts d names_it = absurd (cc)
 put_counts (Map p v r f w) ks read k puts d names_it = refl
-put_counts (Unmap p v) ks read k puts d names_it = absurd (cc)
-put_counts (Retype r f j) ks read k puts d names_it = absurd (cc)
-put_counts (make_call what r f u b) ks read k puts d names_it = absurd (cc)
-put_counts (Touch v) ks read k puts d names_it = absurd (cc)
-put_counts Flush ks read k puts d names_it = absurd (cc)
-put_counts (Tick n) ks read k puts d names_it = absurd (cc)
 put_counts (Gate n u b) ks read k puts d names_it = refl
-put_counts (Kill n) ks read k puts d names_it = absurd (cc)
-put_counts (call_gate n) ks read k puts d names_it = absurd (cc)
-put_counts Ret ks read k puts d names_it = absurd (cc)
-put_counts (Replenish x m) ks read k puts d names_it = absurd (cc)
-put_counts (Transfer x y m) ks read k puts d names_it = absurd (cc)
-put_counts (Delegate x y m) ks read k puts d names_it = absurd (cc)
-put_counts (Test x y) ks read k puts d names_it = absurd (cc)
-put_counts (Switch x y) ks read k puts d names_it = absurd (cc)
 put_counts (Part r g n u b) ks read k puts d names_it = absurd (part_unnamed (at_place ks First) g n k puts d names_it)
+put_counts _ ks read k puts d names_it = absurd (cc)
 
 -- A name that wants a component has led to one.
 wanted_is : (j k : Capability) → of_kind (to_use (only comp_kind)) j ≡ Found k → k.kind ≡ comp_kind
@@ -96,27 +80,11 @@ pub put_footprint : (s : State) (c : ℕ) (call : Call) (ks : List Capability) (
     → put_by call ks read ≡ Some k
     → Leads (LeadsIn s c) (plan_for call).names [] ks
     → (f : ℕ) → is_one_of f (named_by k.kind k.frame) ≡ true → is_one_of f (footprint_frames s c call) ≡ true
-put_footprint s c (Look a) ks read k puts lead f names_it = absurd (cc)
 put_footprint s c (Copy a u b rights) ks read k puts lead f names_it =
     copy_footprint s c a u b rights ks (at_place ks First) k refl puts lead f names_it
 put_footprint s c (Grow u i l) ks read k puts lead f names_it = link_footprint s c u i l ks k puts lead f names_it
-put_footprint s c (Remove u b) ks read k puts lead f names_it = absurd (cc)
-put_footprint s c (Shrink u i) ks read k puts lead f names_it = absurd (cc)
 put_footprint s c (Map p v r g w) ks read k puts lead f names_it = page_footprint s c p v r g w (at_place ks Second) k puts f names_it
-put_footprint s c (Unmap p v) ks read k puts lead f names_it = absurd (cc)
-put_footprint s c (Retype r g j) ks read k puts lead f names_it = absurd (cc)
-put_footprint s c (make_call what r g u b) ks read k puts lead f names_it = absurd (cc)
-put_footprint s c (Touch v) ks read k puts lead f names_it = absurd (cc)
-put_footprint s c Flush ks read k puts lead f names_it = absurd (cc)
-put_footprint s c (Tick n) ks read k puts lead f names_it = absurd (cc)
 put_footprint s c (Gate n u b) ks read k puts lead f names_it = gate_footprint s c n u b ks
     (at_place ks First) read k refl puts lead f names_it
-put_footprint s c (Kill n) ks read k puts lead f names_it = absurd (cc)
-put_footprint s c (call_gate n) ks read k puts lead f names_it = absurd (cc)
-put_footprint s c Ret ks read k puts lead f names_it = absurd (cc)
-put_footprint s c (Replenish x m) ks read k puts lead f names_it = absurd (cc)
-put_footprint s c (Transfer x y m) ks read k puts lead f names_it = absurd (cc)
-put_footprint s c (Delegate x y m) ks read k puts lead f names_it = absurd (cc)
-put_footprint s c (Test x y) ks read k puts lead f names_it = absurd (cc)
-put_footprint s c (Switch x y) ks read k puts lead f names_it = absurd (cc)
 put_footprint s c (Part r g n u b) ks read k puts lead f names_it = absurd (part_unnamed (at_place ks First) g n k puts f names_it)
+put_footprint s c _ ks read k puts lead f names_it = absurd (cc)

@@ -8,14 +8,14 @@ use low.{last_left, look_move, Look, AtRoot, AtLeaf, AtEntry, unheld, acquired, 
 use low.{Quiet, AtCore, AtFlush, frozen, released, Sweep, SweepAt, Thaw, Charge, AtLoad as charge_load, Pair, PairAt, LoadA, MarkA, ListA}
 use low.{LoadB, ListB, CompareB, AgainB, StoreList, StoreB, StoreA, dues, put_by, CompAt, CompMaking, InvokingAt, ReturningAt, KillingAt}
 use low.{LoadComp, LoadLive, Close as kill_close, Draw as kill_draw, MakingAt, NewObject, SwitchAt, Switching, TypingAt, Untyping}
-use low.{UntypingAt, Due, Fill as fill_act, Remove as remove_act, Retype as type_act, Make as make_act, Outside, Tick as tick_act}
-use low.{Touch as touch_act, Flush as flush_act, Kill as kill_act, Untype as untype_act, Map as map_act, MakeComp as comp_act}
-use low.{Invoke as invoke_act, Return as return_act, Share as share_act, Refill as refill_act, Switch as switch_act, Tail, Nothing, Quiesce}
-use low.{Unmark, StoreDead, StoreFlush, Release, StoreLive, Push, Pop, StoreRunning, StoreIdle, Lookup, Read, Scan, Acquire, Act, move_in}
-use low.{move_of, CountsAt, StageFits, stage_move, is_ok, tail_move, Core, ActiveCall, Stage, Enter, Living, Undecided, Decided, Leave}
-use low.{holds_release, holds_thaw, count_of, committed, holds_counts, settled_by, settled, done_by, holds_at, holds_in, holds, held_by}
-use low.{CallIs, KnowsAct, KnowsAt, KnowsClose, due_of, KnowsUndecided, phase_at, untypes, KnowsSweep, KnowsUntypingAt, UntypesBy}
-use low.{claimed_by, SaysCount, release_away, thaw_here, plan_for, Claim}
+use low.{UntypingAt, Due, Fill as fill_act, Remove as remove_act, Retype as type_act, Make as make_act, Tick as tick_act}
+use low.{Touch as touch_act, Kill as kill_act, Untype as untype_act, Map as map_act, MakeComp as comp_act, Invoke as invoke_act}
+use low.{Return as return_act, Share as share_act, Refill as refill_act, Switch as switch_act, Tail, Nothing, Quiesce, Unmark, StoreDead}
+use low.{StoreFlush, Release, StoreLive, Push, Pop, StoreRunning, StoreIdle, Lookup, Read, Scan, Acquire, Act, move_in, move_of, CountsAt}
+use low.{StageFits, stage_move, is_ok, tail_move, Core, ActiveCall, Stage, Enter, Living, Undecided, Decided, Leave, holds_release}
+use low.{holds_thaw, count_of, committed, holds_counts, settled_by, settled, done_by, holds_at, holds_in, holds, held_by, CallIs, KnowsAct}
+use low.{KnowsAt, KnowsClose, due_of, KnowsUndecided, phase_at, untypes, KnowsSweep, KnowsUntypingAt, UntypesBy, claimed_by, SaysCount}
+use low.{release_away, thaw_here, plan_for, Claim}
 use Rattle.time_laws.specs.act_states.specs.{Retype, pin_move, commit_of, AtLoad, close_move, quiet_move, Close, move_at, ThawFits}
 use Rattle.time_laws.specs.act_states.specs.{charge_move, Refill, RefillAt, Pop as PopOf, Push as PushOf, act_move, comp_at, invoking_at}
 use Rattle.time_laws.specs.act_states.specs.{returning_at, killing_at, making_at, switching_at, typing_at, is_drawing, untyping_at}
@@ -259,19 +259,7 @@ module _ (setup : Setting) (setting : IsSetting setup) (cores : ℕ → Core) (t
   spares_frame (untype_act m) is has by = swept_none m m.at has.knows.starts has.knows.knows.at
       (sweep_spares setup setting cores t stands c here a active pin change m is has) (pin_frame pin) refl
       (same_untyping a.call m.frame (pin_frame pin) (untypes_frame a.call a.found m has.knows.knows.untypes) by)
-  spares_frame (type_act y) is has by =
-      none_due (map due_of a.counts) (record { frame = pin_frame pin; change = change }) has.knows.rest has.knows.due
-  spares_frame (Outside node entry word) is has by =
-      none_due (map due_of a.counts) (record { frame = pin_frame pin; change = change }) has.knows.rest has.knows.due
-  spares_frame (tick_act charge) is has by =
-      none_due (map due_of a.counts) (record { frame = pin_frame pin; change = change }) has.knows.rest has.knows.due
-  spares_frame (touch_act m) is has by =
-      none_due (map due_of a.counts) (record { frame = pin_frame pin; change = change }) has.knows.rest has.knows.due
-  spares_frame (flush_act core) is has by =
-      none_due (map due_of a.counts) (record { frame = pin_frame pin; change = change }) has.knows.rest has.knows.due
-  spares_frame (share_act p) is has by =
-      none_due (map due_of a.counts) (record { frame = pin_frame pin; change = change }) has.knows.rest has.knows.due
-  spares_frame (refill_act r) is has by =
+  spares_frame act is has by =
       none_due (map due_of a.counts) (record { frame = pin_frame pin; change = change }) has.knows.rest has.knows.due
 
 module _ (setup : Setting) (setting : IsSetting setup) (cores : ℕ → Core) (t : Trace) (stands : Invariant setup cores t) (c : ℕ)
@@ -363,15 +351,11 @@ module _ (setup : Setting) (setting : IsSetting setup) (cores : ℕ → Core) (t
   module _ (a : ActiveCall) (active : (cores c).active ≡ Some a) where
     act_leaves : (act : ActOf) → a.stage ≡ Undecided (Act act) → phase t c ≡ Open a.call
         → KnowsAct setup t c a.call (plan_for a.call) a.found setup.cores act → Leaves (act_move act)
-    act_leaves (fill_act fill) is is_open has = beside (act_move (fill_act fill)) refl
     act_leaves (remove_act close cap) is is_open has = beside (close_move close) (close_beside close)
     act_leaves (type_act y) is is_open has = beside (act_move (type_act y)) (typing_beside y.frame y.kind y.at)
     act_leaves (make_act m) is is_open has = beside (act_move (make_act m)) (making_beside m.frame m.object m.core m.fill m.at)
-    act_leaves (map_act fill) is is_open has = beside (act_move (map_act fill)) refl
-    act_leaves (Outside node entry word) is is_open has = beside (act_move (Outside node entry word)) refl
     act_leaves (tick_act charge) is is_open has = beside (charge_move charge) (charge_beside charge)
     act_leaves (touch_act m) is is_open has = beside (look_move m.look) (look_beside m.look)
-    act_leaves (flush_act core) is is_open has = beside (act_move (flush_act core)) refl
     act_leaves (kill_act m) is is_open has = beside (act_move (kill_act m)) (killing_beside m.comp m.core m.at)
     act_leaves (untype_act m) is is_open has =
         untyping_leaves a.call m.frame m.core m.at is_open (untypes_frame a.call a.found m has.untypes) has.at
@@ -393,6 +377,7 @@ module _ (setup : Setting) (setting : IsSetting setup) (cores : ℕ → Core) (t
     act_leaves (share_act p) is is_open has = beside (act_move (share_act p)) (pair_beside p p.at)
     act_leaves (refill_act r) is is_open has = beside (act_move (refill_act r)) (refill_beside r r.at)
     act_leaves (switch_act m) is is_open has = beside (act_move (switch_act m)) (switching_beside m m.at)
+    act_leaves act is is_open has = beside (act_move act) refl
 
     -- what a call stores in a word that it holds, no core holds then
     pub stores : (g j x : ℕ) → (holds (cores c)).marks (CountAt g j) ≡ true → (holds (cores c)).stands (CountAt g j) ≡ x

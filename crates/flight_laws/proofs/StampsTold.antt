@@ -21,7 +21,8 @@ use Rattle.time_laws.specs.history_laws.specs.Stamps.{drawn_by, newest_then, sta
 use Rattle.flight_laws.proofs.CountHolds.{before_is, entered_is, frozen_say, kept, no_return, pinned_say}
 use Rattle.flight_laws.proofs.AcquiredCounts.{HasCount, active_now, decides_told, entry, found, has_count, settles_to, told}
 use Rattle.flight_laws.proofs.CountsTold.{holder_below, mark_now, phase_now, settled_open, settled_other, settled_own, showed, showed_own}
-use Rattle.flight_laws.proofs.DrawnStamps.{DoneSmall, IsSmall, OkDrawn, acquire_drawn, stage_drawn}
+use Rattle.flight_laws.proofs.DrawnStamps.{DoneSmall, OkDrawn, acquire_drawn, stage_drawn}
+use Rattle.time_laws.specs.call_stages.proofs.Answering.{IsSmall}
 use Rattle.flight_laws.proofs.SettledCounts.{cleared_is, closed_shows, count_changes, free_shows, other_same, pinned_shows, settled_shows}
 use Rattle.{time_laws.specs.kernel_history.proofs.entered_run, std.proofs.lemmas.Bool.cases_eq, std.proofs.lemmas.Bool.cases_lt}
 use Rattle.{time_laws.specs.flight.specs.cores_after, time_laws.specs.flight.specs.IsMade, time_laws.specs.core_invariant.specs.newest_of}

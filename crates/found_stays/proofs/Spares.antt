@@ -2,12 +2,12 @@
 use Rattle.kernel_invariant.specs.kernel_rules.proofs as low
 use low.{◌≡◌, ◌≢◌, inl, inr, ℕ, ◌<◌, Bool, true, false, not, refl, sym, ◌∙◌, ap, subst, ◌==◌, cond, ◌&&◌, ◌||◌, ltb as nat_lt}
 use low.{if◌then◌else◌, ◌+◌, ◌-◌, ◌≤◌, arith, IsTrue, List, [], ◌∷◌, take, Option, Some, None, false≢true, ne_eqb, eqb-true, Capability}
-use low.{cap_of, kept, part_of, Kind, FrameKind, Make, Call, Look, Copy, Remove as remove_call, Grow, Shrink, Retype, Map, Unmap, Touch}
-use low.{Flush, Gate, Kill, Ret, Switch, Tick, Transfer, Delegate, Test, Part, Replenish, Translation, Nothing, Reply, Place, Free, Holds}
+use low.{Kind, FrameKind, Make, Call, Retype, Touch}
+use low.{Flush, Kill, Ret, Switch, Tick, Transfer, Delegate, Replenish, Translation, Nothing, Reply, Place, Free, Holds}
 use low.{Quiescing, CompFields, ThreadFields, TcapFields, Object, Blank, Table, Leaf, Pages, Pleaf, Comp, Thread, Tcap, Frame, Untyped}
 use low.{User, Kernel, Core, Thing, PlaceOf, FrameOf, NumberOf, Liveness, Unused, put, with_frame, with_core, with_number, Live, Dead}
 use low.{comp_of, comp_in, thread_in, thread_of, plain_cap, no_grace, refs, times, frame_names, number_names, core_names, Slot, found}
-use low.{Target, Under, InRoot, place_at, usable_in, reached, same_thing, new_grace, begun, flushed, is_live_in, is_dead_in, Change, does}
+use low.{Target, Under, place_at, usable_in, reached, same_thing, new_grace, begun, flushed, is_live_in, is_dead_in, Change, does}
 use low.{Cause, When, WaitedFor, Unflushed, Found, named, vacant, held, unless, not_vacant, first_cause, refusal_of, waits_of, flushes_of}
 use low.{frames_of, cleared, with_thread, with_stack, running, switched, Fill, Node, Become, Untype, is_live, not_blank, outside, epoch_of}
 use low.{make_node, make_rule, not_taken, Component, Deaden, Push, Pop, edited, after_edits, with_tcap, is_untyped_now, is_empty}
@@ -21,6 +21,7 @@ use Rattle.kernel_invariant.proofs.{SoundRemovals.none_waits, SoundRemovals.none
 use Rattle.found_stays.proofs.Apart.{acts_in, acts_more, kill_apart, IsApart, apart_same, apart_then, fill_apart, remove_apart, begin_apart}
 use Rattle.found_stays.proofs.Apart.{frame_apart, core_apart, number_apart, clear_apart, flush_apart, frame_waits}
 use Rattle.{std.proofs.lemmas.Bool.cases_eq, std.specs.List.list_any, kernel_invariant.proofs.Facts.refused_found}
+use low.{Value}
 
 -- The current thread of a core runs on it.
 abbrev pub RunsOn : State → ℕ → Type 0
@@ -400,22 +401,15 @@ module _ (s : State) (o : ℕ → Bool) (d : ℕ) (h : HasTurn s o d) where
       put_all (λ g x. IsTrue (fits Kind.Tcap x)) s.frame a _ b (λ same. with_tcap_fit (s.frame a) _ fa) (λ other. fb) in
       ap is_fixed (put_same first.frame b _ b refl) ∙ with_tcap_loose (first.frame b) _ fit
 
+  same_spares : (v : Value) → SparesBy s o d (does d s v [])
+  same_spares v = plain s o d h s (apart_same s o d) (own_runs s o d h)
+
   -- Every call that is carried out.
   pub rule_spares : (call : Call) → ChangesFrom (SparesBy s o d) s d (rule_of s d call)
-  rule_spares (Look a) = λ k e calm. plain s o d h s (apart_same s o d) (own_runs s o d h)
-  rule_spares (Copy a t b rights) = λ k e table f at g calm. filled s o d h (Under (found table) b) at (kept k rights.0) g
-  rule_spares (remove_call t b) = λ table e at k g calm. removed s o d h (Under (found table) b) at k g
-  rule_spares (Grow t i l) = λ table e leaf f at g calm. filled s o d h (InRoot (found table) i) at (plain_cap Kind.Link leaf.frame) g
-  rule_spares (Shrink t i) = λ table e at k g calm. removed s o d h (InRoot (found table) i) at k g
   rule_spares (Retype r f k) = retype_spares s o d h r f k
   rule_spares (make_call what r f t b) = make_spares s o d h what r f t b
-  rule_spares (Map p v r f w) =
-      λ pages e range g at u calm. filled s o d h (Under (found pages) v) at (cap_of Kind.Page f w.0) u
-  rule_spares (Unmap p v) = λ pages e at k g calm. removed s o d h (Under (found pages) v) at k g
   rule_spares (Touch v) = touch_spares s o d h (comp_of s d).pages v (translation_of (s.core d).cached (comp_of s d).pages v)
   rule_spares Flush = λ calm. plain s o d h (flushed s d) (flush_apart s o d) (runs_core s d _ refl (own_runs s o d h))
-  rule_spares (Gate k t b) =
-      λ comp e table f at g calm. filled s o d h (Under (found table) b) at (cap_of Kind.Gate comp.frame _) g
   rule_spares (Kill k) = λ comp e calm.
       let fields : CompFields = comp_in (s.frame comp.frame) in
       let dead : Cause = not_live s (found comp) fields.number fields.epoch in
@@ -452,7 +446,6 @@ module _ (s : State) (o : ℕ → Bool) (d : ℕ) (h : HasTurn s o d) where
       (tcap_apart (moved s j.frame k.frame m) o d k.frame _ (moved_loose j.frame k.frame m fa fb) (tcap_away k.frame fb)))
       (runs_put (moved s j.frame k.frame m) k.frame _ d
       (own_away s o d h k.frame (tcap_no_thread (s.frame k.frame) fb)) (moved_runs j.frame k.frame m fa fb))
-  rule_spares (Test a b) = λ j e k f calm. plain s o d h s (apart_same s o d) (own_runs s o d h)
   rule_spares (Replenish a m) = λ j e calm.
       let q : ℕ = j.frame in
       let fit : IsTrue (fits Kind.Tcap (s.frame q)) = named_fit s h.opened d a Kind.Tcap j h.opens.sound h.opens.is e in
@@ -460,4 +453,5 @@ module _ (s : State) (o : ℕ → Bool) (d : ℕ) (h : HasTurn s o d) where
       (apart_then s (with_budget s q _) _ o d (tcap_apart s o d q _ (tcap_loose (s.frame q) fit) (tcap_away q fit))
       (core_apart (with_budget s q _) o d _))
       (runs_core (with_budget s q _) d _ refl (runs_put s q _ d (own_away s o d h q (tcap_no_thread (s.frame q) fit)) (own_runs s o d h)))
-  rule_spares (Part r f n t b) = λ k e table g at u calm. filled s o d h (Under (found table) b) at (part_of k f n) u
+  -- the others fill a place, remove what one holds, or change nothing
+  rule_spares _ = search (filled s o d h, removed s o d h, same_spares)

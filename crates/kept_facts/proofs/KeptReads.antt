@@ -1,35 +1,17 @@
 -- What a step leaves of that on which a call's knowledge of its act rests.
 use Rattle.core_invariant.proofs.{◌≡◌, ℕ, ◌&&◌, [], ◌∷◌, ◌++◌, List, Bool, true, false, ◌∙◌, ap, ◌==◌, sym, false≢true, Capability, Setting}
 use Rattle.core_invariant.proofs.{Call, EntryAt, CountAt, FrameAt, LiveAt, Step, Trace, state_after, own_read, last_left, stamp, Quiet}
-use Rattle.core_invariant.proofs.{AtCore, AtFlush, Fill as fill_act, Remove as remove_act, Retype as type_act, Make as make_act, Outside}
-use Rattle.core_invariant.proofs.{Tick as tick_act, Flush as flush_act, Kill as kill_act, Untype as untype_act, Map as map_act}
-use Rattle.core_invariant.proofs.{MakeComp as comp_act, Invoke as invoke_act, Return as return_act, Touch as touch_act, Share as share_act}
-use Rattle.core_invariant.proofs.{Refill as refill_act, Switch as switch_act, Work, Lookup, Read, Scan, Acquire, Act, dues, ActiveCall, Due}
-use Rattle.core_invariant.proofs.{Pair, SweepAt, Compare as sweep_compare, Empty as sweep_empty, UntypingAt, HasThread, claimed_by}
-use Rattle.core_invariant.specs.act_states.specs.{comp_is_marked, is_marked, Refill, Load as sweep_load, Scan as sweep_scan}
+use Rattle.core_invariant.proofs.{AtCore, AtFlush, Untype as untype_act, Share as share_act, Refill as refill_act, Switch as switch_act}
+use Rattle.core_invariant.proofs.{Work, Lookup, Read, Scan, Acquire, Act, dues, ActiveCall, Due, Pair, SweepAt, Compare as sweep_compare}
+use Rattle.core_invariant.proofs.{Empty as sweep_empty, UntypingAt, HasThread, claimed_by}
+use Rattle.core_invariant.specs.act_states.specs.{phases_of, Refill, Load as sweep_load, Scan as sweep_scan}
 use Rattle.core_invariant.specs.{Shares.KnowsShare, Refills.KnowsRefill, Reaching.IsUser}
 use Rattle.{core_invariant.proofs.is_claimed, core_invariant.specs.is_start, core_invariant.specs.KnowsQuiet}
 use Rattle.{core_invariant.specs.act_states.specs.declared.work.Act.Act as ActOf, kept_facts.proofs.Swept.LeavesFrame}
 
 -- The frame whose words an act has stored.
 abbrev pub stores_in : ActOf → ℕ → Bool
-stores_in (fill_act fill) f = false
-stores_in (remove_act close cap) f = false
-stores_in (type_act typing) f = false
-stores_in (make_act m) f = is_marked m.at && f == m.frame
-stores_in (map_act fill) f = false
-stores_in (Outside node entry word) f = false
-stores_in (tick_act charge) f = false
-stores_in (touch_act m) f = false
-stores_in (flush_act by) f = false
-stores_in (kill_act m) f = false
-stores_in (untype_act m) f = false
-stores_in (comp_act m) f = comp_is_marked m.at && f == m.frame
-stores_in (invoke_act m) f = false
-stores_in (return_act m) f = false
-stores_in (share_act p) f = false
-stores_in (refill_act r) f = false
-stores_in (switch_act m) f = false
+stores_in act f = (phases_of act).stores f
 
 abbrev pub stores_of : Work → ℕ → Bool
 stores_of (Lookup look) f = false

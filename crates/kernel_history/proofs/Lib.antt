@@ -8,6 +8,8 @@ pub mod Inside
 -- Marks.
 pub mod Markings
 pub mod OwnCounts
+-- What the discipline permits is what the edits of calls need.
+mod Columns
 -- Laws.
 pub mod Races
 pub mod Laws

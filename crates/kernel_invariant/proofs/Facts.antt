@@ -1,11 +1,13 @@
 -- What is known where a rule is carried out.
-use Rattle.kernel_rules.proofs.{◌&&◌, ◌≡◌, ℕ, ◌<◌, ◌≤◌, ◌%◌, Bool, true, false, not, refl, sym, ◌∙◌, ap, subst, arith, leb as nat_le}
+use Rattle.kernel_rules.proofs.{◌&&◌, ◌≡◌, ℕ, ◌<◌, ◌≤◌, ◌%◌, Bool, true, false, not, refl, sym, ◌∙◌, ap, subst, arith, leb as nat_le, suc}
 use Rattle.kernel_rules.proofs.{if◌then◌else◌, IsTrue, List, ◌∷◌, Option, Some, None, false≢true, true≢false, leb-true, Capability}
 use Rattle.kernel_rules.proofs.{has_rights, Kind, Value, Reply, Place, Free, Holds, Quiescing, Frame, Kernel, Leaf, Pleaf, PlaceOf, Slot}
 use Rattle.kernel_rules.proofs.{found, Want, to_use, Target, Under, InRoot, place_at, held_in, usable_in, usable, linked, slot_in, reached}
 use Rattle.kernel_rules.proofs.{root_slot, only, own, Edit, Change, does, Cause, Rule, Name, Vacant, Held, Mapped, Does, Judged, Refused}
 use Rattle.kernel_rules.proofs.{Found, and_then, unless, or_refuse, with_rights, of_kind, named, first_of, not_vacant, vacant, held, mapped}
 use Rattle.kernel_rules.proofs.{refusal_of, first_cause, outcome, IfFound, fits, IsGood, is_node}
+use Rattle.kernel_rules.proofs.Rows.{Looks, found_by, cap_first, slot_first, held_first, nothing_looked}
+use Rattle.{kernel_rules.specs.Rows.value_at, kernel_rules.specs.Rows.edits_at}
 use Rattle.{kernel_rules.specs.State.State, kernel_invariant.proofs.Sound.IsSound, kernel_invariant.proofs.Sound.only_is}
 
 -- P holds of the value and the edits of a rule where it is carried out.
@@ -23,6 +25,38 @@ edits_map P Q s c (Vacant target rest) f h = λ at e. edits_map P Q s c (rest at
 edits_map P Q s c (Held target rest) f h = λ at k e. edits_map P Q s c (rest at k) f (h at k e)
 edits_map P Q s c (Mapped table v rest) f h = λ k e. edits_map P Q s c (rest k) f (h k e)
 edits_map P Q s c (Does causes value edits) f h = λ calm. f value edits (h calm)
+
+-- What is looked up later.
+abbrev pub cap_later : Looks → Looks
+cap_later g = record g { caps = λ i. g.caps (suc i) }
+
+abbrev pub slot_later : Looks → Looks
+slot_later g = record g { slots = λ i. g.slots (suc i) }
+
+abbrev pub held_later : Looks → Looks
+held_later g = record g { held = λ i. g.held (suc i) }
+
+-- The look-ups of a rule of core c find these, and no cause stands.
+abbrev pub LedBy : State → ℕ → Rule → Looks → Type 0
+LedBy s c (Name n want rest) g = (named s c n want ≡ Found (g.caps 0)) × LedBy s c (rest (found (g.caps 0))) (cap_later g)
+LedBy s c (Vacant target rest) g = (vacant s c target ≡ Found (g.slots 0)) × LedBy s c (rest (g.slots 0)) (slot_later g)
+LedBy s c (Held target rest) g =
+    (held s c target ≡ Found (g.slots 0, g.held 0)) × LedBy s c (rest (g.slots 0) (g.held 0)) (held_later (slot_later g))
+LedBy s c (Mapped table v rest) g = (mapped s c table v ≡ Found (g.held 0)) × LedBy s c (rest (g.held 0)) (held_later g)
+LedBy s c (Does causes value edits) g = first_cause s c causes ≡ None
+
+-- P holds of the value and the edits that a rule has where its look-ups find these.
+abbrev pub HoldsAt : (Value → List Edit → Type 0) → Rule → Looks → Type 0
+HoldsAt P rule g = P (value_at rule (found_by g)) (edits_at rule (found_by g))
+
+-- What holds so wherever the look-ups of a rule may lead, holds where it is carried out.
+pub from_left : (P : Value → List Edit → Type 0) (s : State) (c : ℕ) (rule : Rule) → ((g : Looks) → LedBy s c rule g → HoldsAt P rule g)
+    → EditsFrom P s c rule
+from_left P s c (Name n want rest) h = λ k e. from_left P s c (rest (found k)) (λ g is. h (cap_first k g) (e, is))
+from_left P s c (Vacant target rest) h = λ at e. from_left P s c (rest at) (λ g is. h (slot_first at g) (e, is))
+from_left P s c (Held target rest) h = λ at k e. from_left P s c (rest at k) (λ g is. h (slot_first at (held_first k g)) (e, is))
+from_left P s c (Mapped table v rest) h = λ k e. from_left P s c (rest k) (λ g is. h (held_first k g) (e, is))
+from_left P s c (Does causes value edits) h = λ calm. h nothing_looked calm
 
 -- P holds of the change that a rule makes where it is carried out.
 abbrev pub ChangesFrom : (Change → Type 0) → State → ℕ → Rule → Type 0

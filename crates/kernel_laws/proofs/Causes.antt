@@ -3,25 +3,28 @@ use Rattle.found_stays.specs.kernel_rules.proofs.{◌≡◌, ◌≢◌, ◌⊎�
 use Rattle.found_stays.specs.kernel_rules.proofs.{◌||◌, refl, sym, ◌∙◌, ap, subst, arith, ◌==◌, ltb as nat_lt, leb as nat_le, if◌then◌else◌}
 use Rattle.found_stays.specs.kernel_rules.proofs.{IsTrue, IsFalse, IsSomeAnd, is_some, List, [], ◌∷◌, length, Option, Some, None}
 use Rattle.found_stays.specs.kernel_rules.proofs.{false≢true, true≢false, eqb-true, eqb-false, ltb-true, ltb-false, leb-true, leb-false}
-use Rattle.found_stays.specs.kernel_rules.proofs.{Capability, has_rights, Kind, FrameKind, PageFlags, Make, Call, Look, Copy, Remove, Grow}
-use Rattle.found_stays.specs.kernel_rules.proofs.{Shrink, Retype, Map, Unmap, Touch, Flush, Gate, Kill, Ret, Switch, Tick, Transfer}
-use Rattle.found_stays.specs.kernel_rules.proofs.{Delegate, Test, Part, Replenish, Translation, Reply, covers, Object, Blank, Table, Leaf}
+use Rattle.found_stays.specs.kernel_rules.proofs.{Capability, has_rights, Kind, FrameKind, Make, Call}
+use Rattle.found_stays.specs.kernel_rules.proofs.{Retype, Map, Touch, Flush, Gate, Kill, Ret, Switch, Tick, Transfer}
+use Rattle.found_stays.specs.kernel_rules.proofs.{Delegate, Test, Part, Replenish, Translation, Reply, covers, Blank, Table, Leaf}
 use Rattle.found_stays.specs.kernel_rules.proofs.{Pages, Pleaf, Comp, Thread, Tcap, Frame, Untyped, User, Kernel, outstanding, Liveness}
 use Rattle.found_stays.specs.kernel_rules.proofs.{Live, Thing, FrameOf, NumberOf, comp_in, comp_of, thread_in, tcap_in, thread_of, refs}
-use Rattle.found_stays.specs.kernel_rules.proofs.{Slot, Named, found, Want, to_use, Target, Under, InRoot, held_in, usable, reached, only}
-use Rattle.found_stays.specs.kernel_rules.proofs.{root, own, to_part, MayWait, MayBeUnflushed, Judged, Refused, Found, and_then, or_refuse}
-use Rattle.found_stays.specs.kernel_rules.proofs.{of_kind, named, mapped, NameMay, VacantMay, Lacks, HeldMay, MappedMay, OneMay, RuleMay}
-use Rattle.found_stays.specs.kernel_rules.proofs.{IsFoundAnd, name_of, leaf_for, outside, has_frame, is_frame, is_blank, not_blank}
-use Rattle.found_stays.specs.kernel_rules.proofs.{make_node, make_rule, not_taken, epoch_of, has_frames, is_untyped, is_user, holds_nothing}
-use Rattle.found_stays.specs.kernel_rules.proofs.{is_empty, not_retyped, retype_rule, touch_by, translation_of, is_live_in, asks_life}
-use Rattle.found_stays.specs.kernel_rules.proofs.{switch_to, are_alike, are_same, is_short, is_finer, is_less, rule_of}
+use Rattle.found_stays.specs.kernel_rules.proofs.{Slot, Named, found, Want, to_use, Target, held_in, usable, reached, only}
+use Rattle.found_stays.specs.kernel_rules.proofs.{own, to_part, MayWait, MayBeUnflushed, Refused, Found, and_then, or_refuse}
+use Rattle.found_stays.specs.kernel_rules.proofs.{of_kind, named, NameMay, Cause, VacantMay, Lacks, HeldMay, MappedMay, OneMay, RuleMay}
+use Rattle.found_stays.specs.kernel_rules.proofs.{name_of, outside, has_frame, is_frame, is_blank, not_blank}
+use Rattle.found_stays.specs.kernel_rules.proofs.{make_rule, not_taken, epoch_of, has_frames, is_untyped, is_user, holds_nothing}
+use Rattle.found_stays.specs.kernel_rules.proofs.{is_empty, not_retyped, touch_by, translation_of, is_live_in, asks_life}
+use Rattle.found_stays.specs.kernel_rules.proofs.{are_alike, are_same, is_short, is_finer, is_less, rule_of}
 use Rattle.kernel_laws.specs.{used_at, leads_as, tcap_named, leads}
 use Rattle.found_stays.specs.kernel_rules.specs.{WaitedMay, UnflushedMay, CauseMay, MayBeDead}
 use Rattle.std.specs.List.{list_any, range_with_len}
+use Rattle.found_stays.specs.kernel_rules.specs.{CapabilityCalls.beyond, InvocationCalls.not_live, InvocationCalls.runs_elsewhere}
+use Rattle.found_stays.specs.kernel_rules.specs.Rows.{Asked, OneIs, Aim, Free, Full, Page, aims_at, causes_at, led, free_in, full_in}
+use Rattle.found_stays.specs.kernel_rules.proofs.Rows.{AimMay, AtName, AtAim, ByCause, may_at, are_none, no_one}
 use Rattle.found_stays.specs.spk_nums.specs.declared.calls.Call.TheVariants.{Make as make_call, Call as call_gate}
-use Rattle.kernel_laws.specs.Causes.{OneIs, as_wanted, Name, name, names_of, fills_at, empties_at, IsFiner, NeedsLife, IsDead, LiesOutside}
+use Rattle.kernel_laws.specs.Causes.{as_wanted, names_of, targets_of, fills_at, empties_at, IsFiner, NeedsLife, IsDead, LiesOutside}
 use Rattle.kernel_laws.specs.Causes.{HeldIn, IsDeadIn, BothAre, tcap_of, HasLess, HasCause, LiesBeyond}
-use Rattle.{std.proofs.lemmas.Bool.and_parts, found_stays.specs.spk_nums.specs.declared.rights.Rights.Rights}
+use Rattle.{std.proofs.lemmas.Bool.and_parts}
 use Rattle.{found_stays.specs.kernel_rules.specs.State.State, kernel_laws.specs.Laws.CausesStand}
 
 -- What a rule finds under a name is what the name leads to.
@@ -50,15 +53,15 @@ pub leads_is : (s : State) (c : ℕ) (kinds : Kind → Bool) (n : ℕ) → name_
 leads_is s c kinds n = leads_wanted s c (to_use kinds) n
 
 -- One of a list.
-one_map : {A : Type 0} (P Q : A → Type 0) (xs : List A) → ((x : A) → P x → Q x) → OneIs P xs → OneIs Q xs
+pub one_map : {A : Type 0} (P Q : A → Type 0) (xs : List A) → ((x : A) → P x → Q x) → OneIs P xs → OneIs Q xs
 one_map P Q [] f h = absurd h
 one_map P Q (x ∷ xs) f (inl h) = inl (f x h)
 one_map P Q (x ∷ xs) f (inr h) = inr (one_map P Q xs f h)
 
-no_one : {A : Type 0} (xs : List A) → OneIs (λ x. ⊥) xs → ⊥
-no_one [] h = h
-no_one (x ∷ xs) (inl h) = h
-no_one (x ∷ xs) (inr h) = no_one xs h
+none_is : {A : Type 0} (xs : List A) → OneIs (λ x. ⊥) xs → ⊥
+none_is [] h = h
+none_is (x ∷ xs) (inl h) = h
+none_is (x ∷ xs) (inr h) = none_is xs h
 
 some_and : {A : Type 0} (o : Option A) (x : A) (P : A → Type 0) → o ≡ Some x → P x → IsSomeAnd o P
 some_and o x P e h = subst (λ p. IsSomeAnd p P) (sym e) h
@@ -67,20 +70,27 @@ not_is : (b : Bool) → IsTrue (not b) → b ≡ false
 not_is true h = absurd (false≢true h)
 not_is false h = refl
 
+-- Whether there is at most one target, and it is a place.
+abbrev is_place : List Aim → Bool
+is_place [] = true
+is_place (Free t ∷ aims) = are_none aims
+is_place (Full t ∷ aims) = are_none aims
+is_place (Page table v ∷ aims) = false
+
 module _ (s : State) (c : ℕ) (call : Call) where
   -- A cause at a name.
   at_use : (P : Capability → Type 0) (o : Option Slot) → IsSomeAnd o (λ at. IsSomeAnd (usable s c at) P) → IsSomeAnd (used_at s c o) P
   at_use P None h = absurd h
   at_use P (Some at) h = h
 
-  name_cause : (r : Reply) → OneIs (λ (n : Name). NameMay s c n.number n.want r) (names_of s c call) → HasCause s c call r
+  name_cause : (r : Reply) → OneIs (λ (n : Asked). NameMay s c n.number n.want r) (names_of s c call) → HasCause s c call r
   name_cause Reply.NoSlot h = inl h
   name_cause Reply.Empty h = inl h
-  name_cause Reply.WrongCap h = one_map (λ (n : Name). NameMay s c n.number n.want Reply.WrongCap) _ (names_of s c call)
+  name_cause Reply.WrongCap h = one_map (λ (n : Asked). NameMay s c n.number n.want Reply.WrongCap) _ (names_of s c call)
       (λ n. at_use (λ k. IsFalse (n.want.kinds k.kind)) (reached s c (own s c n.number))) h
-  name_cause Reply.NoRight h = one_map (λ (n : Name). NameMay s c n.number n.want Reply.NoRight) _ (names_of s c call)
+  name_cause Reply.NoRight h = one_map (λ (n : Asked). NameMay s c n.number n.want Reply.NoRight) _ (names_of s c call)
       (λ n. at_use (Lacks n.want) (reached s c (own s c n.number))) h
-  name_cause _ h = absurd (no_one (names_of s c call) h)
+  name_cause _ h = absurd (none_is (names_of s c call) h)
 
   -- A cause at the place to be filled.
   fill_cause : (r : Reply) (t : Target) → fills_at s c call ≡ Some t → VacantMay s c t r → HasCause s c call r
@@ -95,6 +105,16 @@ module _ (s : State) (c : ℕ) (call : Call) where
   empty_cause Reply.NoSlot t e h = inr (inr (inl (some_and (empties_at s c call) t _ e h)))
   empty_cause Reply.Empty t e h = inr (some_and (empties_at s c call) t _ e h)
   empty_cause _ t e h = absurd h
+
+  -- A cause at the target of a call, which is one place.
+  place_cause : (aims : List Aim) → targets_of s c call ≡ aims → IsTrue (is_place aims) → (r : Reply) → OneIs (AimMay s c r) aims
+      → HasCause s c call r
+  place_cause [] e one r h = absurd h
+  place_cause (Free t ∷ aims) e one r (inl h) = fill_cause r t (ap free_in e) h
+  place_cause (Free t ∷ aims) e one r (inr h) = absurd (no_one (AimMay s c r) aims one h)
+  place_cause (Full t ∷ aims) e one r (inl h) = empty_cause r t (ap full_in e) h
+  place_cause (Full t ∷ aims) e one r (inr h) = absurd (no_one (AimMay s c r) aims one h)
+  place_cause (Page table v ∷ aims) e one r h = absurd (false≢true one)
 
   -- A cause of the call's own.
   when_cause : (condition : Bool) (q r : Reply) → (IsTrue condition → HasCause s c call q) → IsTrue condition × (r ≡ q)
@@ -111,57 +131,8 @@ module _ (s : State) (c : ℕ) (call : Call) where
   flush_cause x (Reply.Unflushed e) f h = f e h
   flush_cause x _ f h = absurd h
 
--- A name alone, and two names.
+-- The own causes of calls.
 module _ (s : State) (c : ℕ) where
-  look_cause : (a : ℕ) (r : Reply) → RuleMay s c (rule_of s c (Look a)) r → HasCause s c (Look a) r
-  look_cause a r (inl n) = name_cause s c (Look a) r (inl n)
-  look_cause a r (inr h) = absurd h
-
-  copy_cause : (a t b : ℕ) (rights : Rights) (r : Reply) → RuleMay s c (rule_of s c (Copy a t b rights)) r
-      → HasCause s c (Copy a t b rights) r
-  copy_cause a t b rights r (inl n) = name_cause s c (Copy a t b rights) r (inl n)
-  copy_cause a t b rights r (inr (inl n)) = name_cause s c (Copy a t b rights) r (inr (inl n))
-  copy_cause a t b rights r (inr (inr (inl v))) =
-      fill_cause s c (Copy a t b rights) r _ refl (subst (λ (x : Named). VacantMay s c (Under x b) r) (leads_is s c (only Kind.Table) t) v)
-  copy_cause a t b rights r (inr (inr (inr h))) = absurd h
-
-  held_none : {A : Type 0} (x : Judged A) → IsFoundAnd x (λ p. ⊥) → ⊥
-  held_none (Refused r) h = h
-  held_none (Found p) h = h
-
-  remove_cause : (t b : ℕ) (r : Reply) → RuleMay s c (rule_of s c (Remove t b)) r → HasCause s c (Remove t b) r
-  remove_cause t b r (inl n) = name_cause s c (Remove t b) r (inl n)
-  remove_cause t b r (inr (inl v)) =
-      empty_cause s c (Remove t b) r _ refl (subst (λ (x : Named). HeldMay s c (Under x b) r) (leads_is s c (only Kind.Table) t) v)
-  remove_cause t b r (inr (inr h)) = absurd (held_none _ h)
-
-  grow_cause : (t i l : ℕ) (r : Reply) → RuleMay s c (rule_of s c (Grow t i l)) r → HasCause s c (Grow t i l) r
-  grow_cause t i l r (inl n) = name_cause s c (Grow t i l) r (inl n)
-  grow_cause t i l r (inr (inl n)) =
-      name_cause s c (Grow t i l) r (inr (inl (subst (λ (x : Named). NameMay s c l (to_use (leaf_for x)) r) (leads_is s c root t) n)))
-  grow_cause t i l r (inr (inr (inl v))) =
-      fill_cause s c (Grow t i l) r _ refl (subst (λ (x : Named). VacantMay s c (InRoot x i) r) (leads_is s c root t) v)
-  grow_cause t i l r (inr (inr (inr h))) = absurd h
-
-  shrink_cause : (t i : ℕ) (r : Reply) → RuleMay s c (rule_of s c (Shrink t i)) r → HasCause s c (Shrink t i) r
-  shrink_cause t i r (inl n) = name_cause s c (Shrink t i) r (inl n)
-  shrink_cause t i r (inr (inl v)) =
-      empty_cause s c (Shrink t i) r _ refl (subst (λ (x : Named). HeldMay s c (InRoot x i) r) (leads_is s c root t) v)
-  shrink_cause t i r (inr (inr h)) = absurd (held_none _ h)
-
-  unmap_cause : (p v : ℕ) (r : Reply) → RuleMay s c (rule_of s c (Unmap p v)) r → HasCause s c (Unmap p v) r
-  unmap_cause p v r (inl n) = name_cause s c (Unmap p v) r (inl n)
-  unmap_cause p v r (inr (inl h)) =
-      empty_cause s c (Unmap p v) r _ refl (subst (λ (x : Named). HeldMay s c (Under x v) r) (leads_is s c (only Kind.Pages) p) h)
-  unmap_cause p v r (inr (inr h)) = absurd (held_none _ h)
-
-  gate_cause : (k t b : ℕ) (r : Reply) → RuleMay s c (rule_of s c (Gate k t b)) r → HasCause s c (Gate k t b) r
-  gate_cause k t b r (inl n) = name_cause s c (Gate k t b) r (inl n)
-  gate_cause k t b r (inr (inl n)) = name_cause s c (Gate k t b) r (inr (inl n))
-  gate_cause k t b r (inr (inr (inl v))) =
-      fill_cause s c (Gate k t b) r _ refl (subst (λ (x : Named). VacantMay s c (Under x b) r) (leads_is s c (only Kind.Table) t) v)
-  gate_cause k t b r (inr (inr (inr h))) = absurd h
-
   -- The frame of a range.
   lies : (range : Named) (f : ℕ) → IsTrue (range.found && not (has_frame range f)) → LiesOutside range f
   lies range f h =
@@ -203,16 +174,11 @@ module _ (s : State) (c : ℕ) where
       by_test true true false some low high e = inr (inr (leb-false (f + n) (range.frame + range.arg) high))
       by_test true true true some low high e = absurd (true≢false e)
 
-  part_cause : (a f n t b : ℕ) (r : Reply) → RuleMay s c (rule_of s c (Part a f n t b)) r → HasCause s c (Part a f n t b) r
-  part_cause a f n t b r (inl h) = name_cause s c (Part a f n t b) r (inl h)
-  part_cause a f n t b r (inr (inl h)) = name_cause s c (Part a f n t b) r (inr (inl h))
-  part_cause a f n t b r (inr (inr (inl v))) =
-      fill_cause s c (Part a f n t b) r _ refl (subst (λ (x : Named). VacantMay s c (Under x b) r) (leads_is s c (only Kind.Table) t) v)
-  part_cause a f n t b r (inr (inr (inr (inl h)))) =
-      when_cause s c (Part a f n t b) _ Reply.OutOfRange r
+  part_own : (a f n t b : ℕ) (r : Reply) → CauseMay s c (beyond (name_of (named s c a (to_part (only Kind.Range)))) f n) r
+      → HasCause s c (Part a f n t b) r
+  part_own a f n t b r h = when_cause s c (Part a f n t b) _ Reply.OutOfRange r
       (λ (t : IsTrue _). subst (λ (x : Named). LiesBeyond x f n) (leads_wanted s c (to_part (only Kind.Range)) a)
       (lies_beyond (name_of (named s c a (to_part (only Kind.Range)))) f n t)) h
-  part_cause a f n t b r (inr (inr (inr (inr h)))) = absurd h
 
   -- The kind of a frame of the machine.
   is_machine : (f : ℕ) (b : Bool) → IsTrue (is_frame s f && b) → (f < s.limits.frames) × IsTrue b
@@ -229,47 +195,6 @@ module _ (s : State) (c : ℕ) where
   untyped_is _ h = absurd (false≢true h)
 
   -- `make`.
-  made_own : (what : Make) (r f t b : ℕ) (q : Reply)
-      → CauseMay s c (outside (name_of (named s c r (to_use (only Kind.Range)))) f) q ⊎ CauseMay s c (not_blank s f) q
-      → HasCause s c (make_call what r f t b) q
-  made_own what r f t b q (inl h) = named_lies (make_call what r f t b) r f q (λ l. l) h
-  made_own what r f t b q (inr h) =
-      when_cause s c (make_call what r f t b) _ Reply.FrameKind q (λ t. differs f (Kernel Blank) is_blank refl t) h
-
-  made_fill : (what : Make) (r f t b : ℕ) (q : Reply) → VacantMay s c (Under (name_of (named s c t (to_use (only Kind.Table)))) b) q
-      → HasCause s c (make_call what r f t b) q
-  made_fill what r f t b q v =
-      fill_cause s c (make_call what r f t b) q _ refl
-      (subst (λ (x : Named). VacantMay s c (Under x b) q) (leads_is s c (only Kind.Table) t) v)
-
-  node_cause : (what : Make) (object : Object) (k : Kind) (r f t b : ℕ) (q : Reply) → RuleMay s c (make_node s object k r f t b) q
-      → HasCause s c (make_call what r f t b) q
-  node_cause what object k r f t b q (inl n) = name_cause s c (make_call what r f t b) q (inl n)
-  node_cause what object k r f t b q (inr (inl n)) = name_cause s c (make_call what r f t b) q (inr (inl n))
-  node_cause what object k r f t b q (inr (inr (inl v))) = made_fill what r f t b q v
-  node_cause what object k r f t b q (inr (inr (inr (inl h)))) = made_own what r f t b q (inl h)
-  node_cause what object k r f t b q (inr (inr (inr (inr (inl h))))) = made_own what r f t b q (inr h)
-  node_cause what object k r f t b q (inr (inr (inr (inr (inr h))))) = absurd h
-
-  thread_cause : (comp r f t b : ℕ) (q : Reply) → RuleMay s c (make_rule s (Make.Thread comp) r f t b) q
-      → HasCause s c (make_call (Make.Thread comp) r f t b) q
-  thread_cause comp r f t b q (inl n) = name_cause s c (make_call (Make.Thread comp) r f t b) q (inl n)
-  thread_cause comp r f t b q (inr (inl n)) = name_cause s c (make_call (Make.Thread comp) r f t b) q (inr (inl n))
-  thread_cause comp r f t b q (inr (inr (inl n))) = name_cause s c (make_call (Make.Thread comp) r f t b) q (inr (inr (inl n)))
-  thread_cause comp r f t b q (inr (inr (inr (inl v)))) = made_fill (Make.Thread comp) r f t b q v
-  thread_cause comp r f t b q (inr (inr (inr (inr (inl h))))) = made_own (Make.Thread comp) r f t b q (inl h)
-  thread_cause comp r f t b q (inr (inr (inr (inr (inr (inl h)))))) = made_own (Make.Thread comp) r f t b q (inr h)
-  thread_cause comp r f t b q (inr (inr (inr (inr (inr (inr h)))))) = absurd h
-
-  tcap_cause : (sched quality r f t b : ℕ) (q : Reply) → RuleMay s c (make_rule s (Make.Tcap sched quality) r f t b) q
-      → HasCause s c (make_call (Make.Tcap sched quality) r f t b) q
-  tcap_cause sched quality r f t b q (inl n) = name_cause s c (make_call (Make.Tcap sched quality) r f t b) q (inl n)
-  tcap_cause sched quality r f t b q (inr (inl n)) = name_cause s c (make_call (Make.Tcap sched quality) r f t b) q (inr (inl n))
-  tcap_cause sched quality r f t b q (inr (inr (inl v))) = made_fill (Make.Tcap sched quality) r f t b q v
-  tcap_cause sched quality r f t b q (inr (inr (inr (inl h)))) = made_own (Make.Tcap sched quality) r f t b q (inl h)
-  tcap_cause sched quality r f t b q (inr (inr (inr (inr (inl h))))) = made_own (Make.Tcap sched quality) r f t b q (inr h)
-  tcap_cause sched quality r f t b q (inr (inr (inr (inr (inr h))))) = absurd h
-
   number_cause : (x p l r f t b : ℕ) (q : Reply) → OneMay s c (not_taken s l) q → HasCause s c (make_call (Make.Comp x p l) r f t b) q
   number_cause x p l r f t b q (inl h) = when_cause s c (make_call (Make.Comp x p l) r f t b) _ Reply.Occupied q (λ t. inr t) h
   number_cause x p l r f t b q (inr (inl h)) = wait_cause s c (make_call (Make.Comp x p l) r f t b) (NumberOf l) q (λ e w. inr (inr w)) h
@@ -277,35 +202,19 @@ module _ (s : State) (c : ℕ) where
       when_cause s c (make_call (Make.Comp x p l) r f t b) _ Reply.EpochsSpent q (λ t. eqb-true (epoch_of (s.number l)) s.limits.epochs t) h
   number_cause x p l r f t b q (inr (inr (inr h))) = absurd h
 
-  comp_cause : (x p l r f t b : ℕ) (q : Reply) → RuleMay s c (make_rule s (Make.Comp x p l) r f t b) q
-      → HasCause s c (make_call (Make.Comp x p l) r f t b) q
-  comp_cause x p l r f t b q (inl n) = name_cause s c (make_call (Make.Comp x p l) r f t b) q (inl n)
-  comp_cause x p l r f t b q (inr (inl n)) = name_cause s c (make_call (Make.Comp x p l) r f t b) q (inr (inl n))
-  comp_cause x p l r f t b q (inr (inr (inl n))) = name_cause s c (make_call (Make.Comp x p l) r f t b) q (inr (inr (inl n)))
-  comp_cause x p l r f t b q (inr (inr (inr (inl n)))) = name_cause s c (make_call (Make.Comp x p l) r f t b) q (inr (inr (inr (inl n))))
-  comp_cause x p l r f t b q (inr (inr (inr (inr (inl v))))) = made_fill (Make.Comp x p l) r f t b q v
-  comp_cause x p l r f t b q (inr (inr (inr (inr (inr (inl h)))))) = made_own (Make.Comp x p l) r f t b q (inl h)
-  comp_cause x p l r f t b q (inr (inr (inr (inr (inr (inr (inl h))))))) = made_own (Make.Comp x p l) r f t b q (inr h)
-  comp_cause x p l r f t b q (inr (inr (inr (inr (inr (inr (inr h))))))) = number_cause x p l r f t b q h
+  made_own : (what : Make) (r f t b : ℕ) (q : Reply) (more : List Cause) → (OneMay s c more q → HasCause s c (make_call what r f t b) q)
+      → OneMay s c (outside (name_of (named s c r (to_use (only Kind.Range)))) f ∷ not_blank s f ∷ more) q
+      → HasCause s c (make_call what r f t b) q
+  made_own what r f t b q more later (inl h) = named_lies (make_call what r f t b) r f q (λ l. l) h
+  made_own what r f t b q more later (inr (inl h)) =
+      when_cause s c (make_call what r f t b) _ Reply.FrameKind q (λ t. differs f (Kernel Blank) is_blank refl t) h
+  made_own what r f t b q more later (inr (inr h)) = later h
 
-  make_cause : (what : Make) (r f t b : ℕ) (q : Reply) → RuleMay s c (make_rule s what r f t b) q → HasCause s c (make_call what r f t b) q
-  make_cause Make.Table r f t b q h = node_cause Make.Table Table Kind.Table r f t b q h
-  make_cause Make.Leaf r f t b q h = node_cause Make.Leaf Leaf Kind.Leaf r f t b q h
-  make_cause Make.Pages r f t b q h = node_cause Make.Pages Pages Kind.Pages r f t b q h
-  make_cause Make.Pleaf r f t b q h = node_cause Make.Pleaf Pleaf Kind.Pleaf r f t b q h
-  make_cause (Make.Thread comp) r f t b q h = thread_cause comp r f t b q h
-  make_cause (Make.Tcap sched quality) r f t b q h = tcap_cause sched quality r f t b q h
-  make_cause (Make.Comp x p l) r f t b q h = comp_cause x p l r f t b q h
-
-  map_cause : (p v r f : ℕ) (w : PageFlags) (q : Reply) → RuleMay s c (rule_of s c (Map p v r f w)) q → HasCause s c (Map p v r f w) q
-  map_cause p v r f w q (inl n) = name_cause s c (Map p v r f w) q (inl n)
-  map_cause p v r f w q (inr (inl n)) = name_cause s c (Map p v r f w) q (inr (inl n))
-  map_cause p v r f w q (inr (inr (inl h))) =
-      fill_cause s c (Map p v r f w) q _ refl (subst (λ (x : Named). VacantMay s c (Under x v) q) (leads_is s c (only Kind.Pages) p) h)
-  map_cause p v r f w q (inr (inr (inr (inl h)))) = named_lies (Map p v r f w) r f q (λ l. l) h
-  map_cause p v r f w q (inr (inr (inr (inr (inl h))))) =
-      when_cause s c (Map p v r f w) _ Reply.FrameKind q (λ t. differs f User is_user refl t) h
-  map_cause p v r f w q (inr (inr (inr (inr (inr h))))) = absurd h
+  make_own : (what : Make) (r f t b : ℕ) (q : Reply)
+      → OneMay s c (causes_at (make_rule s what r f t b) (led s c (make_rule s what r f t b))) q → HasCause s c (make_call what r f t b) q
+  make_own (Make.Comp x p l) r f t b q h =
+      made_own (Make.Comp x p l) r f t b q (not_taken s l) (number_cause x p l r f t b q) h
+  make_own what r f t b q h = made_own what r f t b q [] (λ h. absurd h) h
 
   -- A retype.
   any_in : (p : ℕ → Bool) (a n : ℕ) → list_any p (range_with_len a n) ≡ true → (i : ℕ) × (i < a + n) × (p i ≡ true)
@@ -358,28 +267,24 @@ module _ (s : State) (c : ℕ) where
       when_cause s c (Retype r f FrameKind.Kernel) _ Reply.FrameKind q (λ t. differs f Untyped is_untyped refl t) h
   retype_own r f FrameKind.Kernel q (inr h) = absurd h
 
-  retype_cause : (r f : ℕ) (k : FrameKind) (q : Reply) → RuleMay s c (retype_rule s r f k) q → HasCause s c (Retype r f k) q
-  retype_cause r f k q (inl n) = name_cause s c (Retype r f k) q (inl n)
-  retype_cause r f k q (inr (inl h)) = named_lies (Retype r f k) r f q (λ l. l) h
-  retype_cause r f k q (inr (inr h)) = retype_own r f k q h
-
   -- `touch`.
-  page_none : {A : Type 0} (x : Judged A) → IsFoundAnd x (λ p. ⊥) → ⊥
-  page_none (Refused r) h = h
-  page_none (Found p) h = h
-
   page_cause : (v : ℕ) (q : Reply) → translation_of (s.core c).cached (comp_of s c).pages v ≡ None → MappedMay s c (comp_of s c).pages v q
       → HasCause s c (Touch v) q
   page_cause v Reply.NoSlot is h = inr (inr (inr (ltb-true 4095 v h)))
   page_cause v Reply.Fault is h = (is, leb-true v 4095 h.0, h.1)
   page_cause v _ is h = absurd h
 
-  touch_cause : (v : ℕ) (q : Reply) → (t : Option Translation) → translation_of (s.core c).cached (comp_of s c).pages v ≡ t
-      → RuleMay s c (touch_by (comp_of s c).pages v t) q → HasCause s c (Touch v) q
-  touch_cause v q None is (inl h) = page_cause v q is h
-  touch_cause v q None is (inr h) = absurd (page_none (mapped s c (comp_of s c).pages v) h)
-  touch_cause v q (Some t) is (inl h) = when_cause s c (Touch v) _ Reply.NoSlot q (λ t. inr (inr (inr (ltb-true 4095 v t)))) h
-  touch_cause v q (Some t) is (inr h) = absurd h
+  touch_aim : (v : ℕ) (q : Reply) → (t : Option Translation) → translation_of (s.core c).cached (comp_of s c).pages v ≡ t
+      → (let rule = touch_by (comp_of s c).pages v t in OneIs (AimMay s c q) (aims_at rule (led s c rule))) → HasCause s c (Touch v) q
+  touch_aim v q None is (inl h) = page_cause v q is h
+  touch_aim v q None is (inr h) = absurd h
+  touch_aim v q (Some t) is h = absurd h
+
+  touch_own : (v : ℕ) (q : Reply) → (t : Option Translation)
+      → (let rule = touch_by (comp_of s c).pages v t in OneMay s c (causes_at rule (led s c rule)) q) → HasCause s c (Touch v) q
+  touch_own v q None h = absurd h
+  touch_own v q (Some t) (inl h) = when_cause s c (Touch v) _ Reply.NoSlot q (λ t. inr (inr (inr (ltb-true 4095 v t)))) h
+  touch_own v q (Some t) (inr h) = absurd h
 
   -- Invocations.
   not_live_in : (x : Liveness) (epoch : ℕ) → is_live_in x epoch ≡ false → (f : ℕ) → x ≢ Live epoch f
@@ -394,43 +299,28 @@ module _ (s : State) (c : ℕ) where
       let p = and_parts name.found (not (is_live_in (s.number (comp_in (s.frame name.frame)).number) epoch)) h in
       record { found = p.0; dead = not_live_in (s.number (comp_in (s.frame name.frame)).number) epoch (not_is _ p.1) }
 
-  kill_cause : (k : ℕ) (q : Reply) → RuleMay s c (rule_of s c (Kill k)) q → HasCause s c (Kill k) q
-  kill_cause k q (inl n) = name_cause s c (Kill k) q (inl n)
-  kill_cause k q (inr (inl h)) = when_cause s c (Kill k) _ Reply.Dead q
+  kill_own : (k : ℕ) (q : Reply) → (let comp = name_of (named s c k (to_use (only Kind.Comp))) in
+      CauseMay s c (not_live s comp (comp_in (s.frame comp.frame)).number (comp_in (s.frame comp.frame)).epoch) q) → HasCause s c (Kill k) q
+  kill_own k q h = when_cause s c (Kill k) _ Reply.Dead q
       (λ t. inr (subst (λ (x : Named). IsDeadIn s x (comp_in (s.frame x.frame)).epoch) (leads_is s c (only Kind.Comp) k)
       (dead_in (name_of (named s c k (to_use (only Kind.Comp))))
       (comp_in (s.frame (name_of (named s c k (to_use (only Kind.Comp)))).frame)).epoch
       t))) h
-  kill_cause k q (inr (inr h)) = absurd h
 
-  call_cause : (g : ℕ) (q : Reply) → RuleMay s c (rule_of s c (call_gate g)) q → HasCause s c (call_gate g) q
-  call_cause g q (inl n) = name_cause s c (call_gate g) q (inl n)
-  call_cause g q (inr (inl h)) = when_cause s c (call_gate g) _ Reply.Deep q (λ t. leb-true 16 (length (thread_of s c).stack) t) h
-  call_cause g q (inr (inr (inl h))) = when_cause s c (call_gate g) _ Reply.Dead q
+  call_own : (g : ℕ) (q : Reply) → (let gate = name_of (named s c g (to_use (only Kind.Gate))) in
+      CauseMay s c (not_live s gate (comp_in (s.frame gate.frame)).number gate.arg) q) → HasCause s c (call_gate g) q
+  call_own g q h = when_cause s c (call_gate g) _ Reply.Dead q
       (λ t. inr (subst (λ (x : Named). IsDeadIn s x x.arg) (leads_is s c (only Kind.Gate) g)
       (dead_in (name_of (named s c g (to_use (only Kind.Gate)))) (name_of (named s c g (to_use (only Kind.Gate)))).arg t))) h
-  call_cause g q (inr (inr (inr h))) = absurd h
 
-  ret_cause : (q : Reply) → RuleMay s c (rule_of s c Ret) q → HasCause s c Ret q
-  ret_cause q (inl h) = when_cause s c Ret _ Reply.Bottom q (λ t. leb-true (length (thread_of s c).stack) 1 t) h
-  ret_cause q (inr h) = absurd h
-
-  switch_own : (h q : ℕ) (x : Named) (p : ℕ) (r : Reply) → x ≡ leads_as s c h (only Kind.Thread) → (e : Option ℕ)
+  switch_own : (h q : ℕ) (x : Named) (r : Reply) → x ≡ leads_as s c h (only Kind.Thread) → (e : Option ℕ)
       → (thread_in (s.frame x.frame)).runs_on ≡ e
-      → RuleMay s c (switch_to x p e) r → HasCause s c (Switch h q) r
-  switch_own h q x p r at None is may = absurd may
-  switch_own h q x p r at (Some e) is (inl may) =
+      → OneMay s c (runs_elsewhere x e) r → HasCause s c (Switch h q) r
+  switch_own h q x r at None is may = absurd may
+  switch_own h q x r at (Some e) is (inl may) =
       when_cause s c (Switch h q) _ (Reply.Running e) r
       (λ t. subst (λ (x : Named). IsTrue x.found × ((thread_in (s.frame x.frame)).runs_on ≡ Some e)) at (t, is)) may
-  switch_own h q x p r at (Some e) is (inr may) = absurd may
-
-  switch_cause : (h q : ℕ) (r : Reply) → RuleMay s c (rule_of s c (Switch h q)) r → HasCause s c (Switch h q) r
-  switch_cause h q r (inl n) = name_cause s c (Switch h q) r (inl n)
-  switch_cause h q r (inr (inl n)) = name_cause s c (Switch h q) r (inr (inl n))
-  switch_cause h q r (inr (inr may)) =
-      switch_own h q (name_of (named s c h (to_use (only Kind.Thread))))
-      (name_of (named s c q (to_use (only Kind.Tcap)))).frame r (leads_is s c (only Kind.Thread) h)
-      (thread_in (s.frame (name_of (named s c h (to_use (only Kind.Thread)))).frame)).runs_on refl may
+  switch_own h q x r at (Some e) is (inr may) = absurd may
 
   -- Two temporal capabilities.
   both_are : (a b : ℕ) (P : ℕ → ℕ → Type 0)
@@ -480,15 +370,6 @@ module _ (s : State) (c : ℕ) where
       alike [] = refl
       alike (x ∷ xs) = and (x.0 == x.0) (x.1 == x.1 && are_alike xs xs) (eq x.0) (and (x.1 == x.1) (are_alike xs xs) (eq x.1) (alike xs))
 
-  transfer_cause : (a b m : ℕ) (r : Reply) → RuleMay s c (rule_of s c (Transfer a b m)) r → HasCause s c (Transfer a b m) r
-  transfer_cause a b m r (inl n) = name_cause s c (Transfer a b m) r (inl n)
-  transfer_cause a b m r (inr (inl n)) = name_cause s c (Transfer a b m) r (inr (inl n))
-  transfer_cause a b m r (inr (inr (inl h))) = same_cause (Transfer a b m) a b r (λ x. x) h
-  transfer_cause a b m r (inr (inr (inr (inl h)))) = short_cause (Transfer a b m) a m r (λ n x. x) h
-  transfer_cause a b m r (inr (inr (inr (inr (inl h))))) = when_cause s c (Transfer a b m) _ Reply.Unlike r
-      (λ t. both_are a b _ (two_found _ _ _ _ (λ t. unlike_lists _ _ (not_is _ t)) t)) h
-  transfer_cause a b m r (inr (inr (inr (inr (inr h))))) = absurd h
-
   finer_cause : (a m : ℕ) (r : Reply) → CauseMay s c (is_finer s c (name_of (named s c a (to_use (only Kind.Tcap))))) r
       → HasCause s c (Replenish a m) r
   finer_cause a m r h = when_cause s c (Replenish a m) _ Reply.Unlike r
@@ -506,50 +387,56 @@ module _ (s : State) (c : ℕ) where
       left : ℕ
       left = outstanding (s.core c)
 
-  replenish_cause : (a m : ℕ) (r : Reply) → RuleMay s c (rule_of s c (Replenish a m)) r → HasCause s c (Replenish a m) r
-  replenish_cause a m r (inl n) = name_cause s c (Replenish a m) r (inl n)
-  replenish_cause a m r (inr (inl h)) = finer_cause a m r h
-  replenish_cause a m r (inr (inr (inl h))) = less_cause a m r h
-  replenish_cause a m r (inr (inr (inr h))) = absurd h
-
-  delegate_cause : (a b m : ℕ) (r : Reply) → RuleMay s c (rule_of s c (Delegate a b m)) r → HasCause s c (Delegate a b m) r
-  delegate_cause a b m r (inl n) = name_cause s c (Delegate a b m) r (inl n)
-  delegate_cause a b m r (inr (inl n)) = name_cause s c (Delegate a b m) r (inr (inl n))
-  delegate_cause a b m r (inr (inr (inl h))) = same_cause (Delegate a b m) a b r (λ x. x) h
-  delegate_cause a b m r (inr (inr (inr (inl h)))) = short_cause (Delegate a b m) a m r (λ n x. x) h
-  delegate_cause a b m r (inr (inr (inr (inr (inl h))))) = when_cause s c (Delegate a b m) _ Reply.TooMany r
+  -- A call that has causes of its own, each in its order.
+  own_cause : (call : Call) (q : Reply) → OneMay s c (causes_at (rule_of s c call) (led s c (rule_of s c call))) q → HasCause s c call q
+  own_cause (Retype r f k) q (inl h) = named_lies (Retype r f k) r f q (λ l. l) h
+  own_cause (Retype r f k) q (inr h) = retype_own r f k q h
+  own_cause (make_call what r f t b) q h = make_own what r f t b q h
+  own_cause (Map p v r f w) q (inl h) = named_lies (Map p v r f w) r f q (λ l. l) h
+  own_cause (Map p v r f w) q (inr (inl h)) =
+      when_cause s c (Map p v r f w) _ Reply.FrameKind q (λ t. differs f User is_user refl t) h
+  own_cause (Map p v r f w) q (inr (inr h)) = absurd h
+  own_cause (Touch v) q h = touch_own v q (translation_of (s.core c).cached (comp_of s c).pages v) h
+  own_cause (Kill k) q (inl h) = kill_own k q h
+  own_cause (Kill k) q (inr h) = absurd h
+  own_cause (call_gate g) q (inl h) = when_cause s c (call_gate g) _ Reply.Deep q (λ t. leb-true 16 (length (thread_of s c).stack) t) h
+  own_cause (call_gate g) q (inr (inl h)) = call_own g q h
+  own_cause (call_gate g) q (inr (inr h)) = absurd h
+  own_cause Ret q (inl h) = when_cause s c Ret _ Reply.Bottom q (λ t. leb-true (length (thread_of s c).stack) 1 t) h
+  own_cause Ret q (inr h) = absurd h
+  own_cause (Switch f p) q h =
+      let x = name_of (named s c f (to_use (only Kind.Thread))) in
+      switch_own f p x q (leads_is s c (only Kind.Thread) f) (thread_in (s.frame x.frame)).runs_on refl h
+  own_cause (Transfer a b m) q (inl h) = same_cause (Transfer a b m) a b q (λ x. x) h
+  own_cause (Transfer a b m) q (inr (inl h)) = short_cause (Transfer a b m) a m q (λ n x. x) h
+  own_cause (Transfer a b m) q (inr (inr (inl h))) = when_cause s c (Transfer a b m) _ Reply.Unlike q
+      (λ t. both_are a b _ (two_found _ _ _ _ (λ t. unlike_lists _ _ (not_is _ t)) t)) h
+  own_cause (Transfer a b m) q (inr (inr (inr h))) = absurd h
+  own_cause (Delegate a b m) q (inl h) = same_cause (Delegate a b m) a b q (λ x. x) h
+  own_cause (Delegate a b m) q (inr (inl h)) = short_cause (Delegate a b m) a m q (λ n x. x) h
+  own_cause (Delegate a b m) q (inr (inr (inl h))) = when_cause s c (Delegate a b m) _ Reply.TooMany q
       (λ t. both_are a b _ (two_found _ _ _ _ (λ t. ltb-true 8 _ t) t)) h
-  delegate_cause a b m r (inr (inr (inr (inr (inr h))))) = absurd h
+  own_cause (Delegate a b m) q (inr (inr (inr h))) = absurd h
+  own_cause (Test a b) q (inl h) = same_cause (Test a b) a b q (λ x. x) h
+  own_cause (Test a b) q (inr h) = absurd h
+  own_cause (Replenish a m) q (inl h) = finer_cause a m q h
+  own_cause (Replenish a m) q (inr (inl h)) = less_cause a m q h
+  own_cause (Replenish a m) q (inr (inr h)) = absurd h
+  own_cause (Part a f n t b) q (inl h) = part_own a f n t b q h
+  own_cause (Part a f n t b) q (inr h) = absurd h
+  own_cause _ q h = absurd h
 
-  test_cause : (a b : ℕ) (r : Reply) → RuleMay s c (rule_of s c (Test a b)) r → HasCause s c (Test a b) r
-  test_cause a b r (inl n) = name_cause s c (Test a b) r (inl n)
-  test_cause a b r (inr (inl n)) = name_cause s c (Test a b) r (inr (inl n))
-  test_cause a b r (inr (inr (inl h))) = same_cause (Test a b) a b r (λ x. x) h
-  test_cause a b r (inr (inr (inr h))) = absurd h
+  aim_cause : (call : Call) (r : Reply) → OneIs (AimMay s c r) (targets_of s c call) → HasCause s c call r
+  aim_cause (Touch v) r h = touch_aim v r (translation_of (s.core c).cached (comp_of s c).pages v) refl h
+  aim_cause (make_call Make.Table range f t b) r h = place_cause s c (make_call Make.Table range f t b) _ refl refl r h
+  aim_cause call r h = place_cause s c call (targets_of s c call) refl refl r h
 
   rule_cause : (call : Call) (r : Reply) → RuleMay s c (rule_of s c call) r → HasCause s c call r
-  rule_cause (Look a) r h = look_cause a r h
-  rule_cause (Copy a t b rights) r h = copy_cause a t b rights r h
-  rule_cause (Remove t b) r h = remove_cause t b r h
-  rule_cause (Grow t i l) r h = grow_cause t i l r h
-  rule_cause (Shrink t i) r h = shrink_cause t i r h
-  rule_cause (Retype r f k) q h = retype_cause r f k q h
-  rule_cause (make_call what r f t b) q h = make_cause what r f t b q h
-  rule_cause (Map p v r f w) q h = map_cause p v r f w q h
-  rule_cause (Unmap p v) r h = unmap_cause p v r h
-  rule_cause (Touch v) r h = touch_cause v r (translation_of (s.core c).cached (comp_of s c).pages v) refl h
-  rule_cause Flush r h = absurd h
-  rule_cause (Gate k t b) r h = gate_cause k t b r h
-  rule_cause (Kill k) r h = kill_cause k r h
-  rule_cause (call_gate g) r h = call_cause g r h
-  rule_cause Ret r h = ret_cause r h
-  rule_cause (Switch f q) r h = switch_cause f q r h
-  rule_cause (Tick n) r h = absurd h
-  rule_cause (Transfer a b m) r h = transfer_cause a b m r h
-  rule_cause (Delegate a b m) r h = delegate_cause a b m r h
-  rule_cause (Test a b) r h = test_cause a b r h
-  rule_cause (Replenish a m) r h = replenish_cause a m r h
-  rule_cause (Part a f n t b) r h = part_cause a f n t b r h
+  rule_cause call r may = elim (may_at s c (rule_of s c call) r may) [
+    | AtName h ↦ name_cause s c call r h
+    | AtAim h ↦ aim_cause call r h
+    | ByCause h ↦ own_cause call r h
+  ]
 
   -- A call that asks for life needs it.
   needs_life : (call : Call) → IsTrue (asks_life call) → NeedsLife call

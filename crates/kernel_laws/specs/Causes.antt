@@ -1,19 +1,16 @@
--- The cause of each refusal, by its reply: what must be so where a call is refused with it. Said apart from the rules of calls.
+-- The cause of each refusal, by its reply: what must be so where a call is refused with it. What a call names is read off its rule; its own
+-- causes are said apart from it.
 use Rattle.found_stays.specs.kernel_rules.specs as low
-use Rattle.std.specs.Prelude.{◌≡◌, ◌≢◌, ◌⊎◌, ◌+◌, ◌<◌, ◌≤◌, ◌&&◌, if◌then◌else◌, ◌∷◌}
+use Rattle.std.specs.Prelude.{◌≡◌, ◌≢◌, ◌⊎◌, ◌+◌, ◌<◌, ◌≤◌, ◌&&◌, if◌then◌else◌}
 use low.{ℕ, Bool, List, [], length, Option, Some, None, is_some, IsTrue, IsFalse}
-use low.{IsSomeAnd, Capability, has_rights, covers, merged, Kind, Make, Call, Look, Copy, Remove, Grow, Shrink, Retype, Map, Unmap, Touch}
+use low.{IsSomeAnd, Capability, has_rights, covers, merged, Kind, Make, Call, Retype, Map, Touch}
 use low.{Flush, Gate, Kill, Ret, Switch, Tick, Transfer, Delegate, Test, Part, Replenish, Reply, TcapFields, Blank, Untyped, User, Kernel}
 use low.{Live, Thing, PlaceOf, FrameOf, NumberOf, comp_in, thread_in, tcap_in, thread_of, comp_of, outstanding, refs, Slot, Named, found}
-use low.{not_found, root_at, Want, to_look, to_copy, to_part, to_use, Target, Under, InRoot, place_at, held_in, usable, reached}
-use low.{has_no_slot, root_slot, holds_link, any, only, root, own, MayWait, MayBeUnflushed, leaf_for, is_live, epoch_of, translation_of}
+use low.{not_found, root_at, Want, to_part, to_use, Target, Under, place_at, held_in, usable, reached}
+use low.{has_no_slot, root_slot, holds_link, only, own, MayWait, MayBeUnflushed, is_live, epoch_of, translation_of}
 use Rattle.found_stays.specs.spk_nums.specs.declared.calls.Call.TheVariants.{Make as make_call, Call as call_gate}
-use low.{FrameKind, State.State}
-
--- One of a list is P.
-abbrev pub OneIs : {A : Type 0} → (A → Type 0) → List A → Type 0
-OneIs P [] = ⊥
-OneIs P (x ∷ xs) = P x ⊎ OneIs P xs
+use low.Rows.{Asked, OneIs, Aim, names_at, aims_at, led, free_in, full_in}
+use low.{FrameKind, State.State, CallRelation.rule_of}
 
 -- What core c may use at a slot that it reaches.
 abbrev pub used_at : State → ℕ → Option Slot → Option Capability
@@ -33,58 +30,19 @@ as_wanted want (Some k) = if want.kinds k.kind && has_rights k.rights want.needs
 abbrev pub leads_as : State → ℕ → ℕ → (Kind → Bool) → Named
 leads_as s c n kinds = as_wanted (to_use kinds) (leads s c n)
 
--- A number that a call names, with the kinds that its capability may have, and the rights that it needs.
-pub record Name : Type 0 where
-  pub number : ℕ
-  pub want : Want
+-- What a call names, and its targets, as its names lead: these are read off its rule.
+abbrev pub names_of : State → ℕ → Call → List Asked
+names_of s c call = names_at (rule_of s c call) (led s c (rule_of s c call))
 
--- A number that is named to be used.
-abbrev pub name : ℕ → (Kind → Bool) → Name
-name n kinds = record { number = n; want = to_use kinds }
+abbrev pub targets_of : State → ℕ → Call → List Aim
+targets_of s c call = aims_at (rule_of s c call) (led s c (rule_of s c call))
 
--- The numbers that a call names.
-abbrev pub names_made : Make → List Name
-names_made (Make.Thread comp) = name comp (only Kind.Comp) ∷ []
-names_made (Make.Comp table pages live) = name table (only Kind.Table) ∷ name pages (only Kind.Pages) ∷ []
-names_made _ = []
-
-abbrev pub names_of : State → ℕ → Call → List Name
-names_of s c (Look a) = record { number = a; want = to_look any } ∷ []
-names_of s c (Copy a t b rights) = record { number = a; want = to_copy any } ∷ name t (only Kind.Table) ∷ []
-names_of s c (Remove t b) = name t (only Kind.Table) ∷ []
-names_of s c (Grow t i l) = name t root ∷ name l (leaf_for (leads_as s c t root)) ∷ []
-names_of s c (Shrink t i) = name t root ∷ []
-names_of s c (Retype r f k) = name r (only Kind.Range) ∷ []
-names_of s c (make_call what r f t b) = name r (only Kind.Range) ∷ name t (only Kind.Table) ∷ names_made what
-names_of s c (Map p v r f w) = name p (only Kind.Pages) ∷ name r (only Kind.Range) ∷ []
-names_of s c (Unmap p v) = name p (only Kind.Pages) ∷ []
-names_of s c (Gate k t b) = name k (only Kind.Comp) ∷ name t (only Kind.Table) ∷ []
-names_of s c (Kill k) = name k (only Kind.Comp) ∷ []
-names_of s c (call_gate g) = name g (only Kind.Gate) ∷ []
-names_of s c (Switch h q) = name h (only Kind.Thread) ∷ name q (only Kind.Tcap) ∷ []
-names_of s c (Transfer a b m) = name a (only Kind.Tcap) ∷ name b (only Kind.Tcap) ∷ []
-names_of s c (Delegate a b m) = name a (only Kind.Tcap) ∷ name b (only Kind.Tcap) ∷ []
-names_of s c (Test a b) = name a (only Kind.Tcap) ∷ name b (only Kind.Tcap) ∷ []
-names_of s c (Part r f n t b) = record { number = r; want = to_part (only Kind.Range) } ∷ name t (only Kind.Table) ∷ []
-names_of s c (Replenish a m) = name a (only Kind.Tcap) ∷ []
-names_of s c _ = []
-
--- The place that a call fills, in the table or pages that it names.
+-- The place that a call fills, in the table or pages that it names, and the place that it empties.
 abbrev pub fills_at : State → ℕ → Call → Option Target
-fills_at s c (Copy a t b rights) = Some (Under (leads_as s c t (only Kind.Table)) b)
-fills_at s c (Grow t i l) = Some (InRoot (leads_as s c t root) i)
-fills_at s c (make_call what r f t b) = Some (Under (leads_as s c t (only Kind.Table)) b)
-fills_at s c (Map p v r f w) = Some (Under (leads_as s c p (only Kind.Pages)) v)
-fills_at s c (Gate k t b) = Some (Under (leads_as s c t (only Kind.Table)) b)
-fills_at s c (Part r f n t b) = Some (Under (leads_as s c t (only Kind.Table)) b)
-fills_at s c _ = None
+fills_at s c call = free_in (targets_of s c call)
 
--- The place that a call empties.
 abbrev pub empties_at : State → ℕ → Call → Option Target
-empties_at s c (Remove t b) = Some (Under (leads_as s c t (only Kind.Table)) b)
-empties_at s c (Shrink t i) = Some (InRoot (leads_as s c t root) i)
-empties_at s c (Unmap p v) = Some (Under (leads_as s c p (only Kind.Pages)) v)
-empties_at s c _ = None
+empties_at s c call = full_in (targets_of s c call)
 
 -- Core c reaches the place, and it holds nothing; or it holds something.
 abbrev pub HoldsNothing : State → ℕ → Target → Type 0

@@ -1,17 +1,20 @@
 -- Who waits is in a call; so in every reached state the relation and the first reply in order agree.
 use Rattle.kernel_rules.specs as low
-use low.{◌≡◌, ℕ, Bool, true, false, not, ◌||◌, refl, if◌then◌else◌, IsTrue, IsFalse, List, [], ◌∷◌, Option, Some, None, Setting, FrameKind}
-use low.{Make, Translation, Call, Look, Copy, Remove, Grow, Shrink, Retype, Map, Unmap, Touch, Flush, Gate, Kill, Ret, Switch, Tick}
-use low.{Transfer, Delegate, Test, Part, Replenish, Value, Reply, Core, Thing, FrameOf, put, comp_of, thread_in, no_grace, same_thing}
-use low.{new_grace, entered, returned, lives, outlives, asks_life, acts, Named, found, Edit, Node, Untype, Cache, Charge, Give, is_place_of}
-use low.{edited, Change, Judged, Refused, Found, IsFoundAnd, RuleMay, make_rule, retype_rule, touch_by, translation_of, switch_to, rule_of}
-use low.{change_of, changed, counted, owed_by, state_by, are_calls_spent, MayBeDead, MayReply, reply_in, first_reply, alone, Event, Enters}
+use low.{◌≡◌, ℕ, Bool, true, false, not, ◌&&◌, ◌||◌, refl, if◌then◌else◌, IsTrue, IsFalse, List, [], ◌∷◌, Option, Some, None, Setting}
+use low.{FrameKind, Make, Call, Retype, Touch, Switch, Tick, Value, Reply, Core, Thing, FrameOf, put, comp_of, thread_in, no_grace}
+use low.{same_thing, new_grace, entered, returned, lives, outlives, asks_life, acts, Named, found, Edit, Node, Untype, Cache, Charge, Give}
+use low.{is_place_of, edited, Change, Judged, Refused, Found, IsFoundAnd, RuleMay, Rule, Name, Vacant, Held, Mapped, Does, Cause, When}
+use low.{WaitedFor, Unflushed, slot_of, Target, translation_of, rule_of}
+use low.{change_of, changed, counted, owed_by, state_by, are_calls_spent, MayBeDead}
+use low.{MayReply, reply_in, first_reply, alone, Event, Enters}
 use Rattle.std.proofs.Common.{inl, inr, sym, ◌∙◌, ap, subst, true≢false}
-use Rattle.kernel_rules.proofs.Agrees.{IsBounded, IsPlain, IfRefused, HasPlain, rule_refused}
+use Rattle.kernel_rules.proofs.Agrees.{IsBounded, IsPlain, IfRefused, ArePlain, HasPlain, has_root, rule_refused}
 use low.{Decides, Returns, after, State.State, Edits.Switch as switch_edit, Edits.Flush as flush_edit, Laws.FirstPermitted}
-use Rattle.{std.proofs.lemmas.Bool.cases_eq, std.proofs.lemmas.Bool.false≢true, std.specs.List.list_any}
-use Rattle.{spk_nums.specs.declared.calls.Call.TheVariants.Make as make_call}
-use Rattle.{spk_nums.specs.declared.calls.Call.TheVariants.Call as call_gate, kernel_rules.proofs.Changes.IfFound}
+use low.Rows.{no_cap, Aim, Free, Full, Page, aims_at, causes_at}
+use Rattle.std.proofs.lemmas.Bool.{cases_eq, false≢true, and_parts}
+use Rattle.{spk_nums.specs.declared.calls.Call.TheVariants.Make as make_call, std.specs.List.list_any}
+use Rattle.kernel_rules.proofs.Rows.{Looks, found_by, cap_first, slot_first, held_first, nothing_looked, by_cached}
+use Rattle.{kernel_rules.specs.InvocationCalls.runs_elsewhere, kernel_rules.proofs.Changes.IfFound}
 use Rattle.{kernel_rules.proofs.Changes.outcome_all, kernel_rules.proofs.Changes.all_edits, kernel_rules.proofs.Changes.each_edit}
 use Rattle.{kernel_rules.proofs.Within.put_same, kernel_rules.proofs.Within.put_other, kernel_rules.proofs.Within.waits_within}
 
@@ -129,51 +132,77 @@ waits_inside setting (Enters c call ∷ events) = entered_inside (after setting 
 waits_inside setting (Returns c ∷ events) = returned_inside (after setting events) c (waits_inside setting events)
 waits_inside setting (Decides c call r ∷ events) = decided_inside (after setting events) c call r (waits_inside setting events)
 
-make_plain : (s : State) (what : Make) (r f t b : ℕ) → HasPlain (make_rule s what r f t b)
-make_plain s Make.Table r f t b = λ range table. (refl, λ at. (tt, (tt, tt)))
-make_plain s Make.Leaf r f t b = λ range table. (refl, λ at. (tt, (tt, tt)))
-make_plain s Make.Pages r f t b = λ range table. (refl, λ at. (tt, (tt, tt)))
-make_plain s Make.Pleaf r f t b = λ range table. (refl, λ at. (tt, (tt, tt)))
-make_plain s (Make.Thread comp) r f t b = λ range table k. (refl, λ at. (tt, (tt, tt)))
-make_plain s (Make.Tcap sched quality) r f t b = λ range table. (refl, λ at. (tt, (tt, tt)))
-make_plain s (Make.Comp x p live) r f t b = λ range table k j. (refl, λ at. (tt, (tt, (tt, (tt, tt)))))
+-- Whether a refusal is plain, and each own cause has such a one.
+abbrev is_plain : Reply → Bool
+is_plain (Reply.Ok v) = false
+is_plain Reply.Raced = false
+is_plain (Reply.Busy d) = false
+is_plain Reply.CallsSpent = false
+is_plain _ = true
 
-retype_plain : (s : State) (r f : ℕ) (k : FrameKind) → HasPlain (retype_rule s r f k)
-retype_plain s r f FrameKind.Untyped = λ range. (tt, (tt, (tt, (tt, tt))))
-retype_plain s r f FrameKind.User = λ range. (tt, (tt, tt))
-retype_plain s r f FrameKind.Kernel = λ range. (tt, (tt, tt))
+abbrev are_plain : List Cause → Bool
+are_plain [] = true
+are_plain (When condition r ∷ causes) = is_plain r && are_plain causes
+are_plain (_ ∷ causes) = are_plain causes
 
-touch_plain : (s : State) (c pages v : ℕ) (t : Option Translation) → HasPlain (touch_by pages v t)
-touch_plain s c pages v None = λ mapping. tt
-touch_plain s c pages v (Some t) = (tt, tt)
+plain_is : (r : Reply) → is_plain r ≡ true → IsPlain r
+plain_is (Reply.Ok v) is = absurd (false≢true is)
+plain_is Reply.Raced is = absurd (false≢true is)
+plain_is (Reply.Busy d) is = absurd (false≢true is)
+plain_is Reply.CallsSpent is = absurd (false≢true is)
+plain_is _ is = tt
 
-switch_plain : (s : State) (c : ℕ) (h : Named) (q : ℕ) (e : Option ℕ) → HasPlain (switch_to h q e)
-switch_plain s c h q None = tt
-switch_plain s c h q (Some e) = (tt, tt)
+plain_are : (causes : List Cause) → are_plain causes ≡ true → ArePlain causes
+plain_are [] are = tt
+plain_are (When condition r ∷ causes) are =
+    let p = and_parts (is_plain r) (are_plain causes) are in
+    (plain_is r p.0, plain_are causes p.1)
+plain_are (WaitedFor x ∷ causes) are = plain_are causes are
+plain_are (Unflushed x ∷ causes) are = plain_are causes are
+
+-- Whether the roots of targets were found.
+abbrev are_rooted : List Aim → Bool
+are_rooted [] = true
+are_rooted (Free target ∷ aims) = has_root target && are_rooted aims
+are_rooted (Full target ∷ aims) = has_root target && are_rooted aims
+are_rooted (Page table v ∷ aims) = are_rooted aims
+
+-- A rule is plain whose look-ups, where they find all that they look for, lead to rooted targets and plain causes.
+abbrev IsPlainWith : Rule → Looks → Type 0
+IsPlainWith rule g = IsTrue (are_rooted (aims_at rule (found_by g))) × IsTrue (are_plain (causes_at rule (found_by g)))
+
+rooted_parts : (target : Target) (aims : List Aim) → IsTrue (has_root target && are_rooted aims)
+    → IsTrue (has_root target) × IsTrue (are_rooted aims)
+rooted_parts target aims is = and_parts (has_root target) (are_rooted aims) is
+
+plain_left : (rule : Rule) → ((g : Looks) → IsPlainWith rule g) → HasPlain rule
+plain_left (Name n want rest) h = λ k. plain_left (rest (found k)) (λ g. h (cap_first k g))
+plain_left (Vacant target rest) h = (
+  (rooted_parts target (aims_at (rest (slot_of None)) (found_by nothing_looked)) (h nothing_looked).0).0,
+  λ at. plain_left (rest at) (λ g. let p = h (slot_first at g) in ((rooted_parts target (aims_at (rest at) (found_by g)) p.0).1, p.1)),
+)
+plain_left (Held target rest) h = (
+  (rooted_parts target (aims_at (rest (slot_of None) no_cap) (found_by nothing_looked)) (h nothing_looked).0).0,
+  λ at k. plain_left (rest at k)
+      (λ g. let p = h (slot_first at (held_first k g)) in ((rooted_parts target (aims_at (rest at k) (found_by g)) p.0).1, p.1)),
+)
+plain_left (Mapped table v rest) h = λ k. plain_left (rest k) (λ g. h (held_first k g))
+plain_left (Does causes value edits) h = plain_are causes (h nothing_looked).1
+
+running_plain : (h : Named) (runs_on : Option ℕ) → IsTrue (are_plain (runs_elsewhere h runs_on))
+running_plain h None = refl
+running_plain h (Some e) = refl
+
+row_plain : (s : State) (c : ℕ) (call : Call) (g : Looks) → IsPlainWith (rule_of s c call) g
+row_plain s c (Retype r f FrameKind.Untyped) g = (refl, refl)
+row_plain s c (make_call Make.Table range frame table slot) g = (refl, refl)
+row_plain s c (Touch v) g = by_cached (λ rule. IsPlainWith rule g) (comp_of s c).pages v (refl, refl) (λ t. (refl, refl))
+    (translation_of (s.core c).cached (comp_of s c).pages v)
+row_plain s c (Switch h q) g = (refl, running_plain (found (g.caps 0)) (thread_in (s.frame (g.caps 0).frame)).runs_on)
+row_plain s c _ g = (refl, refl)
 
 pub rule_plain : (s : State) (c : ℕ) (call : Call) → HasPlain (rule_of s c call)
-rule_plain s c (Look a) = λ k. tt
-rule_plain s c (Copy a t b rights) = λ k table. (refl, λ at. tt)
-rule_plain s c (Remove t b) = λ table. (refl, λ at k. tt)
-rule_plain s c (Grow t i l) = λ table leaf. (refl, λ at. tt)
-rule_plain s c (Shrink t i) = λ table. (refl, λ at k. tt)
-rule_plain s c (Retype r f k) = retype_plain s r f k
-rule_plain s c (make_call what range frame table slot) = make_plain s what range frame table slot
-rule_plain s c (Map p v r f w) = λ pages range. (refl, λ at. (tt, (tt, tt)))
-rule_plain s c (Unmap p v) = λ pages. (refl, λ at k. tt)
-rule_plain s c (Touch v) = touch_plain s c (comp_of s c).pages v (translation_of (s.core c).cached (comp_of s c).pages v)
-rule_plain s c Flush = tt
-rule_plain s c (Gate k t b) = λ comp table. (refl, λ at. tt)
-rule_plain s c (Kill k) = λ comp. (tt, tt)
-rule_plain s c (call_gate g) = λ gate. (tt, (tt, tt))
-rule_plain s c Ret = (tt, tt)
-rule_plain s c (Switch h q) = λ thread tcap. switch_plain s c (found thread) tcap.frame (thread_in (s.frame thread.frame)).runs_on
-rule_plain s c (Tick n) = tt
-rule_plain s c (Transfer a b m) = λ a b. (tt, (tt, (tt, tt)))
-rule_plain s c (Delegate a b m) = λ a b. (tt, (tt, (tt, tt)))
-rule_plain s c (Test a b) = λ a b. (tt, tt)
-rule_plain s c (Replenish a m) = λ a. (tt, (tt, tt))
-rule_plain s c (Part r f n t b) = λ range table. (refl, λ at. (tt, tt))
+rule_plain s c call = plain_left (rule_of s c call) (row_plain s c call)
 
 -- A plain refusal of a call's rule is a reply that the relation permits.
 may_plain : (s : State) (c : ℕ) (call : Call) (r : Reply) → IsPlain r → IsFalse (are_calls_spent s c)

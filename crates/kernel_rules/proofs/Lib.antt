@@ -1,5 +1,6 @@
 -- Changes and what is known of them.
 pub mod Changes
+pub mod Rows
 pub mod PartFrames
 -- Who waits, and the first reply in order.
 pub mod Within

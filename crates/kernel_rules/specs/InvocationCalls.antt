@@ -1,5 +1,5 @@
 -- The calls of invocation: gates, killing, calling and returning, and switching threads.
-use Rattle.std.specs.Prelude.{ℕ, not, ◌&&◌, nat_le, [], ◌∷◌, length, Option, Some, None}
+use Rattle.std.specs.Prelude.{ℕ, not, ◌&&◌, nat_le, List, [], ◌∷◌, length, Option, Some, None}
 use Rattle.spk_nums.specs.{Capability.cap_of, declared.replies.Value.TheVariants.Nothing, declared.kinds.Kind.Kind}
 use Rattle.spk_nums.specs.{declared.replies.Reply.Reply}
 use Rattle.kernel_rules.specs.{State.CompFields, State.State, State.comp_in, State.thread_in, State.thread_of, Life.is_live_in}
@@ -40,10 +40,14 @@ call_rule s c g =
 abbrev pub ret_rule : State → ℕ → Rule
 ret_rule s c = Does (When (nat_le (length (thread_of s c).stack) 1) Reply.Bottom ∷ []) Nothing (Pop ∷ [])
 
--- A switch to a named thread that runs on core e is refused with `running e`; an idle one is carried out.
+-- `running`: the named thread runs on a core.
+abbrev pub runs_elsewhere : Named → Option ℕ → List Cause
+runs_elsewhere h None = []
+runs_elsewhere h (Some e) = When h.found (Reply.Running e) ∷ []
+
+-- A switch to a named thread, which must be idle.
 abbrev pub switch_to : Named → ℕ → Option ℕ → Rule
-switch_to h q None = Does [] Nothing (Switch h.frame q ∷ [])
-switch_to h q (Some e) = Does (When h.found (Reply.Running e) ∷ []) Nothing (Switch h.frame q ∷ [])
+switch_to h q runs_on = Does (runs_elsewhere h runs_on) Nothing (Switch h.frame q ∷ [])
 
 -- `switch H Q` names a thread H and a temporal capability Q, with which the core goes on; H must be idle.
 abbrev pub switch_rule : State → ℕ → ℕ → Rule

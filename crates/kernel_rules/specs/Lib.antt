@@ -14,6 +14,7 @@ pub mod MemoryCalls
 pub mod InvocationCalls
 pub mod TimeCalls
 pub mod CallRelation
+pub mod Rows
 pub mod Alone
 pub mod Runs
 pub mod Fitting

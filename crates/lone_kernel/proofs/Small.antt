@@ -19,28 +19,9 @@ make_small (Make.Tcap sched quality) n h = omega arith
 make_small (Make.Comp table pages live) n h = omega arith
 
 bound_small : (call : Call) (n : ℕ) → n ≤ 8 → bound_of call n < 1000
-bound_small (Call.Look a) n h = omega arith
-bound_small (Call.Copy a t b rights) n h = omega arith
-bound_small (Call.Remove t b) n h = omega arith
-bound_small (Call.Grow t i l) n h = omega arith
-bound_small (Call.Shrink t i) n h = omega arith
 bound_small (Call.Retype r f k) n h = retype_small k n h
 bound_small (Call.Make what range frame table slot) n h = make_small what n h
-bound_small (Call.Map p v r f w) n h = omega arith
-bound_small (Call.Unmap p v) n h = omega arith
-bound_small (Call.Touch v) n h = omega arith
-bound_small Call.Flush n h = omega arith
-bound_small (Call.Gate c t b) n h = omega arith
-bound_small (Call.Kill c) n h = omega arith
-bound_small (Call.Call g) n h = omega arith
-bound_small Call.Ret n h = omega arith
-bound_small (Call.Switch h q) n low = omega arith
-bound_small (Call.Tick t) n h = omega arith
-bound_small (Call.Transfer a b m) n h = omega arith
-bound_small (Call.Delegate a b m) n h = omega arith
-bound_small (Call.Test a b) n h = omega arith
-bound_small (Call.Replenish a m) n h = omega arith
-bound_small (Call.Part r f k t b) n h = omega arith
+bound_small _ n h = omega arith
 
 left_small : (core : Core) (o : Option ActiveCall) → core.own.layout.cores ≤ 8 → CallFits core.own o
     → left_for core.own.layout.cores o < 1000

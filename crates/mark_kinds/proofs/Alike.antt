@@ -1,11 +1,15 @@
 -- Few calls change how the words of frames are read for marks.
 use Rattle.kernel_invariant.specs.kernel_rules.proofs as low
-use low.{◌≡◌, ◌≢◌, ◌⊎◌, inl, inr, ℕ, ◌-◌, ◌+◌, true, false, List, ◌∷◌, drop, Option, Some, None, IsTrue, refl, sym, ◌∙◌, ap, true≢false}
-use low.{false≢true, Capability, Make, Call, Reply, Translation, Place, Free, Holds, Quiescing, ThreadFields, TcapFields, Object, Table}
-use low.{Leaf, Pages, Pleaf, Thread, Tcap, Frame, Kernel, put, comp_of, thread_in, thread_of, is_node, Change, Rule, Judged, Refused, Found}
-use low.{Named, found, make_rule, with_thread, with_stack, running, tcap_at, with_tcap, with_budget, with_qualities, moved, touch_by}
-use low.{translation_of, switch_to, merged_list, rule_of, change_of, changed, owed_by, state_by, AllChanges, IfFound, outcome_all, put_same}
+use low.{◌≡◌, ◌≢◌, inl, inr, ℕ, ◌-◌, ◌+◌, true, false, List, [], ◌∷◌, drop, Option, Some, None, IsTrue, refl, sym, ◌∙◌, ap, true≢false}
+use low.{false≢true, Capability, Make, Call, Reply, Place, Free, Holds, Quiescing, ThreadFields, TcapFields, Object, Table}
+use low.{Leaf, Pages, Pleaf, Thread, Tcap, Frame, Kernel, put, comp_of, thread_of, is_node, Change, Rule, Judged, Refused, Found}
+use low.{make_rule, with_thread, with_stack, running, tcap_at, with_tcap, with_budget, with_qualities, moved}
+use low.{translation_of, rule_of, change_of, changed, owed_by, state_by, AllChanges, IfFound, outcome_all, put_same}
 use Rattle.kernel_history.specs.{State, mark_in_frame, changes_frames}
+use low.Rows.{Looks, found_by, all_left, by_cached}
+use low.{Bool, ◌&&◌, Edit, Node, Become, Untype, Component, Push, Pop, Charge, Move, Merge, Give, edited, after_edits}
+use Rattle.kernel_invariant.specs.kernel_rules.specs.{Edits.Switch, Rows.edits_at}
+use Rattle.std.proofs.lemmas.Bool.{and_parts}
 use Rattle.mark_kinds.specs.Reads.{ReadAlike, KindsStay, NodesStay}
 use low.{put_other}
 use Rattle.{std.proofs.lemmas.Bool.cases_eq, kernel_invariant.proofs.Sound.put_all}
@@ -42,44 +46,47 @@ moved_alike s a b m f i v =
     budget_alike (with_budget s a ((tcap_at s a).budget - m)) b ((tcap_at s b).budget + m) f i v
     ∙ budget_alike s a ((tcap_at s a).budget - m) f i v
 
--- The changes that a rule can make leave all words read as before.
-abbrev AllAlike : State → ℕ → Rule → Type 0
-AllAlike s c rule = AllChanges s c (λ change. ReadAlike s change.next) rule
+-- Whether an edit leaves all words read as before: it changes no more of a frame than its thread or its temporal capability.
+abbrev keeps_kinds : Edit → Bool
+keeps_kinds (Node f object) = false
+keeps_kinds (Become f x) = false
+keeps_kinds (Untype f) = false
+keeps_kinds (Component f k) = false
+keeps_kinds _ = true
 
-touch_all : (s : State) (c pages v : ℕ) (o : Option Translation) → AllAlike s c (touch_by pages v o)
-touch_all s c pages v None = λ k f i w. refl
-touch_all s c pages v (Some t) = λ f i w. refl
+abbrev all_keep : List Edit → Bool
+all_keep [] = true
+all_keep (e ∷ es) = keeps_kinds e && all_keep es
 
-switch_all : (s : State) (c : ℕ) (h : Named) (q : ℕ) (o : Option ℕ) → AllAlike s c (switch_to h q o)
-switch_all s c h q None = λ f i v.
-    running_alike (running s (s.core c).thread None) h.frame (Some c) f i v ∙ running_alike s (s.core c).thread None f i v
-switch_all s c h q (Some e) = λ f i v.
-    running_alike (running s (s.core c).thread None) h.frame (Some c) f i v ∙ running_alike s (s.core c).thread None f i v
+edit_alike : (s : State) (c : ℕ) (e : Edit) → IsTrue (keeps_kinds e) → ReadAlike s (edited c s e)
+edit_alike s c (Node f object) keeps = absurd (false≢true keeps)
+edit_alike s c (Become f x) keeps = absurd (false≢true keeps)
+edit_alike s c (Untype f) keeps = absurd (false≢true keeps)
+edit_alike s c (Component f k) keeps = absurd (false≢true keeps)
+edit_alike s c (Push f) keeps = stack_alike s c (f ∷ (thread_of s c).stack)
+edit_alike s c Pop keeps = stack_alike s c (drop 1 (thread_of s c).stack)
+edit_alike s c (Switch h q) keeps = λ f i v.
+    running_alike (running s (s.core c).thread None) h (Some c) f i v ∙ running_alike s (s.core c).thread None f i v
+edit_alike s c (Charge n) keeps = budget_alike s (s.core c).tcap _
+edit_alike s c (Move a b m) keeps = moved_alike s a b m
+edit_alike s c (Merge f list) keeps = list_alike s f list
+edit_alike s c (Give f m) keeps = budget_alike s f _
+edit_alike s c _ keeps = λ f i v. refl
 
-all_alike : (s : State) (c : ℕ) (what : Call) → changes_frames what ≡ false → AllAlike s c (rule_of s c what)
-all_alike s c (Call.Look a) stays = λ k f i v. refl
-all_alike s c (Call.Copy a t b rights) stays = λ k table at f i v. refl
-all_alike s c (Call.Remove t b) stays = λ table at k f i v. refl
-all_alike s c (Call.Grow t j l) stays = λ table leaf at f i v. refl
-all_alike s c (Call.Shrink t j) stays = λ table at k f i v. refl
-all_alike s c (Call.Retype r g k) stays = absurd (true≢false stays)
-all_alike s c (Call.Make what r g t b) stays = absurd (true≢false stays)
-all_alike s c (Call.Map p u r g w) stays = λ pages range at f i v. refl
-all_alike s c (Call.Unmap p u) stays = λ pages at k f i v. refl
-all_alike s c (Call.Touch u) stays = touch_all s c (comp_of s c).pages u (translation_of (s.core c).cached (comp_of s c).pages u)
-all_alike s c Call.Flush stays = λ f i v. refl
-all_alike s c (Call.Gate k t b) stays = λ comp table at f i v. refl
-all_alike s c (Call.Kill k) stays = λ comp f i v. refl
-all_alike s c (Call.Call g) stays = λ gate. stack_alike s c (gate.frame ∷ (thread_of s c).stack)
-all_alike s c Call.Ret stays = stack_alike s c (drop 1 (thread_of s c).stack)
-all_alike s c (Call.Switch h q) stays = λ thread tcap. switch_all s c (found thread) tcap.frame (thread_in (s.frame thread.frame)).runs_on
-all_alike s c (Call.Tick n) stays = budget_alike s (s.core c).tcap _
-all_alike s c (Call.Transfer a b m) stays = λ j k. moved_alike s j.frame k.frame m
-all_alike s c (Call.Delegate a b m) stays = λ j k f i v.
-    list_alike (moved s j.frame k.frame m) k.frame (merged_list s j.frame k.frame) f i v ∙ moved_alike s j.frame k.frame m f i v
-all_alike s c (Call.Test a b) stays = λ j k f i v. refl
-all_alike s c (Call.Replenish a m) stays = λ j. budget_alike s j.frame _
-all_alike s c (Call.Part r f n t b) stays = λ k table at g i v. refl
+edits_alike : (s : State) (c : ℕ) (es : List Edit) → IsTrue (all_keep es) → ReadAlike s (after_edits c s es)
+edits_alike s c [] keep f i v = refl
+edits_alike s c (e ∷ es) keep f i v =
+    let p = and_parts (keeps_kinds e) (all_keep es) keep in
+    edits_alike (edited c s e) c es p.1 f i v ∙ edit_alike s c e p.0 f i v
+
+-- So do the edits of a call, wherever its look-ups lead, but of the calls that change what a frame is.
+all_alike : (s : State) (c : ℕ) (what : Call) → changes_frames what ≡ false → (g : Looks)
+    → IsTrue (all_keep (edits_at (rule_of s c what) (found_by g)))
+all_alike s c (Call.Retype r f k) stays g = absurd (true≢false stays)
+all_alike s c (Call.Make what r f t b) stays g = absurd (true≢false stays)
+all_alike s c (Call.Touch u) stays g = by_cached (λ rule. IsTrue (all_keep (edits_at rule (found_by g)))) (comp_of s c).pages u refl
+    (λ t. refl) (translation_of (s.core c).cached (comp_of s c).pages u)
+all_alike s c _ stays g = refl
 
 -- What is owed changes no frame.
 owed_alike : (s : State) (c : ℕ) (what : Call) → ReadAlike s (owed_by s c what)
@@ -92,7 +99,9 @@ changed_alike s (Found change) h f i v = h f i v
 
 pub kinds_stay : KindsStay
 kinds_stay s c what (Reply.Ok x) stays f i v = changed_alike s (change_of s c what)
-    (outcome_all (λ change. ReadAlike s change.next) s c (rule_of s c what) (all_alike s c what stays)) f i v
+    (outcome_all (λ change. ReadAlike s change.next) s c (rule_of s c what)
+    (all_left (λ change. ReadAlike s change.next) s c (rule_of s c what)
+    (λ g. edits_alike s c (edits_at (rule_of s c what) (found_by g)) (all_alike s c what stays g)))) f i v
 kinds_stay s c what Reply.Raced stays f i v = owed_alike s c what f i v
 kinds_stay s c what (Reply.Busy d) stays f i v = owed_alike s c what f i v
 kinds_stay s c what _ stays f i v = refl
@@ -165,13 +174,4 @@ made_nodes s c what r g t b _ = λ f i k node removed v. refl
 pub nodes_stay : NodesStay
 nodes_stay s c (Call.Make what r g t b) q places f i k node removed v = made_nodes s c what r g t b q f i k node removed v
 nodes_stay s c (Call.Retype r g k) q places f i m node removed v = absurd (true≢false (sym places))
-nodes_stay s c (Call.Look a) q places f i k node removed v = kinds_stay s c (Call.Look a) q refl f i v
-nodes_stay s c (Call.Copy a t b rights) q places f i k node removed v = kinds_stay s c (Call.Copy a t b rights) q refl f i v
-nodes_stay s c (Call.Remove t b) q places f i k node removed v = kinds_stay s c (Call.Remove t b) q refl f i v
-nodes_stay s c (Call.Grow t j l) q places f i k node removed v = kinds_stay s c (Call.Grow t j l) q refl f i v
-nodes_stay s c (Call.Shrink t j) q places f i k node removed v = kinds_stay s c (Call.Shrink t j) q refl f i v
-nodes_stay s c (Call.Map p u r g w) q places f i k node removed v = kinds_stay s c (Call.Map p u r g w) q refl f i v
-nodes_stay s c (Call.Unmap p u) q places f i k node removed v = kinds_stay s c (Call.Unmap p u) q refl f i v
-nodes_stay s c (Call.Gate m t b) q places f i k node removed v = kinds_stay s c (Call.Gate m t b) q refl f i v
-nodes_stay s c (Call.Part r g n t b) q places f i k node removed v = kinds_stay s c (Call.Part r g n t b) q refl f i v
-nodes_stay s c _ q places f i k node removed v = absurd (true≢false (sym places))
+nodes_stay s c call q places f i k node removed v = kinds_stay s c call q refl f i v

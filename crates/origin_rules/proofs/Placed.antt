@@ -1,18 +1,19 @@
 -- What the places show after a call that is carried out: what it puts, or what they showed before.
 use Rattle.kernel_invariant.specs.kernel_rules.proofs as low
 use low.{◌≡◌, ◌⊎◌, inl, inr, ℕ, true, false, not, ◌==◌, refl, sym, ◌∙◌, ap, subst, IsTrue, List, [], ◌∷◌, Option, Some, None, false≢true}
-use low.{Capability, cap_of, kept, has_rights, part_of, Kind, FrameKind, Make, Call, Translation, Nothing, Place, Free, Holds, Quiescing}
-use low.{Object, Table, Leaf, Pages, Pleaf, put, comp_of, comp_in, thread_in, plain_cap, Want, Slot, found, any, only, to_copy, to_use}
+use low.{Capability, cap_of, kept, has_rights, part_of, Kind, FrameKind, Make, Call, Nothing, Place, Free, Holds, Quiescing}
+use low.{Object, Table, Leaf, Pages, Pleaf, put, comp_of, comp_in, plain_cap, Want, Slot, found, any, only, to_copy, to_use}
 use low.{Target, Under, InRoot, own, reached, usable, to_part, Change, does, Cause, Found, or_refuse, and_then, of_kind, named, name_of}
-use low.{vacant, held, first_cause, has_frame, outside, not_blank, make_node, make_rule, not_taken, Fill, cleared, touch_by, translation_of}
+use low.{vacant, held, first_cause, has_frame, outside, not_blank, make_node, make_rule, not_taken, Fill, cleared, translation_of}
 use Rattle.kernel_invariant.proofs.{ChangesFrom, none_some, some_inj, then_parts, or_found, Suits, suits, vacant_facts, held_facts}
 use Rattle.origin_rules.specs.{declared.chains.Step.Step, declared.chains.Step.TheVariants.Copied, declared.chains.Step.TheVariants.Made}
 use Rattle.origin_rules.specs.{declared.chains.Step.TheVariants.Gated, declared.chains.Step.TheVariants.Parted, Chains.put_from}
-use low.{retype_rule, switch_to, rule_of, put_same, put_other, Reply, Within.either}
+use low.{retype_rule, rule_of, put_same, put_other, Reply, Within.either}
 use Rattle.{kernel_invariant.proofs.none_parts, kernel_invariant.proofs.when_not, kernel_invariant.proofs.not_not}
 use Rattle.{kernel_invariant.proofs.within_by, origin_rules.specs.Put, origin_rules.specs.puts, origin_rules.specs.is_own}
 use Rattle.{origin_rules.specs.Gives, std.proofs.lemmas.Bool.cases_eq, kernel_invariant.specs.kernel_rules.specs.State.State}
 use Rattle.{kernel_invariant.specs.kernel_rules.specs.Edits.Remove, origin_rules.specs.Chains.slot_named}
+use Rattle.{kernel_invariant.specs.kernel_rules.proofs.Rows.by_cached, kernel_invariant.proofs.Facts.from_left}
 use Rattle.{origin_rules.specs.Chains.slot_under, origin_rules.specs.Derived.kind_of}
 
 -- What a place shows.
@@ -195,17 +196,7 @@ module _ (s : State) (c : ℕ) where
   retype_placed r f FrameKind.User = λ range e calm. kept_places (Call.Retype r f FrameKind.User) _ refl refl
   retype_placed r f FrameKind.Kernel = λ range e calm. kept_places (Call.Retype r f FrameKind.Kernel) _ refl refl
 
-  touch_placed : (v pages : ℕ) (t : Option Translation) → ChangesFrom (Placed s c (Call.Touch v)) s c (touch_by pages v t)
-  touch_placed v pages (Some t) = λ calm. kept_places (Call.Touch v) _ refl refl
-  touch_placed v pages None = λ mapping e calm. kept_places (Call.Touch v) _ refl refl
-
-  switch_placed : (h q : ℕ) (thread tcap : Capability) (on : Option ℕ)
-      → ChangesFrom (Placed s c (Call.Switch h q)) s c (switch_to (found thread) tcap.frame on)
-  switch_placed h q thread tcap None = λ calm. kept_places (Call.Switch h q) _ refl refl
-  switch_placed h q thread tcap (Some e) = λ calm. kept_places (Call.Switch h q) _ refl refl
-
   pub call_placed : (call : Call) → ChangesFrom (Placed s c call) s c (rule_of s c call)
-  call_placed (Call.Look a) = λ cap e calm. kept_places (Call.Look a) _ refl refl
   call_placed (Call.Copy a t b rights) = λ cap e table g at h calm.
       let x = named_at s c a (to_copy any) cap e in
       record {
@@ -221,8 +212,9 @@ module _ (s : State) (c : ℕ) where
   call_placed (Call.Map p v r f w) = λ pages e range g at u calm.
       filled_with_other (Call.Map p v r f w) at (cap_of Kind.Page f w.0) refl refl
   call_placed (Call.Unmap p v) = λ pages e at k g calm. removed_from (Call.Unmap p v) (Under (found pages) v) at k refl g
-  call_placed (Call.Touch v) = touch_placed v (comp_of s c).pages (translation_of (s.core c).cached (comp_of s c).pages v)
-  call_placed Call.Flush = λ calm. kept_places Call.Flush _ refl refl
+  call_placed (Call.Touch v) = by_cached (ChangesFrom (Placed s c (Call.Touch v)) s c) (comp_of s c).pages v
+      (λ mapping e calm. kept_places (Call.Touch v) _ refl refl) (λ t calm. kept_places (Call.Touch v) _ refl refl)
+      (translation_of (s.core c).cached (comp_of s c).pages v)
   call_placed (Call.Gate k t b) = λ comp e table g at h calm.
       let x = named_at s c k (to_use (only Kind.Comp)) comp e in
       record {
@@ -230,15 +222,6 @@ module _ (s : State) (c : ℕ) where
             (cap_of Kind.Gate comp.frame (comp_in (s.frame comp.frame)).epoch) at x
             (named_put Gated k t b (to_use (only Kind.Comp)) comp table at x g h) (record { names = e; is = refl }) s.place (λ f i j e. e);
       }
-  call_placed (Call.Kill k) = λ comp e calm. kept_places (Call.Kill k) _ refl refl
-  call_placed (Call.Call g) = λ gate e calm. kept_places (Call.Call g) _ refl refl
-  call_placed Call.Ret = λ calm. kept_places Call.Ret _ refl refl
-  call_placed (Call.Switch h q) = λ thread e tcap g. switch_placed h q thread tcap (thread_in (s.frame thread.frame)).runs_on
-  call_placed (Call.Tick n) = λ calm. kept_places (Call.Tick n) _ refl refl
-  call_placed (Call.Transfer a b m) = λ j e k f calm. kept_places (Call.Transfer a b m) _ refl refl
-  call_placed (Call.Delegate a b m) = λ j e k f calm. kept_places (Call.Delegate a b m) _ refl refl
-  call_placed (Call.Test a b) = λ j e k f calm. kept_places (Call.Test a b) _ refl refl
-  call_placed (Call.Replenish a m) = λ j e calm. kept_places (Call.Replenish a m) _ refl refl
   call_placed (Call.Part r f n t b) = λ cap e table g at h calm.
       let x = named_at s c r (to_part (only Kind.Range)) cap e in
       record {
@@ -246,3 +229,5 @@ module _ (s : State) (c : ℕ) where
             (named_put Parted r t b (to_part (only Kind.Range)) cap table at x g h)
             (record { names = e; frames = within_by s c cap f n calm; is = refl }) s.place (λ f i j e. e);
       }
+  -- the others change no place
+  call_placed call = from_left (λ v es. Placed s c call (does c s v es)) s c (rule_of s c call) (λ g led. kept_places call _ refl refl)

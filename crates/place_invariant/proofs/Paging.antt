@@ -1,17 +1,16 @@
 -- Which places that a call fills are those of page tables.
 use Rattle.count_invariant.specs.act_states.proofs as low
 use low.{◌≡◌, ℕ, ◌&&◌, leb as nat_le, if◌then◌else◌, Bool, true, false, List, [], ◌∷◌, Some, None, refl, sym, ◌∙◌, ap, IsTrue, false≢true}
-use low.{Capability, Setting, IsSetting, Kind, Call, Copy, Remove, Grow, Shrink, Map, Unmap, Retype, Tick, Kill, Gate, Touch, Flush, Ret}
-use low.{Transfer, Delegate, Test, Switch, Table, Pages, Frame, Kernel, State, Slot, Named, found, only, Target, Under, InRoot, reached}
+use low.{Capability, Setting, IsSetting, Kind, Call, Copy, Grow, Map, Retype, Gate}
+use low.{Table, Pages, Frame, Kernel, State, Slot, Named, found, only, Target, Under, InRoot, reached}
 use low.{fits, some_inj, opened, Nowhere, Plan, plan_for, Leads, LeadsIn, NextNothing, NextHeld, NextOwn, NextFree, next_of, Part}
-use low.{Replenish, to_use, FrameKind}
+use low.{to_use, FrameKind}
 use Rattle.count_invariant.specs.step_ways.proofs.{events_of, IsLegal, Trace, Open, phase, state_after, sound_of, opened_is}
-use Rattle.count_invariant.specs.kernel_laws.proofs.{is_paging, none_some, Look, root, IsGood, named_good}
+use Rattle.count_invariant.specs.kernel_laws.proofs.{is_paging, none_some, root, IsGood, named_good}
 use Rattle.count_invariant.specs.call_plans.specs.declared.plans.Target.TheVariants.{Free, Held, Own}
 use Rattle.place_invariant.proofs.{CompMakes.IsCompMake, CompMakes.comp_make, ObjectMakes.made_of, ObjectMakes.IsObjectMake}
 use Rattle.place_invariant.proofs.{ObjectMakes.object_make, Outside.none_left_of, Vacancy.in_leaf, Vacancy.in_pleaf}
 use Rattle.{count_invariant.specs.step_ways.proofs.Make as make_call, count_invariant.specs.act_states.specs.Acts.fills_page}
-use Rattle.{count_invariant.specs.quality_lists.specs.spk_nums.specs.declared.calls.Call.TheVariants.Call as call_gate}
 use Rattle.{count_invariant.specs.call_plans.specs.declared.plans.Target.Target as TargetOf, count_invariant.proofs.Next.next_end}
 use Rattle.count_invariant.specs.kernel_laws.specs.spk_nums.specs.declared.calls.Make.TheVariants as make
 
@@ -116,21 +115,5 @@ module _ (setup : Setting) (setting : IsSetting setup) (t : Trace) (legal : IsLe
   paging_by (Part r f n u b) is [] lead next = absurd (cc)
   paging_by (Part r f n u b) is (k ∷ []) lead next = absurd (cc)
   paging_by (Part r f n u b) is (k ∷ j ∷ i ∷ ks) lead next = absurd lead.1.1
-  paging_by (Touch v) is ks lead next = absurd (none_free (Touch v) ks next)
-  paging_by Flush is ks lead next = absurd (none_free Flush ks next)
-  paging_by (Look a) is ks lead next = absurd (none_free (Look a) ks next)
-  paging_by (Remove u b) is ks lead next = absurd (none_free (Remove u b) ks next)
-  paging_by (Shrink u i) is ks lead next = absurd (none_free (Shrink u i) ks next)
-  paging_by (Unmap p v) is ks lead next = absurd (none_free (Unmap p v) ks next)
   paging_by (Retype r f FrameKind.Untyped) is ks lead next = absurd (none_free (Retype r f FrameKind.Untyped) ks next)
-  paging_by (Retype r f FrameKind.User) is ks lead next = absurd (none_free (Retype r f FrameKind.User) ks next)
-  paging_by (Retype r f FrameKind.Kernel) is ks lead next = absurd (none_free (Retype r f FrameKind.Kernel) ks next)
-  paging_by (Tick n) is ks lead next = absurd (none_free (Tick n) ks next)
-  paging_by (Kill n) is ks lead next = absurd (none_free (Kill n) ks next)
-  paging_by (call_gate n) is ks lead next = absurd (none_free (call_gate n) ks next)
-  paging_by Ret is ks lead next = absurd (none_free Ret ks next)
-  paging_by (Replenish x m) is ks lead next = absurd (none_free (Replenish x m) ks next)
-  paging_by (Transfer x y m) is ks lead next = absurd (none_free (Transfer x y m) ks next)
-  paging_by (Delegate x y m) is ks lead next = absurd (none_free (Delegate x y m) ks next)
-  paging_by (Test x y) is ks lead next = absurd (none_free (Test x y) ks next)
-  paging_by (Switch x y) is ks lead next = absurd (none_free (Switch x y) ks next)
+  paging_by call is ks lead next = absurd (none_free call ks next)

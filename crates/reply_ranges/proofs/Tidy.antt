@@ -3,18 +3,22 @@
 use Rattle.state_laws.specs.kernel_laws.proofs as low
 use low.{◌≡◌, ℕ, ◌<◌, ◌≤◌, ◌^◌, Bool, true, false, List, [], ◌∷◌, ◌++◌, Option, Some, None, IsTrue, sym, ap, subst, arith, ◌==◌}
 use low.{ltb as nat_lt, ◌+◌, length, if◌then◌else◌, false≢true, Capability, cap_of, kept, part_of, Setting, IsSetting, InLimits, Kind}
-use low.{FrameKind, Call, Look, Copy, Remove, Grow, Shrink, Retype, Make as make_call, Map, Unmap, Touch, Flush, Gate, Kill, Ret, Switch}
-use low.{Tick, Transfer, Delegate, Test, Part, Replenish, Translation, Reply, Place, Free, Holds, Quiescing, Comp, Frame, Kernel, Core}
-use low.{State, put, with_place, comp_in, comp_of, thread_in, plain_cap, start_cap, place_with, start, entered, returned, Slot, Named, Want}
+use low.{FrameKind, Call, Copy, Remove, Grow, Shrink, Retype, Make as make_call, Map, Unmap, Touch, Gate}
+use low.{Tick, Part, Translation, Reply, Place, Free, Holds, Quiescing, Comp, Frame, Kernel, Core}
+use low.{State, put, comp_in, comp_of, plain_cap, start_cap, place_with, start, entered, returned, Slot, Want}
 use low.{Under, InRoot, found, root_at, place_at, held_in, usable_in, usable, reached, any, to_copy, only, Change, Judged, Refused, Found}
-use low.{and_then, or_refuse, unless, named, mapped, make_rule, has_frames, retype_rule, touch_by, translation_of, caching, switch_to}
+use low.{and_then, or_refuse, unless, named, mapped, make_rule, has_frames, touch_by, translation_of, caching}
 use low.{rule_of, change_of, changed, counted, owed_by, state_by, fits, IsGood, EndsWithin, Event, Enters, Decides, Returns, after, is_open}
 use low.{IsRun, IfFound, put_all, only_is, IsOpen, opened, open_is, open_limits, limits_stay, ChangesFrom, outcome_from, suits, named_fit}
 use low.{then_parts, or_found, named_good, name_parts, Shaped, runs_shape, IsFitted, runs_fit, held_is, mapped_page}
 use Rattle.state_laws.specs.kernel_rules.specs.{least_rights, Make, to_part}
 use Rattle.state_laws.specs.kernel_invariant.proofs.{within_by, held_facts}
+use Rattle.state_laws.specs.kernel_rules.proofs.Rows.{Looks}
+use Rattle.state_laws.specs.kernel_invariant.proofs.Facts.{LedBy, HoldsAt, from_left, edits_map}
+use Rattle.state_laws.specs.kernel_rules.specs.{Edits.Remove as remove_edit, Edits.Flush as flush_edit, Edits.Switch as switch_edit}
+use Rattle.state_laws.specs.kernel_laws.proofs.{Edit, edited, after_edits, Fill, Node, Cache, Charge, Give, Value, Target, held}
 use Rattle.state_laws.specs.spk_nums.proofs.KeptRights.{kept_above, kept_below}
-use Rattle.{std.specs.List.AllByRecursion, state_laws.specs.spk_nums.specs.declared.calls.Call.TheVariants.Call as call_gate}
+use Rattle.{std.specs.List.AllByRecursion}
 use Rattle.{state_laws.specs.kernel_rules.specs.Start.start_range, state_laws.specs.kernel_rules.proofs.PartFrames.frames_in}
 use low.{Shapes.FrameShape}
 
@@ -137,6 +141,43 @@ mapped_at s c pages v k e =
 abbrev Keeps : Change → Type 0
 Keeps change = IsTidy change.next
 
+-- What edits put, cache or remove is so.
+abbrev AreTidy : List Edit → Type 0
+AreTidy [] = Unit {0}
+AreTidy (Fill at k ∷ es) = IsCap k × AreTidy es
+AreTidy (remove_edit at k ∷ es) = IsCap k × AreTidy es
+AreTidy (Cache t ∷ es) = (t.flags.0 < 4) × AreTidy es
+AreTidy (_ ∷ es) = AreTidy es
+
+cleared : (s : State) → IsTidy s → (f g i : ℕ) → PlaceFits (put s.place f (λ j. Free) g i)
+cleared s h f g i =
+    put_all (λ g (row : ℕ → Place). PlaceFits (row i)) s.place f (λ j. Free) g (λ same. tt) (λ other. h.places g i)
+
+edit_tidy : (s : State) (c : ℕ) (e : Edit) → AreTidy (e ∷ []) → IsTidy s → IsTidy (edited c s e)
+edit_tidy s c (Fill at k) are h = record { places = placed s.place at.node at.index (Holds k) are.0 h.places; flags = h.flags }
+edit_tidy s c (remove_edit at k) are h =
+    record { places = placed s.place at.node at.index (Quiescing k) are.0 h.places; flags = h.flags }
+edit_tidy s c (Node f object) are h = record { places = cleared s h f; flags = h.flags }
+edit_tidy s c (Cache t) are h =
+    record { places = h.places; flags = core_flags s.core c _ (flags_cached (s.core c).cached t (h.flags c) are.0) h.flags }
+edit_tidy s c flush_edit are h = record { places = h.places; flags = core_flags s.core c _ tt h.flags }
+edit_tidy s c (switch_edit f q) are h = record { places = h.places; flags = core_flags s.core c _ (h.flags c) h.flags }
+edit_tidy s c (Charge n) are h = record { places = h.places; flags = core_flags s.core c _ (h.flags c) h.flags }
+edit_tidy s c (Give f m) are h = record { places = h.places; flags = core_flags s.core c _ (h.flags c) h.flags }
+edit_tidy s c _ are h = record { places = h.places; flags = h.flags }
+
+tidy_parts : (e : Edit) (es : List Edit) → AreTidy (e ∷ es) → AreTidy (e ∷ []) × AreTidy es
+tidy_parts (Fill at k) es are = ((are.0, tt), are.1)
+tidy_parts (remove_edit at k) es are = ((are.0, tt), are.1)
+tidy_parts (Cache t) es are = ((are.0, tt), are.1)
+tidy_parts _ es are = (tt, are)
+
+edits_tidy : (s : State) (c : ℕ) (es : List Edit) → AreTidy es → IsTidy s → IsTidy (after_edits c s es)
+edits_tidy s c [] are h = h
+edits_tidy s c (e ∷ es) are h =
+    let p = tidy_parts e es are in
+    edits_tidy (edited c s e) c es p.1 (edit_tidy s c e p.0 h)
+
 module _ (s : State) (o : ℕ → Bool) (c : ℕ) (opens : IsOpen s o c) (w : IsFitted s o) (shape : Shaped s) (epochs : s.limits.epochs < 2 ^ 16)
     (frames : s.limits.frames ≤ 512) (h : IsTidy s) where
   pub named_cap : (n : ℕ) (want : Want) (k : Capability) → named s c n want ≡ Found k → IsCap k
@@ -158,86 +199,64 @@ module _ (s : State) (o : ℕ → Bool) (c : ℕ) (opens : IsOpen s o c) (w : Is
       let last = p.last in
       record { number = omega (arith, ends, frames); least = omega arith; most = cap.most }
 
-  cleared : (f : ℕ) (g i : ℕ) → PlaceFits (put s.place f (λ j. Free) g i)
-  cleared f g i = put_all (λ g (row : ℕ → Place). PlaceFits (row i)) s.place f (λ j. Free) g (λ same. tt) (λ other. h.places g i)
+  -- By the value and the edits.
+  abbrev TidyBy : Value → List Edit → Type 0
+  TidyBy v es = AreTidy es
 
-  filled : (at : Slot) (k : Capability) → IsCap k → IsTidy (with_place s at.node at.index (Holds k))
-  filled at k is = record { places = placed s.place at.node at.index (Holds k) is h.places; flags = h.flags }
+  make_tidy : (what : Make) (r f t b : ℕ) (g : Looks) → HoldsAt TidyBy (make_rule s what r f t b) g
+  make_tidy Make.Table r f t b g = (plain_table f, tt)
+  make_tidy Make.Leaf r f t b g = (plain_leaf f, tt)
+  make_tidy Make.Pages r f t b g = (plain_pages f, tt)
+  make_tidy Make.Pleaf r f t b g = (plain_pleaf f, tt)
+  make_tidy (Make.Thread comp) r f t b g = (plain_thread f, tt)
+  make_tidy (Make.Tcap sched quality) r f t b g = (plain_tcap f, tt)
+  make_tidy (Make.Comp x p l) r f t b g = (plain_comp f, tt)
 
-  removed : (at : Slot) (k : Capability) → place_at s at ≡ Holds k → IsTidy (with_place s at.node at.index (Quiescing k))
-  removed at k is =
-      record { places = placed s.place at.node at.index (Quiescing k) (held_cap at.node at.index k is) h.places; flags = h.flags }
-
-  made : (f : ℕ) (at : Slot) (k : Capability) → IsCap k
-      → (g i : ℕ) → PlaceFits (put (put s.place f (λ j. Free)) at.node (put (put s.place f (λ j. Free) at.node) at.index (Holds k)) g i)
-  made f at k is = placed (put s.place f (λ j. Free)) at.node at.index (Holds k) is (cleared f)
-
-  make_tidy : (what : Make) (r f t b : ℕ) → ChangesFrom Keeps s c (make_rule s what r f t b)
-  make_tidy Make.Table r f t b = λ range e table g at v calm.
-      record { places = made f at (plain_cap Kind.Table f) (plain_table f); flags = h.flags }
-  make_tidy Make.Leaf r f t b = λ range e table g at v calm.
-      record { places = made f at (plain_cap Kind.Leaf f) (plain_leaf f); flags = h.flags }
-  make_tidy Make.Pages r f t b = λ range e table g at v calm.
-      record { places = made f at (plain_cap Kind.Pages f) (plain_pages f); flags = h.flags }
-  make_tidy Make.Pleaf r f t b = λ range e table g at v calm.
-      record { places = made f at (plain_cap Kind.Pleaf f) (plain_pleaf f); flags = h.flags }
-  make_tidy (Make.Thread comp) r f t b = λ range e table g k j at v calm.
-      record { places = placed s.place at.node at.index (Holds (plain_cap Kind.Thread f)) (plain_thread f) h.places; flags = h.flags }
-  make_tidy (Make.Tcap sched quality) r f t b = λ range e table g at v calm.
-      record { places = placed s.place at.node at.index (Holds (plain_cap Kind.Tcap f)) (plain_tcap f) h.places; flags = h.flags }
-  make_tidy (Make.Comp x p l) r f t b = λ range e table g own_table a own_pages d at v calm.
-      record { places = placed s.place at.node at.index (Holds (plain_cap Kind.Comp f)) (plain_comp f) h.places; flags = h.flags }
-
-  retype_tidy : (r f : ℕ) (k : FrameKind) → ChangesFrom Keeps s c (retype_rule s r f k)
-  retype_tidy r f FrameKind.Untyped = λ range e calm. record { places = h.places; flags = h.flags }
-  retype_tidy r f _ = λ range e calm. record { places = h.places; flags = h.flags }
+  -- what is removed was held
+  removed : (target : Target) (g : Looks) → held s c target ≡ Found (g.slots 0, g.held 0) → IsCap (g.held 0)
+  removed target g e = held_cap (g.slots 0).node (g.slots 0).index (g.held 0) (held_facts s c target (g.slots 0) (g.held 0) e).1
 
   -- the flags of a mapping
   page_flags : (k : Kind) (f a : ℕ) → k ≡ Kind.Page → NumberFits k f a → a < 4
   page_flags k f a is fits = subst (λ (j : Kind). NumberFits j f a) is fits
 
-  touch_tidy : (v : ℕ) (t : Option Translation) → ChangesFrom Keeps s c (touch_by (comp_of s c).pages v t)
-  touch_tidy v None = λ mapping e calm.
-      let at = mapped_at s c (comp_of s c).pages v mapping e in
+  touch_tidy : (v : ℕ) (t : Option Translation) (g : Looks) → LedBy s c (touch_by (comp_of s c).pages v t) g
+      → HoldsAt TidyBy (touch_by (comp_of s c).pages v t) g
+  touch_tidy v None g led =
+      let mapping : Capability = g.held 0 in
+      let at = mapped_at s c (comp_of s c).pages v mapping led.0 in
       let cap : IsCap mapping = held_cap at.0.node at.0.index mapping (held_is s o c opens w (place_at s at.0) mapping at.1) in
-      let few : mapping.arg < 4 = page_flags mapping.kind mapping.frame mapping.arg (mapped_page s o c opens w v mapping e) cap.number in
-      record { places = h.places; flags = core_flags s.core c _ (flags_cached (s.core c).cached _ (h.flags c) few) h.flags }
-  touch_tidy v (Some t) = λ calm. h
+      (page_flags mapping.kind mapping.frame mapping.arg (mapped_page s o c opens w v mapping led.0) cap.number, tt)
+  touch_tidy v (Some t) g led = tt
 
-  switch_tidy : (q : ℕ) (name : Named) (e : Option ℕ) → ChangesFrom Keeps s c (switch_to name q e)
-  switch_tidy q name None = λ calm. record { places = h.places; flags = core_flags s.core c _ (h.flags c) h.flags }
-  switch_tidy q name (Some e) = λ calm. record { places = h.places; flags = core_flags s.core c _ (h.flags c) h.flags }
+  row_tidy : (call : Call) → InLimits call → (g : Looks) → LedBy s c (rule_of s c call) g → HoldsAt TidyBy (rule_of s c call) g
+  row_tidy (Copy a t b rights) lim g led = (kept_cap (g.caps 0) rights.0 (named_cap a (to_copy any) (g.caps 0) led.0), tt)
+  row_tidy (Remove t b) lim g led = (removed (Under (found (g.caps 0)) b) g led.1.0, tt)
+  row_tidy (Grow t i l) lim g led = (plain_link (g.caps 1).frame, tt)
+  row_tidy (Shrink t i) lim g led = (removed (InRoot (found (g.caps 0)) i) g led.1.0, tt)
+  row_tidy (Retype r f FrameKind.Untyped) lim g led = tt
+  row_tidy (make_call what r f t b) lim g led = make_tidy what r f t b g
+  row_tidy (Map p v r f x) lim g led = (page_cap f x.0 lim, tt)
+  row_tidy (Unmap p v) lim g led = (removed (Under (found (g.caps 0)) v) g led.1.0, tt)
+  row_tidy (Touch v) lim g led = touch_tidy v (translation_of (s.core c).cached (comp_of s c).pages v) g led
+  row_tidy (Gate k t b) lim g led =
+      let comp : Capability = g.caps 0 in (
+        gate_cap comp.frame (comp_in (s.frame comp.frame)).epoch
+            (epoch_fits s.limits.epochs (s.frame comp.frame) epochs (shape.frames comp.frame)
+            (named_fit s o c k Kind.Comp comp opens.sound opens.is led.0)),
+        tt,
+      )
+  row_tidy (Part r f n t b) lim g led =
+      let k : Capability = g.caps 0 in (
+        part_cap k f n (named_cap r (to_part (only Kind.Range)) k led.0)
+            (named_good s o c r (to_part (only Kind.Range)) k opens.sound opens.is led.0) (within_by s c k f n led.1.1.1),
+        tt,
+      )
+  row_tidy _ lim g led = tt
 
   rule_tidy : (call : Call) → InLimits call → ChangesFrom Keeps s c (rule_of s c call)
-  rule_tidy (Look a) lim = λ k e calm. h
-  rule_tidy (Copy a t b rights) lim = λ k e table f at v calm.
-      filled at (kept k rights.0) (kept_cap k rights.0 (named_cap a (to_copy any) k e))
-  rule_tidy (Remove t b) lim = λ table e at k g calm. removed at k (held_facts s c (Under (found table) b) at k g).1
-  rule_tidy (Grow t i l) lim = λ table e leaf f at v calm. filled at (plain_cap Kind.Link leaf.frame) (plain_link leaf.frame)
-  rule_tidy (Shrink t i) lim = λ table e at k g calm. removed at k (held_facts s c (InRoot (found table) i) at k g).1
-  rule_tidy (Retype r f k) lim = retype_tidy r f k
-  rule_tidy (make_call what r f t b) lim = make_tidy what r f t b
-  rule_tidy (Map p v r f x) lim = λ pages e range g at u calm. filled at (cap_of Kind.Page f x.0) (page_cap f x.0 lim)
-  rule_tidy (Unmap p v) lim = λ pages e at k g calm. removed at k (held_facts s c (Under (found pages) v) at k g).1
-  rule_tidy (Touch v) lim = touch_tidy v (translation_of (s.core c).cached (comp_of s c).pages v)
-  rule_tidy Flush lim = λ calm. record { places = h.places; flags = core_flags s.core c _ tt h.flags }
-  rule_tidy (Gate k t b) lim = λ comp e table f at v calm.
-      filled at (cap_of Kind.Gate comp.frame (comp_in (s.frame comp.frame)).epoch)
-      (gate_cap comp.frame (comp_in (s.frame comp.frame)).epoch
-      (epoch_fits s.limits.epochs (s.frame comp.frame) epochs (shape.frames comp.frame)
-      (named_fit s o c k Kind.Comp comp opens.sound opens.is e)))
-  rule_tidy (Kill k) lim = λ comp e calm. record { places = h.places; flags = h.flags }
-  rule_tidy (call_gate g) lim = λ gate e calm. record { places = h.places; flags = h.flags }
-  rule_tidy Ret lim = λ calm. record { places = h.places; flags = h.flags }
-  rule_tidy (Switch a b) lim = λ thread e tcap g. switch_tidy tcap.frame (found thread) (thread_in (s.frame thread.frame)).runs_on
-  rule_tidy (Tick n) lim = λ calm. record { places = h.places; flags = core_flags s.core c _ (h.flags c) h.flags }
-  rule_tidy (Transfer a b m) lim = λ j e k f calm. record { places = h.places; flags = h.flags }
-  rule_tidy (Delegate a b m) lim = λ j e k f calm. record { places = h.places; flags = h.flags }
-  rule_tidy (Test a b) lim = λ j e k f calm. h
-  rule_tidy (Replenish a m) lim = λ j e calm. record { places = h.places; flags = core_flags s.core c _ (h.flags c) h.flags }
-  rule_tidy (Part r f n t b) lim = λ k e table g at v calm.
-      filled at (part_of k f n) (part_cap k f n (named_cap r (to_part (only Kind.Range)) k e)
-      (named_good s o c r (to_part (only Kind.Range)) k opens.sound opens.is e) (within_by s c k f n calm))
+  rule_tidy call lim = edits_map TidyBy (λ v es. IsTidy (after_edits c s es)) s c (rule_of s c call) (λ v es are. edits_tidy s c es are h)
+      (from_left TidyBy s c (rule_of s c call) (row_tidy call lim))
 
   counted_tidy : (t : State) → IsTidy t → IsTidy (counted t c)
   counted_tidy t h = record { places = h.places; flags = core_flags t.core c _ (h.flags c) h.flags }

@@ -1,14 +1,17 @@
 -- What a call answers is in range.
 use Rattle.state_laws.specs.kernel_laws.proofs as low
 use low.{◌≡◌, ℕ, ◌<◌, ◌≤◌, ◌^◌, Bool, true, false, List, [], ◌∷◌, Option, Some, None, IsTrue, inl, inr, refl, sym, ap, ◌∙◌, subst, arith}
-use low.{if◌then◌else◌, find, false≢true, Capability, Kind, FrameKind, Call, Look, Copy, Remove, Grow, Shrink, Retype, Make as make_call}
-use low.{Map, Unmap, Touch, Flush, Gate, Kill, Ret, Switch, Tick, Transfer, Delegate, Test, Part, Replenish, Translation, Value, Holds}
-use low.{Untyped, State, comp_of, thread_in, Named, found, place_at, to_look, any, Change, Judged, Refused, Found, IsFoundAnd, outcome}
-use low.{make_rule, retype_rule, touch_by, translation_of, switch_to, preemption, preempts, tcap_at, rule_of, fits, EndsWithin, IsGood}
+use low.{if◌then◌else◌, find, false≢true, Capability, Kind, Call, Look, Make as make_call}
+use low.{Touch, Gate, Tick, Test, Translation, Value, Holds}
+use low.{Untyped, State, comp_of, place_at, to_look, any, Change, Judged, Refused, Found, IsFoundAnd, outcome}
+use low.{touch_by, translation_of, preemption, preempts, tcap_at, rule_of, fits, EndsWithin, IsGood}
 use low.{InRanges, IfFound, IsOpen, ChangesFrom, outcome_from, named_good, Shaped, IsFitted, held_is, mapped_page}
+use Rattle.state_laws.specs.kernel_rules.proofs.Rows.{Looks}
+use Rattle.state_laws.specs.kernel_invariant.proofs.Facts.{LedBy, HoldsAt, from_left}
+use Rattle.state_laws.specs.kernel_laws.proofs.{Edit}
 use Rattle.reply_ranges.proofs.Tidy.{NumberFits, IsCap, IsTidy, named_cap, held_cap, mapped_at}
 use Rattle.{state_laws.specs.kernel_rules.specs.least_rights, state_laws.specs.kernel_rules.specs.Make, std.specs.List.AllByRecursion}
-use Rattle.{std.proofs.lemmas.Bool.cases_lt, state_laws.specs.spk_nums.specs.declared.calls.Call.TheVariants.Call as call_gate}
+use Rattle.{std.proofs.lemmas.Bool.cases_lt}
 use Rattle.{state_laws.specs.kernel_rules.specs.Rules.RuleAnswers, state_laws.specs.Cached.Stands, reply_ranges.specs.Ranges.CapFits}
 use Rattle.{reply_ranges.specs.Ranges.ValueFits}
 
@@ -62,15 +65,9 @@ module _ (s : State) (o : ℕ → Bool) (c : ℕ) (opens : IsOpen s o c) (w : Is
   cap_fits : (k : Capability) → IsCap k → IsGood s k → CapFits k
   cap_fits k is good = cap_by k.kind k.frame k.arg k.rights is.number is.least is.most good.fit good.within
 
-  make_values : (what : Make) (r f t b : ℕ) → ChangesFrom Answers s c (make_rule s what r f t b)
-  make_values Make.Table r f t b = λ range e table g at v calm. tt
-  make_values (Make.Thread comp) r f t b = λ range e table g k j at v calm. tt
-  make_values (Make.Comp x p l) r f t b = λ range e table g own_table a own_pages d at v calm. tt
-  make_values _ r f t b = λ range e table g at v calm. tt
-
-  retype_values : (r f : ℕ) (k : FrameKind) → ChangesFrom Answers s c (retype_rule s r f k)
-  retype_values r f FrameKind.Untyped = λ range e calm. tt
-  retype_values r f _ = λ range e calm. tt
+  -- By the value and the edits.
+  abbrev FitsBy : Value → List Edit → Type 0
+  FitsBy v es = ValueFits v
 
   cached_values : (t : Translation) → Stands s c t → t.flags.0 < 4 → (t.frame ≤ 511) × (t.flags.0 ≤ 3)
   cached_values t stands few = (small Kind.Page t.frame refl (ap (fits Kind.Page) stands.user), omega arith)
@@ -81,52 +78,36 @@ module _ (s : State) (o : ℕ → Bool) (c : ℕ) (opens : IsOpen s o c) (w : Is
       (small Kind.Page f refl (subst (λ (j : Kind). IsTrue (fits j (s.frame f))) is fit), omega arith)
 
   touch_values : (v : ℕ) (t : Option Translation) → translation_of (s.core c).cached (comp_of s c).pages v ≡ t
-      → ChangesFrom Answers s c (touch_by (comp_of s c).pages v t)
-  touch_values v None is = λ mapping e calm.
-      let at = mapped_at s c (comp_of s c).pages v mapping e in
+      → (g : Looks) → LedBy s c (touch_by (comp_of s c).pages v t) g → HoldsAt FitsBy (touch_by (comp_of s c).pages v t) g
+  touch_values v None is g led =
+      let mapping : Capability = g.held 0 in
+      let at = mapped_at s c (comp_of s c).pages v mapping led.0 in
       let place : s.place at.0.node at.0.index ≡ Holds mapping = held_is s o c opens w (place_at s at.0) mapping at.1 in
-      page_frame mapping.kind mapping.frame mapping.arg (mapped_page s o c opens w v mapping e)
+      page_frame mapping.kind mapping.frame mapping.arg (mapped_page s o c opens w v mapping led.0)
       (held_cap s o c opens w shape epochs frames h at.0.node at.0.index mapping place).number
       (opens.sound.held at.0.node at.0.index mapping place).fit
-  touch_values v (Some t) is = λ calm.
+  touch_values v (Some t) is g led =
       cached_values t (find_is (Stands s c) _ (s.core c).cached t stands is)
       (find_is (λ (t : Translation). t.flags.0 < 4) _ (s.core c).cached t (h.flags c) is)
-
-  switch_values : (q : ℕ) (name : Named) (e : Option ℕ) → ChangesFrom Answers s c (switch_to name q e)
-  switch_values q name None = λ calm. tt
-  switch_values q name (Some e) = λ calm. tt
 
   preempts_fits : (b : Bool) → ValueFits (preemption b)
   preempts_fits true = tt
   preempts_fits false = tt
 
-  rule_values : (call : Call) → ChangesFrom Answers s c (rule_of s c call)
-  rule_values (Look a) = λ k e calm.
-      cap_fits k (named_cap s o c opens w shape epochs frames h a (to_look any) k e)
-      (named_good s o c a (to_look any) k opens.sound opens.is e).0
-  rule_values (Copy a t b rights) = λ k e table f at v calm. tt
-  rule_values (Remove t b) = λ table e at k g calm. tt
-  rule_values (Grow t i l) = λ table e leaf f at v calm. tt
-  rule_values (Shrink t i) = λ table e at k g calm. tt
-  rule_values (Retype r f k) = retype_values r f k
-  rule_values (make_call what r f t b) = make_values what r f t b
-  rule_values (Map p v r f x) = λ pages e range g at u calm. tt
-  rule_values (Unmap p v) = λ pages e at k g calm. tt
-  rule_values (Touch v) = touch_values v (translation_of (s.core c).cached (comp_of s c).pages v) refl
-  rule_values Flush = λ calm. tt
-  rule_values (Gate k t b) = λ comp e table f at v calm. tt
-  rule_values (Kill k) = λ comp e calm. tt
-  rule_values (call_gate g) = λ gate e calm. tt
-  rule_values Ret = λ calm. tt
-  rule_values (Switch a b) = λ thread e tcap g. switch_values tcap.frame (found thread) (thread_in (s.frame thread.frame)).runs_on
-  rule_values (Tick n) = λ calm.
+  row_values : (call : Call) (g : Looks) → LedBy s c (rule_of s c call) g → HoldsAt FitsBy (rule_of s c call) g
+  row_values (Look a) g led =
+      cap_fits (g.caps 0) (named_cap s o c opens w shape epochs frames h a (to_look any) (g.caps 0) led.0)
+      (named_good s o c a (to_look any) (g.caps 0) opens.sound opens.is led.0).0
+  row_values (make_call Make.Table r f t b) g led = tt
+  row_values (Touch v) g led = touch_values v (translation_of (s.core c).cached (comp_of s c).pages v) refl g led
+  row_values (Tick n) g led =
       let spending = ranges.spending (s.core c).tcap c (opens.sound.inside c opens.is).1 in
       omega (arith, spending)
-  rule_values (Transfer a b m) = λ j e k f calm. tt
-  rule_values (Delegate a b m) = λ j e k f calm. tt
-  rule_values (Test a b) = λ j e k f calm. preempts_fits (preempts (tcap_at s j.frame) (tcap_at s k.frame))
-  rule_values (Replenish a m) = λ j e calm. tt
-  rule_values (Part r f n t b) = λ k e table g at v calm. tt
+  row_values (Test a b) g led = preempts_fits (preempts (tcap_at s (g.caps 0).frame) (tcap_at s (g.caps 1).frame))
+  row_values _ g led = tt
+
+  rule_values : (call : Call) → ChangesFrom Answers s c (rule_of s c call)
+  rule_values call = from_left FitsBy s c (rule_of s c call) (row_values call)
 
   both : (x : Judged Change) (v : Value) → IfFound x Answers → IsFoundAnd x (λ change. change.value ≡ v) → ValueFits v
   both (Refused r) v fits is = absurd is

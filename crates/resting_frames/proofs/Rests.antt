@@ -8,7 +8,7 @@ use low.{Delegate, Test, Part, Replenish, Translation, Reply, Place, Free, Holds
 use low.{Untyped, Kernel, FrameOf, State, put, with_place, with_frame, comp_of, thread_in, Live, named_by, core_names, times, refs}
 use low.{plain_cap, Want, to_use, Slot, Named, found, Under, InRoot, reached, only, Nothing, Change, does, Judged, Found, named, vacant}
 use low.{epoch_of, Fill, with_thread, running, with_budget, tcap_at, moved, translation_of, rule_of, change_of, changed, owed_by, state_by}
-use low.{counted, IsGuarded, IfFound, put_same, put_other, MayFollow, IsLegal, Step, Phase, Out, Decided, phase, after_enter, state_after}
+use low.{counted, Value, IsGuarded, IfFound, put_same, put_other, MayFollow, IsLegal, Step, Phase, Out, Decided, phase, after_enter, state_after}
 use low.{state_entered, state_decided, state_returned, state_before, entered_events}
 use Rattle.trace_laws.specs.kernel_invariant.proofs.{only_is, IsOpen, blank_by, untyped_by, unnamed, times_first, times_cons, ChangesFrom}
 use Rattle.trace_laws.specs.kernel_invariant.proofs.{outcome_from, some_inj, none_some, suits, named_good, vacant_facts, held_facts}
@@ -107,6 +107,9 @@ module _ (s : State) (o : ℕ → Bool) (d : ℕ) (h : IsOpen s o d) (f : ℕ) (
   remove_under table n at k is =
       inr (place_rests s f at.node at.index (Quiescing k) (under_away table n at (held_facts s d (Under table n) at k is).0))
 
+  nothing_rests : (v : Value) → RestsBy (does d s v [])
+  nothing_rests v = inr (rests_same s f)
+
   -- a blank frame and an untyped one are other frames
   blank_away : (g : ℕ) → s.frame g ≡ Kernel Blank → g ≢ f
   blank_away g blank same = false≢true (sym (ap is_typed (ap s.frame (sym same) ∙ blank)) ∙ typed)
@@ -196,9 +199,6 @@ module _ (s : State) (o : ℕ → Bool) (d : ℕ) (h : IsOpen s o d) (f : ℕ) (
       rests_then s one (moved s a b m) f (frame_rests s f a _ first) (frame_rests one f b _ second)
 
   rule_rests : (call : Call) → ChangesFrom RestsBy s d (rule_of s d call)
-  rule_rests (Look a) = λ k e calm. inr (rests_same s f)
-  rule_rests (Copy a t b rights) = λ k e table v at w calm. fill_under (found table) b at (kept k rights.0) w
-  rule_rests (remove_call t b) = λ table e at k w calm. remove_under (found table) b at k w
   rule_rests (Grow t i l) = λ table e leaf v at w calm.
       inr (place_rests s f at.node at.index _ (entry_away (found table) i at (root_away t table e)
       (vacant_facts s d (InRoot (found table) i) at w).0))
@@ -207,11 +207,8 @@ module _ (s : State) (o : ℕ → Bool) (d : ℕ) (h : IsOpen s o d) (f : ℕ) (
       (held_facts s d (InRoot (found table) i) at k w).0))
   rule_rests (Retype r g k) = retype_rests r g k
   rule_rests (make_call what r g t b) = make_rests what r g t b
-  rule_rests (Map p v r g w) = λ pages e range j at u calm. fill_under (found pages) v at _ u
-  rule_rests (Unmap p v) = λ pages e at k w calm. remove_under (found pages) v at k w
   rule_rests (Touch v) = touch_rests (comp_of s d).pages v (translation_of (s.core d).cached (comp_of s d).pages v)
   rule_rests Flush = λ calm. inr (record { frame = refl; place = λ i. refl })
-  rule_rests (Gate k t b) = λ comp e table v at w calm. fill_under (found table) b at _ w
   rule_rests (Kill k) = λ comp e calm. inr (record { frame = refl; place = λ i. refl })
   rule_rests (call_gate g) = λ gate e calm. inr (frame_rests s f (s.core d).thread _ thread_away)
   rule_rests Ret = λ calm. inr (frame_rests s f (s.core d).thread _ thread_away)
@@ -225,11 +222,10 @@ module _ (s : State) (o : ℕ → Bool) (d : ℕ) (h : IsOpen s o d) (f : ℕ) (
       let second = only_away b Kind.Tcap k (λ g. refl) v in
       inr (rests_then s (moved s j.frame k.frame m) _ f (moved_rests j.frame k.frame m (only_away a Kind.Tcap j (λ g. refl) e) second)
       (frame_rests (moved s j.frame k.frame m) f k.frame _ second))
-  rule_rests (Test a b) = λ j e k v calm. inr (rests_same s f)
   rule_rests (Replenish a m) = λ j e calm.
       let one = frame_rests s f j.frame _ (only_away a Kind.Tcap j (λ g. refl) e) in
       inr (record { frame = one.frame; place = λ i. refl })
-  rule_rests (Part r f n t b) = λ k e table v at w calm. fill_under (found table) b at (part_of k f n) w
+  rule_rests _ = search (fill_under, remove_under, nothing_rests)
 
   found_rests : (x : Judged Change) → IfFound x RestsBy → RestsOr s (changed s x) f
   found_rests (Refused r) by = inr (rests_same s f)

@@ -1,73 +1,15 @@
 -- The calls on capabilities come to the same on a region.
-use Rattle.kernel_laws.proofs.{◌≡◌, ℕ, ◌+◌, ◌==◌, Bool, true, false, not, ◌&&◌, refl, ◌∙◌, ap, ltb as nat_lt, if◌then◌else◌, [], ◌∷◌}
+use Rattle.kernel_laws.proofs.{◌≡◌, ℕ, ◌+◌, ◌==◌, Bool, true, false, not, ◌&&◌, refl, ◌∙◌, ap, ltb as nat_lt, [], ◌∷◌}
 use Rattle.kernel_laws.proofs.{IsTrue, ltb-true, Capability, Kind, Make as make_call, Object, Table, Leaf, Pages, Pleaf, Frame, Limits}
 use Rattle.kernel_laws.proofs.{State, plain_cap, to_use, root, Fill, Component, Found, named, is_blank, not_blank, is_live, epoch_of}
 use Rattle.kernel_laws.proofs.{make_rule, is_node, named_good}
-use Rattle.kernel_laws.specs.kernel_rules.specs.{Make, copy_rule, make_node}
-use Rattle.kernel_laws.specs.kernel_rules.specs.CapabilityCalls.{look_rule, remove_rule, grow_rule, shrink_rule, make_comp, part_rule}
-use Rattle.same_changes.proofs.Reaching.{Twins, TwinsOn, table_at, root_within, range_at, frame_agree}
+use Rattle.kernel_laws.specs.kernel_rules.specs.{Make, make_node}
+use Rattle.kernel_laws.specs.kernel_rules.specs.CapabilityCalls.{make_comp}
+use Rattle.same_changes.proofs.Reaching.{Twins, TwinsOn, table_at, range_at, frame_agree}
 use Rattle.{kernel_laws.specs.kernel_invariant.proofs.SoundCalls.root_node, same_changes.specs.Region.Region}
 use Rattle.{same_changes.specs.Region.NamesIn, same_changes.proofs.Alike.SameCause, same_changes.proofs.Alike.SameRule}
 
 module _ {r : Region} {t s : State} {o : ℕ → Bool} {c : ℕ} (w : TwinsOn r t s o c) where
-  pub look_same : (a : ℕ) → SameRule r s c (look_rule a) (look_rule a)
-  look_same a = (refl, refl, λ cap is. (tt, λ none. (refl, refl, tt)))
-
-  pub copy_same : (a x b rights : ℕ) → SameRule r s c (copy_rule a x b rights) (copy_rule a x b rights)
-  copy_same a x b rights = (
-    refl,
-    refl,
-    λ cap is. (
-      refl,
-      refl,
-      λ table is_table.
-          (refl, (λ on. table_at w x table is_table), λ at is_free. (tt, λ none. (refl, refl, (tt, tt)))),
-    ),
-  )
-
-  pub part_same : (p f n x b : ℕ) → SameRule r s c (part_rule p f n x b) (part_rule p f n x b)
-  part_same p f n x b = (
-    refl,
-    refl,
-    λ range is. (
-      refl,
-      refl,
-      λ table is_table. (
-        refl,
-        (λ on. table_at w x table is_table),
-        λ at is_free. (((refl, λ on. refl), λ calm. tt), λ none. (refl, refl, (tt, tt))),
-      ),
-    ),
-  )
-
-  pub remove_same : (x b : ℕ) → SameRule r s c (remove_rule x b) (remove_rule x b)
-  remove_same x b = (
-    refl,
-    refl,
-    λ table is_table.
-        (refl, (λ on. table_at w x table is_table), λ at cap is_held. (tt, λ none. (refl, refl, (tt, tt)))),
-  )
-
-  pub grow_same : (x i l : ℕ) → SameRule r s c (grow_rule x i l) (grow_rule x i l)
-  grow_same x i l = (
-    refl,
-    refl,
-    λ table is_table. (
-      refl,
-      refl,
-      λ leaf is_leaf.
-          (refl, root_within w x table is_table, λ at is_free. (tt, λ none. (refl, refl, (tt, tt)))),
-    ),
-  )
-
-  pub shrink_same : (x i : ℕ) → SameRule r s c (shrink_rule x i) (shrink_rule x i)
-  shrink_same x i = (
-    refl,
-    refl,
-    λ table is_table.
-        (refl, root_within w x table is_table, λ at link is_held. (tt, λ none. (refl, refl, (tt, tt)))),
-  )
-
   -- ---- making
 
   not_blank_same : (f : ℕ) → r.frame f ≡ true → SameCause r (not_blank t f) (not_blank s f)

@@ -1,17 +1,17 @@
 -- Every call comes to the same on a region in two states that are one there, one of them reached, and so for the machine.
-use Rattle.kernel_laws.proofs.{◌≡◌, ℕ, ◌-◌, ◌^◌, ◌≤◌, sym, ap, subst, List, lt-ltb, Setting, IsSetting, InLimits, Call, Look, Copy, Remove}
-use Rattle.kernel_laws.proofs.{Grow, Shrink, Retype, Make as make_call, Map, Unmap, Touch, Flush, Gate, Kill, Ret, Switch, Tick, Transfer}
-use Rattle.kernel_laws.proofs.{Delegate, Test, Part, Replenish, Limits, State, Judged, Refused, Found, Change, acts, rule_of, change_of}
+use Rattle.kernel_laws.proofs.{◌≡◌, ℕ, ◌-◌, ◌^◌, ◌≤◌, sym, ap, subst, List, lt-ltb, Setting, IsSetting, InLimits, Call}
+use Rattle.kernel_laws.proofs.{Retype, Make as make_call, Map, Touch, Gate, Kill, Ret, Switch, Tick, Transfer}
+use Rattle.kernel_laws.proofs.{Delegate, Test, Replenish, Limits, State, Judged, Refused, Found, Change, acts, rule_of, change_of}
 use Rattle.kernel_laws.proofs.{Event, after, Open, is_open, phase_of, IsRun, IfFound, opened, limits_stay, open_limits, runs_sound}
 use Rattle.same_changes.specs.{whole, NamesIn, AgreeOutcome}
 use Rattle.kernel_laws.specs.kernel_rules.proofs.{Make, Waits, found_waits}
 use Rattle.kernel_laws.specs.spk_nums.specs.{CallLimits.MakeInLimits, declared.calls.Call.TheVariants.Call as call_gate}
 use Rattle.kernel_laws.proofs.{NodesLaw.nodes_hold_what_fits, RangesLaw.ranges_hold}
 use Rattle.same_changes.specs.{Same.SameChanges, Same.SameActs, Same.StaysInRange, Region.Region, Region.ChangesAgree}
-use Rattle.same_changes.proofs.Reaching.{Twins, TwinsOn, on_machine}
+use Rattle.same_changes.proofs.Reaching.{Twins, TwinsOn, on_machine, table_at, pages_at, root_within}
 use Rattle.same_changes.proofs.Alike.{SameRule, outcome_same, same_outcome}
-use Rattle.same_changes.proofs.CapabilityRules.{look_same, copy_same, remove_same, grow_same, shrink_same, make_same, part_same}
-use Rattle.same_changes.proofs.MemoryRules.{retype_same, map_same, unmap_same, touch_same, flush_same}
+use Rattle.same_changes.proofs.CapabilityRules.{make_same}
+use Rattle.same_changes.proofs.MemoryRules.{retype_same, map_same, touch_same}
 use Rattle.same_changes.proofs.TimeRules.{acts_agree, gate_same, kill_same, call_same, ret_same, switch_same, tick_same, transfer_same}
 use Rattle.same_changes.proofs.TimeRules.{delegate_same, test_same, replenish_same}
 use Rattle.{kernel_laws.specs.kernel_invariant.proofs.Edited.rule_edits, seq_lookups.specs.seq_state.specs.Representation.SameState}
@@ -21,17 +21,10 @@ use Rattle.{same_changes.proofs.InRange.in_range}
 
 module _ {r : Region} {t s : State} {o : ℕ → _} {c : ℕ} (w : TwinsOn r t s o c) where
   pub rule_same : (call : Call) → NamesIn r call → SameRule r s c (rule_of t c call) (rule_of s c call)
-  rule_same (Look a) names = look_same w a
-  rule_same (Copy a x b rights) names = copy_same w a x b rights.0
-  rule_same (Remove x b) names = remove_same w x b
-  rule_same (Grow x i l) names = grow_same w x i l
-  rule_same (Shrink x i) names = shrink_same w x i
   rule_same (Retype p f k) names = retype_same w p f k
   rule_same (make_call what p f x b) names = make_same w what p f x b names
   rule_same (Map m v p f flags) names = map_same w m v p f flags
-  rule_same (Unmap m v) names = unmap_same w m v
   rule_same (Touch v) names = touch_same w v
-  rule_same Flush names = flush_same w
   rule_same (Gate k x b) names = gate_same w k x b
   rule_same (Kill k) names = kill_same w k
   rule_same (call_gate g) names = call_same w g
@@ -42,7 +35,7 @@ module _ {r : Region} {t s : State} {o : ℕ → _} {c : ℕ} (w : TwinsOn r t s
   rule_same (Delegate a b m) names = delegate_same w a b m
   rule_same (Test a b) names = test_same w a b
   rule_same (Replenish a m) names = replenish_same w a m
-  rule_same (Part p f n x b) names = part_same w p f n x b
+  rule_same _ names = search (table_at w, pages_at w, root_within w)
 
   -- Whether the core may make the call is the same, and so is its outcome on the region.
   pub call_agrees : (call : Call) → NamesIn r call

@@ -1,11 +1,11 @@
 -- What an open call finds is in range, in every state that is one for the machine with a reached one.
 use Rattle.kernel_laws.proofs.{◌≡◌, ℕ, ◌+◌, ◌-◌, ◌≤◌, ◌^◌, refl, sym, ◌∙◌, ap, subst, arith, IsTrue, false≢true, Capability, InLimits, Call}
-use Rattle.kernel_laws.proofs.{Look, Copy, Remove, Grow, Shrink, Retype, Make as make_call, Map, Unmap, Touch, Flush, Gate, Kill, Ret}
-use Rattle.kernel_laws.proofs.{Switch, Tick, Transfer, Delegate, Test, Part, Replenish, CompFields, Comp, Frame, Kernel, Liveness, Unused}
+use Rattle.kernel_laws.proofs.{Retype, Make as make_call, Map, Touch, Gate}
+use Rattle.kernel_laws.proofs.{Tick, Transfer, Delegate, Part, Replenish, CompFields, Comp, Frame, Kernel, Liveness, Unused}
 use Rattle.kernel_laws.proofs.{Live, outstanding, Dead, Core, Limits, State, comp_in, tcap_in, comp_of, to_use, only, Judged, Refused}
 use Rattle.kernel_laws.proofs.{Found, named, mapped, epoch_of, fits, EndsWithin, FrameInRange, only_is, named_good, named_fit, Kind}
 use Rattle.kernel_laws.specs.kernel_rules.specs.{Make, to_part, NumberInRange}
-use Rattle.kernel_laws.specs.spk_nums.specs.{CallLimits.MakeInLimits, declared.calls.Call.TheVariants.Call as call_gate}
+use Rattle.kernel_laws.specs.spk_nums.specs.{CallLimits.MakeInLimits}
 use Rattle.seq_lookups.specs.Ranges.{WhereFound, RangeEnds, EpochFits, PageFound, HasEpoch, BudgetsFit, TicksFit, WholeEnds, BackFits}
 use Rattle.same_changes.proofs.Reaching.{Twins, core_same, core_below, tcap_frame_same, comp_same, named_same, mapped_same, pages_good}
 use Rattle.{seq_lookups.specs.Ranges.IsInRange, same_changes.proofs.TimeRules.named_frame}
@@ -110,17 +110,6 @@ in_range w calls pages (Gate k x b) fits = has_epoch w k
 in_range w calls pages (Tick n) fits = ticks_fit w calls n fits
 in_range w calls pages (Transfer a b m) fits = budgets_fit w a b
 in_range w calls pages (Delegate a b m) fits = budgets_fit w a b
-in_range w calls pages (Look a) fits = tt
-in_range w calls pages (Copy a x b rights) fits = tt
-in_range w calls pages (Remove x b) fits = tt
-in_range w calls pages (Grow x i l) fits = tt
-in_range w calls pages (Shrink x i) fits = tt
-in_range w calls pages (Unmap p v) fits = tt
-in_range w calls pages Flush fits = tt
-in_range w calls pages (Kill k) fits = tt
-in_range w calls pages (call_gate g) fits = tt
-in_range w calls pages Ret fits = tt
-in_range w calls pages (Switch h q) fits = tt
-in_range w calls pages (Test a b) fits = tt
 in_range w calls pages (Replenish a m) fits = back_fits w calls a
 in_range w calls pages (Part r f n x b) fits = whole_ends w r
+in_range w calls pages _ fits = tt

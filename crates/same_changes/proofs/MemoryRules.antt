@@ -1,10 +1,10 @@
 -- The calls on memory come to the same on a region.
-use Rattle.kernel_laws.proofs.{◌≡◌, ℕ, ◌+◌, ◌<◌, ◌≤◌, ◌==◌, Bool, true, not, refl, sym, ◌∙◌, ap, subst, arith, ltb as nat_lt, if◌then◌else◌}
+use Rattle.kernel_laws.proofs.{◌≡◌, ℕ, ◌+◌, ◌<◌, ◌≤◌, Bool, true, not, refl, sym, ◌∙◌, ap, subst, arith, ltb as nat_lt}
 use Rattle.kernel_laws.proofs.{zero, suc, [], Option, Some, None, is_some, IsTrue, lt-ltb, Capability, FrameKind, PageFlags, Translation}
 use Rattle.kernel_laws.proofs.{Object, Blank, Table, Leaf, Pages, Pleaf, Comp, Thread, Tcap, Frame, Untyped, User, Kernel, CompFields}
 use Rattle.kernel_laws.proofs.{State, comp_of, to_use, found, only, held_in, Found, named, refusal_of, first_cause, outside, is_untyped}
 use Rattle.kernel_laws.proofs.{is_user, is_empty, not_retyped, retype_rule, translation_of, touch_by, is_node, named_fit, Kind, Reply}
-use Rattle.kernel_laws.specs.kernel_rules.specs.MemoryCalls.{is_empty_object, unmap_rule, touch_rule, flush_rule}
+use Rattle.kernel_laws.specs.kernel_rules.specs.MemoryCalls.{is_empty_object, touch_rule}
 use Rattle.same_changes.proofs.Reaching.{Twins, TwinsOn, pages_node, core_agree, comp_agree, pages_in, pages_at, range_at, frame_agree}
 use Rattle.{same_changes.specs.whole, same_changes.specs.AgreeOn, kernel_laws.specs.kernel_rules.specs.holds_nothing}
 use Rattle.{kernel_laws.specs.kernel_rules.specs.map_rule, std.specs.List.list_any, std.specs.List.range_with_len}
@@ -124,14 +124,6 @@ module _ {r : Region} {t s : State} {o : ℕ → Bool} {c : ℕ} (w : TwinsOn r 
     ),
   )
 
-  pub unmap_same : (m v : ℕ) → SameRule r s c (unmap_rule m v) (unmap_rule m v)
-  unmap_same m v = (
-    refl,
-    refl,
-    λ pages is_pages.
-        (refl, (λ on. pages_at w m pages is_pages), λ at mapping is_held. (tt, λ none. (refl, refl, (tt, tt)))),
-  )
-
   touched_same : (v : ℕ) (tr : Option Translation)
       → SameRule r s c (touch_by (comp_of s c).pages v tr) (touch_by (comp_of s c).pages v tr)
   touched_same v (Some tr) = (((refl, λ on. refl), λ calm. tt), λ none. (refl, refl, tt))
@@ -149,9 +141,6 @@ module _ {r : Region} {t s : State} {o : ℕ → Bool} {c : ℕ} (w : TwinsOn r 
       translation_of (core_agree w i).cached (pages i) v in
       subst (λ x. SameRule r s c x (touch_rule s c v)) (λ i. touch_by (sym pages i) v (sym tr i))
       (touched_same v (translation_of (s.core c).cached (comp_of s c).pages v))
-
-  pub flush_same : SameRule r s c flush_rule flush_rule
-  flush_same = (tt, λ none. (refl, refl, (tt, tt)))
 
 -- ---- the whole machine
 

@@ -3,10 +3,8 @@ use Rattle.place_invariant.specs.step_ways.proofs as low
 use low.{◌≡◌, ℕ, ◌<◌, ◌≤◌, false, Some, arith, refl, sym, ◌∙◌, ap, subst, false≢true, Setting, IsSetting, entry_of_word, CoreAt, FlushAt}
 use low.{Move, LoadOf, word_of, told_of, PlaceOf, Trace, last_left, Quiet, AtCore, AtFlush, quiet_end, quiet_after, Outside, Scan}
 use low.{stamp_shown, Undecided, ActiveCall, StageFits, landed, took_scan, Core, KnowsAct, KnowsUndecided, NamesAre, IsSpot, phase_at}
-use low.{goes_on, Invariant, Fill as fill_act, Remove as remove_act, Tick as tick_act, Flush as flush_act, Kill as kill_act}
-use low.{Untype as untype_act, Map as map_act, MakeComp as comp_act, Invoke as invoke_act, Return as return_act, Touch as touch_act}
-use low.{Share as share_act, Refill as refill_act, Switch as switch_act, is_active, GoodTook, plan_for}
-use Rattle.place_invariant.specs.core_invariant.specs.{Retype as type_act, Make as make_act, scanned_for}
+use low.{goes_on, Invariant, Fill as fill_act, Map as map_act, MakeComp as comp_act, is_active, GoodTook, plan_for}
+use Rattle.place_invariant.specs.core_invariant.specs.{Make as make_act, scanned_for}
 use Rattle.place_invariant.specs.act_states.specs.{quiet_move, ActFits, stamp_of_act}
 use Rattle.place_invariant.specs.act_states.specs.declared.work.Act.{Act as ActOf}
 use Rattle.place_invariant.proofs.{Outside.refused_outside, Starts.IsRefusedOutside as RefusedOutside}
@@ -33,15 +31,6 @@ module _ (setup : Setting) (setting : IsSetting setup) (cores : ℕ → Core) (t
   scans_place : (act : ActOf) → a.stage ≡ Undecided (Scan q act) → ActFits (cores c).own.layout act → stamp_of_act act ≡ x
       → NamesAre setup t c (cores c).own.table (plan_for a.call) a.found → KnowsAct setup t c a.call (plan_for a.call) a.found flushes act
       → ScansPlace setup t c a flushes act move
-  scans_place (remove_act close cap) is fits stamp names knows = absurd (omega arith)
-  scans_place (type_act typing) is fits stamp names knows = absurd (omega arith)
-  scans_place (tick_act charge) is fits stamp names knows = absurd (omega arith)
-  scans_place (kill_act m) is fits stamp names knows = absurd (omega arith)
-  scans_place (touch_act m) is fits stamp names knows = absurd (omega arith)
-  scans_place (flush_act core) is fits stamp names knows = absurd (omega arith)
-  scans_place (untype_act m) is fits stamp names knows = absurd (omega arith)
-  scans_place (invoke_act m) is fits stamp names knows = absurd (omega arith)
-  scans_place (return_act m) is fits stamp names knows = absurd (omega arith)
   scans_place (fill_act fill) is fits stamp names knows = record {
     node = fill.node;
     index = fill.entry;
@@ -64,9 +53,6 @@ module _ (setup : Setting) (setting : IsSetting setup) (cores : ℕ → Core) (t
     };
     outside = λ out. absurd (false≢true (sym out));
   }
-  scans_place (share_act p) is fits stamp names knows = absurd (omega arith)
-  scans_place (refill_act r) is fits stamp names knows = absurd (omega arith)
-  scans_place (switch_act m) is fits stamp names knows = absurd (omega arith)
   scans_place (comp_act m) is fits stamp names knows = record {
     node = m.fill.node;
     index = m.fill.entry;
@@ -119,6 +105,7 @@ module _ (setup : Setting) (setting : IsSetting setup) (cores : ℕ → Core) (t
     outside = λ out spot. refused_outside setup setting cores t stands c here a active (ap (phase_at a.call) is) names node entry word spot
         fits.1 knows.outside move;
   }
+  scans_place act is fits stamp names knows = absurd (omega arith)
 
 pub scan_good : (setup : Setting) → IsSetting setup → (cores : ℕ → Core) (t : Trace) → Invariant setup cores t → (c : ℕ) → c < setup.cores
     → (a : ActiveCall) → (cores c).active ≡ Some a

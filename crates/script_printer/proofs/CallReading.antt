@@ -53,12 +53,7 @@ make_first : (version : ℕ) (what : Make) (r f t b : ℕ)
     → option_and_then (first_word version) (slice_get (make_words what r f t b) 0) ≡ Some (first.Call verb.Make)
 unfolding first_word verb_of later_verb_of is_word
 make_first version make.Table r f t b = refl
-make_first version make.Leaf r f t b = refl
-make_first version make.Pages r f t b = refl
-make_first version make.Pleaf r f t b = refl
-make_first version (make.Thread comp) r f t b = refl
-make_first version (make.Tcap sched quality) r f t b = refl
-make_first version (make.Comp table pages live) r f t b = refl
+make_first version _ r f t b = refl
 
 copy_first : (version : ℕ) (whole : Bool) (a t b r : ℕ)
     → option_and_then (first_word version) (slice_get (copy_words whole a t b r) 0) ≡ Some (first.Call verb.Copy)
@@ -69,30 +64,13 @@ copy_first version false a t b r = refl
 call_first : (version : ℕ) (c : Call) → IsCallWithin version c
     → option_and_then (first_word version) (slice_get (call_words c) 0) ≡ Some (first.Call (call_verb c))
 unfolding first_word verb_of later_verb_of is_word
-call_first version (Look a) h = refl
 call_first version (Copy a t b rights) h = copy_first version (rights.0 == 3) a t b rights.0
-call_first version (Remove t b) h = refl
-call_first version (Grow t i l) h = refl
-call_first version (Shrink t i) h = refl
-call_first version (Retype r f k) h = refl
 call_first version (make_call what range frame table slot) h = make_first version what range frame table slot
-call_first version (Map p v r f w) h = refl
-call_first version (Unmap p v) h = refl
-call_first version (Touch v) h = refl
-call_first version Flush h = refl
-call_first version (Gate c t b) h = refl
-call_first version (Kill c) h = refl
-call_first version (call_gate g) h = refl
-call_first version Ret h = refl
-call_first version (Switch a b) h = refl
-call_first version (Tick n) h = refl
-call_first version (Transfer a b m) h = refl
-call_first version (Delegate a b m) h = refl
-call_first version (Test a b) h = refl
 call_first version (Part r f n t b) h =
     ap (λ late. call_word (if late then Some verb.Part else None)) (le-leb 3 version h.0)
 call_first version (Replenish a m) h =
     ap (λ late. call_word (if late then Some verb.Replenish else None)) (le-leb 3 version h.0)
+call_first version _ h = refl
 
 kind_back : (w a b : List ℕ) (k : FrameKind) → frame_kind_at (w ∷ a ∷ b ∷ frame_kind_word k ∷ []) 3 ≡ Ok k
 unfolding frame_kind_at word_at frame_kind_of is_word

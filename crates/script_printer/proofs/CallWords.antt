@@ -56,12 +56,7 @@ call_words (Replenish a m) = codes "replenish" ∷ decimal a ∷ decimal m ∷ [
 
 make_onto : (what : Make) (r f t b : ℕ) (rest : List ℕ) → make_text what r f t b ++ 10 ∷ rest ≡ line_onto (make_words what r f t b) rest
 make_onto Make.Table r f t b rest = simp append_assoc
-make_onto Make.Leaf r f t b rest = simp append_assoc
-make_onto Make.Pages r f t b rest = simp append_assoc
-make_onto Make.Pleaf r f t b rest = simp append_assoc
-make_onto (Make.Thread comp) r f t b rest = simp append_assoc
-make_onto (Make.Tcap sched quality) r f t b rest = simp append_assoc
-make_onto (Make.Comp table pages live) r f t b rest = simp append_assoc
+make_onto _ r f t b rest = simp append_assoc
 
 copy_onto : (whole : Bool) (a t b r : ℕ) (rest : List ℕ)
     → (if whole then with_three (codes "copy") a t b else with_four (codes "copy") a t b r) ++ 10 ∷ rest
@@ -70,28 +65,11 @@ copy_onto true a t b r rest = simp append_assoc
 copy_onto false a t b r rest = simp append_assoc
 
 text_onto : (c : Call) (rest : List ℕ) → call_text c ++ 10 ∷ rest ≡ line_onto (call_words c) rest
-text_onto (Look a) rest = simp append_assoc
 text_onto (Copy a t b rights) rest = copy_onto (rights.0 == 3) a t b rights.0 rest
-text_onto (Remove t b) rest = simp append_assoc
-text_onto (Grow t i l) rest = simp append_assoc
-text_onto (Shrink t i) rest = simp append_assoc
-text_onto (Retype r f k) rest = simp append_assoc
 text_onto (make_call what range frame table slot) rest = make_onto what range frame table slot rest
-text_onto (Map p v r f w) rest = simp append_assoc
-text_onto (Unmap p v) rest = simp append_assoc
-text_onto (Touch v) rest = simp append_assoc
 text_onto Flush rest = refl
-text_onto (Gate c t b) rest = simp append_assoc
-text_onto (Kill c) rest = simp append_assoc
-text_onto (call_gate g) rest = simp append_assoc
 text_onto Ret rest = refl
-text_onto (Switch h q) rest = simp append_assoc
-text_onto (Tick n) rest = simp append_assoc
-text_onto (Transfer a b m) rest = simp append_assoc
-text_onto (Delegate a b m) rest = simp append_assoc
-text_onto (Test a b) rest = simp append_assoc
-text_onto (Part r f n t b) rest = simp append_assoc
-text_onto (Replenish a m) rest = simp append_assoc
+text_onto _ rest = simp append_assoc
 
 -- the line of a call, before the bytes after it
 pub call_onto : (c : Call) (rest : List ℕ) → call_line c ++ rest ≡ line_onto (call_words c) rest

@@ -1,21 +1,21 @@
 -- Each call of core c may be refused alike in a state in which it finds the same, but for a refusal that tells of a frame outside.
 use Rattle.same_changes.specs.kernel_laws.proofs as low
 use low.{◌≡◌, ℕ, ◌==◌, Bool, true, false, not, ◌&&◌, refl, sym, ◌∙◌, ap, subst, ltb as nat_lt, leb as nat_le, length, min, inl, inr, Option}
-use low.{Some, None, IsTrue, false≢true, covers, Kind, FrameKind, PageFlags, Call, Look, Copy, Remove, Grow, Shrink, Retype}
-use low.{Make as make_call, Map, Unmap, Touch, Flush, Gate, Kill, Ret, Switch, Tick, Transfer, Delegate, Test, Part, Replenish, Translation}
+use low.{Some, None, IsTrue, false≢true, covers, Kind, FrameKind, PageFlags, Call, Retype}
+use low.{Make as make_call, Map, Touch, Gate, Kill, Ret, Switch, Transfer, Delegate, Replenish, Translation}
 use low.{Reply, CompFields, ThreadFields, TcapFields, Object, Table, Leaf, Pages, Pleaf, Frame, Core, Limits, outstanding, State, thread_in}
 use low.{comp_in, tcap_in, comp_of, refs, only, root, to_use, Named, RuleMay, is_live_in, is_blank, make_rule, is_live, epoch_of}
 use low.{is_untyped, is_user, is_empty, retype_rule, translation_of, touch_by, switch_to, are_alike, tcap_at, rule_of, fits, named_fit}
-use Rattle.world_laws.specs.kernel_rules.specs.{merged, Make, capability, copy_rule, make_node, map_rule, call_rule, switch_rule}
-use Rattle.world_laws.specs.kernel_rules.specs.CapabilityCalls.{remove_rule, grow_rule, shrink_rule, part_rule, make_thread, make_tcap}
-use Rattle.world_laws.specs.kernel_rules.specs.InvocationCalls.{gate_rule, kill_rule, ret_rule}
-use Rattle.world_laws.specs.kernel_rules.specs.TimeCalls.{transfer_rule, delegate_rule, test_rule}
+use Rattle.world_laws.specs.kernel_rules.specs.{merged, Make, capability, make_node, map_rule, call_rule, switch_rule}
+use Rattle.world_laws.specs.kernel_rules.specs.CapabilityCalls.{make_thread, make_tcap}
+use Rattle.world_laws.specs.kernel_rules.specs.InvocationCalls.{kill_rule, ret_rule}
+use Rattle.world_laws.specs.kernel_rules.specs.TimeCalls.{transfer_rule, delegate_rule}
 use Rattle.same_changes.proofs.{Reaching.core_agree, Reaching.thread_agree, Reaching.comp_agree, Reaching.comp_parts, Reaching.pages_in}
 use Rattle.same_changes.proofs.{Reaching.named_at, Reaching.found_part, Reaching.number_part, Reaching.root_within, MemoryRules.empty_agree}
 use Rattle.split_laws.proofs.MayAlike.{Led, RuleAlike, may_alike}
 use Rattle.{world_laws.specs.kernel_rules.specs.replenish_rule, same_changes.proofs.TwinsOn, same_changes.proofs.is_some_kind}
 use Rattle.{world_laws.specs.spk_nums.specs.declared.calls.Call.TheVariants.Call as call_gate}
-use Rattle.{world_laws.specs.kernel_rules.specs.CapabilityCalls.make_comp, world_laws.specs.kernel_rules.specs.MemoryCalls.unmap_rule}
+use Rattle.{world_laws.specs.kernel_rules.specs.CapabilityCalls.make_comp}
 use Rattle.{world_laws.specs.kernel_rules.specs.MemoryCalls.touch_rule, same_changes.specs.Region.Region, same_changes.specs.Region.NamesIn}
 use Rattle.{same_changes.proofs.TimeRules.gate_comp, split_laws.specs.Split.TellsOwn}
 
@@ -30,6 +30,12 @@ module _ {w : Region} {t s : State} {o : ℕ → Bool} {c : ℕ} (l : TwinsOn w 
   led_frame : (n : ℕ) (j : Kind) (k : Named) → is_some_kind j ≡ true → Led s c n (to_use (only j)) k → k.found ≡ true
       → w.frame k.frame ≡ true
   led_frame n j k some is on = named_at l n j (capability k) some (is on)
+
+  led_table : (n : ℕ) (k : Named) → Led s c n (to_use (only Kind.Table)) k → k.found ≡ true → w.frame k.frame ≡ true
+  led_table n k is on = led_frame n Kind.Table k refl is on
+
+  led_pages : (n : ℕ) (k : Named) → Led s c n (to_use (only Kind.Pages)) k → k.found ≡ true → w.frame k.frame ≡ true
+  led_pages n k is on = led_frame n Kind.Pages k refl is on
 
   led_root : (n : ℕ) (k : Named) → Led s c n (to_use root) k → k.found ≡ true → w.frame k.frame ≡ true
   led_root n k is on = root_within l n (capability k) (is on)
@@ -53,38 +59,6 @@ module _ {w : Region} {t s : State} {o : ℕ → Bool} {c : ℕ} (l : TwinsOn w 
       ∙ ap (λ x. nat_lt f s.limits.frames && test x) (l.agree.frame f of) ∙ on
 
   -- ---- capabilities
-
-  look_alike : (a : ℕ) → RuleAlike w s c r (rule_of t c (Look a)) (rule_of s c (Look a))
-  look_alike a = (refl, refl, λ k is. λ none. none)
-
-  copy_alike : (a x b rights : ℕ) → RuleAlike w s c r (copy_rule a x b rights) (copy_rule a x b rights)
-  copy_alike a x b rights =
-      (refl, refl, λ k is. (refl, refl, λ table led. (refl, led_frame x Kind.Table table refl led, λ at. λ none. none)))
-
-  part_alike : (a f n x b : ℕ) → RuleAlike w s c r (part_rule a f n x b) (part_rule a f n x b)
-  part_alike a f n x b = (
-    refl,
-    refl,
-    λ k is. (
-      refl,
-      refl,
-      λ table led. (
-        refl,
-        led_frame x Kind.Table table refl led,
-        λ at.
-            ((λ on is. (on, refl)), λ none. none),
-      ),
-    ),
-  )
-
-  remove_alike : (x b : ℕ) → RuleAlike w s c r (remove_rule x b) (remove_rule x b)
-  remove_alike x b = (refl, refl, λ table led. (refl, led_frame x Kind.Table table refl led, λ at k. λ none. none))
-
-  grow_alike : (x i a : ℕ) → RuleAlike w s c r (grow_rule x i a) (grow_rule x i a)
-  grow_alike x i a = (refl, refl, λ table led. (refl, refl, λ leaf is. (refl, led_root x table led, λ at. λ none. none)))
-
-  shrink_alike : (x i : ℕ) → RuleAlike w s c r (shrink_rule x i) (shrink_rule x i)
-  shrink_alike x i = (refl, refl, λ table led. (refl, led_root x table led, λ at k. λ none. none))
 
   -- ---- making
 
@@ -275,9 +249,6 @@ module _ {w : Region} {t s : State} {o : ℕ → Bool} {c : ℕ} (l : TwinsOn w 
     ),
   )
 
-  unmap_alike : (p v : ℕ) → RuleAlike w s c r (unmap_rule p v) (unmap_rule p v)
-  unmap_alike p v = (refl, refl, λ pages led. (refl, led_frame p Kind.Pages pages refl led, λ at k. λ none. none))
-
   touched_alike : (v : ℕ) (x : Option Translation)
       → RuleAlike w s c r (touch_by (comp_of s c).pages v x) (touch_by (comp_of s c).pages v x)
   touched_alike v (Some x) = ((λ on is. (on, refl)), λ none. none)
@@ -292,9 +263,6 @@ module _ {w : Region} {t s : State} {o : ℕ → Bool} {c : ℕ} (l : TwinsOn w 
       (touched_alike v (translation_of (s.core c).cached (comp_of s c).pages v))
 
   -- ---- invocation
-
-  gate_alike : (k x b : ℕ) → RuleAlike w s c r (gate_rule t k x b) (gate_rule s k x b)
-  gate_alike k x b = (refl, refl, λ comp is. (refl, refl, λ table led. (refl, led_frame x Kind.Table table refl led, λ at. λ none. none)))
 
   kill_alike : (k : ℕ) → RuleAlike w s c r (kill_rule t k) (kill_rule s k)
   kill_alike k = (
@@ -421,9 +389,6 @@ module _ {w : Region} {t s : State} {o : ℕ → Bool} {c : ℕ} (l : TwinsOn w 
     ),
   )
 
-  test_alike : (a b : ℕ) → RuleAlike w s c r (test_rule t a b) (test_rule s a b)
-  test_alike a b = (refl, refl, λ x one. (refl, refl, λ y two. ((λ on is. (on, refl)), λ none. none)))
-
   replenish_alike : (a m : ℕ) → RuleAlike w s c r (replenish_rule t c a m) (replenish_rule s c a m)
   replenish_alike a m = (
     refl,
@@ -446,28 +411,18 @@ module _ {w : Region} {t s : State} {o : ℕ → Bool} {c : ℕ} (l : TwinsOn w 
   )
 
   pub rule_alike : (call : Call) → NamesIn w call → TellsOwn w.frame true call r → RuleAlike w s c r (rule_of t c call) (rule_of s c call)
-  rule_alike (Look a) names tells = look_alike a
-  rule_alike (Copy a x b rights) names tells = copy_alike a x b rights.0
-  rule_alike (Remove x b) names tells = remove_alike x b
-  rule_alike (Grow x i a) names tells = grow_alike x i a
-  rule_alike (Shrink x i) names tells = shrink_alike x i
   rule_alike (Retype range f k) names tells = retype_alike range f k tells
   rule_alike (make_call what range f x b) names tells = make_alike what range f x b names tells
   rule_alike (Map p v range f flags) names tells = map_alike p v range f flags tells
-  rule_alike (Unmap p v) names tells = unmap_alike p v
   rule_alike (Touch v) names tells = touch_alike v
-  rule_alike Flush names tells = λ none. none
-  rule_alike (Gate k x b) names tells = gate_alike k x b
   rule_alike (Kill k) names tells = kill_alike k
   rule_alike (call_gate g) names tells = call_alike g
   rule_alike Ret names tells = ret_alike
   rule_alike (Switch h q) names tells = switch_alike h q
-  rule_alike (Tick n) names tells = λ none. none
   rule_alike (Transfer a b m) names tells = transfer_alike a b m
   rule_alike (Delegate a b m) names tells = delegate_alike a b m
-  rule_alike (Test a b) names tells = test_alike a b
   rule_alike (Replenish a m) names tells = replenish_alike a m
-  rule_alike (Part range f n x b) names tells = part_alike range f n x b
+  rule_alike _ names tells = search (led_table, led_pages, led_root)
 
 -- A refusal of core c's call by its rule comes of the same in both states.
 pub rule_may : {w : Region} {t s : State} {o : ℕ → Bool} {c : ℕ} → TwinsOn w t s o c → (call : Call) (r : Reply) → NamesIn w call

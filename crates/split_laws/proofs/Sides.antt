@@ -166,20 +166,11 @@ module _ (w : World) (s : State) (c : ℕ) (o : ℕ → Bool) (open_call : IsOpe
 
   -- What each call makes of the frames and the cores where it is carried out.
   pub rule_sides : (made : Call) → MakesOwn w b made → ChangesFrom (Next w s) s c (rule_of s c made)
-  rule_sides (Call.Look a) own = λ k e calm. h
-  rule_sides (Call.Copy a t at rights) own = λ k e table g slot v calm. h
-  rule_sides (Call.Remove t at) own = λ table e slot k g calm. h
-  rule_sides (Call.Grow t i l) own = λ table e leaf f slot g calm. h
-  rule_sides (Call.Shrink t i) own = λ table e slot k g calm. h
   rule_sides (Call.Retype r f k) own = retype_sides r f k
   rule_sides (Call.Make what r f t at) own = make_sides what r f t at own
-  rule_sides (Call.Map p v r f flags) own = λ pages e range g slot u calm. h
-  rule_sides (Call.Unmap p v) own = λ pages e slot k g calm. h
   rule_sides (Call.Touch v) own = touch_sides v (translation_of (s.core c).cached (comp_of s c).pages v)
   rule_sides Call.Flush own = λ calm.
       core_sides w s.frame s.core n h c (record (s.core c) { cached = [] }) (λ below. record { tcap = (h.cores c below).tcap; cached = tt })
-  rule_sides (Call.Gate k t at) own = λ comp e table g slot v calm. h
-  rule_sides (Call.Kill k) own = λ comp e calm. h
   rule_sides (Call.Call g) own = λ gate e calm.
       stack_sides w s.frame s.core n h (s.core c).thread (gate.frame ∷ (thread_of s c).stack) (
         named_frame w s c b on g Kind.Gate gate refl e ∙ sym on.thread,
@@ -197,7 +188,7 @@ module _ (w : World) (s : State) (c : ℕ) (o : ℕ → Bool) (open_call : IsOpe
       tcap_sides w _ s.core n (tcap_sides w s.frame s.core n h j.frame _) k.frame _
   rule_sides (Call.Delegate a d m) own = λ j e k f calm.
       tcap_sides w _ s.core n (tcap_sides w _ s.core n (tcap_sides w s.frame s.core n h j.frame _) k.frame _) k.frame _
-  rule_sides (Call.Test a d) own = λ j e k f calm. h
   rule_sides (Call.Replenish a m) own = λ j e calm.
       core_same w _ s.core n (tcap_sides w s.frame s.core n h j.frame _) c _ refl refl refl
-  rule_sides (Call.Part r f count t at) own = λ k e table g slot v calm. h
+  -- the others change no frame and no core
+  rule_sides _ own = search h

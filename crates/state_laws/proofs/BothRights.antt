@@ -1,18 +1,21 @@
 -- Where each copy keeps both rights, every capability has both, and no name lacks a right.
 use Rattle.kernel_laws.proofs.{◌≡◌, ℕ, Bool, true, false, List, [], ◌∷◌, Option, Some, None, IsTrue, IsFalse, IsSomeAnd, inl, inr, refl}
 use Rattle.kernel_laws.proofs.{sym, ap, ◌∙◌, subst, ◌==◌, ltb as nat_lt, ◌+◌, if◌then◌else◌, false≢true, Capability, cap_of, both}
-use Rattle.kernel_laws.proofs.{has_rights, kept, part_of, Setting, FrameKind, Call, Look, Copy, Remove, Grow, Shrink, Retype}
-use Rattle.kernel_laws.proofs.{Make as make_call, Map, Unmap, Touch, Flush, Gate, Kill, Ret, Switch, Tick, Transfer, Delegate, Test, Part}
-use Rattle.kernel_laws.proofs.{Replenish, Translation, Reply, Place, Free, Holds, Quiescing, PlaceOf, State, put, with_place, thread_in}
-use Rattle.kernel_laws.proofs.{comp_of, plain_cap, start_cap, place_with, start, Slot, Named, Want, Under, InRoot, found, place_at}
+use Rattle.kernel_laws.proofs.{has_rights, kept, part_of, Setting, FrameKind, Call, Copy, Remove, Grow, Shrink, Retype}
+use Rattle.kernel_laws.proofs.{Make as make_call, Map, Unmap, Touch, Gate, Tick, Part}
+use Rattle.kernel_laws.proofs.{Reply, Place, Free, Holds, Quiescing, PlaceOf, State, put, with_place}
+use Rattle.kernel_laws.proofs.{comp_of, plain_cap, start_cap, place_with, start, Slot, Want, Under, InRoot, found, place_at}
 use Rattle.kernel_laws.proofs.{usable_in, usable, reached, own, any, only, to_copy, Change, Judged, Refused, Found, named, held, make_rule}
-use Rattle.kernel_laws.proofs.{retype_rule, touch_by, translation_of, switch_to, rule_of, change_of, changed, owed_by, state_by, Event}
+use Rattle.kernel_laws.proofs.{translation_of, rule_of, change_of, changed, owed_by, state_by, Event}
 use Rattle.kernel_laws.proofs.{Enters, Decides, Returns, after, IfFound, put_all, ChangesFrom, outcome_from, suits, name_parts, Kind}
-use Rattle.kernel_laws.specs.Causes.{OneIs, Name, names_made, names_of}
+use Rattle.kernel_laws.specs.kernel_rules.specs.Rows.{Asked, OneIs, names_at, led}
+use Rattle.kernel_laws.specs.kernel_rules.proofs.Rows.{Looks, by_cached}
+use Rattle.kernel_laws.specs.kernel_invariant.proofs.Facts.{LedBy, HoldsAt, from_left}
+use Rattle.kernel_laws.proofs.{does, Value, Edit, ◌&&◌}
+use Rattle.{std.proofs.lemmas.Bool.and_parts, kernel_laws.specs.Causes.names_of}
 use Rattle.state_laws.specs.Rights.{KeepsBoth, KeepBoth, BothStay, NoRightLacks}
 use Rattle.{kernel_laws.specs.used_at, kernel_laws.specs.leads, kernel_laws.specs.kernel_rules.specs.Make}
 use Rattle.{kernel_laws.specs.kernel_rules.specs.to_part, kernel_laws.specs.spk_nums.proofs.KeptRights.both_kept}
-use Rattle.{kernel_laws.specs.spk_nums.specs.declared.calls.Call.TheVariants.Call as call_gate}
 use Rattle.{kernel_laws.specs.kernel_invariant.proofs.Facts.held_facts, kernel_laws.proofs.Causes.causes_stand}
 
 -- What a place holds or held has both rights; and so in each place.
@@ -56,59 +59,51 @@ module _ (s : State) (c : ℕ) (h : AllBoth s) where
   removed : (at : Slot) (k : Capability) → place_at s at ≡ Holds k → AllBoth (with_place s at.node at.index (Quiescing k))
   removed at k is = placed s.place at.node at.index (Quiescing k) (subst HasBoth is (h at.node at.index)) h
 
-  make_both : (what : Make) (r f t b : ℕ) → ChangesFrom Keeps s c (make_rule s what r f t b)
-  make_both Make.Table r f t b = λ range e table g at v calm.
-      placed (put s.place f (λ j. Free)) at.node at.index (Holds (plain_cap Kind.Table f)) refl (cleared_both f)
-  make_both Make.Leaf r f t b = λ range e table g at v calm.
-      placed (put s.place f (λ j. Free)) at.node at.index (Holds (plain_cap Kind.Leaf f)) refl (cleared_both f)
-  make_both Make.Pages r f t b = λ range e table g at v calm.
-      placed (put s.place f (λ j. Free)) at.node at.index (Holds (plain_cap Kind.Pages f)) refl (cleared_both f)
-  make_both Make.Pleaf r f t b = λ range e table g at v calm.
-      placed (put s.place f (λ j. Free)) at.node at.index (Holds (plain_cap Kind.Pleaf f)) refl (cleared_both f)
-  make_both (Make.Thread comp) r f t b = λ range e table g k j at v calm.
-      placed s.place at.node at.index (Holds (plain_cap Kind.Thread f)) refl h
-  make_both (Make.Tcap sched quality) r f t b = λ range e table g at v calm.
-      placed s.place at.node at.index (Holds (plain_cap Kind.Tcap f)) refl h
-  make_both (Make.Comp x p l) r f t b = λ range e table g own_table a own_pages d at v calm.
-      placed s.place at.node at.index (Holds (plain_cap Kind.Comp f)) refl h
+  -- What is carried out, by its value and its edits.
+  abbrev KeepsBy : Value → List Edit → Type 0
+  KeepsBy v es = Keeps (does c s v es)
 
-  retype_both : (r f : ℕ) (k : FrameKind) → ChangesFrom Keeps s c (retype_rule s r f k)
-  retype_both r f FrameKind.Untyped = λ range e calm. h
-  retype_both r f _ = λ range e calm. h
+  made_node : (f : ℕ) (at : Slot) (k : Kind) (g i : ℕ)
+      → HasBoth (put (put s.place f (λ j. Free)) at.node (put (put s.place f (λ j. Free) at.node) at.index (Holds (plain_cap k f))) g i)
+  made_node f at k = placed (put s.place f (λ j. Free)) at.node at.index (Holds (plain_cap k f)) refl (cleared_both f)
 
-  touch_both : (pages v : ℕ) (t : Option Translation) → ChangesFrom Keeps s c (touch_by pages v t)
-  touch_both pages v None = λ mapping e calm. h
-  touch_both pages v (Some t) = λ calm. h
+  make_both : (what : Make) (r f t b : ℕ) (g : Looks) → HoldsAt KeepsBy (make_rule s what r f t b) g
+  make_both (Make.Thread comp) r f t b g =
+      placed s.place (g.slots 0).node (g.slots 0).index (Holds (plain_cap Kind.Thread f)) refl h
+  make_both (Make.Tcap sched quality) r f t b g =
+      placed s.place (g.slots 0).node (g.slots 0).index (Holds (plain_cap Kind.Tcap f)) refl h
+  make_both (Make.Comp x p l) r f t b g =
+      placed s.place (g.slots 0).node (g.slots 0).index (Holds (plain_cap Kind.Comp f)) refl h
+  make_both Make.Table r f t b g = made_node f (g.slots 0) Kind.Table
+  make_both Make.Leaf r f t b g = made_node f (g.slots 0) Kind.Leaf
+  make_both Make.Pages r f t b g = made_node f (g.slots 0) Kind.Pages
+  make_both Make.Pleaf r f t b g = made_node f (g.slots 0) Kind.Pleaf
 
-  switch_both : (q : ℕ) (name : Named) (e : Option ℕ) → ChangesFrom Keeps s c (switch_to name q e)
-  switch_both q name None = λ calm. h
-  switch_both q name (Some e) = λ calm. h
+  filled : (at : Slot) (k : Capability) → k.rights ≡ both → AllBoth (with_place s at.node at.index (Holds k))
+  filled at k has = placed s.place at.node at.index (Holds k) has h
+
+  row_both : (call : Call) → KeepsBoth call → (g : Looks) → LedBy s c (rule_of s c call) g → HoldsAt KeepsBy (rule_of s c call) g
+  row_both (Copy a t b rights) keep g led = filled (g.slots 0) (kept (g.caps 0) rights.0)
+      (both_kept (g.caps 0).kind (g.caps 0).rights rights.0 (named_both a (to_copy any) (g.caps 0) led.0) keep)
+  row_both (Remove t b) keep g led =
+      removed (g.slots 0) (g.held 0) (held_facts s c (Under (found (g.caps 0)) b) (g.slots 0) (g.held 0) led.1.0).1
+  row_both (Grow t i l) keep g led = filled (g.slots 0) (plain_cap Kind.Link (g.caps 1).frame) refl
+  row_both (Shrink t i) keep g led =
+      removed (g.slots 0) (g.held 0) (held_facts s c (InRoot (found (g.caps 0)) i) (g.slots 0) (g.held 0) led.1.0).1
+  row_both (Retype r f FrameKind.Untyped) keep g led = h
+  row_both (make_call what r f t b) keep g led = make_both what r f t b g
+  row_both (Map p v r f w) keep g led = filled (g.slots 0) (cap_of Kind.Page f w.0) refl
+  row_both (Unmap p v) keep g led =
+      removed (g.slots 0) (g.held 0) (held_facts s c (Under (found (g.caps 0)) v) (g.slots 0) (g.held 0) led.1.0).1
+  row_both (Touch v) keep g led = by_cached (λ rule. HoldsAt KeepsBy rule g) (comp_of s c).pages v h (λ t. h)
+      (translation_of (s.core c).cached (comp_of s c).pages v)
+  row_both (Gate k t b) keep g led = filled (g.slots 0) (cap_of Kind.Gate (g.caps 0).frame _) refl
+  row_both (Part r f n t b) keep g led =
+      filled (g.slots 0) (part_of (g.caps 0) f n) (named_both r (to_part (only Kind.Range)) (g.caps 0) led.0)
+  row_both _ keep g led = h
 
   rule_both : (call : Call) → KeepsBoth call → ChangesFrom Keeps s c (rule_of s c call)
-  rule_both (Look a) keep = λ k e calm. h
-  rule_both (Copy a t b rights) keep = λ k e table f at v calm.
-      placed s.place at.node at.index (Holds (kept k rights.0)) (both_kept k.kind k.rights rights.0 (named_both a (to_copy any) k e) keep) h
-  rule_both (Remove t b) keep = λ table e at k g calm. removed at k (held_facts s c (Under (found table) b) at k g).1
-  rule_both (Grow t i l) keep = λ table e leaf f at v calm. placed s.place at.node at.index (Holds (plain_cap Kind.Link leaf.frame)) refl h
-  rule_both (Shrink t i) keep = λ table e at k g calm. removed at k (held_facts s c (InRoot (found table) i) at k g).1
-  rule_both (Retype r f k) keep = retype_both r f k
-  rule_both (make_call what r f t b) keep = make_both what r f t b
-  rule_both (Map p v r f w) keep = λ pages e range g at u calm. placed s.place at.node at.index (Holds (cap_of Kind.Page f w.0)) refl h
-  rule_both (Unmap p v) keep = λ pages e at k g calm. removed at k (held_facts s c (Under (found pages) v) at k g).1
-  rule_both (Touch v) keep = touch_both (comp_of s c).pages v (translation_of (s.core c).cached (comp_of s c).pages v)
-  rule_both Flush keep = λ calm. h
-  rule_both (Gate k t b) keep = λ comp e table f at v calm. placed s.place at.node at.index (Holds (cap_of Kind.Gate comp.frame _)) refl h
-  rule_both (Kill k) keep = λ comp e calm. h
-  rule_both (call_gate g) keep = λ gate e calm. h
-  rule_both Ret keep = λ calm. h
-  rule_both (Switch a b) keep = λ thread e tcap g. switch_both tcap.frame (found thread) (thread_in (s.frame thread.frame)).runs_on
-  rule_both (Tick n) keep = λ calm. h
-  rule_both (Transfer a b m) keep = λ j e k f calm. h
-  rule_both (Delegate a b m) keep = λ j e k f calm. h
-  rule_both (Test a b) keep = λ j e k f calm. h
-  rule_both (Replenish a m) keep = λ j e calm. h
-  rule_both (Part r f n t b) keep = λ k e table g at v calm.
-      placed s.place at.node at.index (Holds (part_of k f n)) (named_both r (to_part (only Kind.Range)) k e) h
+  rule_both call keep = from_left KeepsBy s c (rule_of s c call) (row_both call keep)
 
   change_both : (x : Judged Change) → IfFound x Keeps → AllBoth (changed s x)
   change_both (Refused r) by = h
@@ -168,35 +163,15 @@ both_stay setting events keep = record {
 }
 
 -- No name needs more than both.
-abbrev AreMet : List Name → Type 0
-AreMet [] = Unit {0}
-AreMet (n ∷ names) = (has_rights both n.want.needs ≡ true) × AreMet names
+abbrev are_met : List Asked → Bool
+are_met [] = true
+are_met (n ∷ names) = has_rights both n.want.needs && are_met names
 
-made_met : (what : Make) → AreMet (names_made what)
-made_met (Make.Thread comp) = (refl, tt)
-made_met (Make.Comp table pages live) = (refl, (refl, tt))
-made_met _ = tt
-
-met : (s : State) (c : ℕ) (call : Call) → AreMet (names_of s c call)
-met s c (Look a) = (refl, tt)
-met s c (Copy a t b rights) = (refl, (refl, tt))
-met s c (Remove t b) = (refl, tt)
-met s c (Grow t i l) = (refl, (refl, tt))
-met s c (Shrink t i) = (refl, tt)
-met s c (Retype r f k) = (refl, tt)
-met s c (make_call what r f t b) = (refl, (refl, made_met what))
-met s c (Map p v r f w) = (refl, (refl, tt))
-met s c (Unmap p v) = (refl, tt)
-met s c (Gate k t b) = (refl, (refl, tt))
-met s c (Kill k) = (refl, tt)
-met s c (call_gate g) = (refl, tt)
-met s c (Switch a b) = (refl, (refl, tt))
-met s c (Transfer a b m) = (refl, (refl, tt))
-met s c (Delegate a b m) = (refl, (refl, tt))
-met s c (Test a b) = (refl, (refl, tt))
-met s c (Replenish a m) = (refl, tt)
-met s c (Part r f n t b) = (refl, (refl, tt))
-met s c _ = tt
+met : (s : State) (c : ℕ) (call : Call) → IsTrue (are_met (names_of s c call))
+met s c (make_call Make.Table r f t b) = refl
+met s c (Touch v) = by_cached (λ rule. IsTrue (are_met (names_at rule (led s c rule)))) (comp_of s c).pages v refl (λ t. refl)
+    (translation_of (s.core c).cached (comp_of s c).pages v)
+met s c _ = refl
 
 module _ (s : State) (c : ℕ) (h : AllBoth s) where
   leads_both : (o : Option Slot) (k : Capability) → used_at s c o ≡ Some k → k.rights ≡ both
@@ -209,12 +184,13 @@ module _ (s : State) (c : ℕ) (h : AllBoth s) where
   lacks_none needs met o (Some k) is P lacks =
       false≢true (sym lacks.1 ∙ ap (λ r. has_rights r needs) (leads_both o k is) ∙ met)
 
-  no_name : (names : List Name) → AreMet names
+  no_name : (names : List Asked) → IsTrue (are_met names)
       → OneIs (λ n. IsSomeAnd (leads s c n.number) λ k. IsTrue (n.want.kinds k.kind) × IsFalse (has_rights k.rights n.want.needs)) names → ⊥
   no_name [] met one = one
   no_name (n ∷ names) met (inl lacks) =
-      lacks_none n.want.needs met.0 (reached s c (own s c n.number)) (leads s c n.number) refl (λ k. IsTrue (n.want.kinds k.kind)) lacks
-  no_name (n ∷ names) met (inr later) = no_name names met.1 later
+      lacks_none n.want.needs (and_parts (has_rights both n.want.needs) (are_met names) met).0 (reached s c (own s c n.number))
+      (leads s c n.number) refl (λ k. IsTrue (n.want.kinds k.kind)) lacks
+  no_name (n ∷ names) met (inr later) = no_name names (and_parts (has_rights both n.want.needs) (are_met names) met).1 later
 
 pub no_right_lacks : NoRightLacks
 no_right_lacks setting events keep c call may =

@@ -2,12 +2,12 @@
 use Rattle.kernel_laws.proofs as low
 use low.{◌≡◌, ◌≢◌, ◌⊎◌, inl, inr, ℕ, ◌+◌, ◌≤◌, arith, Bool, true, false, not, refl, sym, ◌∙◌, ap, subst, cond, ◌==◌, ltb as nat_lt}
 use low.{if◌then◌else◌, IsTrue, List, [], ◌∷◌, Option, Some, None, is_some, false≢true, Setting, IsSetting, Capability, cap_of}
-use low.{kept as kept_rights, part_of, Kind, FrameKind, Call, Look, Copy, Remove as remove_call, Grow, Shrink, Retype, Make as make_call}
-use low.{Map, Unmap, Touch, Flush, Gate, Kill, Ret, Switch, Tick, Transfer, Delegate, Test, Part, Replenish, Translation, Value, Nothing}
-use low.{Reply, Place, Free, Holds, Quiescing, Object, Thing, PlaceOf, FrameOf, State, Grace, put, comp_in, comp_of, thread_in, start}
-use low.{no_grace, plain_cap, start_cap, place_with, named_by, times, Want, any, to_copy, Slot, Named, found, place_at, held_in, usable_in}
-use low.{usable, only, new_grace, Change, does, Judged, Refused, Found, IsFoundAnd, named, make_rule, Fill, Node, edited, retype_rule}
-use low.{touch_by, translation_of, switch_to, rule_of, change_of, changed, owed_by, state_by, begins, ends, flushes, MayReply, fits, IsGood}
+use low.{kept as kept_rights, part_of, Kind, FrameKind, Call, Copy, Remove as remove_call, Grow, Shrink, Retype, Make as make_call}
+use low.{Map, Unmap, Touch, Gate, Tick, Part, Value, Nothing}
+use low.{Reply, Place, Free, Holds, Quiescing, Object, Thing, PlaceOf, FrameOf, State, Grace, put, comp_in, comp_of, start}
+use low.{no_grace, plain_cap, start_cap, place_with, named_by, times, Want, any, to_copy, Slot, place_at, held_in, usable_in}
+use low.{usable, only, new_grace, Change, does, Judged, Refused, Found, IsFoundAnd, named, make_rule, Fill, Node, edited}
+use low.{translation_of, rule_of, change_of, changed, owed_by, state_by, begins, ends, flushes, MayReply, fits, IsGood}
 use low.{Event, Enters, Decides, Returns, after, is_in, is_open, IsRun, IfFound, put_same, put_other, waits_inside, times_first, put_all}
 use low.{place_all, IsOpen, opened, open_is, inside_is, ChangesFrom, outcome_from, suits, some_inj, none_some, grace_is, flushed_by}
 use low.{ends_by_rule, name_parts, phase_own, phase_other}
@@ -15,8 +15,11 @@ use Rattle.kernel_laws.specs.kernel_invariant.proofs.{WaitsForAll, free_holds, h
 use Rattle.kernel_laws.specs.kernel_rules.specs.{Make, cleared}
 use Rattle.kernel_laws.specs.kernel_invariant.proofs.{SoundCalls.gate_comp, GraceChanges.grace_by}
 use Rattle.state_laws.specs.Lives.{IsOfEpoch, GatesFit}
+use Rattle.kernel_laws.specs.kernel_rules.proofs.Rows.{Looks, by_cached}
+use Rattle.kernel_laws.specs.kernel_invariant.proofs.Facts.{LedBy, HoldsAt, from_left}
+use Rattle.kernel_laws.proofs.{Edit}
 use Rattle.state_laws.proofs.{Kept.is_kept, Kept.Kept, Kept.decided_kept, Lives.comp_kept}
-use Rattle.{std.proofs.lemmas.Bool.cases_eq, kernel_laws.specs.spk_nums.specs.declared.calls.Call.TheVariants.Call as call_gate}
+use Rattle.{std.proofs.lemmas.Bool.cases_eq}
 use Rattle.{kernel_laws.specs.kernel_rules.specs.Edits.Remove, kernel_laws.specs.found_stays.proofs.Stays.place_named}
 
 -- The gates that places hold, and those that open cores may still use, have their component's epoch.
@@ -88,57 +91,38 @@ module _ (s : State) (o : ℕ → Bool) (c : ℕ) (h : IsOpen s o c) (w : AreGat
       let p = name_parts s c n wanted k e in
       subst (IsOfEpoch s) (suits wanted p.2 k p.4).is (usable_gate s o c p.0 p.2 w h.is p.3)
 
-  make_gates : (what : Make) (r f t b : ℕ) → ChangesFrom (NewGates s) s c (make_rule s what r f t b)
-  make_gates Make.Table r f t b = λ range e table g at v calm. node_made s c f _ Kind.Table at refl
-  make_gates Make.Leaf r f t b = λ range e table g at v calm. node_made s c f _ Kind.Leaf at refl
-  make_gates Make.Pages r f t b = λ range e table g at v calm. node_made s c f _ Kind.Pages at refl
-  make_gates Make.Pleaf r f t b = λ range e table g at v calm. node_made s c f _ Kind.Pleaf at refl
-  make_gates (Make.Thread comp) r f t b = λ range e table g k j at v calm.
-      other s s _ at (plain_cap Kind.Thread f) (λ f i j e. e) (λ g i. refl) refl
-  make_gates (Make.Tcap sched quality) r f t b = λ range e table g at v calm.
-      other s s _ at (plain_cap Kind.Tcap f) (λ f i j e. e) (λ g i. refl) refl
-  make_gates (Make.Comp x p l) r f t b = λ range e table g own_table a own_pages d at v calm.
-      other s s _ at (plain_cap Kind.Comp f) (λ f i j e. e) (λ g i. refl) refl
+  -- What is carried out, by its value and its edits.
+  abbrev Gates : Value → List Edit → Type 0
+  Gates v es = NewGates s (does c s v es)
 
-  retype_gates : (r f : ℕ) (k : FrameKind) → ChangesFrom (NewGates s) s c (retype_rule s r f k)
-  retype_gates r f FrameKind.Untyped = λ range e calm. stays s _ (λ f i. refl)
-  retype_gates r f _ = λ range e calm. stays s _ (λ f i. refl)
+  make_gates : (what : Make) (r f t b : ℕ) (g : Looks) → HoldsAt Gates (make_rule s what r f t b) g
+  make_gates Make.Table r f t b g = node_made s c f _ Kind.Table (g.slots 0) refl
+  make_gates Make.Leaf r f t b g = node_made s c f _ Kind.Leaf (g.slots 0) refl
+  make_gates Make.Pages r f t b g = node_made s c f _ Kind.Pages (g.slots 0) refl
+  make_gates Make.Pleaf r f t b g = node_made s c f _ Kind.Pleaf (g.slots 0) refl
+  make_gates (Make.Thread comp) r f t b g = other s s _ (g.slots 0) (plain_cap Kind.Thread f) (λ f i j e. e) (λ g i. refl) refl
+  make_gates (Make.Tcap sched quality) r f t b g = other s s _ (g.slots 0) (plain_cap Kind.Tcap f) (λ f i j e. e) (λ g i. refl) refl
+  make_gates (Make.Comp x p l) r f t b g = other s s _ (g.slots 0) (plain_cap Kind.Comp f) (λ f i j e. e) (λ g i. refl) refl
 
-  touch_gates : (pages v : ℕ) (t : Option Translation) → ChangesFrom (NewGates s) s c (touch_by pages v t)
-  touch_gates pages v None = λ mapping e calm. stays s _ (λ f i. refl)
-  touch_gates pages v (Some t) = λ calm. stays s _ (λ f i. refl)
-
-  switch_gates : (q : ℕ) (name : Named) (e : Option ℕ) → ChangesFrom (NewGates s) s c (switch_to name q e)
-  switch_gates q name None = λ calm. stays s _ (λ f i. refl)
-  switch_gates q name (Some e) = λ calm. stays s _ (λ f i. refl)
+  row_gates : (call : Call) (g : Looks) → LedBy s c (rule_of s c call) g → HoldsAt Gates (rule_of s c call) g
+  row_gates (Copy a t b rights) g led = filled s s _ (g.slots 0) (kept_rights (g.caps 0) rights.0) (λ f i j e. e) (λ f i. refl)
+      (named_gate a (to_copy any) (g.caps 0) led.0)
+  row_gates (remove_call t b) g led = removed s c (g.slots 0) (g.held 0)
+  row_gates (Grow t i l) g led =
+      other s s _ (g.slots 0) (plain_cap Kind.Link (g.caps 1).frame) (λ f i j e. e) (λ f i. refl) refl
+  row_gates (Shrink t i) g led = removed s c (g.slots 0) (g.held 0)
+  row_gates (Retype r f FrameKind.Untyped) g led = stays s _ (λ f i. refl)
+  row_gates (make_call what r f t b) g led = make_gates what r f t b g
+  row_gates (Map p v r f w) g led = other s s _ (g.slots 0) (cap_of Kind.Page f w.0) (λ f i j e. e) (λ f i. refl) refl
+  row_gates (Unmap p v) g led = removed s c (g.slots 0) (g.held 0)
+  row_gates (Touch v) g led = by_cached (λ rule. HoldsAt Gates rule g) (comp_of s c).pages v (stays s _ (λ f i. refl))
+      (λ t. stays s _ (λ f i. refl)) (translation_of (s.core c).cached (comp_of s c).pages v)
+  row_gates (Gate k t b) g led = filled s s _ (g.slots 0) _ (λ f i j e. e) (λ f i. refl) (λ is. refl)
+  row_gates (Part r f n t b) g led = other s s _ (g.slots 0) (part_of (g.caps 0) f n) (λ f i j e. e) (λ f i. refl) refl
+  row_gates _ g led = stays s _ (λ f i. refl)
 
   rule_gates : (call : Call) → ChangesFrom (NewGates s) s c (rule_of s c call)
-  rule_gates (Look a) = λ k e calm. stays s _ (λ f i. refl)
-  rule_gates (Copy a t b rights) =
-      λ k e table f at v calm. filled s s _ at (kept_rights k rights.0) (λ f i j e. e) (λ f i. refl)
-      (named_gate a (to_copy any) k e)
-  rule_gates (remove_call t b) = λ table e at k g calm. removed s c at k
-  rule_gates (Grow t i l) = λ table e leaf f at v calm.
-      other s s _ at (plain_cap Kind.Link leaf.frame) (λ f i j e. e) (λ f i. refl) refl
-  rule_gates (Shrink t i) = λ table e at k g calm. removed s c at k
-  rule_gates (Retype r f k) = retype_gates r f k
-  rule_gates (make_call what r f t b) = make_gates what r f t b
-  rule_gates (Map p v r f w) = λ pages e range g at u calm.
-      other s s _ at (cap_of Kind.Page f w.0) (λ f i j e. e) (λ f i. refl) refl
-  rule_gates (Unmap p v) = λ pages e at k g calm. removed s c at k
-  rule_gates (Touch v) = touch_gates (comp_of s c).pages v (translation_of (s.core c).cached (comp_of s c).pages v)
-  rule_gates Flush = λ calm. stays s _ (λ f i. refl)
-  rule_gates (Gate k t b) = λ comp e table f at v calm. filled s s _ at _ (λ f i j e. e) (λ f i. refl) (λ is. refl)
-  rule_gates (Kill k) = λ comp e calm. stays s _ (λ f i. refl)
-  rule_gates (call_gate g) = λ gate e calm. stays s _ (λ f i. refl)
-  rule_gates Ret = λ calm. stays s _ (λ f i. refl)
-  rule_gates (Switch a b) = λ thread e tcap g. switch_gates tcap.frame (found thread) (thread_in (s.frame thread.frame)).runs_on
-  rule_gates (Tick n) = λ calm. stays s _ (λ f i. refl)
-  rule_gates (Transfer a b m) = λ j e k f calm. stays s _ (λ f i. refl)
-  rule_gates (Delegate a b m) = λ j e k f calm. stays s _ (λ f i. refl)
-  rule_gates (Test a b) = λ j e k f calm. stays s _ (λ f i. refl)
-  rule_gates (Replenish a m) = λ j e calm. stays s _ (λ f i. refl)
-  rule_gates (Part r f n t b) = λ k e table g at v calm. other s s _ at (part_of k f n) (λ f i j e. e) (λ f i. refl) refl
+  rule_gates call = from_left Gates s c (rule_of s c call) (row_gates call)
 
 -- A decision.
 abbrev DecidedGates : State → State → Type 0

@@ -1,71 +1,29 @@
 -- Flushes that are decided and still to be stored. What a core holds stands for nothing at a flush word, but there: so where a step
 -- leaves what it stands for at its core's flush word, the core has its last flush stored if it had before.
 use Rattle.kept_facts.specs.core_invariant.proofs as low
-use low.{KillingAt, LoadComp, LoadLive, MakingAt, Mark, Store, Fill, Outside, Untype, MakeComp, Invoke, Return, CompMaking, CompAt, Tail}
-use low.{Nothing, Quiesce, Unmark, StoreDead, StoreFlush, StoreLive, Push, Pop, Release, StoreRunning, StoreIdle, Work, Lookup, Read, Scan}
-use low.{Acquire, ActiveCall, Stage, Enter, Living, Undecided, Decided, Leave, swept_of, release_of, UntypingAt, holds_untyping}
-use low.{holds_counts, flushing_in, phase_at, KnowsAt, is_done, holds_making, holds_killing, holds_comp, holds_act, holds_tail, holds_work}
-use low.{holds_at, holds_share, holds_shared, Pair, PairAt, LoadA, MarkA, ListA, LoadB, ListB, CompareB, AgainB, StoreList, StoreB, StoreA}
-use low.{Trace, Phase, Out, Open, Reply, Capability, Call, Setting, Acquired, AtCompare, AtDraw, AtStore, ◌≡◌, ℕ, ◌≤◌, Bool, true, false}
-use low.{if◌then◌else◌, List, [], ◌∷◌, Option, Some, None, ◌⊎◌, inl, inr, arith, refl, sym, ◌∙◌, ap, subst, false≢true, same_same, FlushAt}
-use low.{Close as kill_close, Draw as kill_draw, Load, Remove, Retype, Make, Map, Tick, Flush, Kill, Touch, Share as share_act}
-use low.{Refill as refill_act, Switch as switch_act, Act as act_work, IfSome}
+use low.{Tail, Nothing, Quiesce, Unmark, StoreDead, StoreFlush, StoreLive, Push, Pop, Release, StoreRunning, StoreIdle, Work, Lookup, Read}
+use low.{Scan, Acquire, ActiveCall, Stage, Enter, Living, Undecided, Decided, Leave, holds_counts, flushing_in, phase_at, KnowsAt, is_done}
+use low.{holds_act, holds_tail, holds_work, holds_at, holds_shared, Pair, PairAt, LoadA, MarkA, ListA, LoadB, ListB, CompareB, AgainB}
+use low.{StoreList, StoreB, StoreA, Trace, Phase, Out, Open, Reply, Call, Setting, Acquired, AtCompare, AtDraw, AtStore, ◌≡◌, ℕ, ◌≤◌, Bool}
+use low.{true, false, if◌then◌else◌, List, [], ◌∷◌, Option, Some, None, ◌⊎◌, inl, inr, arith, refl, sym, ◌∙◌, ap, subst, false≢true}
+use low.{same_same, FlushAt, Act as act_work, IfSome}
 use Rattle.kept_facts.specs.act_states.specs.{Close, Push as PushOf, Pop as PopOf}
 use Rattle.kept_facts.specs.core_invariant.specs.{is_flushing, holds_stage}
-use Rattle.kept_facts.specs.act_states.specs.{declared.work.Tail.TheVariants.Share}
-use Rattle.kept_facts.specs.act_states.specs.{declared.makings.MakingAt.TheVariants.Fill as making_fill, declared.work.Act.Act as ActOf}
-use Rattle.kept_facts.specs.core_invariant.specs.{Holding.Holding, Holding.holds_closed, Holding.holds_drawn, Knows.flushes_tail}
-use Rattle.kept_facts.specs.core_invariant.specs.{Invariant.holds_push, Invariant.holds_pop}
-use low.{Freezing.release_flush, ThreadHolds.switching_flush}
+use Rattle.kept_facts.specs.act_states.specs.{declared.work.Tail.TheVariants.Share, declared.work.Act.Act as ActOf}
+use Rattle.kept_facts.specs.core_invariant.specs.{Holding.Holding, Holding.holds_drawn, Knows.flushes_tail, Invariant.holds_push}
+use Rattle.kept_facts.specs.core_invariant.specs.{Invariant.holds_pop}
+use low.{Freezing.release_flush, Keepings.IsApart, Keepings.all_beside, Keepings.act_beside, Keepings.plain_spared}
+use Rattle.kept_facts.specs.act_states.specs.{phases_of}
 use Rattle.kept_facts.specs.kernel_history.specs.Trace.{Decided as Decided_phase}
 
 counts_flush : (fate : Option (Option ℕ)) (xs : List Acquired) (c : ℕ) → (holds_counts fate xs).stands (FlushAt c) ≡ 0
 counts_flush fate [] c = refl
 counts_flush fate (x ∷ xs) c = counts_flush fate xs c
 
-closed_flush : (close : Close) (cap : Capability) (h : Holding) (c : ℕ)
-    → (holds_closed close cap h).stands (FlushAt c) ≡ h.stands (FlushAt c)
-closed_flush (AtCompare node entry word core) cap h c = refl
-closed_flush (AtDraw node entry) cap h c = refl
-closed_flush (AtStore node entry stamp) cap h c = refl
-
 drawn_flush : (close : Close) (h : Holding) (c : ℕ) → (holds_drawn close h).stands (FlushAt c) ≡ h.stands (FlushAt c)
 drawn_flush (AtCompare node entry word core) h c = refl
 drawn_flush (AtDraw node entry) h c = refl
 drawn_flush (AtStore node entry stamp) h c = refl
-
-making_flush : (f : ℕ) (at : MakingAt) (h : Holding) (c : ℕ) → (holds_making f at h).stands (FlushAt c) ≡ h.stands (FlushAt c)
-making_flush f Load h c = refl
-making_flush f (Mark word) h c = refl
-making_flush f (Store word entry) h c = refl
-making_flush f (making_fill word) h c = refl
-
-killing_flush : (at : KillingAt) (h : Holding) (c : ℕ) → (holds_killing at h).stands (FlushAt c) ≡ h.stands (FlushAt c)
-killing_flush LoadComp h c = refl
-killing_flush (LoadLive life) h c = refl
-killing_flush (kill_close life word) h c = refl
-killing_flush (kill_draw life word) h c = refl
-
-comp_flush : (m : CompMaking) (at : CompAt) (h : Holding) (c : ℕ) → (holds_comp m at h).stands (FlushAt c) ≡ h.stands (FlushAt c)
-comp_flush m CompAt.Load h c = refl
-comp_flush m (CompAt.Mark word) h c = refl
-comp_flush m (CompAt.LoadLive word) h c = refl
-comp_flush m (CompAt.Scan word last q) h c = refl
-comp_flush m (CompAt.Close word last) h c = refl
-comp_flush m (CompAt.Store word last entry) h c = refl
-comp_flush m (CompAt.Fill word last) h c = refl
-
-share_flush : (p : Pair) (at : PairAt) (h : Holding) (c : ℕ) → (holds_share p at h).stands (FlushAt c) ≡ h.stands (FlushAt c)
-share_flush p LoadA h c = refl
-share_flush p MarkA h c = refl
-share_flush p (ListA n) h c = refl
-share_flush p LoadB h c = refl
-share_flush p (ListB n) h c = refl
-share_flush p CompareB h c = refl
-share_flush p (AgainB r) h c = refl
-share_flush p (StoreList n) h c = refl
-share_flush p StoreB h c = refl
-share_flush p (StoreA moved v) h c = refl
 
 shared_flush : (p : Pair) (at : PairAt) (h : Holding) (c : ℕ) → (holds_shared p at h).stands (FlushAt c) ≡ h.stands (FlushAt c)
 shared_flush p LoadA h c = refl
@@ -80,29 +38,11 @@ shared_flush p StoreB h c = refl
 shared_flush p (StoreA moved v) h c = refl
 
 act_flush : (act : ActOf) (h : Holding) (c : ℕ) → (holds_act act h).stands (FlushAt c) ≡ h.stands (FlushAt c)
-act_flush (Fill fill) h c = refl
-act_flush (Remove close cap) h c = closed_flush close cap h c
-act_flush (Retype typing) h c = refl
-act_flush (Make making) h c = making_flush making.frame making.at h c
-act_flush (Map fill) h c = refl
-act_flush (Outside node entry word) h c = refl
-act_flush (Tick charge) h c = refl
-act_flush (Touch m) h c = refl
-act_flush (Flush by) h c = refl
-act_flush (Kill m) h c = killing_flush m.at h c
-act_flush (Untype m) h c = by m.at
+act_flush act h c =
+    (all_beside (phases_of act).keeps h (FlushAt c) (act_beside act (FlushAt c) apart (plain_spared act (FlushAt c) refl))).1
   where
-    by : (at : UntypingAt) → (holds_untyping m.frame at h).stands (FlushAt c) ≡ h.stands (FlushAt c)
-    by UntypingAt.Load = refl
-    by (UntypingAt.Mark word v) = refl
-    by (UntypingAt.Sweep word w) = (release_flush (release_of m.frame word (swept_of w) false) h c).1
-    by (UntypingAt.Draw word w) = (release_flush (release_of m.frame word w false) h c).1
-act_flush (Invoke m) h c = refl
-act_flush (Return m) h c = refl
-act_flush (MakeComp m) h c = comp_flush m m.at h c
-act_flush (share_act p) h c = share_flush p p.at h c
-act_flush (refill_act r) h c = refl
-act_flush (switch_act m) h c = switching_flush m m.at h c
+    apart : IsApart (FlushAt c)
+    apart = record { entries = λ f i. refl; frames = λ f. refl; numbers = λ l. refl }
 
 work_flush : (work : Work) (h : Holding) (c : ℕ) → (holds_work work h).stands (FlushAt c) ≡ h.stands (FlushAt c)
 work_flush (Lookup look) h c = refl

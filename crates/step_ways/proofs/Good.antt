@@ -1,6 +1,6 @@
 -- What a step must show, and why the cores then stand for the trace with it. Calls are not looked at here.
 use Rattle.kept_facts.specs.core_invariant.proofs as low
-use low.{FrameWord, NewObject, CompAt, CompMaking, Mark, Store, MakingAt, Lookup, Read, Scan, Acquire, Work, Outside, AtCore, AtFlush, Plan}
+use low.{FrameWord, NewObject, CompAt, CompMaking, Mark, Store, MakingAt, Lookup, Read, Scan, Acquire, Work, AtCore, AtFlush, Plan}
 use low.{cases_word, frame_value, is_node, same_same, word_of, left_of, frame_of_word, Capability, suc, zero, ◌≡◌, ◌≢◌, inl, inr, ℕ, ◌+◌}
 use low.{◌<◌, ◌≤◌, ◌∷◌, length, Option, Some, None, arith, sym, ◌∙◌, ap, subst, ◌⊎◌, ◌&&◌, ◌==◌, not, Bool, true, false, List, IsTrue}
 use low.{if◌then◌else◌, refl, eqb-true, false≢true, Setting, IsSetting, Call, Word, EntryAt, FrameAt, LiveAt, put, first_of_stack, Frame}
@@ -12,9 +12,7 @@ use low.{settled, MarkIs, keeps, holds_counts, settled_by, WordIs, SparesTcap, p
 use low.{KnowsMakingAt, KnowsAct, KnowsWork, KnowsCompAt, held_by, times_of, counted_in, SumIs, is_done, holds_making, holds_act}
 use low.{holds_work, holds_at, holds_in, holds, holds_comp, IsExclusive, marker_inside, latest_stamp, swept_of, Sweep, SweepAt, Swept}
 use low.{release_of, UntypingAt, holds_release, holds_untyping, AreFrozen, AreKept, IsQuiet, KnowsSweep, KnowsUntypingAt, SaysTyped}
-use low.{Load as making_load, Act as act_work, Fill as fill_act, Remove as remove_act, Retype as type_act, Make as make_act}
-use low.{Tick as tick_act, Flush as flush_act, Kill as kill_act, Untype as untype_act, Map as map_act, MakeComp as comp_act}
-use low.{Invoke as invoke_act, Return as return_act, Touch as touch_act, Share as share_act, Refill as refill_act, Switch as switch_act}
+use low.{Load as making_load, Act as act_work, Make as make_act, Untype as untype_act, MakeComp as comp_act, Switch as switch_act}
 use low.{true≢false, MayEnter, calls_of-other, inside_is, IsIdleIn, Compare as sweep_compare, Empty as sweep_empty, plan_for}
 use Rattle.kept_facts.proofs.{was_stays, Holding, Invariant, counts_on, HoldsSwept, release_swept, SparesExclusive, KeepsUsers}
 use Rattle.kept_facts.specs.core_invariant.specs.{KnowsSwept, KnowsIdle, KnowsRunning, is_start, KnowsSweepAt}
@@ -147,22 +145,8 @@ filled_comp setup t c f m (CompAt.Fill word last) h knows is = filled_two f m.fr
 filled_act : (setup : Setting) (t : Trace) (c f : ℕ) (call : Call) (plan : Plan) (ks : List Capability) (act : ActOf) (h : Holding)
     → KnowsAct setup t c call plan ks setup.cores act → stores_in act f ≡ true → IsFilled (holds_act act h) f
 filled_act setup t c f call plan ks (make_act m) h knows is = filled_making setup t c f m.frame m.object m.at h knows.at is
-filled_act setup t c f call plan ks (fill_act fill) h knows is = absurd (false≢true is)
-filled_act setup t c f call plan ks (remove_act close cap) h knows is = absurd (false≢true is)
-filled_act setup t c f call plan ks (type_act typing) h knows is = absurd (false≢true is)
-filled_act setup t c f call plan ks (map_act fill) h knows is = absurd (false≢true is)
-filled_act setup t c f call plan ks (Outside node entry word) h knows is = absurd (false≢true is)
-filled_act setup t c f call plan ks (tick_act charge) h knows is = absurd (false≢true is)
-filled_act setup t c f call plan ks (touch_act m) h knows is = absurd (false≢true is)
-filled_act setup t c f call plan ks (flush_act by) h knows is = absurd (false≢true is)
-filled_act setup t c f call plan ks (kill_act m) h knows is = absurd (false≢true is)
-filled_act setup t c f call plan ks (untype_act m) h knows is = absurd (false≢true is)
-filled_act setup t c f call plan ks (share_act p) h knows is = absurd (false≢true is)
-filled_act setup t c f call plan ks (refill_act r) h knows is = absurd (false≢true is)
-filled_act setup t c f call plan ks (switch_act m) h knows is = absurd (false≢true is)
 filled_act setup t c f call plan ks (comp_act m) h knows is = filled_comp setup t c f m m.at h knows.at is
-filled_act setup t c f call plan ks (invoke_act m) h knows is = absurd (false≢true is)
-filled_act setup t c f call plan ks (return_act m) h knows is = absurd (false≢true is)
+filled_act setup t c f call plan ks act h knows is = absurd (false≢true is)
 
 -- A scan is made before the frame is marked.
 scans_nothing : (act : ActOf) (f : ℕ) → is_start act ≡ true → stores_in act f ≡ false
@@ -171,26 +155,12 @@ scans_nothing (make_act m) f starts = by (is_marked m.at) starts
     by : (b : Bool) → not b ≡ true → (b && f == m.frame) ≡ false
     by true h = absurd (false≢true h)
     by false h = refl
-scans_nothing (fill_act fill) f starts = refl
-scans_nothing (remove_act close cap) f starts = refl
-scans_nothing (type_act typing) f starts = refl
-scans_nothing (map_act fill) f starts = refl
-scans_nothing (Outside node entry word) f starts = refl
-scans_nothing (tick_act charge) f starts = refl
-scans_nothing (touch_act m) f starts = refl
-scans_nothing (flush_act by) f starts = refl
-scans_nothing (kill_act m) f starts = refl
-scans_nothing (untype_act m) f starts = refl
-scans_nothing (share_act p) f starts = refl
-scans_nothing (refill_act r) f starts = refl
-scans_nothing (switch_act m) f starts = refl
 scans_nothing (comp_act m) f starts = by (comp_is_marked m.at) starts
   where
     by : (b : Bool) → not b ≡ true → (b && f == m.frame) ≡ false
     by true h = absurd (false≢true h)
     by false h = refl
-scans_nothing (invoke_act m) f starts = refl
-scans_nothing (return_act m) f starts = refl
+scans_nothing act f starts = refl
 
 -- And before an object is looked at.
 scans_unlooked : (act : ActOf) (f : ℕ) → is_start act ≡ true → looked_in act f ≡ false

@@ -18,7 +18,7 @@ use Rattle.step_ways.proofs.Loads.{Lands, OnlyLooks, step_to, next_at, core_in_c
 use Rattle.{kept_facts.specs.kernel_history.specs.IsHeldUp}
 use Rattle.{kept_facts.specs.spk_nums.specs.declared.calls.Call.TheVariants.Call as call_gate}
 use Rattle.{kept_facts.specs.kernel_history.specs.Justified.IsOnWay, kept_facts.specs.act_states.specs.declared.work.Act.Act as ActOf}
-use Rattle.{step_ways.proofs.Good.IsGood}
+use Rattle.{step_ways.proofs.Good.IsGood, kept_facts.specs.act_states.specs.phases_of}
 
 -- The step of core c from which this was taken.
 abbrev pub step_with : ℕ → Move → ℕ → Took → Step
@@ -36,48 +36,12 @@ NobodyWaits s = (x : Thing) (d : ℕ) → (s.grace x).waits d ≡ false
 
 -- No call owes ticks, but a tick.
 pub only_tick_owes : (s : State) (c : ℕ) (call : Call) → ((n : ℕ) → call ≢ Tick n) → owed_by s c call ≡ s
-only_tick_owes s c (Look a) other = refl
-only_tick_owes s c (Copy a u b rights) other = refl
-only_tick_owes s c (Replenish x m) other = refl
-only_tick_owes s c (Part r f n u b) other = refl
-only_tick_owes s c (Remove u b) other = refl
-only_tick_owes s c (Grow u i l) other = refl
-only_tick_owes s c (Shrink u i) other = refl
-only_tick_owes s c (Map p v r f w) other = refl
-only_tick_owes s c (Unmap p v) other = refl
-only_tick_owes s c (Retype r f k) other = refl
-only_tick_owes s c (Make what r f u b) other = refl
-only_tick_owes s c (Touch v) other = refl
-only_tick_owes s c Flush other = refl
 only_tick_owes s c (Tick n) other = absurd (other n refl)
-only_tick_owes s c (Gate k u b) other = refl
-only_tick_owes s c (Kill k) other = refl
-only_tick_owes s c (call_gate g) other = refl
-only_tick_owes s c Ret other = refl
-only_tick_owes s c (Transfer x y m) other = refl
-only_tick_owes s c (Delegate x y m) other = refl
-only_tick_owes s c (Test x y) other = refl
-only_tick_owes s c (Switch x y) other = refl
+only_tick_owes s c _ other = refl
 
 -- Whether a call charges ticks where it stands.
 abbrev pub ticks_in : ActOf → Bool
-ticks_in (fill_act fill) = false
-ticks_in (remove_act close cap) = false
-ticks_in (type_act typing) = false
-ticks_in (make_act m) = false
-ticks_in (map_act fill) = false
-ticks_in (Outside node entry word) = false
-ticks_in (tick_act charge) = true
-ticks_in (touch_act m) = false
-ticks_in (flush_act by) = false
-ticks_in (kill_act m) = false
-ticks_in (untype_act m) = false
-ticks_in (comp_act m) = false
-ticks_in (invoke_act m) = false
-ticks_in (return_act m) = false
-ticks_in (share_act p) = false
-ticks_in (refill_act r) = false
-ticks_in (switch_act m) = false
+ticks_in act = (phases_of act).charges
 
 abbrev pub ticks_work : Work → Bool
 ticks_work (Lookup look) = false

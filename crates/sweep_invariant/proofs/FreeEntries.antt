@@ -4,23 +4,25 @@ use Rattle.freeze_invariant.specs.step_ways.proofs as low
 use low.{◌≡◌, ◌≢◌, inl, inr, ℕ, zero, suc, ◌<◌, ◌≤◌, ◌==◌, ◌&&◌, Bool, true, false, List, [], ◌∷◌, Option, Some, None, arith, refl, sym}
 use low.{◌∙◌, ap, subst, false≢true, ne_eqb, Setting, IsSetting, Capability, Call, Pair, PairAt, LoadA, MarkA, ListA, LoadB, ListB}
 use low.{CompareB, AgainB, StoreList, StoreB, StoreA, Acquired, EntryAt, State, FrameOf, refs, times, IsGuarded, marked_by, Trace, Open}
-use low.{phase, state_after, last_left, Plan, AtCompare, AtDraw, AtStore, MakingAt, CompMaking, CompAt, KillingAt, UntypingAt, Switching}
-use low.{SwitchAt, Fill, Outside, Untype, MakeComp, Invoke, Return, Tail, Nothing, Quiesce, Unmark, StoreDead, StoreFlush, Release}
-use low.{StoreLive, Push, Pop, StoreRunning, StoreIdle, Work, Lookup, Read, Scan, Acquire, ActiveCall, Stage, Enter, Living, Undecided}
-use low.{Decided, Leave, release_of, swept_of, Core, Holding, holds_counts, settled, settled_by, holds_untyping, KnowsAct, KnowsAt}
-use low.{KnowsTail, KnowsWork, CallIs, phase_at, KnowsStoresAt, Invariant, holds, held_by, holds_act, holds_comp, holds_in, holds_killing}
-use low.{holds_making, holds_share, holds_shared, holds_tail, holds_work, is_done, holds_switching, slot_relies, release_entry, limits_of}
-use low.{claimed_by, if◌then◌else◌, Remove, Tick, Flush, Kill, Map as map_act, Touch, Share, Refill, Switch, Act as act_work, plan_for}
-use Rattle.freeze_invariant.specs.core_invariant.specs.{holds_heads, Retype, Make, KnowsClose, KnowsStore, holds_stage}
+use low.{phase, state_after, last_left, Plan, AtCompare, AtDraw, AtStore, Switching, SwitchAt, Tail, Nothing, Quiesce, Unmark, StoreDead}
+use low.{StoreFlush, Release, StoreLive, Push, Pop, StoreRunning, StoreIdle, Work, Lookup, Read, Scan, Acquire, ActiveCall, Stage, Enter}
+use low.{Living, Undecided, Decided, Leave, Core, Holding, holds_counts, settled, settled_by, KnowsAct, KnowsAt, KnowsTail, KnowsWork}
+use low.{CallIs, phase_at, KnowsStoresAt, Invariant, holds, held_by, holds_act, holds_in, holds_share, holds_shared, holds_tail, holds_work}
+use low.{is_done, holds_switching, slot_relies, release_entry, limits_of, claimed_by, if◌then◌else◌, Remove, Share, Switch, Act as act_work}
+use low.{plan_for}
+use Rattle.freeze_invariant.specs.core_invariant.specs.{holds_heads, KnowsClose, KnowsStore, holds_stage}
 use Rattle.freeze_invariant.specs.act_states.specs.{AtStack, Close, Push as PushOf, Pop as PopOf}
 use Rattle.std.proofs.lemmas.Bool.{cases_eq, cases_lt}
 use Rattle.freeze_invariant.specs.kept_facts.specs.kernel_laws.proofs.{core_names, times_first}
 use Rattle.freeze_invariant.specs.stage_thread.specs.declared.claim.Claim.TheVariants.{AtLoad, AtCompare as claim_compare}
 use Rattle.freeze_invariant.specs.kernel_invariant.proofs.SoundRemovals.{unnamed}
 use Rattle.freeze_invariant.specs.act_states.specs.{declared.work.Act.Act as ActOf, declared.work.Tail.TheVariants.Share as share_tail}
-use Rattle.freeze_invariant.specs.core_invariant.specs.Holding.{holds_closed, holds_drawn, kept_below, kept_or}
+use Rattle.freeze_invariant.specs.core_invariant.specs.Holding.{holds_drawn, kept_below, kept_or}
 use Rattle.freeze_invariant.specs.core_invariant.specs.Invariant.{holds_pop, holds_push}
 use Rattle.freeze_invariant.specs.kept_facts.proofs.Exclusive.{exclusive_unmarked}
+use Rattle.freeze_invariant.specs.core_invariant.proofs.Keepings.{all_beside, entry_beside}
+use Rattle.freeze_invariant.specs.core_invariant.specs.Frozen.{holds_all}
+use Rattle.freeze_invariant.specs.act_states.specs.{phases_of, Phases.close_keeps}
 
 none_some : (x : ℕ) → None ≡ Some x → ⊥
 none_some x h = cc
@@ -36,33 +38,6 @@ counts_entry fate (x ∷ xs) f i = counts_entry fate xs f i
 module _ (f i : ℕ) where
   abbrev Same : Holding → Holding → Type 0
   Same h k = h.marks (EntryAt f i) ≡ k.marks (EntryAt f i)
-
-  making_entry : (g : ℕ) (at : MakingAt) (h : Holding) → Same (holds_making g at h) h
-  making_entry g MakingAt.Load h = refl
-  making_entry g (MakingAt.Mark word) h = refl
-  making_entry g (MakingAt.Store word entry) h = refl
-  making_entry g (MakingAt.Fill word) h = refl
-
-  comp_entry : (m : CompMaking) (at : CompAt) (h : Holding) → Same (holds_comp m at h) h
-  comp_entry m CompAt.Load h = refl
-  comp_entry m (CompAt.Mark word) h = refl
-  comp_entry m (CompAt.LoadLive word) h = refl
-  comp_entry m (CompAt.Scan word last q) h = refl
-  comp_entry m (CompAt.Close word last) h = refl
-  comp_entry m (CompAt.Store word last entry) h = refl
-  comp_entry m (CompAt.Fill word last) h = refl
-
-  killing_entry : (at : KillingAt) (h : Holding) → Same (holds_killing at h) h
-  killing_entry KillingAt.LoadComp h = refl
-  killing_entry (KillingAt.LoadLive life) h = refl
-  killing_entry (KillingAt.Close life word) h = refl
-  killing_entry (KillingAt.Draw life word) h = refl
-
-  untyping_entry : (g : ℕ) (at : UntypingAt) (h : Holding) → Same (holds_untyping g at h) h
-  untyping_entry g UntypingAt.Load h = refl
-  untyping_entry g (UntypingAt.Mark word v) h = refl
-  untyping_entry g (UntypingAt.Sweep word w) h = (release_entry (release_of g word (swept_of w) false) h f i).0
-  untyping_entry g (UntypingAt.Draw word w) h = (release_entry (release_of g word w false) h f i).0
 
   push_entry : (p : PushOf) (h : Holding) → Same (holds_push p h) h
   push_entry (PushOf.AtStack g core depth comp) h = refl
@@ -118,7 +93,7 @@ module _ (setup : Setting) (setting : IsSetting setup) (cores : ℕ → Core) (t
 
     module _ (i : ℕ) where
       closed_entry : (call : Call) → phase t d ≡ Open call → (plan : Plan) (found : List Capability) (close : Close) (cap : Capability)
-          → KnowsClose setup t d call plan found close cap → (h : Holding) → Same f i (holds_closed close cap h) h
+          → KnowsClose setup t d call plan found close cap → (h : Holding) → Same f i (holds_all (close_keeps close cap) h) h
       closed_entry call is_open plan found (AtCompare node index word by) cap knows h = refl
       closed_entry call is_open plan found (AtDraw node index) cap knows h =
           keep_other node index (h.marks (EntryAt f i)) f i
@@ -134,25 +109,13 @@ module _ (setup : Setting) (setting : IsSetting setup) (cores : ℕ → Core) (t
 
       act_entry : (call : Call) → phase t d ≡ Open call → (plan : Plan) (found : List Capability) (upto : ℕ) (act : ActOf)
           → KnowsAct setup t d call plan found upto act → (h : Holding) → Same f i (holds_act act h) h
-      act_entry call is_open plan found upto (Fill fill) knows h = refl
       act_entry call is_open plan found upto (Remove close cap) knows h = closed_entry call is_open plan found close cap knows h
-      act_entry call is_open plan found upto (Retype typing) knows h = refl
-      act_entry call is_open plan found upto (Make m) knows h = making_entry f i m.frame m.at h
-      act_entry call is_open plan found upto (map_act fill) knows h = refl
-      act_entry call is_open plan found upto (Outside node entry word) knows h = refl
-      act_entry call is_open plan found upto (Tick charge) knows h = refl
-      act_entry call is_open plan found upto (Touch m) knows h = refl
-      act_entry call is_open plan found upto (Flush by) knows h = refl
-      act_entry call is_open plan found upto (Kill m) knows h = killing_entry f i m.at h
-      act_entry call is_open plan found upto (Untype m) knows h = untyping_entry f i m.frame m.at h
-      act_entry call is_open plan found upto (MakeComp m) knows h = comp_entry f i m m.at h
-      act_entry call is_open plan found upto (Invoke m) knows h = refl
-      act_entry call is_open plan found upto (Return m) knows h = refl
-      act_entry call is_open plan found upto (Refill r) knows h = refl
       act_entry call is_open plan found upto (Share p) knows h = share_entry f i p p.at h (apart p.a knows.tcap_a.guarded)
       act_entry call is_open plan found upto (Switch m) knows h =
           switch_entry f i m m.at h (λ same. no_thread d here (sym knows.leaves.thread ∙ same))
           (apart (claimed_by m.at) knows.thread.guarded)
+      act_entry call is_open plan found upto act knows h =
+          (all_beside (phases_of act).keeps h (EntryAt f i) (entry_beside act f i tt)).0
 
       heads_entry : (p : Pair) (h : Holding) → p.a ≢ f → p.b ≢ f → Same f i (holds_heads p h) h
       heads_entry p h first second = keep_other p.b 0 (if f == p.a && i == 0 then true else h.marks (EntryAt f i)) f i second

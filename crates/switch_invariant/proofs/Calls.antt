@@ -16,7 +16,7 @@ use low.count_invariant.proofs.SwitchCounts.{IsSwitch, switch_of, thread_kind, t
 use low.{count_invariant.proofs.plan_leads, count_invariant.proofs.goes_by, plan_ways.proofs.one_left, plan_ways.proofs.one_right}
 use low.{kernel_rules.specs.InvocationCalls.switch_to, kernel_rules.specs.Edits.Switch as switch_edit}
 use low.{kernel_history.specs.Footprint.frames_about, plan_ways.proofs.InFootprint.named_footprint}
-use low.{core_invariant.specs.Threads.KnowsSwitch, core_invariant.proofs.ThreadHolds.switching_bare}
+use low.{core_invariant.specs.Threads.KnowsSwitch, core_invariant.proofs.Keepings.all_bare, act_states.specs.Switches.switching_keeps}
 use low.{live_invariant.proofs.Numbers.one_of_many}
 use Rattle.{switch_invariant.proofs.ThreadWords.thread_is}
 
@@ -167,7 +167,8 @@ module _ (setup : Setting) (setting : IsSetting setup) (cores : ℕ → Core) (t
   held_at at is = ap (λ s. holds_at s a.counts) stage_is ∙ ap (λ x. holds_switching m x (holds_counts None a.counts)) is
 
   pub none_kept : (g i : ℕ) → (holds (cores c)).bare g i ≡ None
-  none_kept g i = ap (λ h. h.bare g i) (ap holds_in active ∙ held_at m.at refl) ∙ switching_bare m m.at (holds_counts None a.counts) g i
+  none_kept g i = ap (λ h. h.bare g i) (ap holds_in active ∙ held_at m.at refl)
+      ∙ all_bare (switching_keeps m m.at) (holds_counts None a.counts) g i
       ∙ counts_bare None a.counts g i
 
   pub dues_at : (at : SwitchAt) → m.at ≡ at → switching_dues m at ≡ map due_of a.counts

@@ -1,24 +1,21 @@
 -- Who may have marked a word of a thread: the core that runs the thread, or one that has claimed the thread while it was idle. So no word
 -- of a running thread carries the mark of another core.
 use Rattle.live_invariant.specs.step_ways.proofs as low
-use low.{◌≡◌, ◌≢◌, ◌⊎◌, ◌<◌, ◌^◌, ◌+◌, ◌*◌, inl, inr, ℕ, zero, suc, Bool, true, false, if◌then◌else◌, List, [], ◌∷◌, length, Option, Some}
-use low.{None, IsTrue, arith, refl, sym, ◌∙◌, ap, subst, false≢true, ne_eqb, Setting, IsSetting, Call, word_of_thread, thread_of_word, Idle}
-use low.{Running, Word, EntryAt, FrameAt, CompMaking, Frame, Kernel, Table, Leaf, Pages, Pleaf, Thread, Tcap, PlaceOf, State, thread_in}
-use low.{thread_of, fits, Relies, is_node, mark_in_frame, thread_mark, marked_by, thread_value, stamp, Trace, Open, phase, state_after}
-use low.{last_left, cases_word, same_word-other, same_same, Acquired, AtCompare, AtDraw, AtStore, Pair, PairAt, CompAt, KillingAt, LoadComp}
-use low.{LoadLive, MakingAt, Mark, Store, Switching, SwitchAt, UntypingAt, release_of, Outside, Tail, Nothing, Quiesce, Unmark, StoreDead}
-use low.{StoreFlush, Release, StoreLive, Push, Pop, StoreRunning, StoreIdle, Work, Lookup, Read, Scan, Acquire, Act, Stage, Enter, Living}
-use low.{Undecided, Decided, Leave, ActiveCall, Core, swept_of, holds_release, holds_untyping, Holding, keeps, holds_counts, settled_by}
-use low.{holds_switching, IsFrameWord, KnowsAct, KnowsWork, KnowsTail, KnowsAt, CallIs, phase_at, KnowsStoresAt, holds_act, holds_making}
-use low.{holds_killing, holds_comp, holds_share, holds_shared, holds_head, holds_work, holds_tail, is_done, holds_at, holds_in, holds}
-use low.{held_by, Invariant, slot_relies, release_entry, runs_on_own, Close as kill_close, Draw as kill_draw, Load as making_load}
-use low.{Fill as fill_act, Remove as remove_act, Tick as tick_act, Touch as touch_act, Flush as flush_act, Kill as kill_act}
-use low.{Untype as untype_act, Map as map_act, MakeComp as comp_act, Invoke as invoke_act, Return as return_act, Share as share_act}
-use low.{Refill as refill_act, Switch as switch_act, plan_for, Kind}
-use Rattle.live_invariant.specs.core_invariant.specs.{nothing, holds_idle, holds_heads, Retype as type_act, Make as make_act, Claim}
-use Rattle.live_invariant.specs.act_states.specs.{declared.work.Tail.TheVariants.Share}
-use Rattle.live_invariant.specs.act_states.specs.{declared.makings.MakingAt.TheVariants.Fill as making_fill, declared.work.Act.Act as ActOf}
+use low.{◌≡◌, ◌≢◌, ◌⊎◌, ◌<◌, inl, inr, ℕ, zero, suc, Bool, true, false, if◌then◌else◌, List, [], ◌∷◌, length, Option, Some, None, IsTrue}
+use low.{arith, refl, sym, ◌∙◌, ap, subst, false≢true, ne_eqb, Setting, IsSetting, Call, word_of_thread, thread_of_word, Idle, Running}
+use low.{Word, EntryAt, FrameAt, Frame, Kernel, Table, Leaf, Pages, Pleaf, Thread, Tcap, PlaceOf, State, thread_in, thread_of, fits, Relies}
+use low.{is_node, mark_in_frame, thread_mark, marked_by, thread_value, stamp, Trace, Open, phase, state_after, last_left, cases_word}
+use low.{same_word-other, same_same, Acquired, AtCompare, AtDraw, AtStore, Pair, PairAt, Switching, SwitchAt, Tail, Nothing, Quiesce}
+use low.{Unmark, StoreDead, StoreFlush, Release, StoreLive, Push, Pop, StoreRunning, StoreIdle, Work, Lookup, Read, Scan, Acquire, Act}
+use low.{Stage, Enter, Living, Undecided, Decided, Leave, ActiveCall, Core, holds_release, Holding, keeps, holds_counts, settled_by}
+use low.{holds_switching, IsFrameWord, KnowsAct, KnowsWork, KnowsTail, KnowsAt, CallIs, phase_at, KnowsStoresAt, holds_act, holds_share}
+use low.{holds_shared, holds_head, holds_work, holds_tail, is_done, holds_at, holds_in, holds, held_by, Invariant, slot_relies}
+use low.{release_entry, runs_on_own, Remove as remove_act, Share as share_act, Switch as switch_act, plan_for, Kind}
+use Rattle.live_invariant.specs.core_invariant.specs.{nothing, holds_idle, holds_heads, Claim}
+use Rattle.live_invariant.specs.act_states.specs.{declared.work.Tail.TheVariants.Share, declared.work.Act.Act as ActOf}
 use Rattle.{std.proofs.lemmas.Bool.cases_lt, thread_invariant.proofs.OwnStack.own_thread}
+use Rattle.live_invariant.specs.core_invariant.proofs.Keepings.{all_beside, entry_beside}
+use Rattle.live_invariant.specs.act_states.specs.{phases_of}
 use Rattle.live_invariant.specs.tcap_words.proofs.ThreadLemmas as threads
 use Rattle.live_invariant.specs.stage_thread.specs.declared.stack.Push.TheVariants as push
 use Rattle.live_invariant.specs.stage_thread.specs.declared.stack.Pop.TheVariants as pop
@@ -142,59 +139,20 @@ module _ (setup : Setting) (setting : IsSetting setup) (cores : ℕ → Core) (t
   shared call p PairAt.StoreB h not has below = heads p h not (tcap_no_thread ((state_after setup t).frame p.b) has.tcap.tcap) below
   shared call p (PairAt.StoreA moved v) h not has below = no_thread h p.a 0 _ below not
 
-  making : (g : ℕ) (at : MakingAt) (h : Holding) → (holds_making g at h).marks (EntryAt f i) ≡ h.marks (EntryAt f i)
-  making g making_load h = refl
-  making g (Mark word) h = refl
-  making g (Store word entry) h = refl
-  making g (making_fill word) h = refl
-
-  killing : (at : KillingAt) (h : Holding) → (holds_killing at h).marks (EntryAt f i) ≡ h.marks (EntryAt f i)
-  killing LoadComp h = refl
-  killing (LoadLive life) h = refl
-  killing (kill_close life word) h = refl
-  killing (kill_draw life word) h = refl
-
-  comp : (m : CompMaking) (at : CompAt) (h : Holding) → (holds_comp m at h).marks (EntryAt f i) ≡ h.marks (EntryAt f i)
-  comp m CompAt.Load h = refl
-  comp m (CompAt.Mark word) h = refl
-  comp m (CompAt.LoadLive word) h = refl
-  comp m (CompAt.Scan word last q) h = refl
-  comp m (CompAt.Close word last) h = refl
-  comp m (CompAt.Store word last entry) h = refl
-  comp m (CompAt.Fill word last) h = refl
-
-  untyping : (g : ℕ) (at : UntypingAt) (h : Holding) → (holds_untyping g at h).marks (EntryAt f i) ≡ h.marks (EntryAt f i)
-  untyping g UntypingAt.Load h = refl
-  untyping g (UntypingAt.Mark word v) h = refl
-  untyping g (UntypingAt.Sweep word w) h = (release_entry (release_of g word (swept_of w) false) h f i).0
-  untyping g (UntypingAt.Draw word w) h = (release_entry (release_of g word w false) h f i).0
-
   node : (n : ℕ) → Relies (state_after setup t) d n → is_thread ((state_after setup t).frame n) ≡ false
   node n relies = node_no_thread ((state_after setup t).frame n) relies.node
 
   module _ (a : ActiveCall) where
     by_act : (act : ActOf) (h : Holding) → phase t d ≡ Open a.call → KnowsAct setup t d a.call (plan_for a.call) a.found setup.cores act
         → h.marks (EntryAt f i) ≡ false → Claimed (holds_act act h)
-    by_act (fill_act fill) h opens has free = none h free
     by_act (remove_act (AtCompare n index word by) cap) h opens has free = none h free
     by_act (remove_act (AtDraw n index) cap) h opens has free = no_thread h n index _ (none h free)
         (node n (slot_relies setup setting t stands.legal d a.call opens has.target (record { node = n; index = index }) has.way))
     by_act (remove_act (AtStore n index x) cap) h opens has free = none h free
-    by_act (type_act typing) h opens has free = none h free
-    by_act (make_act m) h opens has free = apart (holds_making m.frame m.at h) h (making m.frame m.at h) free
-    by_act (map_act fill) h opens has free = none h free
-    by_act (Outside n entry word) h opens has free = none h free
-    by_act (tick_act charge) h opens has free = none h free
-    by_act (touch_act m) h opens has free = none h free
-    by_act (flush_act by) h opens has free = none h free
-    by_act (kill_act m) h opens has free = apart (holds_killing m.at h) h (killing m.at h) free
-    by_act (untype_act m) h opens has free = apart (holds_untyping m.frame m.at h) h (untyping m.frame m.at h) free
-    by_act (comp_act m) h opens has free = apart (holds_comp m m.at h) h (comp m m.at h) free
-    by_act (invoke_act m) h opens has free = none h free
-    by_act (return_act m) h opens has free = none h free
-    by_act (refill_act r) h opens has free = none h free
     by_act (share_act p) h opens has free = shares p p.at h (tcap_no_thread ((state_after setup t).frame p.a) has.tcap_a.tcap) (none h free)
     by_act (switch_act m) h opens has free = switching m m.at h has.leaves.thread (none h free)
+    by_act act h opens has free =
+        apart (holds_act act h) h (all_beside (phases_of act).keeps h (EntryAt f i) (entry_beside act f i tt)).0 free
 
     by_tail : (tail : Tail) (h : Holding) → KnowsTail setup t d a.call a.counts tail → h.marks (EntryAt f i) ≡ false
         → Claimed (holds_tail tail h)

@@ -3,19 +3,17 @@ use Rattle.flight.specs.kept_facts.proofs as low
 use low.{◌≡◌, ◌<◌, inl, inr, ℕ, zero, suc, true, false, if◌then◌else◌, Option, Some, None, IsTrue, arith, refl, sym, ◌∙◌, ap, subst}
 use low.{false≢true, Setting, IsSetting, Call, HeadFits, word_of_head, head_of_word, HeadWord, spelling, EntryAt, same_same, Frame, Kernel}
 use low.{Table, Leaf, Pages, Pleaf, Thread, State, fits, is_node, Trace, Open, phase, state_after, last_left, cases_word, same_word-other}
-use low.{AtCompare, AtDraw, AtStore, marked, Pair, PairAt, CompAt, CompMaking, KillingAt, LoadComp, LoadLive, MakingAt, Mark, Store}
-use low.{Switching, SwitchAt, UntypingAt, release_of, Outside, Work, Lookup, Read, Scan, Acquire, Act, Stage, Enter, Living, Undecided}
-use low.{Decided, Leave, ActiveCall, Core, swept_of, holds_untyping, Holding, keeps, holds_counts, holds_switching, claimed_by, HeadIs}
-use low.{KnowsAct, KnowsWork, KnowsAt, CallIs, phase_at, KnowsPairAt, holds_act, holds_making, holds_killing, holds_comp, holds_share}
-use low.{holds_head, holds_work, holds_at, holds_in, holds, Invariant, slot_relies, release_entry, Close as kill_close, Draw as kill_draw}
-use low.{Load as making_load, Fill as fill_act, Remove as remove_act, Tick as tick_act, Touch as touch_act, Flush as flush_act}
-use low.{Kill as kill_act, Untype as untype_act, Map as map_act, MakeComp as comp_act, Invoke as invoke_act, Return as return_act}
-use low.{Share as share_act, Refill as refill_act, Switch as switch_act, is_tcap, plan_for, Kind}
-use Rattle.flight.specs.core_invariant.specs.{nothing, HasMarkedA, Retype as type_act, Make as make_act, Claim}
+use low.{AtCompare, AtDraw, AtStore, marked, Pair, PairAt, Switching, SwitchAt, Work, Lookup, Read, Scan, Acquire, Act, Stage, Enter}
+use low.{Living, Undecided, Decided, Leave, ActiveCall, Core, Holding, keeps, holds_counts, holds_switching, claimed_by, HeadIs, KnowsAct}
+use low.{KnowsWork, KnowsAt, CallIs, phase_at, KnowsPairAt, holds_act, holds_share, holds_head, holds_work, holds_at, holds_in, holds}
+use low.{Invariant, slot_relies, Remove as remove_act, Share as share_act, Switch as switch_act, is_tcap, plan_for, Kind}
+use Rattle.flight.specs.core_invariant.specs.{nothing, HasMarkedA, Claim}
 use Rattle.flight.specs.thread_invariant.proofs.{counts_apart, holder_below, own_thread}
 use Rattle.flight.specs.{cores_after, IsMade}
-use Rattle.flight.specs.act_states.specs.{declared.makings.MakingAt.TheVariants.Fill as making_fill, declared.work.Act.Act as ActOf}
+use Rattle.flight.specs.act_states.specs.{declared.work.Act.Act as ActOf}
 use Rattle.{flight.specs.pair_invariant.proofs.ShareSteps.marked_says, history_laws.specs.Time.OpenHeadsSay, flight.proofs.Made.made_stands}
+use Rattle.flight.specs.core_invariant.proofs.Keepings.{all_beside, entry_beside}
+use Rattle.flight.specs.act_states.specs.{phases_of}
 use Rattle.flight.specs.kernel_history.specs.Trace as history
 
 pub node_no_tcap : (x : Frame) → IsTrue (is_node x) → is_tcap x ≡ false
@@ -99,61 +97,22 @@ module _ (setup : Setting) (setting : IsSetting setup) (cores : ℕ → Core) (t
   switching m (SwitchAt.Draw to table pages) h own other free =
       beside (keeps (EntryAt m.old 0) 0 h) to.thread 0 0 (beside h m.old 0 0 free own) other
 
-  making : (g : ℕ) (at : MakingAt) (h : Holding) → (holds_making g at h).marks (EntryAt f 0) ≡ h.marks (EntryAt f 0)
-  making g making_load h = refl
-  making g (Mark word) h = refl
-  making g (Store word entry) h = refl
-  making g (making_fill word) h = refl
-
-  killing : (at : KillingAt) (h : Holding) → (holds_killing at h).marks (EntryAt f 0) ≡ h.marks (EntryAt f 0)
-  killing LoadComp h = refl
-  killing (LoadLive life) h = refl
-  killing (kill_close life word) h = refl
-  killing (kill_draw life word) h = refl
-
-  comp : (m : CompMaking) (at : CompAt) (h : Holding) → (holds_comp m at h).marks (EntryAt f 0) ≡ h.marks (EntryAt f 0)
-  comp m CompAt.Load h = refl
-  comp m (CompAt.Mark word) h = refl
-  comp m (CompAt.LoadLive word) h = refl
-  comp m (CompAt.Scan word last q) h = refl
-  comp m (CompAt.Close word last) h = refl
-  comp m (CompAt.Store word last entry) h = refl
-  comp m (CompAt.Fill word last) h = refl
-
-  untyping : (g : ℕ) (at : UntypingAt) (h : Holding) → (holds_untyping g at h).marks (EntryAt f 0) ≡ h.marks (EntryAt f 0)
-  untyping g UntypingAt.Load h = refl
-  untyping g (UntypingAt.Mark word v) h = refl
-  untyping g (UntypingAt.Sweep word w) h = (release_entry (release_of g word (swept_of w) false) h f 0).0
-  untyping g (UntypingAt.Draw word w) h = (release_entry (release_of g word w false) h f 0).0
-
   own_no_tcap : (g : ℕ) → g ≡ (s.core d).thread → is_tcap (s.frame g) ≡ false
   own_no_tcap g own = ap (λ (n : ℕ). is_tcap (s.frame n)) own ∙ ap is_tcap (own_thread setup setting t stands.legal d below)
 
   module _ (a : ActiveCall) where
     by_act : (act : ActOf) (h : Holding) → phase t d ≡ Open a.call → KnowsAct setup t d a.call (plan_for a.call) a.found setup.cores act
         → IsFree h → Tells (holds_act act h)
-    by_act (fill_act fill) h opens has free = none h free
     by_act (remove_act (AtCompare n index word by) cap) h opens has free = none h free
     by_act (remove_act (AtDraw n index) cap) h opens has free = none (holds_act (remove_act (AtDraw n index) cap) h)
         (beside h n index 0 free (node_no_tcap (s.frame n)
         (slot_relies setup setting t stands.legal d a.call opens has.target (record { node = n; index = index }) has.way).node))
     by_act (remove_act (AtStore n index x) cap) h opens has free = none h free
-    by_act (type_act typing) h opens has free = none h free
-    by_act (make_act m) h opens has free = none (holds_making m.frame m.at h) (making m.frame m.at h ∙ free)
-    by_act (map_act fill) h opens has free = none h free
-    by_act (Outside n entry word) h opens has free = none h free
-    by_act (tick_act charge) h opens has free = none h free
-    by_act (touch_act m) h opens has free = none h free
-    by_act (flush_act by) h opens has free = none h free
-    by_act (kill_act m) h opens has free = none (holds_killing m.at h) (killing m.at h ∙ free)
-    by_act (untype_act m) h opens has free = none (holds_untyping m.frame m.at h) (untyping m.frame m.at h ∙ free)
-    by_act (comp_act m) h opens has free = none (holds_comp m m.at h) (comp m m.at h ∙ free)
-    by_act (invoke_act m) h opens has free = none h free
-    by_act (return_act m) h opens has free = none h free
-    by_act (refill_act r) h opens has free = none h free
     by_act (share_act p) h opens has free = shares p p.at h has.at has.core free
     by_act (switch_act m) h opens has free = none (holds_switching m m.at h) (switching m m.at h (own_no_tcap m.old has.leaves.thread)
         (thread_no_tcap (s.frame (claimed_by m.at)) has.thread.thread) free)
+    by_act act h opens has free =
+        none (holds_act act h) ((all_beside (phases_of act).keeps h (EntryAt f 0) (entry_beside act f 0 tt)).0 ∙ free)
 
     by_work : (table : ℕ) (work : Work) → phase t d ≡ Open a.call → KnowsWork setup t d table a work
         → Tells (holds_work work (holds_counts None a.counts))

@@ -56,43 +56,17 @@ make_target _ r u b = refl
 
 -- A call whose target is a page of its own has no names.
 pub own_unnamed : (call : Call) (v : ℕ) → (plan_for call).target ≡ own_page v → (plan_for call).names ≡ []
-own_unnamed (look_call a) v is = absurd (cc)
-own_unnamed (Copy a u b rights) v is = absurd (cc)
-own_unnamed (Replenish x m) v is = absurd (cc)
-own_unnamed (Part r f n u b) v is = absurd (cc)
-own_unnamed (Grow u i l) v is = absurd (cc)
-own_unnamed (Remove u b) v is = absurd (cc)
-own_unnamed (Shrink u i) v is = absurd (cc)
-own_unnamed (Map p n r f w) v is = absurd (cc)
-own_unnamed (Unmap p n) v is = absurd (cc)
 own_unnamed (Retype r f FrameKind.Untyped) v is = absurd (cc)
-own_unnamed (Retype r f FrameKind.User) v is = absurd (cc)
-own_unnamed (Retype r f FrameKind.Kernel) v is = absurd (cc)
 own_unnamed (make_call what r f u b) v is = absurd (not_own (sym (make_target what r u b) ∙ is))
   where
     not_own : Free (Spot.Under Second b) ≡ own_page v → ⊥
     not_own h = cc
 own_unnamed (Touch w) v is = refl
-own_unnamed Flush v is = absurd (cc)
-own_unnamed (Tick n) v is = absurd (cc)
-own_unnamed (Gate k u b) v is = absurd (cc)
-own_unnamed (Kill n) v is = absurd (cc)
-own_unnamed (call_gate n) v is = absurd (cc)
-own_unnamed Ret v is = absurd (cc)
-own_unnamed (Transfer x y m) v is = absurd (cc)
-own_unnamed (Delegate x y m) v is = absurd (cc)
-own_unnamed (Test x y) v is = absurd (cc)
-own_unnamed (Switch x y) v is = absurd (cc)
+own_unnamed _ v is = absurd (cc)
 
--- A target is somewhere.
+-- A place that is to be free is somewhere.
 pub free_somewhere : (spot : Spot) → Free spot ≡ Nowhere → ⊥
 free_somewhere spot h = cc
-
-pub held_somewhere : (spot : Spot) → Held spot ≡ Nowhere → ⊥
-held_somewhere spot h = cc
-
-pub own_somewhere : (v : ℕ) → own_page v ≡ Nowhere → ⊥
-own_somewhere v h = cc
 
 -- What is looked up first is all that is looked up of one name.
 pub none_after : (ks : List Capability) → names_after [] ks ≡ []

@@ -2,17 +2,17 @@
 use Rattle.comp_invariant.specs as low
 use low.step_ways.proofs.{◌≡◌, inl, inr, ℕ, suc, negsuc, ◌≢◌, ◌<◌, ◌≤◌, ◌+◌, map, length, arith, Bool, true, false, if◌then◌else◌, IsTrue}
 use low.step_ways.proofs.{List, [], ◌∷◌, ◌++◌, Option, Some, None, refl, sym, ◌∙◌, ap, subst, eq-eqb, Capability, Setting, IsSetting, Call}
-use low.step_ways.proofs.{Copy, Shrink, Unmap, Retype, Gate, Grow, Ret, Transfer, Delegate, Test, Reply, Entry, entry_of_word, EntryAt}
+use low.step_ways.proofs.{Retype, Ret, Transfer, Delegate, Test, Reply, Entry, entry_of_word, EntryAt}
 use low.step_ways.proofs.{LoadOf, word_of, State, Thing, PlaceOf, comp_of, Slot, place_at, held_in, reached, own, RuleMay, Refused, named}
 use low.step_ways.proofs.{vacant, rule_of, change_of, Step, Trace, Open, phase, state_after, last_left, wide_ways, is_slot_in, Carries}
-use low.step_ways.proofs.{own_read-here, shown_in, look_move, Look, First, Second, Name, Spot, Nowhere, Plan, plan_for, of_kind, GoesBy}
+use low.step_ways.proofs.{own_read-here, shown_in, look_move, Look, Second, Name, Spot, Nowhere, Plan, plan_for, of_kind, GoesBy}
 use low.step_ways.proofs.{own_pages, names_after, Leads, LeadsIn, Next, NextName, NextFree, NextHeld, next_of, calls_go, leads_by, Lookup}
 use low.step_ways.proofs.{Scan, Undecided, ActiveCall, FrameKind, only_is, Goes, Acquired, reads_of, dues, next_work, starts, stamp_shown}
 use low.step_ways.proofs.{act_begun, CountsAt, HasRoom, holds_counts, due_of, ReadIs, MayFill, KnowsAct, LooksUp, own_in, HasFound}
 use low.step_ways.proofs.{NamesAre, KnowsUndecided, phase_at, Quiet, quiet_scan, clock, landed, found_more, Core, holds_at, holds_in}
-use low.step_ways.proofs.{Invariant, names_on, limits_of, Want, Part, Replenish, Make as make_call, Target as place, Found as Found_it}
+use low.step_ways.proofs.{Invariant, names_on, limits_of, Want, Replenish, Make as make_call, Target as place, Found as Found_it}
 use low.step_ways.proofs.{next_by as what_next, OnlyLooks, next_at, call_is, is_active, loads_on, GoodTook, Refusal}
-use low.act_states.specs.{Remove, Tick, Kill, Touch, Flush, Map, Switch, root_at, with_found, NextOwn, NextNothing, fills_page, has_rights}
+use low.act_states.specs.{Tick, Kill, Flush, Switch, root_at, with_found, NextOwn, NextNothing, fills_page, has_rights}
 use low.act_states.specs.{want_of, earlier, next_in, Range as range_kind, scans, met_right, met_name, met_free, met_held}
 use low.count_invariant.proofs.{knows_next, next_holds, one_apart, Shows, Arrives, own_is, found_named, Rest, ANameLeft, NoneLeft, rest_of}
 use low.kernel_rules.specs.{has_no_slot, to_look, Look as look_call, any, held}
@@ -30,8 +30,8 @@ use low.count_invariant.proofs.Findings.{reaches_none, reaches_held, reaches_oth
 use low.count_invariant.proofs.Findings.{named_of, named_no_slot, named_empty, named_wrong, named_lacking, arriving, reached_now, found_now}
 use Rattle.work_invariant.proofs.{AtName.IsTypedBy, AtName.one_name, AtName.ranges_good, AtName.looked_good, ByCall.none_after}
 use Rattle.work_invariant.proofs.{ByCall.vacant_no_slot, ByCall.vacant_occupied, ByCall.held_no_slot, ByCall.held_empty, ByCall.make_target}
-use Rattle.work_invariant.proofs.{ByCall.BeginsRemoval, ByCall.begins_removal, ByCall.free_somewhere, ByCall.held_somewhere}
-use Rattle.work_invariant.proofs.{ByCall.own_somewhere, AtTarget.Begins, AtTarget.begins_free, AtTarget.range_within, FoundFits.found_fits}
+use Rattle.work_invariant.proofs.{ByCall.BeginsRemoval, ByCall.begins_removal, ByCall.free_somewhere}
+use Rattle.work_invariant.proofs.{AtTarget.Begins, AtTarget.begins_free, AtTarget.range_within, FoundFits.found_fits}
 use Rattle.work_invariant.proofs.{ScanStarts.ScanStarts, ScanStarts.scan_starts, NextLooks.next_good}
 use low.{count_invariant.proofs.next_name, count_invariant.proofs.next_end, plan_ways.specs.NextPlace, plan_ways.specs.NextRefused}
 use low.{call_plans.proofs.next_may, call_plans.proofs.few_names, kernel_history.specs.Ways.wide_way_to, spk_nums.specs.Rights.neither}
@@ -210,16 +210,9 @@ module _ (setup : Setting) (setting : IsSetting setup) (cores : ℕ → Core) (t
         (landed (found_more a ks) (act_begun (cores c).own (look_call n) ks None None))) (sym more_is)
         (looked_good setup setting cores t stands c here a active opens held_is no_counts room at looks n
         (subst (λ (m : ℕ). Arrives setup t c (own_in table m) at) (ap (λ (x : Name). x.number) only_one.1) arrives) k named_it is has.acts)
-    acts_at_name (Copy b u v rights) is nowhere none = absurd (free_somewhere (Spot.Under Second v) nowhere)
     acts_at_name (Replenish x m) is nowhere none =
         refills_good setup setting cores t stands c here a active opens held_is no_counts room goes_by (LoadOf (EntryAt at.node at.index))
         looks has.acts more leads_then none names_then x m is
-    acts_at_name (Part r f n u v) is nowhere none = absurd (free_somewhere (Spot.Under Second v) nowhere)
-    acts_at_name (Grow u i l) is nowhere none = absurd (free_somewhere (Spot.InRoot First i) nowhere)
-    acts_at_name (Remove u v) is nowhere none = absurd (held_somewhere (Spot.Under First v) nowhere)
-    acts_at_name (Shrink u i) is nowhere none = absurd (held_somewhere (Spot.InRoot First i) nowhere)
-    acts_at_name (Map p v r f w) is nowhere none = absurd (free_somewhere (Spot.Under First v) nowhere)
-    acts_at_name (Unmap p v) is nowhere none = absurd (held_somewhere (Spot.Under First v) nowhere)
     acts_at_name (Retype r f FrameKind.Untyped) is nowhere none =
         range_at_name r f FrameKind.Untyped is refl (inr (refl, refl))
     acts_at_name (Retype r f FrameKind.User) is nowhere none =
@@ -228,7 +221,6 @@ module _ (setup : Setting) (setting : IsSetting setup) (cores : ℕ → Core) (t
         range_at_name r f FrameKind.Kernel is refl (inl ((λ h. cc), refl))
     acts_at_name (make_call what r f u b) is nowhere none =
         absurd (free_somewhere (Spot.Under Second b) (sym (make_target what r u b) ∙ nowhere))
-    acts_at_name (Gate n u b) is nowhere none = absurd (free_somewhere (Spot.Under Second b) nowhere)
     acts_at_name (Kill n) is nowhere none =
         let plan_kill : plan_for a.call ≡ plan_for (Kill n) = ap plan_for is in
         let only_one = one_name (plan_for a.call).names (of_kind comp_kind n) name rest a.found k.kind
@@ -259,7 +251,6 @@ module _ (setup : Setting) (setting : IsSetting setup) (cores : ℕ → Core) (t
         (λ carries. subst (λ (ks : List Capability). NamesAre setup (e ∷ t) c table (plan_for a.call) ks) more_is (names_then carries))
         has.acts)
     acts_at_name Ret is nowhere none = absurd (is_named (ap (λ (p : Plan). p.names) (ap plan_for is)))
-    acts_at_name (Touch v) is nowhere none = absurd (own_somewhere v nowhere)
     acts_at_name Flush is nowhere none = absurd (is_named (ap (λ (p : Plan). p.names) (ap plan_for is)))
     acts_at_name (Tick n) is nowhere none = absurd (is_named (ap (λ (p : Plan). p.names) (ap plan_for is)))
     acts_at_name (Transfer x y m) is nowhere none =
@@ -274,6 +265,8 @@ module _ (setup : Setting) (setting : IsSetting setup) (cores : ℕ → Core) (t
     acts_at_name (Switch x y) is nowhere none =
         switches_good setup setting cores t stands c here a active opens held_is no_counts (LoadOf (EntryAt at.node at.index))
         looks more leads_then none names_then x y is has.acts
+    -- the others have a target
+    acts_at_name _ is nowhere none = absurd (cc)
 
     -- the name is found
     found_good : GoodTook setup cores t c (LoadOf (EntryAt at.node at.index)) (named_one (cores c).own a (Finds k))

@@ -8,18 +8,18 @@ use low.step_ways.proofs.{acts, IsTrue, is_live_in, is_one_of, footprint_frames,
 use low.step_ways.proofs.{marked_by, mark_in_frame, live_mark, live_of_word, comp_of_word, LiveWord, CompWord, Living, Undecided}
 use low.step_ways.proofs.{ActiveCall, Core, GoesOn, landed, refuse, went, NamesAre, Invariant, HasComp, holds_at, holds_in, holds_counts}
 use low.step_ways.proofs.{held_by, settled_by, IsFrameWord, NumberIs, may_keep, not_exclusive_value, phase_at, HasRoom, CountsAt, Acquired}
-use low.step_ways.proofs.{due_of, AtComp, plan_for, Plan, Act, RuleMay, Refused, rule_of, change_of, found_more, Retype, Copy, Grow, Shrink}
-use low.step_ways.proofs.{Unmap, Gate, Ret, Transfer, Delegate, Test, Relies, Capability, false≢true, Make as make_call, Part, Replenish}
+use low.step_ways.proofs.{due_of, AtComp, plan_for, Plan, Act, RuleMay, Refused, rule_of, change_of, found_more, Retype}
+use low.step_ways.proofs.{Ret, Relies, Capability, false≢true, Make as make_call}
 use low.step_ways.proofs.{Touch as touch_act, next_of, next_by as what_next, OnlyLooks, step_to, call_is, is_active, loads_on, GoodTook}
 use low.step_ways.proofs.{refuses_busy, ticks_at, Reply, Refusal}
-use low.act_states.specs.{asks_life, Alive, AtLive, translation_of, Touch, Remove, Map, Flush, Kill, Switch, Tick, alive_after, alive_end}
+use low.act_states.specs.{asks_life, Alive, AtLive, translation_of, Touch, Flush, Tick, alive_after, alive_end}
 use low.act_states.specs.stage_thread.specs.{alive_move, comp_after, comp_end, live_end, number_end, lives_end}
-use low.act_states.specs.stage_tcap.specs.{Untyped, User, Kernel as to_kernel, Look as look_call, Make}
+use low.act_states.specs.stage_tcap.specs.{Untyped, User, Kernel as to_kernel, Make}
 use low.kernel_history.specs.{footprint_numbers, number_argument, number_in}
 use low.kernel_rules.specs.{lives, may_act, outlives}
 use Rattle.switch_invariant.specs.live_invariant.proofs.Numbers.{no_number, shows_live, lives_as_shown, shows_some}
 use low.{act_states.specs.touches_if, act_states.specs.next_step, call_stages.specs.IsFirst, call_stages.specs.took_alive}
-use low.{core_invariant.specs.Knows.KnowsAlive, spk_nums.specs.declared.calls.Call.TheVariants.Call as call_gate}
+use low.{core_invariant.specs.Knows.KnowsAlive}
 use low.{trace_laws.proofs.Stays.relies_pages, plan_ways.proofs.InFootprint.one_right, act_states.specs.Touches.touching}
 use low.{act_states.specs.Touches.touches, step_ways.proofs.Refusals.refuses_asking, step_ways.proofs.Refusals.refuses_no_slot}
 use low.{count_invariant.proofs.StackCounts.top_footprint}
@@ -30,36 +30,15 @@ use Rattle.{page_invariant.proofs.TouchCalls.past_first, work_invariant.proofs.N
 
 -- A call that asks for life looks up a name first, or touches a page.
 named_or_touch : (call : Call) → IsTrue (asks_life call) → ((plan_for call).names ≡ [] → ⊥) ⊎ ((v : ℕ) × (call ≡ Touch v))
-named_or_touch (look_call n) asks = inl (λ h. cc)
-named_or_touch (Copy n u b rights) asks = inl (λ h. cc)
-named_or_touch (Replenish x m) asks = inl (λ h. cc)
-named_or_touch (Part r f n u b) asks = inl (λ h. cc)
-named_or_touch (Grow u i l) asks = inl (λ h. cc)
-named_or_touch (Remove u b) asks = inl (λ h. cc)
-named_or_touch (Shrink u i) asks = inl (λ h. cc)
-named_or_touch (Map p v r f w) asks = inl (λ h. cc)
-named_or_touch (Unmap p v) asks = inl (λ h. cc)
 named_or_touch (Retype r f Untyped) asks = inl (λ h. cc)
 named_or_touch (Retype r f User) asks = inl (λ h. cc)
 named_or_touch (Retype r f to_kernel) asks = inl (λ h. cc)
 named_or_touch (make_call Make.Table r f u b) asks = inl (λ h. cc)
-named_or_touch (make_call Make.Leaf r f u b) asks = inl (λ h. cc)
-named_or_touch (make_call Make.Pages r f u b) asks = inl (λ h. cc)
-named_or_touch (make_call Make.Pleaf r f u b) asks = inl (λ h. cc)
-named_or_touch (make_call (Make.Thread comp) r f u b) asks = inl (λ h. cc)
-named_or_touch (make_call (Make.Tcap sched quality) r f u b) asks = inl (λ h. cc)
-named_or_touch (make_call (Make.Comp x p live) r f u b) asks = inl (λ h. cc)
 named_or_touch (Touch v) asks = inr (v, refl)
 named_or_touch Flush asks = absurd (false≢true asks)
-named_or_touch (Gate n u b) asks = inl (λ h. cc)
-named_or_touch (Kill n) asks = inl (λ h. cc)
-named_or_touch (call_gate n) asks = inl (λ h. cc)
 named_or_touch Ret asks = absurd (false≢true asks)
-named_or_touch (Switch x y) asks = inl (λ h. cc)
 named_or_touch (Tick n) asks = absurd (false≢true asks)
-named_or_touch (Transfer x y m) asks = inl (λ h. cc)
-named_or_touch (Delegate x y m) asks = inl (λ h. cc)
-named_or_touch (Test x y) asks = inl (λ h. cc)
+named_or_touch _ asks = inl (λ h. cc)
 
 module _ (setup : Setting) (setting : IsSetting setup) (cores : ℕ → Core) (t : Trace) (stands : Invariant setup cores t) (c : ℕ)
     (here : c < setup.cores)
