@@ -3,6 +3,8 @@ pub mod Trace
 pub mod Seats
 pub mod Positions
 pub mod Rule
+pub mod Hands
+pub mod OpenSeats
 -- The names that are used most outside of this library.
 pub use Rattle.turn_rule.specs.Positions.{SpreadValue}
 pub use Rattle.turn_rule.specs.Rule.{part, Begins, Kept, Stays, IsSeated, start_of}

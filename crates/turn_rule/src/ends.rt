@@ -70,7 +70,7 @@ impl<P: CoreProgram> TurnTable<P> {
             let seat = self.table.shared.split_seat::<Deals>(&mut rest);
             let core = seats.len();
             seats.push(TurnSeat {
-                seat,
+                hand: Some(seat),
                 core,
                 program,
             })?;
@@ -138,11 +138,7 @@ impl<P: CoreProgram> TurnTable<P> {
     {
         let shared = &self.table.shared;
         for one in seats {
-            let TurnSeat {
-                seat,
-                core: _,
-                program,
-            } = one;
+            let (seat, program) = one.into_parts();
             shared.join_seat::<Takes>(all, seat);
             shared.load::<Gathers<P>>(all, 0);
             programs.push_reserved(program);

@@ -31,6 +31,7 @@ mod spread;
 mod table;
 mod threads;
 mod view;
+mod whole;
 
 pub use program::CoreProgram;
 pub use seat::{TurnNote, TurnSeat};
@@ -38,3 +39,4 @@ pub use spread::Spread;
 pub use table::TurnTable;
 pub use threads::cross_threads;
 pub use view::{Entry, Start};
+pub use whole::{TurnWords, WholeProgram};

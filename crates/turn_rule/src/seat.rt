@@ -1,6 +1,8 @@
 //! The handle with which a core steps, and the note of what it has seen.
 
-ghost use Rattle.std.specs.Prelude.{◌≡◌};
+ghost use Rattle.std.specs.Prelude.{◌≡◌, Some};
+ghost use Rattle.turn_rule.specs.Rule.{IsSeated};
+ghost use Rattle.turn_rule.specs.Hands.{seat_of};
 ghost use Rattle.turn_rule.specs.Seats.{FollowsTrace};
 
 use crate::program::CoreProgram;
@@ -11,7 +13,8 @@ use std::marker::Model;
 /// The seat of a core at a table. It has the core's program and has seen a trace, which has all steps of the core.
 #[derive(Drop)]
 pub struct TurnSeat<P: CoreProgram> {
-    pub(crate) seat: Seat<(), View<P, P::Call>>,
+    // The hand with which the core steps. It is away only while the program makes a whole call with it.
+    pub(crate) hand: Option<Seat<(), View<P, P::Call>>>,
     pub(crate) core: usize,
     pub(crate) program: P,
 }
@@ -21,16 +24,11 @@ impl<P: CoreProgram> Model for TurnSeat<P> {
 
     ghost Value = { SeatValue P P.Call };
 
-    ghost use Rattle.turn_rule.specs.Rule.{IsSeated};
+    ghost use Rattle.turn_rule.specs.Hands.{seat_of, IsHeld};
 
-    ghost view = { λ s. let own = s.seat.me.0.own in record {
-      table = record { id = s.seat.table_id; start = own.start };
-      core = s.core;
-      seen = own.seen;
-      program = s.program;
-    } };
+    ghost view = { λ s. seat_of s.hand s.core s.program };
 
-    ghost invariant = { λ s. IsSeated P.steps s.core s.seat.me s.program };
+    ghost invariant = { λ s. IsHeld P.steps s.hand s.core s.program };
 }
 
 /// A note of the trace that a seat had seen. It may be dropped, which changes nothing.
@@ -55,6 +53,22 @@ impl<P: CoreProgram> Model for TurnNote<P> {
 }
 
 impl<P: CoreProgram> TurnSeat<P> {
+    // The hand and the program.
+    pub(crate) fn into_parts(self) -> (Seat<(), View<P, P::Call>>, P)
+        ensures value { self ≡ seat_of (Some result.0) self.core result.1 }
+        ensures seated { IsSeated P.steps self.core result.0.me result.1 }
+    {
+        let TurnSeat {
+            hand,
+            core: _,
+            program,
+        } = self;
+        match hand {
+            Some(hand) => (hand, program),
+            None => unreachable!(),
+        }
+    }
+
     /// The core's program. Its contract also says what holds of every seat: its trace is sound and gives the program.
     #[inline]
     pub fn program(&self) -> &P

@@ -2,6 +2,7 @@
 
 ghost use Rattle.std.specs.Prelude.{◌≡◌, ◌<◌, ◌↔◌, length, Some, None, IsTrue, IsNone, IsSome, IsSomeAnd, MatchOption};
 ghost use Rattle.turn_rule.specs.Rule.{Goes, IsDue};
+ghost use Rattle.turn_rule.specs.Hands.{IsHandDue, HandGoes};
 ghost use Rattle.turn_rule.specs.Seats.{FollowsTrace, MakesCall, MakesStep, Meets};
 
 use crate::plays::{CatchesUp, Makes, Notes, Said, Takes};
@@ -50,7 +51,11 @@ impl<P: CoreProgram> TurnTable<P> {
     // Makes the step `op`, which W names, and which is due once the call that W names, if any, is begun. It returns the
     // word that the program is told: the word found, or for a store the word stored.
     #[inline(always)]
-    fn make<W: Said<P::Call>>(&self, seat: &mut Seat<(), View<P, P::Call>>, op: WordOp) -> u64
+    pub(crate) fn make<W: Said<P::Call>>(
+        &self,
+        seat: &mut Seat<(), View<P, P::Call>>,
+        op: WordOp,
+    ) -> u64
         requires said { W.op ≡ op }
         requires table { seat.old.table_id ≡ self.now.id }
         requires due { IsDue P.steps (length self.now.start.words) seat.old.me W.call op }
@@ -75,22 +80,36 @@ impl<P: CoreProgram> TurnTable<P> {
         }
     }
 
+    // Makes the step as `make` does, with the hand of a seat.
+    #[inline(always)]
+    fn make_held<W: Said<P::Call>>(
+        &self,
+        hand: &mut Option<Seat<(), View<P, P::Call>>>,
+        op: WordOp,
+    ) -> u64
+        requires said { W.op ≡ op }
+        requires due { IsHandDue P.steps self.now hand.old W.call op }
+        ensures goes { HandGoes P.steps hand.old W.call op result hand.new }
+    {
+        match hand {
+            Some(seat) => self.make::<W>(seat, op),
+            None => unreachable!(),
+        }
+    }
+
     // Makes the first step of the call that was `said`, which is begun. It gives the proof a place to name the call.
     #[inline(always)]
     fn make_first<W: Said<P::Call>>(
         &self,
-        seat: &mut Seat<(), View<P, P::Call>>,
+        hand: &mut Option<Seat<(), View<P, P::Call>>>,
         op: WordOp,
         said: &Snapshot<P::Call>,
     ) -> u64
         requires said { (W.call ≡ Some said.now.value) × (W.op ≡ op) }
-        requires table { seat.old.table_id ≡ self.now.id }
-        requires due { IsDue P.steps (length self.now.start.words) seat.old.me (Some said.now.value) op }
-        ensures table { seat.new.table_id ≡ seat.old.table_id }
-        ensures goes { Goes P.steps seat.old.me.0.own (Some said.now.value) op result seat.new.me.0.own
-            × (seat.new.me.1 ≡ seat.old.me.1) }
+        requires due { IsHandDue P.steps self.now hand.old (Some said.now.value) op }
+        ensures goes { HandGoes P.steps hand.old (Some said.now.value) op result hand.new }
     {
-        self.make::<W>(seat, op)
+        self.make_held::<W>(hand, op)
     }
 
     /// Makes the core's next step, and says whether there was one. Without one the seat stays as it is.
@@ -107,7 +126,7 @@ impl<P: CoreProgram> TurnTable<P> {
         match seat.program.next_op() {
             None => false,
             Some(op) => {
-                let found = self.make::<Brand>(&mut seat.seat, op);
+                let found = self.make_held::<Brand>(&mut seat.hand, op);
                 seat.program.absorb(found);
                 true
             }
@@ -126,7 +145,7 @@ impl<P: CoreProgram> TurnTable<P> {
         let said = Snapshot::of(&call);
         seat.program.begin(call);
         let op = seat.program.next_op().unwrap();
-        let found = self.make_first::<Brand>(&mut seat.seat, op, &said);
+        let found = self.make_first::<Brand>(&mut seat.hand, op, &said);
         seat.program.absorb(found);
     }
 
@@ -149,8 +168,11 @@ impl<P: CoreProgram> TurnTable<P> {
         ensures same { seat.new ≡ seat.old }
         ensures note { (result.table ≡ seat.old.table) × (result.seen ≡ seat.old.seen) }
     {
-        TurnNote {
-            seat: self.table.shared.split_seat::<Notes>(&mut seat.seat),
+        match &mut seat.hand {
+            Some(hand) => TurnNote {
+                seat: self.table.shared.split_seat::<Notes>(hand),
+            },
+            None => unreachable!(),
         }
     }
 
@@ -162,7 +184,12 @@ impl<P: CoreProgram> TurnTable<P> {
     {
         let TurnNote { seat: told } = note;
         let shared = &self.table.shared;
-        shared.join_seat::<Takes>(&mut seat.seat, told);
-        shared.load::<CatchesUp<P>>(&mut seat.seat, 0);
+        match &mut seat.hand {
+            Some(hand) => {
+                shared.join_seat::<Takes>(hand, told);
+                shared.load::<CatchesUp<P>>(hand, 0);
+            }
+            None => unreachable!(),
+        }
     }
 }

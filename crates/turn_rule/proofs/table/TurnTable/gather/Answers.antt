@@ -15,8 +15,8 @@ join_seat-requires g c =
     let here = slice_get_read c.args.seats.items (length c.args.seats.items) (length c.loop-one.yielded) c.in-Some.one refl turn.0 turn.1 in
     let id = sym (ap (λ t. t.id) c.self.view_is) in (
       c.loop-one.invariant.table ∙ c.requires.table.0 ∙ id,
-      ap (λ z. z.table.id) c.one.view_is ∙ ap (λ t. t.id) (c.requires.seats.table _ _ here) ∙ id,
-      c.one.invariant.no_slot,
+      ap (λ z. z.table.id) (sym c.into_parts-seat.ensures.value) ∙ ap (λ t. t.id) (c.requires.seats.table _ _ here) ∙ id,
+      c.into_parts-seat.ensures.seated.no_slot,
       c.self.invariant.0,
       takes g.P.CoreProgram.steps _ _ _ _ _ _,
     )
@@ -31,8 +31,8 @@ load-requires g c =
     let i = c.loop-one.invariant in
     let me = c.join_seat.new.seat.me in
     let live : me.0.own.live ≡ true = ap (λ z. z.0.own.live) is ∙ i.all.live in
-    let core = ap (λ z. z.core) c.one.view_is ∙ c.requires.seats.core _ _ here in
-    let next : me.0.told.from ≡ me.0.own.to = ap (λ z. z.0.told.from) is ∙ c.one.invariant.from ∙ core ∙ sym i.all.end
+    let core = c.requires.seats.core _ _ here in
+    let next : me.0.told.from ≡ me.0.own.to = ap (λ z. z.0.told.from) is ∙ c.into_parts-seat.ensures.seated.from ∙ core ∙ sym i.all.end
     ∙ sym (ap (λ z. z.0.own.to) is) in (
       c.join_seat.ensures.0 ∙ i.table ∙ c.requires.table.0 ∙ sym (ap (λ t. t.id) c.self.view_is),
       c.self.invariant.0,
@@ -53,18 +53,19 @@ loop-one-preserved g c =
     let i = c.loop-one.invariant in
     let x = c.load.new.seat.me.0.own in
     let v = c.loop-one.all.me.0.own in
-    let w = c.one.inside.seat.me.0.own in
-    let core = ap (λ z. z.core) c.one.view_is ∙ c.requires.seats.core _ _ here in
+    let its = c.into_parts-seat.ensures.seated in
+    let w = c.into_parts-seat.result.0.me.0.own in
+    let core = c.requires.seats.core _ _ here in
     let got : Gathers T v w w.to x = subst (λ (z : View g.row.P.Denot g.row.P-Call.Denot). Gathers T z.own z.told z.told.to x)
     (ap (λ z. z.0) c.join_seat.ensures.2) c.load.ensures.2.0 in
-    let all = gathered_on T c.one.inside.core n c.args.all.now.me.0.own
-    v c.one.inside.seat.me x c.one.inside.program c.requires.table.1 i.all c.one.invariant core got in
+    let all = gathered_on T one.core n c.args.all.now.me.0.own
+    v c.into_parts-seat.result.0.me x c.into_parts-seat.result.1 c.requires.table.1 i.all its core got in
     let more = length_push c.loop-one.yielded one in
     let count = i.count in
     let low = i.all.from ∙ c.requires.table.1 in
     let high = i.all.end in
-    let from = c.one.invariant.from ∙ core in
-    let end = c.one.invariant.end ∙ ap (λ (k : ℕ). k + 1) core in record {
+    let from = its.from ∙ core in
+    let end = its.end ∙ ap (λ (k : ℕ). k + 1) core in record {
       table = c.load.ensures.0 ∙ c.join_seat.ensures.0 ∙ i.table;
       id = c.load.ensures.1 ∙ c.join_seat.ensures.1 ∙ i.id;
       all = subst (λ (k : ℕ). Stays T c.args.all.now.me.0.own k x) (sym more) all.stays;
@@ -77,5 +78,6 @@ loop-one-preserved g c =
           (c.loop-one.yielded ++ one ∷ []) refl refl
           (λ k s e. let lt = slice_get_within c.loop-one.yielded k s e in
           begins_on x.seen v (part start k (k + 1) s.seen) all.mine (i.seen k s e) (omega arith) (omega arith))
-          (begins_as x.seen w (part start n (n + 1) one.seen) all.its (ap (λ z. z.seen) c.one.view_is) (omega arith) (omega arith));
+          (begins_as x.seen w (part start n (n + 1) one.seen) all.its (ap (λ z. z.seen) (sym c.into_parts-seat.ensures.value))
+          (omega arith) (omega arith));
     }

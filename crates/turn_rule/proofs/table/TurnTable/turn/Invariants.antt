@@ -1,5 +1,5 @@
 use Rattle.std.specs.Prelude.{None}
 use Rattle.turn_rule.proofs.table.TurnTable.turn.Given as goal
 
-abbrev pub ghosts-make : goal.ghosts-make
-ghosts-make g a = record { call = None; op = a.op }
+abbrev pub ghosts-make_held : goal.ghosts-make_held
+ghosts-make_held g a = record { call = None; op = a.op }
