@@ -1,0 +1,7 @@
+pub mod Falling
+pub mod Pinning
+pub mod Filling
+pub mod Copying
+pub mod Removing
+pub mod Timing
+pub mod Sets
