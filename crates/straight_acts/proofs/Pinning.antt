@@ -1,5 +1,5 @@
 -- What the words make of a core whose call acquires the first count of its act.
-use Rattle.std.proofs.Common.{◌≡◌, ℕ, ℤ, pos, negsuc, ◌+◌, map, List, [], ◌∷◌, Option, Some, None, slice_get, ◌==◌, true, refl, subst}
+use Rattle.std.proofs.Common.{◌≡◌, ℕ, ℤ, pos, negsuc, ◌+◌, map, List, [], Option, Some, None, slice_get, ◌==◌, true, refl, subst}
 use Rattle.std.proofs.lemmas.List.Elements.{All-head}
 use Rattle.spk_nums.specs.Capability.{Capability}
 use Rattle.spk_nums.specs.declared.calls.Call.{Call}

@@ -100,7 +100,8 @@ named own call f steps number want look ks k next leads =
     rw (leads.found, next, leads.finds) (from_stage own (going call steps Enter (pushed ks k) []) (Undecided (Lookup look)) Enter
     (next_by own (going call steps Enter (pushed ks k) [])))
 
-pub named_after : (own : Own) (call : Call) (f steps number : ℕ) (want : Want) (look : Look) (ks : List Capability) (k : Capability) (c d : Core)
+pub named_after : (own : Own) (call : Call) (f steps number : ℕ) (want : Want) (look : Look) (ks : List Capability) (k : Capability)
+    (c d : Core)
     → c ≡ looks own call steps look ks → d ≡ absorbed c f → next_of (plan_for call) ks ≡ NextName number want → LeadsTo own look f want k
     → d ≡ onward own call steps (pushed ks k)
 named_after own call f steps number want look ks k c d at goes next leads =

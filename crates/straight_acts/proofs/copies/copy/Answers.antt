@@ -4,8 +4,8 @@ use Rattle.straight_acts.proofs.copies.copy.Goals as goal
 
 pub name-requires-2-clause-stands : goal.name-requires-2-clause-stands
 name-requires-2-clause-stands g c =
-    copy_first c.args.own.now c.args.call.now c.in-Copy.a c.in-Copy.t c.in-Copy.b c.in-Copy.rights c.none-caps.result _ c.in-Finds.cap _ (cc)
-    (omega arith) c.none-caps.ensures c.push.ensures c.in-Finds.ensures.core
+    copy_first c.args.own.now c.args.call.now c.in-Copy.a c.in-Copy.t c.in-Copy.b c.in-Copy.rights c.none-caps.result _ c.in-Finds.cap _
+    (cc) (omega arith) c.none-caps.ensures c.push.ensures c.in-Finds.ensures.core
 
 pub copy_into-requires-clause-fills : goal.copy_into-requires-clause-fills
 copy_into-requires-clause-fills g c =

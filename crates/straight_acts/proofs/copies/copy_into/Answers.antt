@@ -7,5 +7,6 @@ use Rattle.straight_acts.proofs.copies.copy_into.Goals as goal
 
 pub returns-in-None : goal.returns-in-None
 returns-in-None g c =
-    fell c.args.own.now _ (going c.args.call.now 8 (Undecided (Lookup c.in-Leads.look)) c.args.caps.now []) (g.W.Words.core c.follow.new.words)
-    _ _ _ c.rest_looking.ensures c.in-Leads.ensures.core c.in-Leads.ensures.fits c.make-found.ensures.goes c.make-found.ensures.told
+    fell c.args.own.now _ (going c.args.call.now 8 (Undecided (Lookup c.in-Leads.look)) c.args.caps.now [])
+    (g.W.Words.core c.follow.new.words) _ _ _ c.rest_looking.ensures c.in-Leads.ensures.core
+    c.in-Leads.ensures.fits c.make-found.ensures.goes c.make-found.ensures.told
