@@ -23,8 +23,8 @@ use step_looks::word_map::Layout;
 /// A core of a machine: its call, if it is in one, and what it has of its own.
 #[derive(Clone, Copy, PartialEq, Eq, Debug)]
 pub struct CoreState {
-    active: Option<ActiveCall>,
-    own: Own,
+    pub(crate) active: Option<ActiveCall>,
+    pub(crate) own: Own,
 }
 
 impl Model for CoreState {

@@ -5,6 +5,7 @@ pub mod Advance
 pub mod Shown
 pub mod Runs
 pub mod Items
+pub mod Making
 pub mod Boot
 pub mod Close
 pub mod Inside

@@ -16,6 +16,7 @@ pub mod GivenSteps
 pub mod Inside
 pub mod Shown
 pub mod Items
+pub mod Making
 -- The names that are used most outside of this library.
 pub use Rattle.lone_kernel.specs.Items.{IsAt}
 pub use Rattle.lone_kernel.specs.Machine.{core_at, IsFit, seat_at, IsFinished, core_in, list_at, turn_at, IsDone, IsFitSeat, found_by, turn_of, begun_by, due_in}

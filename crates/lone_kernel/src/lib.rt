@@ -4,7 +4,10 @@
 #![tactic(auto)]
 
 mod lone;
+mod notes;
 mod seats;
+mod whole;
+mod words;
 
 pub use lone::{LoneKernel, Moved};
 pub use seats::{Seat, Turn};

@@ -9,7 +9,7 @@
 //!
 //! **Decisions.** A step that decides a call notes the reply at once, so the decisions are in the order of the trace.
 ghost use Rattle.std.specs.Prelude.{◌≡◌, ◌≢◌, ◌↔◌, false, IsSome, None, Some, [], ℕ, ◌+◌, ◌<◌, ◌≤◌, ◌^◌, ◌++◌, IsTrue};
-ghost use Rattle.std.specs.Prelude.{All, IfOk, IfSome, map, sum_by, length, slice_index, slice_set, vec_len, vec_capacity};
+ghost use Rattle.std.specs.Prelude.{All, IfOk, IfSome, map, sum_by, length, slice_get, slice_index, slice_set, vec_len, vec_capacity};
 ghost use Rattle.spk_nums.specs.WordSteps.{place_in, left_by, told_by};
 ghost use Rattle.word_map.specs.Places.{size_of, place_of};
 ghost use Rattle.boot_words.specs.kernel_history.specs.Trace.{Trace, state_after, decision_at, steps_in_call};
@@ -31,19 +31,25 @@ ghost use Rattle.lone_kernel.specs.Moves.{MovesBy, StepsOnce, GoesBy, GoesFurthe
 ghost use Rattle.lone_kernel.specs.Shown.{IsNextView, ShowsNext, Steps, TellsBy};
 ghost use Rattle.lone_kernel.specs.Machine.{enters_as, turn_at};
 ghost use Rattle.lone_kernel.specs.Items.{placed, IsAt, TakesItem, is_over};
+ghost use Rattle.spk_nums.specs.declared.calls.Call.{Call};
 ghost use Rattle.lone_kernel.specs.declared.seats.Turn.{Turn};
+ghost use Rattle.lone_kernel.specs.declared.seats.Turn.TheVariants.{Begins};
+ghost use Rattle.lone_kernel.specs.Machine.{CanBegin};
 ghost use Rattle.call_steps.specs.call_stages.specs.declared.stages.Absorbed.TheVariants.{Going};
 ghost use Rattle.flight_laws.specs.core_invariant.specs.Events.{returned_in};
 ghost use Rattle.word_map.specs.Places.{IsIn};
 ghost use Rattle.word_map.specs.Moves.{op_of, word_of};
 ghost use Rattle.call_steps.specs.call_stages.specs.Cores.{move_of};
 
+use crate::notes::note;
 use crate::seats::{Seat, Turn};
+use crate::whole::make_call;
+use crate::words::{perform, told};
 use boot_words::boot_words;
-use call_steps::{Absorbed, CoreState};
+use call_steps::{Absorbed, CoreState, is_straight};
 use spk_nums::{Call, CoreEnd, CoreNo, Decision, How, Memory, Reply, Setup, WordOp};
 use std::alloc::{AllocError, Global};
-use std::marker::Model;
+use std::marker::{Brand, Model};
 use step_views::{StepMade, StepView, left_by, name_at, place_in};
 use word_map::{Closed, Layout};
 
@@ -103,44 +109,6 @@ fn turn(list: &Vec<Call>, seat: &Seat) -> Option<Turn>
     match list.get(seat.begun) {
         None => None,
         Some(call) => Some(Turn::Begins { call: *call }),
-    }
-}
-
-// One atomic step over the words: what it finds.
-fn perform(words: &mut Vec<u64>, op: &WordOp) -> u64
-    requires { place_in op.now < length words.old.items }
-    ensures found { result ≡ slice_index words.old.items (place_in op.now) }
-    ensures left { words.new.items ≡ slice_set words.old.items (place_in op.now) (left_by op.now result) }
-{
-    match *op {
-        WordOp::Load { at } => words[at as usize],
-        WordOp::Compare { at, expected, word } => {
-            let found = words[at as usize];
-            if found == expected {
-                words[at as usize] = word;
-            }
-            found
-        }
-        WordOp::Store { at, word } => {
-            let found = words[at as usize];
-            words[at as usize] = word;
-            found
-        }
-        WordOp::Add { at, by } => {
-            let found = words[at as usize];
-            words[at as usize] = found.wrapping_add(by);
-            found
-        }
-    }
-}
-
-// What a core is told of the word found: a store tells it what it has stored.
-fn told(op: &WordOp, found: u64) -> u64
-    ensures { result ≡ told_by op.now found }
-{
-    match *op {
-        WordOp::Store { word, .. } => word,
-        _ => found,
     }
 }
 
@@ -234,40 +202,6 @@ fn take(seat: &mut Seat, turn: &Turn, layout: &Layout, words: &mut Vec<u64>) -> 
     Taken { view, told }
 }
 
-// Notes the decision that a step has told, if it has told one.
-#[inline(always)]
-fn note(decisions: &mut Vec<Decision>, absorbed: &Absorbed, core: CoreNo, index: u32)
-    requires { decided_in absorbed.now ≢ None → vec_len decisions.old < vec_capacity decisions.old }
-    ensures items { decisions.new.items ≡ decisions.old.items ++ decision_at (decided_in absorbed.now) core index }
-    ensures room { vec_capacity decisions.old ≤ vec_capacity decisions.new }
-{
-    match absorbed {
-        Absorbed::Going | Absorbed::Returned(_) => {}
-        Absorbed::Decided(reply) => {
-            let reply = *reply;
-            note_reply(decisions, &reply, core, index)
-        }
-    }
-}
-
-// Room for it was made at the start, so this takes no memory.
-#[inline(never)]
-fn note_reply(decisions: &mut Vec<Decision>, reply: &Reply, core: CoreNo, index: u32)
-    requires { vec_len decisions.old < vec_capacity decisions.old }
-    ensures items { decisions.new.items ≡ decisions.old.items ++ decision_at (Some reply.now) core index }
-    ensures room { vec_capacity decisions.old ≤ vec_capacity decisions.new }
-{
-    let decision = Decision {
-        core,
-        index,
-        reply: *reply,
-    };
-    match decisions.push(decision) {
-        Ok(()) => {}
-        Err(_) => unreachable!(),
-    }
-}
-
 // Whether an item that takes the core this far is done with a step that has told this and left the core so.
 #[inline]
 fn is_over(how: How, absorbed: &Absorbed, state: &CoreState) -> bool
@@ -288,8 +222,51 @@ fn is_over(how: How, absorbed: &Absorbed, state: &CoreState) -> bool
     }
 }
 
+// The call of a list that an item makes whole: it begins at the turn, is to return, and is made straight through.
+#[inline(always)]
+fn whole_call<'a>(list: &'a Vec<Call>, seat: &Seat, turn: &Turn, how: How) -> Option<&'a Call>
+    requires listed { (call : Call) → turn.now ≡ Begins call → slice_get list.now.items seat.now.begun ≡ Some call }
+    ensures { IfSome result (λ call. (turn.now ≡ Begins call.now) × (how ≡ Return)) }
+{
+    match turn {
+        Turn::Begins { .. } => match how {
+            How::Return => match list.get(seat.begun) {
+                None => None,
+                Some(call) => { if is_straight(call) { Some(call) } else { None } }
+            },
+            _ => None,
+        },
+        Turn::GoesOn => None,
+    }
+}
+
+// The core makes a whole call, which begins: its steps are an item that takes it to its return.
+#[inline(always)]
+fn take_call(
+    seat: &mut Seat,
+    call: &Call,
+    words: &mut Vec<u64>,
+    decisions: &mut Vec<Decision>,
+    core: CoreNo,
+)
+    requires can { CanBegin call.now seat.old.state }
+    requires few { seat.old.begun + 1 < 2 ^ 32 }
+    requires size { length words.old.items ≡ size_of seat.old.state.own.layout }
+    requires due { 0 < seat.old.due }
+    requires room { vec_len decisions.old < vec_capacity decisions.old }
+    ensures takes { (m : _) → IsAt m core (Begins call.now) seat.old words.old.items decisions.old.items
+        → TakesItem Return m (placed m core seat.new words.new.items decisions.new.items) core }
+    ensures room { vec_capacity decisions.old ≤ vec_capacity decisions.new }
+{
+    seat.begun += 1;
+    seat.due -= 1;
+    let index = seat.begun as u32;
+    make_call::<Brand>(&mut seat.state, call, words, decisions, core, index);
+}
+
 // The core takes its turn, and makes further steps until it is there. It has one seat and one list of words for them all.
 fn take_item(
+    list: &Vec<Call>,
     seat: &mut Seat,
     turn: &Turn,
     layout: &Layout,
@@ -298,6 +275,7 @@ fn take_item(
     core: CoreNo,
     how: How,
 )
+    requires listed { (call : Call) → turn.now ≡ Begins call → slice_get list.now.items seat.old.begun ≡ Some call }
     requires can { CanTake turn.now seat.old.state }
     requires few { begun_by turn.now seat.old.begun < 2 ^ 32 }
     requires machine { layout.now ≡ seat.old.state.own.layout }
@@ -308,6 +286,9 @@ fn take_item(
         → TakesItem how m (placed m core seat.new words.new.items decisions.new.items) core }
     ensures room { vec_capacity decisions.old ≤ vec_capacity decisions.new }
 {
+    if let Some(call) = whole_call(list, seat, turn, how) {
+        return take_call(seat, call, words, decisions, core);
+    }
     begin(seat, turn);
     'going: loop {
         let mut absorbed = Absorbed::Going;
@@ -618,6 +599,7 @@ impl LoneKernel {
             unreachable!()
         };
         take_item(
+            &self.lists[at],
             &mut self.seats[at],
             &turn,
             &self.layout,

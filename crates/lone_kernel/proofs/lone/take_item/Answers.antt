@@ -2,7 +2,8 @@ use Rattle.flight_laws.specs.flight.proofs.{◌≡◌, length, refl, sym, ◌∙
 use Rattle.lone_kernel.proofs.Items.{Leaves, step_of_core, same_shape, inside, short_first, short_on, ends_on}
 use Rattle.{flight_laws.specs.flight.proofs.decided_in, flight_laws.specs.flight.proofs.Core, std.proofs.lemmas.List.length-set}
 use Rattle.{lone_kernel.specs.Machine.due_in, lone_kernel.specs.Items.is_over, lone_kernel.proofs.Fits.count_decided}
-use Rattle.{lone_kernel.proofs.Fits.turned_shape}
+use Rattle.{lone_kernel.proofs.Fits.turned_shape, boot_words.specs.kernel_rules.specs.How, lone_kernel.specs.declared.seats.Turn.Turn}
+use Rattle.lone_kernel.specs.{begun_by, core_in, CanTake, IsAt, Items.placed, Items.TakesItem}
 use Rattle.lone_kernel.proofs.lone.take_item.Goals as goal
 
 pub going-init : goal.going-init
@@ -84,3 +85,34 @@ returns-then-is_over-clause-takes c m at undone =
     c.note.new.decisions.items c.go.new.absorbed c.go.new.seat.begun
     (i.goes m c.args.seat.now at undone c.begin.ensures.state c.begin.ensures.begun c.begin.ensures.due) i.machine i.in_call g.goes g.fits
     g.fewer c.note.ensures.items refl over
+
+pub take_call-requires-clause-can : goal.take_call-requires-clause-can
+take_call-requires-clause-can c = subst (λ (f : Turn). CanTake f c.args.seat.now.state) c.in-Some.ensures.0 c.requires.can
+
+pub take_call-requires-clause-few : goal.take_call-requires-clause-few
+take_call-requires-clause-few c =
+    let begun : begun_by c.args.turn.now c.args.seat.now.begun ≡ c.args.seat.now.begun + 1 =
+    ap (λ (f : Turn). begun_by f c.args.seat.now.begun) c.in-Some.ensures.0 in
+    let few = c.requires.few in
+    omega arith
+
+pub take_call-requires-clause-due : goal.take_call-requires-clause-due
+take_call-requires-clause-due c =
+    let one : due_in (core_in c.args.seat.now.state c.args.turn.now).active ≡ 1 =
+    ap (λ (f : Turn). due_in (core_in c.args.seat.now.state f).active) c.in-Some.ensures.0 in
+    let due = c.requires.due in
+    omega arith
+
+pub take_call-requires-clause-room : goal.take_call-requires-clause-room
+take_call-requires-clause-room c =
+    let one : due_in (core_in c.args.seat.now.state c.args.turn.now).active ≡ 1 =
+    ap (λ (f : Turn). due_in (core_in c.args.seat.now.state f).active) c.in-Some.ensures.0 in
+    let room = c.requires.room in
+    omega arith
+
+pub returns-in-Some-clause-takes : goal.returns-in-Some-clause-takes
+returns-in-Some-clause-takes c m at undone =
+    subst (λ (h : How). TakesItem h m (placed m c.args.core c.take_call.new.seat c.take_call.new.words.items
+    c.take_call.new.decisions.items) c.args.core) (sym c.in-Some.ensures.1)
+    (c.take_call.ensures.takes m (subst (λ (f : Turn). IsAt m c.args.core f c.args.seat.now c.args.words.now.items
+    c.args.decisions.now.items) c.in-Some.ensures.0 at))
