@@ -16,12 +16,12 @@ use Rattle.{turn_rule.specs.declared.view.Start.Start, flight_laws.specs.Histori
 use Rattle.spk_nums.specs.WordSteps as table
 
 -- a program with a next step has a active call, and makes the step machine's step
-next_some : (core : Core) (o : Option ActiveCall) (op : WordOp) → next_in core o ≡ Some op → (op ≡ op_of core.own.layout (move_of core))
+pub next_some : (core : Core) (o : Option ActiveCall) (op : WordOp) → next_in core o ≡ Some op → (op ≡ op_of core.own.layout (move_of core))
     × IsSome o
 next_some core None op is = absurd (cc)
 next_some core (Some f) op is = (cc, refl)
 
-next_none : (core : Core) (o : Option ActiveCall) → IsNone (next_in core o) → o ≡ None
+pub next_none : (core : Core) (o : Option ActiveCall) → IsNone (next_in core o) → o ≡ None
 next_none core None is = refl
 next_none core (Some f) is = absurd (cc)
 

@@ -2,6 +2,7 @@ pub mod Lists
 pub mod Balance
 pub mod Along
 pub mod Turns
+pub mod RunSteps
 pub mod Seats
 pub mod Closing
 -- The names that are used most outside of this library.

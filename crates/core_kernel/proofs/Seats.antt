@@ -1,6 +1,6 @@
 -- What seats have seen: each alone, after a call, after a meet, and all of them at the end.
 use Rattle.flight_laws.specs.flight.specs.step_ways.proofs.{◌≡◌, ℕ, ◌<◌, List, [], ◌∷◌, Option, Some, None, IsSomeAnd, sym, ◌∙◌, ap, subst}
-use Rattle.flight_laws.specs.flight.specs.step_ways.proofs.{Call, Reply, Setting, state_after}
+use Rattle.flight_laws.specs.flight.specs.step_ways.proofs.{Call, Reply, Setting, state_after, IsCore}
 use Rattle.core_kernel.specs.{running, trace_of, EndsWith, IsBooted, IsSeat, seat_value, GoesOn, HasSeen, Extends, ExtendsByOthers}
 use Rattle.turn_rule.specs.{SeatValue, FollowsTrace, declared.view.Entry.Entry, Seats.NoteValue}
 use Rattle.core_kernel.proofs.{Along.along, Along.is_history, Along.is_out, Along.here, Balance.one_reply, Lists.steps_since}
@@ -37,6 +37,14 @@ front_calls setup s is =
     let inside = here setup is.booted.setting s.table.start is.booted.start s.seen s.core s.program is.follows.runs in
     ap (λ k. k.own.made) (a.runs s.core s.program is.follows.runs)
     ∙ ((made_stands setup is.booted.setting (trace_of setup s.seen) a.made).each s.core inside).works.made
+
+-- and its core is in its ranges
+pub seat_fits : (setup : Setting) (s : SeatValue CoreRun Call) → IsSeat setup s → IsCore s.program.state
+seat_fits setup s is =
+    let a = along setup is.booted.setting s.table.start is.booted.start s.seen is.follows.sound in
+    let inside = here setup is.booted.setting s.table.start is.booted.start s.seen s.core s.program is.follows.runs in
+    subst IsCore (sym (a.runs s.core s.program is.follows.runs))
+    ((made_stands setup is.booted.setting (trace_of setup s.seen) a.made).each s.core inside).fits
 
 -- a seat that has gone on is one
 pub still_seat : (setup : Setting) (seat on : SeatValue CoreRun Call) (calls : List Call) → IsSeat setup seat → GoesOn setup seat calls on

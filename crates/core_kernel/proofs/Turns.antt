@@ -1,26 +1,20 @@
 -- A turn of a seat as steps of the kernel.
 use Rattle.flight_laws.specs.flight.specs.step_ways.proofs as low
-use low.{◌≡◌, ℕ, ◌<◌, List, ◌∷◌, ◌++◌, Option, Some, None, IsSome, IsSomeAnd, option_to_list, refl, sym, ◌∙◌, ap, subst, append_assoc, Call}
-use low.{Reply, Setting, Step, Trace, calls_of, calls_of-own, Core, steps_left, returned_in, move_of, absorbed, told_of_step, told_of}
-use Rattle.turn_rule.specs.{entry, called, program_after, IsSound, SeatValue, MakesStep, FollowsTrace}
+use low.{◌≡◌, ℕ, zero, suc, List, [], ◌∷◌, ◌++◌, Option, Some, None, IsSome, IsSomeAnd, option_to_list, refl, sym, ◌∙◌, ap, subst}
+use low.{append_assoc, Call, Reply, Setting, Step, Trace, calls_of, calls_of-own, Core, returned_in, move_of, absorbed}
+use low.{told_of_step, told_of}
+use Rattle.turn_rule.specs.{entry, called, program_after, IsSound, SeatValue, MakesStep, FollowsTrace, Turns, TurnsOn}
+use Rattle.turn_rule.specs.Seats as turns
 use Rattle.core_kernel.specs.{running, step_by, trace_of, EndsWith, IsBooted, GoesOn}
 use Rattle.core_kernel.specs.{declared.core_run.CoreRun.CoreRun, Running.answered, Seen.core_by, Turns.HasReturned}
-use Rattle.core_kernel.proofs.Along.{along, EntryIs, entry_is}
+use Rattle.core_kernel.proofs.Along.{along, EntryIs, entry_is, next_none}
 use Rattle.core_kernel.proofs.Lists.{calls_of-append, calls_of-others, steps_since, trace_of-append, others_since}
-use Rattle.{flight_laws.specs.core_invariant.specs.MatchOption, flight_laws.specs.core_invariant.specs.WordOp}
+use Rattle.flight_laws.specs.core_invariant.specs.{WordOp}
 use Rattle.{turn_rule.specs.declared.view.Entry.Entry, turn_rule.specs.declared.view.Start.Start, turn_rule.proofs.Traces.program_stays}
-use Rattle.{flight_laws.specs.flight.proofs.AfterStep.absorbed_returns, flight_laws.specs.flight.proofs.CoreFits.absorbed_fewer}
+use Rattle.flight_laws.specs.flight.proofs.AfterStep.{absorbed_returns}
 
 some_and : {A : Type 0} (o : Option A) (x : A) (F : A → Type 0) → o ≡ Some x → F x → IsSomeAnd o F
 some_and o x F is h = subst (λ p. IsSomeAnd p F) (sym is) h
-
-pub the_some : {A : Type 0} (o : Option A) (N : Type 0) (F : A → Type 0) → IsSome o → MatchOption o N F → (a : A) × (o ≡ Some a) × F a
-the_some None N F s f = absurd (cc)
-the_some (Some a) N F s f = (a, refl, f)
-
-pub the_some_and : {A : Type 0} (o : Option A) (F : A → Type 0) → IsSomeAnd o F → (a : A) × (o ≡ Some a) × F a
-the_some_and None F f = absurd f
-the_some_and (Some a) F f = (a, refl, f)
 
 the_same : {A : Type 0} (x y : A) (o : Option A) → o ≡ Some x → o ≡ Some y → x ≡ y
 the_same x y o i j = cc
@@ -104,12 +98,6 @@ module _ (setup : Setting) (seat : SeatValue CoreRun Call) (call : Option Call) 
   pub goes : GoesOn setup seat (option_to_list call) made
   goes = record { since = since; begins = begins; calls = calls; core = m.core; table = m.table; follows = follows; returned = returned }
 
-  -- and leaves the call fewer steps
-  pub fewer : steps_left made.program.state < steps_left (called running seat.program call).state
-  fewer =
-      let less = absorbed_fewer core (told_of (move_of core) m.found) is.fits is.in_call in
-      subst (λ (z : Core × Core). steps_left z.0 < steps_left z.1) (λ i. (ap (λ q. q.state) (sym program_is) i, sym is.core i)) less
-
 -- a seat that goes on twice
 pub goes_further : (setup : Setting) (u v w : SeatValue CoreRun Call) (xs ys : List Call) → GoesOn setup u xs v → GoesOn setup v ys w
     → GoesOn setup u (xs ++ ys) w
@@ -123,3 +111,26 @@ goes_further setup u v w xs ys a b = record {
   follows = b.follows;
   returned = b.returned;
 }
+
+-- a seat goes on by each of the turns that it makes
+goes_by_turns : (setup : Setting) (seat u v : SeatValue CoreRun Call) (call : Call) → IsBooted setup seat.table
+    → GoesOn setup seat (call ∷ []) u → (n : ℕ) → TurnsOn running n u v → GoesOn setup seat (call ∷ []) v
+goes_by_turns setup seat u v call booted g zero same = subst (GoesOn setup seat (call ∷ [])) (sym same) g
+goes_by_turns setup seat u v call booted g (suc n) t =
+    let on : SeatValue CoreRun Call = t.0 in
+    let turn : Turns running u None on = t.1 in
+    let here : IsBooted setup u.table = subst (IsBooted setup) (sym g.table) booted in
+    let one = goes setup u None turn.op on here g.follows turn.next turn.makes turn.follows in
+    goes_by_turns setup seat on v call booted (goes_further setup seat u on (call ∷ []) [] g one) n t.2
+
+-- and by the whole call, after which its core is between calls
+pub whole_goes : (setup : Setting) (seat made : SeatValue CoreRun Call) (call : Call) → IsBooted setup seat.table
+    → FollowsTrace running seat → turns.MakesCall running seat call made → GoesOn setup seat (call ∷ []) made
+whole_goes setup seat made call booted before m =
+    let first = m.first in
+    let one = goes setup seat (Some call) first.op m.begun booted before first.next first.makes first.follows in
+    goes_by_turns setup seat m.begun made call booted one m.count m.rest
+
+pub whole_ends : (seat made : SeatValue CoreRun Call) (call : Call) → turns.MakesCall running seat call made
+    → made.program.state.active ≡ None
+whole_ends seat made call m = next_none made.program.state made.program.state.active m.idle

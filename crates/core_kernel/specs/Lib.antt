@@ -9,6 +9,7 @@ pub use Rattle.flight_laws.specs.kernel_laws
 pub use Rattle.flight_laws
 -- Its own.
 pub mod Running
+pub mod RunSteps
 pub mod Seen
 pub mod Replies
 pub mod Kernel

@@ -4,9 +4,10 @@ ghost use Rattle.std.specs.Prelude.{◌≡◌, ◌<◌, None};
 ghost use Rattle.call_steps.specs.call_stages.specs.Cores.{started};
 ghost use Rattle.core_kernel.specs.Running.{run_of};
 
+use crate::run_words::RunWords;
 use call_steps::{Absorbed, CoreState};
 use spk_nums::{Call, CoreNo, Reply, Setup, WordOp};
-use turn_rule::CoreProgram;
+use turn_rule::{CoreProgram, TurnWords, WholeProgram};
 
 /// A core's state, and the reply of the call that it has made last.
 #[derive(Drop)]
@@ -58,5 +59,20 @@ impl CoreProgram for CoreRun {
             Absorbed::Decided(_) => {}
             Absorbed::Returned(reply) => self.last = Some(reply),
         }
+    }
+}
+
+impl WholeProgram for CoreRun {
+    ghost use Rattle.core_kernel.specs.RunSteps.{IsReady};
+
+    ghost ready = { IsReady };
+
+    #[inline(always)]
+    fn whole<W: TurnWords<CoreRun>>(&mut self, call: Call, words: W) -> W {
+        let mut steps = RunWords { words };
+        let reply = self.state.whole(&call, &mut steps);
+        self.last = Some(reply);
+        let RunWords { words } = steps;
+        words
     }
 }

@@ -1,12 +1,10 @@
 //! The kernel: its table of shared words, and the calls that seats make at it.
 
-ghost use Rattle.std.specs.Prelude.{◌≡◌, [], None};
+ghost use Rattle.std.specs.Prelude.{◌≡◌, [], ◌∷◌, None};
 ghost use Rattle.spk_nums.specs.CallLimits.{InLimits};
-ghost use Rattle.turn_rule.specs.Seats.{FollowsTrace};
-ghost use Rattle.core_kernel.specs.Running.{running};
-ghost use Rattle.core_kernel.specs.Kernel.{KernelValue};
+ghost use Rattle.core_kernel.specs.Kernel.{KernelValue, IsSeat};
 ghost use Rattle.core_kernel.specs.Calls.{HasSeen, MakesCall, Meets};
-ghost use Rattle.core_kernel.specs.Turns.{HasReturned, GoesOn};
+ghost use Rattle.core_kernel.specs.Turns.{GoesOn};
 
 use crate::core_run::CoreRun;
 use crate::seat::{CoreNote, CoreSeat};
@@ -32,17 +30,17 @@ impl Model for Kernel {
 }
 
 impl Kernel {
-    // Makes the turns of the call that is begun, to its return. Each leaves the call fewer steps.
-    fn go(&self, seat: &mut TurnSeat<CoreRun>)
+    // Makes the call, from its first step to its return.
+    #[inline(always)]
+    fn go(&self, seat: &mut TurnSeat<CoreRun>, call: Call)
         requires table { seat.old.table ≡ self.now.table }
-        requires follows { FollowsTrace running seat.old }
-        requires returned { HasReturned self.now.setup seat.old }
-        ensures goes { GoesOn self.now.setup seat.old [] seat.new }
+        requires seat { IsSeat self.now.setup seat.old }
+        requires limits { InLimits call }
+        ensures goes { GoesOn self.now.setup seat.old (call ∷ []) seat.new }
         ensures between { seat.new.program.state.active ≡ None }
     {
-        // A turn lends the core's state, which has a active call.
         let _made: Option<Make> = None;
-        while self.table.turn(seat) {}
+        self.table.whole(seat, call);
     }
 
     /// Makes the call of the seat's core, and answers its reply. The call is in its limits. It takes no memory.
@@ -53,8 +51,7 @@ impl Kernel {
         ensures seen { HasSeen seat.new }
     {
         let _made: Option<Make> = None;
-        self.table.first(&mut seat.seat, call);
-        self.go(&mut seat.seat);
+        self.go(&mut seat.seat, call);
         match seat.seat.program().last {
             Some(reply) => reply,
             None => unreachable!(),

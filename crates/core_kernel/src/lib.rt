@@ -20,6 +20,7 @@ mod core_run;
 mod ends;
 mod gate;
 mod kernel;
+mod run_words;
 mod seat;
 mod threads;
 
