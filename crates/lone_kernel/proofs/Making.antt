@@ -4,11 +4,11 @@ use Rattle.flight_laws.specs.flight.proofs as flight
 use Rattle.flight_laws.specs.flight.specs.step_ways.proofs as low
 use flight.{zero, suc, append-nil, place_is, moves_are_words, CoreFits.after_fits, CoreFits.absorbed_fewer, CoreFits.begun_fits, Reply}
 use flight.{InLimits}
-use low.{◌≡◌, ℕ, ◌+◌, ◌-◌, ◌<◌, ◌≤◌, ◌++◌, List, length, Option, Some, None, true, false, arith, refl, sym, ◌∙◌, ap, subst, get_or}
-use low.{Bool, set as slice_set, IsSome, is_some, false≢true, Decision, Call, Shape, decision_at, Own, Core, IsCore, steps_left, core_after}
+use low.{◌≡◌, ℕ, ◌+◌, ◌-◌, ◌<◌, ◌++◌, List, length, Option, Some, None, false, arith, refl, sym, ◌∙◌, ap, subst, get_or}
+use low.{set as slice_set, IsSome, is_some, false≢true, Decision, Call, decision_at, Own, Core, IsCore, steps_left, core_after}
 use low.{told_by, told_of, absorbed_in, absorbed, told_in, told_of_step, move_of, op_of, place_in, word_of, Took, GoesOn as TookOn}
-use low.{Decides, Returns, Changes, took, ActiveCall, Absorbed, decided_in, place_of, IsIn}
-use Rattle.boot_words.specs.kernel_history.proofs.{IsShape, has_places}
+use low.{Decides, Returns, Changes, took, ActiveCall, Absorbed, decided_in, IsIn}
+use Rattle.boot_words.specs.kernel_history.proofs.{has_places}
 use Rattle.boot_words.specs.kernel_rules.specs.{Return}
 use Rattle.call_steps.specs.call_stages.proofs.Decisions.{decides_once}
 use Rattle.call_steps.specs.call_stages.specs.Cores.{begun}
@@ -22,7 +22,7 @@ use Rattle.lone_kernel.specs.{IsAt, decisions_in, declared.seats.Seat.Seat, decl
 use Rattle.lone_kernel.specs.{Machine.MakesTurn, Items.is_over, Items.placed, Items.TakesItem, Making.Run, Making.run, Making.AreMade}
 use Rattle.lone_kernel.specs.{Making.MakesCall, Making.found_next}
 use Rattle.lone_kernel.proofs.{Fits.same_in, Items.Leaves, Items.step_of_core, Items.IsShort, Items.short_first, Items.short_on}
-use Rattle.lone_kernel.proofs.{Items.ends_on, OneStep.makes_turn}
+use Rattle.lone_kernel.proofs.{Items.ends_on, OneStep.makes_turn, Small.steps_small}
 
 -- ---- one step
 
@@ -70,61 +70,69 @@ due_below core op fits due =
 
 -- ---- the handle on the words
 
--- what a step more makes of them
-pub record IsStepped (words : List ℕ) (core : Core) (made next : ℕ) (after : List ℕ) (told : ℕ) : Type 0 where
-  pub are : AreMade words core next after
-  pub goes : (run words core next).core ≡ absorbed (run words core made).core told
-  pub said : (run words core next).last ≡ told_of_step (run words core made).core told
+-- before the first step
+pub made_first : (words now : List ℕ) (core old : Core) (call : Call) → words ≡ now → core ≡ begun old call → IsCore old → InLimits call
+    → length now ≡ size_of old.own.layout → AreMade words core 0 now
+made_first words now core old call words_is core_is fits limits size =
+    let begun_is : IsCore core = subst IsCore (sym core_is) (begun_fits old call fits limits) in
+    let small = steps_small core begun_is in
+    record {
+      words_are = sym words_is;
+      size = size ∙ ap (λ (k : Core). size_of k.own.layout) (sym core_is);
+      fits = begun_is;
+      few = omega arith;
+    }
 
-pub below_made : (words : List ℕ) (core : Core) (made : ℕ) (now : List ℕ) (op : WordOp) → AreMade words core made now
-    → due_of (run words core made).core ≡ Some op → place_in op < length now
-below_made words core made now op are due =
-    subst (λ (n : ℕ). place_in op < n) (sym are.size) (due_below (run words core made).core op are.fits due)
+-- after so many steps, which a handle has as another number too
+module _ (words : List ℕ) (core : Core) (made same : ℕ) (now : List ℕ) (op : WordOp) (are : AreMade words core made now)
+    (is : made ≡ same) (due : due_of (run words core same).core ≡ Some op) where
+  due_here : due_of (run words core made).core ≡ Some op
+  due_here = subst (λ (n : ℕ). due_of (run words core n).core ≡ Some op) (sym is) due
 
-pub few_made : (words : List ℕ) (core : Core) (made : ℕ) (now : List ℕ) → AreMade words core made now → made < 1000
-few_made words core made now are = let few = are.few in omega arith
+  pub below_made : place_in op < length now
+  below_made =
+      subst (λ (n : ℕ). place_in op < n) (sym are.size) (due_below (run words core made).core op are.fits due_here)
 
-module _ (words : List ℕ) (core : Core) (made : ℕ) (op : WordOp) (found told : ℕ) where
-  abbrev r : Run
-  r = run words core made
+  -- one step more
+  module _ (found told : ℕ) (after : List ℕ) (found_is : found ≡ get_or now (place_in op) 0)
+      (after_is : after ≡ slice_set now (place_in op) (left_by op found)) (told_is : told ≡ told_by_op op found) where
+    abbrev r : Run
+    r = run words core made
 
-  stepped_here : (after : List ℕ) → AreMade words core made r.words → due_of r.core ≡ Some op → found ≡ get_or r.words (place_in op) 0
-      → after ≡ slice_set r.words (place_in op) (left_by op found) → told ≡ told_by_op op found
-      → IsStepped words core made (suc made) after told
-  stepped_here after are due found_is after_is told_is =
-      let next = next_of_due r.core op due in
-      let shape = r.core.own.layout in
-      let said = told_of_step r.core told in
-      let seat : Seat = record { begun = 0; due = 0; state = r.core } in
-      let seat' : Seat = record { begun = 0; due = 0 - decisions_in said; state = absorbed r.core told } in
-      let makes : MakesTurn shape seat seat' r.words after said =
-      makes_turn shape seat seat' r.words after said op found told (decisions_in said) next.step found_is after_is told_is refl refl refl
-      refl refl in
-      let told_next : ℕ = told_of (move_of r.core) (found_next r) in
-      let fewer : steps_left (run words core (suc made)).core < steps_left r.core =
-      absorbed_fewer r.core told_next are.fits next.in_call in
-      let few = are.few in
-      let grown : length after ≡ length r.words = ap length after_is ∙ length-set r.words _ _ in
-      record {
-        are = record {
+    next : IsNext r.core op
+    next = next_of_due r.core op due_here
+
+    makes : MakesTurn r.core.own.layout (record { begun = 0; due = 0; state = r.core })
+        (record { begun = 0; due = 0 - decisions_in (told_of_step r.core told); state = absorbed r.core told }) r.words after
+        (told_of_step r.core told)
+    makes = makes_turn r.core.own.layout _ _ r.words after (told_of_step r.core told) op found told
+        (decisions_in (told_of_step r.core told)) next.step (found_is ∙ ap (λ w. get_or w (place_in op) 0) are.words_are)
+        (after_is ∙ ap (λ w. slice_set w (place_in op) (left_by op found)) are.words_are) told_is refl refl refl refl refl
+
+    are_next : AreMade words core (suc made) after
+    are_next =
+        let fewer : steps_left (run words core (suc made)).core < steps_left r.core =
+        absorbed_fewer r.core (told_of (move_of r.core) (found_next r)) are.fits next.in_call in
+        let few = are.few in
+        let grown : length after ≡ length now = ap length after_is ∙ length-set now _ _ in
+        let layout = (same_in r.core.own r.core.active (told_of (move_of r.core) (found_next r))).layout in
+        record {
           words_are = makes.words;
-          size = grown ∙ are.size ∙ ap size_of (sym (same_in r.core.own r.core.active told_next).layout);
-          fits = fits_in r.core.own r.core.active told_next are.fits;
+          size = grown ∙ are.size ∙ ap size_of (sym layout);
+          fits = fits_in r.core.own r.core.active (told_of (move_of r.core) (found_next r)) are.fits;
           few = omega arith;
-        };
-        goes = sym makes.state;
-        said = sym makes.told;
-      }
+        }
 
-  pub stepped : (now after : List ℕ) → AreMade words core made now → due_of r.core ≡ Some op → found ≡ get_or now (place_in op) 0
-      → after ≡ slice_set now (place_in op) (left_by op found) → told ≡ told_by_op op found
-      → IsStepped words core made (made + 1) after told
-  stepped now after are due found_is after_is told_is =
-      let now_is = are.words_are in
-      let here : AreMade words core made r.words = subst (λ w. AreMade words core made w) now_is are in
-      subst (λ (n : ℕ). IsStepped words core made n after told) (sym (add-one made))
-      (stepped_here after here due (found_is ∙ ap (λ w. get_or w (place_in op) 0) now_is)
-      (after_is ∙ ap (λ w. slice_set w (place_in op) (left_by op found)) now_is) told_is)
+    pub stepped_are : AreMade words core (made + 1) after
+    stepped_are = subst (λ (n : ℕ). AreMade words core n after) (sym (add-one made)) are_next
+
+    pub stepped_core : (run words core (made + 1)).core ≡ absorbed (run words core same).core told
+    stepped_core = ap (λ (n : ℕ). (run words core n).core) (add-one made) ∙ sym makes.state
+        ∙ ap (λ (n : ℕ). absorbed (run words core n).core told) is
+
+    pub stepped_told : (run words core (made + 1)).last ≡ told_of_step (run words core same).core told
+    stepped_told = ap (λ (n : ℕ). (run words core n).last) (add-one made) ∙ sym makes.told
+        ∙ ap (λ (n : ℕ). told_of_step (run words core n).core told) is
 
 -- ---- the decision of a call
 
@@ -248,8 +256,8 @@ module _ (m : Machine) (c : ℕ) (call : Call) (seat0 : Seat) (words0 : List ℕ
 
   -- and the step by which it returns ends it
   module _ (seat' : Seat) (words' : List ℕ) (decisions' : List Decision) where
-    ends_at : (n : ℕ) (reply : Reply) → (on n).last ≡ Returned reply → seat'.state ≡ (on n).core → seat'.begun ≡ index → seat'.due ≡ seat0.due - 1
-        → words' ≡ (on n).words → decisions' ≡ decisions0 ++ decision_at (Some reply) c index
+    ends_at : (n : ℕ) (reply : Reply) → (on n).last ≡ Returned reply → seat'.state ≡ (on n).core → seat'.begun ≡ index
+        → seat'.due ≡ seat0.due - 1 → words' ≡ (on n).words → decisions' ≡ decisions0 ++ decision_at (Some reply) c index
         → TakesItem Return m (placed m c seat' words' decisions') c
     ends_at zero reply told state begun due words decisions = absurd (cc)
     ends_at (suc n) reply told state begun due words decisions =

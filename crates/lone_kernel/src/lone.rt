@@ -8,11 +8,11 @@
 //! a word.
 //!
 //! **Decisions.** A step that decides a call notes the reply at once, so the decisions are in the order of the trace.
-ghost use Rattle.std.specs.Prelude.{◌≡◌, ◌≢◌, ◌↔◌, false, IsSome, None, Some, [], ℕ, ◌+◌, ◌<◌, ◌≤◌, ◌^◌, ◌++◌, IsTrue};
-ghost use Rattle.std.specs.Prelude.{All, IfOk, IfSome, map, sum_by, length, slice_get, slice_index, slice_set, vec_len, vec_capacity};
-ghost use Rattle.spk_nums.specs.WordSteps.{place_in, left_by, told_by};
+ghost use Rattle.std.specs.Prelude.{◌≡◌, ◌↔◌, false, IsSome, None, Some, [], ℕ, ◌+◌, ◌<◌, ◌≤◌, ◌^◌, IsTrue};
+ghost use Rattle.std.specs.Prelude.{All, IfOk, IfSome, map, sum_by, length, slice_get, slice_index, vec_len, vec_capacity};
+ghost use Rattle.spk_nums.specs.WordSteps.{place_in, left_by};
 ghost use Rattle.word_map.specs.Places.{size_of, place_of};
-ghost use Rattle.boot_words.specs.kernel_history.specs.Trace.{Trace, state_after, decision_at, steps_in_call};
+ghost use Rattle.boot_words.specs.kernel_history.specs.Trace.{Trace, state_after, steps_in_call};
 ghost use Rattle.boot_words.specs.kernel_history.specs.FinalWords.{Represent, word_in, end_in};
 ghost use Rattle.boot_words.specs.kernel_history.specs.Counts.{RepresentCounts};
 ghost use Rattle.call_steps.specs.call_stages.specs.Fits.{IsCore, steps_left};
@@ -249,6 +249,7 @@ fn take_call(
     decisions: &mut Vec<Decision>,
     core: CoreNo,
 )
+    requires fits { IsCore seat.old.state }
     requires can { CanBegin call.now seat.old.state }
     requires few { seat.old.begun + 1 < 2 ^ 32 }
     requires size { length words.old.items ≡ size_of seat.old.state.own.layout }
@@ -276,6 +277,7 @@ fn take_item(
     how: How,
 )
     requires listed { (call : Call) → turn.now ≡ Begins call → slice_get list.now.items seat.old.begun ≡ Some call }
+    requires fits { IsCore seat.old.state }
     requires can { CanTake turn.now seat.old.state }
     requires few { begun_by turn.now seat.old.begun < 2 ^ 32 }
     requires machine { layout.now ≡ seat.old.state.own.layout }

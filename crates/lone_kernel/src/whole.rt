@@ -8,6 +8,7 @@ ghost use Rattle.std.specs.Prelude.{◌≡◌, ◌<◌, ◌≤◌, length, None,
 ghost use Rattle.spk_nums.specs.CallLimits.{InLimits};
 ghost use Rattle.call_steps.specs.Straight.{HasGone};
 ghost use Rattle.call_steps.specs.call_stages.specs.Cores.{begun};
+ghost use Rattle.call_steps.specs.call_stages.specs.Fits.{IsCore};
 ghost use Rattle.word_map.specs.Places.{size_of};
 ghost use Rattle.lone_kernel.specs.Making.{MakesCall, NotesReply};
 
@@ -81,6 +82,7 @@ pub(crate) fn make_call<B: Beginning>(
     core: CoreNo,
     index: u32,
 )
+    requires fits { IsCore state.old }
     requires between { state.old.active ≡ None }
     requires limits { InLimits call.now }
     requires size { length words.old.items ≡ size_of state.old.own.layout }

@@ -1,4 +1,4 @@
-use Rattle.flight_laws.specs.flight.proofs.{◌≡◌, length, refl, sym, ◌∙◌, ap, subst, arith, true, false, length-append, decision_at}
+use Rattle.flight_laws.specs.flight.proofs.{◌≡◌, ◌+◌, length, refl, sym, ◌∙◌, ap, subst, arith, true, false, length-append, decision_at}
 use Rattle.lone_kernel.proofs.Items.{Leaves, step_of_core, same_shape, inside, short_first, short_on, ends_on}
 use Rattle.{flight_laws.specs.flight.proofs.decided_in, flight_laws.specs.flight.proofs.Core, std.proofs.lemmas.List.length-set}
 use Rattle.{lone_kernel.specs.Machine.due_in, lone_kernel.specs.Items.is_over, lone_kernel.proofs.Fits.count_decided}

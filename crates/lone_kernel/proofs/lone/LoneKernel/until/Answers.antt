@@ -1,8 +1,13 @@
-use Rattle.std.proofs.Common.{◌≡◌, ℕ, ◌<◌, ◌≤◌, map, Some, refl, sym, ◌∙◌, ap, subst, arith, slice_set, sum_by, get_or}
-use Rattle.lone_kernel.specs.{seat_at, turn_at, turn_of, IsFitSeat, IsDone, GoesBy, calls_left, IsAt}
+use Rattle.std.proofs.Common.{◌≡◌, ℕ, ◌<◌, ◌≤◌, List, map, Option, Some, None, option_map, refl, sym, ◌∙◌, ap, subst, arith, slice_set}
+use Rattle.std.proofs.Common.{slice_get, sum_by, get_or}
+use Rattle.call_steps.specs.call_stages.specs.declared.stages.ActiveCall.{ActiveCall}
+use Rattle.spk_nums.specs.declared.calls.Call.{Call}
+use Rattle.lone_kernel.specs.{declared.seats.Turn.Turn, declared.seats.Turn.TheVariants.Begins, turn_if}
+use Rattle.lone_kernel.specs.{list_at, seat_at, turn_at, turn_of, IsFitSeat, IsDone, GoesBy, calls_left, IsAt}
 use Rattle.std.proofs.lemmas.List.Sums.{sum_by-set}
 use Rattle.lone_kernel.specs.{declared.seats.Seat.Seat, Machine.Machine, Items.placed, Items.TakesItem}
-use Rattle.lone_kernel.proofs.{OneStep.seat_is, OneStep.turn_here, OneStep.fit_here, OneStep.calls_here, Fits.IsOf, Fits.turn_is}
+use Rattle.lone_kernel.proofs.{OneStep.list_is, OneStep.seat_is, OneStep.turn_here, OneStep.fit_here, OneStep.calls_here}
+use Rattle.lone_kernel.proofs.{Fits.IsOf, Fits.turn_is}
 use Rattle.lone_kernel.proofs.{lone.LoneKernel.until.Goals.In-Some, lone.LoneKernel.until.Goals.After-self-1}
 use Rattle.lone_kernel.proofs.lone.LoneKernel.until.Goals as goal
 
@@ -74,6 +79,37 @@ module _ (c : In-Some) (k : Seat) (k_is : k ≡ get_or c.self.inside.seats.items
     words_are = refl;
     decisions_are = refl;
   })
+
+listed_some : (o : Option Call) (call : Call) → option_map Begins o ≡ Some (Begins call) → o ≡ Some call
+listed_some None call is = absurd (cc)
+listed_some (Some x) call is = cc
+
+-- the call that begins is the next of the list
+listed_if : (list : List Call) (n : ℕ) (o : Option ActiveCall) (call : Call) → turn_if list n o ≡ Some (Begins call)
+    → slice_get list n ≡ Some call
+listed_if list n None call is = listed_some (slice_get list n) call is
+listed_if list n (Some a) call is = absurd (cc)
+
+pub take_item-requires-clause-listed : goal.take_item-requires-clause-listed
+take_item-requires-clause-listed c call is =
+    let i = (goal.at.take_item-requires-clause-listed c).In-Some in
+    let k = c.index_mut.result.now in
+    let first : list_at (machine i) i.from-at.result ≡ i.index.result.now.items =
+    list_is (λ v. v.items) i.self.inside.setup i.self.inside.words.items i.self.inside.lists.items i.self.inside.seats.items
+    i.self.inside.decisions.items i.from-at.result i.index.result.now k i.self.invariant.0 (at i) i.index.ensures
+    c.index_mut.ensures.value in
+    let again : list_at (machine i) i.from-at.result ≡ c.index-3.result.now.items =
+    list_is (λ v. v.items) i.self.inside.setup i.self.inside.words.items i.self.inside.lists.items i.self.inside.seats.items
+    i.self.inside.decisions.items i.from-at.result c.index-3.result.now k i.self.invariant.0 (at i) c.index-3.ensures
+    c.index_mut.ensures.value in
+    subst (λ (l : List Call). slice_get l k.begun ≡ Some call) (sym first ∙ again)
+    (listed_if i.index.result.now.items k.begun k.state.active call
+    (begins_lent i k c.index_mut.ensures.value ∙ ap (λ (f : Turn). Some f) is))
+
+pub take_item-requires-clause-fits : goal.take_item-requires-clause-fits
+take_item-requires-clause-fits c =
+    let i = (goal.at.take_item-requires-clause-fits c).In-Some in
+    (fit_lent i c.index_mut.result.now c.index_mut.ensures.value).fits
 
 pub take_item-requires-clause-can : goal.take_item-requires-clause-can
 take_item-requires-clause-can c =
