@@ -64,7 +64,7 @@
  * makes up to 2^40 - 1 calls (1,099,511,627,775), and up to as many sends and receives, the refused ones too.
  *
  * WHEN A MACHINE IS USED UP. A core that has made as many calls as it may is answered SPECK_CALLS_SPENT from then on, and that changes
- * nothing: at 100,000 calls a second after 127 days, at the full speed of a processor after some 52 hours; sooner only where
+ * nothing: at 100,000 calls a second after 127 days, at the full speed of a processor after some 20 hours; sooner only where
  * speck_boot_with says so. The other cores go on. A liveness number is used up after as many kills as it has epochs, 65,535, all 64 of
  * them after 4,194,240: then speck_make_comp with it answers SPECK_EPOCHS_SPENT. No call ends either. Finish the machine, once its ports are
  * back, and boot another; or have each core count its calls, and do so in time. Ticks do not end a machine: what a core has spent of them it
