@@ -16,4 +16,5 @@ pub mod SetupFaults
 pub mod Spelling
 pub mod Texts
 pub mod Translations
+pub mod Verbs
 pub mod WordSteps

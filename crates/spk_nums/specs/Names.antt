@@ -3,10 +3,6 @@ use Rattle.spk_nums.specs.declared.kinds.Kind.{Kind}
 use Rattle.spk_nums.specs.declared.kinds.Kind.TheVariants as kind
 use Rattle.spk_nums.specs.declared.kinds.FrameKind.{FrameKind}
 use Rattle.spk_nums.specs.declared.kinds.FrameKind.TheVariants as frame_kind
-use Rattle.spk_nums.specs.declared.calls.Call.{Call}
-use Rattle.spk_nums.specs.declared.calls.Call.TheVariants.{Look, Copy, Remove, Grow, Shrink, Retype, Make as make_call}
-use Rattle.spk_nums.specs.declared.calls.Call.TheVariants.{Map, Unmap, Touch, Flush, Gate, Kill, Call as call_gate}
-use Rattle.spk_nums.specs.declared.calls.Call.TheVariants.{Ret, Switch, Tick, Transfer, Delegate, Test, Part, Replenish}
 use Rattle.spk_nums.specs.declared.replies.Reply.{Reply}
 use Rattle.spk_nums.specs.declared.replies.Reply.TheVariants.{Ok as ok_reply, NoSlot, Empty, WrongCap, Occupied, Quiescing}
 use Rattle.spk_nums.specs.declared.replies.Reply.TheVariants.{Unflushed, FrameKind as wrong_frame, OutOfRange, Referenced}
@@ -32,31 +28,6 @@ abbrev pub frame_kind_word : FrameKind → List ℕ
 frame_kind_word frame_kind.Untyped = codes "untyped"
 frame_kind_word frame_kind.User = codes "user"
 frame_kind_word frame_kind.Kernel = codes "kernel"
-
--- the word of a call
-abbrev pub call_word : Call → List ℕ
-call_word (Look a) = codes "look"
-call_word (Copy a t b rights) = codes "copy"
-call_word (Remove t b) = codes "remove"
-call_word (Grow t i l) = codes "grow"
-call_word (Shrink t i) = codes "shrink"
-call_word (Retype r f k) = codes "retype"
-call_word (make_call what range frame table slot) = codes "make"
-call_word (Map p v r f w) = codes "map"
-call_word (Unmap p v) = codes "unmap"
-call_word (Touch v) = codes "touch"
-call_word Flush = codes "flush"
-call_word (Gate c t b) = codes "gate"
-call_word (Kill c) = codes "kill"
-call_word (call_gate g) = codes "call"
-call_word Ret = codes "ret"
-call_word (Switch h q) = codes "switch"
-call_word (Tick t) = codes "tick"
-call_word (Transfer a b m) = codes "transfer"
-call_word (Delegate a b m) = codes "delegate"
-call_word (Test a b) = codes "test"
-call_word (Part r f n t b) = codes "part"
-call_word (Replenish a m) = codes "replenish"
 
 -- the word of a reply
 abbrev pub reply_word : Reply → List ℕ

@@ -4,6 +4,7 @@
 #![tactic(auto)]
 
 mod advice;
+mod call_texts;
 mod calls;
 mod cap;
 mod core_set;
@@ -22,8 +23,10 @@ mod setup_fault;
 mod steps;
 mod texts;
 mod translations;
+mod verbs;
 
 pub use advice::Advice;
+pub use call_texts::call_name;
 pub use calls::{Call, Make};
 pub use cap::Cap;
 pub use core_set::CoreSet;
@@ -32,7 +35,7 @@ pub use kinds::{FrameKind, Kind, Obj, PageFlags};
 pub use limits::in_limits;
 pub use marks::{mark_number, mark_numbered};
 pub use memory::Memory;
-pub use names::{call_name, frame_kind_name, kind_name, reply_name, reply_number};
+pub use names::{frame_kind_name, kind_name, reply_name, reply_number};
 pub use numbers::{CapId, CoreNo, EntryNo, FrameArg, FrameNo, PageNo, Stamp};
 pub use qualities::Qualities;
 pub use replies::{Decision, Reply, Value};
@@ -42,3 +45,4 @@ pub use setup_fault::SetupFault;
 pub use steps::{How, Item, StageEnd, WordOp};
 pub use texts::ReplyLine;
 pub use translations::{CoreEnd, Translation, Translations};
+pub use verbs::{Object, Verb, verb_name};

@@ -1,9 +1,8 @@
-//! The words and numbers of kinds, calls and replies.
+//! The words and numbers of kinds and replies.
 
 ghost use Rattle.std.specs.Prelude.{◌≡◌};
-ghost use Rattle.spk_nums.specs.Names.{kind_word, frame_kind_word, call_word, reply_word, reply_code};
+ghost use Rattle.spk_nums.specs.Names.{kind_word, frame_kind_word, reply_word, reply_code};
 
-use crate::calls::Call;
 use crate::kinds::{FrameKind, Kind};
 use crate::replies::Reply;
 
@@ -34,59 +33,6 @@ pub fn frame_kind_name(kind: FrameKind) -> &'static str
         FrameKind::Untyped => "untyped",
         FrameKind::User => "user",
         FrameKind::Kernel => "kernel",
-    }
-}
-
-/// The word that a call begins with.
-pub fn call_name(call: &Call) -> &'static str
-    ensures { result.now ≡ call_word call.now }
-{
-    match call {
-        Call::Look { a: _ } => "look",
-        Call::Copy {
-            a: _,
-            t: _,
-            b: _,
-            rights: _,
-        } => "copy",
-        Call::Remove { t: _, b: _ } => "remove",
-        Call::Grow { t: _, i: _, l: _ } => "grow",
-        Call::Shrink { t: _, i: _ } => "shrink",
-        Call::Retype { r: _, f: _, k: _ } => "retype",
-        Call::Make {
-            what: _,
-            range: _,
-            frame: _,
-            table: _,
-            slot: _,
-        } => "make",
-        Call::Map {
-            p: _,
-            v: _,
-            r: _,
-            f: _,
-            w: _,
-        } => "map",
-        Call::Unmap { p: _, v: _ } => "unmap",
-        Call::Touch { v: _ } => "touch",
-        Call::Flush => "flush",
-        Call::Gate { c: _, t: _, b: _ } => "gate",
-        Call::Kill { c: _ } => "kill",
-        Call::Call { g: _ } => "call",
-        Call::Ret => "ret",
-        Call::Switch { h: _, q: _ } => "switch",
-        Call::Tick { n: _ } => "tick",
-        Call::Transfer { a: _, b: _, m: _ } => "transfer",
-        Call::Delegate { a: _, b: _, m: _ } => "delegate",
-        Call::Test { a: _, b: _ } => "test",
-        Call::Part {
-            r: _,
-            f: _,
-            n: _,
-            t: _,
-            b: _,
-        } => "part",
-        Call::Replenish { a: _, m: _ } => "replenish",
     }
 }
 

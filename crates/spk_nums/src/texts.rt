@@ -1,17 +1,16 @@
 //! Printed texts.
 
 ghost use Rattle.std.specs.Prelude.{Some, decimal};
-ghost use Rattle.spk_nums.specs.Texts.{call_text, cap_text, decision_text, reply_line_text};
+ghost use Rattle.spk_nums.specs.Texts.{cap_text, decision_text, reply_line_text};
 ghost use Rattle.spk_nums.specs.Names.{kind_word, frame_kind_word};
-ghost use Rattle.spk_nums.specs.Texts.{reply_text, basis_text, cap_text_by, copy_text, make_text, ok_text, site_text};
+ghost use Rattle.spk_nums.specs.Texts.{reply_text, cap_text_by, ok_text};
 
-use crate::calls::{Call, Make};
+use crate::calls::Call;
 use crate::cap::Cap;
 use crate::kinds::{FrameKind, Kind};
 use crate::names::{frame_kind_name, kind_name};
 use crate::numbers::{CapId, CoreNo, EntryNo, FrameArg, FrameNo, PageNo, Stamp};
 use crate::replies::{Decision, Reply, Value};
-use crate::rights::Rights;
 use std::fmt;
 
 impl fmt::Display for CoreNo {
@@ -132,176 +131,6 @@ impl fmt::Display for Named {
             kind => {
                 let name = kind_name(kind);
                 write!(f, "{name} {frame}")
-            }
-        }
-    }
-}
-
-impl fmt::Display for Call {
-    ghost output = { λ c. Some (call_text c) };
-
-    fn fmt<W: fmt::Write>(&self, f: &mut fmt::Formatter<W>) -> fmt::Result {
-        match self {
-            Call::Look { a } => write!(f, "look {a}"),
-            Call::Copy { a, t, b, rights } => {
-                let copied = Copying {
-                    a: *a,
-                    t: *t,
-                    b: *b,
-                    rights: *rights,
-                };
-                write!(f, "{copied}")
-            }
-            Call::Remove { t, b } => write!(f, "remove {t} {b}"),
-            Call::Grow { t, i, l } => write!(f, "grow {t} {i} {l}"),
-            Call::Shrink { t, i } => write!(f, "shrink {t} {i}"),
-            Call::Retype { r, f: frame, k } => {
-                let kind = frame_kind_name(*k);
-                write!(f, "retype {r} {frame} {kind}")
-            }
-            Call::Make {
-                what,
-                range,
-                frame,
-                table,
-                slot,
-            } => {
-                let made = Making {
-                    what,
-                    site: Site {
-                        range: *range,
-                        frame: *frame,
-                        table: *table,
-                        slot: *slot,
-                    },
-                };
-                write!(f, "{made}")
-            }
-            Call::Map {
-                p,
-                v,
-                r,
-                f: frame,
-                w,
-            } => {
-                let flags = w.number();
-                write!(f, "map {p} {v} {r} {frame} {flags}")
-            }
-            Call::Unmap { p, v } => write!(f, "unmap {p} {v}"),
-            Call::Touch { v } => write!(f, "touch {v}"),
-            Call::Flush => write!(f, "flush"),
-            Call::Gate { c, t, b } => write!(f, "gate {c} {t} {b}"),
-            Call::Kill { c } => write!(f, "kill {c}"),
-            Call::Call { g } => write!(f, "call {g}"),
-            Call::Ret => write!(f, "ret"),
-            Call::Switch { h, q } => write!(f, "switch {h} {q}"),
-            Call::Tick { n } => write!(f, "tick {n}"),
-            Call::Transfer { a, b, m } => write!(f, "transfer {a} {b} {m}"),
-            Call::Delegate { a, b, m } => write!(f, "delegate {a} {b} {m}"),
-            Call::Test { a, b } => write!(f, "test {a} {b}"),
-            Call::Part {
-                r,
-                f: frame,
-                n,
-                t,
-                b,
-            } => write!(f, "part {r} {frame} {n} {t} {b}"),
-            Call::Replenish { a, m } => write!(f, "replenish {a} {m}"),
-        }
-    }
-}
-
-/// A copy with its arguments, to be printed: the rights where they are not both.
-#[derive(Clone, Copy)]
-struct Copying {
-    a: CapId,
-    t: CapId,
-    b: CapId,
-    rights: Rights,
-}
-
-impl fmt::Display for Copying {
-    ghost output = { λ c. Some (copy_text c.a c.t c.b c.rights.0) };
-
-    fn fmt<W: fmt::Write>(&self, f: &mut fmt::Formatter<W>) -> fmt::Result {
-        let a = self.a;
-        let t = self.t;
-        let b = self.b;
-        let rights = self.rights.number();
-        if rights == 3 {
-            write!(f, "copy {a} {t} {b}")
-        } else {
-            write!(f, "copy {a} {t} {b} {rights}")
-        }
-    }
-}
-
-/// Where a make puts its object, to be printed: the range, the frame, the table and the slot.
-#[derive(Clone, Copy)]
-struct Site {
-    range: CapId,
-    frame: FrameArg,
-    table: CapId,
-    slot: CapId,
-}
-
-impl fmt::Display for Site {
-    ghost output = { λ s. Some (site_text s.range s.frame s.table s.slot) };
-
-    fn fmt<W: fmt::Write>(&self, f: &mut fmt::Formatter<W>) -> fmt::Result {
-        let range = self.range;
-        let frame = self.frame;
-        let table = self.table;
-        let slot = self.slot;
-        write!(f, "{range} {frame} {table} {slot}")
-    }
-}
-
-/// What a component is made on, to be printed: its table, its pages and its liveness number.
-#[derive(Clone, Copy)]
-struct Basis {
-    table: CapId,
-    pages: CapId,
-    live: u8,
-}
-
-impl fmt::Display for Basis {
-    ghost output = { λ b. Some (basis_text b.table b.pages b.live) };
-
-    fn fmt<W: fmt::Write>(&self, f: &mut fmt::Formatter<W>) -> fmt::Result {
-        let table = self.table;
-        let pages = self.pages;
-        let live = self.live;
-        write!(f, "{table} {pages} {live}")
-    }
-}
-
-/// A make with its arguments, to be printed.
-#[derive(Clone, Copy)]
-struct Making<'a> {
-    what: &'a Make,
-    site: Site,
-}
-
-impl<'a> fmt::Display for Making<'a> {
-    ghost output = { λ m. Some (make_text m.what.now m.site.range m.site.frame m.site.table m.site.slot) };
-
-    fn fmt<W: fmt::Write>(&self, f: &mut fmt::Formatter<W>) -> fmt::Result {
-        let site = &self.site;
-        match self.what {
-            Make::Table => write!(f, "make table {site}"),
-            Make::Leaf => write!(f, "make leaf {site}"),
-            Make::Pages => write!(f, "make pages {site}"),
-            Make::Pleaf => write!(f, "make pleaf {site}"),
-            Make::Thread { comp } => write!(f, "make thread {site} {comp}"),
-            Make::Tcap { sched, quality } => write!(f, "make tcap {site} {sched} {quality}"),
-            Make::Comp { table, pages, live } => {
-                let basis = Basis {
-                    table: *table,
-                    pages: *pages,
-                    live: *live,
-                };
-                write!(f, "make comp {site} {basis}")
             }
         }
     }
