@@ -1,2 +1,5 @@
+pub mod Judgements
+pub mod Forms
+pub mod Verbs
 mod OneLine
 mod Spelled

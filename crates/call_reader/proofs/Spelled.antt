@@ -1,11 +1,11 @@
 -- A word of a call, spelled, is that first word.
 use Rattle.std.proofs.Common.{◌≡◌, ℕ, List, Bool, true, refl, sym, ap, ◌∙◌}
-use Rattle.call_reader.specs.{verb_of, later_verb_of, first_word}
-use Rattle.call_reader.specs.{declared.first_words.Verb.Verb, FirstWords.spelled, FirstWords.in_version}
+use Rattle.spk_nums.specs.{declared.verbs.Verb.Verb, Verbs.verb_word}
+use Rattle.call_reader.specs.{find_verb, first_word, FirstWords.in_version}
 use Rattle.{std.proofs.lemmas.Slice.Eq.bytes_eq-Decides, line_reader.specs.Arguments.is_word}
 
-word_of : (version : ℕ) (v : Verb) → first_word version (spelled v) ≡ in_version version v
-unfolding first_word verb_of later_verb_of is_word
+word_of : (version : ℕ) (v : Verb) → first_word version (verb_word v) ≡ in_version version v
+unfolding first_word find_verb is_word
 word_of version Verb.Look = refl
 word_of version _ = refl
 
@@ -13,6 +13,6 @@ is_same : (word name : List ℕ) → is_word word name ≡ true → word ≡ nam
 unfolding is_word
 is_same word name same = (bytes_eq-Decides word name).0 same
 
-pub found_word : (version : ℕ) (word name : List ℕ) (v : Verb) → is_word word name ≡ true → name ≡ spelled v
+pub found_word : (version : ℕ) (word name : List ℕ) (v : Verb) → is_word word name ≡ true → name ≡ verb_word v
     → in_version version v ≡ first_word version word
 found_word version word name v same is = sym (ap (first_word version) (is_same word name same ∙ is) ∙ word_of version v)

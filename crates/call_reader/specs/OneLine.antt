@@ -6,7 +6,7 @@ use Rattle.script_tokens.specs.declared.scanning.ByteFault.TheVariants.{NotAscii
 use Rattle.script_tokens.specs.declared.scanning.Ending.TheVariants.{Whole, Fault as Faulty}
 use Rattle.line_reader.specs.{declared.cause.Cause.Cause, declared.cause.Cause.TheVariants.S2, declared.cause.Cause.TheVariants.S7}
 use Rattle.line_reader.specs.{declared.cause.Cause.TheVariants.S8, declared.cause.Cause.TheVariants.S9, declared.cause.LineFault.LineFault}
-use Rattle.call_reader.specs.{declared.first_words.Verb.Verb, declared.first_words.FirstWord.FirstWord}
+use Rattle.{spk_nums.specs.declared.verbs.Verb.Verb, call_reader.specs.declared.first_words.FirstWord.FirstWord}
 use Rattle.call_reader.specs.{declared.first_words.FirstWord.TheVariants.Call as call_first, FirstWords.first_word, CallLines.call_line}
 use Rattle.{spk_nums.specs.declared.calls.Call.Call, script_tokens.specs.declared.scanning.Ending.Ending}
 

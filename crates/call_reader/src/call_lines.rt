@@ -3,25 +3,20 @@
 ghost use Rattle.std.specs.Prelude.{◌≡◌, ◌<◌, IfOk};
 ghost use Rattle.spk_nums.specs.CallLimits.{InLimits, MakeInLimits};
 ghost use Rattle.line_reader.specs.Arguments.{texts};
-ghost use Rattle.call_reader.specs.CallLines.{fourth_at, both_at, rights_at};
-ghost use Rattle.call_reader.specs.CallLines.{look_line, copy_line, remove_line, grow_line, shrink_line, retype_line, map_line};
-ghost use Rattle.call_reader.specs.CallLines.{unmap_line, touch_line, flush_line, gate_line, kill_line, enter_line, ret_line};
-ghost use Rattle.call_reader.specs.CallLines.{switch_line, tick_line, transfer_line, delegate_line, test_line, part_line};
-ghost use Rattle.call_reader.specs.CallLines.{replenish_line, object_of};
-ghost use Rattle.call_reader.specs.CallLines.{object_at, thread_at, tcap_at, comp_at, plain_at, made_at, make_line, call_line};
+ghost use Rattle.call_reader.specs.CallLines.{Says, object_form, object_of, object_at, read_form, call_line};
+ghost use Rattle.call_reader.specs.Sites.{made};
 
 use crate::arguments::{
     amount_at, byte_at, capability_at, count_at, entry_at, frame_at, frame_kind_at, page_at,
     whole_at,
 };
-use crate::first_words::Verb;
 use line_reader::{Cause, end_at, is_word, word_at};
 use script_tokens::Token;
-use spk_nums::{Call, Make, PageFlags, Rights};
+use spk_nums::{Call, CapId, FrameArg, Make, Object, PageFlags, Rights, Verb};
 
-#[tactic(auto, unfolding(crate::specs::CallLines::look_line))]
+#[tactic(auto, unfolding(crate::specs::CallLines::call_line))]
 fn look_line(words: &[Token]) -> Result<Call, Cause>
-    ensures value { result ≡ look_line (texts words.now) }
+    ensures value { result ≡ call_line 3 (texts words.now) Verb.Look }
     ensures range { IfOk result InLimits }
 {
     let a = capability_at(words, 1)?;
@@ -29,55 +24,28 @@ fn look_line(words: &[Token]) -> Result<Call, Cause>
     Ok(Call::Look { a })
 }
 
-// The fourth number of a `copy`.
-#[tactic(auto, unfolding(crate::specs::CallLines::fourth_at))]
-fn fourth_at(words: &[Token]) -> Result<Rights, Cause>
-    ensures value { result ≡ fourth_at (texts words.now) }
-    ensures range { IfOk result (λ r. r.0 < 4) }
-{
-    let rights = byte_at(words, 4, 0, 3)?;
-    end_at(words, 5)?;
-    Ok(Rights::of_bits(rights))
-}
-
-// Both rights, where nothing comes after `copy A T B`.
-#[tactic(auto, unfolding(crate::specs::CallLines::both_at))]
-fn both_at(words: &[Token]) -> Result<Rights, Cause>
-    ensures value { result ≡ both_at (texts words.now) }
-    ensures range { IfOk result (λ r. r.0 < 4) }
-{
-    end_at(words, 4)?;
-    Ok(Rights::both())
-}
-
-// The rights after `copy A T B`.
-#[tactic(auto, unfolding(crate::specs::CallLines::rights_at))]
-fn rights_at(words: &[Token], version: u8) -> Result<Rights, Cause>
-    ensures value { result ≡ rights_at version (texts words.now) }
-    ensures range { IfOk result (λ r. r.0 < 4) }
-{
-    if 2 <= version && 4 < words.len() {
-        fourth_at(words)
-    } else {
-        both_at(words)
-    }
-}
-
-#[tactic(auto, unfolding(crate::specs::CallLines::copy_line))]
+#[tactic(auto, unfolding(crate::specs::CallLines::call_line))]
 fn copy_line(words: &[Token], version: u8) -> Result<Call, Cause>
-    ensures value { result ≡ copy_line version (texts words.now) }
+    ensures value { result ≡ call_line version (texts words.now) Verb.Copy }
     ensures range { IfOk result InLimits }
 {
     let a = capability_at(words, 1)?;
     let t = capability_at(words, 2)?;
     let b = capability_at(words, 3)?;
-    let rights = rights_at(words, version)?;
+    let rights = if 2 <= version && 4 < words.len() {
+        let bits = byte_at(words, 4, 0, 3)?;
+        end_at(words, 5)?;
+        Rights::of_bits(bits)
+    } else {
+        end_at(words, 4)?;
+        Rights::both()
+    };
     Ok(Call::Copy { a, t, b, rights })
 }
 
-#[tactic(auto, unfolding(crate::specs::CallLines::remove_line))]
+#[tactic(auto, unfolding(crate::specs::CallLines::call_line))]
 fn remove_line(words: &[Token]) -> Result<Call, Cause>
-    ensures value { result ≡ remove_line (texts words.now) }
+    ensures value { result ≡ call_line 3 (texts words.now) Verb.Remove }
     ensures range { IfOk result InLimits }
 {
     let t = capability_at(words, 1)?;
@@ -86,9 +54,9 @@ fn remove_line(words: &[Token]) -> Result<Call, Cause>
     Ok(Call::Remove { t, b })
 }
 
-#[tactic(auto, unfolding(crate::specs::CallLines::grow_line))]
+#[tactic(auto, unfolding(crate::specs::CallLines::call_line))]
 fn grow_line(words: &[Token]) -> Result<Call, Cause>
-    ensures value { result ≡ grow_line (texts words.now) }
+    ensures value { result ≡ call_line 3 (texts words.now) Verb.Grow }
     ensures range { IfOk result InLimits }
 {
     let t = capability_at(words, 1)?;
@@ -98,9 +66,9 @@ fn grow_line(words: &[Token]) -> Result<Call, Cause>
     Ok(Call::Grow { t, i, l })
 }
 
-#[tactic(auto, unfolding(crate::specs::CallLines::shrink_line))]
+#[tactic(auto, unfolding(crate::specs::CallLines::call_line))]
 fn shrink_line(words: &[Token]) -> Result<Call, Cause>
-    ensures value { result ≡ shrink_line (texts words.now) }
+    ensures value { result ≡ call_line 3 (texts words.now) Verb.Shrink }
     ensures range { IfOk result InLimits }
 {
     let t = capability_at(words, 1)?;
@@ -109,9 +77,9 @@ fn shrink_line(words: &[Token]) -> Result<Call, Cause>
     Ok(Call::Shrink { t, i })
 }
 
-#[tactic(auto, unfolding(crate::specs::CallLines::retype_line))]
+#[tactic(auto, unfolding(crate::specs::CallLines::call_line))]
 fn retype_line(words: &[Token]) -> Result<Call, Cause>
-    ensures value { result ≡ retype_line (texts words.now) }
+    ensures value { result ≡ call_line 3 (texts words.now) Verb.Retype }
     ensures range { IfOk result InLimits }
 {
     let r = capability_at(words, 1)?;
@@ -121,9 +89,9 @@ fn retype_line(words: &[Token]) -> Result<Call, Cause>
     Ok(Call::Retype { r, f, k })
 }
 
-#[tactic(auto, unfolding(crate::specs::CallLines::map_line))]
+#[tactic(auto, unfolding(crate::specs::CallLines::call_line))]
 fn map_line(words: &[Token]) -> Result<Call, Cause>
-    ensures value { result ≡ map_line (texts words.now) }
+    ensures value { result ≡ call_line 3 (texts words.now) Verb.Map }
     ensures range { IfOk result InLimits }
 {
     let p = capability_at(words, 1)?;
@@ -141,9 +109,9 @@ fn map_line(words: &[Token]) -> Result<Call, Cause>
     })
 }
 
-#[tactic(auto, unfolding(crate::specs::CallLines::unmap_line))]
+#[tactic(auto, unfolding(crate::specs::CallLines::call_line))]
 fn unmap_line(words: &[Token]) -> Result<Call, Cause>
-    ensures value { result ≡ unmap_line (texts words.now) }
+    ensures value { result ≡ call_line 3 (texts words.now) Verb.Unmap }
     ensures range { IfOk result InLimits }
 {
     let p = capability_at(words, 1)?;
@@ -152,9 +120,9 @@ fn unmap_line(words: &[Token]) -> Result<Call, Cause>
     Ok(Call::Unmap { p, v })
 }
 
-#[tactic(auto, unfolding(crate::specs::CallLines::touch_line))]
+#[tactic(auto, unfolding(crate::specs::CallLines::call_line))]
 fn touch_line(words: &[Token]) -> Result<Call, Cause>
-    ensures value { result ≡ touch_line (texts words.now) }
+    ensures value { result ≡ call_line 3 (texts words.now) Verb.Touch }
     ensures range { IfOk result InLimits }
 {
     let v = page_at(words, 1)?;
@@ -162,18 +130,18 @@ fn touch_line(words: &[Token]) -> Result<Call, Cause>
     Ok(Call::Touch { v })
 }
 
-#[tactic(auto, unfolding(crate::specs::CallLines::flush_line))]
+#[tactic(auto, unfolding(crate::specs::CallLines::call_line))]
 fn flush_line(words: &[Token]) -> Result<Call, Cause>
-    ensures value { result ≡ flush_line (texts words.now) }
+    ensures value { result ≡ call_line 3 (texts words.now) Verb.Flush }
     ensures range { IfOk result InLimits }
 {
     end_at(words, 1)?;
     Ok(Call::Flush)
 }
 
-#[tactic(auto, unfolding(crate::specs::CallLines::gate_line))]
+#[tactic(auto, unfolding(crate::specs::CallLines::call_line))]
 fn gate_line(words: &[Token]) -> Result<Call, Cause>
-    ensures value { result ≡ gate_line (texts words.now) }
+    ensures value { result ≡ call_line 3 (texts words.now) Verb.Gate }
     ensures range { IfOk result InLimits }
 {
     let c = capability_at(words, 1)?;
@@ -183,9 +151,9 @@ fn gate_line(words: &[Token]) -> Result<Call, Cause>
     Ok(Call::Gate { c, t, b })
 }
 
-#[tactic(auto, unfolding(crate::specs::CallLines::kill_line))]
+#[tactic(auto, unfolding(crate::specs::CallLines::call_line))]
 fn kill_line(words: &[Token]) -> Result<Call, Cause>
-    ensures value { result ≡ kill_line (texts words.now) }
+    ensures value { result ≡ call_line 3 (texts words.now) Verb.Kill }
     ensures range { IfOk result InLimits }
 {
     let c = capability_at(words, 1)?;
@@ -193,9 +161,9 @@ fn kill_line(words: &[Token]) -> Result<Call, Cause>
     Ok(Call::Kill { c })
 }
 
-#[tactic(auto, unfolding(crate::specs::CallLines::enter_line))]
+#[tactic(auto, unfolding(crate::specs::CallLines::call_line))]
 fn enter_line(words: &[Token]) -> Result<Call, Cause>
-    ensures value { result ≡ enter_line (texts words.now) }
+    ensures value { result ≡ call_line 3 (texts words.now) Verb.Call }
     ensures range { IfOk result InLimits }
 {
     let g = capability_at(words, 1)?;
@@ -203,18 +171,18 @@ fn enter_line(words: &[Token]) -> Result<Call, Cause>
     Ok(Call::Call { g })
 }
 
-#[tactic(auto, unfolding(crate::specs::CallLines::ret_line))]
+#[tactic(auto, unfolding(crate::specs::CallLines::call_line))]
 fn ret_line(words: &[Token]) -> Result<Call, Cause>
-    ensures value { result ≡ ret_line (texts words.now) }
+    ensures value { result ≡ call_line 3 (texts words.now) Verb.Ret }
     ensures range { IfOk result InLimits }
 {
     end_at(words, 1)?;
     Ok(Call::Ret)
 }
 
-#[tactic(auto, unfolding(crate::specs::CallLines::switch_line))]
+#[tactic(auto, unfolding(crate::specs::CallLines::call_line))]
 fn switch_line(words: &[Token]) -> Result<Call, Cause>
-    ensures value { result ≡ switch_line (texts words.now) }
+    ensures value { result ≡ call_line 3 (texts words.now) Verb.Switch }
     ensures range { IfOk result InLimits }
 {
     let h = capability_at(words, 1)?;
@@ -223,9 +191,9 @@ fn switch_line(words: &[Token]) -> Result<Call, Cause>
     Ok(Call::Switch { h, q })
 }
 
-#[tactic(auto, unfolding(crate::specs::CallLines::tick_line))]
+#[tactic(auto, unfolding(crate::specs::CallLines::call_line))]
 fn tick_line(words: &[Token]) -> Result<Call, Cause>
-    ensures value { result ≡ tick_line (texts words.now) }
+    ensures value { result ≡ call_line 3 (texts words.now) Verb.Tick }
     ensures range { IfOk result InLimits }
 {
     let n = whole_at(words, 1, 0, 1_000_000)?;
@@ -233,9 +201,9 @@ fn tick_line(words: &[Token]) -> Result<Call, Cause>
     Ok(Call::Tick { n })
 }
 
-#[tactic(auto, unfolding(crate::specs::CallLines::transfer_line))]
+#[tactic(auto, unfolding(crate::specs::CallLines::call_line))]
 fn transfer_line(words: &[Token]) -> Result<Call, Cause>
-    ensures value { result ≡ transfer_line (texts words.now) }
+    ensures value { result ≡ call_line 3 (texts words.now) Verb.Transfer }
     ensures range { IfOk result InLimits }
 {
     let a = capability_at(words, 1)?;
@@ -245,9 +213,9 @@ fn transfer_line(words: &[Token]) -> Result<Call, Cause>
     Ok(Call::Transfer { a, b, m })
 }
 
-#[tactic(auto, unfolding(crate::specs::CallLines::delegate_line))]
+#[tactic(auto, unfolding(crate::specs::CallLines::call_line))]
 fn delegate_line(words: &[Token]) -> Result<Call, Cause>
-    ensures value { result ≡ delegate_line (texts words.now) }
+    ensures value { result ≡ call_line 3 (texts words.now) Verb.Delegate }
     ensures range { IfOk result InLimits }
 {
     let a = capability_at(words, 1)?;
@@ -257,9 +225,9 @@ fn delegate_line(words: &[Token]) -> Result<Call, Cause>
     Ok(Call::Delegate { a, b, m })
 }
 
-#[tactic(auto, unfolding(crate::specs::CallLines::test_line))]
+#[tactic(auto, unfolding(crate::specs::CallLines::call_line))]
 fn test_line(words: &[Token]) -> Result<Call, Cause>
-    ensures value { result ≡ test_line (texts words.now) }
+    ensures value { result ≡ call_line 3 (texts words.now) Verb.Test }
     ensures range { IfOk result InLimits }
 {
     let a = capability_at(words, 1)?;
@@ -268,9 +236,9 @@ fn test_line(words: &[Token]) -> Result<Call, Cause>
     Ok(Call::Test { a, b })
 }
 
-#[tactic(auto, unfolding(crate::specs::CallLines::part_line))]
+#[tactic(auto, unfolding(crate::specs::CallLines::call_line))]
 fn part_line(words: &[Token]) -> Result<Call, Cause>
-    ensures value { result ≡ part_line (texts words.now) }
+    ensures value { result ≡ call_line 3 (texts words.now) Verb.Part }
     ensures range { IfOk result InLimits }
 {
     let r = capability_at(words, 1)?;
@@ -282,27 +250,15 @@ fn part_line(words: &[Token]) -> Result<Call, Cause>
     Ok(Call::Part { r, f, n, t, b })
 }
 
-#[tactic(auto, unfolding(crate::specs::CallLines::replenish_line))]
+#[tactic(auto, unfolding(crate::specs::CallLines::call_line))]
 fn replenish_line(words: &[Token]) -> Result<Call, Cause>
-    ensures value { result ≡ replenish_line (texts words.now) }
+    ensures value { result ≡ call_line 3 (texts words.now) Verb.Replenish }
     ensures range { IfOk result InLimits }
 {
     let a = capability_at(words, 1)?;
     let m = amount_at(words, 2)?;
     end_at(words, 3)?;
     Ok(Call::Replenish { a, m })
-}
-
-/// What a `make` names.
-#[derive(Clone, Copy, Debug, PartialEq, Eq)]
-enum Object {
-    Table,
-    Leaf,
-    Pages,
-    Pleaf,
-    Thread,
-    Tcap,
-    Comp,
 }
 
 #[tactic(auto, unfolding(crate::specs::CallLines::object_of))]
@@ -329,90 +285,105 @@ fn object_of(word: &[u8]) -> Option<Object>
 }
 
 #[tactic(auto, unfolding(crate::specs::CallLines::object_at))]
-fn object_at(words: &[Token]) -> Result<Object, Cause>
-    ensures { result ≡ object_at (texts words.now) }
+fn object_at(words: &[Token], place: usize) -> Result<Object, Cause>
+    ensures { result ≡ object_at (texts words.now) place }
 {
-    let word = word_at(words, 1)?;
+    let word = word_at(words, place)?;
     object_of(word).ok_or(Cause::S2)
 }
 
-#[tactic(auto, unfolding(crate::specs::CallLines::thread_at))]
-fn thread_at(words: &[Token]) -> Result<Make, Cause>
-    ensures value { result ≡ thread_at (texts words.now) }
-    ensures range { IfOk result MakeInLimits }
+// Where a `make` puts its object: a range, a frame, a table and a slot.
+#[derive(Clone, Copy)]
+struct Site {
+    range: CapId,
+    frame: FrameArg,
+    table: CapId,
+    slot: CapId,
+}
+
+fn make(site: Site, what: Make) -> Call
+    ensures { result ≡ made site what }
+{
+    Call::Make {
+        what,
+        range: site.range,
+        frame: site.frame,
+        table: site.table,
+        slot: site.slot,
+    }
+}
+
+fn thread_at(words: &[Token], site: Site) -> Result<Call, Cause>
+    ensures value { result ≡ read_form 3 (texts words.now) 6 (object_form Object.Thread (λ what. Says (made site what))) }
+    ensures range { IfOk result InLimits }
 {
     let comp = capability_at(words, 6)?;
     end_at(words, 7)?;
-    Ok(Make::Thread { comp })
+    Ok(make(site, Make::Thread { comp }))
 }
 
-#[tactic(auto, unfolding(crate::specs::CallLines::tcap_at))]
-fn tcap_at(words: &[Token]) -> Result<Make, Cause>
-    ensures value { result ≡ tcap_at (texts words.now) }
-    ensures range { IfOk result MakeInLimits }
+fn tcap_at(words: &[Token], site: Site) -> Result<Call, Cause>
+    ensures value { result ≡ read_form 3 (texts words.now) 6 (object_form Object.Tcap (λ what. Says (made site what))) }
+    ensures range { IfOk result InLimits }
 {
     let sched = byte_at(words, 6, 0, 63)?;
     let quality = whole_at(words, 7, 1, 16_777_215)?;
     end_at(words, 8)?;
-    Ok(Make::Tcap { sched, quality })
+    Ok(make(site, Make::Tcap { sched, quality }))
 }
 
-#[tactic(auto, unfolding(crate::specs::CallLines::comp_at))]
-fn comp_at(words: &[Token]) -> Result<Make, Cause>
-    ensures value { result ≡ comp_at (texts words.now) }
-    ensures range { IfOk result MakeInLimits }
+fn comp_at(words: &[Token], site: Site) -> Result<Call, Cause>
+    ensures value { result ≡ read_form 3 (texts words.now) 6 (object_form Object.Comp (λ what. Says (made site what))) }
+    ensures range { IfOk result InLimits }
 {
     let table = capability_at(words, 6)?;
     let pages = capability_at(words, 7)?;
     let live = byte_at(words, 8, 0, 63)?;
     end_at(words, 9)?;
-    Ok(Make::Comp { table, pages, live })
+    Ok(make(site, Make::Comp { table, pages, live }))
 }
 
-#[tactic(auto, unfolding(crate::specs::CallLines::plain_at))]
-fn plain_at(words: &[Token], what: Make) -> Result<Make, Cause>
+fn plain_at(words: &[Token], site: Site, what: Make) -> Result<Call, Cause>
     requires { MakeInLimits what }
-    ensures value { result ≡ plain_at (texts words.now) what }
-    ensures range { IfOk result MakeInLimits }
+    ensures value { result ≡ read_form 3 (texts words.now) 6 (Says (made site what)) }
+    ensures range { IfOk result InLimits }
 {
     end_at(words, 6)?;
-    Ok(what)
+    Ok(make(site, what))
 }
 
-#[tactic(auto, unfolding(crate::specs::CallLines::made_at))]
-fn made_at(words: &[Token], object: Object) -> Result<Make, Cause>
-    ensures value { result ≡ made_at (texts words.now) object }
-    ensures range { IfOk result MakeInLimits }
+fn made_at(words: &[Token], object: Object, site: Site) -> Result<Call, Cause>
+    ensures value { result ≡ read_form 3 (texts words.now) 6 (object_form object (λ what. Says (made site what))) }
+    ensures range { IfOk result InLimits }
 {
     match object {
-        Object::Table => plain_at(words, Make::Table),
-        Object::Leaf => plain_at(words, Make::Leaf),
-        Object::Pages => plain_at(words, Make::Pages),
-        Object::Pleaf => plain_at(words, Make::Pleaf),
-        Object::Thread => thread_at(words),
-        Object::Tcap => tcap_at(words),
-        Object::Comp => comp_at(words),
+        Object::Table => plain_at(words, site, Make::Table),
+        Object::Leaf => plain_at(words, site, Make::Leaf),
+        Object::Pages => plain_at(words, site, Make::Pages),
+        Object::Pleaf => plain_at(words, site, Make::Pleaf),
+        Object::Thread => thread_at(words, site),
+        Object::Tcap => tcap_at(words, site),
+        Object::Comp => comp_at(words, site),
     }
 }
 
-#[tactic(auto, unfolding(crate::specs::CallLines::make_line))]
+#[tactic(auto, unfolding(crate::specs::CallLines::call_line))]
 fn make_line(words: &[Token]) -> Result<Call, Cause>
-    ensures value { result ≡ make_line (texts words.now) }
+    ensures value { result ≡ call_line 3 (texts words.now) Verb.Make }
     ensures range { IfOk result InLimits }
 {
-    let object = object_at(words)?;
+    let object = object_at(words, 1)?;
     let range = capability_at(words, 2)?;
     let frame = frame_at(words, 3)?;
     let table = capability_at(words, 4)?;
     let slot = capability_at(words, 5)?;
-    let what = made_at(words, object)?;
-    Ok(Call::Make {
-        what,
+    let site = Site {
         range,
         frame,
         table,
         slot,
-    })
+    };
+    made_at(words, object, site)
 }
 
 /// The call of a line whose first word is that of a call, in a script of this version.

@@ -4,36 +4,10 @@
 //! what is not that one is compared with each first word.
 
 ghost use Rattle.std.specs.Prelude.{◌≡◌};
-ghost use Rattle.call_reader.specs.FirstWords.{late_verb, verb_of, later_verb_of, first_word, spelled, in_version};
+ghost use Rattle.call_reader.specs.FirstWords.{verb_in, find_verb, later_verbs, verb_of, first_word, in_version};
 
 use line_reader::is_word;
-
-/// The word of a call.
-#[derive(Clone, Copy, Debug, PartialEq, Eq)]
-pub enum Verb {
-    Look,
-    Copy,
-    Remove,
-    Grow,
-    Shrink,
-    Retype,
-    Make,
-    Map,
-    Unmap,
-    Touch,
-    Flush,
-    Gate,
-    Kill,
-    Call,
-    Ret,
-    Switch,
-    Tick,
-    Transfer,
-    Delegate,
-    Test,
-    Part,
-    Replenish,
-}
+use spk_nums::{Verb, verb_name};
 
 /// A known first word.
 #[derive(Clone, Copy, Debug, PartialEq, Eq)]
@@ -49,7 +23,7 @@ pub enum FirstWord {
     Call(Verb),
 }
 
-#[tactic(auto, unfolding(crate::specs::FirstWords::verb_of))]
+#[tactic(auto, unfolding(crate::specs::FirstWords::find_verb))]
 fn verb_of(word: &[u8], version: u8) -> Option<Verb>
     ensures { result ≡ verb_of version word.now }
 {
@@ -78,16 +52,19 @@ fn verb_of(word: &[u8], version: u8) -> Option<Verb>
     }
 }
 
-// The word of a call that there is from version 3 on.
-fn late_verb(version: u8, verb: Verb) -> Option<Verb>
-    ensures { result ≡ late_verb version verb }
+// The word of a call, where a script of this version has it.
+fn verb_in(version: u8, verb: Verb) -> Option<Verb>
+    ensures { result ≡ verb_in version verb }
 {
-    if 3 <= version { Some(verb) } else { None }
+    match verb {
+        Verb::Part | Verb::Replenish => if 3 <= version { Some(verb) } else { None },
+        _ => Some(verb),
+    }
 }
 
-#[tactic(auto, unfolding(crate::specs::FirstWords::later_verb_of))]
+#[tactic(auto, unfolding(crate::specs::FirstWords::find_verb))]
 fn later_verb_of(word: &[u8], version: u8) -> Option<Verb>
-    ensures { result ≡ later_verb_of version word.now }
+    ensures { result ≡ find_verb version word.now later_verbs }
 {
     if is_word(word, "flush") {
         Some(Verb::Flush)
@@ -110,41 +87,11 @@ fn later_verb_of(word: &[u8], version: u8) -> Option<Verb>
     } else if is_word(word, "test") {
         Some(Verb::Test)
     } else if is_word(word, "part") {
-        late_verb(version, Verb::Part)
+        verb_in(version, Verb::Part)
     } else if is_word(word, "replenish") {
-        late_verb(version, Verb::Replenish)
+        verb_in(version, Verb::Replenish)
     } else {
         None
-    }
-}
-
-// The word of a call as it is spelled.
-fn spelled(verb: Verb) -> &'static str
-    ensures { result.now ≡ spelled verb }
-{
-    match verb {
-        Verb::Look => "look",
-        Verb::Copy => "copy",
-        Verb::Remove => "remove",
-        Verb::Grow => "grow",
-        Verb::Shrink => "shrink",
-        Verb::Retype => "retype",
-        Verb::Make => "make",
-        Verb::Map => "map",
-        Verb::Unmap => "unmap",
-        Verb::Touch => "touch",
-        Verb::Flush => "flush",
-        Verb::Gate => "gate",
-        Verb::Kill => "kill",
-        Verb::Call => "call",
-        Verb::Ret => "ret",
-        Verb::Switch => "switch",
-        Verb::Tick => "tick",
-        Verb::Transfer => "transfer",
-        Verb::Delegate => "delegate",
-        Verb::Test => "test",
-        Verb::Part => "part",
-        Verb::Replenish => "replenish",
     }
 }
 
@@ -152,15 +99,9 @@ fn spelled(verb: Verb) -> &'static str
 fn in_version(version: u8, verb: Verb) -> Option<FirstWord>
     ensures { result ≡ in_version version verb }
 {
-    match verb {
-        Verb::Part | Verb::Replenish => {
-            if 3 <= version {
-                Some(FirstWord::Call(verb))
-            } else {
-                None
-            }
-        }
-        _ => Some(FirstWord::Call(verb)),
+    match verb_in(version, verb) {
+        Some(v) => Some(FirstWord::Call(v)),
+        None => None,
     }
 }
 
@@ -248,7 +189,7 @@ pub fn first_word(word: &[u8], version: u8) -> Option<FirstWord>
     ensures { result ≡ first_word version word.now }
 {
     if let Some(verb) = likely(word) {
-        if is_word(word, spelled(verb)) {
+        if is_word(word, verb_name(verb)) {
             return in_version(version, verb);
         }
     }

@@ -11,6 +11,7 @@ mod versions;
 
 pub use arguments::{byte_at, capability_at, core_at, half_at, whole_at};
 pub use call_lines::call_line;
-pub use first_words::{FirstWord, Verb, first_word};
+pub use first_words::{FirstWord, first_word};
 pub use one_line::{read_call, verb_at};
+pub use spk_nums::Verb;
 pub use versions::most_calls;

@@ -7,10 +7,10 @@ ghost use Rattle.line_reader.specs.Arguments.{texts};
 ghost use Rattle.call_reader.specs.OneLine.{verb_at, call_at, call_by, call_of, IsCallOf};
 
 use crate::call_lines::call_line;
-use crate::first_words::{FirstWord, Verb, first_word};
+use crate::first_words::{FirstWord, first_word};
 use line_reader::{Cause, LineFault, word_at};
 use script_tokens::{ByteFault, Ending, Scanned, Token, scan};
-use spk_nums::{Call, Make};
+use spk_nums::{Call, Make, Verb};
 use std::alloc::Global;
 
 /// The word of a call that these words begin with in a script of this version: S3 where there is none, S2 of an unknown first word, S7 of
