@@ -1,6 +1,6 @@
 -- What a step leaves of a core's call, and its next step, as whole calls need them.
 use Rattle.std.proofs.Common.{◌≡◌, ℕ, Option, Some, None, IsSome, refl}
-use Rattle.core_words.specs.Due.{due_of}
+use Rattle.straight_acts.specs.core_words.specs.Due.{due_of}
 use Rattle.step_looks.specs.word_map.specs.Moves.{op_of}
 use Rattle.step_looks.specs.act_states.specs.declared.own.Own.{Own}
 use Rattle.spk_nums.specs.declared.replies.Reply.{Reply}

@@ -14,6 +14,7 @@ mod port;
 mod seats;
 mod threads;
 
+pub use core_kernel;
 pub use core_kernel::CoreNote;
 pub use finish::{FinishFault, Unfinished};
 pub use named::{Names, NoteOf, PortOf, SeatsOf};

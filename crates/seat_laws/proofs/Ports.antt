@@ -1,7 +1,7 @@
 -- What a port tells of worlds, by projections of the record of a history.
-use Rattle.core_kernel.specs.flight_laws.specs as low
+use Rattle.core_machine.specs.core_kernel.specs.flight_laws.specs as low
 use low.flight.specs.step_ways.proofs.{inl, inr, ℕ, List, [], Ok, Err, sym, subst, Setting, Call, Reply, CoreEnd, Trace, state_after}
-use Rattle.core_kernel.specs.{HasSeen, MakesCall, EndsAt, KernelValue, CoreSeatValue}
+use Rattle.core_machine.specs.core_kernel.specs.{HasSeen, MakesCall, EndsAt, KernelValue, CoreSeatValue}
 use Rattle.std.proofs.Common.{IfOk, Result}
 use low.isolation_laws.specs.world_laws.specs.{IsSealed, AreApart}
 use Rattle.seat_laws.specs.Ports.{TellsOfWorlds, StaySince, EndsInWorlds}

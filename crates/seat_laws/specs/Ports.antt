@@ -1,12 +1,15 @@
 -- What a port tells of worlds.
 use Rattle.std.specs.Prelude.{◌≡◌, ◌⊎◌, ◌++◌}
-use Rattle.core_kernel.specs.flight_laws.specs.core_invariant.specs.{ℕ, Bool, List, slice_get, Some, Setting, Kind, CoreEnd}
-use Rattle.core_kernel.specs.flight_laws.specs.core_invariant.specs.{shape_of, Represent, word_in, end_in, Trace, state_after}
-use Rattle.core_kernel.specs.flight_laws.specs.isolation_laws.specs.{CarriedOutBy, WorksInside, WorldsStay}
-use Rattle.core_kernel.specs.flight_laws.specs.isolation_laws.specs.world_laws.specs.{OnlyGates, IsSealed, AreApart}
-use Rattle.core_kernel.specs.{KernelValue, CoreSeatValue}
-use Rattle.core_kernel.specs.flight_laws.specs.history_laws.specs.{AtEachStep, OfEachStretch}
-use Rattle.core_kernel.specs.flight_laws.specs.isolation_laws.specs.{Authority.HasAuthority, Worlds.SparesWorlds, Worlds.EntersWorlds}
+use Rattle.core_machine.specs.core_kernel.specs.flight_laws.specs.core_invariant.specs.{ℕ, Bool, List, slice_get, Some, Setting, Kind}
+use Rattle.core_machine.specs.core_kernel.specs.flight_laws.specs.core_invariant.specs.{CoreEnd}
+use Rattle.core_machine.specs.core_kernel.specs.flight_laws.specs.core_invariant.specs.{shape_of, Represent, word_in, end_in, Trace}
+use Rattle.core_machine.specs.core_kernel.specs.flight_laws.specs.core_invariant.specs.{state_after}
+use Rattle.core_machine.specs.core_kernel.specs.flight_laws.specs.isolation_laws.specs.{CarriedOutBy, WorksInside, WorldsStay}
+use Rattle.core_machine.specs.core_kernel.specs.flight_laws.specs.isolation_laws.specs.world_laws.specs.{OnlyGates, IsSealed, AreApart}
+use Rattle.core_machine.specs.core_kernel.specs.{KernelValue, CoreSeatValue}
+use Rattle.core_machine.specs.core_kernel.specs.flight_laws.specs.history_laws.specs.{AtEachStep, OfEachStretch}
+use Rattle.core_machine.specs.core_kernel.specs.flight_laws.specs.isolation_laws.specs.{Authority.HasAuthority, Worlds.SparesWorlds}
+use Rattle.core_machine.specs.core_kernel.specs.flight_laws.specs.isolation_laws.specs.{Worlds.EntersWorlds}
 
 -- Of a trace: each step has authority for what it changes; each step of a core that works outside a sealed world spares
 -- it; cores come to work in worlds by gates, returns and switches; and over each stretch of steps worlds stay.

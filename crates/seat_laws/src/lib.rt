@@ -7,13 +7,13 @@
 
 ghost use Rattle.std.specs.Prelude.{◌≡◌, IfOk};
 ghost use Rattle.spk_nums.specs.CallLimits.{InLimits};
-ghost use Rattle.core_kernel.specs.Calls.{MakesCall};
-ghost use Rattle.core_kernel.specs.flight_laws.specs.history_laws.specs.Pages.{CachedFramesStay};
-ghost use Rattle.core_kernel.specs.flight_laws.specs.history_laws.specs.Threads.{ThreadsRunApart};
-ghost use Rattle.core_kernel.specs.flight_laws.specs.history_laws.specs.Time.{TimeIsKept};
+ghost use Rattle.core_machine.specs.core_kernel.specs.Calls.{MakesCall};
+ghost use Rattle.core_machine.specs.core_kernel.specs.flight_laws.specs.history_laws.specs.Pages.{CachedFramesStay};
+ghost use Rattle.core_machine.specs.core_kernel.specs.flight_laws.specs.history_laws.specs.Threads.{ThreadsRunApart};
+ghost use Rattle.core_machine.specs.core_kernel.specs.flight_laws.specs.history_laws.specs.Time.{TimeIsKept};
 ghost use Rattle.seat_laws.specs.Ports.{EndsInWorlds, StaySince, TellsOfWorlds};
 
-use core_kernel::{CoreSeat, Kernel};
+use core_machine::core_kernel::{CoreSeat, Kernel};
 use core_machine::{Port, Seats, Unfinished};
 use spk_nums::{Call, CoreNo, Make, Reply};
 use std::alloc::Global;

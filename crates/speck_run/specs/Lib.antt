@@ -1,4 +1,8 @@
 -- What the crates above name through this one.
+pub use Rattle.trace_run
+pub use Rattle.draw_run
+pub use Rattle.origins_run
+pub use Rattle.one_core
 pub use Rattle.whole_ends
 pub use Rattle.check_run
 pub use Rattle.explain_run

@@ -8,25 +8,25 @@
 
 ghost use Rattle.spk_nums.specs.declared.replies.Value.TheVariants.{Nothing};
 ghost use Rattle.std.specs.Prelude.{None, ◌<◌, ◌≡◌};
-ghost use Rattle.step_lands.specs.Standing.{IsActing, IsRemoving, IsSharing, IsTicking};
-ghost use Rattle.step_lands.specs.act_states.specs.declared.work.WorkStep.TheVariants.{Answers};
-ghost use Rattle.step_lands.specs.call_stages.specs.Fits.{StageFits};
-ghost use Rattle.step_lands.specs.call_stages.specs.Steps.{call_after, landed, told, took};
+ghost use Rattle.act_ends.specs.step_lands.specs.Standing.{IsActing, IsRemoving, IsSharing, IsTicking};
+ghost use Rattle.act_ends.specs.step_lands.specs.act_states.specs.declared.work.WorkStep.TheVariants.{Answers};
+ghost use Rattle.act_ends.specs.step_lands.specs.call_stages.specs.Fits.{StageFits};
+ghost use Rattle.act_ends.specs.step_lands.specs.call_stages.specs.Steps.{call_after, landed, told, took};
 
 use act_ends::call_acts::act_counts::ticks_of;
 use act_ends::call_acts::act_moves;
+use act_ends::step_lands::act_states::{Act, Own, Refusal, Tail, Work};
+use act_ends::step_lands::call_stages::{ActiveCall, Stage, Told};
+use act_ends::step_lands::{decide, goes_on, refused_late};
 use act_ends::{
     act_lands, charged, flushed, invoke_ends, removed, return_ends, share_ends, stays_owed,
     switch_ends,
 };
 use spk_nums::{Reply, StageEnd, Value};
-use step_lands::act_states::{Act, Own, Refusal, Tail, Work};
-use step_lands::call_stages::{ActiveCall, Stage, Told};
-use step_lands::{decide, goes_on, refused_late};
 
 /// A step of the call's act.
 #[inline(always)]
-#[tactic(auto, using(step_lands::proofs::Staged::told_from, step_lands::proofs::Staged::call_from))]
+#[tactic(auto, using(crate::proofs::Staged::told_from, crate::proofs::Staged::call_from))]
 pub fn act_step(active: &mut ActiveCall, own: &Own, found: u64, tells: &mut Told)
     requires fits { StageFits own.now.layout active.old.stage }
     requires acting { IsActing active.old.stage }
@@ -87,7 +87,7 @@ fn carried_out(active: &mut ActiveCall, tells: &mut Told)
 
 // A step of a removal.
 #[inline(never)]
-#[tactic(auto, using(step_lands::proofs::Staged::told_from, step_lands::proofs::Staged::call_from))]
+#[tactic(auto, using(crate::proofs::Staged::told_from, crate::proofs::Staged::call_from))]
 fn remove_step(active: &mut ActiveCall, own: &Own, found: u64, tells: &mut Told)
     requires fits { StageFits own.now.layout active.old.stage }
     requires removes { IsRemoving active.old.stage }
@@ -120,7 +120,7 @@ fn remove_step(active: &mut ActiveCall, own: &Own, found: u64, tells: &mut Told)
 
 // A step of a tick.
 #[inline(never)]
-#[tactic(auto, using(step_lands::proofs::Staged::told_from, step_lands::proofs::Staged::call_from))]
+#[tactic(auto, using(crate::proofs::Staged::told_from, crate::proofs::Staged::call_from))]
 fn tick_step(active: &mut ActiveCall, own: &Own, found: u64, tells: &mut Told)
     requires fits { StageFits own.now.layout active.old.stage }
     requires ticks { IsTicking active.old.stage }
@@ -153,7 +153,7 @@ fn tick_step(active: &mut ActiveCall, own: &Own, found: u64, tells: &mut Told)
 
 // A step of a call on two temporal capabilities.
 #[inline(never)]
-#[tactic(auto, using(step_lands::proofs::Staged::told_from, step_lands::proofs::Staged::call_from))]
+#[tactic(auto, using(crate::proofs::Staged::told_from, crate::proofs::Staged::call_from))]
 fn share_step(active: &mut ActiveCall, own: &Own, found: u64, tells: &mut Told)
     requires fits { StageFits own.now.layout active.old.stage }
     requires shares { IsSharing active.old.stage }

@@ -7,6 +7,5 @@
 
 mod acts;
 
-pub use act_ends::call_acts;
+pub use act_ends::{call_acts, step_lands};
 pub use acts::act_step;
-pub use step_lands;

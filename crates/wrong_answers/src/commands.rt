@@ -1,12 +1,12 @@
 //! What each command has written where it is done. Beside the words of the call stand others, which ask for something else.
 
 ghost use Rattle.std.specs.Prelude.{◌≡◌, ℕ, Ok};
-ghost use Rattle.trace_run.specs.lone_kernel.specs.kernel_history.specs.Order.{list_of};
-ghost use Rattle.trace_run.specs.lone_kernel.specs.kernel_history.specs.Text.{plain_text};
-ghost use Rattle.draw_run.specs.GivenDrawing.{GivenDrawing};
+ghost use Rattle.speck_run.specs.trace_run.specs.lone_kernel.specs.kernel_history.specs.Order.{list_of};
+ghost use Rattle.speck_run.specs.trace_run.specs.lone_kernel.specs.kernel_history.specs.Text.{plain_text};
+ghost use Rattle.speck_run.specs.draw_run.specs.GivenDrawing.{GivenDrawing};
 ghost use Rattle.script_reader.specs.Readings.{script_of};
-ghost use Rattle.one_core.specs.sched_reader.specs.Inputs.{input_of as sched_input_of};
-ghost use Rattle.one_core.specs.Scheduled.{SchedTrace};
+ghost use Rattle.speck_run.specs.one_core.specs.sched_reader.specs.Inputs.{input_of as sched_input_of};
+ghost use Rattle.speck_run.specs.one_core.specs.Scheduled.{SchedTrace};
 ghost use Rattle.speck_run.specs.check_run.specs.history_reader.specs.Inputs.{history_of};
 ghost use Rattle.speck_run.specs.check_run.specs.Checked.{IsJudged};
 ghost use Rattle.speck_run.specs.explain_run.specs.Explained.{IsExplained};

@@ -1,11 +1,11 @@
 //! The steps of a script's order, taken one after another: their text, their trace, their picture, their origins and their worlds.
 
 ghost use Rattle.std.specs.Prelude.{◌≡◌, ◌<◌, All, IfOk, length, map, string_bytes};
-ghost use Rattle.trace_run.specs.lone_kernel.specs.Machine.{AreLists};
-ghost use Rattle.trace_run.specs.lone_kernel.specs.GivenSteps.{GivenSteps};
-ghost use Rattle.trace_run.specs.GivenTrace.{GivenTrace};
-ghost use Rattle.draw_run.specs.GivenDrawing.{GivenDrawing};
-ghost use Rattle.origins_run.specs.GivenOrigins.{GivenOrigins};
+ghost use Rattle.speck_run.specs.trace_run.specs.lone_kernel.specs.Machine.{AreLists};
+ghost use Rattle.speck_run.specs.trace_run.specs.lone_kernel.specs.GivenSteps.{GivenSteps};
+ghost use Rattle.speck_run.specs.trace_run.specs.GivenTrace.{GivenTrace};
+ghost use Rattle.speck_run.specs.draw_run.specs.GivenDrawing.{GivenDrawing};
+ghost use Rattle.speck_run.specs.origins_run.specs.GivenOrigins.{GivenOrigins};
 ghost use Rattle.speck_run.specs.Worlds.{GivenWorlds};
 
 use spk_nums::{Call, Item, Memory, Setup};
@@ -40,7 +40,7 @@ pub fn trace(
     requires named { All (λ item. item.core < setup.now.cores) items.now }
     ensures { IfOk result (λ text. GivenTrace version setup.now (map (λ v. v.items) lists.items) items.now (string_bytes text)) }
 {
-    trace_run::trace(alloc, version, setup, lists, items)
+    speck_run::trace_run::trace(alloc, version, setup, lists, items)
 }
 
 /// The picture of a page of the trace that the order makes, as `draw` writes it.
@@ -56,7 +56,7 @@ pub fn draw(
     requires named { All (λ item. item.core < setup.now.cores) items.now }
     ensures { IfOk result (λ text. GivenDrawing page setup.now (map (λ v. v.items) lists.items) items.now (string_bytes text)) }
 {
-    draw_run::draw(alloc, page, setup, lists, items)
+    speck_run::draw_run::draw(alloc, page, setup, lists, items)
 }
 
 /// The origins of what is held after the steps of the order, as `origins` writes them.
@@ -72,7 +72,7 @@ pub fn origins(
     requires named { All (λ item. item.core < setup.now.cores) items.now }
     ensures { IfOk result (λ text. GivenOrigins setup.now (map (λ v. v.items) lists.items) items.now (string_bytes text)) }
 {
-    origins_run::origins(alloc, setup, lists, items)
+    speck_run::origins_run::origins(alloc, setup, lists, items)
 }
 
 /// The worlds that are apart after the steps of the order, as `worlds` writes them.

@@ -1,16 +1,16 @@
 //! Texts of a number's script, of endpoint calls and of a schedule.
 
 ghost use Rattle.std.specs.Prelude.{◌≡◌, ◌<◌, ◌^◌, All, IfOk, IfSome, length, map, string_bytes};
-ghost use Rattle.trace_run.specs.lone_kernel.specs.Machine.{AreLists};
+ghost use Rattle.speck_run.specs.trace_run.specs.lone_kernel.specs.Machine.{AreLists};
 ghost use Rattle.speck_run.specs.ends_run.specs.Whole.{FewCalls, FewAsks};
 ghost use Rattle.load_maker.specs.Loads.{load_text};
-ghost use Rattle.one_core.specs.Scheduled.{IsSchedText};
+ghost use Rattle.speck_run.specs.one_core.specs.Scheduled.{IsSchedText};
 ghost use Rattle.speck_run.specs.Ends.{EndsText};
 
 use ends_reader::EndsInput;
 use load_maker::load_script;
-use one_core::run_sched;
 use script_reader::ReadFault;
+use speck_run::one_core::run_sched;
 use speck_run::{Gate, make_ends};
 use spk_nums::Memory;
 use std::alloc::Global;

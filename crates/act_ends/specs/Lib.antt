@@ -1,0 +1,2 @@
+-- What the crates above name through this one.
+pub use Rattle.step_lands
