@@ -7,7 +7,7 @@ use Rattle.stage_tcap.specs.{Kind, FrameKind, Untyped, User, Kernel, PageFlags}
 use Rattle.call_plans.specs.kernel_invariant.specs.kernel_rules.specs.{kept, Cap, found as named, only, plain_cap, has_frame, has_frames}
 use Rattle.stage_sweep.specs.stage_quiet.specs.{CloseFits, close_end, close_after, quiet_scan}
 use Rattle.stage_sweep.specs.stage_look.specs.{CapNames}
-use Rattle.spk_nums.specs.declared.calls.Call.TheVariants.{Make as make_call, Call as call_gate}
+use Rattle.stage_sweep.specs.spk_nums.specs.declared.calls.Call.TheVariants.{Make as make_call, Call as call_gate}
 use Rattle.stage_sweep.specs.entry_words.specs.{declared.entry.Entry.Entry}
 use Rattle.stage_sweep.specs.stage_quiet.specs.{declared.close.Close.Close, declared.close.Close.TheVariants.AtCompare as close_compare}
 use Rattle.stage_sweep.specs.stage_quiet.specs.{declared.close.Close.TheVariants.AtDraw, declared.close.Close.TheVariants.AtStore}

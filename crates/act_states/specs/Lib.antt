@@ -1,4 +1,5 @@
 -- What the crates above name through this one.
+pub use Rattle.stage_sweep.specs.spk_nums
 pub use Rattle.stage_tcap.specs.quality_lists
 pub use Rattle.stage_sweep.specs.entry_words
 pub use Rattle.stage_sweep.specs.frame_words
@@ -138,7 +139,7 @@ pub use Rattle.stage_tcap.specs.{declared.pair.PairAt.TheVariants.LoadA, declare
 pub use Rattle.stage_tcap.specs.{declared.pair.PairAt.TheVariants.StoreB, declared.pair.PairAt.TheVariants.StoreList}
 pub use Rattle.stage_tcap.specs.{declared.pair.PairAt.TheVariants.ListB, declared.charge.Charge.Charge, declared.refill.Refill.Refill}
 pub use Rattle.stage_tcap.specs.{declared.pair.PairWork.PairWork, declared.refill.RefillAt.RefillAt, declared.refill.RefillAt.TheVariants.Again}
-pub use Rattle.spk_nums.specs.declared.calls.Call.TheVariants.{Make}
+pub use Rattle.stage_sweep.specs.spk_nums.specs.declared.calls.Call.TheVariants.{Make}
 pub use Rattle.stage_sweep.specs.stage_quiet.specs.declared.quiet.Quiet.{Quiet}
 pub use Rattle.stage_sweep.specs.stage_quiet.specs.declared.close.Close.TheVariants.{AtDraw, AtCompare, AtStore}
 pub use Rattle.stage_sweep.specs.stage_quiet.specs.declared.quiet.Quiet.TheVariants.{AtFlush, AtCore}

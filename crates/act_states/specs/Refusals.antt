@@ -1,5 +1,5 @@
 -- Refusals, and the replies that say them.
-use Rattle.{spk_nums.specs.declared.replies.Reply.Reply, act_states.specs.declared.refusals.Refusal.Refusal}
+use Rattle.{stage_sweep.specs.spk_nums.specs.declared.replies.Reply.Reply, act_states.specs.declared.refusals.Refusal.Refusal}
 
 -- the reply that says a refusal
 abbrev pub reply_of : Refusal → Reply

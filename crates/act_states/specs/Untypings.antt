@@ -4,7 +4,7 @@ use Rattle.stage_tcap.specs.{ℕ, negsuc, ltb as nat_lt, Bool, true, false, Opti
 use Rattle.stage_tcap.specs.{StageEnd, FrameAt, ClockAt, Shape, Move, LoadOf, CompareOf, StoreOf, AddOf}
 use Rattle.stage_sweep.specs.{counters_of, loads_of, SweepFits, sweep_move, swept_of, ThawFits, thaw_of}
 use Rattle.stage_sweep.specs.frame_words.specs.{FrameFits, word_of_frame}
-use Rattle.spk_nums.specs.declared.steps.StageEnd.TheVariants.{Going, Decided, Done, Refuse}
+use Rattle.stage_sweep.specs.spk_nums.specs.declared.steps.StageEnd.TheVariants.{Going, Decided, Done, Refuse}
 use Rattle.stage_sweep.specs.stage_quiet.specs.declared.quiet.Quiet.TheVariants.{AtCore, AtFlush}
 use Rattle.stage_sweep.specs.{Release.thaw_move, Release.thaw_end, Release.thaw_after, declared.empty.Owned.Owned}
 use Rattle.stage_sweep.specs.{declared.sweep.Sweep.Sweep, declared.sweep.SweepAt.SweepAt, declared.sweep.Swept.Swept}

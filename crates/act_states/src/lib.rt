@@ -39,7 +39,7 @@ pub use objects::{NewObject, object_cap, object_made};
 pub use own::{Own, OwnChange};
 pub use refusals::Refusal;
 pub use stage_sweep;
-pub use stage_sweep::{stage_look, stage_pins, stage_quiet};
+pub use stage_sweep::{spk_nums, stage_look, stage_pins, stage_quiet};
 pub use stage_tcap;
 pub use stage_thread;
 pub use switches::{SwitchAt, Switching};

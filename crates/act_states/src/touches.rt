@@ -1,6 +1,6 @@
 //! Where the touching of a page stands between two steps.
 
-use spk_nums::{FrameNo, PageNo, Translation};
+use stage_sweep::spk_nums::{FrameNo, PageNo, Translation};
 use stage_sweep::stage_look::Look;
 
 /// A page that is touched, between two steps.

@@ -13,7 +13,8 @@ use Rattle.std.proofs.{lemmas.Option.get_or_from_slice_get, lemmas.List.Elements
 use low.{ObjectWords.comp_word, BootWords.boot_thread, BootWords.boot_tcap, BootWords.boot_live, FinalWords.AreThread, FinalWords.AreTcap}
 use low.{boot_entry, boot_frame, SaysNumber, IsUnheld, frame_words.proofs.ResidueLemmas.residue_pos, tcap_words.specs.Stack.PlaceFits}
 use low.{tcap_words.specs.Quality.PairFits, FinalWords.HoldNothing}
-use Rattle.{std.proofs.lemmas.List.Elements.All-cons, spk_nums.specs.Setting.GrantFits, kernel_history.proofs.Counters.sum_of_first}
+use Rattle.{std.proofs.lemmas.List.Elements.All-cons, kernel_history.specs.spk_nums.specs.Setting.GrantFits}
+use Rattle.{kernel_history.proofs.Counters.sum_of_first}
 use Rattle.{boot_words.specs.BootLaws.BootRepresents, boot_words.specs.BootLaws.BootRepresentsStart, boot_words.proofs.StartRefs.refs_most}
 use Rattle.kernel_history.specs.entry_words.specs.declared.entry.Entry.TheVariants as entry
 use Rattle.kernel_history.specs.entry_words.proofs.Spelling as entries

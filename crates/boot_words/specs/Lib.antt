@@ -1,5 +1,5 @@
 -- What the crates above name through this one.
-pub use Rattle.spk_nums
+pub use Rattle.kernel_history.specs.spk_nums
 pub use Rattle.kernel_history.specs.entry_words
 pub use Rattle.kernel_history.specs.frame_words
 pub use Rattle.kernel_history.specs.tcap_words

@@ -4,9 +4,9 @@
 //! is right already as it is: the order of the writes is free, and places are the layout's alone.
 
 ghost use Rattle.std.specs.Prelude.{◌≡◌, ℕ, ◌<◌, ◌≤◌, ◌==◌, if◌then◌else◌, IfOk, length, pos, None, Some, [], ◌∷◌, slice_get};
-ghost use Rattle.spk_nums.specs.Setting.{IsSetting};
-ghost use Rattle.spk_nums.specs.declared.kinds.FrameKind.TheVariants as frame_kind;
-ghost use Rattle.spk_nums.specs.declared.kinds.Kind.TheVariants as kind;
+ghost use Rattle.kernel_history.specs.spk_nums.specs.Setting.{IsSetting};
+ghost use Rattle.kernel_history.specs.spk_nums.specs.declared.kinds.FrameKind.TheVariants as frame_kind;
+ghost use Rattle.kernel_history.specs.spk_nums.specs.declared.kinds.Kind.TheVariants as kind;
 ghost use Rattle.kernel_history.specs.entry_words.specs.EntryWord.{word_of_entry};
 ghost use Rattle.kernel_history.specs.frame_words.specs.Count.{CountFits};
 ghost use Rattle.kernel_history.specs.frame_words.specs.Live.{LiveFits};
@@ -26,9 +26,11 @@ use kernel_history::entry_words::Entry;
 use kernel_history::frame_words::{
     CompWord, CoreWord, CountWord, FlushWord, FrameWord, Hold, LiveWord,
 };
+use kernel_history::spk_nums::{
+    Cap, CoreNo, EntryNo, FrameKind, FrameNo, Grant, Kind, Memory, Obj, Setup, Stamp,
+};
 use kernel_history::tcap_words::{HeadWord, QualityWord, StackWord, ThreadWord};
 use kernel_history::word_map::Layout;
-use spk_nums::{Cap, CoreNo, EntryNo, FrameKind, FrameNo, Grant, Kind, Memory, Obj, Setup, Stamp};
 use std::alloc::{AllocError, Global};
 
 // The capability of a core at a place of the first leaf: to its thread, or to its temporal capability.

@@ -8,7 +8,7 @@ use low.{comps_at, made_begun, invokes_if, invokes_in, invokes_at, returns_if, s
 use low.{looks_entry, looks_at, refills_at, PairWork, stage_tcap.specs.Make, stage_tcap.specs.Look as look_call}
 use low.{stage_look.specs.declared.look.Found.Found, declared.own.Own.Own, declared.objects.NewObject.NewObject, Objects.object_made}
 use low.{declared.work.Act.Act as ActType}
-use Rattle.{spk_nums.specs.declared.calls.Call.TheVariants.Call as call_gate, call_stages.specs.Steps.decides_at_name}
+use Rattle.{act_states.specs.spk_nums.specs.declared.calls.Call.TheVariants.Call as call_gate, call_stages.specs.Steps.decides_at_name}
 use Rattle.{call_stages.proofs.Answering.NoAnswer, call_stages.proofs.ShareDecisions.shares_no}
 use Rattle.act_states.specs.{phases_of, Acts.starts_if}
 

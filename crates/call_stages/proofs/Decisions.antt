@@ -27,7 +27,8 @@ use Rattle.call_stages.specs.Laws.{Turns, DecidesOnce, Refuses, UnreadyRefuses, 
 use Rattle.call_stages.proofs.{Answering.NoAnswer, Answering.IsOver, Ends.act_unready, Ends.act_over, Beginning.under_no}
 use low.{call_plans.specs.any_cap, call_plans.specs.plan_of_retype, call_plans.specs.plan_of_make, stage_look.specs.Lookup.root_end}
 use low.{stage_look.specs.declared.look.Found.Found, call_plans.specs.declared.plans.Target.Target, declared.refusals.Refusal.Refusal}
-use Rattle.{spk_nums.specs.Rights.neither, spk_nums.specs.declared.calls.Call.TheVariants.Call as call_gate}
+use Rattle.{act_states.specs.spk_nums.specs.Rights.neither}
+use Rattle.{act_states.specs.spk_nums.specs.declared.calls.Call.TheVariants.Call as call_gate}
 use Rattle.{act_states.proofs.Refusing.refusal_refuses, call_stages.specs.declared.stages.Stage.Stage}
 use Rattle.{call_stages.specs.declared.stages.ActiveCall.ActiveCall, call_stages.proofs.Beginning.target_no}
 use Rattle.{call_stages.proofs.Beginning.starts_no, call_stages.proofs.Beginning.act_no}

@@ -7,4 +7,5 @@
 
 mod run;
 
+pub use history_check;
 pub use run::{check, verdict_text};

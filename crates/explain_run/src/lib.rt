@@ -5,5 +5,6 @@
 
 mod run;
 
+pub use history_options::check_run;
 pub use line_forms::Reading;
 pub use run::explain;

@@ -4,14 +4,14 @@ use Rattle.open_calls.specs.kernel_rules.proofs.{if◌then◌else◌, refl, sym,
 use Rattle.open_calls.specs.kernel_rules.proofs.{length-append, length-reverse, length-take-le, drop_more, Setting, IsSetting, Call, Reply}
 use Rattle.open_calls.specs.kernel_rules.proofs.{Limits, Phase, Out, Open, Decided, alone}
 use Rattle.marked_history.specs.{events_of, phase, state, marks_of, entered, AreHistory, SaidFits, LinesFit}
-use Rattle.history_check.specs.{at_of, seen_of, IsJudge, HasCome, BreaksAfter}
+use Rattle.check_run.specs.history_check.specs.{at_of, seen_of, IsJudge, HasCome, BreaksAfter}
 use Rattle.open_calls.specs.seq_state.proofs.{limits_stay, state_of}
 use Rattle.std.proofs.lemmas.List.Elements.{All-nil, All-cons, All-append, All-get_or, All-take}
 use Rattle.open_calls.specs.{declared.outlooks.Outlook.Outlook, Leads.names_text, Outlooks.IsOutlook, Outlooks.IsOutlookWhere}
 use Rattle.marked_history.specs.{declared.marks.Mark.Mark, declared.marks.Mark.TheVariants.Enter, declared.marks.Mark.TheVariants.Decide}
 use Rattle.marked_history.specs.{declared.marks.Mark.TheVariants.Return, declared.marks.Said.Said, declared.marks.Said.TheVariants.One}
 use Rattle.marked_history.specs.{declared.marks.Said.TheVariants.Whole as whole_line, declared.marks.Line.Line, declared.marks.Why.Why}
-use Rattle.history_check.specs.{declared.judge.Judge.Judge, declared.seen.Seen.Seen, Judging.no_one, Judging.AtFits}
+use Rattle.check_run.specs.history_check.specs.{declared.judge.Judge.Judge, declared.seen.Seen.Seen, Judging.no_one, Judging.AtFits}
 use Rattle.history_options.specs.{declared.forms.Form.Form, declared.forms.Place.Place, declared.forms.Place.TheVariants.Without}
 use Rattle.history_options.specs.{declared.forms.Place.TheVariants.Done, declared.forms.Place.TheVariants.During, Forms.core_of}
 use Rattle.history_options.specs.{Forms.place_of, Forms.marks_at, Forms.lines_at, Forms.CanDecide, Forms.DecidesAt, Replies.replies_of}
@@ -19,7 +19,8 @@ use Rattle.history_options.specs.{Texts.said_line, Options.AreOptions, Options.A
 use Rattle.history_options.specs.{Advice.finding_text, Advice.found_text, Advice.IsAdviceAt, Advice.place_after, Advice.Adds}
 use Rattle.history_options.specs.{Advice.AddsCallAdvice, Advice.AddsAdvice, Told.TellsBreak, Told.IsHistoryTold}
 use Rattle.{std.proofs.lemmas.List.take-append-drop, marked_history.specs.declared.marks.Verdict.TheVariants.Illegal}
-use Rattle.{marked_history.proofs.Running.histories_run, check_run.specs.Texts.verdict_text, history_check.proofs.Lines.few_entered}
+use Rattle.{marked_history.proofs.Running.histories_run, check_run.specs.Texts.verdict_text}
+use Rattle.{check_run.specs.history_check.proofs.Lines.few_entered}
 use Rattle.history_options.specs.declared.forms.Form.TheVariants as form
 
 -- ---- lines with one more

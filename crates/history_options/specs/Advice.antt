@@ -7,7 +7,8 @@ use Rattle.open_calls.specs.{declared.outlooks.Outlook.Outlook, Leads.names_text
 use Rattle.history_options.specs.{declared.forms.Form.Form, declared.forms.Place.Place, declared.forms.Place.TheVariants.Without}
 use Rattle.history_options.specs.{declared.forms.Place.TheVariants.Done, declared.forms.Place.TheVariants.During, Forms.core_of}
 use Rattle.history_options.specs.{Forms.place_of, Forms.marks_at, Replies.replies_of, Options.AreOptions}
-use Rattle.{spk_nums.specs.Texts.call_text, marked_history.specs.declared.marks.Line.Line, history_check.specs.Judging.at_of}
+use Rattle.{spk_nums.specs.Texts.call_text, marked_history.specs.declared.marks.Line.Line}
+use Rattle.{check_run.specs.history_check.specs.Judging.at_of}
 
 -- where the core is in no call: this is the number of its next one
 abbrev pub out_text : ℕ → ℕ → List ℕ

@@ -4,7 +4,7 @@ use Rattle.open_calls.specs.seq_state.specs.{ℕ, List, [], InLimits, Call, Repl
 use Rattle.marked_history.specs.{declared.marks.Mark.Mark, declared.marks.Mark.TheVariants.Enter, declared.marks.Mark.TheVariants.Decide}
 use Rattle.marked_history.specs.{declared.marks.Mark.TheVariants.Return, declared.marks.Said.Said, declared.marks.Said.TheVariants.One}
 use Rattle.marked_history.specs.{declared.marks.Said.TheVariants.Whole as whole_line, declared.marks.Line.Line, Histories.phase}
-use Rattle.history_check.specs.declared.seen.At.{At}
+use Rattle.check_run.specs.history_check.specs.declared.seen.At.{At}
 use Rattle.history_options.specs.{declared.forms.Form.Form, declared.forms.Form.TheVariants.Decided, declared.forms.Form.TheVariants.Whole}
 use Rattle.history_options.specs.{declared.forms.Place.Place, declared.forms.Place.TheVariants.Without}
 use Rattle.history_options.specs.{declared.forms.Place.TheVariants.Done, declared.forms.Place.TheVariants.During}

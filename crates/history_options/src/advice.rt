@@ -7,7 +7,7 @@ ghost use Rattle.history_options.specs.Advice.{out_text, done_text, place_after,
 
 use crate::calls::push_call_advice;
 use crate::forms::{Place, core_of, place_of};
-use history_check::{Seen, come_to};
+use check_run::history_check::{Seen, come_to};
 use marked_history::{Line, Mark, Said};
 use spk_nums::{Call, CoreNo, Make, Memory, Reply, Setup, Value};
 use std::alloc::{AllocError, Global};

@@ -2,14 +2,14 @@
 
 ghost use Rattle.std.specs.Prelude.{◌≡◌, ◌<◌, ◌+◌, ◌^◌, ◌++◌, length, reverse, IfOk, OnOk, string_bytes};
 ghost use Rattle.marked_history.specs.Verdicts.{AreHistory, LinesFit, marks_of};
-ghost use Rattle.history_check.specs.Judging.{HasCome};
+ghost use Rattle.check_run.specs.history_check.specs.Judging.{HasCome};
 ghost use Rattle.history_options.specs.Forms.{lines_at, marks_at, CanDecide};
 ghost use Rattle.history_options.specs.Advice.{in_text, is_ok, first_words, first_text, found_text, AddsCallAdvice};
 
 use crate::forms::Form;
 use crate::options::push_options;
 use crate::replies::replies_of;
-use history_check::{Judge, come_to};
+use check_run::history_check::{Judge, come_to};
 use marked_history::{Line, Mark, Said};
 use open_calls::{Outlook, outlook_at};
 use spk_nums::{Call, CoreNo, Make, Memory, Reply, Setup, Value};

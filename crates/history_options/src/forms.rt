@@ -1,10 +1,10 @@
 //! Where a line stands, and how a reply is written in its place.
 
 ghost use Rattle.std.specs.Prelude.{◌≡◌};
-ghost use Rattle.history_check.specs.declared.seen.At.TheVariants.{Out};
+ghost use Rattle.check_run.specs.history_check.specs.declared.seen.At.TheVariants.{Out};
 ghost use Rattle.history_options.specs.Forms.{core_of, place_of, with_form};
 
-use history_check::At;
+use check_run::history_check::At;
 use marked_history::{Mark, Said};
 use spk_nums::{Call, CoreNo, Make, Reply, Value};
 

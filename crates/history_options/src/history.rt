@@ -6,8 +6,8 @@ ghost use Rattle.history_options.specs.Told.{IsHistoryTold, TellsBreak};
 
 use crate::advice::push_advice;
 use crate::texts::push_said;
+use check_run::history_check::{Finding, find_break};
 use check_run::verdict_text;
-use history_check::{Finding, find_break};
 use marked_history::{Line, Mark, Said, Verdict, Why};
 use spk_nums::{Call, Make, Memory, Reply, Setup, Value};
 use std::alloc::Global;

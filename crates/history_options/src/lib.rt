@@ -19,4 +19,5 @@ mod options;
 mod replies;
 mod texts;
 
+pub use check_run;
 pub use history::told;

@@ -7,7 +7,7 @@ ghost use Rattle.history_options.specs.Options.{is_legal, GoesOn, option_of, Are
 
 use crate::forms::{Form, with_form};
 use crate::texts::push_said;
-use history_check::verdict;
+use check_run::history_check::verdict;
 use marked_history::{Line, Mark, Said, Verdict};
 use spk_nums::{Call, CoreNo, Make, Memory, Reply, Setup, Value};
 use std::alloc::{AllocError, Global};

@@ -1,6 +1,6 @@
 -- What is looked up in the plain kernel, as what the definitions judge.
 use Rattle.seq_state.specs.kernel_rules.specs.{Bool, Result, Ok, Err, Kind, Reply, Want, any, only, root, Judged, Refused, Found}
-use Rattle.{spk_nums.specs.declared.rights.Rights.Rights, seq_lookups.specs.declared.names.Wanted.Wanted}
+use Rattle.{seq_state.specs.spk_nums.specs.declared.rights.Rights.Rights, seq_lookups.specs.declared.names.Wanted.Wanted}
 
 -- What was found, or the refusal.
 abbrev pub judged : {A : Type 0} → Result A Reply → Judged A

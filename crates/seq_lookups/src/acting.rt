@@ -6,8 +6,8 @@ ghost use Rattle.seq_state.specs.Parts.{number_of, comp_fields_of};
 ghost use Rattle.seq_state.specs.Maps.{state_of};
 
 use crate::objects::comp_of;
+use seq_state::spk_nums::CoreNo;
 use seq_state::{Liveness, SeqKernel, Thing};
-use spk_nums::CoreNo;
 
 /// Whether a liveness number is live in an epoch.
 pub fn is_live_in(number: &Liveness, epoch: u32) -> bool

@@ -9,8 +9,8 @@ ghost use Rattle.seq_state.specs.Representation.{HasIndex, Represents};
 ghost use Rattle.seq_lookups.specs.Carried.{removed};
 
 use crate::slots::Slot;
+use seq_state::spk_nums::{Cap, Kind};
 use seq_state::{Frame, Object, Place, SeqKernel, Thing};
-use spk_nums::{Cap, Kind};
 
 /// Whether a frame is a node of page maps.
 fn is_paging(frame: Frame) -> bool

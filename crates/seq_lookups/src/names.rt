@@ -11,8 +11,8 @@ ghost use Rattle.seq_lookups.specs.Places.{target_of};
 use crate::objects::comp_of;
 use crate::slots::{Slot, Target, place_at, reached, usable};
 use crate::waiting::{flushes_of, waits_of};
+use seq_state::spk_nums::{Cap, CapId, CoreNo, FrameNo, Kind, PageNo, Reply, Rights};
 use seq_state::{Place, SeqKernel, Thing};
-use spk_nums::{Cap, CapId, CoreNo, FrameNo, Kind, PageNo, Reply, Rights};
 
 /// The kinds of capability that a name may lead to.
 #[derive(Clone, Copy, PartialEq, Eq, Debug)]
@@ -188,4 +188,4 @@ pub fn mapped(k: &SeqKernel, core: CoreNo, root: FrameNo, page: PageNo) -> Resul
 }
 
 ghost use Rattle.seq_state.specs.kernel_rules.specs.State.{PlaceOf};
-ghost use Rattle.spk_nums.specs.declared.replies.Reply.TheVariants.{Empty};
+ghost use Rattle.seq_state.specs.spk_nums.specs.declared.replies.Reply.TheVariants.{Empty};

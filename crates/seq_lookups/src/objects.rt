@@ -5,8 +5,8 @@ ghost use Rattle.seq_state.specs.kernel_rules.specs.State.{thread_in, comp_in, t
 ghost use Rattle.seq_state.specs.Parts.{comp_fields_of, thread_fields_of, tcap_fields_of, frame_of};
 ghost use Rattle.seq_state.specs.Maps.{state_of};
 
+use seq_state::spk_nums::{CoreNo, FrameNo, Qualities};
 use seq_state::{CompFields, Frame, Object, SeqKernel, Stack, TcapFields, ThreadFields};
-use spk_nums::{CoreNo, FrameNo, Qualities};
 
 /// The thread of a frame; that of no component where it has none.
 fn thread_in(frame: Frame) -> ThreadFields

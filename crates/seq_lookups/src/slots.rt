@@ -6,8 +6,8 @@ ghost use Rattle.seq_state.specs.Parts.{place_held, thing_of};
 ghost use Rattle.seq_state.specs.Maps.{state_of};
 ghost use Rattle.seq_lookups.specs.Places.{target_of};
 
+use seq_state::spk_nums::{Cap, CoreNo, EntryNo, FrameNo, Kind};
 use seq_state::{Place, SeqKernel, Thing};
-use spk_nums::{Cap, CoreNo, EntryNo, FrameNo, Kind};
 use std::marker::Model;
 
 /// A place in a node: the node's frame, and the index in it, below 64.

@@ -3,13 +3,13 @@
 ghost use Rattle.std.specs.Prelude.{◌≡◌, ◌≤◌};
 ghost use Rattle.seq_state.specs.kernel_rules.specs.GracePeriods.{lowest, other_waiting, quiescing_by, unflushed_by};
 ghost use Rattle.seq_state.specs.kernel_rules.specs.Rules.{waits_of, flushes_of};
-ghost use Rattle.spk_nums.specs.CoreSets.{has_core};
+ghost use Rattle.seq_state.specs.spk_nums.specs.CoreSets.{has_core};
 ghost use Rattle.seq_state.specs.Parts.{thing_of};
 ghost use Rattle.seq_state.specs.Maps.{state_of};
 ghost use Rattle.seq_state.specs.Representation.{HasIndex};
 
+use seq_state::spk_nums::{CoreNo, CoreSet, Reply};
 use seq_state::{SeqKernel, Thing};
-use spk_nums::{CoreNo, CoreSet, Reply};
 
 /// The lowest core of the machine in a set.
 fn lowest(k: &SeqKernel, set: CoreSet) -> Option<CoreNo>

@@ -8,7 +8,7 @@ use Rattle.seq_state.specs.{State, frame_of, at, count_at, NamesFew, IsWhole, st
 use Rattle.std.proofs.{lemmas.Bool.cases_eq, lemmas.Grind.get_or-set_at, lemmas.Option.none-some}
 use Rattle.{kernel_invariant.proofs.times_cons, kernel_invariant.proofs.grace_refs, kernel_invariant.proofs.Refs.core_refs}
 use Rattle.{seq_state.specs.declared.parts.Frame.Frame, seq_state.specs.Maps.Maps, seq_state.proofs.Same.same_refs}
-use Rattle.spk_nums.specs.declared.kinds.Kind.TheVariants as kind
+use Rattle.kernel_invariant.specs.spk_nums.specs.declared.kinds.Kind.TheVariants as kind
 use Rattle.kernel_invariant.specs.kernel_rules.specs.State as state
 
 -- ---- names

@@ -3,7 +3,8 @@ use Rattle.kernel_invariant.specs.kernel_rules.proofs.{◌≡◌, ℕ, suc, ◌+
 use Rattle.kernel_invariant.specs.kernel_rules.proofs.{reverse, refl, sym, ap, ◌∙◌, arith, set as slice_set, length-set, length-reverse}
 use Rattle.seq_state.specs.{declared.stack.Stack.TheInside.Inside, Stacks.stacked, Stacks.IsStack}
 use Rattle.{kernel_invariant.specs.kernel_rules.proofs.reverse-append, kernel_invariant.specs.kernel_rules.proofs.times}
-use Rattle.{std.proofs.lemmas.List.drop-set, spk_nums.specs.Listed.IsListed, spk_nums.specs.Listed.length-listed}
+use Rattle.{std.proofs.lemmas.List.drop-set, kernel_invariant.specs.spk_nums.specs.Listed.IsListed}
+use Rattle.{kernel_invariant.specs.spk_nums.specs.Listed.length-listed}
 use Rattle.{kernel_invariant.proofs.Sums.times_cons, kernel_invariant.proofs.Sums.times_append}
 
 -- A blank in the last cell that holds an item leaves the cells after it blank.

@@ -1,4 +1,5 @@
 -- What the crates above name through this one.
+pub use Rattle.kernel_invariant.specs.spk_nums
 pub use Rattle.kernel_invariant
 pub use Rattle.kernel_invariant.specs.kernel_rules
 -- Its own.
@@ -41,6 +42,6 @@ pub use Rattle.kernel_invariant.specs.kernel_rules.specs.{find, IsSome, IsSomeAn
 pub use Rattle.kernel_invariant.specs.kernel_rules.specs.{not_blank, Fill, same_thing, IsRefusal, ticks, is_empty, When, plain_cap, Tcap}
 pub use Rattle.kernel_invariant.specs.kernel_rules.specs.{Unused, with_place, has_rights, reply_text, PageFlags}
 pub use Rattle.kernel_invariant.specs.kernel_rules.specs.State.{State}
-pub use Rattle.spk_nums.specs.declared.calls.Call.TheVariants.{Make}
+pub use Rattle.kernel_invariant.specs.spk_nums.specs.declared.calls.Call.TheVariants.{Make}
 unfoldable pub use Rattle.seq_state.specs.Maps.{state_of}
 unfoldable pub use Rattle.kernel_invariant.specs.kernel_rules.specs.{sum_below, refs, node_refs}

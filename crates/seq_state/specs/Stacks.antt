@@ -1,7 +1,7 @@
 -- A stack of at most 16 frames, the newest first, in cells that have the oldest first.
 use Rattle.std.specs.Prelude.{◌≡◌, ℕ, List, length, take, reverse}
 use Rattle.std.proofs.{Common.ap, Common.◌∙◌, lemmas.List.reverse-reverse}
-use Rattle.spk_nums.specs.Listed.{IsListed, padded, padded-listed, length-listed}
+use Rattle.kernel_invariant.specs.spk_nums.specs.Listed.{IsListed, padded, padded-listed, length-listed}
 use Rattle.seq_state.specs.declared.stack.Stack.TheInside.{Inside}
 
 -- The frames that the cells hold, the newest first.

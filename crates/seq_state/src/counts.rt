@@ -9,7 +9,7 @@ ghost use Rattle.seq_state.specs.Maps.{at, HasKeys, count_at, place_or_free, fra
 use crate::maps::{held, standing};
 use crate::parts::{Core, Frame, Liveness, Object, Place};
 use crate::stack::Stack;
-use spk_nums::{Cap, FrameNo, Kind};
+use kernel_invariant::spk_nums::{Cap, FrameNo, Kind};
 
 /// The frame to which a capability has a reference; a range has none.
 fn names_of_cap(cap: Cap) -> Stack

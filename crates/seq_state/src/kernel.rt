@@ -3,14 +3,14 @@
 ghost use Rattle.std.specs.Prelude.{◌≡◌, ◌<◌, ◌+◌, ◌*◌, ◌==◌, if◌then◌else◌, ℕ};
 ghost use Rattle.kernel_invariant.specs.kernel_rules.specs.References.{refs};
 ghost use Rattle.seq_state.specs.Parts.{place_held, frame_of, number_of, core_of, thing_of};
-ghost use Rattle.spk_nums.specs.CoreSets.{has_core};
+ghost use Rattle.kernel_invariant.specs.spk_nums.specs.CoreSets.{has_core};
 ghost use Rattle.seq_state.specs.Maps.{at, core_or_none, state_of, period_of, grace_from, LimitsFit};
 ghost use Rattle.seq_state.specs.Representation.{HasIndex};
 
 use crate::maps::{held, standing};
 use crate::parts::{Core, Frame, Liveness, Pending, Place, Thing};
 use crate::times::{Period, Times};
-use spk_nums::{CoreNo, CoreSet, EntryNo, FrameNo};
+use kernel_invariant::spk_nums::{CoreNo, CoreSet, EntryNo, FrameNo};
 use std::marker::Model;
 
 /// The state of the sequential kernel in lists by number.

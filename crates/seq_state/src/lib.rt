@@ -17,6 +17,7 @@ mod start;
 mod times;
 
 pub use kernel::SeqKernel;
+pub use kernel_invariant::spk_nums;
 pub use parts::{
     CompFields, Core, Frame, Liveness, Object, Pending, Place, TcapFields, Thing, ThreadFields,
 };

@@ -4,7 +4,7 @@
 ghost use Rattle.std.specs.Prelude.{◌≡◌, ◌≢◌, ◌+◌, ℕ, Some, IsSome, OnOk, length};
 ghost use Rattle.seq_state.specs.Maps.{at};
 
-use spk_nums::Memory;
+use kernel_invariant::spk_nums::Memory;
 
 /// What the list has at a key; None where the key does not stand.
 pub fn held<V: Copy>(map: &Vec<V>, key: u16) -> Option<V>

@@ -1,7 +1,7 @@
 //! The parts of the plain kernel's state, as plain data; a spec function of each gives the part of the definitions.
 
 use crate::stack::Stack;
-use spk_nums::{Cap, CoreNo, EntryNo, FrameNo, Qualities, Translations};
+use kernel_invariant::spk_nums::{Cap, CoreNo, EntryNo, FrameNo, Qualities, Translations};
 
 /// What a place of a node is.
 #[derive(Clone, Copy, PartialEq, Eq, Debug)]

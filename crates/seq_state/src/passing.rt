@@ -11,7 +11,7 @@ use crate::kernel::SeqKernel;
 use crate::maps::write_at;
 use crate::parts::Core;
 use crate::times::{all_ranked, enters, flushes, rank_below, returns};
-use spk_nums::{CoreNo, Translations};
+use kernel_invariant::spk_nums::{CoreNo, Translations};
 
 impl SeqKernel {
     /// The clock goes on, to a time after all that the cores have done.

@@ -15,7 +15,7 @@ use crate::kernel::{SeqKernel, place_key};
 use crate::maps::{standing, write_at};
 use crate::parts::{Core, Frame, Liveness, Place, Thing};
 use crate::times::Period;
-use spk_nums::{CoreNo, EntryNo, FrameNo};
+use kernel_invariant::spk_nums::{CoreNo, EntryNo, FrameNo};
 
 impl SeqKernel {
     /// Sets a place of a node, the index below 64.

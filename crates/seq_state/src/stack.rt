@@ -3,7 +3,7 @@
 ghost use Rattle.std.specs.Prelude.{◌≡◌, ◌<◌, ◌≤◌, [], ◌∷◌, length, slice_get, drop, reverse};
 ghost use Rattle.kernel_invariant.specs.kernel_rules.specs.References.{times};
 
-use spk_nums::FrameNo;
+use kernel_invariant::spk_nums::FrameNo;
 use std::marker::Model;
 
 /// Up to 16 frames of components, of which a thread is in the last pushed; contracts see their list, the newest first.

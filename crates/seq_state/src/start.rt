@@ -1,7 +1,7 @@
 //! The start state.
 
 ghost use Rattle.std.specs.Prelude.{◌≡◌, ◌<◌, ◌≤◌, ◌+◌, ◌-◌, ◌*◌, ◌/◌, ◌%◌, IfOk, Some, IsSome, slice_get, length, [], ◌∷◌};
-ghost use Rattle.spk_nums.specs.Limits.{least_arg, end_of_arg};
+ghost use Rattle.kernel_invariant.specs.spk_nums.specs.Limits.{least_arg, end_of_arg};
 ghost use Rattle.kernel_invariant.specs.kernel_rules.specs.Start.{plain_cap, start_range, core_cap, start_cap, start_place, granted, grant_pair};
 ghost use Rattle.kernel_invariant.specs.kernel_rules.specs.Start.{start_frame, start_number, start_core, start, place_with};
 ghost use Rattle.seq_state.specs.Parts.{place_held, tcap_fields_of, frame_of, number_of, core_of, thread_fields_of};
@@ -16,7 +16,9 @@ use crate::maps::insert_at;
 use crate::parts::{CompFields, Core, Frame, Liveness, Object, Place, TcapFields, ThreadFields};
 use crate::stack::Stack;
 use crate::times::{Period, Times};
-use spk_nums::{Cap, CoreNo, FrameNo, Grant, Kind, Memory, Qualities, Setup, Translations};
+use kernel_invariant::spk_nums::{
+    Cap, CoreNo, FrameNo, Grant, Kind, Memory, Qualities, Setup, Translations,
+};
 use std::alloc::Global;
 
 /// A capability to a frame, without a number of its own.
@@ -330,4 +332,4 @@ impl SeqKernel {
 }
 
 ghost use Rattle.std.specs.Option.{ForSome};
-ghost use Rattle.spk_nums.specs.Setting.{GrantFits};
+ghost use Rattle.kernel_invariant.specs.spk_nums.specs.Setting.{GrantFits};

@@ -4,7 +4,7 @@ pub use Rattle.draw_run
 pub use Rattle.origins_run
 pub use Rattle.one_core
 pub use Rattle.whole_ends
-pub use Rattle.check_run
+pub use Rattle.explain_run.specs.check_run
 pub use Rattle.explain_run
 pub use Rattle.ends_run
 -- Its own.

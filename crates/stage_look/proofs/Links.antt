@@ -1,7 +1,8 @@
 -- The word of a link to a frame of the machine shows that link.
 use Rattle.std.proofs.Common.{◌≡◌, ℕ, ◌+◌, ◌/◌, ◌%◌, ◌<◌, ◌≤◌, Some, refl, arith, le-leb}
-use Rattle.{entry_words.specs.EntryFits, entry_words.specs.word_of_entry, entry_words.specs.entry_of_word, spk_nums.specs.Capability.cap_of}
-use Rattle.{spk_nums.specs.declared.kinds.Kind.TheVariants.Link, entry_words.specs.declared.entry.Entry.TheVariants.Held}
+use Rattle.{entry_words.specs.EntryFits, entry_words.specs.word_of_entry, entry_words.specs.entry_of_word}
+use Rattle.{word_map.specs.spk_nums.specs.Capability.cap_of}
+use Rattle.{word_map.specs.spk_nums.specs.declared.kinds.Kind.TheVariants.Link, entry_words.specs.declared.entry.Entry.TheVariants.Held}
 use Rattle.{entry_words.proofs.Spelling.entry_reads, stage_look.specs.Shown.shown_in}
 
 -- its word has the number of its kind, and its leaf above that

@@ -3,7 +3,7 @@ use Rattle.std.proofs.Common.{◌≡◌, ℕ, ◌%◌, ◌<◌, ◌≤◌, Bool,
 use Rattle.stage_look.specs.{end_of_frames, CapNames, EntryNames, held_if, entry_within, shown_in, is_link, LookFits, look_move}
 use Rattle.stage_look.specs.{end_by_link, place_end, look_end, after_link, look_after}
 use Rattle.word_map.specs.{Shape, IsIn, word_of}
-use Rattle.spk_nums.specs.{Capability.Capability, declared.kinds.Kind.Kind, declared.kinds.Kind.TheVariants.Link}
+use Rattle.word_map.specs.spk_nums.specs.{Capability.Capability, declared.kinds.Kind.Kind, declared.kinds.Kind.TheVariants.Link}
 use Rattle.entry_words.specs.declared.entry.Entry.TheVariants.{Free, Held, Closing, Quiescing}
 use Rattle.stage_look.specs.{Lookup.EndFits, declared.look.Look.Look, declared.look.Look.TheVariants.AtRoot}
 use Rattle.stage_look.specs.{declared.look.Look.TheVariants.AtLeaf, declared.look.Look.TheVariants.AtEntry}

@@ -1,4 +1,5 @@
 -- What the crates above name through this one.
+pub use Rattle.word_map.specs.spk_nums
 pub use Rattle.word_map
 pub use Rattle.entry_words
 -- Its own.

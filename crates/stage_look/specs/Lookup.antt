@@ -1,11 +1,11 @@
 -- The steps of a look-up, and what each takes from the word that it finds.
 use Rattle.std.specs.Prelude.{ℕ, ◌/◌, ◌%◌, ◌<◌, ◌≤◌, ◌==◌, ◌&&◌, nat_lt, is_some, Bool, false, Option, Some, None, if◌then◌else◌}
 use Rattle.word_map.specs.{EntryAt, Shape, Move, LoadOf}
-use Rattle.spk_nums.specs.declared.steps.StageEnd.TheVariants.{Going, Decided, Done, Refuse}
+use Rattle.word_map.specs.spk_nums.specs.declared.steps.StageEnd.TheVariants.{Going, Decided, Done, Refuse}
 use Rattle.entry_words.specs.declared.entry.Entry.TheVariants.{Free, Held, Closing, Quiescing}
 use Rattle.stage_look.specs.{Shown.EntryNames, Shown.is_link, declared.look.Look.Look, declared.look.Look.TheVariants.AtRoot}
 use Rattle.stage_look.specs.{declared.look.Look.TheVariants.AtLeaf, declared.look.Look.TheVariants.AtEntry, declared.look.Found.Found}
-use Rattle.{spk_nums.specs.declared.steps.StageEnd.StageEnd, spk_nums.specs.declared.replies.Reply.Reply}
+use Rattle.{word_map.specs.spk_nums.specs.declared.steps.StageEnd.StageEnd, word_map.specs.spk_nums.specs.declared.replies.Reply.Reply}
 use Rattle.{entry_words.specs.declared.entry.Entry.Entry}
 
 -- a look-up names a frame of the machine; its number has a root entry, its root entry is one of the node's

@@ -1,8 +1,8 @@
 -- What the word of a place shows on a machine of some frames.
 use Rattle.std.specs.Prelude.{ℕ, ◌+◌, ◌≤◌, Bool, true, false, nat_le, Option, Some, None, if◌then◌else◌}
-use Rattle.spk_nums.specs.{Capability.Capability, declared.kinds.Kind.Kind, declared.kinds.Kind.TheVariants.Range}
+use Rattle.word_map.specs.spk_nums.specs.{Capability.Capability, declared.kinds.Kind.Kind, declared.kinds.Kind.TheVariants.Range}
 use Rattle.entry_words.specs.declared.entry.Entry.TheVariants.{Free, Held, Closing, Quiescing}
-use Rattle.{spk_nums.specs.declared.kinds.Kind.TheVariants.Link, entry_words.specs.EntryWord.entry_of_word}
+use Rattle.{word_map.specs.spk_nums.specs.declared.kinds.Kind.TheVariants.Link, entry_words.specs.EntryWord.entry_of_word}
 use Rattle.{entry_words.specs.declared.entry.Entry.Entry}
 
 -- the end of the frames that a capability names: a range names as many as its number says, any other names one

@@ -6,3 +6,4 @@
 mod look;
 
 pub use look::{Found, Look};
+pub use word_map::spk_nums;

@@ -10,19 +10,19 @@
 //! machine's, never comes; it is answered `raced`, so that every word is taken.
 
 ghost use Rattle.std.specs.Prelude.{◌≡◌, ◌<◌, ◌≤◌, nat_le, IfSome, Some, IsTrue, IsFalse};
-ghost use Rattle.spk_nums.specs.Capability.{cap_of};
-ghost use Rattle.spk_nums.specs.declared.kinds.Kind.TheVariants.{Link};
-ghost use Rattle.spk_nums.specs.declared.steps.StageEnd.TheVariants.{Going};
+ghost use Rattle.word_map.specs.spk_nums.specs.Capability.{cap_of};
+ghost use Rattle.word_map.specs.spk_nums.specs.declared.kinds.Kind.TheVariants.{Link};
+ghost use Rattle.word_map.specs.spk_nums.specs.declared.steps.StageEnd.TheVariants.{Going};
 ghost use Rattle.entry_words.specs.declared.entry.Entry.TheVariants.{Held};
 ghost use Rattle.word_map.specs.Places.{size_of};
 ghost use Rattle.word_map.specs.Moves.{op_of};
-ghost use Rattle.spk_nums.specs.WordSteps.{place_in};
+ghost use Rattle.word_map.specs.spk_nums.specs.WordSteps.{place_in};
 ghost use Rattle.stage_look.specs.Shown.{end_of_frames, shown_in, entry_within, held_if, is_link};
 ghost use Rattle.stage_look.specs.Lookup.{leaf_of_word, is_followed, LookFits, look_move, root_end, place_end, look_end, root_after, look_after, EndFits};
 
 use entry_words::Entry;
-use spk_nums::{Cap, CapId, EntryNo, FrameNo, Kind, Reply, StageEnd, WordOp};
 use word_map::Layout;
+use word_map::spk_nums::{Cap, CapId, EntryNo, FrameNo, Kind, Reply, StageEnd, WordOp};
 
 // The low bits of the word of a link; above them it has its leaf alone.
 const LINK: u64 = 37;

@@ -6,7 +6,8 @@ use Rattle.frame_words.specs.{NumberFits, word_of_count, count_of_word, wrapped}
 use Rattle.frame_words.specs.{declared.count_word.CountWord.CountWord, declared.count_word.Hold.Hold}
 use Rattle.stage_pins.specs.{Acquire.expected_by, Acquire.after_hold, Commit.SettleFits, declared.pin.Pin.Pin}
 use Rattle.stage_pins.specs.{declared.pin.Pin.TheVariants.AtLoad, declared.pin.Pin.TheVariants.AtCompare, declared.settle.Settle.Settle}
-use Rattle.{stage_pins.specs.settle_move, std.proofs.lemmas.Int.ints, spk_nums.specs.declared.steps.StageEnd.TheVariants.Going}
+use Rattle.{stage_pins.specs.settle_move, std.proofs.lemmas.Int.ints}
+use Rattle.{word_map.specs.spk_nums.specs.declared.steps.StageEnd.TheVariants.Going}
 use Rattle.{frame_words.proofs.ResidueLemmas.wrapped_same}
 use Rattle.frame_words.proofs.CountLemmas as counts
 

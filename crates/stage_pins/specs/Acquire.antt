@@ -2,11 +2,11 @@
 use Rattle.std.specs.Prelude.{ℕ, ℤ, ◌<◌, ◌==◌, Bool, Option, Some, None, if◌then◌else◌}
 use Rattle.word_map.specs.{CountAt, Shape, Move, LoadOf, CompareOf, StoreOf, AddOf}
 use Rattle.frame_words.specs.{NumberFits, word_of_count, count_of_word}
-use Rattle.spk_nums.specs.declared.steps.StageEnd.TheVariants.{Going, Decided, Done, Refuse}
+use Rattle.word_map.specs.spk_nums.specs.declared.steps.StageEnd.TheVariants.{Going, Decided, Done, Refuse}
 use Rattle.frame_words.specs.{declared.count_word.CountWord.CountWord, declared.count_word.Hold.Hold}
 use Rattle.stage_pins.specs.{Counts.unheld, Counts.acquired, declared.pin.Pin.Pin, declared.pin.Pin.TheVariants.AtLoad}
 use Rattle.stage_pins.specs.{declared.pin.Pin.TheVariants.AtCompare, declared.pin.Pinned.Pinned}
-use Rattle.{spk_nums.specs.declared.steps.StageEnd.StageEnd, spk_nums.specs.declared.replies.Reply.Reply}
+use Rattle.{word_map.specs.spk_nums.specs.declared.steps.StageEnd.StageEnd, word_map.specs.spk_nums.specs.declared.replies.Reply.Reply}
 
 -- a count that was found is within its range
 abbrev pub PinCounts : Pin → Type 0

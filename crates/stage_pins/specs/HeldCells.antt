@@ -1,6 +1,6 @@
 -- The counts that a call has acquired as a list.
 use Rattle.std.specs.Prelude.{◌≡◌, pos, List, length, take}
-use Rattle.spk_nums.specs.Listed.{IsListed, padded, padded-listed, length-listed}
+use Rattle.word_map.specs.spk_nums.specs.Listed.{IsListed, padded, padded-listed, length-listed}
 use Rattle.stage_pins.specs.{Counts.unheld, declared.held.Acquired.Acquired, declared.held.AcquiredCounts.TheInside.Inside}
 
 -- an unused cell

@@ -10,8 +10,8 @@ ghost use Rattle.stage_pins.specs.HeldCells.{blank_count};
 use crate::pin::Pinned;
 use crate::settle::Settle;
 use frame_words::{CountWord, Hold};
-use spk_nums::{CoreNo, FrameNo, Stamp};
 use std::marker::Model;
+use word_map::spk_nums::{CoreNo, FrameNo, Stamp};
 
 /// A count that a call has acquired, and by how much the call changes the references that the core counts, if it is
 /// carried out.

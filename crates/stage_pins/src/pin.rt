@@ -11,19 +11,19 @@
 //! place of the one that was found, and is lost where another core has changed the word in between.
 
 ghost use Rattle.std.specs.Prelude.{◌≡◌, ◌<◌, ℕ, Some};
-ghost use Rattle.spk_nums.specs.declared.steps.StageEnd.TheVariants.{Going};
+ghost use Rattle.word_map.specs.spk_nums.specs.declared.steps.StageEnd.TheVariants.{Going};
 ghost use Rattle.frame_words.specs.Count.{NumberFits, word_of_count};
 ghost use Rattle.word_map.specs.Word.{CountAt};
 ghost use Rattle.word_map.specs.Places.{IsIn, place_of, size_of};
-ghost use Rattle.spk_nums.specs.WordSteps.{place_in};
+ghost use Rattle.word_map.specs.spk_nums.specs.WordSteps.{place_in};
 ghost use Rattle.word_map.specs.Moves.{op_of};
 ghost use Rattle.stage_pins.specs.Counts.{unheld, acquired};
 ghost use Rattle.stage_pins.specs.Acquire.{PinCounts, PinFits, expected_by, pin_move, end_by_hold, load_end, pinned_at};
 ghost use Rattle.stage_pins.specs.Acquire.{compare_end, pin_end, after_hold, after_load, pin_after, EndFits};
 
 use frame_words::{CountWord, Hold};
-use spk_nums::{CoreNo, FrameNo, Reply, StageEnd, Stamp, WordOp};
 use word_map::Layout;
+use word_map::spk_nums::{CoreNo, FrameNo, Reply, StageEnd, Stamp, WordOp};
 
 /// The acquiring of a core's count of a frame, between two of its steps.
 #[derive(Clone, Copy, PartialEq, Eq, Debug)]

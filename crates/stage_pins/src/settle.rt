@@ -4,11 +4,11 @@
 //! references, and with its stamp where a reference was released. After a refusal it commits the change 0.
 
 ghost use Rattle.std.specs.Prelude.{◌≡◌, ◌<◌, ℕ, ℤ, pos, None};
-ghost use Rattle.spk_nums.specs.declared.steps.StageEnd.TheVariants.{Done};
+ghost use Rattle.word_map.specs.spk_nums.specs.declared.steps.StageEnd.TheVariants.{Done};
 ghost use Rattle.frame_words.specs.Count.{NumberFits, word_of_count};
 ghost use Rattle.word_map.specs.Word.{CountAt};
 ghost use Rattle.word_map.specs.Places.{size_of};
-ghost use Rattle.spk_nums.specs.WordSteps.{place_in};
+ghost use Rattle.word_map.specs.spk_nums.specs.WordSteps.{place_in};
 ghost use Rattle.word_map.specs.Moves.{op_of, StoreOf};
 ghost use Rattle.stage_pins.specs.Counts.{unheld, changed, later};
 ghost use Rattle.stage_pins.specs.Acquire.{pinned_at};
@@ -16,8 +16,8 @@ ghost use Rattle.stage_pins.specs.Commit.{SettleFits, settled_word, settle_move}
 
 use crate::pin::Pinned;
 use frame_words::{CountWord, Hold, wrapped};
-use spk_nums::{StageEnd, Stamp, WordOp};
 use word_map::Layout;
+use word_map::spk_nums::{StageEnd, Stamp, WordOp};
 
 /// The commit of an acquired count, before its one step.
 #[derive(Clone, Copy, PartialEq, Eq, Debug)]

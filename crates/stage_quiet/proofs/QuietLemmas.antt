@@ -5,7 +5,7 @@ use Rattle.stage_quiet.specs.{quiet_scan, quiet_next, quiet_refuses, scan_after,
 use Rattle.stage_quiet.specs.{Flushing.FlushMarkFits, Flushing.flush_after, declared.quiet.Quiet.Quiet}
 use Rattle.stage_quiet.specs.{declared.quiet.Quiet.TheVariants.AtCore, declared.quiet.Quiet.TheVariants.AtFlush, declared.close.Close.Close}
 use Rattle.{std.proofs.Common.refl, std.proofs.Common.arith, std.proofs.Common.ltb-true, stage_quiet.specs.flush_move, word_map.specs.Shape}
-use Rattle.{word_map.specs.IsIn, word_map.specs.word_of, spk_nums.specs.declared.replies.Reply.Reply}
+use Rattle.{word_map.specs.IsIn, word_map.specs.word_of, word_map.specs.spk_nums.specs.declared.replies.Reply.Reply}
 use Rattle.{stage_quiet.specs.declared.flush_mark.FlushMark.FlushMark}
 
 -- the next step of a scan is on a word of the machine

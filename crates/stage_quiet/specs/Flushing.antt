@@ -1,8 +1,9 @@
 -- The steps by which a core notes that it has flushed.
 use Rattle.word_map.specs.{FlushAt, ClockAt, Shape, Move, LoadOf, StoreOf}
 use Rattle.std.specs.Prelude.{ℕ, ◌<◌}
-use Rattle.spk_nums.specs.{declared.steps.StageEnd.StageEnd, declared.steps.StageEnd.TheVariants.Decided}
-use Rattle.spk_nums.specs.{declared.steps.StageEnd.TheVariants.Done, declared.replies.Reply.Reply, declared.replies.Value.Value}
+use Rattle.word_map.specs.spk_nums.specs.{declared.steps.StageEnd.StageEnd, declared.steps.StageEnd.TheVariants.Decided}
+use Rattle.word_map.specs.spk_nums.specs.{declared.steps.StageEnd.TheVariants.Done, declared.replies.Reply.Reply}
+use Rattle.word_map.specs.spk_nums.specs.{declared.replies.Value.Value}
 use Rattle.frame_words.specs.Flush.{word_of_flush}
 use Rattle.stage_quiet.specs.{Clocks.stamp_of_clock, declared.flush_mark.FlushMark.FlushMark}
 use Rattle.stage_quiet.specs.{declared.flush_mark.FlushMark.TheVariants.AtLoad, declared.flush_mark.FlushMark.TheVariants.AtStore}

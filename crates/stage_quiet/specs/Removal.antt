@@ -1,9 +1,10 @@
 -- The steps of a removal, from the compare of the entry to the store of the quiescing one.
 use Rattle.word_map.specs.{EntryAt, ClockAt, Shape, Move, CompareOf, StoreOf, AddOf}
 use Rattle.std.specs.Prelude.{ℕ, ◌<◌, ◌≤◌, ◌==◌, Bool, if◌then◌else◌}
-use Rattle.spk_nums.specs.{declared.steps.StageEnd.StageEnd, declared.steps.StageEnd.TheVariants.Going}
-use Rattle.spk_nums.specs.{declared.steps.StageEnd.TheVariants.Decided, declared.steps.StageEnd.TheVariants.Done}
-use Rattle.spk_nums.specs.{declared.steps.StageEnd.TheVariants.Refuse, declared.replies.Reply.Reply, declared.replies.Value.Value}
+use Rattle.word_map.specs.spk_nums.specs.{declared.steps.StageEnd.StageEnd, declared.steps.StageEnd.TheVariants.Going}
+use Rattle.word_map.specs.spk_nums.specs.{declared.steps.StageEnd.TheVariants.Decided, declared.steps.StageEnd.TheVariants.Done}
+use Rattle.word_map.specs.spk_nums.specs.{declared.steps.StageEnd.TheVariants.Refuse, declared.replies.Reply.Reply}
+use Rattle.word_map.specs.spk_nums.specs.{declared.replies.Value.Value}
 use Rattle.entry_words.specs.{EntryWord.word_of_entry, declared.entry.Entry.TheVariants.Closing, declared.entry.Entry.TheVariants.Quiescing}
 use Rattle.stage_quiet.specs.{Clocks.drawn_stamp, declared.close.Close.Close, declared.close.Close.TheVariants.AtCompare}
 use Rattle.stage_quiet.specs.{declared.close.Close.TheVariants.AtDraw, declared.close.Close.TheVariants.AtStore}

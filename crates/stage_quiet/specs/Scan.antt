@@ -2,8 +2,9 @@
 use Rattle.std.specs.Prelude.{ℕ, ◌+◌, ◌<◌, ◌≢◌, ◌==◌, ◌&&◌, nat_lt, nat_le, Bool, true, false, Option, Some, None, if◌then◌else◌}
 use Rattle.word_map.specs.{CoreAt, FlushAt, Shape, Move, LoadOf}
 use Rattle.frame_words.specs.{core_of_word, flush_of_word}
-use Rattle.spk_nums.specs.{declared.replies.Reply.Reply, declared.steps.StageEnd.StageEnd, declared.steps.StageEnd.TheVariants.Going}
-use Rattle.spk_nums.specs.{declared.steps.StageEnd.TheVariants.Done, declared.steps.StageEnd.TheVariants.Refuse}
+use Rattle.word_map.specs.spk_nums.specs.{declared.replies.Reply.Reply, declared.steps.StageEnd.StageEnd}
+use Rattle.word_map.specs.spk_nums.specs.{declared.steps.StageEnd.TheVariants.Going}
+use Rattle.word_map.specs.spk_nums.specs.{declared.steps.StageEnd.TheVariants.Done, declared.steps.StageEnd.TheVariants.Refuse}
 use Rattle.frame_words.specs.{declared.core_word.CoreWord.CoreWord, declared.flush_word.FlushWord.FlushWord}
 use Rattle.stage_quiet.specs.{declared.quiet.Quiet.Quiet, declared.quiet.Quiet.TheVariants.AtCore, declared.quiet.Quiet.TheVariants.AtFlush}
 

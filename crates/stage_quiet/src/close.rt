@@ -8,14 +8,14 @@ ghost use Rattle.std.specs.Prelude.{◌≡◌, ◌<◌, ◌≤◌, ◌==◌};
 ghost use Rattle.entry_words.specs.EntryWord.{word_of_entry};
 ghost use Rattle.entry_words.specs.declared.entry.Entry.TheVariants.{Closing, Quiescing};
 ghost use Rattle.word_map.specs.Places.{size_of};
-ghost use Rattle.spk_nums.specs.WordSteps.{place_in};
+ghost use Rattle.word_map.specs.spk_nums.specs.WordSteps.{place_in};
 ghost use Rattle.word_map.specs.Moves.{op_of};
 ghost use Rattle.stage_quiet.specs.Clocks.{drawn_stamp};
 ghost use Rattle.stage_quiet.specs.Removal.{CloseFits, close_move, close_compared, close_end, close_after};
 
 use entry_words::Entry;
-use spk_nums::{CoreNo, EntryNo, FrameNo, Reply, StageEnd, Stamp, Value, WordOp};
 use word_map::Layout;
+use word_map::spk_nums::{CoreNo, EntryNo, FrameNo, Reply, StageEnd, Stamp, Value, WordOp};
 
 /// The removal of what stands at a place, between two of its steps.
 #[derive(Clone, Copy, PartialEq, Eq, Debug)]

@@ -6,14 +6,14 @@
 ghost use Rattle.std.specs.Prelude.{◌≡◌, ◌<◌};
 ghost use Rattle.frame_words.specs.Flush.{word_of_flush};
 ghost use Rattle.word_map.specs.Places.{size_of};
-ghost use Rattle.spk_nums.specs.WordSteps.{place_in};
+ghost use Rattle.word_map.specs.spk_nums.specs.WordSteps.{place_in};
 ghost use Rattle.word_map.specs.Moves.{op_of};
 ghost use Rattle.stage_quiet.specs.Clocks.{stamp_of_clock};
 ghost use Rattle.stage_quiet.specs.Flushing.{FlushMarkFits, flush_move, flush_end, flush_after};
 
 use frame_words::FlushWord;
-use spk_nums::{CoreNo, Reply, StageEnd, Stamp, Value, WordOp};
 use word_map::Layout;
+use word_map::spk_nums::{CoreNo, Reply, StageEnd, Stamp, Value, WordOp};
 
 /// The noting of a flush, between two of its steps.
 #[derive(Clone, Copy, PartialEq, Eq, Debug)]

@@ -11,14 +11,14 @@
 
 ghost use Rattle.std.specs.Prelude.{◌≡◌, ◌<◌, ◌≤◌, nat_lt, false, true, IfSome};
 ghost use Rattle.word_map.specs.Places.{Shape, size_of};
-ghost use Rattle.spk_nums.specs.WordSteps.{place_in};
+ghost use Rattle.word_map.specs.spk_nums.specs.WordSteps.{place_in};
 ghost use Rattle.word_map.specs.Moves.{op_of};
 ghost use Rattle.stage_quiet.specs.Scan.{QuietFits, quiet_move, first_other, next_other, flush_scan, core_scan, quiet_scan, quiet_next};
 ghost use Rattle.stage_quiet.specs.Scan.{core_refuses, flush_refuses, quiet_refuses, scan_end, quiet_end, scan_after, quiet_after};
 
 use frame_words::{CoreWord, FlushWord};
-use spk_nums::{CoreNo, Reply, StageEnd, Stamp, WordOp};
 use word_map::Layout;
+use word_map::spk_nums::{CoreNo, Reply, StageEnd, Stamp, WordOp};
 
 /// A scan for a stamp, between two of its steps.
 #[derive(Clone, Copy, PartialEq, Eq, Debug)]

@@ -2,7 +2,8 @@
 use Rattle.std.proofs.Common.{◌≡◌, ℕ, ◌+◌, ◌<◌, ◌≤◌, List, [], ◌∷◌, ◌++◌, length, take, get_or, zero, suc, None, arith, slice_set}
 use Rattle.stage_sweep.specs.{Counters.CountsFit, CountLists.AreCounts, CountLists.blank_count}
 use Rattle.{std.proofs.Common.slice_get, std.proofs.Common.get_or-take, std.proofs.lemmas.Option.slice_get_past}
-use Rattle.{std.proofs.lemmas.List.take_more_set, spk_nums.specs.Listed.length-listed, spk_nums.proofs.Cells.added}
+use Rattle.{std.proofs.lemmas.List.take_more_set, stage_look.specs.spk_nums.specs.Listed.length-listed}
+use Rattle.{stage_look.specs.spk_nums.proofs.Cells.added}
 use Rattle.{stage_pins.specs.frame_words.specs.Count.NumberFits, stage_pins.specs.frame_words.specs.declared.count_word.CountWord.CountWord}
 use Rattle.{stage_sweep.specs.declared.count_words.CountWords.TheInside.Inside}
 

@@ -6,9 +6,9 @@ use low.{counters_of, loads_of, may_be_cached, AtFits, SweepFits, move_at, sweep
 use low.{scan_next, compare_next, scan_goes, at_after, sweep_refuses, sweep_next, sweep_kept, sweep_after, end_by, sweep_end}
 use Rattle.stage_look.specs.word_map.specs.{Shape, IsShape, IsIn, word_of}
 use Rattle.stage_quiet.specs.{QuietFits, quiet_end, quiet_after}
-use Rattle.spk_nums.specs.{declared.kinds.Obj.Obj, declared.replies.Reply.Reply, declared.steps.StageEnd.StageEnd}
-use Rattle.spk_nums.specs.{declared.steps.StageEnd.TheVariants.Going, declared.steps.StageEnd.TheVariants.Decided}
-use Rattle.spk_nums.specs.{declared.steps.StageEnd.TheVariants.Done, declared.steps.StageEnd.TheVariants.Refuse}
+use Rattle.stage_look.specs.spk_nums.specs.{declared.kinds.Obj.Obj, declared.replies.Reply.Reply, declared.steps.StageEnd.StageEnd}
+use Rattle.stage_look.specs.spk_nums.specs.{declared.steps.StageEnd.TheVariants.Going, declared.steps.StageEnd.TheVariants.Decided}
+use Rattle.stage_look.specs.spk_nums.specs.{declared.steps.StageEnd.TheVariants.Done, declared.steps.StageEnd.TheVariants.Refuse}
 use Rattle.stage_pins.specs.frame_words.specs.{Count.count_of_word, declared.count_word.CountWord.CountWord}
 use Rattle.stage_quiet.proofs.QuietLemmas.{quiet_scan_fits, quiet_after_fits, quiet_is_in}
 use low.{Freeze.StepFits, Freeze.KeepFits, Freeze.TookFits, Freeze.next_at, declared.sweep.Sweep.Sweep, declared.sweep.SweepAt.SweepAt}

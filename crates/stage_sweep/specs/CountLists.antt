@@ -1,5 +1,5 @@
 use Rattle.std.specs.Prelude.{◌≡◌, pos, List, length, take}
-use Rattle.spk_nums.specs.Listed.{IsListed, padded, padded-listed, length-listed}
+use Rattle.stage_look.specs.spk_nums.specs.Listed.{IsListed, padded, padded-listed, length-listed}
 use Rattle.stage_sweep.specs.{Counters.CountsFit, declared.count_words.CountWords.TheInside.Inside}
 use Rattle.{stage_pins.specs.frame_words.specs.declared.count_word.CountWord.CountWord, stage_pins.specs.Counts.unheld}
 

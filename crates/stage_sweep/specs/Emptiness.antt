@@ -1,15 +1,15 @@
 -- Whether the object in a frame is empty, judged by one of its words after another.
 use Rattle.std.specs.Prelude.{ℕ, ◌==◌, nat_lt, Bool, true, false, Option, Some, None, if◌then◌else◌}
 use Rattle.tcap_words.specs.{head_of_word, stack_of_word, thread_of_word}
-use Rattle.spk_nums.specs.declared.kinds.FrameKind.TheVariants.{Untyped, User, Kernel}
-use Rattle.spk_nums.specs.declared.kinds.Obj.TheVariants.{Blank, Table, Leaf, Pages, Pleaf, Comp, Thread, Tcap}
-use Rattle.spk_nums.specs.declared.steps.StageEnd.TheVariants.{Going, Decided, Done, Refuse}
+use Rattle.stage_look.specs.spk_nums.specs.declared.kinds.FrameKind.TheVariants.{Untyped, User, Kernel}
+use Rattle.stage_look.specs.spk_nums.specs.declared.kinds.Obj.TheVariants.{Blank, Table, Leaf, Pages, Pleaf, Comp, Thread, Tcap}
+use Rattle.stage_look.specs.spk_nums.specs.declared.steps.StageEnd.TheVariants.{Going, Decided, Done, Refuse}
 use Rattle.tcap_words.specs.{declared.head_word.HeadWord.HeadWord, declared.stack_word.StackWord.StackWord}
 use Rattle.tcap_words.specs.{declared.thread_word.ThreadWord.ThreadWord, declared.thread_word.ThreadWord.TheVariants.Idle}
 use Rattle.tcap_words.specs.{declared.thread_word.ThreadWord.TheVariants.Running, declared.thread_word.ThreadWord.TheVariants.Claimed}
 use Rattle.stage_look.specs.{Shown.shown_in, declared.look.Found.Found}
-use Rattle.{spk_nums.specs.declared.kinds.FrameKind.FrameKind, spk_nums.specs.declared.kinds.Obj.Obj}
-use Rattle.{spk_nums.specs.declared.replies.Reply.Reply, spk_nums.specs.declared.steps.StageEnd.StageEnd}
+use Rattle.{stage_look.specs.spk_nums.specs.declared.kinds.FrameKind.FrameKind, stage_look.specs.spk_nums.specs.declared.kinds.Obj.Obj}
+use Rattle.{stage_look.specs.spk_nums.specs.declared.replies.Reply.Reply, stage_look.specs.spk_nums.specs.declared.steps.StageEnd.StageEnd}
 use Rattle.{stage_look.specs.entry_words.specs.declared.entry.Entry.Entry, stage_sweep.specs.declared.empty.Owned.Owned}
 
 -- how many words of an object are looked at: a node's entries, a component's table and pages, a thread and its bottom component, a temporal

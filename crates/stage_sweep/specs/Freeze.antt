@@ -4,9 +4,9 @@ use Rattle.std.specs.Prelude.{ℕ, ℤ, ◌+◌, ◌<◌, ◌==◌, nat_lt, Bool
 use Rattle.stage_look.specs.word_map.specs.{CountAt, EntryAt, Shape, Move, LoadOf, CompareOf}
 use Rattle.stage_quiet.specs.{QuietFits, quiet_move, quiet_scan, quiet_end, quiet_after}
 use Rattle.stage_pins.specs.frame_words.specs.{NumberFits, word_of_count, count_of_word, residue}
-use Rattle.spk_nums.specs.{declared.kinds.Obj.Obj, declared.replies.Reply.Reply, declared.steps.StageEnd.StageEnd}
-use Rattle.spk_nums.specs.{declared.steps.StageEnd.TheVariants.Going, declared.steps.StageEnd.TheVariants.Decided}
-use Rattle.spk_nums.specs.{declared.steps.StageEnd.TheVariants.Done, declared.steps.StageEnd.TheVariants.Refuse}
+use Rattle.stage_look.specs.spk_nums.specs.{declared.kinds.Obj.Obj, declared.replies.Reply.Reply, declared.steps.StageEnd.StageEnd}
+use Rattle.stage_look.specs.spk_nums.specs.{declared.steps.StageEnd.TheVariants.Going, declared.steps.StageEnd.TheVariants.Decided}
+use Rattle.stage_look.specs.spk_nums.specs.{declared.steps.StageEnd.TheVariants.Done, declared.steps.StageEnd.TheVariants.Refuse}
 use Rattle.stage_pins.specs.frame_words.specs.{declared.count_word.CountWord.CountWord, declared.count_word.Hold.Hold}
 use Rattle.stage_pins.specs.frame_words.specs.{declared.count_word.Hold.TheVariants.Unheld, declared.count_word.Hold.TheVariants.Pinned}
 use Rattle.stage_pins.specs.frame_words.specs.{declared.count_word.Hold.TheVariants.Closed, declared.frame_word.FrameWord.FrameWord}

@@ -1,4 +1,5 @@
 -- What the crates above name through this one.
+pub use Rattle.stage_look.specs.spk_nums
 pub use Rattle.stage_look.specs.entry_words
 pub use Rattle.stage_pins.specs.frame_words
 pub use Rattle.tcap_words

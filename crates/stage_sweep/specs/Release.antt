@@ -1,10 +1,10 @@
 -- The steps that release the frozen counters of a frame again, one store each.
 use Rattle.std.specs.Prelude.{ℕ, pos, ◌+◌, ◌<◌, ◌≤◌, ◌==◌, nat_lt, Bool, false, true, Option, Some, None, length, slice_get, if◌then◌else◌}
 use Rattle.stage_look.specs.word_map.specs.{CountAt, Shape, Move, StoreOf}
-use Rattle.spk_nums.specs.declared.steps.StageEnd.TheVariants.{Going, Done}
+use Rattle.stage_look.specs.spk_nums.specs.declared.steps.StageEnd.TheVariants.{Going, Done}
 use Rattle.stage_pins.specs.frame_words.specs.{Count.word_of_count, declared.count_word.CountWord.CountWord}
 use Rattle.stage_sweep.specs.{Counters.counters_of, declared.sweep.Swept.Swept, declared.thaw.Thaw.Thaw}
-use Rattle.{spk_nums.specs.declared.steps.StageEnd.StageEnd, stage_pins.specs.Counts.unheld}
+use Rattle.{stage_look.specs.spk_nums.specs.declared.steps.StageEnd.StageEnd, stage_pins.specs.Counts.unheld}
 
 -- the counter that is stored next is one of the frozen ones
 pub record ThawFits (s : Shape) (t : Thaw) : Type 0 where

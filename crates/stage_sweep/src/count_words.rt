@@ -5,7 +5,7 @@ ghost use Rattle.stage_pins.specs.frame_words.specs.Count.{NumberFits};
 ghost use Rattle.stage_sweep.specs.Counters.{sum_of_counts, latest_stamp};
 ghost use Rattle.stage_sweep.specs.CountLists.{blank_count};
 
-use spk_nums::Stamp;
+use stage_look::spk_nums::Stamp;
 use stage_quiet::frame_words::{CountWord, Hold};
 use std::marker::Model;
 

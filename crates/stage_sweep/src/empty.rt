@@ -5,14 +5,14 @@
 //! pages, a thread its bottom component, is released with it, so these frames are told.
 
 ghost use Rattle.std.specs.Prelude.{◌≡◌, ◌<◌, ◌≤◌, ◌==◌, nat_lt, Some};
-ghost use Rattle.spk_nums.specs.declared.kinds.Obj.TheVariants.{Thread};
+ghost use Rattle.stage_look.specs.spk_nums.specs.declared.kinds.Obj.TheVariants.{Thread};
 ghost use Rattle.tcap_words.specs.Stack.{stack_of_word};
 ghost use Rattle.stage_look.specs.Shown.{shown_in};
 ghost use Rattle.stage_sweep.specs.Emptiness.{loads_of, is_page_node, may_be_cached, held_refuses, refusal_by, entry_refuses};
 ghost use Rattle.stage_sweep.specs.Emptiness.{field_refuses, depth_refuses, thread_refuses, place_refuses, stack_refuses, head_by_mark};
 ghost use Rattle.stage_sweep.specs.Emptiness.{head_refuses, by_turn, empty_refuses, frame_if, place_owned, stack_owned, owns, owned_after};
 
-use spk_nums::{CoreNo, EntryNo, FrameKind, FrameNo, Obj, Reply, StageEnd};
+use stage_look::spk_nums::{CoreNo, EntryNo, FrameKind, FrameNo, Obj, Reply, StageEnd};
 use stage_look::{Found, Look};
 use stage_quiet::entry_words::Entry;
 use stage_quiet::word_map::Layout;

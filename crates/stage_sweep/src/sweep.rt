@@ -14,8 +14,8 @@
 //! released again.
 
 ghost use Rattle.std.specs.Prelude.{◌≡◌, ◌+◌, ◌<◌, ◌≤◌, ◌==◌, nat_lt, if◌then◌else◌, length, [], None, Some, IfSome};
-ghost use Rattle.spk_nums.specs.declared.steps.StageEnd.TheVariants.{Going};
-ghost use Rattle.spk_nums.specs.WordSteps.{place_in};
+ghost use Rattle.stage_look.specs.spk_nums.specs.declared.steps.StageEnd.TheVariants.{Going};
+ghost use Rattle.stage_look.specs.spk_nums.specs.WordSteps.{place_in};
 ghost use Rattle.stage_pins.specs.frame_words.specs.Count.{NumberFits, word_of_count, count_of_word};
 ghost use Rattle.stage_look.specs.word_map.specs.Places.{place_of, size_of};
 ghost use Rattle.stage_look.specs.word_map.specs.Word.{CountAt};
@@ -31,7 +31,7 @@ ghost use Rattle.stage_sweep.specs.Freeze.{sweep_refuses, sweep_next, at_after, 
 
 use crate::count_words::CountWords;
 use crate::empty::{Owned, empty_refuses, loads_of, may_be_cached, owned_after};
-use spk_nums::{CoreNo, EntryNo, FrameNo, Obj, Reply, StageEnd, Stamp, WordOp};
+use stage_look::spk_nums::{CoreNo, EntryNo, FrameNo, Obj, Reply, StageEnd, Stamp, WordOp};
 use stage_quiet::Quiet;
 use stage_quiet::frame_words::{CountWord, FrameWord, Hold, residue};
 use stage_quiet::word_map::Layout;

@@ -5,7 +5,7 @@
 //! marked no core finds a frame whose counters are another's.
 
 ghost use Rattle.std.specs.Prelude.{◌≡◌, ◌<◌, ◌≤◌, ◌+◌, nat_lt, length, slice_get, IfSome};
-ghost use Rattle.spk_nums.specs.WordSteps.{place_in};
+ghost use Rattle.stage_look.specs.spk_nums.specs.WordSteps.{place_in};
 ghost use Rattle.stage_pins.specs.frame_words.specs.Count.{NumberFits, word_of_count};
 ghost use Rattle.stage_look.specs.word_map.specs.Places.{Shape, size_of};
 ghost use Rattle.stage_look.specs.word_map.specs.Moves.{op_of};
@@ -14,7 +14,7 @@ ghost use Rattle.stage_sweep.specs.Release.{ThawFits, released, thaw_move, thaw_
 
 use crate::count_words::CountWords;
 use crate::sweep::Swept;
-use spk_nums::{CoreNo, FrameNo, StageEnd, Stamp, WordOp};
+use stage_look::spk_nums::{CoreNo, FrameNo, StageEnd, Stamp, WordOp};
 use stage_quiet::frame_words::{CountWord, Hold};
 use stage_quiet::word_map::Layout;
 

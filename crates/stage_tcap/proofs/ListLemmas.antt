@@ -3,7 +3,7 @@ use Rattle.std.proofs.Common.{rules, ◌≡◌, ◌↔◌, ℕ, ◌==◌, ◌≤
 use Rattle.std.proofs.Common.{Some, None, IfSome, nat_le, refl, sym, ap, ◌∙◌, slice_get, SomeIff, eqb-true, eq-eqb, leb-true, le-leb}
 use Rattle.stage_tcap.specs.{same_list, merged_if, merge_of}
 use Rattle.std.proofs.lemmas.Bool.{and_parts, and_from}
-use Rattle.spk_nums.specs.{Merging.merged, Qualities.IsQualityList, Qualities.PairFits}
+use Rattle.word_map.specs.spk_nums.specs.{Merging.merged, Qualities.IsQualityList, Qualities.PairFits}
 use Rattle.tcap_words.specs.Quality as words
 
 pub equal_lists : (xs ys : List (ℕ × ℕ)) → same_list xs ys ≡ true → xs ≡ ys

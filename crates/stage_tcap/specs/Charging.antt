@@ -1,10 +1,11 @@
 -- The steps by which ticks are charged to a temporal capability.
 use Rattle.std.specs.Prelude.{ℕ, ◌<◌, ◌==◌, ◌^◌, min, Bool, Option, Some, None, if◌then◌else◌}
 use Rattle.word_map.specs.{EntryAt, Shape, Move, LoadOf, CompareOf}
-use Rattle.spk_nums.specs.{declared.replies.Value.Value, declared.steps.StageEnd.StageEnd, declared.steps.StageEnd.TheVariants.Going}
-use Rattle.spk_nums.specs.{declared.steps.StageEnd.TheVariants.Done, declared.steps.StageEnd.TheVariants.Refuse}
+use Rattle.word_map.specs.spk_nums.specs.{declared.replies.Value.Value, declared.steps.StageEnd.StageEnd}
+use Rattle.word_map.specs.spk_nums.specs.{declared.steps.StageEnd.TheVariants.Going}
+use Rattle.word_map.specs.spk_nums.specs.{declared.steps.StageEnd.TheVariants.Done, declared.steps.StageEnd.TheVariants.Refuse}
 use Rattle.stage_tcap.specs.{Heads.head, Heads.debited, declared.charge.Charge.Charge, declared.charge.Charge.TheVariants.AtLoad}
-use Rattle.{tcap_words.specs.word_of_head, tcap_words.specs.head_of_word, spk_nums.specs.declared.replies.Reply.Reply}
+use Rattle.{tcap_words.specs.word_of_head, tcap_words.specs.head_of_word, word_map.specs.spk_nums.specs.declared.replies.Reply.Reply}
 use Rattle.{tcap_words.specs.declared.head_word.HeadWord.HeadWord, stage_tcap.specs.declared.charge.Charge.TheVariants.AtCompare}
 
 -- a version that was found is within its range

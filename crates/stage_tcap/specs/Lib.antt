@@ -22,27 +22,33 @@ pub use Rattle.std.specs.Prelude.{flat_map, slice_index, sum_by, IsSomeAnd, ◌/
 pub use Rattle.word_map.specs.{EntryAt, word_of, Move, CountAt, FrameAt, LoadOf, LiveAt, left_of, ClockAt, CoreAt, FlushAt, Shape, CompareOf}
 pub use Rattle.word_map.specs.{StoreOf, told_of, same_word, AddOf, IsIn, place_of, size_of, op_of, IsShape}
 pub use Rattle.tcap_words.specs.{HeadFits, quality_of_word, stack_of_word, ThreadFits, DepthFits}
-pub use Rattle.spk_nums.specs.{Setting.Setting, Setting.IsSetting, declared.calls.Call.Call, declared.replies.Reply.Reply}
-pub use Rattle.spk_nums.specs.{Capability.Capability, Capability.cap_of, declared.kinds.Kind.Kind, declared.kinds.FrameKind.FrameKind}
-pub use Rattle.spk_nums.specs.{declared.replies.Value.TheVariants.Nothing, declared.replies.Value.TheVariants.Amount}
-pub use Rattle.spk_nums.specs.{declared.replies.Value.Value, declared.calls.Call.TheVariants.Retype, declared.calls.Call.TheVariants.Tick}
-pub use Rattle.spk_nums.specs.{declared.calls.Call.TheVariants.Kill, declared.calls.Call.TheVariants.Map}
-pub use Rattle.spk_nums.specs.{declared.calls.Call.TheVariants.Switch, declared.calls.Call.TheVariants.Flush}
-pub use Rattle.spk_nums.specs.{declared.calls.Call.TheVariants.Remove, declared.calls.Call.TheVariants.Gate}
-pub use Rattle.spk_nums.specs.{declared.calls.Call.TheVariants.Look, declared.calls.Call.TheVariants.Replenish}
-pub use Rattle.spk_nums.specs.{declared.calls.Call.TheVariants.Test, declared.calls.Call.TheVariants.Transfer}
-pub use Rattle.spk_nums.specs.{declared.calls.Call.TheVariants.Delegate, declared.calls.Call.TheVariants.Part}
-pub use Rattle.spk_nums.specs.{declared.calls.Call.TheVariants.Ret, declared.calls.Call.TheVariants.Grow}
-pub use Rattle.spk_nums.specs.{declared.calls.Call.TheVariants.Shrink, declared.calls.Call.TheVariants.Unmap}
-pub use Rattle.spk_nums.specs.{declared.calls.Call.TheVariants.Touch, declared.calls.Call.TheVariants.Copy, declared.calls.Make.Make}
-pub use Rattle.spk_nums.specs.{declared.steps.StageEnd.StageEnd, CallLimits.InLimits, WordSteps.left_if, WordSteps.place_in}
-pub use Rattle.spk_nums.specs.{declared.kinds.FrameKind.TheVariants.Untyped, declared.kinds.FrameKind.TheVariants.Kernel}
-pub use Rattle.spk_nums.specs.{declared.kinds.FrameKind.TheVariants.User, declared.replies.Reply.TheVariants.Ok, declared.kinds.Obj.Obj}
-pub use Rattle.spk_nums.specs.{declared.steps.Item.Item, declared.translations.CoreEnd.CoreEnd, declared.translations.Translation.Translation}
-pub use Rattle.spk_nums.specs.{Rights.whole_copy, Rights.has_rights, Rights.part_of, declared.kinds.Kind.TheVariants.Comp}
-pub use Rattle.spk_nums.specs.{declared.kinds.Kind.TheVariants.Range, declared.kinds.Obj.TheVariants.Blank, declared.replies.Decision.Decision}
-pub use Rattle.spk_nums.specs.{Bounds.bound_of, declared.kinds.PageFlags.PageFlags, declared.steps.How.How}
-pub use Rattle.spk_nums.specs.{declared.steps.How.TheVariants.Return, Merging.covers, declared.steps.WordOp.WordOp}
+pub use Rattle.word_map.specs.spk_nums.specs.{Setting.Setting, Setting.IsSetting, declared.calls.Call.Call, declared.replies.Reply.Reply}
+pub use Rattle.word_map.specs.spk_nums.specs.{Capability.Capability, Capability.cap_of, declared.kinds.Kind.Kind}
+pub use Rattle.word_map.specs.spk_nums.specs.{declared.kinds.FrameKind.FrameKind}
+pub use Rattle.word_map.specs.spk_nums.specs.{declared.replies.Value.TheVariants.Nothing, declared.replies.Value.TheVariants.Amount}
+pub use Rattle.word_map.specs.spk_nums.specs.{declared.replies.Value.Value, declared.calls.Call.TheVariants.Retype}
+pub use Rattle.word_map.specs.spk_nums.specs.{declared.calls.Call.TheVariants.Tick}
+pub use Rattle.word_map.specs.spk_nums.specs.{declared.calls.Call.TheVariants.Kill, declared.calls.Call.TheVariants.Map}
+pub use Rattle.word_map.specs.spk_nums.specs.{declared.calls.Call.TheVariants.Switch, declared.calls.Call.TheVariants.Flush}
+pub use Rattle.word_map.specs.spk_nums.specs.{declared.calls.Call.TheVariants.Remove, declared.calls.Call.TheVariants.Gate}
+pub use Rattle.word_map.specs.spk_nums.specs.{declared.calls.Call.TheVariants.Look, declared.calls.Call.TheVariants.Replenish}
+pub use Rattle.word_map.specs.spk_nums.specs.{declared.calls.Call.TheVariants.Test, declared.calls.Call.TheVariants.Transfer}
+pub use Rattle.word_map.specs.spk_nums.specs.{declared.calls.Call.TheVariants.Delegate, declared.calls.Call.TheVariants.Part}
+pub use Rattle.word_map.specs.spk_nums.specs.{declared.calls.Call.TheVariants.Ret, declared.calls.Call.TheVariants.Grow}
+pub use Rattle.word_map.specs.spk_nums.specs.{declared.calls.Call.TheVariants.Shrink, declared.calls.Call.TheVariants.Unmap}
+pub use Rattle.word_map.specs.spk_nums.specs.{declared.calls.Call.TheVariants.Touch, declared.calls.Call.TheVariants.Copy}
+pub use Rattle.word_map.specs.spk_nums.specs.{declared.calls.Make.Make}
+pub use Rattle.word_map.specs.spk_nums.specs.{declared.steps.StageEnd.StageEnd, CallLimits.InLimits, WordSteps.left_if, WordSteps.place_in}
+pub use Rattle.word_map.specs.spk_nums.specs.{declared.kinds.FrameKind.TheVariants.Untyped, declared.kinds.FrameKind.TheVariants.Kernel}
+pub use Rattle.word_map.specs.spk_nums.specs.{declared.kinds.FrameKind.TheVariants.User, declared.replies.Reply.TheVariants.Ok}
+pub use Rattle.word_map.specs.spk_nums.specs.{declared.kinds.Obj.Obj}
+pub use Rattle.word_map.specs.spk_nums.specs.{declared.steps.Item.Item, declared.translations.CoreEnd.CoreEnd}
+pub use Rattle.word_map.specs.spk_nums.specs.{declared.translations.Translation.Translation}
+pub use Rattle.word_map.specs.spk_nums.specs.{Rights.whole_copy, Rights.has_rights, Rights.part_of, declared.kinds.Kind.TheVariants.Comp}
+pub use Rattle.word_map.specs.spk_nums.specs.{declared.kinds.Kind.TheVariants.Range, declared.kinds.Obj.TheVariants.Blank}
+pub use Rattle.word_map.specs.spk_nums.specs.{declared.replies.Decision.Decision}
+pub use Rattle.word_map.specs.spk_nums.specs.{Bounds.bound_of, declared.kinds.PageFlags.PageFlags, declared.steps.How.How}
+pub use Rattle.word_map.specs.spk_nums.specs.{declared.steps.How.TheVariants.Return, Merging.covers, declared.steps.WordOp.WordOp}
 pub use Rattle.word_map.specs.Word.{Word}
 pub use Rattle.tcap_words.specs.{declared.head_word.HeadWord.HeadWord, declared.thread_word.ThreadWord.TheVariants.Running}
 pub use Rattle.tcap_words.specs.{declared.thread_word.ThreadWord.TheVariants.Idle, declared.thread_word.ThreadWord.TheVariants.Claimed}

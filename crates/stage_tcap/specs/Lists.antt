@@ -1,6 +1,6 @@
 -- A list of qualities, read from its eight words one after the other.
 use Rattle.std.specs.Prelude.{ℕ, ◌==◌, ◌&&◌, nat_le, Bool, true, false, Option, Some, None, List, [], ◌∷◌, ◌++◌, length, if◌then◌else◌}
-use Rattle.spk_nums.specs.{Merging.merged, Qualities.takes_pair}
+use Rattle.word_map.specs.spk_nums.specs.{Merging.merged, Qualities.takes_pair}
 use Rattle.tcap_words.specs.declared.quality_word.QualityWord.{QualityWord}
 
 -- a list with the pair of the next word, where it has one; None once a pair is out of order

@@ -2,14 +2,15 @@
 use Rattle.std.specs.Prelude.{ℕ, ◌+◌, ◌-◌, ◌<◌, ◌≤◌, ◌==◌, ◌&&◌, nat_lt, is_none, not, Bool, true, false, Option, Some, None, List}
 use Rattle.word_map.specs.{EntryAt, Shape, Move, LoadOf, CompareOf, StoreOf}
 use Rattle.tcap_words.specs.{word_of_head, head_of_word, word_of_quality, quality_of_word}
-use Rattle.spk_nums.specs.{Merging.preempts_by, declared.replies.Reply.Reply, declared.replies.Value.Value}
-use Rattle.spk_nums.specs.{declared.steps.StageEnd.StageEnd, declared.steps.StageEnd.TheVariants.Going}
-use Rattle.spk_nums.specs.{declared.steps.StageEnd.TheVariants.Decided, declared.steps.StageEnd.TheVariants.Done}
+use Rattle.word_map.specs.spk_nums.specs.{Merging.preempts_by, declared.replies.Reply.Reply, declared.replies.Value.Value}
+use Rattle.word_map.specs.spk_nums.specs.{declared.steps.StageEnd.StageEnd, declared.steps.StageEnd.TheVariants.Going}
+use Rattle.word_map.specs.spk_nums.specs.{declared.steps.StageEnd.TheVariants.Decided, declared.steps.StageEnd.TheVariants.Done}
 use Rattle.stage_tcap.specs.Heads.{head, marked, relisted, debited, credited, VersionFits}
 use Rattle.stage_tcap.specs.Lists.{read_word, in_order, same_list, merge_of}
 use Rattle.stage_tcap.specs.declared.pair.PairAt.TheVariants.{LoadA, MarkA, ListA, LoadB, ListB, CompareB, AgainB, StoreList, StoreB}
 use Rattle.stage_tcap.specs.declared.pair.PairWork.TheVariants.{Transfer, Delegate, Test}
-use Rattle.{std.specs.Prelude.slice_get, std.specs.Prelude.if◌then◌else◌, spk_nums.specs.declared.steps.StageEnd.TheVariants.Refuse}
+use Rattle.{std.specs.Prelude.slice_get, std.specs.Prelude.if◌then◌else◌}
+use Rattle.{word_map.specs.spk_nums.specs.declared.steps.StageEnd.TheVariants.Refuse}
 use Rattle.{tcap_words.specs.declared.head_word.HeadWord.HeadWord, tcap_words.specs.declared.quality_word.QualityWord.QualityWord}
 use Rattle.{stage_tcap.specs.Charging.head_end, stage_tcap.specs.declared.pair.Pair.Pair, stage_tcap.specs.declared.pair.PairAt.PairAt}
 use Rattle.{stage_tcap.specs.declared.pair.PairAt.TheVariants.StoreA, stage_tcap.specs.declared.pair.PairWork.PairWork}

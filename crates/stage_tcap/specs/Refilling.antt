@@ -2,9 +2,9 @@
 use Rattle.std.specs.Prelude.{ℕ, ◌+◌, ◌<◌, ◌==◌, ◌&&◌, nat_lt, not, Bool, Option, Some, None, if◌then◌else◌, List, []}
 use Rattle.word_map.specs.{EntryAt, Shape, Move, LoadOf, CompareOf}
 use Rattle.tcap_words.specs.{word_of_head, head_of_word, quality_of_word}
-use Rattle.spk_nums.specs.{Merging.covers, declared.replies.Value.Value, declared.steps.StageEnd.StageEnd}
-use Rattle.spk_nums.specs.{declared.steps.StageEnd.TheVariants.Going, declared.steps.StageEnd.TheVariants.Done}
-use Rattle.spk_nums.specs.{declared.steps.StageEnd.TheVariants.Refuse, declared.replies.Reply.Reply}
+use Rattle.word_map.specs.spk_nums.specs.{Merging.covers, declared.replies.Value.Value, declared.steps.StageEnd.StageEnd}
+use Rattle.word_map.specs.spk_nums.specs.{declared.steps.StageEnd.TheVariants.Going, declared.steps.StageEnd.TheVariants.Done}
+use Rattle.word_map.specs.spk_nums.specs.{declared.steps.StageEnd.TheVariants.Refuse, declared.replies.Reply.Reply}
 use Rattle.tcap_words.specs.{declared.head_word.HeadWord.HeadWord, declared.quality_word.QualityWord.QualityWord}
 use Rattle.stage_tcap.specs.{Heads.head, Heads.credited, Heads.VersionFits, Lists.read_word, Lists.in_order, Charging.head_end}
 use Rattle.stage_tcap.specs.{Pairs.EntryFits, Pairs.noted, declared.refill.Refill.Refill, declared.refill.RefillAt.RefillAt}

@@ -5,16 +5,16 @@
 //! change of the list raises.
 
 ghost use Rattle.std.specs.Prelude.{◌≡◌, ◌<◌, ◌==◌, min};
-ghost use Rattle.spk_nums.specs.WordSteps.{place_in};
+ghost use Rattle.word_map.specs.spk_nums.specs.WordSteps.{place_in};
 ghost use Rattle.word_map.specs.Places.{size_of};
 ghost use Rattle.word_map.specs.Moves.{op_of};
 ghost use Rattle.stage_tcap.specs.Charging.{ChargePacks, ChargeFits, charge_move, end_by_mark, head_end};
 ghost use Rattle.stage_tcap.specs.Charging.{charged_end, charge_end, after_mark, after_head, charge_after};
 
 use crate::heads::{debited, head, word_of};
-use spk_nums::{CoreNo, EntryNo, FrameNo, Reply, StageEnd, Value, WordOp};
 use tcap_words::HeadWord;
 use word_map::Layout;
+use word_map::spk_nums::{CoreNo, EntryNo, FrameNo, Reply, StageEnd, Value, WordOp};
 
 /// A charge of ticks to a temporal capability, between two of its steps.
 #[derive(Clone, Copy, PartialEq, Eq, Debug)]

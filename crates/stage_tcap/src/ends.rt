@@ -3,8 +3,8 @@
 ghost use Rattle.std.specs.Prelude.{◌≡◌};
 ghost use Rattle.stage_tcap.specs.Pairs.{value_of, again_value, end_by_budget, marked_end, decided_by_mark, b_end, list_end, again_end};
 
-use spk_nums::{CoreNo, Reply, StageEnd, Value};
 use tcap_words::{HeadWord, QualityWord};
+use word_map::spk_nums::{CoreNo, Reply, StageEnd, Value};
 
 // The value of a reply that is decided where head B is still the same.
 #[inline]

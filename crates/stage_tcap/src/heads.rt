@@ -4,8 +4,8 @@ ghost use Rattle.std.specs.Prelude.{◌≡◌, ◌<◌, ◌^◌};
 ghost use Rattle.tcap_words.specs.Head.{word_of_head};
 ghost use Rattle.stage_tcap.specs.Heads.{head, marked, raised, relisted, debited, credited, VersionFits};
 
-use spk_nums::CoreNo;
 use tcap_words::HeadWord;
+use word_map::spk_nums::CoreNo;
 
 // The head with this budget and version that no core has marked.
 #[inline]

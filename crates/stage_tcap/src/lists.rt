@@ -4,13 +4,13 @@
 //! of their schedulers: a list that another core is storing may be read out of order, and is then taken as the empty one.
 
 ghost use Rattle.std.specs.Prelude.{◌≡◌, ◌≤◌, ◌-◌, nat_le, length};
-ghost use Rattle.spk_nums.specs.Merging.{merged};
+ghost use Rattle.word_map.specs.spk_nums.specs.Merging.{merged};
 ghost use Rattle.stage_tcap.specs.Lists.{read_word, in_order, same_list, merged_if, merge_of};
 ghost use Rattle.stage_tcap.specs.Pairs.{EntryFits, word_of_list};
 
 use quality_lists::{agrees, merge};
-use spk_nums::{EntryNo, Qualities};
 use tcap_words::QualityWord;
+use word_map::spk_nums::{EntryNo, Qualities};
 
 // A list gets the pair of the next word, where that has one; it is None once a pair is out of order.
 #[inline]

@@ -13,9 +13,9 @@
 //! **Giving back.** Once head A is marked, a refusal decides the call, and head A is stored as it was.
 
 ghost use Rattle.std.specs.Prelude.{◌≡◌, ◌<◌, ◌≤◌, ◌+◌, ◌==◌, ◌&&◌, nat_lt, false, [], Some, IsTrue, IsFalse};
-ghost use Rattle.spk_nums.specs.declared.steps.StageEnd.TheVariants.{Going};
-ghost use Rattle.spk_nums.specs.WordSteps.{place_in};
-ghost use Rattle.spk_nums.specs.Merging.{preempts_by};
+ghost use Rattle.word_map.specs.spk_nums.specs.declared.steps.StageEnd.TheVariants.{Going};
+ghost use Rattle.word_map.specs.spk_nums.specs.WordSteps.{place_in};
+ghost use Rattle.word_map.specs.spk_nums.specs.Merging.{preempts_by};
 ghost use Rattle.tcap_words.specs.Head.{word_of_head, head_of_word};
 ghost use Rattle.tcap_words.specs.Quality.{quality_of_word};
 ghost use Rattle.word_map.specs.Places.{size_of};
@@ -35,9 +35,9 @@ use crate::ends::{again_end, again_value, b_end, list_end, marked_end};
 use crate::heads::{credited, debited, head, marked, relisted, word_of};
 use crate::lists::{add_word, in_order, merge_of, same_list, word_at};
 use preempt_test::preempts;
-use spk_nums::{CoreNo, EntryNo, FrameNo, Qualities, Reply, StageEnd, Value, WordOp};
 use tcap_words::{HeadWord, QualityWord};
 use word_map::Layout;
+use word_map::spk_nums::{CoreNo, EntryNo, FrameNo, Qualities, Reply, StageEnd, Value, WordOp};
 
 /// What a call does with two temporal capabilities.
 #[derive(Clone, Copy, PartialEq, Eq, Debug)]

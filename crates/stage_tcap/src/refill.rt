@@ -8,8 +8,8 @@
 //! how many it has is the core's own number.
 
 ghost use Rattle.std.specs.Prelude.{◌≡◌, ◌<◌, ◌≤◌, nat_lt, Some, []};
-ghost use Rattle.spk_nums.specs.Merging.{covers};
-ghost use Rattle.spk_nums.specs.WordSteps.{place_in};
+ghost use Rattle.word_map.specs.spk_nums.specs.Merging.{covers};
+ghost use Rattle.word_map.specs.spk_nums.specs.WordSteps.{place_in};
 ghost use Rattle.word_map.specs.Places.{size_of};
 ghost use Rattle.word_map.specs.Moves.{op_of};
 ghost use Rattle.stage_tcap.specs.Heads.{head, VersionFits};
@@ -20,9 +20,9 @@ ghost use Rattle.stage_tcap.specs.Refilling.{refill_at_after, refill_end_at, fro
 use crate::charge::head_end;
 use crate::heads::{credited, head, word_of};
 use crate::lists::{add_word, in_order};
-use spk_nums::{EntryNo, FrameNo, Qualities, Reply, StageEnd, Value, WordOp};
 use tcap_words::{HeadWord, QualityWord};
 use word_map::Layout;
+use word_map::spk_nums::{EntryNo, FrameNo, Qualities, Reply, StageEnd, Value, WordOp};
 
 /// Where the giving back stands, between two of its steps.
 #[derive(Clone, Copy, PartialEq, Eq, Debug)]

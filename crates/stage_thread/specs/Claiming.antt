@@ -2,10 +2,10 @@
 use Rattle.std.specs.Prelude.{ℕ, ◌<◌, ◌==◌, nat_lt, Bool, Option, Some, None, if◌then◌else◌}
 use Rattle.word_map.specs.{EntryAt, Shape, Move, LoadOf, CompareOf}
 use Rattle.tcap_words.specs.{stack_of_word, DepthFits, word_of_thread, thread_of_word}
-use Rattle.spk_nums.specs.declared.steps.StageEnd.TheVariants.{Going, Decided, Done, Refuse}
+use Rattle.word_map.specs.spk_nums.specs.declared.steps.StageEnd.TheVariants.{Going, Decided, Done, Refuse}
 use Rattle.tcap_words.specs.{declared.stack_word.StackWord.StackWord, declared.thread_word.ThreadWord.ThreadWord}
 use Rattle.stage_thread.specs.declared.claim.Claim.TheVariants.{AtLoad, AtCompare, AtStack}
-use Rattle.{spk_nums.specs.declared.steps.StageEnd.StageEnd, spk_nums.specs.declared.replies.Reply.Reply}
+use Rattle.{word_map.specs.spk_nums.specs.declared.steps.StageEnd.StageEnd, word_map.specs.spk_nums.specs.declared.replies.Reply.Reply}
 use Rattle.{stage_thread.specs.declared.claim.Claim.Claim, stage_thread.specs.declared.claim.Claimed.Claimed}
 
 -- a depth that was found is from 1 to 16

@@ -2,10 +2,10 @@
 use Rattle.std.specs.Prelude.{ℕ, ◌<◌, ◌==◌, Bool, Option, Some, None, if◌then◌else◌}
 use Rattle.word_map.specs.{EntryAt, LiveAt, Shape, Move, LoadOf}
 use Rattle.frame_words.specs.{CompFits, comp_of_word, live_of_word}
-use Rattle.spk_nums.specs.declared.steps.StageEnd.TheVariants.{Going, Done, Refuse}
+use Rattle.word_map.specs.spk_nums.specs.declared.steps.StageEnd.TheVariants.{Going, Done, Refuse}
 use Rattle.frame_words.specs.declared.live_word.LiveWord.TheVariants.{Free, Live, Closing, Dead}
 use Rattle.stage_thread.specs.{declared.alive.Alive.Alive, declared.alive.Alive.TheVariants.AtComp, declared.alive.Alive.TheVariants.AtLive}
-use Rattle.{spk_nums.specs.declared.steps.StageEnd.StageEnd, spk_nums.specs.declared.replies.Reply.Reply}
+use Rattle.{word_map.specs.spk_nums.specs.declared.steps.StageEnd.StageEnd, word_map.specs.spk_nums.specs.declared.replies.Reply.Reply}
 use Rattle.{frame_words.specs.declared.comp_word.CompWord.CompWord, frame_words.specs.declared.live_word.LiveWord.LiveWord}
 
 -- the component is a frame of the machine, and its number a number of it

@@ -2,9 +2,10 @@
 use Rattle.std.specs.Prelude.{◌+◌, ◌-◌, ◌<◌, ◌≤◌, Some, None}
 use Rattle.word_map.specs.{EntryAt, Shape, Move, StoreOf}
 use Rattle.tcap_words.specs.{word_of_stack, word_of_thread}
-use Rattle.spk_nums.specs.declared.steps.StageEnd.TheVariants.{Going, Done}
+use Rattle.word_map.specs.spk_nums.specs.declared.steps.StageEnd.TheVariants.{Going, Done}
 use Rattle.stage_thread.specs.{declared.stack.Push.Push, declared.stack.Pop.Pop}
-use Rattle.{spk_nums.specs.declared.steps.StageEnd.StageEnd, tcap_words.specs.declared.thread_word.ThreadWord.TheVariants.Running}
+use Rattle.{word_map.specs.spk_nums.specs.declared.steps.StageEnd.StageEnd}
+use Rattle.{tcap_words.specs.declared.thread_word.ThreadWord.TheVariants.Running}
 
 -- there is a place above the top of the thread's stack
 abbrev pub PushFits : Shape → Push → Type 0

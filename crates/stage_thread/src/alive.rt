@@ -8,15 +8,15 @@
 //! is none of its place was raced.
 
 ghost use Rattle.std.specs.Prelude.{◌≡◌, ◌<◌, ◌==◌, Some};
-ghost use Rattle.spk_nums.specs.WordSteps.{place_in};
+ghost use Rattle.word_map.specs.spk_nums.specs.WordSteps.{place_in};
 ghost use Rattle.word_map.specs.Places.{size_of};
 ghost use Rattle.word_map.specs.Moves.{op_of};
 ghost use Rattle.stage_thread.specs.Living.{AliveFits, alive_move, number_end, lives_end, live_end, alive_end, comp_after, alive_after};
 ghost use Rattle.stage_thread.specs.Living.{comp_end};
 
 use frame_words::{CompWord, LiveWord};
-use spk_nums::{EntryNo, FrameNo, Reply, StageEnd, WordOp};
 use word_map::Layout;
+use word_map::spk_nums::{EntryNo, FrameNo, Reply, StageEnd, WordOp};
 
 /// The question whether a component lives, between two of its steps.
 #[derive(Clone, Copy, PartialEq, Eq, Debug)]

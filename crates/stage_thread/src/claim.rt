@@ -8,7 +8,7 @@
 //! the compare is lost where another core has changed the word in between.
 
 ghost use Rattle.std.specs.Prelude.{◌≡◌, ◌<◌, ◌==◌, nat_lt, Some};
-ghost use Rattle.spk_nums.specs.WordSteps.{place_in};
+ghost use Rattle.word_map.specs.spk_nums.specs.WordSteps.{place_in};
 ghost use Rattle.tcap_words.specs.Thread.{DepthFits, word_of_thread};
 ghost use Rattle.tcap_words.specs.declared.thread_word.ThreadWord.TheVariants as state;
 ghost use Rattle.word_map.specs.Places.{size_of};
@@ -16,9 +16,9 @@ ghost use Rattle.word_map.specs.Moves.{op_of};
 ghost use Rattle.stage_thread.specs.Claiming.{ClaimPacks, ClaimFits, claim_move, thread_end, claim_compared, claimed_at, claimed_within};
 ghost use Rattle.stage_thread.specs.Claiming.{top_end, stack_end, claim_end, thread_after, compared_after, claim_after, EndFits};
 
-use spk_nums::{CoreNo, EntryNo, FrameNo, Reply, StageEnd, WordOp};
 use tcap_words::{StackWord, ThreadWord};
 use word_map::Layout;
+use word_map::spk_nums::{CoreNo, EntryNo, FrameNo, Reply, StageEnd, WordOp};
 
 /// The claim of a thread, between two of its steps.
 #[derive(Clone, Copy, PartialEq, Eq, Debug)]

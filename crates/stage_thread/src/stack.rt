@@ -5,16 +5,16 @@
 //! depth hold components.
 
 ghost use Rattle.std.specs.Prelude.{◌≡◌, ◌<◌, ◌≤◌};
-ghost use Rattle.spk_nums.specs.WordSteps.{place_in};
+ghost use Rattle.word_map.specs.spk_nums.specs.WordSteps.{place_in};
 ghost use Rattle.tcap_words.specs.Thread.{DepthFits, word_of_thread};
 ghost use Rattle.tcap_words.specs.declared.thread_word.ThreadWord.TheVariants.{Running};
 ghost use Rattle.word_map.specs.Places.{size_of};
 ghost use Rattle.word_map.specs.Moves.{op_of};
 ghost use Rattle.stage_thread.specs.Stacking.{PushFits, push_move, push_end, push_after, PopFits, pop_move, pop_end, pop_after};
 
-use spk_nums::{CoreNo, EntryNo, FrameNo, StageEnd, WordOp};
 use tcap_words::{StackWord, ThreadWord};
 use word_map::Layout;
+use word_map::spk_nums::{CoreNo, EntryNo, FrameNo, StageEnd, WordOp};
 
 /// The push of a component onto the stack of a running thread, between two of its steps.
 #[derive(Clone, Copy, PartialEq, Eq, Debug)]

@@ -1,3 +1,6 @@
+-- What the crates above name through this one.
+pub use Rattle.spk_nums
+-- Its own.
 pub mod Word
 pub mod Places
 pub mod Moves

@@ -8,3 +8,4 @@ mod layout;
 
 pub use closed::Closed;
 pub use layout::{Layout, names_are_told_apart, places_are_distinct};
+pub use spk_nums;

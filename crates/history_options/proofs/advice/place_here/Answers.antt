@@ -1,7 +1,8 @@
 use Rattle.std.proofs.Common.{◌≡◌, ℕ, ◌<◌, ◌+◌, ◌∙◌, reverse, sym, ap, subst, arith}
 use Rattle.history_options.proofs.Places.{place_is, place_can, room}
-use Rattle.{marked_history.specs.Verdicts.marks_of, history_check.specs.declared.seen.Seen.Seen, history_check.specs.Judging.seen_of}
-use Rattle.{history_check.proofs.Cores.seen_at, history_options.specs.Forms.core_of, history_options.specs.Forms.DecidesAt}
+use Rattle.{marked_history.specs.Verdicts.marks_of, check_run.specs.history_check.specs.declared.seen.Seen.Seen}
+use Rattle.{check_run.specs.history_check.specs.Judging.seen_of}
+use Rattle.{check_run.specs.history_check.proofs.Cores.seen_at, history_options.specs.Forms.core_of, history_options.specs.Forms.DecidesAt}
 use Rattle.history_options.proofs.advice.place_here.Goals as goal
 
 pub returns-clause-place : goal.returns-clause-place

@@ -1,5 +1,5 @@
 use Rattle.seq_state.proofs.{◌<◌, sym, ◌∙◌, ap, arith, state_of}
-use Rattle.{spk_nums.specs.CoreSets.has_core, seq_lookups.proofs.Lowest.found_later}
+use Rattle.{seq_state.specs.spk_nums.specs.CoreSets.has_core, seq_lookups.proofs.Lowest.found_later}
 use Rattle.seq_lookups.proofs.waiting.lowest.Goals as goal
 
 pub each-preserved : goal.each-preserved

@@ -1,6 +1,6 @@
 use Rattle.seq_state.proofs.{not, ◌&&◌, ◌==◌, ◌∙◌, arith, state_of}
 use Rattle.seq_lookups.proofs.Lowest.{lowest_alike, without}
-use Rattle.{spk_nums.specs.CoreSets.has_core, seq_state.specs.Parts.thing_of}
+use Rattle.{seq_state.specs.spk_nums.specs.CoreSets.has_core, seq_state.specs.Parts.thing_of}
 use Rattle.seq_lookups.proofs.waiting.other_waiting.Goals as goal
 
 pub returns : goal.returns

@@ -1,4 +1,5 @@
-use Rattle.{seq_state.specs.◌≡◌, seq_state.specs.ℕ, seq_state.specs.◌<◌, seq_state.specs.grace_from, spk_nums.specs.CoreSets.has_core}
+use Rattle.{seq_state.specs.◌≡◌, seq_state.specs.ℕ, seq_state.specs.◌<◌, seq_state.specs.grace_from}
+use Rattle.{kernel_invariant.specs.spk_nums.specs.CoreSets.has_core}
 use Rattle.seq_state.proofs.kernel.SeqKernel.unflushed.Given as goal
 
 abbrev pub invariant-each : goal.invariant-each

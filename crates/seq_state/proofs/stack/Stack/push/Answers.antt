@@ -1,4 +1,4 @@
-use Rattle.{std.proofs.Common.arith, spk_nums.proofs.Cells.added, seq_state.proofs.StackLemmas.depth_of}
+use Rattle.{std.proofs.Common.arith, kernel_invariant.specs.spk_nums.proofs.Cells.added, seq_state.proofs.StackLemmas.depth_of}
 use Rattle.seq_state.proofs.stack.Stack.push.Goals as goal
 
 pub invariant_of-self : goal.invariant_of-self
