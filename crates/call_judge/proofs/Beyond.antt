@@ -7,10 +7,10 @@ use low.{Place, Free, Holds, Quiescing, Comp, Thread, Frame, Untyped, Kernel, Li
 use low.{put, no_grace, named_by, place_names, frame_names, number_names, core_names, sum_below, times, node_refs, refs, new_grace, RuleMay}
 use low.{OneMay, retype_rule, is_empty, rule_of, begins, ends, flushes, Event, Enters, Decides, Returns, after, Open, phase_of, is_open}
 use low.{IsRun, fits, IsSound, IsStack, IsObjectGood, IsOpen, opened, limits_stay, runs_sound, grace_is, flushed_by}
-use Rattle.seq_plans.specs.{retype_beyond, judged_rule, Iff}
-use Rattle.seq_state.specs.kernel_invariant.proofs.{AreComps, is_typed, begins_typed}
+use Rattle.plain_kernel.specs.seq_plans.specs.{retype_beyond, judged_rule, Iff}
+use Rattle.plain_kernel.specs.kernel_invariant.proofs.{AreComps, is_typed, begins_typed}
 use Rattle.plain_kernel.specs.same_changes.proofs.{is_some_kind, fit_below}
-use Rattle.seq_state.specs.kernel_rules.specs.GracePeriods.{passed}
+use Rattle.plain_kernel.specs.kernel_rules.specs.GracePeriods.{passed}
 use Rattle.spk_nums.specs.declared.kinds.Kind.TheVariants as kind
 use Rattle.spk_nums.specs.declared.kinds.FrameKind.TheVariants as frame_kind
 use Rattle.spk_nums.specs.declared.replies.Reply.TheVariants as reply
@@ -146,9 +146,10 @@ no_grace_of setting lim (Decides c call r ∷ events) run f past =
 
 module _ (s : State) (c r f : ℕ) (q : Reply) (past : nat_lt f s.limits.frames ≡ false) (untyped : s.frame f ≡ Untyped)
     (bare : refs s f ≡ 0) (calm : IsNone (s.grace (FrameOf f))) where
-  not_else : OneMay s c (Rattle.seq_state.specs.kernel_rules.specs.MemoryCalls.not_retyped s f frame_kind.Untyped) q → ⊥
+  not_else : OneMay s c (Rattle.plain_kernel.specs.kernel_rules.specs.MemoryCalls.not_retyped s f frame_kind.Untyped) q → ⊥
   not_else h = elim h [
-    | inl kind ↦ false≢true (sym (ap (λ b. b && Rattle.seq_state.specs.kernel_rules.specs.MemoryCalls.is_untyped (s.frame f)) past) ∙ kind.0)
+    | inl kind ↦ false≢true
+        (sym (ap (λ b. b && Rattle.plain_kernel.specs.kernel_rules.specs.MemoryCalls.is_untyped (s.frame f)) past) ∙ kind.0)
     | inr h1 ↦ elim h1 [
       | inl refs ↦ false≢true (sym (ap (nat_lt 0) bare) ∙ refs.0)
       | inr h2 ↦ elim h2 [
@@ -164,11 +165,11 @@ module _ (s : State) (c r f : ℕ) (q : Reply) (past : nat_lt f s.limits.frames 
     ]
   ]
     where
-      no_wait : (q : Reply) → Rattle.seq_state.specs.kernel_rules.specs.Rules.WaitedMay s c (FrameOf f) q → ⊥
+      no_wait : (q : Reply) → Rattle.plain_kernel.specs.kernel_rules.specs.Rules.WaitedMay s c (FrameOf f) q → ⊥
       no_wait (reply.Quiescing e) h = false≢true (sym (calm.passed e) ∙ h.not_passed)
       no_wait _ h = h
 
-      no_flush : (q : Reply) → Rattle.seq_state.specs.kernel_rules.specs.Rules.UnflushedMay s (FrameOf f) q → ⊥
+      no_flush : (q : Reply) → Rattle.plain_kernel.specs.kernel_rules.specs.Rules.UnflushedMay s (FrameOf f) q → ⊥
       no_flush (reply.Unflushed e) h = false≢true (sym (calm.flushed e) ∙ h.flush_unknown)
       no_flush _ h = h
 

@@ -1,14 +1,18 @@
 -- A call carried out with a value, or put back.
-use Rattle.seq_state.proofs.{◌≡◌, ◌≢◌, inl, inr, ℕ, ◌<◌, true, false, refl, sym, ◌∙◌, ap, subst, [], Option, Some}
-use Rattle.seq_state.proofs.{None, IsTrue, IsFalse, false≢true, true≢false, FrameKind, Call, Look, Retype}
-use Rattle.seq_state.proofs.{Make as make_call, Touch, Switch, Tick, Test}
-use Rattle.seq_state.proofs.{Translation, Value, Nothing, Reply, Limits, State, with_frame, with_core, comp_of, thread_in, found}
-use Rattle.seq_state.proofs.{begun, Change, Judged, Refused, Found, translation_of, touch_by, switch_to, rule_of, change_of, reply_in}
-use Rattle.seq_state.proofs.{IfFound, state_of, SameState, Represents, same_then, same_grace_by, same_frame, same_core}
-use Rattle.seq_state.specs.kernel_rules.proofs.{Make, Core, Frame, IsRefusal, AllChanges, outcome_all, put_same, put_other}
+use Rattle.plain_kernel.specs.seq_state.proofs.{◌≡◌, ◌≢◌, inl, inr, ℕ, ◌<◌, true, false, refl, sym, ◌∙◌, ap, subst, [], Option, Some}
+use Rattle.plain_kernel.specs.seq_state.proofs.{None, IsTrue, IsFalse, false≢true, true≢false, FrameKind, Call, Look, Retype}
+use Rattle.plain_kernel.specs.seq_state.proofs.{Make as make_call, Touch, Switch, Tick, Test}
+use Rattle.plain_kernel.specs.seq_state.proofs.{Translation, Value, Nothing, Reply, Limits, State, with_frame, with_core, comp_of}
+use Rattle.plain_kernel.specs.seq_state.proofs.{thread_in, found}
+use Rattle.plain_kernel.specs.seq_state.proofs.{begun, Change, Judged, Refused, Found, translation_of, touch_by, switch_to, rule_of}
+use Rattle.plain_kernel.specs.seq_state.proofs.{change_of, reply_in}
+use Rattle.plain_kernel.specs.seq_state.proofs.{IfFound, state_of, SameState, Represents, same_then, same_grace_by, same_frame, same_core}
+use Rattle.plain_kernel.specs.kernel_rules.proofs.{Make, Core, Frame, IsRefusal, AllChanges, outcome_all, put_same}
+use Rattle.plain_kernel.specs.kernel_rules.proofs.{put_other}
 use Rattle.call_judge.specs.{Judged.RefusesPlainly, Judged.CarriesOut, Judged.IsAnswerOf, Putting.AgreesBut, Putting.answers_value}
 use Rattle.{std.proofs.lemmas.Bool.cases_eq}
-use Rattle.{seq_state.specs.kernel_rules.proofs.AloneLaw.core_inside, seq_state.specs.Maps.Maps, seq_lookups.specs.Carried.IsCarriedOut}
+use Rattle.{plain_kernel.specs.kernel_rules.proofs.AloneLaw.core_inside, plain_kernel.specs.seq_state.specs.Maps.Maps}
+use Rattle.{plain_kernel.specs.seq_lookups.specs.Carried.IsCarriedOut}
 
 value_is : (v u : Value) → Reply.Ok v ≡ Reply.Ok u → v ≡ u
 value_is v u e = cc
@@ -18,7 +22,7 @@ value_is v u e = cc
 answers_nothing : Change → Type 0
 answers_nothing change = change.value ≡ Nothing
 
-nothing_switched : (s : State) (c : ℕ) (h : Rattle.seq_state.specs.kernel_rules.specs.Access.Named) (q : ℕ) (e : Option ℕ)
+nothing_switched : (s : State) (c : ℕ) (h : Rattle.plain_kernel.specs.kernel_rules.specs.Access.Named) (q : ℕ) (e : Option ℕ)
     → AllChanges s c (λ change. change.value ≡ Nothing) (switch_to h q e)
 nothing_switched s c h q None = refl
 nothing_switched s c h q (Some e) = refl

@@ -8,15 +8,16 @@ use low.{thread_in, tcap_in, Core, outstanding, to_use, Named, found, only, root
 use low.{is_blank, not_blank, is_untyped, is_user, is_empty, translation_of, touch_by, retype_rule, switch_to, is_live_in, are_alike}
 use low.{tcap_at, rule_of, fits, is_node, named_fit, FrameKind, Reply}
 use Rattle.plain_kernel.specs.same_changes.proofs.{Twins, is_some_kind, fit_below, core_below, comp_same}
-use Rattle.seq_state.specs.kernel_rules.specs.{merged, Make, not_found}
-use Rattle.seq_plans.specs.{retype_beyond, judged_rule}
+use Rattle.plain_kernel.specs.kernel_rules.specs.{merged, Make, not_found}
+use Rattle.plain_kernel.specs.seq_plans.specs.{retype_beyond, judged_rule}
 use Rattle.spk_nums.specs.{CallLimits.MakeInLimits, declared.calls.Call.TheVariants.Call as call_gate}
 use Rattle.plain_kernel.specs.same_changes.proofs.Reaching.{pages_good, core_same, thread_same}
 use Rattle.plain_kernel.specs.same_changes.proofs.CapabilityRules.{root_named, frame_test}
 use Rattle.plain_kernel.specs.same_changes.proofs.MemoryRules.{named_pages, empty_same}
 use Rattle.plain_kernel.specs.same_changes.proofs.TimeRules.{named_frame, named_table, alive_same, gate_comp}
 use Rattle.call_judge.proofs.SameMay.{SameMayCause, SameMayRule}
-use Rattle.{seq_state.specs.kernel_rules.specs.InvocationCalls.kill_comp, seq_state.proofs.Same.same_refs}
+use Rattle.{plain_kernel.specs.kernel_rules.specs.InvocationCalls.kill_comp}
+use Rattle.{plain_kernel.specs.seq_state.proofs.Same.same_refs}
 
 -- P holds of what a name leads to, where it holds of what was found and of what was not.
 name_all : (P : Named → Type 0) (j : Judged Capability) → ((k : Capability) → j ≡ Found k → P (found k)) → P not_found → P (name_of j)
@@ -56,18 +57,18 @@ module _ {t s : State} {o : ℕ → Bool} {c : ℕ} (w : Twins t s o c) where
   -- ---- capabilities
 
   make_node_may : (object : Object) (k : Kind) (r f x b : ℕ)
-      → SameMayRule w (Rattle.seq_state.specs.kernel_rules.specs.CapabilityCalls.make_node t object k r f x b)
-      (Rattle.seq_state.specs.kernel_rules.specs.CapabilityCalls.make_node s object k r f x b)
+      → SameMayRule w (Rattle.plain_kernel.specs.kernel_rules.specs.CapabilityCalls.make_node t object k r f x b)
+      (Rattle.plain_kernel.specs.kernel_rules.specs.CapabilityCalls.make_node s object k r f x b)
   make_node_may object k r f x b =
       (refl, refl, (refl, refl, (refl, table_root x, ((refl, λ on. refl), (blank_may f, tt)))))
 
   make_may : (what : Make) (r f x b : ℕ) → MakeInLimits what
-      → SameMayRule w (Rattle.seq_state.specs.kernel_rules.specs.CapabilityCalls.make_rule t what r f x b)
-      (Rattle.seq_state.specs.kernel_rules.specs.CapabilityCalls.make_rule s what r f x b)
-  make_may Make.Table r f x b fit = make_node_may Rattle.seq_state.specs.kernel_rules.specs.State.Table Kind.Table r f x b
-  make_may Make.Leaf r f x b fit = make_node_may Rattle.seq_state.specs.kernel_rules.specs.State.Leaf Kind.Leaf r f x b
-  make_may Make.Pages r f x b fit = make_node_may Rattle.seq_state.specs.kernel_rules.specs.State.Pages Kind.Pages r f x b
-  make_may Make.Pleaf r f x b fit = make_node_may Rattle.seq_state.specs.kernel_rules.specs.State.Pleaf Kind.Pleaf r f x b
+      → SameMayRule w (Rattle.plain_kernel.specs.kernel_rules.specs.CapabilityCalls.make_rule t what r f x b)
+      (Rattle.plain_kernel.specs.kernel_rules.specs.CapabilityCalls.make_rule s what r f x b)
+  make_may Make.Table r f x b fit = make_node_may Rattle.plain_kernel.specs.kernel_rules.specs.State.Table Kind.Table r f x b
+  make_may Make.Leaf r f x b fit = make_node_may Rattle.plain_kernel.specs.kernel_rules.specs.State.Leaf Kind.Leaf r f x b
+  make_may Make.Pages r f x b fit = make_node_may Rattle.plain_kernel.specs.kernel_rules.specs.State.Pages Kind.Pages r f x b
+  make_may Make.Pleaf r f x b fit = make_node_may Rattle.plain_kernel.specs.kernel_rules.specs.State.Pleaf Kind.Pleaf r f x b
   make_may (Make.Thread comp) r f x b fit =
       (refl, refl, (refl, refl, (refl, refl, (refl, table_root x, ((refl, λ on. refl), (blank_may f, tt))))))
   make_may (Make.Tcap sched quality) r f x b fit =
@@ -173,8 +174,8 @@ module _ {t s : State} {o : ℕ → Bool} {c : ℕ} (w : Twins t s o c) where
         ((refl, λ on. refl), tt),
   )
 
-  deep_same : nat_le 16 (length (Rattle.seq_state.specs.kernel_rules.specs.State.thread_of t c).stack)
-      ≡ nat_le 16 (length (Rattle.seq_state.specs.kernel_rules.specs.State.thread_of s c).stack)
+  deep_same : nat_le 16 (length (Rattle.plain_kernel.specs.kernel_rules.specs.State.thread_of t c).stack)
+      ≡ nat_le 16 (length (Rattle.plain_kernel.specs.kernel_rules.specs.State.thread_of s c).stack)
   deep_same = ap (λ (k : ThreadFields). nat_le 16 (length k.stack)) (thread_same w)
 
   call_may : (g : ℕ) → SameMayRule w (rule_of t c (call_gate g)) (rule_of s c (call_gate g))

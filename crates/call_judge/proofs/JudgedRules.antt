@@ -1,11 +1,13 @@
 -- The rule of a call as it is judged goes by the call's plan.
 use Rattle.plain_kernel.specs.kernel_laws.proofs.{◌≡◌, ℕ, ◌≤◌, Bool, true, false, ltb as nat_lt, if◌then◌else◌, refl, subst, List, Call}
 use Rattle.plain_kernel.specs.kernel_laws.proofs.{Retype, Reply, State, RuleMay, OneMay, Cause, retype_rule, FrameKind}
-use Rattle.seq_plans.specs.{left_of, causes_of, retype_beyond, judged_rule, Decides, Iff}
-use Rattle.seq_plans.specs.{declared.reaching.Reach.TheVariants.Own, declared.walking.Looked.Looked, Walks.looked, Refusals.LooksMay}
+use Rattle.plain_kernel.specs.seq_plans.specs.{left_of, causes_of, retype_beyond, judged_rule, Decides, Iff}
+use Rattle.plain_kernel.specs.seq_plans.specs.{declared.reaching.Reach.TheVariants.Own, declared.walking.Looked.Looked, Walks.looked}
+use Rattle.plain_kernel.specs.seq_plans.specs.{Refusals.LooksMay}
 use Rattle.{call_plans.specs.plan_for, call_plans.specs.own_pages, call_plans.proofs.calls_go, call_plans.proofs.few_names}
-use Rattle.{call_plans.specs.declared.plans.Plan.Plan, call_plans.specs.GoesBy.GoesBy, seq_plans.proofs.Deciding.decides_either}
-use Rattle.{seq_plans.proofs.ByPlan.refused_by_plan}
+use Rattle.{call_plans.specs.declared.plans.Plan.Plan, call_plans.specs.GoesBy.GoesBy}
+use Rattle.{plain_kernel.specs.seq_plans.proofs.Deciding.decides_either}
+use Rattle.{plain_kernel.specs.seq_plans.proofs.ByPlan.refused_by_plan}
 
 untyped_goes : (s : State) (c r f : ℕ) (b : Bool)
     → GoesBy (own_pages s c) (plan_for (Retype r f FrameKind.Untyped))

@@ -1,21 +1,23 @@
 -- A decision judged in the kernel's own state is judged in every reached state that the kernel represents.
-use Rattle.seq_state.specs.kernel_rules.proofs as low
+use Rattle.plain_kernel.specs.kernel_rules.proofs as low
 use low.{◌≡◌, ◌⊎◌, ℕ, ◌+◌, ◌-◌, ◌^◌, ◌<◌, ◌≤◌, ◌==◌, ◌&&◌, Bool, true, false, not, leb as nat_le, if◌then◌else◌, refl, sym, ◌∙◌, ap, subst}
 use low.{arith, List, ◌∷◌, IsTrue, IsFalse, false≢true, true≢false, eq-eqb, Setting, IsSetting, InLimits, Call, Tick, Value, Reply}
 use low.{CompFields, Core, Limits, comp_of, with_core, put, begun, IsRefusal, Change, Judged, Refused, Found, IsFoundAnd, RuleMay, rule_of}
 use low.{change_of, changed, owed_by, counted, state_by, are_calls_spent, MayReply, is_live_in, lives, asks_life, acts, reply_in, Event}
 use low.{Decides as decides, after, Open, phase_of, IsRun, IfRefused, Waits, found_waits, waits_inside, IfFound}
-use Rattle.seq_state.proofs.{State, opened, limits_stay, state_of, SameState, Represents, same_by, same_then, same_core}
+use Rattle.plain_kernel.specs.seq_state.proofs.{State, opened, limits_stay, state_of, SameState, Represents, same_by, same_then, same_core}
 use Rattle.plain_kernel.specs.same_changes.proofs.{Twins, core_below, comp_same, changes_same, twins}
-use Rattle.seq_plans.specs.{judged_rule, Decides, Iff}
+use Rattle.plain_kernel.specs.seq_plans.specs.{judged_rule, Decides, Iff}
 use low.{Agrees.IsBounded, Agrees.IsPlain, Agrees.rule_refused, AloneLaw.rule_plain, Within.waits_within}
 use Rattle.plain_kernel.specs.same_changes.proofs.{Reaching.here, Reaching.here_fit, Alike.begun_same, EveryCall.same_acts}
 use Rattle.plain_kernel.specs.same_changes.proofs.{EveryCall.stays_in_range, TimeRules.alive_same}
-use Rattle.seq_plans.proofs.Deciding.{decides_true, decides_false, decides_both}
+use Rattle.plain_kernel.specs.seq_plans.proofs.Deciding.{decides_true, decides_false, decides_both}
 use Rattle.call_judge.specs.Judged.{RefusesPlainly, DecidesAs, IsDecided, IsJudged}
 use Rattle.call_judge.proofs.{SameMay.rule_iff, SameMay.either_iff, EveryMay.every_may, Beyond.judged_here}
-use Rattle.{seq_state.specs.kernel_rules.specs.CallRelation.MayBeDead, seq_state.specs.kernel_invariant.proofs.SoundRuns.open_limits}
-use Rattle.{plain_kernel.specs.kernel_laws.proofs.RangesLaw.ranges_hold, seq_state.specs.Maps.Maps, seq_lookups.specs.Ranges.IsInRange}
+use Rattle.{plain_kernel.specs.kernel_rules.specs.CallRelation.MayBeDead}
+use Rattle.{plain_kernel.specs.kernel_invariant.proofs.SoundRuns.open_limits}
+use Rattle.{plain_kernel.specs.kernel_laws.proofs.RangesLaw.ranges_hold, plain_kernel.specs.seq_state.specs.Maps.Maps}
+use Rattle.{plain_kernel.specs.seq_lookups.specs.Ranges.IsInRange}
 use Rattle.{plain_kernel.specs.same_changes.specs.Same.SameOutcome}
 
 -- ---- states that are one

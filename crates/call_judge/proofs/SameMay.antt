@@ -1,16 +1,18 @@
 -- A call may be refused alike in two states that are one for all that the machine has, one of them reached.
-use Rattle.seq_state.specs.kernel_rules.proofs as low
+use Rattle.plain_kernel.specs.kernel_rules.proofs as low
 use low.{◌≡◌, ◌⊎◌, inl, inr, ℕ, ◌<◌, ◌≤◌, ◌==◌, Bool, true, false, not, ◌&&◌, ◌||◌, refl, sym, ◌∙◌, ap, subst, leb as nat_le, ltb as nat_lt}
 use low.{if◌then◌else◌, List, [], ◌∷◌, Option, Some, None, is_some, IsTrue, IsFalse, IsSomeAnd, false≢true, true≢false, le-leb, ltb-false}
 use low.{Capability, Reply, Thing, PlaceOf, Limits, Core, Want, Slot, Named, found, root_at, Target, Under, InRoot, place_at, held_in}
 use low.{usable, reached, root_slot, holds_link, has_no_slot, own, MayWait, MayBeUnflushed, Cause, When, WaitedFor, Unflushed, Rule, Name}
 use low.{Vacant, Held, Mapped, Does, Judged, Refused, Found, and_then, or_refuse, named, held, mapped, IsFoundAnd, Lacks, NameMay}
 use low.{VacantMay, HeldMay, MappedMay, OneMay, name_of, RuleMay, is_node}
-use Rattle.seq_state.specs.kernel_rules.specs.{ReachesNone, ReachesHeld, ReachesOther, ReachesLacking, WaitedMay, UnflushedMay, CauseMay}
+use Rattle.plain_kernel.specs.kernel_rules.specs.{ReachesNone, ReachesHeld, ReachesOther, ReachesLacking, WaitedMay}
+use Rattle.plain_kernel.specs.kernel_rules.specs.{UnflushedMay, CauseMay}
 use Rattle.plain_kernel.specs.same_changes.proofs.{Twins, named_same, reached_same, RootGood}
 use Rattle.plain_kernel.specs.same_changes.proofs.Reaching.{IsSlot, place_same, usable_same, own_good, own_same, root_is, held_same}
-use Rattle.{seq_state.specs.kernel_rules.specs.slot_of, seq_state.specs.State, seq_state.specs.IsThing}
-use Rattle.{plain_kernel.specs.same_changes.proofs.Reaching.mapped_same, seq_plans.specs.Refusals.Iff}
+use Rattle.{plain_kernel.specs.kernel_rules.specs.slot_of, plain_kernel.specs.seq_state.specs.State}
+use Rattle.{plain_kernel.specs.seq_state.specs.IsThing}
+use Rattle.{plain_kernel.specs.same_changes.proofs.Reaching.mapped_same, plain_kernel.specs.seq_plans.specs.Refusals.Iff}
 
 -- ---- exactly where
 

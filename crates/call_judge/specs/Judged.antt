@@ -1,12 +1,15 @@
 -- What it means that the plain kernel has judged a decision.
 use Rattle.std.specs.Prelude.{◌≡◌, ◌⊎◌}
-use Rattle.seq_state.specs.{ℕ, Bool, true, false, List, Option, Some, None, IsTrue, IsFalse, Setting, IsSetting, Call, Value}
-use Rattle.seq_state.specs.{Reply, State, RuleMay, Change, Judged, Refused as refused, Found as carried, IsRefusal, acts, MayReply}
-use Rattle.seq_state.specs.{change_of, owed_by, state_by, reply_in, Event, after, Open, phase_of, IsRun, Represents}
-use Rattle.seq_plans.specs.{judged_rule, Decides}
+use Rattle.plain_kernel.specs.seq_state.specs.{ℕ, Bool, true, false, List, Option, Some, None, IsTrue, IsFalse, Setting, IsSetting, Call}
+use Rattle.plain_kernel.specs.seq_state.specs.{Value}
+use Rattle.plain_kernel.specs.seq_state.specs.{Reply, State, RuleMay, Change, Judged, Refused as refused, Found as carried, IsRefusal, acts}
+use Rattle.plain_kernel.specs.seq_state.specs.{MayReply}
+use Rattle.plain_kernel.specs.seq_state.specs.{change_of, owed_by, state_by, reply_in, Event, after, Open, phase_of, IsRun, Represents}
+use Rattle.plain_kernel.specs.seq_plans.specs.{judged_rule, Decides}
 use Rattle.call_judge.specs.declared.deciding.Sort.TheVariants.{Spent, Carried, Lost, Refused}
-use Rattle.{std.specs.Prelude.MatchBool, seq_state.specs.kernel_rules.specs.CallRelation.MayBeDead, seq_state.specs.Maps.Maps}
-use Rattle.{seq_lookups.specs.Carried.IsCarriedOut, call_judge.specs.declared.deciding.Sort.Sort}
+use Rattle.{std.specs.Prelude.MatchBool, plain_kernel.specs.kernel_rules.specs.CallRelation.MayBeDead}
+use Rattle.{plain_kernel.specs.seq_state.specs.Maps.Maps}
+use Rattle.{plain_kernel.specs.seq_lookups.specs.Carried.IsCarriedOut, call_judge.specs.declared.deciding.Sort.Sort}
 
 -- A lost race, and a refusal of a call's own.
 abbrev pub IsLost : Reply → Type 0

@@ -1,5 +1,5 @@
 -- What the crates above name through this one.
-pub use Rattle.seq_plans
+pub use Rattle.plain_kernel.specs.seq_plans
 pub use Rattle.plain_kernel.specs.same_changes
 pub use Rattle.plain_kernel
 -- Its own.

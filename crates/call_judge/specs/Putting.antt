@@ -1,7 +1,7 @@
 -- Putting back what a call that answers a value may have changed.
 use Rattle.std.specs.Prelude.{◌≡◌, ◌≢◌, ◌<◌}
-use Rattle.seq_state.specs.{ℕ, Bool, true, false, Call, Look, Touch, Tick, Test, State, IsThing, SameGrace}
-use Rattle.seq_state.specs.kernel_rules.specs.State.{Thing}
+use Rattle.plain_kernel.specs.seq_state.specs.{ℕ, Bool, true, false, Call, Look, Touch, Tick, Test, State, IsThing, SameGrace}
+use Rattle.plain_kernel.specs.kernel_rules.specs.State.{Thing}
 
 -- Two states are one for all that the machine has, but for a frame and a core, which is in its call in both or in neither.
 pub record AgreesBut (f c : ℕ) (s t : State) : Type 0 where

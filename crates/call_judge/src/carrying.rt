@@ -2,18 +2,18 @@
 
 ghost use Rattle.std.specs.Prelude.{◌≡◌, ◌<◌, IsOk, IfOk, IsTrue, IsFalse};
 ghost use Rattle.spk_nums.specs.CallLimits.{InLimits};
-ghost use Rattle.seq_state.specs.kernel_rules.specs.CallRelation.{change_of};
-ghost use Rattle.seq_state.specs.kernel_rules.specs.State.{with_frame, with_core};
-ghost use Rattle.seq_state.specs.Parts.{frame_of, core_of};
-ghost use Rattle.seq_state.specs.Maps.{state_of};
-ghost use Rattle.seq_state.specs.Representation.{Represents};
-ghost use Rattle.seq_lookups.specs.Ranges.{IsInRange};
+ghost use Rattle.plain_kernel.specs.kernel_rules.specs.CallRelation.{change_of};
+ghost use Rattle.plain_kernel.specs.kernel_rules.specs.State.{with_frame, with_core};
+ghost use Rattle.plain_kernel.specs.seq_state.specs.Parts.{frame_of, core_of};
+ghost use Rattle.plain_kernel.specs.seq_state.specs.Maps.{state_of};
+ghost use Rattle.plain_kernel.specs.seq_state.specs.Representation.{Represents};
+ghost use Rattle.plain_kernel.specs.seq_lookups.specs.Ranges.{IsInRange};
 ghost use Rattle.call_judge.specs.Judged.{CarriesOut, RefusesPlainly, IsAnswerOf};
 ghost use Rattle.call_judge.specs.Putting.{answers_value};
 
 use crate::values::is_value;
 use plain_kernel::decide;
-use seq_state::{Core, Frame, SeqKernel};
+use plain_kernel::seq_state::{Core, Frame, SeqKernel};
 use spk_nums::{Call, CoreNo, Memory, Reply, Value};
 use std::alloc::Global;
 
@@ -134,4 +134,4 @@ pub(crate) fn carry_out(
 }
 
 ghost use Rattle.spk_nums.specs.declared.replies.Value.TheVariants.{Nothing};
-ghost use Rattle.seq_plans.specs.Refusals.{Decides};
+ghost use Rattle.plain_kernel.specs.seq_plans.specs.Refusals.{Decides};

@@ -2,23 +2,23 @@
 
 ghost use Rattle.std.specs.Prelude.{◌≡◌, ◌<◌, ◌≤◌, ◌-◌, ◌^◌, IsOk, IfOk};
 ghost use Rattle.spk_nums.specs.CallLimits.{InLimits};
-ghost use Rattle.seq_state.specs.kernel_rules.specs.Life.{lives};
-ghost use Rattle.seq_state.specs.kernel_rules.specs.Rules.{RuleMay};
-ghost use Rattle.seq_state.specs.kernel_rules.specs.CallRelation.{counted, owed_by, MayBeDead};
-ghost use Rattle.seq_state.specs.Maps.{state_of};
-ghost use Rattle.seq_state.specs.Representation.{Represents};
-ghost use Rattle.seq_lookups.specs.Ranges.{IsInRange};
-ghost use Rattle.seq_plans.specs.Walks.{left_of, causes_of};
-ghost use Rattle.seq_plans.specs.OwnCauses.{causes_in, AreFitCauses, judged_rule};
-ghost use Rattle.seq_plans.specs.Refusals.{Decides};
+ghost use Rattle.plain_kernel.specs.kernel_rules.specs.Life.{lives};
+ghost use Rattle.plain_kernel.specs.kernel_rules.specs.Rules.{RuleMay};
+ghost use Rattle.plain_kernel.specs.kernel_rules.specs.CallRelation.{counted, owed_by, MayBeDead};
+ghost use Rattle.plain_kernel.specs.seq_state.specs.Maps.{state_of};
+ghost use Rattle.plain_kernel.specs.seq_state.specs.Representation.{Represents};
+ghost use Rattle.plain_kernel.specs.seq_lookups.specs.Ranges.{IsInRange};
+ghost use Rattle.plain_kernel.specs.seq_plans.specs.Walks.{left_of, causes_of};
+ghost use Rattle.plain_kernel.specs.seq_plans.specs.OwnCauses.{causes_in, AreFitCauses, judged_rule};
+ghost use Rattle.plain_kernel.specs.seq_plans.specs.Refusals.{Decides};
 ghost use Rattle.call_judge.specs.Judged.{IsOfSort, JudgesExactly};
 
 use crate::carrying::carry_out;
 use call_plans::plan_of;
+use plain_kernel::seq_lookups::{comp_of, is_live_in};
+use plain_kernel::seq_plans::{Causes, Looked, Reach, look_up, looks_may, one_may};
+use plain_kernel::seq_state::{Core, SeqKernel};
 use plain_kernel::{Family, acts, are_spent, family_of, seq_caps, seq_memory, seq_time};
-use seq_lookups::{comp_of, is_live_in};
-use seq_plans::{Causes, Looked, Reach, look_up, looks_may, one_may};
-use seq_state::{Core, SeqKernel};
 use spk_nums::{Call, CoreNo, Memory, Reply, Value};
 use std::alloc::Global;
 
@@ -239,5 +239,5 @@ pub fn decide_by(
 }
 
 ghost use Rattle.spk_nums.specs.declared.replies.Reply.TheVariants.{CallsSpent, Dead};
-ghost use Rattle.seq_state.specs.kernel_rules.specs.CallRelation.{change_of};
+ghost use Rattle.plain_kernel.specs.kernel_rules.specs.CallRelation.{change_of};
 ghost use Rattle.call_judge.specs.Judged.{RefusesPlainly, CarriesOutActing, MayRefuse, DecidesAs};

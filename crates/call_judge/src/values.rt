@@ -1,8 +1,8 @@
 //! Values told apart.
 
 ghost use Rattle.std.specs.Prelude.{◌≡◌};
-ghost use Rattle.seq_state.specs.kernel_rules.specs.Access.{kind_number};
-ghost use Rattle.seq_plans.specs.Refusals.{Decides};
+ghost use Rattle.plain_kernel.specs.kernel_rules.specs.Access.{kind_number};
+ghost use Rattle.plain_kernel.specs.seq_plans.specs.Refusals.{Decides};
 
 use spk_nums::{Cap, FrameNo, Kind, PageFlags, Value};
 

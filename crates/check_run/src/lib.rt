@@ -8,4 +8,5 @@
 mod run;
 
 pub use history_check;
+pub use history_reader;
 pub use run::{check, verdict_text};

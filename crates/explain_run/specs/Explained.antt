@@ -1,6 +1,6 @@
 -- What the command `explain` writes.
 use Rattle.std.specs.Prelude.{◌≡◌, ◌⊎◌, ℕ, List, Result, Ok, Err, codes}
-use Rattle.history_reader.specs.{History, history_of}
+use Rattle.history_options.specs.history_reader.specs.{History, history_of}
 use Rattle.line_reader.specs.{declared.cause.Cause.Cause, Lines.First_fault}
 use Rattle.{script_reader.specs.Readings.script_of, ends_reader.specs.Inputs.input_of, sched_reader.specs.Inputs.input_of as sched_input_of}
 use Rattle.{history_options.specs.Told.IsHistoryTold, line_forms.specs.declared.context.Reading.Reading, fault_texts.specs.Told.fault_text}

@@ -5,6 +5,7 @@
 
 mod run;
 
+pub use ends_reader;
 pub use history_options::check_run;
 pub use line_forms::Reading;
 pub use run::explain;

@@ -2,14 +2,14 @@
 
 ghost use Rattle.std.specs.Prelude.{◌≡◌, ◌<◌, ◌^◌, length, IfOk, string_bytes};
 ghost use Rattle.line_forms.specs.declared.context.Reading.TheVariants as reading;
-ghost use Rattle.history_reader.specs.Inputs.{history_view};
+ghost use Rattle.history_options.specs.history_reader.specs.Inputs.{history_view};
 ghost use Rattle.history_options.specs.marked_history.specs.Verdicts.{LinesFit};
 ghost use Rattle.explain_run.specs.Explained.{accepted_text, IsToldOf, IsExplained};
 
 use ends_reader::read_ends;
 use fault_texts::explain_fault;
+use history_options::history_reader::{GivenHistory, read_history};
 use history_options::told;
-use history_reader::{GivenHistory, read_history};
 use line_forms::Reading;
 use line_reader::ReadFault;
 use sched_reader::read_sched;

@@ -1,4 +1,5 @@
 -- What the crates above name through this one.
+pub use Rattle.check_run.specs.history_reader
 pub use Rattle.open_calls
 pub use Rattle.marked_history
 pub use Rattle.check_run

@@ -20,4 +20,5 @@ mod replies;
 mod texts;
 
 pub use check_run;
+pub use check_run::history_reader;
 pub use history::told;

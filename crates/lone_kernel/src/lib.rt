@@ -11,3 +11,4 @@ mod words;
 
 pub use lone::{LoneKernel, Moved};
 pub use seats::{Seat, Turn};
+pub use step_views;

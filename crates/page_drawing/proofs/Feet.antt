@@ -1,7 +1,7 @@
 -- No more calls stand below a page than cores are finished.
-use Rattle.step_views.specs.kernel_history.proofs.{◌≡◌, ◌≤◌, ℕ, ◌+◌, Option, Some, None, refl, arith, Call, Reply}
-use Rattle.page_layers.specs.Layers.{Layers, with_core, with_progress, with_open, with_ground}
-use Rattle.page_layers.specs.declared.lanes.Lane.{Lane}
+use Rattle.page_touches.specs.step_views.specs.kernel_history.proofs.{◌≡◌, ◌≤◌, ℕ, ◌+◌, Option, Some, None, refl, arith, Call, Reply}
+use Rattle.page_touches.specs.page_layers.specs.Layers.{Layers, with_core, with_progress, with_open, with_ground}
+use Rattle.page_touches.specs.page_layers.specs.declared.lanes.Lane.{Lane}
 
 feet_in_progress : (cores core : ℕ) (l : Lane) (call : Option Call) (reply : Option Reply) (y : ℕ) (p : Layers)
     → (with_progress cores core l call reply y p).feet ≤ p.feet + 1

@@ -1,10 +1,11 @@
 -- The numbers of a page have their room.
-use Rattle.step_views.specs.kernel_rules.proofs.{◌≡◌, ℕ, ◌+◌, ◌^◌, ◌<◌, ◌≤◌, List, [], ◌∷◌, length, All, Option, Some, None, arith}
-use Rattle.step_views.specs.kernel_rules.proofs.{get_or as slice_index_or, set as slice_set, replicate, Call, Reply}
-use Rattle.page_layers.specs.{no_call, lane_entered, lane_decided, lane_topped}
+use Rattle.page_touches.specs.step_views.specs.kernel_rules.proofs.{◌≡◌, ℕ, ◌+◌, ◌^◌, ◌<◌, ◌≤◌, List, [], ◌∷◌, length, All, Option, Some}
+use Rattle.page_touches.specs.step_views.specs.kernel_rules.proofs.{None, arith}
+use Rattle.page_touches.specs.step_views.specs.kernel_rules.proofs.{get_or as slice_index_or, set as slice_set, replicate, Call, Reply}
+use Rattle.page_touches.specs.page_layers.specs.{no_call, lane_entered, lane_decided, lane_topped}
 use Rattle.std.proofs.lemmas.List.Elements.{All-from_recursion, All-set, All-weaker, All-replicate}
 use Rattle.picture_rows.specs.{Rows.IsWithin, Rows.no_rows, declared.rows.Rows.Rows}
-use Rattle.{page_layers.specs.declared.lanes.Lane.Lane, page_drawing.specs.Pages.IsSound}
+use Rattle.{page_touches.specs.page_layers.specs.declared.lanes.Lane.Lane, page_drawing.specs.Pages.IsSound}
 
 -- What is due of eight cores.
 pub dues_most : (a b c d e f g h : ℕ) → a ≤ 178 → b ≤ 178 → c ≤ 178 → d ≤ 178 → e ≤ 178 → f ≤ 178 → g ≤ 178 → h ≤ 178

@@ -1,8 +1,9 @@
 -- What is shown of a step by its view is what is shown of the step.
-use Rattle.step_views.specs.kernel_history.proofs.{◌≡◌, refl, ◌∙◌, ap, Shape, place_of, Move, LoadOf, CompareOf, StoreOf, AddOf, word_of}
-use Rattle.step_views.specs.kernel_history.proofs.{op_of, place_in, Step}
-use Rattle.page_layers.specs.{seen, seen_made}
-use Rattle.step_views.specs.{declared.views.StepMade.StepMade, Views.IsTold}
+use Rattle.page_touches.specs.step_views.specs.kernel_history.proofs.{◌≡◌, refl, ◌∙◌, ap, Shape, place_of, Move, LoadOf, CompareOf, StoreOf}
+use Rattle.page_touches.specs.step_views.specs.kernel_history.proofs.{AddOf, word_of}
+use Rattle.page_touches.specs.step_views.specs.kernel_history.proofs.{op_of, place_in, Step}
+use Rattle.page_touches.specs.page_layers.specs.{seen, seen_made}
+use Rattle.page_touches.specs.step_views.specs.{declared.views.StepMade.StepMade, Views.IsTold}
 
 place_there : (s : Shape) (m : Move) → place_in (op_of s m) ≡ place_of s (word_of m)
 place_there s (LoadOf w) = refl

@@ -1,10 +1,10 @@
 -- What the crates above name through this one.
 pub use Rattle.spk_nums
-pub use Rattle.step_views.specs.kernel_rules
+pub use Rattle.page_touches.specs.step_views.specs.kernel_rules
 pub use Rattle.word_map
-pub use Rattle.step_views.specs.kernel_history
-pub use Rattle.step_views
-pub use Rattle.page_layers
+pub use Rattle.page_touches.specs.step_views.specs.kernel_history
+pub use Rattle.page_touches.specs.step_views
+pub use Rattle.page_touches.specs.page_layers
 pub use Rattle.picture_rows
 pub use Rattle.page_touches
 -- Its own.

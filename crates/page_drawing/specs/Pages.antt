@@ -1,16 +1,19 @@
 -- The pages of a trace. A page has at most 60 calls and 2,000 steps: it ends before the step at which a 61st call would be entered, or
 -- before the 2,001st step, and the next begins there. One of them is drawn.
 use Rattle.std.specs.Prelude.{◌+◌, ◌*◌, ◌≤◌, ◌==◌, ◌&&◌, if◌then◌else◌, ◌∷◌}
-use Rattle.step_views.specs.kernel_history.specs.{ℕ, All, ltb as nat_lt, not, Bool, true, false}
-use Rattle.step_views.specs.kernel_history.specs.{is_some, List, [], replicate, get_or as slice_index_or, set as slice_set, Option}
-use Rattle.step_views.specs.kernel_history.specs.{Some, None, Setting, size_of, shape_of}
-use Rattle.page_layers.specs.{seen, no_call, lane_entered, lane_decided, lane_topped}
+use Rattle.page_touches.specs.step_views.specs.kernel_history.specs.{ℕ, All, ltb as nat_lt, not, Bool, true, false}
+use Rattle.page_touches.specs.step_views.specs.kernel_history.specs.{is_some, List, [], replicate, get_or as slice_index_or}
+use Rattle.page_touches.specs.step_views.specs.kernel_history.specs.{set as slice_set, Option}
+use Rattle.page_touches.specs.step_views.specs.kernel_history.specs.{Some, None, Setting, size_of, shape_of}
+use Rattle.page_touches.specs.page_layers.specs.{seen, no_call, lane_entered, lane_decided, lane_topped}
 use Rattle.picture_rows.specs.{is_full, no_rows, rows_after}
 use Rattle.picture_rows.specs.{declared.rows.Placed.Placed, declared.rows.Rows.Rows, Rows.IsWithin}
-use Rattle.page_layers.specs.{Seen.Seen, Lanes.lane_returned, Layers.Layers, Layers.no_layers, Layers.with_step, Layers.with_edge}
-use Rattle.page_layers.specs.{Layers.with_return, declared.lanes.Lane.Lane, declared.lanes.Change.Change, declared.sheet.Moment.Moment}
+use Rattle.page_touches.specs.page_layers.specs.{Seen.Seen, Lanes.lane_returned, Layers.Layers, Layers.no_layers, Layers.with_step}
+use Rattle.page_touches.specs.page_layers.specs.{Layers.with_edge}
+use Rattle.page_touches.specs.page_layers.specs.{Layers.with_return, declared.lanes.Lane.Lane, declared.lanes.Change.Change}
+use Rattle.page_touches.specs.page_layers.specs.{declared.sheet.Moment.Moment}
 use Rattle.page_touches.specs.Touches.{untouched, touched, tail_of, start_words, frames_after, frame_of}
-use Rattle.{step_views.specs.kernel_history.specs.Trace.Trace, page_touches.specs.declared.touches.Touch.Touch}
+use Rattle.{page_touches.specs.step_views.specs.kernel_history.specs.Trace.Trace, page_touches.specs.declared.touches.Touch.Touch}
 use Rattle.{page_drawing.specs.declared.page.Run.Run}
 
 -- What is known after some steps: the page that is asked for and the page so far; whether there are more steps after the page that is

@@ -1,11 +1,12 @@
 -- The picture of a page: its name, its key, its layers one over another, and what stands below.
 use Rattle.std.specs.Prelude.{◌+◌, ◌*◌, ◌==◌, ◌||◌, if◌then◌else◌, ◌++◌}
-use Rattle.step_views.specs.kernel_history.specs.{ℕ, zero, suc, max, ltb as nat_lt, Bool, true, false}
-use Rattle.step_views.specs.kernel_history.specs.{List, [], codes, decimal, Setting}
+use Rattle.page_touches.specs.step_views.specs.kernel_history.specs.{ℕ, zero, suc, max, ltb as nat_lt, Bool, true, false}
+use Rattle.page_touches.specs.step_views.specs.kernel_history.specs.{List, [], codes, decimal, Setting}
 use Rattle.picture_shapes.specs.Frame.{right_x, picture_begin, picture_end, title_begin, title_end, heading_begin, about, styles, paper}
-use Rattle.page_layers.specs.{Layers.Layers, Layers.with_core, Layers.foot_y, declared.lanes.Lane.Lane}
+use Rattle.page_touches.specs.page_layers.specs.{Layers.Layers, Layers.with_core, Layers.foot_y, declared.lanes.Lane.Lane}
 use Rattle.page_drawing.specs.Pages.{Page, lane_of, run_ended, page_after}
-use Rattle.{step_views.specs.kernel_history.specs.Trace.Trace, picture_shapes.specs.Frame.key, picture_shapes.specs.Frame.heads}
+use Rattle.{page_touches.specs.step_views.specs.kernel_history.specs.Trace.Trace, picture_shapes.specs.Frame.key}
+use Rattle.{picture_shapes.specs.Frame.heads}
 use Rattle.{picture_shapes.specs.Lines.sentence_begin, picture_shapes.specs.Lines.text_end}
 
 -- So many of a thing.

@@ -12,4 +12,4 @@ mod page;
 mod text;
 
 pub use page::TracePage;
-pub use step_views::StepMade;
+pub use page_touches::step_views::StepMade;

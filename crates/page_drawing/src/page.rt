@@ -3,16 +3,17 @@
 ghost use Rattle.std.specs.Prelude.{◌≡◌, ◌==◌, ◌+◌, ◌*◌, ◌<◌, ◌≤◌, ◌^◌, OnOk, IfOk, All, false, ◌&&◌, if◌then◌else◌, is_some, not, replicate};
 ghost use Rattle.word_map.specs.Places.{size_of};
 ghost use Rattle.picture_rows.specs.Rows.{IsWithin, is_full};
-ghost use Rattle.page_layers.specs.Lanes.{lane_entered, lane_decided, lane_topped, lane_returned};
-ghost use Rattle.step_views.specs.kernel_history.specs.BootWords.{shape_of};
-ghost use Rattle.page_layers.specs.Seen.{seen_made};
+ghost use Rattle.page_touches.specs.page_layers.specs.Lanes.{lane_entered, lane_decided, lane_topped, lane_returned};
+ghost use Rattle.page_touches.specs.step_views.specs.kernel_history.specs.BootWords.{shape_of};
+ghost use Rattle.page_touches.specs.page_layers.specs.Seen.{seen_made};
 ghost use Rattle.page_drawing.specs.Pages.{blank, lane_of, first_due, first_dues, returns_of, turned, follows, run_after};
 ghost use Rattle.page_drawing.specs.Pages.{run_ended, run_left, placed, next_step, lane_at, tail_at, decisions_after, moment};
 ghost use Rattle.page_drawing.specs.Pages.{layers_at, layers_after, change_at, words_after, noted, taken_at, taken_in, taken, turned_to};
 ghost use Rattle.page_drawing.specs.Pages.{step_taken};
 ghost use Rattle.page_touches.specs.Touches.{frame_of};
 
-use page_layers::{Change, Lane, Moment, Sheet};
+use page_touches::page_layers::{Change, Lane, Moment, Sheet};
+use page_touches::step_views::{StepMade, place_in};
 use page_touches::{
     Touch, first_words, frame_of, note_frame, note_word, start_words, tail_of, word_at,
 };
@@ -20,7 +21,6 @@ use picture_rows::{Placed, Rows};
 use spk_nums::Setup;
 use std::alloc::{AllocError, Global};
 use std::marker::Model;
-use step_views::{StepMade, place_in};
 use word_map::Layout;
 
 /// Steps of one core in a row: the core, and the height of the first.

@@ -2,14 +2,14 @@
 
 ghost use Rattle.std.specs.Prelude.{◌≡◌, ◌+◌, ◌*◌, ◌<◌, ◌≤◌, ◌++◌, max, nat_lt, if◌then◌else◌, ◌||◌, OnOk, IfOk, codes, decimal};
 ghost use Rattle.std.specs.Prelude.{string_bytes};
-ghost use Rattle.page_layers.specs.Layers.{foot_y};
+ghost use Rattle.page_touches.specs.page_layers.specs.Layers.{foot_y};
 ghost use Rattle.page_drawing.specs.Pages.{Page};
 ghost use Rattle.page_drawing.specs.Pictures.{counted, number_words, steps_words, page_words, cores_finished, finished, cut_here};
 ghost use Rattle.page_drawing.specs.Pictures.{cut_line, cut_words, width_of, height_of};
 ghost use Rattle.page_drawing.specs.Pictures.{picture_title, picture_heading, lower_layers, upper_layers, layers_text, page_text, none_words, none_text, text_of, picture_head};
 
 use crate::page::{TracePage, end_run, next_step};
-use page_layers::{Lane, Sheet};
+use page_touches::page_layers::{Lane, Sheet};
 use picture_shapes::{
     begin_heading, begin_picture, begin_sentence, begin_title, end_picture, end_text, end_title,
     push_about, push_heads, push_key, push_paper, push_styles,

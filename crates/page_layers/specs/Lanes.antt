@@ -1,7 +1,7 @@
 -- What is known of a core's calls, and of the newest change of a word.
 use Rattle.std.specs.Prelude.{◌+◌, ◌==◌, if◌then◌else◌}
-use Rattle.step_views.specs.kernel_history.specs.{ℕ, ltb as nat_lt, leb as nat_le, Bool, List, replicate}
-use Rattle.step_views.specs.kernel_history.specs.{get_or as slice_index_or, Option, Some, None, Call, Reply}
+use Rattle.word_texts.specs.step_views.specs.kernel_history.specs.{ℕ, ltb as nat_lt, leb as nat_le, Bool, List, replicate}
+use Rattle.word_texts.specs.step_views.specs.kernel_history.specs.{get_or as slice_index_or, Option, Some, None, Call, Reply}
 use Rattle.picture_shapes.specs.declared.lines.Outcome.{Outcome}
 use Rattle.picture_shapes.specs.declared.lines.Outcome.TheVariants.{Done, Refused, InTheWay}
 use Rattle.page_layers.specs.{declared.lanes.Lane.Lane, declared.lanes.Change.Change}

@@ -1,7 +1,7 @@
 -- The layers of a page, the lower ones first, and what a step and a call add to them.
 use Rattle.std.specs.Prelude.{◌+◌, ◌*◌, ◌||◌, if◌then◌else◌, ◌++◌}
-use Rattle.step_views.specs.kernel_history.specs.{ℕ, max, ltb as nat_lt, leb as nat_le, Bool, true, false}
-use Rattle.step_views.specs.kernel_history.specs.{List, [], codes, Option, Some, None, is_some, reply_text, Call, Reply}
+use Rattle.word_texts.specs.step_views.specs.kernel_history.specs.{ℕ, max, ltb as nat_lt, leb as nat_le, Bool, true, false}
+use Rattle.word_texts.specs.step_views.specs.kernel_history.specs.{List, [], codes, Option, Some, None, is_some, reply_text, Call, Reply}
 use Rattle.picture_shapes.specs.{declared.lines.Outcome.Outcome, declared.lines.Outcome.TheVariants.Done}
 use Rattle.picture_shapes.specs.{declared.lines.Outcome.TheVariants.Refused, declared.lines.Outcome.TheVariants.InTheWay, Frame.lane}
 use Rattle.picture_shapes.specs.{Frame.core_names, Bars.bar_begin, Bars.bar_end, Bars.bar_name_begin, Bars.edge, Bars.upper_teeth}

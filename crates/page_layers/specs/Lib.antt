@@ -1,6 +1,6 @@
 -- What the crates above name through this one.
-pub use Rattle.step_views.specs.kernel_history
-pub use Rattle.step_views
+pub use Rattle.word_texts.specs.step_views.specs.kernel_history
+pub use Rattle.word_texts.specs.step_views
 pub use Rattle.word_texts
 pub use Rattle.picture_shapes
 -- Its own.

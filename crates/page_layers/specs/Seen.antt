@@ -1,6 +1,7 @@
 -- What a picture shows of a step.
-use Rattle.step_views.specs.kernel_history.specs.{ℕ, Option, place_in, Call, Reply, Word, Shape, place_of, word_of, left_of, Step}
-use Rattle.step_views.specs.{Names.named, declared.views.StepMade.StepMade}
+use Rattle.word_texts.specs.step_views.specs.kernel_history.specs.{ℕ, Option, place_in, Call, Reply, Word, Shape, place_of, word_of}
+use Rattle.word_texts.specs.step_views.specs.kernel_history.specs.{left_of, Step}
+use Rattle.word_texts.specs.step_views.specs.{Names.named, declared.views.StepMade.StepMade}
 
 -- Its core; its word, by its place and its name; what it finds there and leaves; and its events.
 pub record Seen : Type 0 where

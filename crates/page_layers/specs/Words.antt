@@ -1,7 +1,7 @@
 -- The words of a page: of calls, of what a step finds, of titles.
 use Rattle.std.specs.Prelude.{◌+◌, if◌then◌else◌, ◌++◌}
-use Rattle.step_views.specs.kernel_rules.specs.{ℕ, ltb as nat_lt, Bool, true, false, List, [], length, codes}
-use Rattle.step_views.specs.kernel_rules.specs.{decimal, Option, Some, None, call_text, reply_text, Call, Reply}
+use Rattle.word_texts.specs.step_views.specs.kernel_rules.specs.{ℕ, ltb as nat_lt, Bool, true, false, List, [], length, codes}
+use Rattle.word_texts.specs.step_views.specs.kernel_rules.specs.{decimal, Option, Some, None, call_text, reply_text, Call, Reply}
 use Rattle.word_texts.specs.{Names.word_name, Values.value_text}
 use Rattle.page_layers.specs.{Seen.Seen, Lanes.overlaps, declared.lanes.Lane.Lane, declared.lanes.Change.Change}
 

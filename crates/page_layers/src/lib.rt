@@ -18,3 +18,4 @@ mod words;
 pub use lanes::{Change, Lane};
 pub use meets::is_blamed;
 pub use sheet::{Moment, Sheet};
+pub use word_texts::step_views;

@@ -25,7 +25,7 @@ use picture_shapes::{
 use spk_nums::Reply;
 use std::alloc::{AllocError, Global};
 use std::marker::Model;
-use step_views::StepMade;
+use word_texts::step_views::StepMade;
 
 /// Where a step stands: in a picture of so many cores, after so many steps that lie before the page, on a word of a frame with this word,
 /// at a height; the step's number, and how many calls are decided up to it.

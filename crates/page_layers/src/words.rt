@@ -11,7 +11,7 @@ use crate::lanes::{Change, Lane};
 use line_texts::{push_call, push_reply};
 use spk_nums::{Call, Reply};
 use std::alloc::AllocError;
-use step_views::StepMade;
+use word_texts::step_views::StepMade;
 use word_texts::{push_name, push_value};
 
 // How many letters a text counts for by its length.

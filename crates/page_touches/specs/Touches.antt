@@ -1,9 +1,10 @@
 -- What is known of the words of the table: the newest change of each, and which cores have come to it since; and what each frame is.
 use Rattle.std.specs.Prelude.{◌+◌, ◌*◌, ◌==◌, ◌&&◌, ◌||◌, if◌then◌else◌, ◌∷◌, ◌++◌}
-use Rattle.step_views.specs.kernel_history.specs.{ℕ, zero, suc, ltb as nat_lt, not, Bool, true, false}
-use Rattle.step_views.specs.kernel_history.specs.{List, [], replicate, get_or as slice_index_or, set as slice_set}
-use Rattle.step_views.specs.kernel_history.specs.{Option, Some, None, Obj, word_of_frame, Word, EntryAt, FrameAt, CountAt, CoreAt, FlushAt}
-use Rattle.step_views.specs.kernel_history.specs.{LiveAt, ClockAt}
+use Rattle.page_layers.specs.step_views.specs.kernel_history.specs.{ℕ, zero, suc, ltb as nat_lt, not, Bool, true, false}
+use Rattle.page_layers.specs.step_views.specs.kernel_history.specs.{List, [], replicate, get_or as slice_index_or, set as slice_set}
+use Rattle.page_layers.specs.step_views.specs.kernel_history.specs.{Option, Some, None, Obj, word_of_frame, Word, EntryAt, FrameAt, CountAt}
+use Rattle.page_layers.specs.step_views.specs.kernel_history.specs.{CoreAt, FlushAt}
+use Rattle.page_layers.specs.step_views.specs.kernel_history.specs.{LiveAt, ClockAt}
 use Rattle.spk_nums.specs.declared.kinds.FrameKind.TheVariants.{Kernel, Untyped}
 use Rattle.spk_nums.specs.declared.kinds.Obj.TheVariants.{Blank, Table, Leaf, Pages, Comp, Thread, Tcap}
 use Rattle.page_layers.specs.{Seen.Seen, Layers.is_blamed, declared.lanes.Change.Change}

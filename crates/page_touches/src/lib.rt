@@ -8,8 +8,9 @@ mod touches;
 
 ghost use Rattle.page_touches.specs.Blamed.{BlamedAreMet};
 
-pub use page_layers::Change;
-pub use step_views::StepMade;
+pub use page_layers;
+pub use page_layers::step_views::StepMade;
+pub use page_layers::{Change, step_views};
 pub use touches::{
     Touch, first_words, frame_of, note_frame, note_word, start_words, tail_of, untouched, word_at,
 };

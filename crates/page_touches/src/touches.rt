@@ -2,17 +2,17 @@
 
 ghost use Rattle.std.specs.Prelude.{◌≡◌, ◌+◌, ◌*◌, ◌<◌, ◌≤◌, IfOk, Some, true, false, replicate, if◌then◌else◌, nat_lt, slice_index_or, slice_set};
 ghost use Rattle.spk_nums.specs.declared.kinds.Obj.TheVariants.{Thread, Tcap};
-ghost use Rattle.step_views.specs.Names.{named};
+ghost use Rattle.page_layers.specs.step_views.specs.Names.{named};
 ghost use Rattle.page_layers.specs.Seen.{seen_made};
 ghost use Rattle.page_layers.specs.Layers.{is_blamed};
 ghost use Rattle.page_touches.specs.Touches.{untouched, touched, is_told, is_clock, is_first, is_told_of, met_by, tail_of};
 ghost use Rattle.page_touches.specs.Touches.{kernel_word, untyped_word, start_word, start_words, frames_after, frame_of};
 
 use frame_words::FrameWord;
+use page_layers::step_views::{StepMade, WordName};
 use page_layers::{Change, is_blamed};
 use spk_nums::{FrameKind, Obj};
 use std::alloc::{AllocError, Global};
-use step_views::{StepMade, WordName};
 
 /// A word: its newest change, and which cores have come to it since.
 #[derive(Clone, Copy)]

@@ -1,15 +1,22 @@
 -- A call made whole: from the kernel's own state to every reached state that it represents.
-use Rattle.seq_state.specs.kernel_rules.proofs as low
-use Rattle.seq_state.proofs.{◌≡◌, ◌≢◌, ℕ, ◌+◌, ◌-◌, ◌^◌, ◌<◌, ◌≤◌, ◌==◌, Bool, true, false, refl, sym, ◌∙◌, ap, subst, arith, leb as nat_le}
-use Rattle.seq_state.proofs.{if◌then◌else◌, List, ◌∷◌, IsTrue, eq-eqb, Setting, IsSetting, InLimits, Call, Reply, Grace, Limits, State}
-use Rattle.seq_state.proofs.{with_core, put, begun, entered, returned, Change, Judged, Refused, Found, RuleMay, rule_of, change_of, changed}
-use Rattle.seq_state.proofs.{counted, state_by, are_calls_spent, acts, reply_in, alone, Event, Enters, Decides, Returns, after, Phase, Open}
-use Rattle.seq_state.proofs.{Decided, Out, is_decided, phase_of, IsRun, IfFound, limits_stay, state_of, SameGrace, SameState, Represents}
+use Rattle.seq_caps.specs.seq_lookups.specs.seq_state.specs.kernel_rules.proofs as low
+use Rattle.seq_caps.specs.seq_lookups.specs.seq_state.proofs.{◌≡◌, ◌≢◌, ℕ, ◌+◌, ◌-◌, ◌^◌, ◌<◌, ◌≤◌, ◌==◌, Bool, true, false, refl, sym, ◌∙◌}
+use Rattle.seq_caps.specs.seq_lookups.specs.seq_state.proofs.{ap, subst, arith, leb as nat_le}
+use Rattle.seq_caps.specs.seq_lookups.specs.seq_state.proofs.{if◌then◌else◌, List, ◌∷◌, IsTrue, eq-eqb, Setting, IsSetting, InLimits, Call}
+use Rattle.seq_caps.specs.seq_lookups.specs.seq_state.proofs.{Reply, Grace, Limits, State}
+use Rattle.seq_caps.specs.seq_lookups.specs.seq_state.proofs.{with_core, put, begun, entered, returned, Change, Judged, Refused, Found}
+use Rattle.seq_caps.specs.seq_lookups.specs.seq_state.proofs.{RuleMay, rule_of, change_of, changed}
+use Rattle.seq_caps.specs.seq_lookups.specs.seq_state.proofs.{counted, state_by, are_calls_spent, acts, reply_in, alone, Event, Enters}
+use Rattle.seq_caps.specs.seq_lookups.specs.seq_state.proofs.{Decides, Returns, after, Phase, Open}
+use Rattle.seq_caps.specs.seq_lookups.specs.seq_state.proofs.{Decided, Out, is_decided, phase_of, IsRun, IfFound, limits_stay, state_of}
+use Rattle.seq_caps.specs.seq_lookups.specs.seq_state.proofs.{SameGrace, SameState, Represents}
 use low.{Core, passed, first_reply, plain_reply, plain_step, IfRefused, Waits, found_waits, waits_inside}
 use low.{Agrees.IsBounded, Agrees.IsPlain, Agrees.rule_refused, AloneLaw.rule_plain, AloneLaw.first_permitted, Within.waits_within}
 use Rattle.same_changes.proofs.{Alike.begun_same, EveryCall.changes_same, EveryCall.same_acts, EveryCall.stays_in_range}
-use Rattle.{seq_state.proofs.same_by, seq_state.proofs.same_then, seq_state.proofs.same_core, seq_lookups.specs.IsCarriedOut}
-use Rattle.{seq_lookups.specs.IsInRange, same_changes.specs.kernel_laws.proofs.RangesLaw.ranges_hold, seq_state.specs.Maps.Maps}
+use Rattle.{seq_caps.specs.seq_lookups.specs.seq_state.proofs.same_by, seq_caps.specs.seq_lookups.specs.seq_state.proofs.same_then}
+use Rattle.{seq_caps.specs.seq_lookups.specs.seq_state.proofs.same_core, seq_caps.specs.seq_lookups.specs.IsCarriedOut}
+use Rattle.{seq_caps.specs.seq_lookups.specs.IsInRange, same_changes.specs.kernel_laws.proofs.RangesLaw.ranges_hold}
+use Rattle.{seq_caps.specs.seq_lookups.specs.seq_state.specs.Maps.Maps}
 use Rattle.{same_changes.specs.Same.SameOutcome, plain_kernel.specs.Step.IsStep, plain_kernel.specs.Step.StepsExactly}
 
 -- ---- the steps that are no call's own

@@ -1,7 +1,10 @@
 -- What a call made whole does to the plain kernel.
 use Rattle.std.specs.Prelude.{◌≡◌}
-use Rattle.seq_state.specs.{ℕ, List, Setting, IsSetting, Call, Reply, State, plain_step, Event, after, Out, phase_of, IsRun}
-use Rattle.{seq_state.specs.Represents, seq_state.specs.kernel_rules.specs.Alone.plain_reply, seq_state.specs.Maps.Maps}
+use Rattle.seq_caps.specs.seq_lookups.specs.seq_state.specs.{ℕ, List, Setting, IsSetting, Call, Reply, State, plain_step, Event, after, Out}
+use Rattle.seq_caps.specs.seq_lookups.specs.seq_state.specs.{phase_of, IsRun}
+use Rattle.{seq_caps.specs.seq_lookups.specs.seq_state.specs.Represents}
+use Rattle.{seq_caps.specs.seq_lookups.specs.seq_state.specs.kernel_rules.specs.Alone.plain_reply}
+use Rattle.{seq_caps.specs.seq_lookups.specs.seq_state.specs.Maps.Maps}
 
 -- The kernel represents a state that a run reaches, and in which no core is in a call.
 pub record IsReached (setting : Setting) (k : Maps) (s : State) : Type 0 where

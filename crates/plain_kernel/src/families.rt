@@ -2,13 +2,13 @@
 
 ghost use Rattle.std.specs.Prelude.{◌≡◌, ◌<◌, IsOk, IfOk};
 ghost use Rattle.spk_nums.specs.CallLimits.{InLimits};
-ghost use Rattle.seq_state.specs.kernel_rules.specs.CallRelation.{change_of};
-ghost use Rattle.seq_state.specs.Maps.{state_of};
-ghost use Rattle.seq_lookups.specs.Carried.{IsCarriedOut};
-ghost use Rattle.seq_lookups.specs.Ranges.{IsInRange};
+ghost use Rattle.seq_caps.specs.seq_lookups.specs.seq_state.specs.kernel_rules.specs.CallRelation.{change_of};
+ghost use Rattle.seq_caps.specs.seq_lookups.specs.seq_state.specs.Maps.{state_of};
+ghost use Rattle.seq_caps.specs.seq_lookups.specs.Carried.{IsCarriedOut};
+ghost use Rattle.seq_caps.specs.seq_lookups.specs.Ranges.{IsInRange};
 ghost use Rattle.plain_kernel.specs.Families.{IsOf};
 
-use seq_state::SeqKernel;
+use seq_caps::seq_lookups::seq_state::SeqKernel;
 use spk_nums::{Call, CoreNo, Memory, Reply};
 use std::alloc::Global;
 

@@ -1,11 +1,15 @@
 -- A node whose places are free one after the other.
-use Rattle.seq_state.specs.kernel_rules.proofs.{◌≡◌, inl, inr, ℕ, ◌+◌, ◌&&◌, ◌==◌, ltb as nat_lt, if◌then◌else◌, Bool, true, false, refl}
-use Rattle.seq_state.specs.kernel_rules.proofs.{sym, ◌∙◌, ap, subst, arith, lt-ltb, le-ltb, eq-eqb, ne_eqb, true≢false, false≢true, put}
-use Rattle.seq_state.specs.kernel_rules.proofs.{Place, Free, Grace, Thing, PlaceOf, FrameOf, NumberOf, with_place, no_grace, same_thing}
-use Rattle.seq_state.specs.kernel_rules.proofs.{cleared, put_same, put_other}
-use Rattle.seq_state.specs.{State, IsThing, SameState, with_grace_of}
-use Rattle.{std.proofs.lemmas.Bool.cases_eq, std.proofs.lemmas.Bool.cases_lt, seq_state.proofs.same_grace_by, seq_state.proofs.same_then}
-use Rattle.{seq_state.proofs.Same.same_place, seq_state.proofs.Same.same_grace_of}
+use Rattle.seq_lookups.specs.seq_state.specs.kernel_rules.proofs.{◌≡◌, inl, inr, ℕ, ◌+◌, ◌&&◌, ◌==◌, ltb as nat_lt, if◌then◌else◌, Bool}
+use Rattle.seq_lookups.specs.seq_state.specs.kernel_rules.proofs.{true, false, refl}
+use Rattle.seq_lookups.specs.seq_state.specs.kernel_rules.proofs.{sym, ◌∙◌, ap, subst, arith, lt-ltb, le-ltb, eq-eqb, ne_eqb, true≢false}
+use Rattle.seq_lookups.specs.seq_state.specs.kernel_rules.proofs.{false≢true, put}
+use Rattle.seq_lookups.specs.seq_state.specs.kernel_rules.proofs.{Place, Free, Grace, Thing, PlaceOf, FrameOf, NumberOf, with_place}
+use Rattle.seq_lookups.specs.seq_state.specs.kernel_rules.proofs.{no_grace, same_thing}
+use Rattle.seq_lookups.specs.seq_state.specs.kernel_rules.proofs.{cleared, put_same, put_other}
+use Rattle.seq_lookups.specs.seq_state.specs.{State, IsThing, SameState, with_grace_of}
+use Rattle.{std.proofs.lemmas.Bool.cases_eq, std.proofs.lemmas.Bool.cases_lt, seq_lookups.specs.seq_state.proofs.same_grace_by}
+use Rattle.{seq_lookups.specs.seq_state.proofs.same_then}
+use Rattle.{seq_lookups.specs.seq_state.proofs.Same.same_place, seq_lookups.specs.seq_state.proofs.Same.same_grace_of}
 
 -- Whether a thing is one of the first n places of a node.
 abbrev pub is_place_below : ℕ → ℕ → Thing → Bool

@@ -1,8 +1,12 @@
 -- A component that is made of what was looked up.
-use Rattle.seq_state.proofs.{◌≡◌, ℕ, ◌+◌, Some, refl, subst, Capability, Make as make_call, Nothing, Comp, Live, State, Slot, epoch_of}
-use Rattle.{seq_state.proofs.rule_of, seq_state.proofs.Represents, seq_state.proofs.Kind, seq_state.specs.kernel_rules.specs.CompFields}
-use Rattle.{seq_state.specs.kernel_rules.specs.with_number, seq_state.specs.kernel_rules.specs.Make, seq_plans.specs.left_of}
-use Rattle.{seq_plans.specs.change_in, spk_nums.specs.declared.replies.Reply.TheVariants.Ok as ok, seq_state.specs.Maps.Maps}
+use Rattle.seq_lookups.specs.seq_state.proofs.{◌≡◌, ℕ, ◌+◌, Some, refl, subst, Capability, Make as make_call, Nothing, Comp, Live, State}
+use Rattle.seq_lookups.specs.seq_state.proofs.{Slot, epoch_of}
+use Rattle.{seq_lookups.specs.seq_state.proofs.rule_of, seq_lookups.specs.seq_state.proofs.Represents}
+use Rattle.{seq_lookups.specs.seq_state.proofs.Kind, seq_lookups.specs.seq_state.specs.kernel_rules.specs.CompFields}
+use Rattle.{seq_lookups.specs.seq_state.specs.kernel_rules.specs.with_number, seq_lookups.specs.seq_state.specs.kernel_rules.specs.Make}
+use Rattle.{seq_plans.specs.left_of}
+use Rattle.{seq_plans.specs.change_in, spk_nums.specs.declared.replies.Reply.TheVariants.Ok as ok}
+use Rattle.{seq_lookups.specs.seq_state.specs.Maps.Maps}
 use Rattle.{seq_lookups.specs.Carried.IsCarriedOut, seq_plans.specs.declared.walking.Looked.Looked, seq_caps.specs.Holding.holding}
 
 pub comp_made_of : (s : State) (core r f t b x p live : ℕ) (l : Looked) (table pages : Capability) (at : Slot) (k : Maps)

@@ -1,2 +1,6 @@
+-- What the crates above name through this one.
+pub use Rattle.seq_plans
+pub use Rattle.seq_lookups
+-- Its own.
 pub mod Own
 pub mod Holding

@@ -1,5 +1,5 @@
 -- The calls on capabilities.
-use Rattle.seq_state.specs.{Call, Look, Copy, Remove, Grow, Shrink, Make, Part}
+use Rattle.seq_lookups.specs.seq_state.specs.{Call, Look, Copy, Remove, Grow, Shrink, Make, Part}
 
 -- A call that looks at a capability, copies or removes one, makes an object, or links or unlinks a leaf.
 abbrev pub IsCapCall : Call → Type 0

@@ -6,13 +6,13 @@ ghost use Rattle.spk_nums.specs.CallLimits.{InLimits, MakeInLimits};
 ghost use Rattle.spk_nums.specs.declared.kinds.Kind.TheVariants as kinds;
 ghost use Rattle.spk_nums.specs.declared.calls.Call.TheVariants.{Make as make_call};
 ghost use Rattle.spk_nums.specs.declared.replies.Reply.TheVariants.{Ok as ok};
-ghost use Rattle.seq_state.specs.kernel_rules.specs.State.{Comp, Live, with_number};
-ghost use Rattle.seq_state.specs.kernel_rules.specs.CapabilityCalls.{epoch_of};
-ghost use Rattle.seq_state.specs.kernel_rules.specs.Edits.{cleared};
-ghost use Rattle.seq_state.specs.kernel_rules.specs.CallRelation.{rule_of};
-ghost use Rattle.seq_state.specs.Parts.{object_of};
-ghost use Rattle.seq_state.specs.Maps.{state_of};
-ghost use Rattle.seq_state.specs.Representation.{Represents};
+ghost use Rattle.seq_lookups.specs.seq_state.specs.kernel_rules.specs.State.{Comp, Live, with_number};
+ghost use Rattle.seq_lookups.specs.seq_state.specs.kernel_rules.specs.CapabilityCalls.{epoch_of};
+ghost use Rattle.seq_lookups.specs.seq_state.specs.kernel_rules.specs.Edits.{cleared};
+ghost use Rattle.seq_lookups.specs.seq_state.specs.kernel_rules.specs.CallRelation.{rule_of};
+ghost use Rattle.seq_lookups.specs.seq_state.specs.Parts.{object_of};
+ghost use Rattle.seq_lookups.specs.seq_state.specs.Maps.{state_of};
+ghost use Rattle.seq_lookups.specs.seq_state.specs.Representation.{Represents};
 ghost use Rattle.seq_lookups.specs.Carried.{IsCarriedOut, removed};
 ghost use Rattle.seq_plans.specs.declared.walking.Looked.{Looked};
 ghost use Rattle.seq_plans.specs.Walks.{left_of};
@@ -21,9 +21,11 @@ ghost use Rattle.seq_caps.specs.Own.{IsCapCall};
 ghost use Rattle.seq_caps.specs.Holding.{holding};
 
 use crate::frames::{clear, epoch_of, plain_cap, put};
+use seq_lookups::seq_state::{
+    CompFields, Liveness, Object, SeqKernel, Stack, TcapFields, ThreadFields,
+};
 use seq_lookups::{Slot, fill, remove};
 use seq_plans::Looked;
-use seq_state::{CompFields, Liveness, Object, SeqKernel, Stack, TcapFields, ThreadFields};
 use spk_nums::{Call, Cap, CoreNo, FrameArg, FrameNo, Kind, Make, Qualities, Rights, Value};
 
 /// The frame holds the object, and the place its capability.
@@ -259,4 +261,4 @@ ghost use Rattle.std.specs.Prelude.{ℕ, Some};
 ghost use Rattle.spk_nums.specs.Capability.{Capability};
 ghost use Rattle.spk_nums.specs.declared.calls.Call.TheVariants.{Copy, Grow, Part};
 ghost use Rattle.spk_nums.specs.declared.replies.Value.TheVariants.{Nothing, Cap as cap_value};
-ghost use Rattle.seq_state.specs.kernel_rules.specs.Access.{Slot as slot};
+ghost use Rattle.seq_lookups.specs.seq_state.specs.kernel_rules.specs.Access.{Slot as slot};

@@ -2,15 +2,15 @@
 
 ghost use Rattle.std.specs.Prelude.{◌≡◌, ◌<◌};
 ghost use Rattle.spk_nums.specs.Limits.{least_arg, end_of_arg};
-ghost use Rattle.seq_state.specs.kernel_rules.specs.CapabilityCalls.{epoch_of, is_blank, is_live};
-ghost use Rattle.seq_state.specs.kernel_rules.specs.Edits.{cleared};
-ghost use Rattle.seq_state.specs.Parts.{object_of, frame_of, number_of};
-ghost use Rattle.seq_state.specs.Maps.{state_of};
-ghost use Rattle.seq_state.specs.Representation.{Represents};
+ghost use Rattle.seq_lookups.specs.seq_state.specs.kernel_rules.specs.CapabilityCalls.{epoch_of, is_blank, is_live};
+ghost use Rattle.seq_lookups.specs.seq_state.specs.kernel_rules.specs.Edits.{cleared};
+ghost use Rattle.seq_lookups.specs.seq_state.specs.Parts.{object_of, frame_of, number_of};
+ghost use Rattle.seq_lookups.specs.seq_state.specs.Maps.{state_of};
+ghost use Rattle.seq_lookups.specs.seq_state.specs.Representation.{Represents};
 ghost use Rattle.seq_caps.specs.Holding.{holding};
 
 use seq_lookups::Slot;
-use seq_state::{Frame, Liveness, Object, Place, SeqKernel, Thing};
+use seq_lookups::seq_state::{Frame, Liveness, Object, Place, SeqKernel, Thing};
 use spk_nums::{Cap, EntryNo, FrameNo, Kind};
 
 /// Whether a frame is a blank kernel frame.
@@ -73,4 +73,4 @@ pub(crate) fn epoch_of(number: &Liveness) -> u16
     }
 }
 
-ghost use Rattle.seq_state.specs.kernel_rules.specs.Start.{plain_cap};
+ghost use Rattle.seq_lookups.specs.seq_state.specs.kernel_rules.specs.Start.{plain_cap};

@@ -23,3 +23,5 @@ mod own_causes;
 pub use carrying::carry_out;
 pub use one::step;
 pub use own_causes::causes;
+pub use seq_lookups;
+pub use seq_plans;

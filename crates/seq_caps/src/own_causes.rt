@@ -1,15 +1,15 @@
 //! The own causes of refusal of the calls on capabilities.
 
 ghost use Rattle.std.specs.Prelude.{◌≡◌, ◌<◌, [], ◌∷◌};
-ghost use Rattle.seq_state.specs.kernel_rules.specs.CapabilityCalls.{outside, not_blank, not_taken};
-ghost use Rattle.seq_state.specs.Maps.{state_of};
+ghost use Rattle.seq_lookups.specs.seq_state.specs.kernel_rules.specs.CapabilityCalls.{outside, not_blank, not_taken};
+ghost use Rattle.seq_lookups.specs.seq_state.specs.Maps.{state_of};
 ghost use Rattle.seq_plans.specs.Walks.{left_of, causes_of};
 ghost use Rattle.seq_plans.specs.OwnCauses.{cause_of, causes_in, AreFitCauses, judged_rule};
 ghost use Rattle.seq_caps.specs.Own.{IsCapCall};
 
 use crate::frames::{epoch_of, is_blank, is_live};
+use seq_lookups::seq_state::{SeqKernel, Thing};
 use seq_plans::{Cause, Causes, Looked, beyond, outside};
-use seq_state::{SeqKernel, Thing};
 use spk_nums::{Call, CoreNo, FrameArg, FrameNo, Make, Reply};
 
 /// That a frame of the machine is not blank.

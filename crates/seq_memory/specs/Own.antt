@@ -1,5 +1,5 @@
 -- The calls on memory.
-use Rattle.seq_state.specs.{Call, Retype, Map, Unmap, Touch, Flush}
+use Rattle.seq_lookups.specs.seq_state.specs.{Call, Retype, Map, Unmap, Touch, Flush}
 
 -- A call that retypes a frame, maps, unmaps or touches a page, or flushes the core's translations.
 abbrev pub IsMemoryCall : Call → Type 0

@@ -6,10 +6,10 @@ ghost use Rattle.spk_nums.specs.declared.kinds.FrameKind.TheVariants as frame_ki
 ghost use Rattle.spk_nums.specs.declared.calls.Call.TheVariants.{Retype, Map, Touch};
 ghost use Rattle.spk_nums.specs.declared.replies.Value.TheVariants.{Nothing};
 ghost use Rattle.spk_nums.specs.declared.replies.Reply.TheVariants.{Ok as ok};
-ghost use Rattle.seq_state.specs.kernel_rules.specs.State.{thread_in};
-ghost use Rattle.seq_state.specs.kernel_rules.specs.CallRelation.{rule_of};
-ghost use Rattle.seq_state.specs.Maps.{state_of};
-ghost use Rattle.seq_state.specs.Representation.{Represents};
+ghost use Rattle.seq_lookups.specs.seq_state.specs.kernel_rules.specs.State.{thread_in};
+ghost use Rattle.seq_lookups.specs.seq_state.specs.kernel_rules.specs.CallRelation.{rule_of};
+ghost use Rattle.seq_lookups.specs.seq_state.specs.Maps.{state_of};
+ghost use Rattle.seq_lookups.specs.seq_state.specs.Representation.{Represents};
 ghost use Rattle.seq_lookups.specs.Carried.{IsCarriedOut, removed};
 ghost use Rattle.seq_plans.specs.declared.walking.Looked.{Looked};
 ghost use Rattle.seq_plans.specs.Walks.{left_of};
@@ -19,9 +19,9 @@ ghost use Rattle.seq_memory.specs.Retyped.{retyped};
 
 use crate::retyping::free;
 use crate::touching::{cache, flags_of};
+use seq_lookups::seq_state::{Frame, Object, SeqKernel};
 use seq_lookups::{comp_of, fill, remove, thread_at};
 use seq_plans::{Looked, translation_of};
-use seq_state::{Frame, Object, SeqKernel};
 use spk_nums::{
     Call, Cap, CoreNo, FrameArg, FrameKind, FrameNo, Kind, PageFlags, PageNo, Translation, Value,
 };
@@ -156,4 +156,4 @@ pub fn carry_out(k: &mut SeqKernel, core: CoreNo, call: &Call, looked: &Looked) 
 
 ghost use Rattle.std.specs.Prelude.{Some};
 ghost use Rattle.spk_nums.specs.Capability.{Capability};
-ghost use Rattle.seq_state.specs.kernel_rules.specs.Access.{Slot as slot};
+ghost use Rattle.seq_lookups.specs.seq_state.specs.kernel_rules.specs.Access.{Slot as slot};

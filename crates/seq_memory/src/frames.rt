@@ -1,12 +1,13 @@
 //! What a frame has: whether it is untyped or a user frame, and whether its object is empty.
 
 ghost use Rattle.std.specs.Prelude.{◌≡◌, is_some};
-ghost use Rattle.seq_state.specs.kernel_rules.specs.Access.{held_in};
-ghost use Rattle.seq_state.specs.kernel_rules.specs.MemoryCalls.{is_untyped, is_user, holds_nothing, is_empty_object, is_empty};
-ghost use Rattle.seq_state.specs.Parts.{object_of, frame_of, place_held};
-ghost use Rattle.seq_state.specs.Maps.{state_of};
+ghost use Rattle.seq_lookups.specs.seq_state.specs.kernel_rules.specs.Access.{held_in};
+ghost use Rattle.seq_lookups.specs.seq_state.specs.kernel_rules.specs.MemoryCalls.{is_untyped, is_user, holds_nothing, is_empty_object};
+ghost use Rattle.seq_lookups.specs.seq_state.specs.kernel_rules.specs.MemoryCalls.{is_empty};
+ghost use Rattle.seq_lookups.specs.seq_state.specs.Parts.{object_of, frame_of, place_held};
+ghost use Rattle.seq_lookups.specs.seq_state.specs.Maps.{state_of};
 
-use seq_state::{Frame, Object, Place, SeqKernel};
+use seq_lookups::seq_state::{Frame, Object, Place, SeqKernel};
 use spk_nums::{EntryNo, FrameNo};
 
 /// Whether a frame is untyped.

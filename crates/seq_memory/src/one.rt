@@ -2,8 +2,8 @@
 
 ghost use Rattle.std.specs.Prelude.{◌<◌, IsOk, IfOk};
 ghost use Rattle.spk_nums.specs.CallLimits.{InLimits};
-ghost use Rattle.seq_state.specs.kernel_rules.specs.CallRelation.{change_of};
-ghost use Rattle.seq_state.specs.Maps.{state_of};
+ghost use Rattle.seq_lookups.specs.seq_state.specs.kernel_rules.specs.CallRelation.{change_of};
+ghost use Rattle.seq_lookups.specs.seq_state.specs.Maps.{state_of};
 ghost use Rattle.seq_lookups.specs.Carried.{IsCarriedOut};
 ghost use Rattle.seq_lookups.specs.Ranges.{IsInRange};
 ghost use Rattle.seq_memory.specs.Own.{IsMemoryCall};
@@ -11,8 +11,8 @@ ghost use Rattle.seq_memory.specs.Own.{IsMemoryCall};
 use crate::carrying::carry_out;
 use crate::own_causes::causes;
 use call_plans::plan_of;
+use seq_lookups::seq_state::SeqKernel;
 use seq_plans::{first_cause, resolve};
-use seq_state::SeqKernel;
 use spk_nums::{Call, CoreNo, Memory, Reply};
 use std::alloc::Global;
 

@@ -3,11 +3,11 @@
 ghost use Rattle.std.specs.Prelude.{◌≡◌, ◌<◌, ℕ, nat_lt, if◌then◌else◌, [], ◌∷◌};
 ghost use Rattle.spk_nums.specs.declared.calls.Call.TheVariants.{Retype, Touch};
 ghost use Rattle.spk_nums.specs.declared.kinds.FrameKind.TheVariants as frame_kind;
-ghost use Rattle.seq_state.specs.kernel_rules.specs.MemoryCalls.{is_untyped_now, not_untyped, not_retyped, not_user};
-ghost use Rattle.seq_state.specs.kernel_rules.specs.CapabilityCalls.{outside};
-ghost use Rattle.seq_state.specs.kernel_rules.specs.CallRelation.{rule_of};
+ghost use Rattle.seq_lookups.specs.seq_state.specs.kernel_rules.specs.MemoryCalls.{is_untyped_now, not_untyped, not_retyped, not_user};
+ghost use Rattle.seq_lookups.specs.seq_state.specs.kernel_rules.specs.CapabilityCalls.{outside};
+ghost use Rattle.seq_lookups.specs.seq_state.specs.kernel_rules.specs.CallRelation.{rule_of};
 ghost use Rattle.seq_plans.specs.declared.walking.Looked.{Looked};
-ghost use Rattle.seq_state.specs.Maps.{state_of};
+ghost use Rattle.seq_lookups.specs.seq_state.specs.Maps.{state_of};
 ghost use Rattle.seq_plans.specs.Reaches.{named_of};
 ghost use Rattle.seq_plans.specs.Walks.{left_of, causes_of};
 ghost use Rattle.seq_plans.specs.OwnCauses.{cause_of, causes_in, IsFitCause, AreFitCauses, judged_rule};
@@ -15,8 +15,8 @@ ghost use Rattle.seq_memory.specs.Own.{IsMemoryCall};
 
 use crate::frames::{is_empty, is_untyped, is_user};
 use seq_lookups::comp_of;
+use seq_lookups::seq_state::{SeqKernel, Thing};
 use seq_plans::{Cause, Causes, Looked, outside, translation_of};
-use seq_state::{SeqKernel, Thing};
 use spk_nums::{Call, Cap, CoreNo, FrameArg, FrameKind, FrameNo, PageNo, Reply};
 
 /// Why a frame of the machine may not be retyped to untyped.

@@ -2,17 +2,17 @@
 
 ghost use Rattle.std.specs.Prelude.{◌≤◌, length, [], ◌∷◌};
 ghost use Rattle.spk_nums.specs.declared.kinds.FrameKind.TheVariants as frame_kind;
-ghost use Rattle.seq_state.specs.kernel_rules.specs.State.{thread_in};
-ghost use Rattle.seq_state.specs.kernel_rules.specs.References.{frame_names};
-ghost use Rattle.seq_state.specs.kernel_rules.specs.GracePeriods.{begun};
-ghost use Rattle.seq_state.specs.kernel_rules.specs.Edits.{frames_of};
-ghost use Rattle.seq_state.specs.Parts.{frame_of};
-ghost use Rattle.seq_state.specs.Maps.{state_of};
-ghost use Rattle.seq_state.specs.Representation.{Represents};
+ghost use Rattle.seq_lookups.specs.seq_state.specs.kernel_rules.specs.State.{thread_in};
+ghost use Rattle.seq_lookups.specs.seq_state.specs.kernel_rules.specs.References.{frame_names};
+ghost use Rattle.seq_lookups.specs.seq_state.specs.kernel_rules.specs.GracePeriods.{begun};
+ghost use Rattle.seq_lookups.specs.seq_state.specs.kernel_rules.specs.Edits.{frames_of};
+ghost use Rattle.seq_lookups.specs.seq_state.specs.Parts.{frame_of};
+ghost use Rattle.seq_lookups.specs.seq_state.specs.Maps.{state_of};
+ghost use Rattle.seq_lookups.specs.seq_state.specs.Representation.{Represents};
 ghost use Rattle.seq_memory.specs.Retyped.{retyped};
 
 use seq_lookups::begin;
-use seq_state::{Frame, Object, SeqKernel, Stack, Thing};
+use seq_lookups::seq_state::{Frame, Object, SeqKernel, Stack, Thing};
 use spk_nums::FrameNo;
 
 /// Releases the reference of a stack of at most one component.

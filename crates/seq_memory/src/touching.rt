@@ -5,11 +5,11 @@
 
 ghost use Rattle.std.specs.Prelude.{◌≡◌, ◌<◌};
 ghost use Rattle.spk_nums.specs.declared.kinds.Kind.TheVariants as kind;
-ghost use Rattle.seq_state.specs.kernel_rules.specs.Edits.{caching, Cache, edited};
-ghost use Rattle.seq_state.specs.Maps.{state_of};
-ghost use Rattle.seq_state.specs.Representation.{Represents};
+ghost use Rattle.seq_lookups.specs.seq_state.specs.kernel_rules.specs.Edits.{caching, Cache, edited};
+ghost use Rattle.seq_lookups.specs.seq_state.specs.Maps.{state_of};
+ghost use Rattle.seq_lookups.specs.seq_state.specs.Representation.{Represents};
 
-use seq_state::{Core, SeqKernel};
+use seq_lookups::seq_state::{Core, SeqKernel};
 use spk_nums::{Cap, CoreNo, PageFlags, Translation, Translations};
 
 /// The flags of a page; of no other mapping is anything said.

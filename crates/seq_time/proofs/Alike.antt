@@ -1,6 +1,7 @@
 -- Lists of qualities are alike exactly where they are equal.
-use Rattle.seq_state.specs.kernel_rules.proofs.{◌≡◌, ℕ, ◌==◌, Bool, true, false, ◌&&◌, List, [], ◌∷◌, refl, sym, ap, ◌∙◌, IsTrue, and_from}
-use Rattle.seq_state.specs.kernel_rules.proofs.{eqb-true, eq-eqb, are_alike}
+use Rattle.seq_lookups.specs.seq_state.specs.kernel_rules.proofs.{◌≡◌, ℕ, ◌==◌, Bool, true, false, ◌&&◌, List, [], ◌∷◌, refl, sym, ap, ◌∙◌}
+use Rattle.seq_lookups.specs.seq_state.specs.kernel_rules.proofs.{IsTrue, and_from}
+use Rattle.seq_lookups.specs.seq_state.specs.kernel_rules.proofs.{eqb-true, eq-eqb, are_alike}
 use Rattle.std.proofs.{Common.◌↔◌, lemmas.Bool.and_parts}
 
 alike_equal : (xs ys : List (ℕ × ℕ)) → are_alike xs ys ≡ true → xs ≡ ys

@@ -1,8 +1,11 @@
 -- A delegation writes the temporal capability that it gives to at once, with its new budget and its new list.
-use Rattle.seq_state.specs.kernel_rules.proofs.{arith, ◌≡◌, ◌≢◌, ℕ, ◌+◌, ◌-◌, ◌==◌, Bool, true, false, if◌then◌else◌, refl, sym, ap, ◌∙◌}
-use Rattle.seq_state.specs.kernel_rules.proofs.{List, Option, Some, None, unwrap_or, ne_eqb, eq-eqb, put, Object, Blank, Frame, Untyped}
-use Rattle.seq_state.specs.kernel_rules.proofs.{User, Kernel, with_frame, tcap_in, with_tcap, tcap_at, moved, with_qualities}
-use Rattle.seq_state.proofs.{State, SameState, same_grace_by, same_then, same_frame}
+use Rattle.seq_lookups.specs.seq_state.specs.kernel_rules.proofs.{arith, ◌≡◌, ◌≢◌, ℕ, ◌+◌, ◌-◌, ◌==◌, Bool, true, false, if◌then◌else◌}
+use Rattle.seq_lookups.specs.seq_state.specs.kernel_rules.proofs.{refl, sym, ap, ◌∙◌}
+use Rattle.seq_lookups.specs.seq_state.specs.kernel_rules.proofs.{List, Option, Some, None, unwrap_or, ne_eqb, eq-eqb, put, Object, Blank}
+use Rattle.seq_lookups.specs.seq_state.specs.kernel_rules.proofs.{Frame, Untyped}
+use Rattle.seq_lookups.specs.seq_state.specs.kernel_rules.proofs.{User, Kernel, with_frame, tcap_in, with_tcap, tcap_at, moved}
+use Rattle.seq_lookups.specs.seq_state.specs.kernel_rules.proofs.{with_qualities}
+use Rattle.seq_lookups.specs.seq_state.proofs.{State, SameState, same_grace_by, same_then, same_frame}
 use Rattle.std.specs.Prelude.{SomeIff}
 
 -- A budget and then a list, in an object.

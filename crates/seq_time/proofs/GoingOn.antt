@@ -1,8 +1,11 @@
 -- Going on as another thread: the two frames are written from what stood there before.
-use Rattle.seq_state.proofs.{◌≡◌, ℕ, ◌==◌, Bool, true, false, if◌then◌else◌, refl, sym, ap, ◌∙◌, Some, None, eqb-true, put, Blank, Thread}
-use Rattle.seq_state.proofs.{Untyped, User, State, with_frame, with_core, thread_in, begun, SameState, same_by, same_grace_by, same_then}
-use Rattle.seq_state.specs.kernel_rules.specs.{Object, Frame, Kernel, Core, switched}
-use Rattle.{seq_state.proofs.same_frame, seq_state.proofs.same_core, seq_time.specs.Left.run_by, seq_time.specs.Left.left_by}
+use Rattle.seq_lookups.specs.seq_state.proofs.{◌≡◌, ℕ, ◌==◌, Bool, true, false, if◌then◌else◌, refl, sym, ap, ◌∙◌, Some, None, eqb-true}
+use Rattle.seq_lookups.specs.seq_state.proofs.{put, Blank, Thread}
+use Rattle.seq_lookups.specs.seq_state.proofs.{Untyped, User, State, with_frame, with_core, thread_in, begun, SameState, same_by}
+use Rattle.seq_lookups.specs.seq_state.proofs.{same_grace_by, same_then}
+use Rattle.seq_lookups.specs.seq_state.specs.kernel_rules.specs.{Object, Frame, Kernel, Core, switched}
+use Rattle.{seq_lookups.specs.seq_state.proofs.same_frame, seq_lookups.specs.seq_state.proofs.same_core, seq_time.specs.Left.run_by}
+use Rattle.{seq_time.specs.Left.left_by}
 
 idle_in : (x : Object) → (thread_in (Kernel x)).runs_on ≡ None → run_by (Kernel x) None ≡ Kernel x
 idle_in Blank h = refl

@@ -1,15 +1,15 @@
 //! Moving budgets between temporal capabilities, and what a test answers.
 
 ghost use Rattle.std.specs.Prelude.{◌≡◌, ◌≢◌, ◌<◌, ◌≤◌, ◌+◌, ◌^◌, length, SomeIff};
-ghost use Rattle.seq_state.specs.kernel_rules.specs.TimeCalls.{are_alike, merged_list, preemption};
-ghost use Rattle.seq_state.specs.kernel_rules.specs.Edits.{with_tcap, moved, with_qualities, tcap_at};
-ghost use Rattle.seq_state.specs.Parts.{frame_of, tcap_fields_of};
-ghost use Rattle.seq_state.specs.Maps.{state_of};
-ghost use Rattle.seq_state.specs.Representation.{Represents};
+ghost use Rattle.seq_lookups.specs.seq_state.specs.kernel_rules.specs.TimeCalls.{are_alike, merged_list, preemption};
+ghost use Rattle.seq_lookups.specs.seq_state.specs.kernel_rules.specs.Edits.{with_tcap, moved, with_qualities, tcap_at};
+ghost use Rattle.seq_lookups.specs.seq_state.specs.Parts.{frame_of, tcap_fields_of};
+ghost use Rattle.seq_lookups.specs.seq_state.specs.Maps.{state_of};
+ghost use Rattle.seq_lookups.specs.seq_state.specs.Representation.{Represents};
 
 use quality_lists::{agrees, merge};
+use seq_lookups::seq_state::{Frame, Object, SeqKernel, TcapFields};
 use seq_lookups::tcap_at;
-use seq_state::{Frame, Object, SeqKernel, TcapFields};
 use spk_nums::{FrameNo, Qualities, Value};
 
 /// A frame with another temporal capability in place of its own; a frame without one stays.

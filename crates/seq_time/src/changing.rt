@@ -5,8 +5,8 @@ ghost use Rattle.spk_nums.specs.declared.calls.Call.TheVariants.{Gate, Kill, Cal
 ghost use Rattle.spk_nums.specs.declared.calls.Call.TheVariants.{Replenish};
 ghost use Rattle.spk_nums.specs.declared.replies.Value.TheVariants.{Nothing};
 ghost use Rattle.spk_nums.specs.declared.replies.Reply.TheVariants.{Ok as ok};
-ghost use Rattle.seq_state.specs.kernel_rules.specs.CallRelation.{rule_of};
-ghost use Rattle.seq_state.specs.Maps.{state_of};
+ghost use Rattle.seq_lookups.specs.seq_state.specs.kernel_rules.specs.CallRelation.{rule_of};
+ghost use Rattle.seq_lookups.specs.seq_state.specs.Maps.{state_of};
 ghost use Rattle.seq_lookups.specs.Carried.{IsCarriedOut};
 ghost use Rattle.seq_plans.specs.declared.walking.Looked.{Looked};
 ghost use Rattle.seq_plans.specs.Walks.{left_of};
@@ -18,9 +18,9 @@ use crate::invocation::{end_life, gate_to, pop, set_stack};
 use crate::switching::go_on;
 use crate::ticks::{give_back, tick};
 use preempt_test::preempts;
+use seq_lookups::seq_state::{Liveness, SeqKernel};
 use seq_lookups::{comp_at, fill, tcap_at, thread_at, thread_of};
 use seq_plans::Looked;
-use seq_state::{Liveness, SeqKernel};
 use spk_nums::{Call, CoreNo, Value};
 
 /// `gate`: the place holds a gate to the component, in the component's epoch.

@@ -2,15 +2,15 @@
 
 ghost use Rattle.std.specs.Prelude.{◌≡◌, ◌<◌, ◌≤◌, ◌∷◌, []};
 ghost use Rattle.spk_nums.specs.Capability.{cap_of};
-ghost use Rattle.seq_state.specs.kernel_rules.specs.State.{comp_in, FrameOf, NumberOf, Dead, with_number};
-ghost use Rattle.seq_state.specs.kernel_rules.specs.GracePeriods.{begun};
-ghost use Rattle.seq_state.specs.kernel_rules.specs.Edits.{with_thread, with_stack};
-ghost use Rattle.seq_state.specs.Parts.{frame_of, number_of, thread_fields_of, thing_of};
-ghost use Rattle.seq_state.specs.Maps.{state_of};
-ghost use Rattle.seq_state.specs.Representation.{HasIndex, Represents};
+ghost use Rattle.seq_lookups.specs.seq_state.specs.kernel_rules.specs.State.{comp_in, FrameOf, NumberOf, Dead, with_number};
+ghost use Rattle.seq_lookups.specs.seq_state.specs.kernel_rules.specs.GracePeriods.{begun};
+ghost use Rattle.seq_lookups.specs.seq_state.specs.kernel_rules.specs.Edits.{with_thread, with_stack};
+ghost use Rattle.seq_lookups.specs.seq_state.specs.Parts.{frame_of, number_of, thread_fields_of, thing_of};
+ghost use Rattle.seq_lookups.specs.seq_state.specs.Maps.{state_of};
+ghost use Rattle.seq_lookups.specs.seq_state.specs.Representation.{HasIndex, Represents};
 
+use seq_lookups::seq_state::{Frame, Liveness, Object, SeqKernel, Stack, Thing, ThreadFields};
 use seq_lookups::{begin, comp_at, thread_at};
-use seq_state::{Frame, Liveness, Object, SeqKernel, Stack, Thing, ThreadFields};
 use spk_nums::{Cap, CoreNo, FrameNo, Kind};
 
 /// A frame with another thread in place of its own; a frame without one stays.

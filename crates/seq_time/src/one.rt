@@ -1,8 +1,8 @@
 //! One call of invocation or of time.
 
 ghost use Rattle.std.specs.Prelude.{◌<◌, IsOk, IfOk};
-ghost use Rattle.seq_state.specs.kernel_rules.specs.CallRelation.{change_of};
-ghost use Rattle.seq_state.specs.Maps.{state_of};
+ghost use Rattle.seq_lookups.specs.seq_state.specs.kernel_rules.specs.CallRelation.{change_of};
+ghost use Rattle.seq_lookups.specs.seq_state.specs.Maps.{state_of};
 ghost use Rattle.seq_lookups.specs.Carried.{IsCarriedOut};
 ghost use Rattle.seq_lookups.specs.Ranges.{IsInRange};
 ghost use Rattle.seq_time.specs.Own.{IsTimeCall};
@@ -10,8 +10,8 @@ ghost use Rattle.seq_time.specs.Own.{IsTimeCall};
 use crate::changing::carry_out;
 use crate::own_causes::causes;
 use call_plans::plan_of;
+use seq_lookups::seq_state::SeqKernel;
 use seq_plans::{first_cause, resolve};
-use seq_state::SeqKernel;
 use spk_nums::{Call, CoreNo, Memory, Reply};
 use std::alloc::Global;
 

@@ -1,17 +1,17 @@
 //! Going on as another thread, with another temporal capability.
 
 ghost use Rattle.std.specs.Prelude.{◌≡◌, ◌<◌, None, [], ◌∷◌};
-ghost use Rattle.seq_state.specs.kernel_rules.specs.State.{thread_in};
-ghost use Rattle.seq_state.specs.kernel_rules.specs.Edits.{Switch};
-ghost use Rattle.seq_state.specs.kernel_rules.specs.Rules.{Found, does};
+ghost use Rattle.seq_lookups.specs.seq_state.specs.kernel_rules.specs.State.{thread_in};
+ghost use Rattle.seq_lookups.specs.seq_state.specs.kernel_rules.specs.Edits.{Switch};
+ghost use Rattle.seq_lookups.specs.seq_state.specs.kernel_rules.specs.Rules.{Found, does};
 ghost use Rattle.spk_nums.specs.declared.replies.Value.TheVariants.{Nothing};
-ghost use Rattle.seq_state.specs.kernel_rules.specs.CallRelation.{changed};
-ghost use Rattle.seq_state.specs.Maps.{state_of};
-ghost use Rattle.seq_state.specs.Representation.{Represents};
+ghost use Rattle.seq_lookups.specs.seq_state.specs.kernel_rules.specs.CallRelation.{changed};
+ghost use Rattle.seq_lookups.specs.seq_state.specs.Maps.{state_of};
+ghost use Rattle.seq_lookups.specs.seq_state.specs.Representation.{Represents};
 
 use crate::invocation::with_thread;
+use seq_lookups::seq_state::{Core, Frame, SeqKernel, Thing, ThreadFields};
 use seq_lookups::{begin, thread_at};
-use seq_state::{Core, Frame, SeqKernel, Thing, ThreadFields};
 use spk_nums::{CoreNo, FrameNo};
 
 /// The frame of a thread that runs on a core, or is idle; a frame without a thread stays.
@@ -58,6 +58,6 @@ pub(crate) fn go_on(k: &mut SeqKernel, core: CoreNo, h: FrameNo, q: FrameNo)
     );
 }
 
-ghost use Rattle.seq_state.specs.kernel_rules.specs.GracePeriods.{begun};
-ghost use Rattle.seq_state.specs.Parts.{frame_of};
+ghost use Rattle.seq_lookups.specs.seq_state.specs.kernel_rules.specs.GracePeriods.{begun};
+ghost use Rattle.seq_lookups.specs.seq_state.specs.Parts.{frame_of};
 ghost use Rattle.seq_time.specs.Left.{run_by, left_by};

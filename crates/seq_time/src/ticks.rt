@@ -1,18 +1,18 @@
 //! Charging ticks, and giving them back.
 
 ghost use Rattle.std.specs.Prelude.{◌≡◌, ◌<◌, ◌≤◌, ◌+◌, ◌^◌};
-ghost use Rattle.seq_state.specs.kernel_rules.specs.Rules.{outcome};
-ghost use Rattle.seq_state.specs.kernel_rules.specs.TimeCalls.{tick_rule};
-ghost use Rattle.seq_state.specs.kernel_rules.specs.Edits.{charge, with_budget, tcap_at, charging, given_back};
-ghost use Rattle.seq_state.specs.kernel_rules.specs.State.{outstanding};
-ghost use Rattle.seq_state.specs.Maps.{state_of};
-ghost use Rattle.seq_state.specs.Representation.{Represents};
+ghost use Rattle.seq_lookups.specs.seq_state.specs.kernel_rules.specs.Rules.{outcome};
+ghost use Rattle.seq_lookups.specs.seq_state.specs.kernel_rules.specs.TimeCalls.{tick_rule};
+ghost use Rattle.seq_lookups.specs.seq_state.specs.kernel_rules.specs.Edits.{charge, with_budget, tcap_at, charging, given_back};
+ghost use Rattle.seq_lookups.specs.seq_state.specs.kernel_rules.specs.State.{outstanding};
+ghost use Rattle.seq_lookups.specs.seq_state.specs.Maps.{state_of};
+ghost use Rattle.seq_lookups.specs.seq_state.specs.Representation.{Represents};
 ghost use Rattle.seq_lookups.specs.Carried.{IsCarriedOut};
 ghost use Rattle.seq_lookups.specs.Ranges.{TicksFit};
 
 use crate::budgets::with_tcap;
+use seq_lookups::seq_state::{Core, SeqKernel, TcapFields};
 use seq_lookups::tcap_at;
-use seq_state::{Core, SeqKernel, TcapFields};
 use spk_nums::{CoreNo, FrameNo, Value};
 
 /// Gives a temporal capability another budget.

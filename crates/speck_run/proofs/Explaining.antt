@@ -8,7 +8,7 @@ use Rattle.explain_run.specs.fault_texts.specs.Told.{rest_text, fault_text}
 use Rattle.explain_run.specs.Explained.{IsAccepted, IsTold, IsToldOf, IsExplained}
 use Rattle.speck_run.specs.{declared.words.Command.TheVariants.Explain, Script.MadeBy, Script.AreInput, Top.script_line, Explains.named}
 use Rattle.speck_run.specs.{Explains.BeginsWith, Explains.IsOfFault, Explains.TellsVerdict, Explains.TellsTaken, Explains.GoesByCommand}
-use Rattle.{script_reader.specs.Readings.script_of, ends_reader.specs.Inputs.input_of}
+use Rattle.{script_reader.specs.Readings.script_of, explain_run.specs.ends_reader.specs.Inputs.input_of}
 use Rattle.{one_core.specs.sched_reader.specs.Inputs.input_of as sched_input_of}
 use Rattle.{explain_run.specs.history_options.specs.marked_history.specs.declared.marks.Why.Why}
 use Rattle.{explain_run.specs.check_run.specs.Texts.verdict_text}

@@ -5,7 +5,7 @@ use Rattle.explain_run.specs.check_run.specs.history_reader.specs.{History, hist
 use Rattle.one_core.specs.sched_reader.specs.{Input as Sched_input, input_of as sched_input_of}
 use Rattle.script_reader.specs.{Meaning, script_of}
 use Rattle.script_reader.specs.line_reader.specs.{declared.cause.Cause.Cause, Lines.First_fault}
-use Rattle.ends_reader.specs.Inputs.{Input, input_of}
+use Rattle.explain_run.specs.ends_reader.specs.Inputs.{Input, input_of}
 use Rattle.speck_run.specs.declared.words.Command.TheVariants.{Replay, Trace, Draw, Run, Plain, Print, Ends, Sched, Check, Origins, Worlds}
 use Rattle.{trace_run.specs.lone_kernel.specs.kernel_history.specs.Text.plain_text, ends_run.specs.core_runs.specs.TakenSteps.TakenSteps}
 use Rattle.{trace_run.specs.lone_kernel.specs.GivenSteps.GivenSteps, trace_run.specs.GivenTrace.GivenTrace}

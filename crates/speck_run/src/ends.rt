@@ -7,10 +7,10 @@ ghost use Rattle.speck_run.specs.Written.{core_lines};
 
 use crate::text::write_decisions;
 use async_ends::EndDone;
-use ends_reader::EndsInput;
 use ends_run::core_runs::Gate;
 use ends_run::run_ends;
 use ends_text::{push_done_lines, push_end_lines};
+use explain_run::ends_reader::EndsInput;
 use spk_nums::{CoreNo, Memory};
 use std::alloc::{AllocError, Global};
 use std::thread::Threads;

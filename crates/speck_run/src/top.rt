@@ -10,7 +10,7 @@ ghost use Rattle.trace_run.specs.GivenTrace.{GivenTrace};
 ghost use Rattle.draw_run.specs.GivenDrawing.{GivenDrawing};
 ghost use Rattle.script_reader.specs.Readings.{script_of};
 ghost use Rattle.script_printer.specs.Printing.{printed};
-ghost use Rattle.ends_reader.specs.Inputs.{input_of};
+ghost use Rattle.explain_run.specs.ends_reader.specs.Inputs.{input_of};
 ghost use Rattle.one_core.specs.sched_reader.specs.Inputs.{input_of as sched_input_of};
 ghost use Rattle.one_core.specs.Scheduled.{SchedTrace};
 ghost use Rattle.explain_run.specs.check_run.specs.history_reader.specs.Inputs.{history_of};

@@ -1,7 +1,7 @@
 -- The name of a word by its place.
 use Rattle.kernel_history.proofs.{◌≡◌, ℕ, ◌+◌, ◌*◌, ◌/◌, ◌<◌, ◌≤◌, ◌∙◌, sym, ap, arith, Word, Shape, IsShape, IsIn, place_of, has_places}
 use Rattle.step_views.specs.{declared.names.WordName.WordName, Names.named, Names.IsNamed}
-use Rattle.{std.proofs.Math.Nat.mul-le-mul_left, word_map.specs.Places.core_words}
+use Rattle.{std.proofs.Math.Nat.mul-le-mul_left, kernel_history.specs.word_map.specs.Places.core_words}
 
 -- the word of a place is the one that has this name
 pub only_named : (s : Shape) (name : WordName) (place : ℕ) (w : Word) → IsShape s → IsNamed s name place → IsIn s w

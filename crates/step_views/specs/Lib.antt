@@ -1,7 +1,7 @@
 -- What the crates above name through this one.
 pub use Rattle.kernel_history.specs.kernel_rules
 pub use Rattle.kernel_history
-pub use Rattle.word_map
+pub use Rattle.kernel_history.specs.word_map
 -- Its own.
 pub mod Names
 pub mod Views

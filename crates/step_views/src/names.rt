@@ -4,12 +4,12 @@
 //! liveness words and the clock. So a place is cut off from the front, part by part.
 
 ghost use Rattle.std.specs.Prelude.{◌≡◌, ◌<◌, ◌+◌, ◌*◌};
-ghost use Rattle.word_map.specs.Word.{Word, CountAt, CoreAt, FlushAt};
-ghost use Rattle.word_map.specs.Places.{IsIn, place_of, size_of, core_words, core_begins};
+ghost use Rattle.kernel_history.specs.word_map.specs.Word.{Word, CountAt, CoreAt, FlushAt};
+ghost use Rattle.kernel_history.specs.word_map.specs.Places.{IsIn, place_of, size_of, core_words, core_begins};
 ghost use Rattle.step_views.specs.Names.{named, IsNamed};
 
+use kernel_history::word_map::Layout;
 use spk_nums::{CoreNo, EntryNo, FrameNo};
-use word_map::Layout;
 
 /// A word of the shared table, by its name.
 #[derive(Clone, Copy, PartialEq, Eq, Debug)]

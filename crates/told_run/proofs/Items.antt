@@ -1,7 +1,7 @@
 -- Moves that are told, one after another, by an order and then to the ends of the lists.
 use Rattle.lone_kernel.specs.flight.proofs.{◌≡◌, inl, inr, ℕ, suc, ◌+◌, ◌++◌, List, [], ◌∷◌, arith, refl, sym, ◌∙◌, ap, subst, Bool}
 use Rattle.lone_kernel.specs.flight.proofs.{append_assoc, Call, Item, Trace, IsIdle, ready_after, Setting}
-use Rattle.step_views.specs.kernel_history.specs.{Return, FollowsItem, FollowsItems, RunsOut, FollowsCores}
+use Rattle.lone_kernel.specs.step_views.specs.kernel_history.specs.{Return, FollowsItem, FollowsItems, RunsOut, FollowsCores}
 use Rattle.told_run.specs.{GoesByItems, RunsCoresOut}
 use Rattle.std.proofs.lemmas.List.Elements.{All-nil, All-append}
 use Rattle.lone_kernel.specs.{declared.lone.Moved.Moved, declared.lone.Moved.TheVariants.Idle, declared.lone.Moved.TheVariants.Went}

@@ -1,11 +1,12 @@
 -- Steps of one core that are told, one after another, until it is there.
 use Rattle.lone_kernel.specs.flight.proofs.{◌≡◌, ℕ, ◌<◌, [], ◌∷◌, ◌++◌, refl, sym, ◌∙◌, ap, subst, Setting, IsSetting, Step, Trace}
 use Rattle.lone_kernel.specs.{IsFinished, IsInCall, IsThere, IsDone, StandsFor}
-use Rattle.step_views.specs.kernel_history.specs.{How, AreOf, Stretch}
+use Rattle.lone_kernel.specs.step_views.specs.kernel_history.specs.{How, AreOf, Stretch}
 use Rattle.lone_kernel.proofs.Runs.{NotYet, none_yet, StaysOpen, events_are, longer, ends_item, busy_if, done_stretch}
 use Rattle.told_run.specs.Watching.{IsNext, Watching, GoesOnBy, IsOneStep, IsStretch}
 use Rattle.{lone_kernel.specs.flight.proofs.ready_after, lone_kernel.specs.flight.proofs.IsMade, std.proofs.lemmas.List.Elements.All-cons}
-use Rattle.{std.proofs.lemmas.List.Elements.All-nil, step_views.specs.declared.views.StepMade.StepMade, lone_kernel.specs.Machine.Machine}
+use Rattle.{std.proofs.lemmas.List.Elements.All-nil, lone_kernel.specs.step_views.specs.declared.views.StepMade.StepMade}
+use Rattle.{lone_kernel.specs.Machine.Machine}
 use Rattle.{lone_kernel.specs.Shown.TellsStep}
 
 -- A watcher that has seen a trace has seen the next step too, where it was told it.

@@ -1,11 +1,12 @@
 -- How moves that are told extend each trace for which a machine stood, and what a watcher has seen of it.
 use Rattle.std.specs.Prelude.{◌≡◌, ◌∷◌, ◌++◌}
-use Rattle.step_views.specs.kernel_history.specs.{ℕ, List, Setting, IsSetting, How, Item, Step, AreOf, IsIdle, Stretch}
-use Rattle.step_views.specs.kernel_history.specs.{FollowsItem, FollowsItems, RunsOut, FollowsCores, shape_of}
+use Rattle.lone_kernel.specs.step_views.specs.kernel_history.specs.{ℕ, List, Setting, IsSetting, How, Item, Step, AreOf, IsIdle, Stretch}
+use Rattle.lone_kernel.specs.step_views.specs.kernel_history.specs.{FollowsItem, FollowsItems, RunsOut, FollowsCores, shape_of}
 use Rattle.lone_kernel.specs.{declared.lone.Moved.Moved, declared.lone.Moved.TheVariants.Idle, declared.lone.Moved.TheVariants.Went}
 use Rattle.{lone_kernel.specs.flight.specs.ready_after, lone_kernel.specs.flight.specs.IsMade}
-use Rattle.{step_views.specs.kernel_history.specs.Trace.Trace, lone_kernel.specs.Machine.Machine, lone_kernel.specs.Stands.StandsFor}
-use Rattle.{step_views.specs.declared.views.StepMade.StepMade, step_views.specs.Views.IsTold}
+use Rattle.{lone_kernel.specs.step_views.specs.kernel_history.specs.Trace.Trace, lone_kernel.specs.Machine.Machine}
+use Rattle.{lone_kernel.specs.Stands.StandsFor}
+use Rattle.{lone_kernel.specs.step_views.specs.declared.views.StepMade.StepMade, lone_kernel.specs.step_views.specs.Views.IsTold}
 
 -- The step that is told comes after the trace, and all of it is the machine's.
 pub record IsNext (setup : Setting) (t : Trace) (made : StepMade) (e : Step) : Type 0 where

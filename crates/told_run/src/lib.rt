@@ -14,5 +14,5 @@ mod watcher;
 
 pub use given::watch;
 pub use lone_kernel;
-pub use step_views::StepMade;
+pub use lone_kernel::step_views::StepMade;
 pub use watcher::Watcher;

@@ -5,8 +5,8 @@ ghost use Rattle.spk_nums.specs.Setting.{Setting};
 ghost use Rattle.lone_kernel.specs.kernel_history.specs.Trace.{Step, Trace};
 ghost use Rattle.told_run.specs.Watching.{IsNext};
 
+use lone_kernel::step_views::StepMade;
 use std::alloc::AllocError;
-use step_views::StepMade;
 
 /// What is told each step of a machine, in the order of its trace.
 pub trait Watcher {

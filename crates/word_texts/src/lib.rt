@@ -13,4 +13,5 @@ mod slots;
 mod values;
 
 pub use names::push_name;
+pub use step_views;
 pub use values::push_value;

@@ -3,7 +3,7 @@ use Rattle.std.specs.Prelude.{◌+◌, ◌==◌, ◌&&◌, ◌||◌, if◌then�
 use Rattle.table_lines.specs.kernel_history.specs.{ℕ, zero, suc, Bool, true, false, not, ltb as nat_lt}
 use Rattle.table_lines.specs.kernel_history.specs.{List, [], Option, Some, None, codes, flat_map, Capability}
 use Rattle.table_lines.specs.kernel_history.specs.{Kind, number, lines_below}
-use Rattle.{std.specs.List.list_any, seal_check.specs.Holding.holds, world_parts.specs.Sight.Sight}
+use Rattle.{std.specs.List.list_any, world_parts.specs.seal_check.specs.Holding.holds, world_parts.specs.Sight.Sight}
 use Rattle.{world_lines.specs.declared.ranges.WorldRange.WorldRange}
 
 -- A range of a world comes before another of it: by first frame, then by count.

@@ -19,4 +19,5 @@ mod seen;
 pub use joining::parts_of;
 pub use machine_image;
 pub use parts::Parts;
+pub use seal_check;
 pub use seen::{held_at, is_untyped, works_in};

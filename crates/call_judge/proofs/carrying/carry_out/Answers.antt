@@ -1,4 +1,4 @@
-use Rattle.seq_state.proofs.{sym, refl, state_of, same_by}
+use Rattle.plain_kernel.specs.seq_state.proofs.{sym, refl, state_of, same_by}
 use Rattle.call_judge.proofs.CarriedOut.{other_result}
 use Rattle.call_judge.proofs.carrying.carry_out.Goals as goal
 

@@ -1,4 +1,4 @@
-use Rattle.seq_state.proofs.{Bool, sym, subst, Nothing, change_of, state_of}
+use Rattle.plain_kernel.specs.seq_state.proofs.{Bool, sym, subst, Nothing, change_of, state_of}
 use Rattle.{call_judge.specs.Judged.CarriesOut, call_judge.proofs.CarriedOut.plain_result}
 use Rattle.call_judge.proofs.carrying.carry_out_plain.Goals as goal
 

@@ -1,4 +1,4 @@
-use Rattle.seq_state.specs.{change_of, frame_of, core_of, state_of}
+use Rattle.plain_kernel.specs.seq_state.specs.{change_of, frame_of, core_of, state_of}
 use Rattle.call_judge.proofs.CarriedOut.{put_back_result, refused_result}
 use Rattle.call_judge.proofs.carrying.carry_out_with.Goals as goal
 

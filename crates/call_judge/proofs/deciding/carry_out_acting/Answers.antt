@@ -1,4 +1,4 @@
-use Rattle.seq_state.proofs.{◌∙◌, refl, false≢true, true≢false, state_of, same_by}
+use Rattle.plain_kernel.specs.seq_state.proofs.{◌∙◌, refl, false≢true, true≢false, state_of, same_by}
 use Rattle.call_judge.proofs.deciding.carry_out_acting.Goals as goal
 
 pub returns-then-not-acts-clause-exact : goal.returns-then-not-acts-clause-exact

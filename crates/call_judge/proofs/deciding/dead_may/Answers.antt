@@ -1,4 +1,4 @@
-use Rattle.seq_plans.proofs.Deciding.{decides_either}
+use Rattle.plain_kernel.specs.seq_plans.proofs.Deciding.{decides_either}
 use Rattle.call_judge.proofs.deciding.dead_may.Goals as goal
 
 pub returns : goal.returns

@@ -1,4 +1,4 @@
-use Rattle.seq_state.proofs.{Bool, sym, subst, state_of}
+use Rattle.plain_kernel.specs.seq_state.proofs.{Bool, sym, subst, state_of}
 use Rattle.call_judge.specs.Judged.{DecidesAs}
 use Rattle.call_judge.proofs.Reached.{here_plain, here_ranges, spent_judged, none_left, decided_judged, refused_judged}
 use Rattle.call_judge.proofs.deciding.decide_by.Goals as goal

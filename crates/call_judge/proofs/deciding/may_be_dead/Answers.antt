@@ -1,4 +1,4 @@
-use Rattle.{seq_state.specs.Maps.state_of, call_judge.proofs.Reached.dead_first}
+use Rattle.{plain_kernel.specs.seq_state.specs.Maps.state_of, call_judge.proofs.Reached.dead_first}
 use Rattle.call_judge.proofs.deciding.may_be_dead.Goals as goal
 
 pub returns : goal.returns

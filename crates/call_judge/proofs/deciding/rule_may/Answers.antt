@@ -1,4 +1,5 @@
-use Rattle.{seq_state.specs.Maps.state_of, seq_plans.specs.OwnCauses.causes_in, call_judge.proofs.JudgedRules.judged}
+use Rattle.{plain_kernel.specs.seq_state.specs.Maps.state_of, plain_kernel.specs.seq_plans.specs.OwnCauses.causes_in}
+use Rattle.{call_judge.proofs.JudgedRules.judged}
 use Rattle.call_judge.proofs.deciding.rule_may.Goals as goal
 
 pub returns : goal.returns

@@ -1,4 +1,4 @@
-use Rattle.history_reader.specs.Inputs.{history_of, history_view}
+use Rattle.history_options.specs.history_reader.specs.Inputs.{history_of, history_view}
 use Rattle.explain_run.proofs.Telling.{input_told, refusal_told}
 use Rattle.{line_forms.specs.declared.context.Reading.Reading, explain_run.specs.Explained.IsToldOf}
 use Rattle.explain_run.proofs.run.explain_history.Goals as goal

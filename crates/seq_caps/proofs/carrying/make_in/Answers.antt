@@ -1,4 +1,4 @@
-use Rattle.{seq_state.specs.Maps.state_of, seq_caps.proofs.Made.comp_made_of}
+use Rattle.{seq_lookups.specs.seq_state.specs.Maps.state_of, seq_caps.proofs.Made.comp_made_of}
 use Rattle.seq_caps.proofs.carrying.make_in.Goals as goal
 
 pub returns-in-Some-fourth : goal.returns-in-Some-fourth

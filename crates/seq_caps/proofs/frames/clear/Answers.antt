@@ -1,4 +1,4 @@
-use Rattle.seq_state.proofs.{◌≡◌, refl, subst, arith, no_grace, state_of, Represents}
+use Rattle.seq_lookups.specs.seq_state.proofs.{◌≡◌, refl, subst, arith, no_grace, state_of, Represents}
 use Rattle.seq_caps.proofs.Clearing.{cleared_to, begins, goes_on, ends}
 use Rattle.seq_caps.proofs.frames.clear.Goals as goal
 

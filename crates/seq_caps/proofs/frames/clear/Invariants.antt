@@ -1,4 +1,4 @@
-use Rattle.{seq_state.specs.state_of, seq_state.specs.Represents, seq_caps.proofs.Clearing.cleared_to}
+use Rattle.{seq_lookups.specs.seq_state.specs.state_of, seq_lookups.specs.seq_state.specs.Represents, seq_caps.proofs.Clearing.cleared_to}
 use Rattle.seq_caps.proofs.frames.clear.Given as goal
 
 abbrev pub invariant-each : goal.invariant-each

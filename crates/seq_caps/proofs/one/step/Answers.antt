@@ -1,5 +1,5 @@
 use Rattle.seq_plans.proofs.{look_refused, cause_refused, carried_out}
-use Rattle.{seq_state.specs.Maps.state_of, seq_plans.specs.OwnCauses.causes_in}
+use Rattle.{seq_lookups.specs.seq_state.specs.Maps.state_of, seq_plans.specs.OwnCauses.causes_in}
 use Rattle.seq_caps.proofs.one.step.Goals as goal
 
 pub returns-in-Err-clause-exact : goal.returns-in-Err-clause-exact

@@ -1,5 +1,5 @@
-use Rattle.seq_state.proofs.{◌≡◌, ◌<◌, ℕ, true, false, not, is_some, sym, ◌∙◌, ap, held_in, state_of}
-use Rattle.seq_state.specs.kernel_rules.specs.MemoryCalls.{holds_nothing}
+use Rattle.seq_lookups.specs.seq_state.proofs.{◌≡◌, ◌<◌, ℕ, true, false, not, is_some, sym, ◌∙◌, ap, held_in, state_of}
+use Rattle.seq_lookups.specs.seq_state.specs.kernel_rules.specs.MemoryCalls.{holds_nothing}
 use Rattle.seq_memory.proofs.Searching.{any_here, any_later, any_nowhere}
 use Rattle.seq_memory.proofs.frames.holds_nothing.Goals as goal
 

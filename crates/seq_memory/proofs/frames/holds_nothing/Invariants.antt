@@ -1,4 +1,4 @@
-use Rattle.seq_state.specs.{◌≡◌, ◌-◌, is_some, held_in, state_of}
+use Rattle.seq_lookups.specs.seq_state.specs.{◌≡◌, ◌-◌, is_some, held_in, state_of}
 use Rattle.std.specs.List.{list_any, range_with_len}
 use Rattle.seq_memory.proofs.frames.holds_nothing.Given as goal
 

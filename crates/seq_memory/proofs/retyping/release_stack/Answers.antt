@@ -1,4 +1,4 @@
-use Rattle.seq_state.proofs.{refl, sym, ◌∙◌, state_of, same_by}
+use Rattle.seq_lookups.specs.seq_state.proofs.{refl, sym, ◌∙◌, state_of, same_by}
 use Rattle.seq_memory.proofs.Stacks.{one_item, no_item}
 use Rattle.seq_memory.proofs.retyping.release_stack.Goals as goal
 

@@ -1,5 +1,5 @@
-use Rattle.seq_state.specs.kernel_rules.proofs.{◌≡◌, ◌+◌, ◌-◌, ◌∙◌, ap, arith, merged_list, with_tcap, tcap_at}
-use Rattle.{seq_state.specs.Maps.state_of, seq_time.proofs.Delegating.delegated, seq_time.proofs.Delegating.there}
+use Rattle.seq_lookups.specs.seq_state.specs.kernel_rules.proofs.{◌≡◌, ◌+◌, ◌-◌, ◌∙◌, ap, arith, merged_list, with_tcap, tcap_at}
+use Rattle.{seq_lookups.specs.seq_state.specs.Maps.state_of, seq_time.proofs.Delegating.delegated, seq_time.proofs.Delegating.there}
 use Rattle.seq_time.proofs.budgets.delegate_ticks.Goals as goal
 
 pub returns : goal.returns

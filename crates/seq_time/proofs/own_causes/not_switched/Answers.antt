@@ -1,4 +1,4 @@
-use Rattle.seq_state.proofs.{◌∙◌, sym, subst, List, [], ◌∷◌, thread_in, Cause, state_of}
+use Rattle.seq_lookups.specs.seq_state.proofs.{◌∙◌, sym, subst, List, [], ◌∷◌, thread_in, Cause, state_of}
 use Rattle.seq_plans.specs.{named_of, AreFitCauses}
 use Rattle.seq_time.proofs.Switched.{switch_causes, running_fit}
 use Rattle.seq_time.proofs.own_causes.not_switched.Goals as goal

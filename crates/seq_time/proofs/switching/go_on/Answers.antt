@@ -1,5 +1,5 @@
-use Rattle.seq_state.proofs.{◌≡◌, ◌∙◌, ap, state_of}
-use Rattle.{seq_state.specs.kernel_rules.specs.State.Core, seq_time.specs.Left.run_by, seq_time.proofs.GoingOn.gone_on}
+use Rattle.seq_lookups.specs.seq_state.proofs.{◌≡◌, ◌∙◌, ap, state_of}
+use Rattle.{seq_lookups.specs.seq_state.specs.kernel_rules.specs.State.Core, seq_time.specs.Left.run_by, seq_time.proofs.GoingOn.gone_on}
 use Rattle.seq_time.proofs.switching.go_on.Goals as goal
 
 pub returns : goal.returns
