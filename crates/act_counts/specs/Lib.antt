@@ -1,4 +1,5 @@
 -- What the crates above name through this one.
+pub use Rattle.act_states.specs.spk_nums
 pub use Rattle.act_states.specs.entry_words
 pub use Rattle.act_states.specs.frame_words
 pub use Rattle.act_states.specs.tcap_words

@@ -3,8 +3,8 @@
 //! **In place.** A step that decides writes the call's stage, with what is still to be stored, and tells of it. One after which a count is
 //! acquired writes where the act then stands and the acquiring. All others are told by `act_took`.
 
-ghost use Rattle.spk_nums.specs.declared.replies.Reply.TheVariants.{Ok};
-ghost use Rattle.spk_nums.specs.declared.replies.Value.TheVariants.{Nothing};
+ghost use Rattle.step_lands.specs.spk_nums.specs.declared.replies.Reply.TheVariants.{Ok};
+ghost use Rattle.step_lands.specs.spk_nums.specs.declared.replies.Value.TheVariants.{Nothing};
 ghost use Rattle.std.specs.Prelude.{None, ◌-◌, ◌<◌, ◌≡◌};
 ghost use Rattle.step_lands.specs.Standing.{IsActing, IsSharing, shared_to};
 ghost use Rattle.step_lands.specs.act_states.specs.Acts.{drawn_by};
@@ -19,9 +19,9 @@ ghost use Rattle.step_lands.specs.act_states.specs.declared.work.Tail.TheVariant
 
 use call_acts::act_counts::{charged_in, drawn_by};
 use call_acts::act_took;
-use spk_nums::{CoreNo, Reply, StageEnd, Value};
 use step_lands::act_states::{Act, Own, OwnChange, Refusal, Tail, Work};
 use step_lands::call_stages::{ActiveCall, Stage, Told};
+use step_lands::spk_nums::{CoreNo, Reply, StageEnd, Value};
 use step_lands::stage_quiet::{Close, FlushMark, drawn};
 use step_lands::stage_tcap::Pair;
 use step_lands::{decide, go_on, goes_on, land, refused, refused_late};

@@ -9,12 +9,12 @@ ghost use Rattle.step_lands.specs.call_stages.specs.Steps.{call_after, landed, t
 
 use crate::ends::act_lands;
 use call_acts::act_counts::frame_in;
-use spk_nums::{FrameNo, Reply, Stamp, Value};
 use step_lands::act_states::{
     Act, Invoking, InvokingAt, Own, OwnChange, Refusal, Returning, ReturningAt, Tail, Work,
 };
 use step_lands::call_stages::{ActiveCall, Stage, Told};
 use step_lands::frame_words::{CompWord, LiveWord};
+use step_lands::spk_nums::{FrameNo, Reply, Stamp, Value};
 use step_lands::stage_pins::Pin;
 use step_lands::stage_quiet::drawn;
 use step_lands::stage_thread::{Pop, Push};

@@ -9,10 +9,10 @@ ghost use Rattle.step_lands.specs.call_stages.specs.Steps.{call_after, landed, t
 
 use crate::ends::act_lands;
 use call_acts::act_counts::frame_in;
-use spk_nums::{FrameNo, Reply, Stamp, Value};
 use step_lands::act_states::{Act, Own, OwnChange, SwitchAt, Switching, Tail, Work};
 use step_lands::call_stages::{ActiveCall, Stage, Told};
 use step_lands::go_on;
+use step_lands::spk_nums::{FrameNo, Reply, Stamp, Value};
 use step_lands::stage_pins::Pin;
 use step_lands::stage_quiet::drawn;
 use step_lands::stage_thread::Claimed;

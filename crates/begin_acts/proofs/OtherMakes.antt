@@ -1,7 +1,7 @@
 -- A `make` of another object than a component begins a making.
 use Rattle.act_counts.specs.act_states.proofs.{◌≡◌, ℕ, List, Option, refl, Capability, Make, at_place, First, made_begun, makes_at}
 use Rattle.act_counts.specs.act_states.specs.{declared.own.Own.Own, Objects.object_made}
-use Rattle.{spk_nums.specs.declared.numbers.CapId.CapId, act_counts.specs.stage_look.specs.declared.look.Found.Found}
+use Rattle.{act_counts.specs.spk_nums.specs.declared.numbers.CapId.CapId, act_counts.specs.stage_look.specs.declared.look.Found.Found}
 
 pub makes_other : (own : Own) (what : Make) (found : List Capability) (frame : ℕ) (target : Option Found)
     → ((table : CapId) (pages : CapId) (live : ℕ) → what ≡ Make.Comp table pages live → ⊥)

@@ -11,7 +11,7 @@ ghost use Rattle.std.specs.Prelude.{[], ◌≡◌};
 use act_counts::act_states::{Met, Refusal};
 use act_counts::call_plans::{Caps, Name, Nth};
 use act_counts::entry_words::Entry;
-use spk_nums::{Cap, FrameNo};
+use act_counts::spk_nums::{Cap, FrameNo};
 
 /// The frame to which an earlier name has led, or frame 0.
 #[inline]

@@ -16,9 +16,9 @@ use act_counts::act_states::{
     Switching, Typing, TypingAt, Untyping, UntypingAt, Work, WorkStep,
 };
 use act_counts::refuse;
+use act_counts::spk_nums::{Cap, CoreNo, FrameArg, FrameKind, FrameNo, Kind};
 use act_counts::stage_tcap::{Charge, Pair, PairWork, Refill};
 use act_counts::stage_thread::Claim;
-use spk_nums::{Cap, CoreNo, FrameArg, FrameKind, FrameNo, Kind};
 
 /// A frame of this range is typed.
 #[inline]

@@ -19,10 +19,10 @@ use act_counts::act_states::{
 };
 use act_counts::call_plans::{Caps, Nth};
 use act_counts::entry_words::Entry;
+use act_counts::spk_nums::{Cap, CoreNo, FrameArg, FrameNo, Kind, Make, PageFlags};
 use act_counts::stage_look::Found;
 use act_counts::stage_quiet::{Close, Quiet};
 use act_counts::{next_work, refuse, stamp_in, starts};
-use spk_nums::{Cap, CoreNo, FrameArg, FrameNo, Kind, Make, PageFlags};
 
 /// The target, which is or is not a place of a page table, is filled with this capability.
 #[inline]

@@ -6,8 +6,8 @@ ghost use Rattle.std.specs.Prelude.{Some, length, slice_get, ◌&&◌, ◌<◌, 
 
 use act_counts::act_states::{Act, Own, Refusal, Touching, Work, WorkStep};
 use act_counts::refuse;
+use act_counts::spk_nums::{CapId, FrameNo, PageNo, Translation, Translations};
 use act_counts::stage_look::Look;
-use spk_nums::{CapId, FrameNo, PageNo, Translation, Translations};
 
 /// A page of a core's own pages is touched; one past 4,095 has no slot.
 #[inline(never)]

@@ -23,12 +23,12 @@ use make_acts::act_states::{
     Act, Invoking, InvokingAt, Making, MakingAt, Returning, ReturningAt, SwitchAt, Switching,
     Touching, Untyping, UntypingAt,
 };
+use make_acts::spk_nums::{Cap, StageEnd};
 use make_acts::stage_quiet::Close;
 use make_acts::stage_tcap::{Charge, Refill};
 use make_acts::stage_thread::Claim;
 use make_acts::stored;
 use make_acts::word_map::Layout;
-use spk_nums::{Cap, StageEnd};
 use thread_acts::below_in;
 
 /// Makes the step of an act that found this word, where the same act goes on after it, and says so; else the act stays as it was. What it

@@ -15,3 +15,4 @@ mod deciding;
 mod values;
 
 pub use deciding::decide_by;
+pub use plain_kernel;

@@ -1,6 +1,6 @@
 -- The next step of a core, where it is in a call.
 use Rattle.std.specs.Prelude.{ℕ, Option, Some, None}
-use Rattle.spk_nums.specs.declared.steps.WordOp.{WordOp}
+use Rattle.call_stages.specs.spk_nums.specs.declared.steps.WordOp.{WordOp}
 use Rattle.call_stages.specs.word_map.specs.Moves.{op_of}
 use Rattle.call_stages.specs.act_states.specs.declared.own.Own.{Own}
 use Rattle.call_stages.specs.View.{Core}

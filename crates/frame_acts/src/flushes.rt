@@ -9,14 +9,14 @@ ghost use Rattle.act_counts.specs.stage_quiet.specs.Flushing.{flush_move};
 ghost use Rattle.act_counts.specs.stage_quiet.specs.declared.flush_mark.FlushMark.TheVariants.{AtLoad};
 ghost use Rattle.act_counts.specs.word_map.specs.Moves.{op_of};
 ghost use Rattle.act_counts.specs.word_map.specs.Places.{size_of};
-ghost use Rattle.spk_nums.specs.WordSteps.{place_in};
+ghost use Rattle.act_counts.specs.spk_nums.specs.WordSteps.{place_in};
 ghost use Rattle.std.specs.Prelude.{◌<◌, ◌≡◌};
 
 use act_counts::act_states::{OwnChange, Refusal, Tail, WorkStep};
 use act_counts::refuse;
+use act_counts::spk_nums::{CoreNo, Reply, Value, WordOp};
 use act_counts::stage_quiet::FlushMark;
 use act_counts::word_map::Layout;
-use spk_nums::{CoreNo, Reply, Value, WordOp};
 
 /// The load of the clock. The core is below the layout's.
 #[inline]

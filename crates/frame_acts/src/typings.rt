@@ -8,14 +8,14 @@ ghost use Rattle.act_counts.specs.act_states.specs.Typings.{typing_move};
 ghost use Rattle.act_counts.specs.frame_words.specs.Frame.{word_of_frame};
 ghost use Rattle.act_counts.specs.word_map.specs.Moves.{op_of};
 ghost use Rattle.act_counts.specs.word_map.specs.Places.{size_of};
-ghost use Rattle.spk_nums.specs.WordSteps.{place_in};
+ghost use Rattle.act_counts.specs.spk_nums.specs.WordSteps.{place_in};
 ghost use Rattle.std.specs.Prelude.{◌<◌, ◌≡◌};
 
 use act_counts::act_states::{Act, Refusal, Tail, Typing, TypingAt, Work, WorkStep};
 use act_counts::frame_words::FrameWord;
 use act_counts::refuse;
+use act_counts::spk_nums::{FrameKind, Obj, Value, WordOp};
 use act_counts::word_map::Layout;
-use spk_nums::{FrameKind, Obj, Value, WordOp};
 
 /// The next step of a typing. The frame is below the layout's.
 #[inline]

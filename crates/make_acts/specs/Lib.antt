@@ -1,4 +1,5 @@
 -- What the crates above name through this one.
+pub use Rattle.act_counts.specs.spk_nums
 pub use Rattle.act_counts.specs.entry_words
 pub use Rattle.act_counts.specs.frame_words
 pub use Rattle.act_counts.specs.tcap_words

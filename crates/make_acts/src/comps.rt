@@ -22,7 +22,7 @@ ghost use Rattle.act_counts.specs.frame_words.specs.Live.{word_of_live};
 ghost use Rattle.act_counts.specs.frame_words.specs.declared.live_word.LiveWord.TheVariants.{Live};
 ghost use Rattle.act_counts.specs.word_map.specs.Moves.{op_of};
 ghost use Rattle.act_counts.specs.word_map.specs.Places.{size_of};
-ghost use Rattle.spk_nums.specs.WordSteps.{place_in};
+ghost use Rattle.act_counts.specs.spk_nums.specs.WordSteps.{place_in};
 ghost use Rattle.std.specs.Prelude.{◌+◌, ◌<◌, ◌^◌, ◌≡◌, ◌≤◌};
 
 use crate::fills::fill_op;
@@ -30,10 +30,10 @@ use crate::kills::closing_word;
 use crate::makings::marked_word;
 use act_counts::act_states::{Act, CompAt, CompMaking, LastEpoch, Refusal, Work, WorkStep};
 use act_counts::frame_words::{CompWord, FrameWord, LiveWord};
+use act_counts::spk_nums::{EntryNo, FrameKind, FrameNo, Obj, StageEnd, Value, WordOp};
 use act_counts::stage_quiet::Quiet;
 use act_counts::word_map::Layout;
 use act_counts::{gives_back, next_work, refuse, unmark};
-use spk_nums::{EntryNo, FrameKind, FrameNo, Obj, StageEnd, Value, WordOp};
 
 /// The next step of the making of a component. What it names is of the layout's machine.
 #[inline]

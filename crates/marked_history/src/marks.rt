@@ -1,6 +1,6 @@
 //! Marks, lines that say them, and what is found of lines.
 
-use spk_nums::{Call, CoreNo, Reply};
+use kernel_rules::spk_nums::{Call, CoreNo, Reply};
 
 /// A mark of a call.
 #[derive(Clone, Copy, PartialEq, Eq, Debug)]

@@ -14,3 +14,4 @@ mod run;
 
 pub use machine::OneCore;
 pub use run::run_sched;
+pub use sched_run;

@@ -1,5 +1,5 @@
 -- What the crates above name through this one.
-pub use Rattle.spk_nums
+pub use Rattle.kernel_rules.specs.spk_nums
 pub use Rattle.kernel_rules
 -- Its own.
 pub mod Schedule

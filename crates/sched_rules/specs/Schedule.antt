@@ -9,7 +9,7 @@ use Rattle.sched_rules.specs.{declared.tasks.Task.Task, declared.tasks.Rule.Rule
 use Rattle.sched_rules.specs.{declared.tasks.Choice.Choice, declared.tasks.Renewal.Renewal, declared.turns.Turn.Turn}
 use Rattle.sched_rules.specs.{declared.turns.Turn.TheVariants.Ran, declared.turns.Turn.TheVariants.Idle}
 use Rattle.sched_rules.specs.{declared.turns.Turn.TheVariants.Back, declared.turns.Turn.TheVariants.Refused}
-use Rattle.{spk_nums.specs.declared.replies.Reply.TheVariants.Ok as ok_reply, kernel_rules.specs.State.State}
+use Rattle.{kernel_rules.specs.spk_nums.specs.declared.replies.Reply.TheVariants.Ok as ok_reply, kernel_rules.specs.State.State}
 
 -- Where a schedule has come to: the time, the kernel's state, the tasks in the order listed, and the place in that list of the task that
 -- ran last.

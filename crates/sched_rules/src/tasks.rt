@@ -1,6 +1,6 @@
 //! Tasks, and what a scheduler knows of them.
 
-use spk_nums::{CapId, FrameNo};
+use kernel_rules::spk_nums::{CapId, FrameNo};
 
 /// A task: the thread and the temporal capability that it names, in the table of the component that the core works in, and its arrival
 /// and work in ticks: an arrival of 0 to 1,000,000, a work of 1 to 10,000. One with a period, of 1 to 1,000,000 ticks, has a further job

@@ -3,7 +3,7 @@
 ghost use Rattle.std.specs.Prelude.{Some};
 ghost use Rattle.sched_rules.specs.Texts.{turn_text};
 
-use spk_nums::Reply;
+use kernel_rules::spk_nums::Reply;
 use std::fmt;
 
 /// A turn of a schedule. Tasks count from 1; times are ticks since the schedule began.

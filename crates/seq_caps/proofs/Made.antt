@@ -5,7 +5,7 @@ use Rattle.{seq_lookups.specs.seq_state.proofs.rule_of, seq_lookups.specs.seq_st
 use Rattle.{seq_lookups.specs.seq_state.proofs.Kind, seq_lookups.specs.seq_state.specs.kernel_rules.specs.CompFields}
 use Rattle.{seq_lookups.specs.seq_state.specs.kernel_rules.specs.with_number, seq_lookups.specs.seq_state.specs.kernel_rules.specs.Make}
 use Rattle.{seq_plans.specs.left_of}
-use Rattle.{seq_plans.specs.change_in, spk_nums.specs.declared.replies.Reply.TheVariants.Ok as ok}
+use Rattle.{seq_plans.specs.change_in, seq_lookups.specs.spk_nums.specs.declared.replies.Reply.TheVariants.Ok as ok}
 use Rattle.{seq_lookups.specs.seq_state.specs.Maps.Maps}
 use Rattle.{seq_lookups.specs.Carried.IsCarriedOut, seq_plans.specs.declared.walking.Looked.Looked, seq_caps.specs.Holding.holding}
 

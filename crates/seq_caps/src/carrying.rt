@@ -1,11 +1,11 @@
 //! The changes of the calls on capabilities, given what was looked up.
 
 ghost use Rattle.std.specs.Prelude.{◌≡◌, ◌<◌, ◌≤◌, ◌+◌, ◌^◌, IsSome, [], ◌∷◌, None};
-ghost use Rattle.spk_nums.specs.Limits.{least_arg, end_of_arg};
-ghost use Rattle.spk_nums.specs.CallLimits.{InLimits, MakeInLimits};
-ghost use Rattle.spk_nums.specs.declared.kinds.Kind.TheVariants as kinds;
-ghost use Rattle.spk_nums.specs.declared.calls.Call.TheVariants.{Make as make_call};
-ghost use Rattle.spk_nums.specs.declared.replies.Reply.TheVariants.{Ok as ok};
+ghost use Rattle.seq_lookups.specs.spk_nums.specs.Limits.{least_arg, end_of_arg};
+ghost use Rattle.seq_lookups.specs.spk_nums.specs.CallLimits.{InLimits, MakeInLimits};
+ghost use Rattle.seq_lookups.specs.spk_nums.specs.declared.kinds.Kind.TheVariants as kinds;
+ghost use Rattle.seq_lookups.specs.spk_nums.specs.declared.calls.Call.TheVariants.{Make as make_call};
+ghost use Rattle.seq_lookups.specs.spk_nums.specs.declared.replies.Reply.TheVariants.{Ok as ok};
 ghost use Rattle.seq_lookups.specs.seq_state.specs.kernel_rules.specs.State.{Comp, Live, with_number};
 ghost use Rattle.seq_lookups.specs.seq_state.specs.kernel_rules.specs.CapabilityCalls.{epoch_of};
 ghost use Rattle.seq_lookups.specs.seq_state.specs.kernel_rules.specs.Edits.{cleared};
@@ -24,9 +24,11 @@ use crate::frames::{clear, epoch_of, plain_cap, put};
 use seq_lookups::seq_state::{
     CompFields, Liveness, Object, SeqKernel, Stack, TcapFields, ThreadFields,
 };
+use seq_lookups::spk_nums::{
+    Call, Cap, CoreNo, FrameArg, FrameNo, Kind, Make, Qualities, Rights, Value,
+};
 use seq_lookups::{Slot, fill, remove};
 use seq_plans::Looked;
-use spk_nums::{Call, Cap, CoreNo, FrameArg, FrameNo, Kind, Make, Qualities, Rights, Value};
 
 /// The frame holds the object, and the place its capability.
 fn hold(k: &mut SeqKernel, frame: FrameNo, object: Object, kind: Kind, at: Slot)
@@ -258,7 +260,7 @@ pub fn carry_out(k: &mut SeqKernel, core: CoreNo, call: &Call, looked: &Looked) 
 }
 
 ghost use Rattle.std.specs.Prelude.{ℕ, Some};
-ghost use Rattle.spk_nums.specs.Capability.{Capability};
-ghost use Rattle.spk_nums.specs.declared.calls.Call.TheVariants.{Copy, Grow, Part};
-ghost use Rattle.spk_nums.specs.declared.replies.Value.TheVariants.{Nothing, Cap as cap_value};
+ghost use Rattle.seq_lookups.specs.spk_nums.specs.Capability.{Capability};
+ghost use Rattle.seq_lookups.specs.spk_nums.specs.declared.calls.Call.TheVariants.{Copy, Grow, Part};
+ghost use Rattle.seq_lookups.specs.spk_nums.specs.declared.replies.Value.TheVariants.{Nothing, Cap as cap_value};
 ghost use Rattle.seq_lookups.specs.seq_state.specs.kernel_rules.specs.Access.{Slot as slot};

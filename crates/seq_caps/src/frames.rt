@@ -1,7 +1,7 @@
 //! The blank frame and the liveness number that a `make` takes, and what becomes of them.
 
 ghost use Rattle.std.specs.Prelude.{◌≡◌, ◌<◌};
-ghost use Rattle.spk_nums.specs.Limits.{least_arg, end_of_arg};
+ghost use Rattle.seq_lookups.specs.spk_nums.specs.Limits.{least_arg, end_of_arg};
 ghost use Rattle.seq_lookups.specs.seq_state.specs.kernel_rules.specs.CapabilityCalls.{epoch_of, is_blank, is_live};
 ghost use Rattle.seq_lookups.specs.seq_state.specs.kernel_rules.specs.Edits.{cleared};
 ghost use Rattle.seq_lookups.specs.seq_state.specs.Parts.{object_of, frame_of, number_of};
@@ -11,7 +11,7 @@ ghost use Rattle.seq_caps.specs.Holding.{holding};
 
 use seq_lookups::Slot;
 use seq_lookups::seq_state::{Frame, Liveness, Object, Place, SeqKernel, Thing};
-use spk_nums::{Cap, EntryNo, FrameNo, Kind};
+use seq_lookups::spk_nums::{Cap, EntryNo, FrameNo, Kind};
 
 /// Whether a frame is a blank kernel frame.
 pub(crate) fn is_blank(frame: Frame) -> bool

@@ -1,7 +1,7 @@
 //! One call on capabilities.
 
 ghost use Rattle.std.specs.Prelude.{◌<◌, IsOk, IfOk};
-ghost use Rattle.spk_nums.specs.CallLimits.{InLimits};
+ghost use Rattle.seq_lookups.specs.spk_nums.specs.CallLimits.{InLimits};
 ghost use Rattle.seq_lookups.specs.seq_state.specs.kernel_rules.specs.CallRelation.{change_of};
 ghost use Rattle.seq_lookups.specs.seq_state.specs.Maps.{state_of};
 ghost use Rattle.seq_lookups.specs.Carried.{IsCarriedOut};
@@ -12,8 +12,8 @@ use crate::carrying::carry_out;
 use crate::own_causes::causes;
 use call_plans::plan_of;
 use seq_lookups::seq_state::SeqKernel;
+use seq_lookups::spk_nums::{Call, CoreNo, Memory, Reply};
 use seq_plans::{first_cause, resolve};
-use spk_nums::{Call, CoreNo, Memory, Reply};
 use std::alloc::Global;
 
 /// Carries out a call on capabilities of a core of the machine, its numbers within their limits: answers the reply, the first

@@ -9,8 +9,8 @@ ghost use Rattle.seq_caps.specs.Own.{IsCapCall};
 
 use crate::frames::{epoch_of, is_blank, is_live};
 use seq_lookups::seq_state::{SeqKernel, Thing};
+use seq_lookups::spk_nums::{Call, CoreNo, FrameArg, FrameNo, Make, Reply};
 use seq_plans::{Cause, Causes, Looked, beyond, outside};
-use spk_nums::{Call, CoreNo, FrameArg, FrameNo, Make, Reply};
 
 /// That a frame of the machine is not blank.
 fn not_blank(k: &SeqKernel, frame: FrameArg) -> Cause

@@ -1,4 +1,5 @@
 -- What the crates above name through this one.
+pub use Rattle.seq_state.specs.spk_nums
 pub use Rattle.seq_state
 -- Its own.
 pub mod Judged

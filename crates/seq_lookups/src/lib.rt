@@ -28,5 +28,6 @@ pub use changes::{begin, fill, remove};
 pub use names::{Wanted, held, mapped, named_for, vacant};
 pub use objects::{comp_at, comp_of, tcap_at, thread_at, thread_of};
 pub use seq_state;
+pub use seq_state::spk_nums;
 pub use slots::{Slot, Target, reached, usable};
 pub use waiting::{flushes_of, waits_of};

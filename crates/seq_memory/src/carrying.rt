@@ -1,11 +1,11 @@
 //! The changes of the calls on memory, given what was looked up.
 
 ghost use Rattle.std.specs.Prelude.{◌≡◌, ◌<◌, ◌≤◌, ℕ, length};
-ghost use Rattle.spk_nums.specs.CallLimits.{InLimits};
-ghost use Rattle.spk_nums.specs.declared.kinds.FrameKind.TheVariants as frame_kind;
-ghost use Rattle.spk_nums.specs.declared.calls.Call.TheVariants.{Retype, Map, Touch};
-ghost use Rattle.spk_nums.specs.declared.replies.Value.TheVariants.{Nothing};
-ghost use Rattle.spk_nums.specs.declared.replies.Reply.TheVariants.{Ok as ok};
+ghost use Rattle.seq_lookups.specs.spk_nums.specs.CallLimits.{InLimits};
+ghost use Rattle.seq_lookups.specs.spk_nums.specs.declared.kinds.FrameKind.TheVariants as frame_kind;
+ghost use Rattle.seq_lookups.specs.spk_nums.specs.declared.calls.Call.TheVariants.{Retype, Map, Touch};
+ghost use Rattle.seq_lookups.specs.spk_nums.specs.declared.replies.Value.TheVariants.{Nothing};
+ghost use Rattle.seq_lookups.specs.spk_nums.specs.declared.replies.Reply.TheVariants.{Ok as ok};
 ghost use Rattle.seq_lookups.specs.seq_state.specs.kernel_rules.specs.State.{thread_in};
 ghost use Rattle.seq_lookups.specs.seq_state.specs.kernel_rules.specs.CallRelation.{rule_of};
 ghost use Rattle.seq_lookups.specs.seq_state.specs.Maps.{state_of};
@@ -20,11 +20,11 @@ ghost use Rattle.seq_memory.specs.Retyped.{retyped};
 use crate::retyping::free;
 use crate::touching::{cache, flags_of};
 use seq_lookups::seq_state::{Frame, Object, SeqKernel};
-use seq_lookups::{comp_of, fill, remove, thread_at};
-use seq_plans::{Looked, translation_of};
-use spk_nums::{
+use seq_lookups::spk_nums::{
     Call, Cap, CoreNo, FrameArg, FrameKind, FrameNo, Kind, PageFlags, PageNo, Translation, Value,
 };
+use seq_lookups::{comp_of, fill, remove, thread_at};
+use seq_plans::{Looked, translation_of};
 
 /// Retypes a frame to untyped, unless its thread is in more than one component.
 fn free_few(k: &mut SeqKernel, frame: FrameNo)
@@ -155,5 +155,5 @@ pub fn carry_out(k: &mut SeqKernel, core: CoreNo, call: &Call, looked: &Looked) 
 }
 
 ghost use Rattle.std.specs.Prelude.{Some};
-ghost use Rattle.spk_nums.specs.Capability.{Capability};
+ghost use Rattle.seq_lookups.specs.spk_nums.specs.Capability.{Capability};
 ghost use Rattle.seq_lookups.specs.seq_state.specs.kernel_rules.specs.Access.{Slot as slot};

@@ -8,7 +8,7 @@ ghost use Rattle.seq_lookups.specs.seq_state.specs.Parts.{object_of, frame_of, p
 ghost use Rattle.seq_lookups.specs.seq_state.specs.Maps.{state_of};
 
 use seq_lookups::seq_state::{Frame, Object, Place, SeqKernel};
-use spk_nums::{EntryNo, FrameNo};
+use seq_lookups::spk_nums::{EntryNo, FrameNo};
 
 /// Whether a frame is untyped.
 pub(crate) fn is_untyped(frame: &Frame) -> bool

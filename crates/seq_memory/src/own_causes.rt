@@ -1,8 +1,8 @@
 //! The own causes of refusal of the calls on memory.
 
 ghost use Rattle.std.specs.Prelude.{◌≡◌, ◌<◌, ℕ, nat_lt, if◌then◌else◌, [], ◌∷◌};
-ghost use Rattle.spk_nums.specs.declared.calls.Call.TheVariants.{Retype, Touch};
-ghost use Rattle.spk_nums.specs.declared.kinds.FrameKind.TheVariants as frame_kind;
+ghost use Rattle.seq_lookups.specs.spk_nums.specs.declared.calls.Call.TheVariants.{Retype, Touch};
+ghost use Rattle.seq_lookups.specs.spk_nums.specs.declared.kinds.FrameKind.TheVariants as frame_kind;
 ghost use Rattle.seq_lookups.specs.seq_state.specs.kernel_rules.specs.MemoryCalls.{is_untyped_now, not_untyped, not_retyped, not_user};
 ghost use Rattle.seq_lookups.specs.seq_state.specs.kernel_rules.specs.CapabilityCalls.{outside};
 ghost use Rattle.seq_lookups.specs.seq_state.specs.kernel_rules.specs.CallRelation.{rule_of};
@@ -16,8 +16,8 @@ ghost use Rattle.seq_memory.specs.Own.{IsMemoryCall};
 use crate::frames::{is_empty, is_untyped, is_user};
 use seq_lookups::comp_of;
 use seq_lookups::seq_state::{SeqKernel, Thing};
+use seq_lookups::spk_nums::{Call, Cap, CoreNo, FrameArg, FrameKind, FrameNo, PageNo, Reply};
 use seq_plans::{Cause, Causes, Looked, outside, translation_of};
-use spk_nums::{Call, Cap, CoreNo, FrameArg, FrameKind, FrameNo, PageNo, Reply};
 
 /// Why a frame of the machine may not be retyped to untyped.
 fn not_freed(k: &SeqKernel, outside: Cause, frame: FrameNo) -> Causes

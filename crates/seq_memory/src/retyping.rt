@@ -1,7 +1,7 @@
 //! Retyping a frame to untyped.
 
 ghost use Rattle.std.specs.Prelude.{◌≤◌, length, [], ◌∷◌};
-ghost use Rattle.spk_nums.specs.declared.kinds.FrameKind.TheVariants as frame_kind;
+ghost use Rattle.seq_lookups.specs.spk_nums.specs.declared.kinds.FrameKind.TheVariants as frame_kind;
 ghost use Rattle.seq_lookups.specs.seq_state.specs.kernel_rules.specs.State.{thread_in};
 ghost use Rattle.seq_lookups.specs.seq_state.specs.kernel_rules.specs.References.{frame_names};
 ghost use Rattle.seq_lookups.specs.seq_state.specs.kernel_rules.specs.GracePeriods.{begun};
@@ -13,7 +13,7 @@ ghost use Rattle.seq_memory.specs.Retyped.{retyped};
 
 use seq_lookups::begin;
 use seq_lookups::seq_state::{Frame, Object, SeqKernel, Stack, Thing};
-use spk_nums::FrameNo;
+use seq_lookups::spk_nums::FrameNo;
 
 /// Releases the reference of a stack of at most one component.
 fn release_stack(k: &mut SeqKernel, stack: &Stack)

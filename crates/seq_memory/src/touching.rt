@@ -4,13 +4,13 @@
 //! as the core has room.
 
 ghost use Rattle.std.specs.Prelude.{◌≡◌, ◌<◌};
-ghost use Rattle.spk_nums.specs.declared.kinds.Kind.TheVariants as kind;
+ghost use Rattle.seq_lookups.specs.spk_nums.specs.declared.kinds.Kind.TheVariants as kind;
 ghost use Rattle.seq_lookups.specs.seq_state.specs.kernel_rules.specs.Edits.{caching, Cache, edited};
 ghost use Rattle.seq_lookups.specs.seq_state.specs.Maps.{state_of};
 ghost use Rattle.seq_lookups.specs.seq_state.specs.Representation.{Represents};
 
 use seq_lookups::seq_state::{Core, SeqKernel};
-use spk_nums::{Cap, CoreNo, PageFlags, Translation, Translations};
+use seq_lookups::spk_nums::{Cap, CoreNo, PageFlags, Translation, Translations};
 
 /// The flags of a page; of no other mapping is anything said.
 pub(crate) fn flags_of(mapping: &Cap) -> PageFlags

@@ -2,7 +2,7 @@
 use Rattle.std.specs.Prelude.{◌==◌, if◌then◌else◌, ◌∷◌}
 use Rattle.seq_lookups.specs.seq_state.specs.kernel_rules.specs.{ℕ, List, [], Option, Some, None, Frame, Thing, thread_in}
 use Rattle.seq_lookups.specs.seq_state.specs.kernel_rules.specs.{with_thread, frames_of, Named, Cause, When}
-use Rattle.spk_nums.specs.declared.replies.Reply.TheVariants.{Running}
+use Rattle.seq_lookups.specs.spk_nums.specs.declared.replies.Reply.TheVariants.{Running}
 
 -- The old thread, and the old temporal capability unless it stays: the things whose grace periods begin.
 abbrev pub left_by : ℕ → ℕ → ℕ → List Thing

@@ -1,6 +1,6 @@
 -- The calls of this family.
 use Rattle.seq_lookups.specs.seq_state.specs.{Call, Gate, Kill, Ret, Switch, Tick, Transfer, Delegate, Test, Replenish}
-use Rattle.spk_nums.specs.declared.calls.Call.TheVariants.{Call as call_gate}
+use Rattle.seq_lookups.specs.spk_nums.specs.declared.calls.Call.TheVariants.{Call as call_gate}
 
 -- A call that makes a gate, kills, calls, returns or switches, that charges, moves or gives back ticks, or that tests preemption.
 abbrev pub IsTimeCall : Call → Type 0

@@ -9,8 +9,8 @@ ghost use Rattle.seq_lookups.specs.seq_state.specs.Representation.{Represents};
 
 use quality_lists::{agrees, merge};
 use seq_lookups::seq_state::{Frame, Object, SeqKernel, TcapFields};
+use seq_lookups::spk_nums::{FrameNo, Qualities, Value};
 use seq_lookups::tcap_at;
-use spk_nums::{FrameNo, Qualities, Value};
 
 /// A frame with another temporal capability in place of its own; a frame without one stays.
 pub(crate) fn with_tcap(frame: Frame, tcap: TcapFields) -> Frame

@@ -1,10 +1,11 @@
 //! The changes of the calls of invocation and of time, given what was looked up.
 
 ghost use Rattle.std.specs.Prelude.{◌≡◌, ◌≢◌, ◌<◌, ◌≤◌, ◌+◌, ◌^◌, ℕ, length};
-ghost use Rattle.spk_nums.specs.declared.calls.Call.TheVariants.{Gate, Kill, Call as call_gate, Ret, Switch, Transfer, Delegate, Test};
-ghost use Rattle.spk_nums.specs.declared.calls.Call.TheVariants.{Replenish};
-ghost use Rattle.spk_nums.specs.declared.replies.Value.TheVariants.{Nothing};
-ghost use Rattle.spk_nums.specs.declared.replies.Reply.TheVariants.{Ok as ok};
+ghost use Rattle.seq_lookups.specs.spk_nums.specs.declared.calls.Call.TheVariants.{Gate, Kill, Call as call_gate, Ret, Switch, Transfer};
+ghost use Rattle.seq_lookups.specs.spk_nums.specs.declared.calls.Call.TheVariants.{Delegate, Test};
+ghost use Rattle.seq_lookups.specs.spk_nums.specs.declared.calls.Call.TheVariants.{Replenish};
+ghost use Rattle.seq_lookups.specs.spk_nums.specs.declared.replies.Value.TheVariants.{Nothing};
+ghost use Rattle.seq_lookups.specs.spk_nums.specs.declared.replies.Reply.TheVariants.{Ok as ok};
 ghost use Rattle.seq_lookups.specs.seq_state.specs.kernel_rules.specs.CallRelation.{rule_of};
 ghost use Rattle.seq_lookups.specs.seq_state.specs.Maps.{state_of};
 ghost use Rattle.seq_lookups.specs.Carried.{IsCarriedOut};
@@ -19,9 +20,9 @@ use crate::switching::go_on;
 use crate::ticks::{give_back, tick};
 use preempt_test::preempts;
 use seq_lookups::seq_state::{Liveness, SeqKernel};
+use seq_lookups::spk_nums::{Call, CoreNo, Value};
 use seq_lookups::{comp_at, fill, tcap_at, thread_at, thread_of};
 use seq_plans::Looked;
-use spk_nums::{Call, CoreNo, Value};
 
 /// `gate`: the place holds a gate to the component, in the component's epoch.
 fn gate(k: &mut SeqKernel, looked: &Looked) -> Value

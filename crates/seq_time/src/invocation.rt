@@ -1,7 +1,7 @@
 //! Gates, killing, calling and returning.
 
 ghost use Rattle.std.specs.Prelude.{◌≡◌, ◌<◌, ◌≤◌, ◌∷◌, []};
-ghost use Rattle.spk_nums.specs.Capability.{cap_of};
+ghost use Rattle.seq_lookups.specs.spk_nums.specs.Capability.{cap_of};
 ghost use Rattle.seq_lookups.specs.seq_state.specs.kernel_rules.specs.State.{comp_in, FrameOf, NumberOf, Dead, with_number};
 ghost use Rattle.seq_lookups.specs.seq_state.specs.kernel_rules.specs.GracePeriods.{begun};
 ghost use Rattle.seq_lookups.specs.seq_state.specs.kernel_rules.specs.Edits.{with_thread, with_stack};
@@ -10,8 +10,8 @@ ghost use Rattle.seq_lookups.specs.seq_state.specs.Maps.{state_of};
 ghost use Rattle.seq_lookups.specs.seq_state.specs.Representation.{HasIndex, Represents};
 
 use seq_lookups::seq_state::{Frame, Liveness, Object, SeqKernel, Stack, Thing, ThreadFields};
+use seq_lookups::spk_nums::{Cap, CoreNo, FrameNo, Kind};
 use seq_lookups::{begin, comp_at, thread_at};
-use spk_nums::{Cap, CoreNo, FrameNo, Kind};
 
 /// A frame with another thread in place of its own; a frame without one stays.
 pub(crate) fn with_thread(frame: Frame, thread: ThreadFields) -> Frame
@@ -71,4 +71,4 @@ pub(crate) fn pop(k: &mut SeqKernel, core: CoreNo, top: FrameNo, rest: Stack)
     k.set_frame(frame, value);
 }
 
-ghost use Rattle.spk_nums.specs.declared.kinds.Kind.TheVariants as kinds;
+ghost use Rattle.seq_lookups.specs.spk_nums.specs.declared.kinds.Kind.TheVariants as kinds;

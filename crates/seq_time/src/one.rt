@@ -11,8 +11,8 @@ use crate::changing::carry_out;
 use crate::own_causes::causes;
 use call_plans::plan_of;
 use seq_lookups::seq_state::SeqKernel;
+use seq_lookups::spk_nums::{Call, CoreNo, Memory, Reply};
 use seq_plans::{first_cause, resolve};
-use spk_nums::{Call, CoreNo, Memory, Reply};
 use std::alloc::Global;
 
 /// Carries out a call of invocation or of time of a core of the machine: answers the reply, the first cause in order or else

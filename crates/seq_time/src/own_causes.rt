@@ -1,7 +1,7 @@
 //! The own causes of refusal of the calls of invocation and of time.
 
 ghost use Rattle.std.specs.Prelude.{◌≡◌, ◌<◌, ◌≤◌, [], ◌∷◌, length, Option, Some, None};
-ghost use Rattle.spk_nums.specs.declared.calls.Call.TheVariants.{Call as call_gate, Kill, Switch, Ret};
+ghost use Rattle.seq_lookups.specs.spk_nums.specs.declared.calls.Call.TheVariants.{Call as call_gate, Kill, Switch, Ret};
 ghost use Rattle.seq_lookups.specs.seq_state.specs.kernel_rules.specs.State.{comp_in, thread_in};
 ghost use Rattle.seq_lookups.specs.seq_state.specs.kernel_rules.specs.InvocationCalls.{not_live};
 ghost use Rattle.seq_lookups.specs.seq_state.specs.kernel_rules.specs.TimeCalls.{are_same, is_short, are_unlike, are_many, is_finer};
@@ -15,9 +15,9 @@ ghost use Rattle.seq_time.specs.Own.{IsTimeCall};
 use crate::budgets::{are_alike, merged_for};
 use crate::ticks::left_back;
 use seq_lookups::seq_state::SeqKernel;
+use seq_lookups::spk_nums::{Call, Cap, CoreNo, FrameNo, Reply};
 use seq_lookups::{comp_at, is_live_in, tcap_at, thread_at, thread_of};
 use seq_plans::{Cause, Causes, Looked};
-use spk_nums::{Call, Cap, CoreNo, FrameNo, Reply};
 
 /// The frame to which a name has led; frame 0 where it led to none.
 fn frame_of(cap: &Option<Cap>) -> FrameNo
@@ -210,7 +210,7 @@ pub fn causes(k: &SeqKernel, core: CoreNo, call: &Call, looked: &Looked) -> Caus
 }
 
 ghost use Rattle.std.specs.Prelude.{nat_le, ℕ};
-ghost use Rattle.spk_nums.specs.declared.replies.Reply.TheVariants.{Deep, Bottom};
+ghost use Rattle.seq_lookups.specs.spk_nums.specs.declared.replies.Reply.TheVariants.{Deep, Bottom};
 ghost use Rattle.seq_lookups.specs.seq_state.specs.kernel_rules.specs.State.{thread_of};
 ghost use Rattle.seq_lookups.specs.seq_state.specs.kernel_rules.specs.Rules.{When};
 ghost use Rattle.seq_time.specs.Left.{running_by};

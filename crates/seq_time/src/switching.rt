@@ -4,15 +4,15 @@ ghost use Rattle.std.specs.Prelude.{◌≡◌, ◌<◌, None, [], ◌∷◌};
 ghost use Rattle.seq_lookups.specs.seq_state.specs.kernel_rules.specs.State.{thread_in};
 ghost use Rattle.seq_lookups.specs.seq_state.specs.kernel_rules.specs.Edits.{Switch};
 ghost use Rattle.seq_lookups.specs.seq_state.specs.kernel_rules.specs.Rules.{Found, does};
-ghost use Rattle.spk_nums.specs.declared.replies.Value.TheVariants.{Nothing};
+ghost use Rattle.seq_lookups.specs.spk_nums.specs.declared.replies.Value.TheVariants.{Nothing};
 ghost use Rattle.seq_lookups.specs.seq_state.specs.kernel_rules.specs.CallRelation.{changed};
 ghost use Rattle.seq_lookups.specs.seq_state.specs.Maps.{state_of};
 ghost use Rattle.seq_lookups.specs.seq_state.specs.Representation.{Represents};
 
 use crate::invocation::with_thread;
 use seq_lookups::seq_state::{Core, Frame, SeqKernel, Thing, ThreadFields};
+use seq_lookups::spk_nums::{CoreNo, FrameNo};
 use seq_lookups::{begin, thread_at};
-use spk_nums::{CoreNo, FrameNo};
 
 /// The frame of a thread that runs on a core, or is idle; a frame without a thread stays.
 fn running(k: &SeqKernel, frame: FrameNo, core: Option<CoreNo>) -> Frame

@@ -12,8 +12,8 @@ ghost use Rattle.seq_lookups.specs.Ranges.{TicksFit};
 
 use crate::budgets::with_tcap;
 use seq_lookups::seq_state::{Core, SeqKernel, TcapFields};
+use seq_lookups::spk_nums::{CoreNo, FrameNo, Value};
 use seq_lookups::tcap_at;
-use spk_nums::{CoreNo, FrameNo, Value};
 
 /// Gives a temporal capability another budget.
 fn set_budget(k: &mut SeqKernel, frame: FrameNo, budget: u32)
@@ -98,4 +98,4 @@ pub(crate) fn give_back(k: &mut SeqKernel, core: CoreNo, tcap: FrameNo, amount: 
     k.set_core(core, next);
 }
 
-ghost use Rattle.spk_nums.specs.declared.replies.Reply.TheVariants.{Ok};
+ghost use Rattle.seq_lookups.specs.spk_nums.specs.declared.replies.Reply.TheVariants.{Ok};

@@ -6,7 +6,7 @@
 //! **Apart.** A function makes room on the stack for all that it may build, and clears it, at each of its calls. So the step of each act
 //! that builds something stands in a function of its own, which is never inlined, and the one that chooses among them builds nothing.
 
-ghost use Rattle.spk_nums.specs.declared.replies.Value.TheVariants.{Nothing};
+ghost use Rattle.act_ends.specs.step_lands.specs.spk_nums.specs.declared.replies.Value.TheVariants.{Nothing};
 ghost use Rattle.std.specs.Prelude.{None, ◌<◌, ◌≡◌};
 ghost use Rattle.act_ends.specs.step_lands.specs.Standing.{IsActing, IsRemoving, IsSharing, IsTicking};
 ghost use Rattle.act_ends.specs.step_lands.specs.act_states.specs.declared.work.WorkStep.TheVariants.{Answers};
@@ -17,12 +17,12 @@ use act_ends::call_acts::act_counts::ticks_of;
 use act_ends::call_acts::act_moves;
 use act_ends::step_lands::act_states::{Act, Own, Refusal, Tail, Work};
 use act_ends::step_lands::call_stages::{ActiveCall, Stage, Told};
+use act_ends::step_lands::spk_nums::{Reply, StageEnd, Value};
 use act_ends::step_lands::{decide, goes_on, refused_late};
 use act_ends::{
     act_lands, charged, flushed, invoke_ends, removed, return_ends, share_ends, stays_owed,
     switch_ends,
 };
-use spk_nums::{Reply, StageEnd, Value};
 
 /// A step of the call's act.
 #[inline(always)]

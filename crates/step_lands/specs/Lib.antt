@@ -1,4 +1,5 @@
 -- What the crates above name through this one.
+pub use Rattle.call_stages.specs.spk_nums
 pub use Rattle.call_stages.specs.entry_words
 pub use Rattle.call_stages.specs.frame_words
 pub use Rattle.call_stages.specs.tcap_words

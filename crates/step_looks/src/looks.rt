@@ -10,12 +10,12 @@ ghost use Rattle.step_starts.specs.step_lands.specs.Standing.{IsAsking, IsLookin
 
 use crate::next::{is_living, next_of};
 use crate::places::{look_next, looks_up};
-use spk_nums::StageEnd;
 use step_starts::act_states::{Met, Own, Refusal, Work};
 use step_starts::begin_acts::met_name;
 use step_starts::call_plans::Next;
 use step_starts::call_stages::{ActiveCall, Stage, Told};
 use step_starts::frame_words::CompWord;
+use step_starts::spk_nums::StageEnd;
 use step_starts::stage_look::{Found, Look};
 use step_starts::stage_thread::Alive;
 use step_starts::step_lands::{go_on, goes_on, refused};

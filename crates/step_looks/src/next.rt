@@ -3,7 +3,7 @@
 //! Both are what the call's plan says. A call in progress keeps no plan, and the plan is not made for the calls that are made most.
 
 ghost use Rattle.std.specs.Prelude.{◌≡◌, List, [], ◌∷◌};
-ghost use Rattle.spk_nums.specs.declared.kinds.Kind.TheVariants.{Tcap};
+ghost use Rattle.step_starts.specs.spk_nums.specs.declared.kinds.Kind.TheVariants.{Tcap};
 ghost use Rattle.step_starts.specs.kernel_rules.specs.Access.{Named};
 ghost use Rattle.step_starts.specs.call_plans.specs.PlanOf.{any_cap, of_kind, plan_for};
 ghost use Rattle.step_starts.specs.call_plans.specs.After.{names_after, next_in, next_of, next_target, with_found};
@@ -12,8 +12,8 @@ ghost use Rattle.step_starts.specs.call_plans.specs.declared.plans.Spot.TheVaria
 ghost use Rattle.step_starts.specs.call_plans.specs.declared.plans.Nth.TheVariants.{First};
 ghost use Rattle.step_starts.specs.call_plans.specs.declared.plans.Target.TheVariants.{Free, Held, Nowhere};
 
-use spk_nums::{Call, CapId, Kind, Rights};
 use step_starts::call_plans::{Caps, Name, Next, Nth, Spot, Target, Wanted, plan_of};
+use step_starts::spk_nums::{Call, CapId, Kind, Rights};
 
 /// Whether a call asks first that its core's component lives, as its plan says.
 #[inline]

@@ -1,4 +1,5 @@
 -- What the crates above name through this one.
+pub use Rattle.step_lands.specs.spk_nums
 pub use Rattle.step_lands.specs.entry_words
 pub use Rattle.step_lands.specs.frame_words
 pub use Rattle.step_lands.specs.tcap_words

@@ -17,7 +17,6 @@ ghost use Rattle.step_lands.specs.entry_words.specs.declared.entry.Entry.TheVari
 
 use begin_acts::act_counts::{cap_due, stamp_in};
 use begin_acts::begin_act;
-use spk_nums::{Call, Cap, FrameNo, Kind, Rights};
 use step_lands::act_states::{
     Act, Fill, Invoking, InvokingAt, Own, Refusal, Returning, ReturningAt, SwitchAt, Switching,
     Work,
@@ -25,6 +24,7 @@ use step_lands::act_states::{
 use step_lands::call_plans::Nth;
 use step_lands::call_stages::{ActiveCall, Stage, Told};
 use step_lands::entry_words::Entry;
+use step_lands::spk_nums::{Call, Cap, FrameNo, Kind, Rights};
 use step_lands::stage_look::Found;
 use step_lands::stage_pins::Pin;
 use step_lands::stage_quiet::{Close, Quiet};

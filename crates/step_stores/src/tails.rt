@@ -1,6 +1,6 @@
 //! What a decided call has still to store, and its exit.
 
-ghost use Rattle.spk_nums.specs.WordSteps.{place_in};
+ghost use Rattle.step_lands.specs.spk_nums.specs.WordSteps.{place_in};
 ghost use Rattle.std.specs.Prelude.{◌<◌, ◌≡◌};
 ghost use Rattle.step_lands.specs.call_stages.specs.Fits.{TailFits};
 ghost use Rattle.step_lands.specs.call_stages.specs.Tails.{commits, is_ok, popped_on, pushed_on, stamp_of, tail_move, took_tail};
@@ -11,9 +11,9 @@ ghost use Rattle.step_lands.specs.word_map.specs.Places.{size_of};
 use crate::words::{
     dead_op, flushed_op, idle_op, release_op, release_took, running_op, shared_more, shared_op,
 };
-use spk_nums::{Reply, Stamp, WordOp};
 use step_lands::act_states::Tail;
 use step_lands::call_stages::Stage;
+use step_lands::spk_nums::{Reply, Stamp, WordOp};
 use step_lands::stage_pins::AcquiredCounts;
 use step_lands::stage_thread::{Pop, Push};
 use step_lands::word_map::Layout;

@@ -1,6 +1,6 @@
 //! The words that a decided call stores, each by its own definition, and what is then still to be stored.
 
-ghost use Rattle.spk_nums.specs.WordSteps.{place_in};
+ghost use Rattle.step_lands.specs.spk_nums.specs.WordSteps.{place_in};
 ghost use Rattle.std.specs.Prelude.{◌<◌, ◌≡◌, ◌≤◌};
 ghost use Rattle.step_lands.specs.act_states.specs.Kills.{dead_move};
 ghost use Rattle.step_lands.specs.act_states.specs.Shares.{SharedFits, after_share, stores_more};
@@ -14,9 +14,9 @@ ghost use Rattle.step_lands.specs.tcap_words.specs.Thread.{DepthFits};
 ghost use Rattle.step_lands.specs.word_map.specs.Moves.{op_of};
 ghost use Rattle.step_lands.specs.word_map.specs.Places.{size_of};
 
-use spk_nums::{CoreNo, EntryNo, FrameNo, StageEnd, Stamp, Value, WordOp};
 use step_lands::act_states::{Release, Tail};
 use step_lands::frame_words::{CompWord, LiveWord};
+use step_lands::spk_nums::{CoreNo, EntryNo, FrameNo, StageEnd, Stamp, Value, WordOp};
 use step_lands::stage_quiet::FlushMark;
 use step_lands::stage_sweep::Thaw;
 use step_lands::stage_tcap::Pair;

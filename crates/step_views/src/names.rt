@@ -8,8 +8,8 @@ ghost use Rattle.kernel_history.specs.word_map.specs.Word.{Word, CountAt, CoreAt
 ghost use Rattle.kernel_history.specs.word_map.specs.Places.{IsIn, place_of, size_of, core_words, core_begins};
 ghost use Rattle.step_views.specs.Names.{named, IsNamed};
 
+use kernel_history::spk_nums::{CoreNo, EntryNo, FrameNo};
 use kernel_history::word_map::Layout;
-use spk_nums::{CoreNo, EntryNo, FrameNo};
 
 /// A word of the shared table, by its name.
 #[derive(Clone, Copy, PartialEq, Eq, Debug)]

@@ -1,10 +1,10 @@
 //! What a step of a core does.
 
 ghost use Rattle.std.specs.Prelude.{◌≡◌};
-ghost use Rattle.spk_nums.specs.WordSteps.{place_in, left_by};
+ghost use Rattle.kernel_history.specs.spk_nums.specs.WordSteps.{place_in, left_by};
 
 use crate::names::WordName;
-use spk_nums::{Call, CoreNo, Reply, WordOp};
+use kernel_history::spk_nums::{Call, CoreNo, Reply, WordOp};
 
 /// A step of a core: the call that begins with it, where one does, its operation, the word by its name, the value found there and
 /// the value left.

@@ -10,13 +10,13 @@ ghost use Rattle.speck_run.specs.trace_run.specs.lone_kernel.specs.kernel_histor
 ghost use Rattle.speck_run.specs.trace_run.specs.lone_kernel.specs.kernel_history.specs.FinalWords.{word_in};
 ghost use Rattle.step_views.specs.Names.{named};
 ghost use Rattle.speck_run.specs.trace_run.specs.lone_kernel.specs.Moves.{MovesBy};
-ghost use Rattle.sched_run.specs.Made.{IsSchedMade};
+ghost use Rattle.speck_run.specs.one_core.specs.sched_run.specs.Made.{IsSchedMade};
 
 use machine_image::frame_words::CountWord;
 use machine_image::{Caps, Counts};
 use sched_reader::read_sched;
-use sched_run::{Boot, Scheduled};
 use script_reader::ReadFault;
+use speck_run::one_core::sched_run::{Boot, Scheduled};
 use speck_run::trace_run::lone_kernel::{LoneKernel, Moved};
 use spk_nums::{Cap, CapId, CoreNo, Memory, Setup};
 use std::alloc::Global;
@@ -45,7 +45,7 @@ pub fn scheduled<M: Boot>(alloc: Global, source: &[u8]) -> Result<Scheduled<M>, 
     ensures { IfOk result (λ s. IsSchedMade source.now (M.setup s.machine) (M.made s.machine) (string_bytes s.text)) }
 {
     let _input = read_sched(alloc, source)?;
-    sched_run::sched(alloc, source)
+    speck_run::one_core::sched_run::sched(alloc, source)
 }
 
 /// The name of the word at a place of the table.

@@ -1,5 +1,6 @@
 use Rattle.seq_lookups.specs.seq_state.proofs.{◌≡◌, ◌∙◌, ℕ, sym, subst, Make as make_call, Nothing, rule_of, state_of}
-use Rattle.{seq_plans.specs.left_of, seq_plans.specs.change_in, spk_nums.specs.declared.replies.Reply.TheVariants.Ok as ok}
+use Rattle.{seq_plans.specs.left_of, seq_plans.specs.change_in}
+use Rattle.{seq_lookups.specs.spk_nums.specs.declared.replies.Reply.TheVariants.Ok as ok}
 use Rattle.{seq_lookups.specs.Carried.IsCarriedOut, seq_plans.specs.Carrying.MayMake}
 use Rattle.seq_caps.proofs.carrying.make.Goals as goal
 
