@@ -8,6 +8,7 @@ mod boot;
 ghost use Rattle.boot_words.specs.BootLaws.{BootRepresentsStart};
 
 pub use boot::boot_words;
+pub use kernel_history::word_map;
 
 /// The boot words of every setup, with the ends that the cores have at the start, represent its start state; so do the
 /// counts of references.

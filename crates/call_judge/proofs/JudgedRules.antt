@@ -4,8 +4,9 @@ use Rattle.plain_kernel.specs.kernel_laws.proofs.{Retype, Reply, State, RuleMay,
 use Rattle.plain_kernel.specs.seq_plans.specs.{left_of, causes_of, retype_beyond, judged_rule, Decides, Iff}
 use Rattle.plain_kernel.specs.seq_plans.specs.{declared.reaching.Reach.TheVariants.Own, declared.walking.Looked.Looked, Walks.looked}
 use Rattle.plain_kernel.specs.seq_plans.specs.{Refusals.LooksMay}
-use Rattle.{call_plans.specs.plan_for, call_plans.specs.own_pages, call_plans.proofs.calls_go, call_plans.proofs.few_names}
-use Rattle.{call_plans.specs.declared.plans.Plan.Plan, call_plans.specs.GoesBy.GoesBy}
+use Rattle.{plain_kernel.specs.call_plans.specs.plan_for, plain_kernel.specs.call_plans.specs.own_pages}
+use Rattle.{plain_kernel.specs.call_plans.proofs.calls_go, plain_kernel.specs.call_plans.proofs.few_names}
+use Rattle.{plain_kernel.specs.call_plans.specs.declared.plans.Plan.Plan, plain_kernel.specs.call_plans.specs.GoesBy.GoesBy}
 use Rattle.{plain_kernel.specs.seq_plans.proofs.Deciding.decides_either}
 use Rattle.{plain_kernel.specs.seq_plans.proofs.ByPlan.refused_by_plan}
 

@@ -16,3 +16,4 @@ mod values;
 
 pub use deciding::decide_by;
 pub use plain_kernel;
+pub use plain_kernel::{seq_lookups, seq_state};

@@ -4,8 +4,9 @@ use low.{◌≡◌, inl, inr, ℕ, zero, suc, ◌+◌, ◌<◌, ◌≤◌, refl,
 use low.{Option, Some, None, some_inj}
 use Rattle.confinement.specs.{declared.table.Kept.Kept, declared.table.Head.Head, Links.list_of, Links.GoOn, Links.origin_in}
 use Rattle.{confinement.specs.chain_from, confinement.specs.IsBelow, confinement.specs.places_left, std.proofs.lemmas.Bool.cases_eq}
-use Rattle.{std.proofs.lemmas.Option.slice_get_within, seq_state.proofs.Lists.push_here, seq_state.proofs.Lists.push_apart}
-use Rattle.{seq_state.proofs.Lists.push_longer, origin_rules.specs.declared.chains.ChainLink.ChainLink}
+use Rattle.{std.proofs.lemmas.Option.slice_get_within, call_judge.specs.seq_state.proofs.Lists.push_here}
+use Rattle.{call_judge.specs.seq_state.proofs.Lists.push_apart}
+use Rattle.{call_judge.specs.seq_state.proofs.Lists.push_longer, origin_rules.specs.declared.chains.ChainLink.ChainLink}
 
 -- Two lists are one that are made alike of what is there.
 list_alike : (f g : Kept → List ChainLink) (o : Option Kept) → ((x : Kept) → o ≡ Some x → f x ≡ g x) → list_of f o ≡ list_of g o

@@ -1,18 +1,22 @@
 -- The origins stand for one event more.
-use Rattle.seq_state.proofs.{◌≡◌, inl, inr, ℕ, ◌+◌, ◌<◌, ◌≤◌, ◌==◌, ◌&&◌, ◌^◌, Bool, true, false, ltb as nat_lt, refl, sym, ◌∙◌, ap, subst}
-use Rattle.seq_state.proofs.{List, [], ◌∷◌, Option, Some, None, is_some, if◌then◌else◌, false≢true, ltb-true, lt-ltb, le-ltb, option_map}
-use Rattle.seq_state.proofs.{Capability, Setting, Call, Reply, Grace, Limits, State, with_core, put, entered, returned, MayReply, state_by}
-use Rattle.seq_state.proofs.{Event, Enters, Decides, Returns, after, Open, Out, is_decided, phase_of, IsRun, none_some, limits_stay, opened}
-use Rattle.seq_state.proofs.{state_of, SameGrace, SameState, Represents, same_by, same_then, same_core}
+use Rattle.call_judge.specs.seq_state.proofs.{◌≡◌, inl, inr, ℕ, ◌+◌, ◌<◌, ◌≤◌, ◌==◌, ◌&&◌, ◌^◌, Bool, true, false, ltb as nat_lt, refl, sym}
+use Rattle.call_judge.specs.seq_state.proofs.{◌∙◌, ap, subst}
+use Rattle.call_judge.specs.seq_state.proofs.{List, [], ◌∷◌, Option, Some, None, is_some, if◌then◌else◌, false≢true, ltb-true, lt-ltb}
+use Rattle.call_judge.specs.seq_state.proofs.{le-ltb, option_map}
+use Rattle.call_judge.specs.seq_state.proofs.{Capability, Setting, Call, Reply, Grace, Limits, State, with_core, put, entered, returned}
+use Rattle.call_judge.specs.seq_state.proofs.{MayReply, state_by}
+use Rattle.call_judge.specs.seq_state.proofs.{Event, Enters, Decides, Returns, after, Open, Out, is_decided, phase_of, IsRun, none_some}
+use Rattle.call_judge.specs.seq_state.proofs.{limits_stay, opened}
+use Rattle.call_judge.specs.seq_state.proofs.{state_of, SameGrace, SameState, Represents, same_by, same_then, same_core}
 use Rattle.origin_rules.specs.{Origin, ChainValue, Put, puts_by, decided, origin_of}
-use Rattle.seq_state.specs.kernel_rules.specs.{option_and_then, Core, start, passed, core_of}
+use Rattle.call_judge.specs.seq_state.specs.kernel_rules.specs.{option_and_then, Core, start, passed, core_of}
 use Rattle.confinement.specs.{Table, StandsFor, Takes, chain_known}
 use Rattle.origin_rules.specs.Chains.{with_put, held_at, own_cap, with_origin}
 use Rattle.confinement.specs.{Links.origin_at, Links.PutsBy, Links.origin_at_start, Links.put_origin, Known.Known, Known.IsChainOf}
 use Rattle.confinement.proofs.Putting.{AreSlots, puts_by_same, puts_slots}
 use Rattle.{std.proofs.lemmas.Bool.cases_eq, std.proofs.lemmas.Bool.and_parts, call_judge.specs.same_changes.proofs.Twins}
 use Rattle.{call_judge.specs.same_changes.proofs.twins, call_judge.specs.same_changes.specs.kernel_laws.proofs.phase_own}
-use Rattle.{call_judge.specs.same_changes.specs.kernel_laws.proofs.phase_other, seq_state.specs.Maps.Maps}
+use Rattle.{call_judge.specs.same_changes.specs.kernel_laws.proofs.phase_other, call_judge.specs.seq_state.specs.Maps.Maps}
 use Rattle.{call_judge.specs.Judged.JudgesExactly, call_judge.specs.Judged.IsJudged}
 
 -- ---- states that are one for the machine

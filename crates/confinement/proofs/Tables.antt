@@ -3,13 +3,15 @@ use Rattle.call_judge.specs.same_changes.specs.kernel_laws.proofs as low
 use low.{◌≡◌, ◌≢◌, inl, inr, ℕ, zero, suc, ◌+◌, ◌*◌, ◌%◌, ◌<◌, ◌≤◌, ◌==◌, ◌&&◌, Bool, true, false, ltb as nat_lt, if◌then◌else◌, refl, sym}
 use low.{◌∙◌, ap, subst, arith, List, [], ◌∷◌, ◌++◌, length, set, slice_get, Option, Some, None, IsSome, is_some, option_map, eq-eqb}
 use low.{ne_eqb, eqb-true, ltb-true, false≢true, Slot, some_inj, none_some}
-use Rattle.seq_state.proofs.{Lists.set_here, Lists.set_apart, Lists.push_here, Lists.push_apart, Lists.push_longer, MapLemmas.at_place_is}
+use Rattle.call_judge.specs.seq_state.proofs.{Lists.set_here, Lists.set_apart, Lists.push_here, Lists.push_apart, Lists.push_longer}
+use Rattle.call_judge.specs.seq_state.proofs.{MapLemmas.at_place_is}
 use Rattle.confinement.specs.{declared.table.Kept.Kept, declared.table.Head.Head, Links.origin_in, Links.origin_at, Links.GoOn, Links.Begin}
 use Rattle.confinement.specs.{Links.IsTable, Links.StartsAll, Links.IsHeadSet, Links.origin_at_start, Links.put_origin, Links.PutsIn}
 use Rattle.confinement.proofs.Chains.{below_then, pushed_on, pushed_origin, new_chain}
 use Rattle.{confinement.specs.Table, confinement.specs.chain_from, confinement.specs.IsBelow, std.proofs.lemmas.Bool.cases_eq}
 use Rattle.{std.proofs.lemmas.Bool.and_parts, origin_rules.specs.Origin, origin_rules.specs.Put, std.proofs.lemmas.Option.slice_get_past}
-use Rattle.{std.proofs.lemmas.Option.slice_get_within, std.proofs.Math.Nat.mul-add-mod_self_left, seq_state.specs.Maps.at_place}
+use Rattle.{std.proofs.lemmas.Option.slice_get_within, std.proofs.Math.Nat.mul-add-mod_self_left}
+use Rattle.{call_judge.specs.seq_state.specs.Maps.at_place}
 
 -- ---- heads
 

@@ -1,8 +1,9 @@
 -- What is known of where capabilities come from, and when it stands for the events of a run.
 use Rattle.std.specs.Prelude.{◌≡◌, ◌<◌, ◌^◌, ◌∷◌}
-use Rattle.seq_state.specs.{ℕ, List, Option, Some, option_map, option_and_then, Setting, IsSetting, Event, after, IsRun}
+use Rattle.call_judge.specs.seq_state.specs.{ℕ, List, Option, Some, option_map, option_and_then, Setting, IsSetting, Event, after, IsRun}
 use Rattle.origin_rules.specs.{ChainValue, decided, origin_of, chain_of}
-use Rattle.{seq_state.specs.state_of, seq_state.specs.Represents, seq_state.specs.Maps.Maps, origin_rules.specs.Chains.held_at}
+use Rattle.{call_judge.specs.seq_state.specs.state_of, call_judge.specs.seq_state.specs.Represents}
+use Rattle.{call_judge.specs.seq_state.specs.Maps.Maps, origin_rules.specs.Chains.held_at}
 use Rattle.{origin_rules.specs.Chains.with_origin, confinement.specs.Links.Table, confinement.specs.Links.origin_at}
 
 -- The sequential kernel's state, the origin of each place, and how many calls were decided.

@@ -1,7 +1,7 @@
 -- What the crates above name through this one.
-pub use Rattle.seq_state.specs.kernel_invariant
+pub use Rattle.call_judge.specs.seq_state.specs.kernel_invariant
 pub use Rattle.origin_rules
-pub use Rattle.seq_state
+pub use Rattle.call_judge.specs.seq_state
 -- Its own.
 pub mod Known
 pub mod Links

@@ -1,7 +1,7 @@
 -- Links that chains share: each link has the place of the one at which its chain goes on.
 use Rattle.std.specs.Prelude.{◌≡◌, ◌<◌, ◌+◌, ◌%◌, ◌==◌, ◌&&◌, if◌then◌else◌, ◌∷◌}
-use Rattle.seq_state.specs.{ℕ, zero, suc, List, [], length, slice_get, Option, Some}
-use Rattle.seq_state.specs.{None, IsSome, option_map, at_place}
+use Rattle.call_judge.specs.seq_state.specs.{ℕ, zero, suc, List, [], length, slice_get, Option, Some}
+use Rattle.call_judge.specs.seq_state.specs.{None, IsSome, option_map, at_place}
 use Rattle.origin_rules.specs.{Origin, Put, declared.chains.Step.Step, declared.chains.ChainLink.ChainLink}
 use Rattle.confinement.specs.{declared.puts.Put.Put as Found, declared.table.Kept.Kept, declared.table.Head.Head}
 

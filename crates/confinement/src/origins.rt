@@ -3,8 +3,8 @@
 ghost use Rattle.std.specs.Prelude.{◌≡◌, ◌≤◌, nat_lt, IfOk, OnOk, OnErr};
 ghost use Rattle.spk_nums.specs.CallLimits.{InLimits};
 ghost use Rattle.spk_nums.specs.declared.calls.Call.{Call};
-ghost use Rattle.seq_state.specs.kernel_rules.specs.Runs.{Enters, Decides, Returns};
-ghost use Rattle.seq_state.specs.Maps.{state_of};
+ghost use Rattle.call_judge.specs.seq_state.specs.kernel_rules.specs.Runs.{Enters, Decides, Returns};
+ghost use Rattle.call_judge.specs.seq_state.specs.Maps.{state_of};
 ghost use Rattle.origin_rules.specs.Chains.{own_cap, held_at};
 ghost use Rattle.confinement.specs.Known.{StandsFor, Takes, chain_known, IsChainOf};
 
@@ -12,8 +12,8 @@ use crate::chain::Chain;
 use crate::puts::puts_by;
 use crate::table::OriginTable;
 use call_judge::decide_by;
-use seq_lookups::Slot;
-use seq_state::{Place, SeqKernel};
+use call_judge::seq_lookups::Slot;
+use call_judge::seq_state::{Place, SeqKernel};
 use spk_nums::{Call, Cap, CoreNo, EntryNo, FrameNo, Kind, Memory, Reply, Setup};
 use std::alloc::Global;
 use std::marker::Model;
@@ -174,6 +174,6 @@ impl Origins {
 }
 
 ghost use Rattle.std.specs.Prelude.{[]};
-ghost use Rattle.seq_state.specs.kernel_rules.specs.State.{Holds};
-ghost use Rattle.seq_state.specs.Parts.{place_held};
+ghost use Rattle.call_judge.specs.seq_state.specs.kernel_rules.specs.State.{Holds};
+ghost use Rattle.call_judge.specs.seq_state.specs.Parts.{place_held};
 ghost use Rattle.origin_rules.specs.Chains.{is_own};

@@ -2,14 +2,14 @@
 
 ghost use Rattle.std.specs.Prelude.{◌≡◌, ◌<◌, ◌≤◌, ◌+◌, ◌*◌, ℕ, Some, IfOk, OnOk, OnErr, length};
 ghost use Rattle.std.specs.Option.{option_map};
-ghost use Rattle.seq_state.specs.Maps.{at_place};
+ghost use Rattle.call_judge.specs.seq_state.specs.Maps.{at_place};
 ghost use Rattle.origin_rules.specs.Chains.{with_origin};
 ghost use Rattle.confinement.specs.Links.{chain_from, origin_at, GoOn, IsBelow, StartsAll, IsHeadSet, origin_at_start, PutsIn, PutsBy, put_of};
 
 use crate::chain::Chain;
 use crate::puts::Put;
+use call_judge::seq_lookups::Slot;
 use origin_rules::ChainLink;
-use seq_lookups::Slot;
 use spk_nums::{Cap, EntryNo, FrameNo};
 use std::alloc::{AllocError, Global};
 use std::marker::Model;

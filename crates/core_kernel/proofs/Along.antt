@@ -11,7 +11,7 @@ use Rattle.flight_laws.specs.core_invariant.specs.{WordOp, op_of, ActiveCall}
 use Rattle.flight_laws.specs.flight.proofs.{ByPlace.told_is, ByPlace.apart_places, CoreFits.begun_fits, Made.made_stands}
 use Rattle.core_kernel.specs.{declared.core_run.CoreRun.CoreRun, Running.next_in, Seen.core_by, Seen.IsStart}
 use Rattle.{flight_laws.specs.flight.specs.core_after, flight_laws.specs.flight.specs.IsMadeStep, std.proofs.Common.IsNone}
-use Rattle.{std.proofs.lemmas.Bool.cases_eq, word_map.specs.Places.IsShape, turn_rule.specs.declared.view.Entry.Entry}
+use Rattle.{std.proofs.lemmas.Bool.cases_eq, boot_words.specs.word_map.specs.Places.IsShape, turn_rule.specs.declared.view.Entry.Entry}
 use Rattle.{turn_rule.specs.declared.view.Start.Start, flight_laws.specs.Histories.IsHistory, flight_laws.proofs.Histories.made_histories}
 use Rattle.spk_nums.specs.WordSteps as table
 

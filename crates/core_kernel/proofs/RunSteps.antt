@@ -6,7 +6,7 @@ use Rattle.flight_laws.specs.core_invariant.specs.{WordOp, ActiveCall, Reply, si
 use Rattle.call_steps.specs.core_words.specs.Due.{due_of, due_in}
 use Rattle.call_steps.specs.call_stages.specs.declared.stages.Absorbed.{Absorbed}
 use Rattle.spk_nums.specs.WordSteps.{place_in}
-use Rattle.word_map.proofs.PlaceLemmas.{has_places}
+use Rattle.boot_words.specs.word_map.proofs.PlaceLemmas.{has_places}
 use Rattle.core_kernel.specs.{declared.core_run.CoreRun.CoreRun, Running.running, Running.next_in, Running.answered}
 use Rattle.core_kernel.specs.RunSteps.{IsReady, IsRun, said}
 use Rattle.core_kernel.proofs.Along.{next_some}

@@ -2,7 +2,7 @@
 pub use Rattle.boot_words.specs.frame_words
 pub use Rattle.turn_rule
 -- What a caller names through this crate: of a seat's trace, what holds of it, and what its laws speak of.
-pub use Rattle.word_map
+pub use Rattle.boot_words.specs.word_map
 pub use Rattle.boot_words.specs.kernel_rules
 pub use Rattle.boot_words.specs.kernel_history
 pub use Rattle.flight_laws.specs.kernel_laws

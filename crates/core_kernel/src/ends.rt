@@ -12,11 +12,11 @@ use crate::core_run::CoreRun;
 use crate::kernel::Kernel;
 use crate::seat::CoreSeat;
 use boot_words::boot_words;
+use boot_words::word_map::{Closed, Layout};
 use spk_nums::{CoreEnd, CoreNo, Memory, Reply, Setup, Value};
 use std::alloc::{AllocError, Global};
 use std::marker::Model;
 use turn_rule::{Spread, TurnSeat, TurnTable};
-use word_map::{Closed, Layout};
 
 // Each core at the start, core 0 first.
 fn programs_of(alloc: Global, setup: &Setup) -> Result<Vec<CoreRun>, AllocError>
@@ -104,7 +104,7 @@ pub struct Room {
 impl Model for Room {
     ghost use Rattle.std.specs.Prelude.{◌≡◌, ◌≤◌, [], vec_len, vec_capacity};
     ghost use Rattle.spk_nums.specs.Setting.{Setting};
-    ghost use Rattle.word_map.specs.Places.{size_of};
+    ghost use Rattle.boot_words.specs.word_map.specs.Places.{size_of};
     ghost use Rattle.boot_words.specs.kernel_history.specs.BootWords.{shape_of};
 
     ghost Value = { Setting };

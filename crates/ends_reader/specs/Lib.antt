@@ -1,3 +1,6 @@
+-- What the crates above name through this one.
+pub use Rattle.script_reader
+-- Its own.
 pub mod Parts
 pub mod Inputs
 -- The names that are used most outside of this library.

@@ -8,3 +8,4 @@ mod part;
 mod reading;
 
 pub use reading::{EndsInput, read_ends};
+pub use script_reader;

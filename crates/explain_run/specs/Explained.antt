@@ -2,7 +2,8 @@
 use Rattle.std.specs.Prelude.{◌≡◌, ◌⊎◌, ℕ, List, Result, Ok, Err, codes}
 use Rattle.history_options.specs.history_reader.specs.{History, history_of}
 use Rattle.line_reader.specs.{declared.cause.Cause.Cause, Lines.First_fault}
-use Rattle.{script_reader.specs.Readings.script_of, ends_reader.specs.Inputs.input_of, sched_reader.specs.Inputs.input_of as sched_input_of}
+use Rattle.{ends_reader.specs.script_reader.specs.Readings.script_of, ends_reader.specs.Inputs.input_of}
+use Rattle.{sched_reader.specs.Inputs.input_of as sched_input_of}
 use Rattle.{history_options.specs.Told.IsHistoryTold, line_forms.specs.declared.context.Reading.Reading, fault_texts.specs.Told.fault_text}
 
 -- the line that tells that bytes are read

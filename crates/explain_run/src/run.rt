@@ -7,13 +7,13 @@ ghost use Rattle.history_options.specs.marked_history.specs.Verdicts.{LinesFit};
 ghost use Rattle.explain_run.specs.Explained.{accepted_text, IsToldOf, IsExplained};
 
 use ends_reader::read_ends;
+use ends_reader::script_reader::read;
 use fault_texts::explain_fault;
 use history_options::history_reader::{GivenHistory, read_history};
 use history_options::told;
 use line_forms::Reading;
 use line_reader::ReadFault;
 use sched_reader::read_sched;
-use script_reader::read;
 use std::alloc::{AllocError, Global};
 
 // The line that tells that the bytes are read.

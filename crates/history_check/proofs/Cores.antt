@@ -1,7 +1,10 @@
 -- What is seen of the cores, beside their phases.
-use Rattle.seq_state.specs.kernel_rules.proofs.{◌≡◌, ◌≢◌, ℕ, ◌<◌, ◌==◌, Bool, true, false, List, length, get_or, refl, sym, ap, subst, ◌∙◌}
-use Rattle.seq_state.specs.kernel_rules.proofs.{inl, inr, IsTrue, arith, set as slice_set, false≢true, true≢false, eq-eqb, ne_eqb}
-use Rattle.seq_state.specs.kernel_rules.proofs.{get_or-set_same, get_or-set_other, Call, Phase, Out, Open, Decided, is_in, is_decided}
+use Rattle.call_judge.specs.seq_state.specs.kernel_rules.proofs.{◌≡◌, ◌≢◌, ℕ, ◌<◌, ◌==◌, Bool, true, false, List, length, get_or, refl, sym}
+use Rattle.call_judge.specs.seq_state.specs.kernel_rules.proofs.{ap, subst, ◌∙◌}
+use Rattle.call_judge.specs.seq_state.specs.kernel_rules.proofs.{inl, inr, IsTrue, arith, set as slice_set, false≢true, true≢false, eq-eqb}
+use Rattle.call_judge.specs.seq_state.specs.kernel_rules.proofs.{ne_eqb}
+use Rattle.call_judge.specs.seq_state.specs.kernel_rules.proofs.{get_or-set_same, get_or-set_other, Call, Phase, Out, Open, Decided, is_in}
+use Rattle.call_judge.specs.seq_state.specs.kernel_rules.proofs.{is_decided}
 use Rattle.history_check.specs.{at_of, is_inside, seen_of}
 use Rattle.history_check.specs.{declared.seen.At.At, declared.seen.Seen.Seen, Judging.no_one}
 use Rattle.{std.proofs.lemmas.List.get_or_default, std.proofs.lemmas.Bool.cases_eq, marked_history.specs.Histories.CanBeDecided}

@@ -1,8 +1,11 @@
 -- A judge takes a line, and line by line it comes to the verdict.
-use Rattle.seq_state.specs.kernel_rules.proofs.{◌≡◌, ℕ, ◌+◌, ◌^◌, ◌<◌, ◌≤◌, ◌==◌, Bool, true, false, List, [], ◌∷◌, ◌++◌, reverse, take}
-use Rattle.seq_state.specs.kernel_rules.proofs.{drop, length, get_or, Option, Some, None, Result, Ok, Err, IfOk, refl, sym, ap, subst, ◌∙◌}
-use Rattle.seq_state.specs.kernel_rules.proofs.{inl, inr, if◌then◌else◌, arith, take_more, take_all, drop_more, reverse-append}
-use Rattle.seq_state.specs.kernel_rules.proofs.{length-reverse, length-take-le, Setting, IsSetting, Call, Reply, Limits}
+use Rattle.call_judge.specs.seq_state.specs.kernel_rules.proofs.{◌≡◌, ℕ, ◌+◌, ◌^◌, ◌<◌, ◌≤◌, ◌==◌, Bool, true, false, List, [], ◌∷◌, ◌++◌}
+use Rattle.call_judge.specs.seq_state.specs.kernel_rules.proofs.{reverse, take}
+use Rattle.call_judge.specs.seq_state.specs.kernel_rules.proofs.{drop, length, get_or, Option, Some, None, Result, Ok, Err, IfOk, refl, sym}
+use Rattle.call_judge.specs.seq_state.specs.kernel_rules.proofs.{ap, subst, ◌∙◌}
+use Rattle.call_judge.specs.seq_state.specs.kernel_rules.proofs.{inl, inr, if◌then◌else◌, arith, take_more, take_all, drop_more}
+use Rattle.call_judge.specs.seq_state.specs.kernel_rules.proofs.{reverse-append}
+use Rattle.call_judge.specs.seq_state.specs.kernel_rules.proofs.{length-reverse, length-take-le, Setting, IsSetting, Call, Reply, Limits}
 use Rattle.marked_history.specs.{events_of, MayFollow, IsOfMachine, said_marks, marks_of, entered, decisions, AreHistory, SaidFits}
 use Rattle.marked_history.specs.{LinesFit, Misnumbered, Numbered, AreLegal}
 use Rattle.history_check.specs.{seen_of, IsJudge, HasCome, JudgesMark, JudgesLine}
@@ -10,7 +13,8 @@ use Rattle.marked_history.specs.{declared.marks.Mark.Mark, declared.marks.Mark.T
 use Rattle.marked_history.specs.{declared.marks.Mark.TheVariants.Return, declared.marks.Said.Said, declared.marks.Said.TheVariants.One}
 use Rattle.marked_history.specs.{declared.marks.Said.TheVariants.Whole, declared.marks.Line.Line, declared.marks.Why.Why, Verdicts.BreakAt}
 use Rattle.history_check.specs.Judging.{HasRoom, RoomFor, MarkFound, call_marks, MarksFound, JudgesOthers, JudgesMarks, LineFound, CallFits}
-use Rattle.{seq_state.proofs.limits_stay, seq_state.proofs.state_of, std.proofs.lemmas.List.take-append-drop}
+use Rattle.{call_judge.specs.seq_state.proofs.limits_stay, call_judge.specs.seq_state.proofs.state_of}
+use Rattle.{std.proofs.lemmas.List.take-append-drop}
 use Rattle.{std.proofs.lemmas.List.Elements.All-get_or, history_check.specs.declared.judge.Judge.Judge, history_check.specs.Judging.core_of}
 use Rattle.marked_history.specs.declared.marks.Why.TheVariants as why
 

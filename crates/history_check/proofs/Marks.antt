@@ -1,8 +1,11 @@
 -- A judge takes a mark: it has come to the end of the marks with that one.
-use Rattle.seq_state.proofs.{◌≡◌, ◌≢◌, ℕ, ◌+◌, ◌<◌, ◌==◌, ◌&&◌, Bool, true, false, not, List, [], ◌∷◌, length, Option, refl, sym, ap, subst}
-use Rattle.seq_state.proofs.{◌∙◌, inl, inr, IsTrue, if◌then◌else◌, set as slice_set, false≢true, Setting, IsSetting, Call, Reply}
-use Rattle.seq_state.proofs.{entered as entered_state, returned as returned_state, state_by, after, Out, Open, Decided, is_in, is_decided}
-use Rattle.seq_state.proofs.{phase_of, limits_stay, state_of, Represents, same_then}
+use Rattle.call_judge.specs.seq_state.proofs.{◌≡◌, ◌≢◌, ℕ, ◌+◌, ◌<◌, ◌==◌, ◌&&◌, Bool, true, false, not, List, [], ◌∷◌, length, Option}
+use Rattle.call_judge.specs.seq_state.proofs.{refl, sym, ap, subst}
+use Rattle.call_judge.specs.seq_state.proofs.{◌∙◌, inl, inr, IsTrue, if◌then◌else◌, set as slice_set, false≢true, Setting, IsSetting, Call}
+use Rattle.call_judge.specs.seq_state.proofs.{Reply}
+use Rattle.call_judge.specs.seq_state.proofs.{entered as entered_state, returned as returned_state, state_by, after, Out, Open, Decided}
+use Rattle.call_judge.specs.seq_state.proofs.{is_in, is_decided}
+use Rattle.call_judge.specs.seq_state.proofs.{phase_of, limits_stay, state_of, Represents, same_then}
 use Rattle.marked_history.specs.{with_decision, events_of, phase, state, HasMet, MayBeHeldUp, CanBeDecided, MayDecideIn, IsOfMachine}
 use Rattle.history_check.specs.{at_of, is_inside, seen_of, HasCome}
 use Rattle.call_judge.specs.Judged.{IsDecided, IsJudged, JudgesExactly}
@@ -10,7 +13,8 @@ use Rattle.marked_history.specs.declared.marks.Mark.TheVariants.{Enter, Decide, 
 use Rattle.marked_history.specs.Histories.{IsOther, IsAnotherIn, enters, Unless}
 use Rattle.history_check.specs.{declared.seen.Seen.Seen, declared.judge.Judge.Judge, Judging.IsAnotherSeen, Judging.is_alone}
 use Rattle.history_check.proofs.Cores.{inside_is, out_is, decided_is, of_each, seen_own, seen_other, here, apart, turned}
-use Rattle.{marked_history.specs.entered, marked_history.specs.MarkBreaks, std.proofs.lemmas.Bool.cases_eq, seq_state.specs.Maps.Maps}
+use Rattle.{marked_history.specs.entered, marked_history.specs.MarkBreaks, std.proofs.lemmas.Bool.cases_eq}
+use Rattle.{call_judge.specs.seq_state.specs.Maps.Maps}
 use Rattle.{call_judge.specs.seq_plans.specs.Refusals.Decides, call_judge.specs.plain_kernel.proofs.Stepping.entered_same}
 use Rattle.{call_judge.specs.plain_kernel.proofs.Stepping.returned_same, marked_history.specs.declared.marks.Mark.Mark}
 use Rattle.{marked_history.proofs.Running.histories_run, history_check.specs.Judging.alone_after, history_check.specs.Judging.is_held_up}

@@ -1,6 +1,6 @@
 -- Where lines are no history any more.
 use Rattle.std.specs.Prelude.{◌≡◌, ◌<◌}
-use Rattle.seq_state.specs.{ℕ, List, reverse, take, length, get_or, Setting}
+use Rattle.call_judge.specs.seq_state.specs.{ℕ, List, reverse, take, length, get_or, Setting}
 use Rattle.marked_history.specs.{marks_of, AreHistory, LineBreaks, AreLegal, declared.marks.Line.Line, declared.marks.Why.Why}
 use Rattle.history_check.specs.declared.coming.Finding.{Finding}
 use Rattle.history_check.specs.declared.coming.Finding.TheVariants.{Legal, Broken}

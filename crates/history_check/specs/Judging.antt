@@ -1,14 +1,15 @@
 -- What it means that a judge has come to a place of a history.
 use Rattle.std.specs.Prelude.{◌≡◌, ◌≢◌, ◌<◌, ◌^◌, ◌+◌, ◌==◌, ◌&&◌, ◌∷◌, ◌++◌}
-use Rattle.seq_state.specs.{not, ℕ, Bool, true, false, List, [], reverse, length, get_or}
-use Rattle.seq_state.specs.{Option, Some, None, IsTrue, All, Setting, IsSetting, InLimits, Call, Reply, Phase, Out, Open, Decided, is_in}
+use Rattle.call_judge.specs.seq_state.specs.{not, ℕ, Bool, true, false, List, [], reverse, length, get_or}
+use Rattle.call_judge.specs.seq_state.specs.{Option, Some, None, IsTrue, All, Setting, IsSetting, InLimits, Call, Reply, Phase, Out, Open}
+use Rattle.call_judge.specs.seq_state.specs.{Decided, is_in}
 use Rattle.marked_history.specs.{phase, state, HasMet, IsOfMachine, IsHistory, said_marks, entered, decisions, AllFollow, MarkBreaks}
 use Rattle.marked_history.specs.{FirstBreaks, SaidFits, LineBreaks, LineFollows}
 use Rattle.marked_history.specs.{declared.marks.Mark.Mark, declared.marks.Mark.TheVariants.Enter, declared.marks.Mark.TheVariants.Decide}
 use Rattle.marked_history.specs.{declared.marks.Mark.TheVariants.Return, declared.marks.Said.Said, declared.marks.Said.TheVariants.One}
 use Rattle.marked_history.specs.{declared.marks.Said.TheVariants.Whole, declared.marks.Why.Why}
 use Rattle.history_check.specs.{declared.seen.At.At, declared.seen.Seen.Seen, declared.judge.Judge.Judge}
-use Rattle.{seq_state.specs.Represents, call_judge.specs.seq_plans.specs.Refusals.Decides}
+use Rattle.{call_judge.specs.seq_state.specs.Represents, call_judge.specs.seq_plans.specs.Refusals.Decides}
 
 -- ---- cores
 

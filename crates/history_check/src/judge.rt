@@ -2,8 +2,8 @@
 
 ghost use Rattle.std.specs.Prelude.{◌≡◌, ◌<◌, ◌+◌, ◌==◌, [], slice_set, IfOk};
 ghost use Rattle.spk_nums.specs.CallLimits.{InLimits};
-ghost use Rattle.seq_state.specs.kernel_rules.specs.Start.{start};
-ghost use Rattle.seq_state.specs.Maps.{state_of};
+ghost use Rattle.call_judge.specs.seq_state.specs.kernel_rules.specs.Start.{start};
+ghost use Rattle.call_judge.specs.seq_state.specs.Maps.{state_of};
 ghost use Rattle.marked_history.specs.Histories.{IsOfMachine};
 ghost use Rattle.marked_history.specs.declared.marks.Mark.TheVariants as mark;
 ghost use Rattle.marked_history.specs.declared.marks.Said.TheVariants as said;
@@ -12,8 +12,8 @@ ghost use Rattle.history_check.specs.Judging.{core_of, seen_of, alone_after};
 
 use crate::seen::{At, Seen, is_another_in, is_held_up, no_ones};
 use call_judge::decide_by;
+use call_judge::seq_state::SeqKernel;
 use marked_history::{Mark, Said, Why};
-use seq_state::SeqKernel;
 use spk_nums::{Call, CoreNo, Make, Memory, Reply, Setup};
 use std::alloc::Global;
 

@@ -1,3 +1,7 @@
+-- What the crates above name through this one.
+pub use Rattle.script_reader
+pub use Rattle.script_printer
+-- Its own.
 pub mod Draws
 pub mod Loads
 pub mod Accepted

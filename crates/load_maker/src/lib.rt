@@ -10,3 +10,5 @@ mod script;
 
 pub use law::is_accepted;
 pub use script::{load_script, made_script};
+pub use script_printer;
+pub use script_reader;

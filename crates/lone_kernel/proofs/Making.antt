@@ -17,7 +17,7 @@ use Rattle.call_steps.specs.call_stages.specs.declared.stages.Absorbed.TheVarian
 use Rattle.call_steps.specs.core_words.specs.Due.{due_of}
 use Rattle.spk_nums.specs.{declared.steps.WordOp.WordOp, WordSteps.left_by, WordSteps.told_by as told_by_op}
 use Rattle.std.proofs.{Common.add-one, Common.length-set}
-use Rattle.word_map.specs.Places.{size_of}
+use Rattle.step_views.specs.word_map.specs.Places.{size_of}
 use Rattle.lone_kernel.specs.{IsAt, decisions_in, declared.seats.Seat.Seat, declared.seats.Turn.TheVariants.Begins, Machine.Machine}
 use Rattle.lone_kernel.specs.{Machine.MakesTurn, Items.is_over, Items.placed, Items.TakesItem, Making.Run, Making.run, Making.AreMade}
 use Rattle.lone_kernel.specs.{Making.MakesCall, Making.found_next}

@@ -1,5 +1,5 @@
 -- What the crates above name through this one.
-pub use Rattle.word_map
+pub use Rattle.step_views.specs.word_map
 pub use Rattle.step_views
 pub use Rattle.boot_words.specs.kernel_rules
 pub use Rattle.boot_words.specs.kernel_history

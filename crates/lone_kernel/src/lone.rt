@@ -11,7 +11,7 @@
 ghost use Rattle.std.specs.Prelude.{◌≡◌, ◌↔◌, false, IsSome, None, Some, [], ℕ, ◌+◌, ◌<◌, ◌≤◌, ◌^◌, IsTrue};
 ghost use Rattle.std.specs.Prelude.{All, IfOk, IfSome, map, sum_by, length, slice_get, slice_index, vec_len, vec_capacity};
 ghost use Rattle.spk_nums.specs.WordSteps.{place_in, left_by};
-ghost use Rattle.word_map.specs.Places.{size_of, place_of};
+ghost use Rattle.step_views.specs.word_map.specs.Places.{size_of, place_of};
 ghost use Rattle.boot_words.specs.kernel_history.specs.Trace.{Trace, state_after, steps_in_call};
 ghost use Rattle.boot_words.specs.kernel_history.specs.FinalWords.{Represent, word_in, end_in};
 ghost use Rattle.boot_words.specs.kernel_history.specs.Counts.{RepresentCounts};
@@ -37,8 +37,8 @@ ghost use Rattle.lone_kernel.specs.declared.seats.Turn.TheVariants.{Begins};
 ghost use Rattle.lone_kernel.specs.Machine.{CanBegin};
 ghost use Rattle.call_steps.specs.call_stages.specs.declared.stages.Absorbed.TheVariants.{Going};
 ghost use Rattle.flight_laws.specs.core_invariant.specs.Events.{returned_in};
-ghost use Rattle.word_map.specs.Places.{IsIn};
-ghost use Rattle.word_map.specs.Moves.{op_of, word_of};
+ghost use Rattle.step_views.specs.word_map.specs.Places.{IsIn};
+ghost use Rattle.step_views.specs.word_map.specs.Moves.{op_of, word_of};
 ghost use Rattle.call_steps.specs.call_stages.specs.Cores.{move_of};
 
 use crate::notes::note;
@@ -50,8 +50,8 @@ use call_steps::{Absorbed, CoreState, is_straight};
 use spk_nums::{Call, CoreEnd, CoreNo, Decision, How, Memory, Reply, Setup, WordOp};
 use std::alloc::{AllocError, Global};
 use std::marker::{Brand, Model};
+use step_views::word_map::{Closed, Layout};
 use step_views::{StepMade, StepView, left_by, name_at, place_in};
-use word_map::{Closed, Layout};
 
 /// What a move did.
 #[derive(Clone, Copy, Debug, PartialEq, Eq)]

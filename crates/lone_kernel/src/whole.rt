@@ -9,7 +9,7 @@ ghost use Rattle.spk_nums.specs.CallLimits.{InLimits};
 ghost use Rattle.call_steps.specs.Straight.{HasGone};
 ghost use Rattle.call_steps.specs.call_stages.specs.Cores.{begun};
 ghost use Rattle.call_steps.specs.call_stages.specs.Fits.{IsCore};
-ghost use Rattle.word_map.specs.Places.{size_of};
+ghost use Rattle.step_views.specs.word_map.specs.Places.{size_of};
 ghost use Rattle.lone_kernel.specs.Making.{MakesCall, NotesReply};
 
 use crate::notes::note_reply;

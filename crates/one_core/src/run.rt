@@ -5,8 +5,8 @@ ghost use Rattle.one_core.specs.Scheduled.{IsSchedText};
 ghost use Rattle.sched_run.specs.Made.{IsSchedFault};
 
 use crate::machine::OneCore;
+use sched_run::script_reader::ReadFault;
 use sched_run::{Scheduled, sched};
-use script_reader::ReadFault;
 use std::alloc::Global;
 
 /// The text of the schedule that the input asks for, of fewer than 2^32 bytes, made on a machine of its setup: the script's calls, and then

@@ -5,14 +5,15 @@ use Rattle.plain_kernel.specs.kernel_laws.proofs.{Transfer, Delegate, Replenish,
 use Rattle.plain_kernel.specs.kernel_laws.proofs.{to_look, to_use, Change, Judged, Refused, Found, named, acts, change_of, are_calls_spent}
 use Rattle.plain_kernel.specs.kernel_laws.proofs.{reply_in, alone, Event, after, Open, phase_of, IsRun, opened}
 use Rattle.plain_kernel.specs.same_changes.proofs.{Twins, core_below, named_same, changes_same, twins}
-use Rattle.seq_state.proofs.{state_of, Represents, same_refs}
-use Rattle.call_plans.specs.{at_place, plan_for}
+use Rattle.plain_kernel.specs.seq_state.proofs.{state_of, Represents, same_refs}
+use Rattle.plain_kernel.specs.call_plans.specs.{at_place, plan_for}
 use Rattle.plain_kernel.specs.same_changes.proofs.{Reaching.core_same, TimeRules.named_frame, EveryCall.same_acts, EveryCall.stays_in_range}
-use Rattle.call_plans.specs.declared.plans.Nth.TheVariants.{First, Second, Third, Fourth}
+use Rattle.plain_kernel.specs.call_plans.specs.declared.plans.Nth.TheVariants.{First, Second, Third, Fourth}
 use Rattle.open_calls.specs.{declared.outlooks.Outlook.Outlook, Leads.lead_line, Leads.some_name, Leads.names_text, Told.left}
 use Rattle.open_calls.specs.{Told.short_of, Told.short, Told.told, Outlooks.IsOutlook}
-use Rattle.{seq_state.specs.kernel_rules.specs.Alone.first_reply, seq_state.specs.Maps.Maps, seq_lookups.specs.Ranges.IsInRange}
-use Rattle.{plain_kernel.specs.same_changes.specs.Same.SameOutcome, call_plans.specs.declared.plans.Name.Name}
+use Rattle.{plain_kernel.specs.seq_state.specs.kernel_rules.specs.Alone.first_reply, plain_kernel.specs.seq_state.specs.Maps.Maps}
+use Rattle.{plain_kernel.specs.seq_lookups.specs.Ranges.IsInRange}
+use Rattle.{plain_kernel.specs.same_changes.specs.Same.SameOutcome, plain_kernel.specs.call_plans.specs.declared.plans.Name.Name}
 use Rattle.spk_nums.specs.declared.kinds.Kind.TheVariants as kind
 use Rattle.spk_nums.specs.declared.kinds.FrameKind.TheVariants as frame_kind
 use Rattle.spk_nums.specs.declared.replies.Reply.TheVariants as reply

@@ -1,10 +1,12 @@
 -- What the names of a call lead to.
 use Rattle.std.specs.Prelude.{◌++◌}
-use Rattle.seq_state.specs.kernel_rules.specs.{ℕ, List, [], Option, Some, None, codes, decimal, Capability, reply_text, Call, any}
-use Rattle.seq_state.specs.kernel_rules.specs.{to_look, Judged, Refused, Found, named}
-use Rattle.call_plans.specs.{at_place, plan_for}
-use Rattle.call_plans.specs.declared.plans.Nth.TheVariants.{First, Second, Third, Fourth}
-use Rattle.{spk_nums.specs.Texts.cap_text, seq_state.specs.kernel_rules.specs.State.State, call_plans.specs.declared.plans.Name.Name}
+use Rattle.plain_kernel.specs.seq_state.specs.kernel_rules.specs.{ℕ, List, [], Option, Some, None, codes, decimal, Capability, reply_text}
+use Rattle.plain_kernel.specs.seq_state.specs.kernel_rules.specs.{Call, any}
+use Rattle.plain_kernel.specs.seq_state.specs.kernel_rules.specs.{to_look, Judged, Refused, Found, named}
+use Rattle.plain_kernel.specs.call_plans.specs.{at_place, plan_for}
+use Rattle.plain_kernel.specs.call_plans.specs.declared.plans.Nth.TheVariants.{First, Second, Third, Fourth}
+use Rattle.{spk_nums.specs.Texts.cap_text, plain_kernel.specs.seq_state.specs.kernel_rules.specs.State.State}
+use Rattle.{plain_kernel.specs.call_plans.specs.declared.plans.Name.Name}
 
 -- the capability to which a number leads core c, of whichever kind and with whichever rights: what a `look` of it would find
 abbrev pub lead : State → ℕ → ℕ → Judged Capability

@@ -1,8 +1,8 @@
 -- What the crates above name through this one.
-pub use Rattle.seq_state.specs.kernel_rules
-pub use Rattle.seq_state.specs.kernel_invariant
-pub use Rattle.seq_state
-pub use Rattle.call_plans
+pub use Rattle.plain_kernel.specs.seq_state.specs.kernel_rules
+pub use Rattle.plain_kernel.specs.seq_state.specs.kernel_invariant
+pub use Rattle.plain_kernel.specs.seq_state
+pub use Rattle.plain_kernel.specs.call_plans
 -- Its own.
 pub mod Leads
 pub mod Told

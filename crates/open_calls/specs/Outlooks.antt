@@ -1,8 +1,9 @@
 -- All that is found of an open call.
 use Rattle.std.specs.Prelude.{◌≡◌}
-use Rattle.seq_state.specs.{ℕ, List, string_bytes, Setting, IsSetting, Call, State, alone, Event, after, Open, phase_of, IsRun}
+use Rattle.plain_kernel.specs.seq_state.specs.{ℕ, List, string_bytes, Setting, IsSetting, Call, State, alone, Event, after, Open, phase_of}
+use Rattle.plain_kernel.specs.seq_state.specs.{IsRun}
 use Rattle.open_calls.specs.{declared.outlooks.Outlook.Outlook, Leads.names_text, Told.told}
-use Rattle.{seq_state.specs.Represents, seq_state.specs.Maps.Maps}
+use Rattle.{plain_kernel.specs.seq_state.specs.Represents, plain_kernel.specs.seq_state.specs.Maps.Maps}
 
 -- what is found of a call of core c that is open in state s
 pub record IsOutlook (s : State) (c : ℕ) (call : Call) (found : Outlook) : Type 0 where

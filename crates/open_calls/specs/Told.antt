@@ -1,8 +1,9 @@
 -- The replies that tell a number of the state.
 use Rattle.std.specs.Prelude.{if◌then◌else◌}
-use Rattle.seq_state.specs.{ℕ, Option, Some, None, min, ltb as nat_lt, Capability, Call, Retype, Transfer, Delegate}
-use Rattle.seq_state.specs.{Replenish, Reply, State, outstanding, only, to_use, refs, Judged, Refused, Found, named, tcap_at, Kind}
-use Rattle.seq_state.specs.{FrameKind}
+use Rattle.plain_kernel.specs.seq_state.specs.{ℕ, Option, Some, None, min, ltb as nat_lt, Capability, Call, Retype, Transfer, Delegate}
+use Rattle.plain_kernel.specs.seq_state.specs.{Replenish, Reply, State, outstanding, only, to_use, refs, Judged, Refused, Found, named}
+use Rattle.plain_kernel.specs.seq_state.specs.{tcap_at, Kind}
+use Rattle.plain_kernel.specs.seq_state.specs.{FrameKind}
 
 -- how many references a frame of the machine has
 abbrev pub referenced : State → ℕ → Option Reply

@@ -2,12 +2,12 @@
 
 ghost use Rattle.std.specs.Prelude.{◌≡◌, ◌<◌, IfOk};
 ghost use Rattle.spk_nums.specs.CallLimits.{InLimits};
-ghost use Rattle.seq_state.specs.kernel_rules.specs.Alone.{alone};
-ghost use Rattle.seq_state.specs.Maps.{state_of};
-ghost use Rattle.seq_lookups.specs.Ranges.{IsInRange};
+ghost use Rattle.plain_kernel.specs.seq_state.specs.kernel_rules.specs.Alone.{alone};
+ghost use Rattle.plain_kernel.specs.seq_state.specs.Maps.{state_of};
+ghost use Rattle.plain_kernel.specs.seq_lookups.specs.Ranges.{IsInRange};
 
+use plain_kernel::seq_state::SeqKernel;
 use plain_kernel::{acts, are_spent, decide};
-use seq_state::SeqKernel;
 use spk_nums::{Call, CoreNo, Memory, Reply};
 use std::alloc::Global;
 

@@ -2,13 +2,13 @@
 
 ghost use Rattle.std.specs.Prelude.{◌≡◌, ◌<◌, IfOk};
 ghost use Rattle.spk_nums.specs.CallLimits.{InLimits};
-ghost use Rattle.seq_state.specs.Maps.{state_of};
+ghost use Rattle.plain_kernel.specs.seq_state.specs.Maps.{state_of};
 ghost use Rattle.open_calls.specs.Outlooks.{IsOutlookWhere};
 
 use crate::alone::alone;
 use crate::leads::push_names;
 use crate::told::told;
-use seq_state::SeqKernel;
+use plain_kernel::seq_state::SeqKernel;
 use spk_nums::{Call, CoreNo, Memory, Reply};
 use std::alloc::Global;
 

@@ -1,6 +1,6 @@
 -- The families of calls.
 use Rattle.plain_kernel.specs.declared.families.Family.TheVariants.{Caps, Memory, Time}
-use Rattle.{spk_nums.specs.declared.calls.Call.Call, seq_caps.specs.Own.IsCapCall, seq_memory.specs.Own.IsMemoryCall}
+use Rattle.{seq_caps.specs.spk_nums.specs.declared.calls.Call.Call, seq_caps.specs.Own.IsCapCall, seq_memory.specs.Own.IsMemoryCall}
 use Rattle.{seq_time.specs.Own.IsTimeCall, plain_kernel.specs.declared.families.Family.Family}
 
 -- A call is of a family.

@@ -1,4 +1,5 @@
 -- What the crates above name through this one.
+pub use Rattle.seq_caps.specs.call_plans
 pub use Rattle.seq_caps.specs.seq_plans
 pub use Rattle.seq_caps.specs.seq_lookups
 pub use Rattle.seq_caps.specs.seq_lookups.specs.seq_state.specs.kernel_rules

@@ -1,7 +1,7 @@
 //! The families of calls, and a call decided by its family.
 
 ghost use Rattle.std.specs.Prelude.{◌≡◌, ◌<◌, IsOk, IfOk};
-ghost use Rattle.spk_nums.specs.CallLimits.{InLimits};
+ghost use Rattle.seq_caps.specs.spk_nums.specs.CallLimits.{InLimits};
 ghost use Rattle.seq_caps.specs.seq_lookups.specs.seq_state.specs.kernel_rules.specs.CallRelation.{change_of};
 ghost use Rattle.seq_caps.specs.seq_lookups.specs.seq_state.specs.Maps.{state_of};
 ghost use Rattle.seq_caps.specs.seq_lookups.specs.Carried.{IsCarriedOut};
@@ -9,7 +9,7 @@ ghost use Rattle.seq_caps.specs.seq_lookups.specs.Ranges.{IsInRange};
 ghost use Rattle.plain_kernel.specs.Families.{IsOf};
 
 use seq_caps::seq_lookups::seq_state::SeqKernel;
-use spk_nums::{Call, CoreNo, Memory, Reply};
+use seq_caps::spk_nums::{Call, CoreNo, Memory, Reply};
 use std::alloc::Global;
 
 /// The family of a call.

@@ -1,7 +1,7 @@
 //! One call, entered, decided and returned from.
 
 ghost use Rattle.std.specs.Prelude.{◌≡◌, ◌<◌, ◌≤◌, ◌-◌, ◌^◌, IsOk, IfOk};
-ghost use Rattle.spk_nums.specs.CallLimits.{InLimits};
+ghost use Rattle.seq_caps.specs.spk_nums.specs.CallLimits.{InLimits};
 ghost use Rattle.seq_caps.specs.seq_lookups.specs.seq_state.specs.kernel_rules.specs.GracePeriods.{returned};
 ghost use Rattle.seq_caps.specs.seq_lookups.specs.seq_state.specs.kernel_rules.specs.Life.{asks_life, acts};
 ghost use Rattle.seq_caps.specs.seq_lookups.specs.seq_state.specs.kernel_rules.specs.CallRelation.{are_calls_spent, counted};
@@ -12,7 +12,7 @@ ghost use Rattle.plain_kernel.specs.Step.{StepsExactly};
 use crate::families::decide;
 use seq_caps::seq_lookups::may_act;
 use seq_caps::seq_lookups::seq_state::{Core, SeqKernel};
-use spk_nums::{Call, CoreNo, Memory, Reply};
+use seq_caps::spk_nums::{Call, CoreNo, Memory, Reply};
 use std::alloc::Global;
 
 /// Whether a core has made as many calls as its limit.

@@ -4,7 +4,7 @@ use Rattle.table_lines.specs.kernel_history.proofs.{length, take, reverse, appen
 use Rattle.table_lines.specs.kernel_history.proofs.{times, times_append}
 use Rattle.plain_tables.proofs.Common.{Adds, adds_piece}
 use Rattle.std.proofs.{lemmas.List.length-reverse, lemmas.Grind.flat_map-append, lemmas.Option.slice_get_within}
-use Rattle.{std.proofs.lemmas.Option.get_or_from_slice_get, seq_state.proofs.StackLemmas.times_reverse}
+use Rattle.{std.proofs.lemmas.Option.get_or_from_slice_get, seq_lookups.specs.seq_state.proofs.StackLemmas.times_reverse}
 
 pub next_item : {A : Type 0} (xs : List A) (h : ℕ) (x : A) → slice_get xs h ≡ Some x → take (h + 1) xs ≡ take h xs ++ x ∷ []
 next_item {A = A} xs h x is =

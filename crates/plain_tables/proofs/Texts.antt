@@ -5,9 +5,10 @@ use Rattle.table_lines.specs.kernel_history.proofs.{thread_of, outstanding, sum_
 use Rattle.table_lines.specs.kernel_history.proofs.{number_names, node_refs, refs, ticks, lines_below, tables_of}
 use Rattle.plain_tables.proofs.Common.{frame_lines, number_line, core_lines, entry_line, Adds}
 use Rattle.table_lines.specs.kernel_history.specs.Tables.{object_lines, total_line, node_lines, frame_line, object_word}
-use Rattle.{seq_state.proofs.SameState, seq_state.proofs.same_refs, seq_state.specs.kernel_invariant.proofs.Sums.sum_same}
+use Rattle.{seq_lookups.specs.seq_state.proofs.SameState, seq_lookups.specs.seq_state.proofs.same_refs}
+use Rattle.{seq_lookups.specs.seq_state.specs.kernel_invariant.proofs.Sums.sum_same}
 use Rattle.{table_lines.specs.Counting.AreCounts, table_lines.proofs.Lines.lines_same, plain_tables.specs.Within.ThreadsWithin}
-use Rattle.seq_state.specs.kernel_rules.specs.State as state
+use Rattle.seq_lookups.specs.seq_state.specs.kernel_rules.specs.State as state
 
 -- The names of places, objects, cores and liveness numbers are the references.
 pub all_adds : (s : State) (a b c d e : List ℕ)

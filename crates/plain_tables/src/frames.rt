@@ -1,15 +1,15 @@
 //! The lines of frames, and the sum of their budgets.
 
 ghost use Rattle.std.specs.Prelude.{◌≡◌, ◌≤◌, ◌^◌, ◌++◌, length, OnOk, string_bytes, slice_index};
-ghost use Rattle.seq_state.specs.kernel_rules.specs.State.{tcap_in};
-ghost use Rattle.seq_state.specs.kernel_rules.specs.References.{sum_below};
+ghost use Rattle.seq_lookups.specs.seq_state.specs.kernel_rules.specs.State.{tcap_in};
+ghost use Rattle.seq_lookups.specs.seq_state.specs.kernel_rules.specs.References.{sum_below};
 ghost use Rattle.table_lines.specs.kernel_history.specs.Tables.{lines_below, frame_line, frame_lines, object_lines, object_word};
-ghost use Rattle.seq_state.specs.Parts.{object_of, frame_of};
-ghost use Rattle.seq_state.specs.Maps.{state_of};
+ghost use Rattle.seq_lookups.specs.seq_state.specs.Parts.{object_of, frame_of};
+ghost use Rattle.seq_lookups.specs.seq_state.specs.Maps.{state_of};
 
 use crate::objects::{push_comp, push_node, push_tcap, push_thread};
+use seq_lookups::seq_state::{Frame, Object, SeqKernel};
 use seq_lookups::tcap_at;
-use seq_state::{Frame, Object, SeqKernel};
 use spk_nums::FrameNo;
 use std::alloc::AllocError;
 

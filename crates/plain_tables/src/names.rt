@@ -1,13 +1,14 @@
 //! The frames to which there are references, each as often as it is referenced.
 
 ghost use Rattle.std.specs.Prelude.{◌≡◌, ◌<◌, ◌++◌, OnOk, [], ◌∷◌, Some, length, slice_get, reverse};
-ghost use Rattle.seq_state.specs.kernel_rules.specs.State.{Kernel};
-ghost use Rattle.seq_state.specs.kernel_rules.specs.References.{sum_below, times, named_by, place_names, frame_names, number_names, core_names, refs};
-ghost use Rattle.seq_state.specs.Parts.{place_held, object_of, frame_of, number_of, core_of};
-ghost use Rattle.seq_state.specs.Maps.{state_of};
+ghost use Rattle.seq_lookups.specs.seq_state.specs.kernel_rules.specs.State.{Kernel};
+ghost use Rattle.seq_lookups.specs.seq_state.specs.kernel_rules.specs.References.{sum_below, times, named_by, place_names, frame_names};
+ghost use Rattle.seq_lookups.specs.seq_state.specs.kernel_rules.specs.References.{number_names, core_names, refs};
+ghost use Rattle.seq_lookups.specs.seq_state.specs.Parts.{place_held, object_of, frame_of, number_of, core_of};
+ghost use Rattle.seq_lookups.specs.seq_state.specs.Maps.{state_of};
 ghost use Rattle.table_lines.specs.Counting.{Adds};
 
-use seq_state::{CompFields, Core, Frame, Liveness, Object, Place, SeqKernel, Stack};
+use seq_lookups::seq_state::{CompFields, Core, Frame, Liveness, Object, Place, SeqKernel, Stack};
 use spk_nums::{Cap, CoreNo, EntryNo, FrameNo, Kind};
 use std::alloc::AllocError;
 

@@ -3,11 +3,11 @@
 ghost use Rattle.std.specs.Prelude.{◌≡◌, ◌<◌, ◌++◌, OnOk, string_bytes, reverse, Some, length, slice_get};
 ghost use Rattle.std.specs.List.{flat_map};
 ghost use Rattle.table_lines.specs.kernel_history.specs.Tables.{number, entry_line, node_lines, comp_line, thread_line, quality_line, tcap_lines};
-ghost use Rattle.seq_state.specs.Parts.{place_held, comp_fields_of, thread_fields_of, tcap_fields_of};
-ghost use Rattle.seq_state.specs.Maps.{state_of};
+ghost use Rattle.seq_lookups.specs.seq_state.specs.Parts.{place_held, comp_fields_of, thread_fields_of, tcap_fields_of};
+ghost use Rattle.seq_lookups.specs.seq_state.specs.Maps.{state_of};
 
 use crate::names::frame_at;
-use seq_state::{CompFields, Place, SeqKernel, Stack, TcapFields, ThreadFields};
+use seq_lookups::seq_state::{CompFields, Place, SeqKernel, Stack, TcapFields, ThreadFields};
 use spk_nums::{EntryNo, FrameNo, Qualities};
 use std::alloc::AllocError;
 use table_lines::{

@@ -1,14 +1,14 @@
 //! The lines of liveness numbers and cores, and the ticks that cores have spent and have not had back.
 
 ghost use Rattle.std.specs.Prelude.{◌≡◌, ◌<◌, ◌≤◌, ◌^◌, ◌++◌, OnOk, string_bytes};
-ghost use Rattle.seq_state.specs.kernel_rules.specs.State.{first_of_stack, outstanding, thread_of};
-ghost use Rattle.seq_state.specs.kernel_rules.specs.References.{sum_below};
+ghost use Rattle.seq_lookups.specs.seq_state.specs.kernel_rules.specs.State.{first_of_stack, outstanding, thread_of};
+ghost use Rattle.seq_lookups.specs.seq_state.specs.kernel_rules.specs.References.{sum_below};
 ghost use Rattle.table_lines.specs.kernel_history.specs.Tables.{lines_below, number_line, core_lines};
-ghost use Rattle.seq_state.specs.Parts.{number_of};
-ghost use Rattle.seq_state.specs.Maps.{state_of};
+ghost use Rattle.seq_lookups.specs.seq_state.specs.Parts.{number_of};
+ghost use Rattle.seq_lookups.specs.seq_state.specs.Maps.{state_of};
 
+use seq_lookups::seq_state::{Liveness, SeqKernel, Stack};
 use seq_lookups::thread_of;
-use seq_state::{Liveness, SeqKernel, Stack};
 use spk_nums::{CoreEnd, CoreNo, FrameNo};
 use std::alloc::{AllocError, Global};
 use table_lines::{push_dead, push_live};

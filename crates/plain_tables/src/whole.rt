@@ -1,18 +1,18 @@
 //! The tables, whole.
 
 ghost use Rattle.std.specs.Prelude.{◌≡◌, IfOk, length, string_bytes};
-ghost use Rattle.seq_state.specs.kernel_rules.specs.State.{State};
-ghost use Rattle.seq_state.specs.kernel_rules.specs.References.{refs};
+ghost use Rattle.seq_lookups.specs.seq_state.specs.kernel_rules.specs.State.{State};
+ghost use Rattle.seq_lookups.specs.seq_state.specs.kernel_rules.specs.References.{refs};
 ghost use Rattle.table_lines.specs.kernel_history.specs.Tables.{tables_of};
-ghost use Rattle.seq_state.specs.Maps.{state_of};
-ghost use Rattle.seq_state.specs.Representation.{Represents};
+ghost use Rattle.seq_lookups.specs.seq_state.specs.Maps.{state_of};
+ghost use Rattle.seq_lookups.specs.seq_state.specs.Representation.{Represents};
 ghost use Rattle.table_lines.specs.Counting.{AreCounts};
 ghost use Rattle.plain_tables.specs.Within.{ThreadsWithin};
 
 use crate::frames::{budgets, push_frames};
 use crate::names::push_all;
 use crate::rest::{push_cores, push_numbers, spent};
-use seq_state::SeqKernel;
+use seq_lookups::seq_state::SeqKernel;
 use spk_nums::Memory;
 use std::alloc::{AllocError, Global};
 use table_lines::{push_total, tally};

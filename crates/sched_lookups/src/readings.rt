@@ -2,13 +2,13 @@
 
 ghost use Rattle.std.specs.Prelude.{◌≡◌, ◌<◌};
 ghost use Rattle.std.specs.Option.{option_and_then};
-ghost use Rattle.seq_state.specs.kernel_rules.specs.Access.{usable, own, reached};
-ghost use Rattle.seq_state.specs.kernel_rules.specs.Edits.{tcap_at};
-ghost use Rattle.seq_state.specs.Maps.{state_of};
+ghost use Rattle.seq_lookups.specs.seq_state.specs.kernel_rules.specs.Access.{usable, own, reached};
+ghost use Rattle.seq_lookups.specs.seq_state.specs.kernel_rules.specs.Edits.{tcap_at};
+ghost use Rattle.seq_lookups.specs.seq_state.specs.Maps.{state_of};
 ghost use Rattle.sched_rules.specs.Schedule.{reach};
 
+use seq_lookups::seq_state::SeqKernel;
 use seq_lookups::{Slot, Target, comp_of, reached, tcap_at, usable};
-use seq_state::SeqKernel;
 use spk_nums::{Cap, CapId, CoreNo, FrameNo, Qualities};
 
 // What a core may use at a slot, if there is one.

@@ -9,3 +9,4 @@ mod lines;
 mod reading;
 
 pub use reading::{SchedInput, read_sched};
+pub use script_reader;

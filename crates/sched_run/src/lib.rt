@@ -11,3 +11,4 @@ mod run;
 
 pub use fixed_prio;
 pub use run::{Boot, Scheduled, sched};
+pub use sched_reader::script_reader;

@@ -6,8 +6,8 @@ use Rattle.world_laws.specs.kernel_laws.proofs.{Capability, Place, Free, Holds, 
 use Rattle.world_laws.specs.kernel_laws.proofs.{start_cap, plain_cap, place_with, Slot, usable, usable_in, is_node, Event, Enters, Decides}
 use Rattle.world_laws.specs.kernel_laws.proofs.{Returns, after, phase_of, is_in, is_open, IsRun, waits_inside, some_inj, none_some, IsSound}
 use Rattle.world_laws.specs.kernel_laws.proofs.{opened, open_is, limits_stay, inside_is, runs_sound, phase_own, phase_other, Kind}
-use Rattle.seq_state.specs.kernel_rules.specs.{start_place, phase_by, core_of, MayFollow}
-use Rattle.seq_state.specs.kernel_invariant.proofs.{free_quiescing, holds_quiescing, choose}
+use Rattle.seq_lookups.specs.seq_state.specs.kernel_rules.specs.{start_place, phase_by, core_of, MayFollow}
+use Rattle.seq_lookups.specs.seq_state.specs.kernel_invariant.proofs.{free_quiescing, holds_quiescing, choose}
 use Rattle.{std.proofs.lemmas.Bool.cases_eq, std.proofs.lemmas.Bool.cases_lt, world_laws.specs.state_laws.proofs.Kept.decided_kept}
 
 pub not_at_start : (setting : Setting) (f i : ℕ) (k : Capability) → start_place setting f i ≡ Quiescing k → ⊥

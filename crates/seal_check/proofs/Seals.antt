@@ -5,7 +5,8 @@ use Rattle.world_laws.specs.kernel_laws.proofs.{Frame, Untyped, Kernel, PlaceOf,
 use Rattle.seal_check.specs.Sealing.{Tells, is_in, has_none, IsSealedHere, TellsSeal}
 use Rattle.{world_laws.specs.kernel_laws.proofs.limits_stay, world_laws.specs.kernel_laws.proofs.runs_sound}
 use Rattle.{std.proofs.lemmas.Bool.and_parts, std.proofs.lemmas.Bool.cases_lt, world_laws.specs.gates, world_laws.specs.IsSealed}
-use Rattle.{seq_state.specs.state_of, seq_state.specs.Represents, seq_state.specs.Maps.Maps, seal_check.proofs.Reached.UsedWithin}
+use Rattle.{seq_lookups.specs.seq_state.specs.state_of, seq_lookups.specs.seq_state.specs.Represents}
+use Rattle.{seq_lookups.specs.seq_state.specs.Maps.Maps, seal_check.proofs.Reached.UsedWithin}
 use Rattle.{seal_check.proofs.Reached.used_within}
 
 not_true : (b : Bool) → not b ≡ true → b ≡ false

@@ -1,6 +1,6 @@
 -- What a place holds for some core, and what is held by it.
 use Rattle.std.specs.Prelude.{◌≡◌, ◌<◌, ◌&&◌}
-use Rattle.seq_state.specs.{ℕ, Bool, not, Option, Some, None, Capability, has_rights, State, Slot, usable}
+use Rattle.seq_lookups.specs.seq_state.specs.{ℕ, Bool, not, Option, Some, None, Capability, has_rights, State, Slot, usable}
 use Rattle.{spk_nums.specs.Rights.right_to_use, world_laws.specs.Worlds.gates}
 
 -- A capability holds what it leads to: it has the right to use, and is no gate.

@@ -1,5 +1,5 @@
 -- What the crates above name through this one.
-pub use Rattle.seq_state.specs.kernel_invariant
+pub use Rattle.seq_lookups.specs.seq_state.specs.kernel_invariant
 pub use Rattle.world_laws
 -- Its own.
 pub mod Holding

@@ -1,10 +1,12 @@
 -- Whether what a machine has is sealed.
 use Rattle.std.specs.Prelude.{◌≡◌, ◌<◌, ◌↔◌, ◌&&◌}
-use Rattle.seq_state.specs.kernel_rules.specs.{not, ℕ, Bool, true, false, List, Option, Some, None, slice_get, IsTrue}
-use Rattle.seq_state.specs.kernel_rules.specs.{Capability, Setting, IsSetting, Kind, Comp, Frame, Kernel, Slot, found, usable, has_frame}
-use Rattle.seq_state.specs.kernel_rules.specs.{Event, after, IsRun}
+use Rattle.seq_lookups.specs.seq_state.specs.kernel_rules.specs.{not, ℕ, Bool, true, false, List, Option, Some, None, slice_get, IsTrue}
+use Rattle.seq_lookups.specs.seq_state.specs.kernel_rules.specs.{Capability, Setting, IsSetting, Kind, Comp, Frame, Kernel, Slot, found}
+use Rattle.seq_lookups.specs.seq_state.specs.kernel_rules.specs.{usable, has_frame}
+use Rattle.seq_lookups.specs.seq_state.specs.kernel_rules.specs.{Event, after, IsRun}
 use Rattle.world_laws.specs.{gates, HoldsNone, IsSealed}
-use Rattle.{seq_state.specs.State, seq_state.specs.Represents, seq_state.specs.Maps.Maps}
+use Rattle.{seq_lookups.specs.seq_state.specs.State, seq_lookups.specs.seq_state.specs.Represents}
+use Rattle.{seq_lookups.specs.seq_state.specs.Maps.Maps}
 
 -- A test tells whether this holds.
 pub record Tells (answer : Bool) (Fact : Type 0) : Type 0 where

@@ -1,13 +1,13 @@
 //! What places hold, and what is held by it.
 
 ghost use Rattle.std.specs.Prelude.{◌≡◌, ◌<◌};
-ghost use Rattle.seq_state.specs.Maps.{state_of};
+ghost use Rattle.seq_lookups.specs.seq_state.specs.Maps.{state_of};
 ghost use Rattle.seal_check.specs.Holding.{IsUsedAt, holds};
-ghost use Rattle.seq_state.specs.kernel_rules.specs.Access.{found};
-ghost use Rattle.seq_state.specs.kernel_rules.specs.CapabilityCalls.{has_frame};
+ghost use Rattle.seq_lookups.specs.seq_state.specs.kernel_rules.specs.Access.{found};
+ghost use Rattle.seq_lookups.specs.seq_state.specs.kernel_rules.specs.CapabilityCalls.{has_frame};
 
+use seq_lookups::seq_state::SeqKernel;
 use seq_lookups::{Slot, usable};
-use seq_state::SeqKernel;
 use spk_nums::{Cap, CoreNo, Kind, Rights};
 
 /// What some core may use at a slot: what is held there; and what was removed, while it still serves a call in progress.

@@ -1,17 +1,17 @@
 //! Whether a set of frames is sealed.
 
 ghost use Rattle.std.specs.Prelude.{◌≡◌, ◌<◌, ◌&&◌, false};
-ghost use Rattle.seq_state.specs.kernel_rules.specs.Access.{found};
-ghost use Rattle.seq_state.specs.kernel_rules.specs.CapabilityCalls.{has_frame};
-ghost use Rattle.seq_state.specs.Parts.{frame_of};
-ghost use Rattle.seq_state.specs.Maps.{state_of};
+ghost use Rattle.seq_lookups.specs.seq_state.specs.kernel_rules.specs.Access.{found};
+ghost use Rattle.seq_lookups.specs.seq_state.specs.kernel_rules.specs.CapabilityCalls.{has_frame};
+ghost use Rattle.seq_lookups.specs.seq_state.specs.Parts.{frame_of};
+ghost use Rattle.seq_lookups.specs.seq_state.specs.Maps.{state_of};
 ghost use Rattle.world_laws.specs.Worlds.{gates, HoldsNone};
 ghost use Rattle.seal_check.specs.Sealing.{Tells, is_in, IsRangeFree, MeetsBy, IsPlaceFree, ArePlacesFree, has_none, IsFrameFree};
 ghost use Rattle.seal_check.specs.Sealing.{IsSealedHere, TellsSeal};
 
 use crate::held::{holds, in_range, used_at};
 use seq_lookups::Slot;
-use seq_state::{Frame, Object, SeqKernel};
+use seq_lookups::seq_state::{Frame, Object, SeqKernel};
 use spk_nums::{Cap, EntryNo, FrameNo, Kind};
 
 /// Whether a frame is in the world; one past the slice is not.

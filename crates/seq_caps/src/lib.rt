@@ -20,8 +20,10 @@ mod frames;
 mod one;
 mod own_causes;
 
+pub use call_plans;
 pub use carrying::carry_out;
 pub use one::step;
 pub use own_causes::causes;
 pub use seq_lookups;
+pub use seq_lookups::spk_nums;
 pub use seq_plans;

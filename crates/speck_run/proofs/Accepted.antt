@@ -1,6 +1,6 @@
 -- The lists of a script can be run: their calls are within their limits, and few.
 use Rattle.trace_run.specs.lone_kernel.specs.flight.proofs.{ℕ, ◌<◌, ◌^◌, List, All, length, arith, Call, InLimits}
-use Rattle.{script_reader.specs.Readings.AtMost, trace_run.specs.lone_kernel.specs.Machine.AreLists}
+use Rattle.{load_maker.specs.script_reader.specs.Readings.AtMost, trace_run.specs.lone_kernel.specs.Machine.AreLists}
 
 pub accepted : (n : ℕ) (lists : List (List Call)) → All (All InLimits) lists → All (AtMost n) lists → n < 2 ^ 32 → AreLists lists
 accepted n lists within most small = λ k d h. let few = most k d h in (within k d h, omega arith)

@@ -8,9 +8,10 @@ use low.Script.{read_by, MadeBy, IsFaultOf, AreInput}
 use low.Top.{CommandLine, texts_of, Asked, Asks, AsksNumber, HasNumber, AsksMake, AsksLoad, IsReadingOf, IsExplainedAfter, IsCommand}
 use low.Top.{IsMake, IsLoad, IsUnderstood, IsNumberOf, IsNumberIn, IsDue, IsPageOf, IsCommandOf, IsDueOf, IsSummary, IsDone, InputMakes}
 use low.Top.{CarriesOut, IsStatusOf, Answers, IsAccepted, Writes, InputRuns, Finishes}
-use Rattle.{script_reader.specs.line_reader.specs.number_of, script_reader.specs.line_reader.specs.First_fault}
+use Rattle.{load_maker.specs.script_reader.specs.line_reader.specs.number_of}
+use Rattle.{load_maker.specs.script_reader.specs.line_reader.specs.First_fault}
 use Rattle.{spk_nums.specs.declared.memory.Memory.Memory as Out_of_memory, byte_ends.specs.Ends.HasRisen, byte_ends.specs.Ends.Adds}
-use Rattle.{script_reader.specs.line_reader.specs.declared.cause.Cause.Cause, load_maker.specs.Loads.load_text}
+use Rattle.{load_maker.specs.script_reader.specs.line_reader.specs.declared.cause.Cause.Cause, load_maker.specs.Loads.load_text}
 use Rattle.{explain_run.specs.line_forms.specs.declared.context.Reading.Reading, whole_ends.specs.Ends.GivesAll}
 use low.{declared.words.Command.Command, declared.answers.Answer.Answer, declared.top.Status.Status}
 use lib.Pointwise.{pointwise}

@@ -7,7 +7,8 @@ use Rattle.speck_run.specs.{lines_of, core_lines}
 use Rattle.trace_run.specs.lone_kernel.specs.core_invariant.specs.{reply_lines, decisions_by}
 use Rattle.async_ends.specs.{declared.asks.EndAsk.EndAsk, declared.asks.EndDone.EndDone, Events.taken_at}
 use Rattle.ends_run.specs.{declared.whole.EndsRan.EndsRan, Whole.AreEnded, Whole.FewCalls, Whole.FewAsks}
-use Rattle.{std.specs.Global.Vec, script_reader.specs.Readings.AtMost, explain_run.specs.ends_reader.specs.Inputs.FewAsks as FewOfInput}
+use Rattle.{std.specs.Global.Vec, load_maker.specs.script_reader.specs.Readings.AtMost}
+use Rattle.{explain_run.specs.ends_reader.specs.Inputs.FewAsks as FewOfInput}
 use Rattle.{ends_text.proofs.Counted.counted, speck_run.specs.Ends.EndsText, speck_run.proofs.ByCores.lines_by_cores}
 
 -- lines that are the same below n

@@ -2,13 +2,13 @@
 use Rattle.trace_run.specs.lone_kernel.specs.kernel_history.proofs.{◌≡◌, ◌==◌, ℕ, List, [], ◌++◌, Result, Ok, Err, get_or, refl, sym, ◌∙◌}
 use Rattle.trace_run.specs.lone_kernel.specs.kernel_history.proofs.{ap, subst, inl, inr, append-nil, false≢true}
 use Rattle.explain_run.specs.check_run.specs.history_reader.specs.{History, history_of}
-use Rattle.script_reader.specs.line_reader.specs.{declared.cause.Cause.Cause, Lines.First_fault}
+use Rattle.load_maker.specs.script_reader.specs.line_reader.specs.{declared.cause.Cause.Cause, Lines.First_fault}
 use Rattle.explain_run.specs.history_options.specs.marked_history.specs.declared.marks.Verdict.TheVariants.{Legal, Illegal}
 use Rattle.explain_run.specs.fault_texts.specs.Told.{rest_text, fault_text}
 use Rattle.explain_run.specs.Explained.{IsAccepted, IsTold, IsToldOf, IsExplained}
 use Rattle.speck_run.specs.{declared.words.Command.TheVariants.Explain, Script.MadeBy, Script.AreInput, Top.script_line, Explains.named}
 use Rattle.speck_run.specs.{Explains.BeginsWith, Explains.IsOfFault, Explains.TellsVerdict, Explains.TellsTaken, Explains.GoesByCommand}
-use Rattle.{script_reader.specs.Readings.script_of, explain_run.specs.ends_reader.specs.Inputs.input_of}
+use Rattle.{load_maker.specs.script_reader.specs.Readings.script_of, explain_run.specs.ends_reader.specs.Inputs.input_of}
 use Rattle.{one_core.specs.sched_reader.specs.Inputs.input_of as sched_input_of}
 use Rattle.{explain_run.specs.history_options.specs.marked_history.specs.declared.marks.Why.Why}
 use Rattle.{explain_run.specs.check_run.specs.Texts.verdict_text}

@@ -2,7 +2,7 @@
 use Rattle.std.specs.Prelude.{◌≡◌, ◌++◌, ℕ, List}
 use Rattle.speck_run.specs.declared.words.Command.TheVariants.{Print, Ends, Sched, Check, Explain}
 use Rattle.speck_run.specs.Script.{MadeBy, AreInput, IsFaultOf}
-use Rattle.{script_reader.specs.line_reader.specs.declared.cause.Cause.Cause}
+use Rattle.{load_maker.specs.script_reader.specs.line_reader.specs.declared.cause.Cause.Cause}
 use Rattle.{explain_run.specs.history_options.specs.marked_history.specs.declared.marks.Verdict.TheVariants.Legal}
 use Rattle.{explain_run.specs.check_run.specs.Texts.verdict_text, explain_run.specs.Explained.accepted_text}
 use Rattle.{explain_run.specs.line_forms.specs.declared.context.Reading.Reading, speck_run.specs.declared.words.Command.Command}

@@ -3,15 +3,16 @@ use Rattle.std.specs.Prelude.{◌≡◌}
 use Rattle.trace_run.specs.lone_kernel.specs.core_invariant.specs.{ℕ, List, Result, Ok, Err, list_of}
 use Rattle.explain_run.specs.check_run.specs.history_reader.specs.{History, history_of}
 use Rattle.one_core.specs.sched_reader.specs.{Input as Sched_input, input_of as sched_input_of}
-use Rattle.script_reader.specs.{Meaning, script_of}
-use Rattle.script_reader.specs.line_reader.specs.{declared.cause.Cause.Cause, Lines.First_fault}
+use Rattle.load_maker.specs.script_reader.specs.{Meaning, script_of}
+use Rattle.load_maker.specs.script_reader.specs.line_reader.specs.{declared.cause.Cause.Cause, Lines.First_fault}
 use Rattle.explain_run.specs.ends_reader.specs.Inputs.{Input, input_of}
 use Rattle.speck_run.specs.declared.words.Command.TheVariants.{Replay, Trace, Draw, Run, Plain, Print, Ends, Sched, Check, Origins, Worlds}
 use Rattle.{trace_run.specs.lone_kernel.specs.kernel_history.specs.Text.plain_text, ends_run.specs.core_runs.specs.TakenSteps.TakenSteps}
 use Rattle.{trace_run.specs.lone_kernel.specs.GivenSteps.GivenSteps, trace_run.specs.GivenTrace.GivenTrace}
 use Rattle.{draw_run.specs.GivenDrawing.GivenDrawing, origins_run.specs.GivenOrigins.GivenOrigins}
 use Rattle.{explain_run.specs.check_run.specs.Checked.IsJudged}
-use Rattle.{explain_run.specs.Explained.IsExplained, script_printer.specs.Printing.printed, one_core.specs.Scheduled.SchedTrace}
+use Rattle.{explain_run.specs.Explained.IsExplained, load_maker.specs.script_printer.specs.Printing.printed}
+use Rattle.{one_core.specs.Scheduled.SchedTrace}
 use Rattle.{speck_run.specs.Worlds.GivenWorlds, speck_run.specs.declared.words.Command.Command}
 use Rattle.{speck_run.specs.declared.words.Command.TheVariants.Explain, speck_run.specs.Ends.EndsText}
 

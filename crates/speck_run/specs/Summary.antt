@@ -5,7 +5,7 @@ use low.core_invariant.specs.{ℕ, List, string_bytes, Call, Item, Setting, Trac
 use Rattle.speck_run.specs.{declared.summary.Summed.Summed, declared.summary.Summed.TheVariants.Done}
 use Rattle.speck_run.specs.{declared.summary.Summed.TheVariants.NoScript, Script.IsScript, Script.IsFirstFault}
 use low.{kernel_rules.specs.Laws.ticks, flight.specs.Made.ready_after, flight_laws.specs.Histories.IsHistory}
-use Rattle.{script_reader.specs.Readings.Meaning, load_summary.specs.Summaries.summary_text}
+use Rattle.{load_maker.specs.script_reader.specs.Readings.Meaning, load_summary.specs.Summaries.summary_text}
 
 -- There is one trace that is a history of the machine, has the calls of the lists once and in order, and follows the order; and the
 -- text is the summary of its decisions, with the total of the ticks in the state that it leaves.

@@ -1,6 +1,6 @@
 -- What the top call answers and writes, and why.
 use Rattle.std.specs.Prelude.{◌≡◌, ◌⊎◌, ◌++◌, ◌^◌, ℕ, ◌<◌, ◌≤◌, List, [], ◌∷◌, length, map, Option, Some, None, String, string_bytes, codes}
-use Rattle.script_reader.specs.line_reader.specs.{declared.cause.Cause.Cause, Causes.cause_text, Numerals.number_of}
+use Rattle.load_maker.specs.script_reader.specs.line_reader.specs.{declared.cause.Cause.Cause, Causes.cause_text, Numerals.number_of}
 use Rattle.speck_run.specs.declared.words.Command.TheVariants.{Replay, Trace, Draw, Run, Plain, Print, Ends, Sched, Check, Origins, Worlds}
 use Rattle.speck_run.specs.declared.top.Status.TheVariants.{Done, Words, Script, ReadFault, WriteFault, Memory, TooLong, Stopped}
 use Rattle.speck_run.specs.Script.{MadeBy, IsFaultOf, AreInput, UsesThreads}

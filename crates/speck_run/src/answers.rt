@@ -4,7 +4,7 @@ ghost use Rattle.std.specs.Prelude.{◌≡◌, IfOk, string_bytes};
 ghost use Rattle.speck_run.specs.Top.{script_line};
 
 use crate::top::Status;
-use script_reader::Cause;
+use load_maker::script_reader::Cause;
 use spk_nums::Memory;
 use std::alloc::Global;
 

@@ -6,7 +6,7 @@ ghost use Rattle.trace_run.specs.lone_kernel.specs.Machine.{AreLists};
 use crate::closed::tables;
 use crate::text::write_decisions;
 use ends_run::core_runs::{Gate, run_whole};
-use script_reader::Script;
+use load_maker::script_reader::Script;
 use spk_nums::Memory;
 use std::alloc::Global;
 use std::thread::Threads;

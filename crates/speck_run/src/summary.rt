@@ -5,8 +5,8 @@ ghost use Rattle.speck_run.specs.Summary.{GivenSummary, IsSummedUp};
 
 use crate::closed::total_ticks;
 use crate::orders::{follow, run_rest};
+use load_maker::script_reader::{Cause, ReadFault, Script, read};
 use load_summary::{push_counts, push_total};
-use script_reader::{Cause, ReadFault, Script, read};
 use spk_nums::{Call, Item, Memory, Setup};
 use std::alloc::Global;
 use trace_run::lone_kernel::LoneKernel;

@@ -4,7 +4,7 @@ ghost use Rattle.trace_run.specs.lone_kernel.specs.kernel_history.specs.Order.{l
 ghost use Rattle.trace_run.specs.lone_kernel.specs.kernel_history.specs.Text.{line_of};
 ghost use Rattle.speck_run.specs.Written.{lines_of};
 
-use script_printer::push_reply_line;
+use load_maker::script_printer::push_reply_line;
 use spk_nums::{Call, Decision};
 use std::alloc::AllocError;
 

@@ -4,7 +4,7 @@ ghost use Rattle.std.specs.Prelude.{◌≡◌, [], ◌∷◌, ◌↔◌, IsTrue,
 ghost use Rattle.speck_run.specs.Top.{IsCommandOf, IsReadingOf, IsExplainedAfter, IsNumberOf, IsNumberIn, IsPageOf, texts_of};
 
 use explain_run::Reading;
-use script_reader::read_number;
+use load_maker::script_reader::read_number;
 
 /// A command of the program that takes an input.
 #[derive(Clone, Copy, Debug, PartialEq, Eq)]

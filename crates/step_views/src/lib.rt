@@ -6,5 +6,6 @@
 mod names;
 mod views;
 
+pub use kernel_history::word_map;
 pub use names::{WordName, name_at};
 pub use views::{StepMade, StepView, left_by, place_in};

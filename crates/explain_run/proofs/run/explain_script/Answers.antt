@@ -1,4 +1,5 @@
-use Rattle.{script_reader.specs.script_of, script_reader.specs.script_view, line_forms.specs.declared.context.Reading.Reading}
+use Rattle.{ends_reader.specs.script_reader.specs.script_of, ends_reader.specs.script_reader.specs.script_view}
+use Rattle.{line_forms.specs.declared.context.Reading.Reading}
 use Rattle.{explain_run.proofs.Telling.read_told, explain_run.proofs.Telling.refusal_told}
 use Rattle.explain_run.proofs.run.explain_script.Goals as goal
 

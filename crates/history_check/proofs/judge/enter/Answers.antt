@@ -1,4 +1,4 @@
-use Rattle.seq_state.proofs.{◌≡◌, ◌<◌, ◌+◌, ◌∙◌, refl, ap, subst, arith, entered, state_of, Represents}
+use Rattle.call_judge.specs.seq_state.proofs.{◌≡◌, ◌<◌, ◌+◌, ◌∙◌, refl, ap, subst, arith, entered, state_of, Represents}
 use Rattle.{history_check.specs.Judging.seen_of, history_check.proofs.Cores.seen_at, history_check.proofs.Marks.has_entered}
 use Rattle.history_check.proofs.judge.enter.Goals as goal
 

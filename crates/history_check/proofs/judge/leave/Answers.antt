@@ -1,4 +1,4 @@
-use Rattle.seq_state.proofs.{◌≡◌, ◌<◌, ◌∙◌, refl, sym, ap, subst, arith, returned, state_of, Represents}
+use Rattle.call_judge.specs.seq_state.proofs.{◌≡◌, ◌<◌, ◌∙◌, refl, sym, ap, subst, arith, returned, state_of, Represents}
 use Rattle.{history_check.specs.Judging.seen_of, history_check.proofs.Cores.seen_at, history_check.proofs.Marks.has_left}
 use Rattle.history_check.proofs.judge.leave.Goals as goal
 

@@ -1,4 +1,4 @@
-use Rattle.seq_state.proofs.{◌++◌, ◌∙◌, List, ℕ, ap, state_of}
+use Rattle.plain_kernel.specs.seq_state.proofs.{◌++◌, ◌∙◌, List, ℕ, ap, state_of}
 use Rattle.{open_calls.specs.Leads.names_text, open_calls.proofs.Same.outlook_is}
 use Rattle.open_calls.proofs.outlooks.outlook_at.Goals as goal
 

@@ -1,5 +1,5 @@
 use Rattle.plain_tables.proofs.Common.{◌≡◌, sym, ap, arith, tcap_in, sum_none, sum_more, state_of}
-use Rattle.seq_state.specs.kernel_rules.specs.State.{TcapFields}
+use Rattle.seq_lookups.specs.seq_state.specs.kernel_rules.specs.State.{TcapFields}
 use Rattle.plain_tables.proofs.frames.budgets.Goals as goal
 
 pub frames-init : goal.frames-init

@@ -1,4 +1,4 @@
-use Rattle.{seq_state.specs.Maps.state_of, plain_tables.proofs.Texts.all_adds}
+use Rattle.{seq_lookups.specs.seq_state.specs.Maps.state_of, plain_tables.proofs.Texts.all_adds}
 use Rattle.plain_tables.proofs.names.push_all.Goals as goal
 
 pub returns : goal.returns

@@ -1,4 +1,4 @@
-use Rattle.seq_state.specs.kernel_rules.proofs.{◌≤◌, ◌∙◌, sym, ap, arith, length, number_of}
+use Rattle.seq_lookups.specs.seq_state.specs.kernel_rules.proofs.{◌≤◌, ◌∙◌, sym, ap, arith, length, number_of}
 use Rattle.preempt_test.proofs.Walks.{found_here, passed_here, past_end, all_passed}
 use Rattle.sched_lookups.proofs.numbers.number_in.Goals.{in-Some+else-named-sched, in_default}
 use Rattle.sched_lookups.proofs.numbers.number_in.Goals as goal

@@ -1,4 +1,4 @@
-use Rattle.seq_state.specs.{◌<◌, ℕ, state_of}
+use Rattle.seq_lookups.specs.seq_state.specs.{◌<◌, ℕ, state_of}
 use Rattle.seal_check.specs.Sealing.{is_in, IsPlaceFree}
 use Rattle.seal_check.proofs.sealed.are_free.Given as goal
 

@@ -1,4 +1,4 @@
-use Rattle.seq_state.specs.{◌≡◌, ◌<◌, ℕ, false, state_of}
+use Rattle.seq_lookups.specs.seq_state.specs.{◌≡◌, ◌<◌, ℕ, false, state_of}
 use Rattle.seal_check.specs.Sealing.{is_in, IsFrameFree}
 use Rattle.seal_check.proofs.sealed.is_all_fine.Given as goal
 

@@ -1,4 +1,4 @@
-use Rattle.{seq_state.specs.Maps.state_of, seal_check.specs.Sealing.is_in, seal_check.proofs.Frees.tells_place}
+use Rattle.{seq_lookups.specs.seq_state.specs.Maps.state_of, seal_check.specs.Sealing.is_in, seal_check.proofs.Frees.tells_place}
 use Rattle.seal_check.proofs.sealed.is_free.Goals as goal
 
 pub returns-in-Some : goal.returns-in-Some

@@ -1,4 +1,4 @@
-use Rattle.seq_state.specs.{◌≡◌, ◌<◌, ℕ, true, false, found, has_frame}
+use Rattle.seq_lookups.specs.seq_state.specs.{◌≡◌, ◌<◌, ℕ, true, false, found, has_frame}
 use Rattle.seal_check.specs.Sealing.{is_in}
 use Rattle.seal_check.proofs.sealed.is_range_free.Given as goal
 

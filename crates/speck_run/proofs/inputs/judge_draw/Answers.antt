@@ -1,4 +1,5 @@
-use Rattle.{std.proofs.Common.length, std.proofs.Common.arith, script_reader.specs.Readings.lists_of, speck_run.proofs.Accepted.accepted}
+use Rattle.{std.proofs.Common.length, std.proofs.Common.arith, load_maker.specs.script_reader.specs.Readings.lists_of}
+use Rattle.{speck_run.proofs.Accepted.accepted}
 use Rattle.speck_run.proofs.inputs.judge_draw.Goals as goal
 
 pub draw-requires-clause-can_run : goal.draw-requires-clause-can_run

@@ -1,7 +1,7 @@
 use Rattle.std.proofs.Common.{length, map, subst, arith, string_bytes, IfSome}
 use Rattle.speck_run.specs.{declared.words.Command.TheVariants.Ends, Ends.EndsText}
 use Rattle.speck_run.proofs.{Due.due_done, Accepted.accepted, Endings.few_calls, Endings.few_asks}
-use Rattle.{explain_run.specs.ends_reader.specs.Inputs.input_view, script_reader.specs.Readings.lists_of}
+use Rattle.{explain_run.specs.ends_reader.specs.Inputs.input_view, load_maker.specs.script_reader.specs.Readings.lists_of}
 use Rattle.speck_run.proofs.inputs.judge_ends.Goals as goal
 
 pub make_ends-requires-clause-can_run : goal.make_ends-requires-clause-can_run

@@ -1,5 +1,5 @@
 use Rattle.std.proofs.Common.{subst, sym, arith}
-use Rattle.{script_reader.specs.Readings.lists_of, plain_run.specs.Plain.AreRunnable}
+use Rattle.{load_maker.specs.script_reader.specs.Readings.lists_of, plain_run.specs.Plain.AreRunnable}
 use Rattle.speck_run.proofs.inputs.judge_plain.Goals as goal
 
 pub plain-requires-clause-can_run : goal.plain-requires-clause-can_run

@@ -1,4 +1,5 @@
-use Rattle.{std.proofs.Common.length, std.proofs.Common.arith, script_reader.specs.Readings.lists_of, speck_run.proofs.Accepted.accepted}
+use Rattle.{std.proofs.Common.length, std.proofs.Common.arith, load_maker.specs.script_reader.specs.Readings.lists_of}
+use Rattle.{speck_run.proofs.Accepted.accepted}
 use Rattle.speck_run.proofs.summary.sum_up.Goals as goal
 
 pub summarize-requires-clause-can_run : goal.summarize-requires-clause-can_run

@@ -1,5 +1,5 @@
 use Rattle.trace_run.specs.lone_kernel.specs.flight.proofs.{◌≡◌, sym, subst, ◌∙◌, All, length, arith, string_bytes, length-map, InLimits}
-use Rattle.script_reader.specs.{Meaning, AtMost, BelowCores, lists_of}
+use Rattle.load_maker.specs.script_reader.specs.{Meaning, AtMost, BelowCores, lists_of}
 use Rattle.{load_maker.proofs.Within.accepted as made_accepted, speck_run.specs.Summary.GivenSummary, speck_run.proofs.Accepted.accepted}
 use Rattle.speck_run.proofs.top.answer_load.Goals as goal
 
