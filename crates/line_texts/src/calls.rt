@@ -1,10 +1,10 @@
 //! Calls.
 
 ghost use Rattle.std.specs.Prelude.{◌≡◌, ◌++◌, OnOk, string_bytes};
-ghost use Rattle.spk_nums.specs.Texts.{call_text, copy_text, make_text, site_text};
+ghost use Rattle.spk_nums.specs.Texts.{call_text, site_text};
 
 use crate::numbers::{push_four_numbers, push_one, push_pair, push_spaced, push_triple};
-use spk_nums::{Call, CapId, FrameArg, FrameKind, Make, frame_kind_name};
+use spk_nums::{Call, CapId, FrameArg, FrameKind, Make, Rights, frame_kind_name};
 use std::alloc::AllocError;
 
 #[inline]
@@ -28,9 +28,16 @@ fn push_retype(
 }
 
 // A copy, with its rights where they are not both.
-fn push_copy(text: &mut String, a: CapId, t: CapId, b: CapId, rights: u8) -> Result<(), AllocError>
-    ensures { OnOk result (string_bytes text.new ≡ string_bytes text.old ++ copy_text a t b rights) }
+fn push_copy(
+    text: &mut String,
+    a: CapId,
+    t: CapId,
+    b: CapId,
+    kept: Rights,
+) -> Result<(), AllocError>
+    ensures { OnOk result (string_bytes text.new ≡ string_bytes text.old ++ call_text (Call.Copy a t b kept)) }
 {
+    let rights = kept.number();
     if rights == 3 {
         push_triple(text, "copy", of(a), of(t), of(b))
     } else {
@@ -65,7 +72,7 @@ fn push_site(text: &mut String, word: &'static str, site: Site) -> Result<(), Al
 
 fn push_thread(text: &mut String, site: Site, comp: CapId) -> Result<(), AllocError>
     ensures { OnOk result (string_bytes text.new ≡ string_bytes text.old
-        ++ make_text (Make.Thread comp) site.range site.frame site.table site.slot) }
+        ++ call_text (Call.Make (Make.Thread comp) site.range site.frame site.table site.slot)) }
 {
     push_site(text, "make thread ", site)?;
     push_spaced(text, of(comp))?;
@@ -73,7 +80,8 @@ fn push_thread(text: &mut String, site: Site, comp: CapId) -> Result<(), AllocEr
 }
 
 fn push_make(text: &mut String, what: &Make, site: Site) -> Result<(), AllocError>
-    ensures { OnOk result (string_bytes text.new ≡ string_bytes text.old ++ make_text what.now site.range site.frame site.table site.slot) }
+    ensures { OnOk result (string_bytes text.new ≡ string_bytes text.old
+        ++ call_text (Call.Make what.now site.range site.frame site.table site.slot)) }
 {
     match *what {
         Make::Table => push_site(text, "make table ", site),
@@ -101,7 +109,7 @@ pub fn push_call(text: &mut String, call: &Call) -> Result<(), AllocError>
 {
     match *call {
         Call::Look { a } => push_one(text, "look", of(a)),
-        Call::Copy { a, t, b, rights } => push_copy(text, a, t, b, rights.number()),
+        Call::Copy { a, t, b, rights } => push_copy(text, a, t, b, rights),
         Call::Remove { t, b } => push_pair(text, "remove", of(t), of(b)),
         Call::Grow { t, i, l } => { push_triple(text, "grow", of(t), u32::from(i.number()), of(l)) }
         Call::Shrink { t, i } => push_pair(text, "shrink", of(t), u32::from(i.number())),
