@@ -1,5 +1,4 @@
 -- What the crates above name through this one.
-pub use Rattle.plain_kernel.specs.seq_lookups
 pub use Rattle.plain_kernel.specs.seq_state
 pub use Rattle.plain_kernel.specs.seq_plans
 pub use Rattle.plain_kernel.specs.same_changes

@@ -1,5 +1,4 @@
 -- What the crates above name through this one.
-pub use Rattle.sched_reader.specs.script_reader
 pub use Rattle.fixed_prio.specs.sched_laws
 pub use Rattle.fixed_prio
 pub use Rattle.sched_reader

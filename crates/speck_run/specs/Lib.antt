@@ -1,5 +1,4 @@
 -- What the crates above name through this one.
-pub use Rattle.one_core.specs.sched_run
 pub use Rattle.trace_run
 pub use Rattle.draw_run
 pub use Rattle.origins_run

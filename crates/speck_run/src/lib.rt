@@ -24,7 +24,6 @@ pub use ends_run::core_runs::{FreeGate, Gate};
 pub use explains::explains_commands;
 pub use given::replay;
 pub use one_core;
-pub use one_core::sched_run;
 pub use origins_run;
 pub use runs::run_lists;
 pub use summary::{Summed, sum_up};
