@@ -537,54 +537,6 @@ tail_fits : (own : Own) (a : ActiveCall) (r : Reply) (drawn : Option ℕ) (tail 
     → a.counts ≡ counts → TailFits own.layout tail
     → TookFits own (left_at own.layout.cores a (Decided r drawn tail)) a
     (GoesOn (went_with a (tail_counts tail counts) (took_tail r drawn tail counts found)))
-tail_fits own a r drawn (Quiesce close) counts found facts is fits = record {
-  call = refl;
-  found = facts.found;
-  first = tt;
-  stage = tt;
-  acquired = subst (AllFit own.layout) is facts.acquired;
-  counts = tt;
-  room = tt;
-  counted = facts.own_fits.made;
-  steps = refl;
-  fewer = let same : length a.counts ≡ length counts = ap length is in omega arith;
-}
-tail_fits own a r drawn (Unmark f word) counts found facts is fits = record {
-  call = refl;
-  found = facts.found;
-  first = tt;
-  stage = tt;
-  acquired = subst (AllFit own.layout) is facts.acquired;
-  counts = tt;
-  room = tt;
-  counted = facts.own_fits.made;
-  steps = refl;
-  fewer = let same : length a.counts ≡ length counts = ap length is in omega arith;
-}
-tail_fits own a r drawn (StoreDead life stamp) counts found facts is fits = record {
-  call = refl;
-  found = facts.found;
-  first = tt;
-  stage = tt;
-  acquired = subst (AllFit own.layout) is facts.acquired;
-  counts = tt;
-  room = tt;
-  counted = facts.own_fits.made;
-  steps = refl;
-  fewer = let same : length a.counts ≡ length counts = ap length is in omega arith;
-}
-tail_fits own a r drawn (StoreFlush core stamp) counts found facts is fits = record {
-  call = refl;
-  found = facts.found;
-  first = tt;
-  stage = tt;
-  acquired = subst (AllFit own.layout) is facts.acquired;
-  counts = tt;
-  room = tt;
-  counted = facts.own_fits.made;
-  steps = refl;
-  fewer = let same : length a.counts ≡ length counts = ap length is in omega arith;
-}
 tail_fits own a r drawn (StoreLive l live f word) counts found facts is fits = record {
   call = refl;
   found = facts.found;
@@ -604,18 +556,6 @@ tail_fits own a r drawn (StoreRunning f core depth old old_depth) counts found f
   found = facts.found;
   first = tt;
   stage = (fits.2, fits.3);
-  acquired = subst (AllFit own.layout) is facts.acquired;
-  counts = tt;
-  room = tt;
-  counted = facts.own_fits.made;
-  steps = refl;
-  fewer = let same : length a.counts ≡ length counts = ap length is in omega arith;
-}
-tail_fits own a r drawn (StoreIdle f depth) counts found facts is fits = record {
-  call = refl;
-  found = facts.found;
-  first = tt;
-  stage = tt;
   acquired = subst (AllFit own.layout) is facts.acquired;
   counts = tt;
   room = tt;
@@ -649,6 +589,18 @@ tail_fits own a r drawn Nothing (x ∷ xs) found facts is fits = record {
 }
 tail_fits own a r drawn (Release x) counts found facts is fits = released_fits own a r drawn x counts found facts is fits
 tail_fits own a r drawn (Share p) counts found facts is fits = shared_fits own a r drawn p counts found facts is fits
+tail_fits own a r drawn tail counts found facts is fits = record {
+  call = refl;
+  found = facts.found;
+  first = tt;
+  stage = tt;
+  acquired = subst (AllFit own.layout) is facts.acquired;
+  counts = tt;
+  room = tt;
+  counted = facts.own_fits.made;
+  steps = refl;
+  fewer = let same : length a.counts ≡ length counts = ap length is in omega arith;
+}
 
 stage_fits : (own : Own) (a : ActiveCall) (stage : Stage) (found : ℕ) → Facts own a → StageFits own.layout stage → CountsAt a.counts stage
     → HasRoom own.made own.limit stage → IsFirst stage a.found

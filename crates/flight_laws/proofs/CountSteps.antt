@@ -457,21 +457,14 @@ module _ (setup : Setting) (setting : IsSetting setup) (cores : ℕ → Core) (t
           → KnowsAt setup t c (cores c).own.table a (Decided r drawn tail) → StageFits (cores c).own.layout (Decided r drawn tail)
           → Leaves (tail_move r drawn tail xs)
       tail_leaves (Quiesce close) xs is all has fits = beside (close_move close) (close_beside close)
-      tail_leaves (Unmark g word) xs is all has fits = beside (tail_move r drawn (Unmark g word) xs) refl
-      tail_leaves (StoreDead life x) xs is all has fits = beside (tail_move r drawn (StoreDead life x) xs) refl
-      tail_leaves (StoreFlush by x) xs is all has fits = beside (tail_move r drawn (StoreFlush by x) xs) refl
-      tail_leaves (StoreLive l live g word) xs is all has fits = beside (tail_move r drawn (StoreLive l live g word) xs) refl
       tail_leaves (Push x) xs is all has fits = beside (push_move x) (push_beside x)
       tail_leaves (Pop x) xs is all has fits = beside (pop_move x) (pop_beside x)
       tail_leaves (Share p) xs is all has fits = beside (tail_move r drawn (Share p) xs) (pair_beside p p.at)
-      tail_leaves (StoreRunning g core depth old old_depth) xs is all has fits =
-          beside (tail_move r drawn (StoreRunning g core depth old old_depth) xs) refl
-      tail_leaves (StoreIdle g depth) xs is all has fits = beside (tail_move r drawn (StoreIdle g depth) xs) refl
-      tail_leaves Nothing [] is all has fits = beside (tail_move r drawn Nothing []) refl
       tail_leaves Nothing (x ∷ xs) is all has fits = λ word. inr (inl (commits x xs all is))
       tail_leaves (Release y) [] is all has fits = thaws y y.thaw refl is fits.thaw
       tail_leaves (Release y) (x ∷ xs) is all has fits = λ word. inr (inl (commits_beside y x xs all is
           (subst (λ (ys : List Acquired). KnowsRelease a.call ys y) all has.1)))
+      tail_leaves tail xs is all has fits = beside (tail_move r drawn tail xs) refl
 
     stage_leaves : (stage : Stage) → a.stage ≡ stage → phase t c ≡ phase_at a.call stage → KnowsAt setup t c (cores c).own.table a stage
         → Leaves (stage_move (cores c).own a.counts stage)

@@ -66,18 +66,9 @@ SparesTail tail f = Unit {0}
 
 tail_count : (setup : Setting) (t : Trace) (c : ℕ) (call : Call) (counts : List Acquired) (tail : Tail) (h : Holding) (f k : ℕ)
     → KnowsTail setup t c call counts tail → SparesTail tail f → (holds_tail tail h).stands (CountAt f k) ≡ h.stands (CountAt f k)
-tail_count setup t c call counts Nothing h f k knows spares = refl
-tail_count setup t c call counts (Quiesce (close_compare node index word by)) h f k knows spares = refl
 tail_count setup t c call counts (Quiesce (AtDraw node index)) h f k knows spares = refl
-tail_count setup t c call counts (Quiesce (AtStore node index x)) h f k knows spares = refl
-tail_count setup t c call counts (Unmark g word) h f k knows spares = refl
-tail_count setup t c call counts (StoreDead life x) h f k knows spares = refl
-tail_count setup t c call counts (StoreFlush by x) h f k knows spares = refl
 tail_count setup t c call counts (Release y) h f k knows spares = (release_away y h f k knows.1.thaws spares).1
-tail_count setup t c call counts (StoreLive l live g word) h f k knows spares = refl
-tail_count setup t c call counts (Push (push.AtStack g core depth comp)) h f k knows spares = refl
 tail_count setup t c call counts (Push (push.AtThread g core depth)) h f k knows spares = refl
-tail_count setup t c call counts (Pop (pop.AtThread g core depth)) h f k knows spares = refl
 tail_count setup t c call counts (Pop (pop.AtStack g depth)) h f k knows spares = refl
 tail_count setup t c call counts (Share p) h f k knows spares = by p.at
   where
@@ -92,8 +83,7 @@ tail_count setup t c call counts (Share p) h f k knows spares = by p.at
     by (PairAt.StoreList n) = refl
     by PairAt.StoreB = refl
     by (PairAt.StoreA moved v) = refl
-tail_count setup t c call counts (StoreRunning g core depth old old_depth) h f k knows spares = refl
-tail_count setup t c call counts (StoreIdle g depth) h f k knows spares = refl
+tail_count setup t c call counts tail h f k knows spares = refl
 
 module _ (setup : Setting) (setting : IsSetting setup) (cores : ℕ → Core) (t : Trace) (stands : Invariant setup cores t) (c : ℕ)
     (here : c < setup.cores) (a : ActiveCall) (active : (cores c).active ≡ Some a) (x : Acquired) (among : IsAmong x a.counts)
@@ -196,22 +186,13 @@ module _ (own : Own) (a : ActiveCall) (x : Acquired) (among : IsAmong x a.counts
 
   tail_holds : (r : Reply) (drawn : Option ℕ) (tail : Tail) (xs : List Acquired) (found : ℕ) → IsAmong x xs → NotFirst tail xs
       → IsAmong x (tail_counts tail xs) × (is_done (took_tail r drawn tail xs found) ≡ done_by r drawn)
-  tail_holds r drawn (Quiesce close) xs found among first = (among, refl)
-  tail_holds r drawn (Unmark f word) xs found among first = (among, refl)
-  tail_holds r drawn (StoreDead life stamp) xs found among first = (among, refl)
-  tail_holds r drawn (StoreFlush core stamp) xs found among first = (among, refl)
-  tail_holds r drawn (StoreLive l live f word) xs found among first = (among, refl)
-  tail_holds r drawn (Push x) xs found among first = (among, refl)
-  tail_holds r drawn (Pop x) xs found among first = (among, refl)
-  tail_holds r drawn (Share p) xs found among first = (among, refl)
-  tail_holds r drawn (StoreRunning f core depth old old_depth) xs found among first = (among, refl)
-  tail_holds r drawn (StoreIdle f depth) xs found among first = (among, refl)
   tail_holds r drawn Nothing [] found among first = absurd among
   tail_holds r drawn Nothing (y ∷ ys) found (inl same) first = absurd (first refl same)
   tail_holds r drawn Nothing (y ∷ ys) found (inr among) first = (among, refl)
   tail_holds r drawn (Release y) [] found among first = absurd among
   tail_holds r drawn (Release z) (y ∷ ys) found (inl same) first = absurd (first refl same)
   tail_holds r drawn (Release z) (y ∷ ys) found (inr among) first = (among, refl)
+  tail_holds r drawn tail xs found among first = (among, refl)
 
   abbrev pub NotCommitted : Stage → Type 0
   NotCommitted (Decided r drawn tail) = NotFirst tail a.counts

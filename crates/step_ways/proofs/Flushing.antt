@@ -60,18 +60,13 @@ pop_flush (PopOf.AtThread f core depth) h c = refl
 pop_flush (PopOf.AtStack f depth) h c = refl
 
 tail_flush : (tail : Tail) (h : Holding) (c : ℕ) → flushes_tail tail ≡ false → (holds_tail tail h).stands (FlushAt c) ≡ h.stands (FlushAt c)
-tail_flush Nothing h c none = refl
 tail_flush (Quiesce close) h c none = drawn_flush close h c
-tail_flush (Unmark f word) h c none = refl
-tail_flush (StoreDead life stamp) h c none = refl
 tail_flush (Release release) h c none = (release_flush release h c).1
 tail_flush (Push push) h c none = push_flush push h c
 tail_flush (Pop pop) h c none = pop_flush pop h c
-tail_flush (StoreLive l live f word) h c none = refl
 tail_flush (Share p) h c none = shared_flush p p.at h c
-tail_flush (StoreRunning f core depth old old_depth) h c none = refl
-tail_flush (StoreIdle f depth) h c none = refl
 tail_flush (StoreFlush by stamp) h c none = absurd (false≢true (sym none))
+tail_flush tail h c none = refl
 
 stage_flush : (stage : Stage) (h : Holding) (c : ℕ) → is_flushing stage ≡ false
     → (holds_stage stage h).stands (FlushAt c) ≡ h.stands (FlushAt c)
@@ -88,17 +83,6 @@ some_flush setup t c table a Enter h knows is = absurd (false≢true is)
 some_flush setup t c table a (Living alive) h knows is = absurd (false≢true is)
 some_flush setup t c table a (Undecided work) h knows is = absurd (false≢true is)
 some_flush setup t c table a (Leave r x) h knows is = absurd (false≢true is)
-some_flush setup t c table a (Decided r drawn Nothing) h knows is = absurd (false≢true is)
-some_flush setup t c table a (Decided r drawn (Quiesce close)) h knows is = absurd (false≢true is)
-some_flush setup t c table a (Decided r drawn (Unmark f word)) h knows is = absurd (false≢true is)
-some_flush setup t c table a (Decided r drawn (StoreDead life stamp)) h knows is = absurd (false≢true is)
-some_flush setup t c table a (Decided r drawn (Release release)) h knows is = absurd (false≢true is)
-some_flush setup t c table a (Decided r drawn (Push push)) h knows is = absurd (false≢true is)
-some_flush setup t c table a (Decided r drawn (Pop pop)) h knows is = absurd (false≢true is)
-some_flush setup t c table a (Decided r drawn (StoreLive l live f word)) h knows is = absurd (false≢true is)
-some_flush setup t c table a (Decided r drawn (Share p)) h knows is = absurd (false≢true is)
-some_flush setup t c table a (Decided r drawn (StoreRunning f core depth old old_depth)) h knows is = absurd (false≢true is)
-some_flush setup t c table a (Decided r drawn (StoreIdle f depth)) h knows is = absurd (false≢true is)
 some_flush setup t c table a (Decided r drawn (StoreFlush by stamp)) h knows is =
     subst (λ (d : ℕ). 1 ≤ (holds_tail (StoreFlush by stamp) h).stands (FlushAt d)) knows.core
     (subst (λ (n : ℕ). 1 ≤ n) (sym (ap (λ b. if b then stamp else h.stands (FlushAt by)) (same_same (FlushAt by)))) knows.some)

@@ -136,13 +136,8 @@ module _ (setup : Setting) (setting : IsSetting setup) (cores : ℕ → Core) (t
 
       tail_entry : (call : Call) (counts : List Acquired) (tail : Tail) → KnowsTail setup t d call counts tail → (h : Holding)
           → Same f i (holds_tail tail h) h
-      tail_entry call counts Nothing knows h = refl
       tail_entry call counts (Quiesce close) knows h = stored_entry call close knows h
-      tail_entry call counts (Unmark g word) knows h = refl
-      tail_entry call counts (StoreDead life stamp) knows h = refl
-      tail_entry call counts (StoreFlush by stamp) knows h = refl
       tail_entry call counts (Release x) knows h = (release_entry x h f i).0
-      tail_entry call counts (StoreLive l live g word) knows h = refl
       tail_entry call counts (Push p) knows h = push_entry f i p h
       tail_entry call counts (Pop p) knows h = pop_entry f i p h
       tail_entry call counts (share_tail p) knows h = shared_entry call p p.at knows.at h (apart p.a knows.tcap_a.guarded)
@@ -150,6 +145,7 @@ module _ (setup : Setting) (setting : IsSetting setup) (cores : ℕ → Core) (t
           keep_other g 0 (if f == old && i == 0 then true else h.marks (EntryAt f i)) f i (λ same. no_thread d here (sym knows.own ∙ same))
           ∙ keep_other old 0 (h.marks (EntryAt f i)) f i (apart old knows.rest.thread.guarded)
       tail_entry call counts (StoreIdle g depth) knows h = keep_other g 0 (h.marks (EntryAt f i)) f i (apart g knows.thread.guarded)
+      tail_entry call counts tail knows h = refl
 
       work_entry : (table : ℕ) (a : ActiveCall) → phase t d ≡ Open a.call → (work : Work) → KnowsWork setup t d table a work → (h : Holding)
           → Same f i (holds_work work h) h

@@ -156,24 +156,18 @@ module _ (setup : Setting) (setting : IsSetting setup) (cores : ℕ → Core) (t
 
     by_tail : (tail : Tail) (h : Holding) → KnowsTail setup t d a.call a.counts tail → h.marks (EntryAt f i) ≡ false
         → Claimed (holds_tail tail h)
-    by_tail Nothing h has free = none h free
     by_tail (Quiesce (AtCompare n index word by)) h has free = absurd has
     by_tail (Quiesce (AtDraw n index)) h has free = absurd has
     by_tail (Quiesce (AtStore n index x)) h has free = no_thread h n index _ (none h free) (node n has.relies)
-    by_tail (Unmark g word) h has free = none (keeps (FrameAt g) word h) free
-    by_tail (StoreDead life x) h has free = none (holds_tail (StoreDead life x) h) free
-    by_tail (StoreFlush by x) h has free = none (holds_tail (StoreFlush by x) h) free
     by_tail (Release x) h has free = apart (holds_release x h) h (release_entry x h f i).0 free
-    by_tail (StoreLive l live g word) h has free = none (holds_tail (StoreLive l live g word) h) free
-    by_tail (Push (push.AtStack g core depth c)) h has free = none (holds_tail (Push (push.AtStack g core depth c)) h) free
     by_tail (Push (push.AtThread g core depth)) h has free = none (holds_tail (Push (push.AtThread g core depth)) h) free
     by_tail (Pop (pop.AtThread g core depth)) h has free = none (holds_tail (Pop (pop.AtThread g core depth)) h) free
-    by_tail (Pop (pop.AtStack g depth)) h has free = none (holds_tail (Pop (pop.AtStack g depth)) h) free
     by_tail (Share p) h has free =
         shared a.call p p.at h (tcap_no_thread ((state_after setup t).frame p.a) has.tcap_a.tcap) has.at (none h free)
     by_tail (StoreRunning g core depth old old_depth) h has free =
         runs (holds_idle old old_depth h) g _ (idle h old old_depth (none h free)) has.own
     by_tail (StoreIdle g depth) h has free = idle h g depth (none h free)
+    by_tail tail h has free = none (holds_tail tail h) free
 
     by_work : (table : ℕ) (work : Work) → phase t d ≡ Open a.call → KnowsWork setup t d table a work
         → Claimed (holds_work work (holds_counts None a.counts))

@@ -138,20 +138,13 @@ module _ (setup : Setting) (setting : IsSetting setup) (cores : ℕ → Core) (t
   module _ (a : ActiveCall) where
     by_tail : (r : Reply) (tail : Tail) (h : Holding) → KnowsTail setup t d a.call a.counts tail
         → (changes_budgets a.call ≡ true → OwesTail decided_in d r a.call tail) → IsFree h → Tells r a.call (holds_tail tail h)
-    by_tail r Nothing h has owes free = none r a.call h free
     by_tail r (Quiesce (AtCompare n index word by)) h has owes free = absurd has
     by_tail r (Quiesce (AtDraw n index)) h has owes free = absurd has
     by_tail r (Quiesce (AtStore n index x)) h has owes free =
         none r a.call (holds_tail (Quiesce (AtStore n index x)) h) (beside h n index 0 free (node_no_tcap (s.frame n) has.relies.node))
-    by_tail r (Unmark g word) h has owes free = none r a.call (keeps (FrameAt g) word h) free
-    by_tail r (StoreDead life x) h has owes free = none r a.call (holds_tail (StoreDead life x) h) free
-    by_tail r (StoreFlush by x) h has owes free = none r a.call (holds_tail (StoreFlush by x) h) free
     by_tail r (Release x) h has owes free = none r a.call (holds_release x h) ((release_entry x h f 0).0 ∙ free)
-    by_tail r (StoreLive l live g word) h has owes free = none r a.call (holds_tail (StoreLive l live g word) h) free
-    by_tail r (Push (push.AtStack g core depth c)) h has owes free = none r a.call (holds_tail (Push (push.AtStack g core depth c)) h) free
     by_tail r (Push (push.AtThread g core depth)) h has owes free = none r a.call (holds_tail (Push (push.AtThread g core depth)) h) free
     by_tail r (Pop (pop.AtThread g core depth)) h has owes free = none r a.call (holds_tail (Pop (pop.AtThread g core depth)) h) free
-    by_tail r (Pop (pop.AtStack g depth)) h has owes free = none r a.call (holds_tail (Pop (pop.AtStack g depth)) h) free
     by_tail r (Share p) h has owes free = shared r a.call p p.at h has.at has.core (owes has.budgets) free
     by_tail r (StoreRunning g core depth old old_depth) h has owes free =
         none r a.call (holds_tail (StoreRunning g core depth old old_depth) h)
@@ -159,6 +152,7 @@ module _ (setup : Setting) (setting : IsSetting setup) (cores : ℕ → Core) (t
         (own_no_tcap g has.own))
     by_tail r (StoreIdle g depth) h has owes free =
         none r a.call (holds_idle g depth h) (beside h g 0 0 free (thread_no_tcap (s.frame g) has.thread.thread))
+    by_tail r tail h has owes free = none r a.call (holds_tail tail h) free
 
     by_stage : (call : Call) (r : Reply) (table : ℕ) (stage : Stage) → phase t d ≡ history.Decided call r
         → phase t d ≡ phase_at a.call stage → KnowsAt setup t d table a stage

@@ -102,21 +102,12 @@ thawed_none x (Some t) = tt
 pub tail_on : (s : State) (c : ℕ) (r : Reply) (drawn : Option ℕ) (call : Call) (tail : Tail) (counts : List Acquired) (found : ℕ)
     → OwesTail s c r call tail → OwesStage s c call (took_tail r drawn tail counts found)
 tail_on s c r drawn call Nothing [] found owes = tt
-tail_on s c r drawn call Nothing (x ∷ xs) found owes = tt
-tail_on s c r drawn call (Quiesce close) counts found owes = tt
-tail_on s c r drawn call (Unmark f word) counts found owes = tt
-tail_on s c r drawn call (StoreDead life x) counts found owes = tt
-tail_on s c r drawn call (StoreFlush by x) counts found owes = tt
 tail_on s c r drawn call (Release x) [] found owes = none_owed s c r call (release_after x) (thawed_none x x.thaw)
 tail_on s c r drawn call (Release x) (y ∷ ys) found owes = tt
-tail_on s c r drawn call (StoreLive l live f word) counts found owes = tt
-tail_on s c r drawn call (Push (push.AtStack f core depth comp)) counts found owes = tt
 tail_on s c r drawn call (Push (push.AtThread f core depth)) counts found owes = tt
 tail_on s c r drawn call (Pop (pop.AtThread f core depth)) counts found owes = tt
-tail_on s c r drawn call (Pop (pop.AtStack f depth)) counts found owes = tt
 tail_on s c r drawn call (Share p) counts found owes = share_on s c r call p found owes
-tail_on s c r drawn call (StoreRunning f core depth old old_depth) counts found owes = tt
-tail_on s c r drawn call (StoreIdle f depth) counts found owes = tt
+tail_on s c r drawn call tail counts found owes = tt
 
 -- The work of other acts
 
