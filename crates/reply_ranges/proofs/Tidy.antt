@@ -3,15 +3,15 @@
 use Rattle.state_laws.specs.kernel_laws.proofs as low
 use low.{◌≡◌, ℕ, ◌<◌, ◌≤◌, ◌^◌, Bool, true, false, List, [], ◌∷◌, ◌++◌, Option, Some, None, IsTrue, sym, ap, subst, arith, ◌==◌}
 use low.{ltb as nat_lt, ◌+◌, length, if◌then◌else◌, false≢true, Capability, cap_of, kept, part_of, Setting, IsSetting, InLimits, Kind}
-use low.{FrameKind, Call, Copy, Remove, Grow, Shrink, Retype, Make as make_call, Map, Unmap, Touch, Gate}
-use low.{Tick, Part, Translation, Reply, Place, Free, Holds, Quiescing, Comp, Frame, Kernel, Core}
+use low.{FrameKind, Call, Retype, Make as make_call, Touch}
+use low.{Tick, Translation, Reply, Place, Free, Holds, Quiescing, Comp, Frame, Kernel, Core}
 use low.{State, put, comp_in, comp_of, plain_cap, start_cap, place_with, start, entered, returned, Slot, Want}
-use low.{Under, InRoot, found, root_at, place_at, held_in, usable_in, usable, reached, any, to_copy, only, Change, Judged, Refused, Found}
+use low.{Under, found, root_at, place_at, held_in, usable_in, usable, reached, only, Change, Judged, Refused, Found}
 use low.{and_then, or_refuse, unless, named, mapped, make_rule, has_frames, touch_by, translation_of, caching}
 use low.{rule_of, change_of, changed, counted, owed_by, state_by, fits, IsGood, EndsWithin, Event, Enters, Decides, Returns, after, is_open}
 use low.{IsRun, IfFound, put_all, only_is, IsOpen, opened, open_is, open_limits, limits_stay, ChangesFrom, outcome_from, suits, named_fit}
 use low.{then_parts, or_found, named_good, name_parts, Shaped, runs_shape, IsFitted, runs_fit, held_is, mapped_page}
-use Rattle.state_laws.specs.kernel_rules.specs.{least_rights, Make, to_part}
+use Rattle.state_laws.specs.kernel_rules.specs.{least_rights, Make, to_part, to_use, first_cause, beyond}
 use Rattle.state_laws.specs.kernel_invariant.proofs.{within_by, held_facts}
 use Rattle.state_laws.specs.kernel_rules.proofs.Rows.{Looks}
 use Rattle.state_laws.specs.kernel_invariant.proofs.Facts.{LedBy, HoldsAt, from_left, edits_map}
@@ -213,8 +213,22 @@ module _ (s : State) (o : ℕ → Bool) (c : ℕ) (opens : IsOpen s o c) (w : Is
   make_tidy (Make.Comp x p l) r f t b g = (plain_comp f, tt)
 
   -- what is removed was held
-  removed : (target : Target) (g : Looks) → held s c target ≡ Found (g.slots 0, g.held 0) → IsCap (g.held 0)
-  removed target g e = held_cap (g.slots 0).node (g.slots 0).index (g.held 0) (held_facts s c target (g.slots 0) (g.held 0) e).1
+  removed : (target : Target) (at : Slot) (k : Capability) → held s c target ≡ Found (at, k) → IsCap k
+  removed target at k e = held_cap at.node at.index k (held_facts s c target at k e).1
+
+  -- what is kept of a capability that a name leads to, a part of one, and the gate of one
+  kept_named : (n : ℕ) (want : Want) (k : Capability) (these : ℕ) → named s c n want ≡ Found k → IsCap (kept k these)
+  kept_named n want k these e = kept_cap k these (named_cap n want k e)
+
+  part_named : (r f n : ℕ) (k : Capability) → named s c r (to_part (only Kind.Range)) ≡ Found k
+      → first_cause s c (beyond (found k) f n ∷ []) ≡ None → IsCap (part_of k f n)
+  part_named r f n k e calm = part_cap k f n (named_cap r (to_part (only Kind.Range)) k e)
+      (named_good s o c r (to_part (only Kind.Range)) k opens.sound opens.is e) (within_by s c k f n calm)
+
+  gate_named : (n : ℕ) (k : Capability) → named s c n (to_use (only Kind.Comp)) ≡ Found k
+      → IsCap (cap_of Kind.Gate k.frame (comp_in (s.frame k.frame)).epoch)
+  gate_named n k e = gate_cap k.frame (comp_in (s.frame k.frame)).epoch
+      (epoch_fits s.limits.epochs (s.frame k.frame) epochs (shape.frames k.frame) (named_fit s o c n Kind.Comp k opens.sound opens.is e))
 
   -- the flags of a mapping
   page_flags : (k : Kind) (f a : ℕ) → k ≡ Kind.Page → NumberFits k f a → a < 4
@@ -230,29 +244,10 @@ module _ (s : State) (o : ℕ → Bool) (c : ℕ) (opens : IsOpen s o c) (w : Is
   touch_tidy v (Some t) g led = tt
 
   row_tidy : (call : Call) → InLimits call → (g : Looks) → LedBy s c (rule_of s c call) g → HoldsAt TidyBy (rule_of s c call) g
-  row_tidy (Copy a t b rights) lim g led = (kept_cap (g.caps 0) rights.0 (named_cap a (to_copy any) (g.caps 0) led.0), tt)
-  row_tidy (Remove t b) lim g led = (removed (Under (found (g.caps 0)) b) g led.1.0, tt)
-  row_tidy (Grow t i l) lim g led = (plain_link (g.caps 1).frame, tt)
-  row_tidy (Shrink t i) lim g led = (removed (InRoot (found (g.caps 0)) i) g led.1.0, tt)
   row_tidy (Retype r f FrameKind.Untyped) lim g led = tt
   row_tidy (make_call what r f t b) lim g led = make_tidy what r f t b g
-  row_tidy (Map p v r f x) lim g led = (page_cap f x.0 lim, tt)
-  row_tidy (Unmap p v) lim g led = (removed (Under (found (g.caps 0)) v) g led.1.0, tt)
   row_tidy (Touch v) lim g led = touch_tidy v (translation_of (s.core c).cached (comp_of s c).pages v) g led
-  row_tidy (Gate k t b) lim g led =
-      let comp : Capability = g.caps 0 in (
-        gate_cap comp.frame (comp_in (s.frame comp.frame)).epoch
-            (epoch_fits s.limits.epochs (s.frame comp.frame) epochs (shape.frames comp.frame)
-            (named_fit s o c k Kind.Comp comp opens.sound opens.is led.0)),
-        tt,
-      )
-  row_tidy (Part r f n t b) lim g led =
-      let k : Capability = g.caps 0 in (
-        part_cap k f n (named_cap r (to_part (only Kind.Range)) k led.0)
-            (named_good s o c r (to_part (only Kind.Range)) k opens.sound opens.is led.0) (within_by s c k f n led.1.1.1),
-        tt,
-      )
-  row_tidy _ lim g led = tt
+  row_tidy _ lim g led = search (kept_named, part_named, gate_named, removed, plain_link, page_cap)
 
   rule_tidy : (call : Call) → InLimits call → ChangesFrom Keeps s c (rule_of s c call)
   rule_tidy call lim = edits_map TidyBy (λ v es. IsTidy (after_edits c s es)) s c (rule_of s c call) (λ v es are. edits_tidy s c es are h)

@@ -103,13 +103,5 @@ pub in_range : {t s : State} {o : ℕ → _} {c : ℕ} → Twins t s o c → s.l
     → ((v : ℕ) (k : Capability) → mapped s c (comp_of s c).pages v ≡ Found k → k.kind ≡ Kind.Page)
     → (call : Call) → InLimits call → IsInRange t c call
 in_range w calls pages (make_call what range frame x b) fits = (range_ends w range, epoch_fits w what fits)
-in_range w calls pages (Retype r f k) fits = range_ends w r
-in_range w calls pages (Map p v r f flags) fits = range_ends w r
-in_range w calls pages (Touch v) fits = page_found w pages v
-in_range w calls pages (Gate k x b) fits = has_epoch w k
-in_range w calls pages (Tick n) fits = ticks_fit w calls n fits
-in_range w calls pages (Transfer a b m) fits = budgets_fit w a b
-in_range w calls pages (Delegate a b m) fits = budgets_fit w a b
-in_range w calls pages (Replenish a m) fits = back_fits w calls a
-in_range w calls pages (Part r f n x b) fits = whole_ends w r
-in_range w calls pages _ fits = tt
+in_range w calls pages _ fits =
+    search (range_ends w, whole_ends w, has_epoch w, ticks_fit w calls, budgets_fit w, back_fits w calls, page_found w pages)

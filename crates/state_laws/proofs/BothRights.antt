@@ -1,7 +1,7 @@
 -- Where each copy keeps both rights, every capability has both, and no name lacks a right.
-use Rattle.kernel_laws.proofs.{◌≡◌, ℕ, Bool, true, false, List, [], ◌∷◌, Option, Some, None, IsTrue, IsFalse, IsSomeAnd, inl, inr, refl}
+use Rattle.kernel_laws.proofs.{Nothing, Fill, Target, ◌≡◌, ℕ, Bool, true, false, List, [], ◌∷◌, Option, Some, None, IsTrue, IsFalse, IsSomeAnd, inl, inr, refl}
 use Rattle.kernel_laws.proofs.{sym, ap, ◌∙◌, subst, ◌==◌, ltb as nat_lt, ◌+◌, if◌then◌else◌, false≢true, Capability, cap_of, both}
-use Rattle.kernel_laws.proofs.{has_rights, kept, part_of, Setting, FrameKind, Call, Copy, Remove, Grow, Shrink, Retype}
+use Rattle.kernel_laws.proofs.{has_rights, kept, part_of, Setting, FrameKind, Call, Copy, Retype}
 use Rattle.kernel_laws.proofs.{Make as make_call, Map, Unmap, Touch, Gate, Tick, Part}
 use Rattle.kernel_laws.proofs.{Reply, Place, Free, Holds, Quiescing, PlaceOf, State, put, with_place}
 use Rattle.kernel_laws.proofs.{comp_of, plain_cap, start_cap, place_with, start, Slot, Want, Under, InRoot, found, place_at}
@@ -16,7 +16,7 @@ use Rattle.{std.proofs.lemmas.Bool.and_parts, kernel_laws.specs.Causes.names_of}
 use Rattle.state_laws.specs.Rights.{KeepsBoth, KeepBoth, BothStay, NoRightLacks}
 use Rattle.{kernel_laws.specs.used_at, kernel_laws.specs.leads, kernel_laws.specs.kernel_rules.specs.Make}
 use Rattle.{kernel_laws.specs.kernel_rules.specs.to_part, kernel_laws.specs.spk_nums.proofs.KeptRights.both_kept}
-use Rattle.{kernel_laws.specs.kernel_invariant.proofs.Facts.held_facts, kernel_laws.proofs.Causes.causes_stand}
+use Rattle.{kernel_laws.specs.kernel_rules.specs.Edits.Remove, kernel_laws.specs.kernel_invariant.proofs.Facts.held_facts, kernel_laws.proofs.Causes.causes_stand}
 
 -- What a place holds or held has both rights; and so in each place.
 abbrev HasBoth : Place → Type 0
@@ -56,12 +56,13 @@ module _ (s : State) (c : ℕ) (h : AllBoth s) where
   cleared_both : (f : ℕ) (g i : ℕ) → HasBoth (put s.place f (λ j. Free) g i)
   cleared_both f g i = put_all (λ g (row : ℕ → Place). HasBoth (row i)) s.place f (λ j. Free) g (λ same. tt) (λ other. h g i)
 
-  removed : (at : Slot) (k : Capability) → place_at s at ≡ Holds k → AllBoth (with_place s at.node at.index (Quiescing k))
-  removed at k is = placed s.place at.node at.index (Quiescing k) (subst HasBoth is (h at.node at.index)) h
-
   -- What is carried out, by its value and its edits.
   abbrev KeepsBy : Value → List Edit → Type 0
   KeepsBy v es = Keeps (does c s v es)
+
+  removed : (target : Target) (at : Slot) (k : Capability) → held s c target ≡ Found (at, k) → KeepsBy Nothing (Remove at k ∷ [])
+  removed target at k is =
+      placed s.place at.node at.index (Quiescing k) (subst HasBoth (held_facts s c target at k is).1 (h at.node at.index)) h
 
   made_node : (f : ℕ) (at : Slot) (k : Kind) (g i : ℕ)
       → HasBoth (put (put s.place f (λ j. Free)) at.node (put (put s.place f (λ j. Free) at.node) at.index (Holds (plain_cap k f))) g i)
@@ -79,28 +80,17 @@ module _ (s : State) (c : ℕ) (h : AllBoth s) where
   make_both Make.Pages r f t b g = made_node f (g.slots 0) Kind.Pages
   make_both Make.Pleaf r f t b g = made_node f (g.slots 0) Kind.Pleaf
 
-  filled : (at : Slot) (k : Capability) → k.rights ≡ both → AllBoth (with_place s at.node at.index (Holds k))
+  filled : (at : Slot) (k : Capability) → k.rights ≡ both → KeepsBy Nothing (Fill at k ∷ [])
   filled at k has = placed s.place at.node at.index (Holds k) has h
 
   row_both : (call : Call) → KeepsBoth call → (g : Looks) → LedBy s c (rule_of s c call) g → HoldsAt KeepsBy (rule_of s c call) g
   row_both (Copy a t b rights) keep g led = filled (g.slots 0) (kept (g.caps 0) rights.0)
       (both_kept (g.caps 0).kind (g.caps 0).rights rights.0 (named_both a (to_copy any) (g.caps 0) led.0) keep)
-  row_both (Remove t b) keep g led =
-      removed (g.slots 0) (g.held 0) (held_facts s c (Under (found (g.caps 0)) b) (g.slots 0) (g.held 0) led.1.0).1
-  row_both (Grow t i l) keep g led = filled (g.slots 0) (plain_cap Kind.Link (g.caps 1).frame) refl
-  row_both (Shrink t i) keep g led =
-      removed (g.slots 0) (g.held 0) (held_facts s c (InRoot (found (g.caps 0)) i) (g.slots 0) (g.held 0) led.1.0).1
   row_both (Retype r f FrameKind.Untyped) keep g led = h
   row_both (make_call what r f t b) keep g led = make_both what r f t b g
-  row_both (Map p v r f w) keep g led = filled (g.slots 0) (cap_of Kind.Page f w.0) refl
-  row_both (Unmap p v) keep g led =
-      removed (g.slots 0) (g.held 0) (held_facts s c (Under (found (g.caps 0)) v) (g.slots 0) (g.held 0) led.1.0).1
   row_both (Touch v) keep g led = by_cached (λ rule. HoldsAt KeepsBy rule g) (comp_of s c).pages v h (λ t. h)
       (translation_of (s.core c).cached (comp_of s c).pages v)
-  row_both (Gate k t b) keep g led = filled (g.slots 0) (cap_of Kind.Gate (g.caps 0).frame _) refl
-  row_both (Part r f n t b) keep g led =
-      filled (g.slots 0) (part_of (g.caps 0) f n) (named_both r (to_part (only Kind.Range)) (g.caps 0) led.0)
-  row_both _ keep g led = h
+  row_both _ keep g led = search (filled, removed, named_both)
 
   rule_both : (call : Call) → KeepsBoth call → ChangesFrom Keeps s c (rule_of s c call)
   rule_both call keep = from_left KeepsBy s c (rule_of s c call) (row_both call keep)

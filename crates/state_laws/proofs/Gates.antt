@@ -95,6 +95,9 @@ module _ (s : State) (o : ℕ → Bool) (c : ℕ) (h : IsOpen s o c) (w : AreGat
   abbrev Gates : Value → List Edit → Type 0
   Gates v es = NewGates s (does c s v es)
 
+  plain : (at : Slot) (k : Capability) → only Kind.Gate k.kind ≡ false → Gates Nothing (Fill at k ∷ [])
+  plain at k none = other s s _ at k (λ f i j e. e) (λ f i. refl) none
+
   make_gates : (what : Make) (r f t b : ℕ) (g : Looks) → HoldsAt Gates (make_rule s what r f t b) g
   make_gates Make.Table r f t b g = node_made s c f _ Kind.Table (g.slots 0) refl
   make_gates Make.Leaf r f t b g = node_made s c f _ Kind.Leaf (g.slots 0) refl
@@ -107,19 +110,12 @@ module _ (s : State) (o : ℕ → Bool) (c : ℕ) (h : IsOpen s o c) (w : AreGat
   row_gates : (call : Call) (g : Looks) → LedBy s c (rule_of s c call) g → HoldsAt Gates (rule_of s c call) g
   row_gates (Copy a t b rights) g led = filled s s _ (g.slots 0) (kept_rights (g.caps 0) rights.0) (λ f i j e. e) (λ f i. refl)
       (named_gate a (to_copy any) (g.caps 0) led.0)
-  row_gates (remove_call t b) g led = removed s c (g.slots 0) (g.held 0)
-  row_gates (Grow t i l) g led =
-      other s s _ (g.slots 0) (plain_cap Kind.Link (g.caps 1).frame) (λ f i j e. e) (λ f i. refl) refl
-  row_gates (Shrink t i) g led = removed s c (g.slots 0) (g.held 0)
   row_gates (Retype r f FrameKind.Untyped) g led = stays s _ (λ f i. refl)
   row_gates (make_call what r f t b) g led = make_gates what r f t b g
-  row_gates (Map p v r f w) g led = other s s _ (g.slots 0) (cap_of Kind.Page f w.0) (λ f i j e. e) (λ f i. refl) refl
-  row_gates (Unmap p v) g led = removed s c (g.slots 0) (g.held 0)
   row_gates (Touch v) g led = by_cached (λ rule. HoldsAt Gates rule g) (comp_of s c).pages v (stays s _ (λ f i. refl))
       (λ t. stays s _ (λ f i. refl)) (translation_of (s.core c).cached (comp_of s c).pages v)
   row_gates (Gate k t b) g led = filled s s _ (g.slots 0) _ (λ f i j e. e) (λ f i. refl) (λ is. refl)
-  row_gates (Part r f n t b) g led = other s s _ (g.slots 0) (part_of (g.caps 0) f n) (λ f i j e. e) (λ f i. refl) refl
-  row_gates _ g led = stays s _ (λ f i. refl)
+  row_gates _ g led = search (plain, removed s c, stays s)
 
   rule_gates : (call : Call) → ChangesFrom (NewGates s) s c (rule_of s c call)
   rule_gates call = from_left Gates s c (rule_of s c call) (row_gates call)
