@@ -10,6 +10,6 @@ mod typings;
 mod untypings;
 
 pub use flushes::{flush_op, flush_took};
-pub use touches::{touch_op, touch_ready, touch_took};
+pub use touches::{mapping_of, touch_op, touch_ready, touch_took, translated};
 pub use typings::{typing_op, typing_ready, typing_took};
 pub use untypings::{untyping_op, untyping_ready, untyping_took};

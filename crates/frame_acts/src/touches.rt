@@ -91,9 +91,9 @@ fn meets_page(touching: &Touching, entry: &Entry) -> WorkStep
     }
 }
 
-// The translation that a mapping tells.
+/// The translation that a mapping tells.
 #[inline]
-fn mapping_of(touching: &Touching, cap: &Cap) -> Translation
+pub fn mapping_of(touching: &Touching, cap: &Cap) -> Translation
     ensures { result ≡ mapping_of touching.now cap.now }
 {
     Translation {
@@ -134,9 +134,9 @@ fn fault_of(reply: &Reply) -> Refusal
     }
 }
 
-// The answer that a translation gives.
+/// The answer that a translation gives.
 #[inline]
-fn translated(item: &Translation) -> Value
+pub fn translated(item: &Translation) -> Value
     ensures { result ≡ translated item.now }
 {
     Value::Page {

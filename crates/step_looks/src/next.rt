@@ -18,7 +18,7 @@ use step_starts::spk_nums::{Call, CapId, Kind, Rights};
 /// Whether a call asks first that its core's component lives, as its plan says.
 #[inline]
 #[tactic(auto, using(crate::proofs::Nexts::living))]
-pub(crate) fn is_living(call: &Call) -> bool
+pub fn is_living(call: &Call) -> bool
     ensures { result ≡ (plan_for call.now).living }
 {
     match *call {
@@ -29,7 +29,7 @@ pub(crate) fn is_living(call: &Call) -> bool
 
 /// What a call looks up next by its plan, where its first names have led to these.
 #[inline(always)]
-pub(crate) fn next_of(call: &Call, found: &Caps) -> Next
+pub fn next_of(call: &Call, found: &Caps) -> Next
     ensures { said (with_found [] found.now) result ≡ next_of (plan_for call.now) found.now }
 {
     match *call {

@@ -24,7 +24,7 @@ use step_starts::step_lands::{decide, go_on, land, refused};
 
 /// What comes next of the call: a look-up, or its act.
 #[inline]
-pub(crate) fn look_next(active: &mut ActiveCall, own: &Own, tells: &mut Told)
+pub fn look_next(active: &mut ActiveCall, own: &Own, tells: &mut Told)
     requires core { own.now.core < own.now.layout.cores }
     requires cores { own.now.layout.cores ≤ 8 }
     requires few { active.old.steps < 1000 }
