@@ -9,11 +9,17 @@ use Rattle.call_reader.specs.CallLines.{Form, form_of, object_form, read_form, c
 use Rattle.call_reader.specs.{Within.MaySay, Within.IsVerbIn, Within.IsCallWithin}
 use Rattle.call_reader.proofs.Judgements.{judged_is, bind_ok, both_left, number_in}
 
--- Each call that a form from a place on may say is said with this word and, before that place, with these arguments; and its numbers are small.
+-- the places end there
+abbrev pub IsLast : Form → Type 0
+IsLast (Form.Says c) = Unit {0}
+IsLast _ = ⊥
+
+-- Each call that a form from a place on may say is said with this word and, before that place, with these arguments; its numbers are small; and
+-- what may be left out stands last.
 abbrev pub AllSay : Verb → Form → List Argument → Type 0
 AllSay v (Form.Says c) before = said c ≡ with v before
 AllSay v (Form.Number letter least most next) before = (most ≤ 4000000000) × ((n : ℕ) → AllSay v (next n) (before ++ Argument.Number n ∷ []))
-AllSay v (Form.MayNumber letter next) before = (n : ℕ) → AllSay v (next n) (before ++ rights_written n)
+AllSay v (Form.MayNumber letter next) before = (n : ℕ) → IsLast (next n) × AllSay v (next n) (before ++ rights_written n)
 AllSay v (Form.Kind letter next) before = (k : FrameKind) → AllSay v (next k) (before ++ Argument.Kind k ∷ [])
 AllSay v (Form.Made letter next) before = (o : Object) → AllSay v (next o) (before ++ Argument.Made o ∷ [])
 
@@ -33,7 +39,7 @@ objects_say Object.Comp r f t b = (few, λ table. (few, λ pages. (omega arith, 
 -- So it is of the form of each word.
 pub forms_say : (v : Verb) → AllSay v (form_of v) []
 forms_say Verb.Look = (few, λ a. refl)
-forms_say Verb.Copy = (few, λ a. (few, λ t. (few, λ b. λ r. refl)))
+forms_say Verb.Copy = (few, λ a. (few, λ t. (few, λ b. λ r. (tt, refl))))
 forms_say Verb.Remove = (few, λ t. (few, λ b. refl))
 forms_say Verb.Grow = (few, λ t. (few, λ i. (few, λ l. refl)))
 forms_say Verb.Shrink = (few, λ t. (few, λ i. refl))
@@ -70,7 +76,7 @@ may_be_said v version (Form.Number letter least most next) before c all may =
     onto v c before one r.0 r.1
 may_be_said v version (Form.MayNumber letter next) before c all may =
     let one = rights_written may.0 in
-    let r = may_be_said v version (next may.0) (before ++ one) c (all may.0) may.3 in
+    let r = may_be_said v version (next may.0) (before ++ one) c (all may.0).1 may.3 in
     onto v c before one r.0 r.1
 may_be_said v version (Form.Kind letter next) before c all may =
     let one = Argument.Kind may.0 ∷ [] in

@@ -1,5 +1,5 @@
 pub mod Judgements
 pub mod Forms
 pub mod Verbs
+pub mod Spelled
 mod OneLine
-mod Spelled
