@@ -412,27 +412,22 @@ module _ (w : Word) where
 
   pub begun_at : (own : Own) (call : Call) (ks : List Capability) (read : Option ℕ) (f : Option Found) → StepAt w (act_begun own call ks read f)
   begun_at own (call_as.Look a) ks read f = looked_at _
-  begun_at own (call_as.Copy a t b rights) ks read f = fills_at own _ _ f
-  begun_at own (call_as.Grow t i l) ks read f = fills_at own _ _ f
-  begun_at own (call_as.Map p v r g flags) ks read f = maps_found own _ _ _ f
-  begun_at own (call_as.Remove t b) ks read f = removes_found own.core f
-  begun_at own (call_as.Shrink t i) ks read f = removes_found own.core f
-  begun_at own (call_as.Unmap p v) ks read f = removes_found own.core f
-  begun_at own (call_as.Retype r g k) ks read f = types_found own (at_place ks First) g k
-  begun_at own (call_as.Make what range frame table slot) ks read f = made_found own what ks frame f
-  begun_at own call_as.Flush ks read f = tt
-  begun_at own (call_as.Tick n) ks read f = tt
-  begun_at own (call_as.Gate c t b) ks read f = fills_at own _ _ f
-  begun_at own (call_as.Kill k) ks read f = kills_found own _
-  begun_at own (call_as.Call g) ks read f = invokes_found own _
-  begun_at own call_as.Ret ks read f = returns_bottom _ own
-  begun_at own (call_as.Switch h q) ks read f = switches_found own _ _
-  begun_at own (call_as.Transfer a b m) ks read f = shares_found own.core (share.Transfer m) (at_place ks First) (at_place ks Second)
-  begun_at own (call_as.Delegate a b m) ks read f = shares_found own.core (share.Delegate m) (at_place ks First) (at_place ks Second)
-  begun_at own (call_as.Test a b) ks read f = shares_found own.core share.Test (at_place ks First) (at_place ks Second)
-  begun_at own (call_as.Replenish a m) ks read f = refills_found own m (at_place ks First)
-  begun_at own (call_as.Part r g n t b) ks read f = parts_found own _ _ _ f
-  begun_at own (call_as.Touch v) ks read f = tt
+  begun_at own _ ks read f =
+      search (
+        looked_at,
+        fills_at,
+        maps_found,
+        removes_found,
+        types_found,
+        made_found,
+        kills_found,
+        invokes_found,
+        returns_bottom,
+        switches_found,
+        shares_found,
+        refills_found,
+        parts_found,
+      )
 
   pub touches_at : (b : Bool) (own : Own) (v : ℕ) → StepAt w (touches_if b own v)
   touches_at true own v = tt

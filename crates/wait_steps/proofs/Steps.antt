@@ -434,25 +434,28 @@ comp_step m (CompAt.Store word last index) found = tt
 comp_step m (CompAt.Fill word last) found = comp_published_at _ m word last _
 
 act_step : (s : Shape) (act : ActType) (found : ℕ) → AgainIn act → StepAt (word_of (act_move act)) (took_act s act found)
-act_step s (ActType.Fill fill) found h = filled_at _ _
-act_step s (ActType.Remove c cap) found h = close_step _ cap _ _ (close_end_at _ c found)
-act_step s (ActType.Retype typing) found h = typing_step _ typing typing.at found
-act_step s (ActType.Make m) found h = making_step _ m m.at found
-act_step s (ActType.Map fill) found h = map_at _ fill _
-act_step s (ActType.Outside node index word) found h = tt
-act_step s (ActType.Tick c) found h = charge_step _ _ _ _ (charge_end_at _ c found)
-act_step s (ActType.Touch m) found h = touched_at _ m found m.cached
-act_step s (ActType.Flush core) found h = tt
-act_step s (ActType.Kill m) found h = killing_step _ m m.at found
 act_step s (ActType.Untype m) found h = untyping_step s m m.at found
 act_step s (ActType.MakeComp m) found h = comp_step m m.at found
-act_step s (ActType.Invoke m) found h = invoking_step _ m m.at found
-act_step s (ActType.Return m) found h = returning_step _ m m.at found
 act_step s (ActType.Share p) found h = took_shared_at (word_of (pair_move p)) (pair_after p found) (pair_end p found)
     (pair_at (word_of (pair_move p)) (noted_by p found) p.at found h)
 act_step s (ActType.Refill r) found h = took_refilled_at (word_of (refill_move r)) (refill_after r found) (refill_end r found)
     (refill_at (word_of (refill_move r)) (refill_noted r found) r.at found)
-act_step s (ActType.Switch m) found h = switching_step _ m m.at found
+act_step s _ found h =
+    search (
+      filled_at,
+      close_step,
+      close_end_at,
+      typing_step,
+      making_step,
+      map_at,
+      charge_step,
+      charge_end_at,
+      touched_at,
+      killing_step,
+      invoking_step,
+      returning_step,
+      switching_step,
+    )
 
 -- A step of a call.
 landed_at : (w : Word) (a : ActiveCall) (step : WorkStep) → StepAt w step → TookAt w (landed a step)
