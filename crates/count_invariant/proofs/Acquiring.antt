@@ -536,6 +536,10 @@ module _ (setup : Setting) (setting : IsSetting setup) (cores : ℕ → Core) (t
   removal_does (AtDraw node index) cap has = has.removes
   removal_does (AtStore node index at) cap has = absurd has
 
+not_true : (b : Bool) → not b ≡ true → b ≡ false
+not_true true h = cc
+not_true false h = refl
+
 -- The frame of a count that an act changes is in the call's footprint, which is one that changes references.
 pub acquire_good : (setup : Setting) → IsSetting setup
     → (cores : ℕ → Core) (t : Trace) → Invariant setup cores t → (c : ℕ) → c < setup.cores
@@ -624,10 +628,6 @@ acquire_good setup setting cores t stands c here a active pin change (comp_act m
     (record { frame = pin_frame pin; change = change }) has.knows.rest has.knows.due)
     (λ e by. comp_left setup t (e ∷ t) c a.counts a.call a.found m of m.at
     (not_true (comp_meets_number m.at) has.knows.starts) has.knows.knows.at) tt refl
-  where
-    not_true : (b : Bool) → not b ≡ true → b ≡ false
-    not_true true h = cc
-    not_true false h = refl
 acquire_good setup setting cores t stands c here a active pin change act is has =
     absurd (no_due (map due_of a.counts) (record { frame = pin_frame pin; change = change }) has.knows.rest has.knows.due)
 
