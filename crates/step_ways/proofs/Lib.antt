@@ -10,6 +10,7 @@ pub mod Loads
 pub mod Writes
 pub mod Counting
 pub mod Draws
+pub mod BudgetActs
 pub mod Refusals
 pub mod OwnChanges
 pub mod Keeping

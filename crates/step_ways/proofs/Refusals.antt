@@ -18,7 +18,7 @@ use Rattle.step_ways.proofs.Loads.{Lands, OnlyLooks, step_to, next_at, core_in_c
 use Rattle.{kept_facts.specs.kernel_history.specs.IsHeldUp}
 use Rattle.{kept_facts.specs.spk_nums.specs.declared.calls.Call.TheVariants.Call as call_gate}
 use Rattle.{kept_facts.specs.kernel_history.specs.Justified.IsOnWay, kept_facts.specs.act_states.specs.declared.work.Act.Act as ActOf}
-use Rattle.{step_ways.proofs.Good.IsGood, kept_facts.specs.act_states.specs.phases_of}
+use Rattle.{step_ways.proofs.BudgetActs.IsBudgetAct, step_ways.proofs.BudgetActs.budget_acts, step_ways.proofs.Good.IsGood, kept_facts.specs.act_states.specs.phases_of}
 
 -- The step of core c from which this was taken.
 abbrev pub step_with : ℕ → Move → ℕ → Took → Step
@@ -61,37 +61,13 @@ ticks_at (Leave r x) = false
 module _ (setup : Setting) (t : Trace) (c table n : ℕ) where
   act_ticks : (plan : Plan) (ks : List Capability) (upto : ℕ) (act : ActOf) → KnowsAct setup t c (Tick n) plan ks upto act
       → ticks_in act ≡ false → ⊥
-  act_ticks plan ks upto (fill_act fill) has is = none_some has.puts
+  act_ticks plan ks upto act has is = by act has is (budget_acts setup t c (Tick n) plan ks upto refl act has)
     where
-      none_some : None ≡ Some fill.cap → ⊥
-      none_some h = cc
-  act_ticks plan ks upto (remove_act (AtCompare node index word by) cap) has is = false≢true has.removal.removes
-  act_ticks plan ks upto (remove_act (AtDraw node index) cap) has is = false≢true has.removes
-  act_ticks plan ks upto (remove_act (AtStore node index x) cap) has is = has
-  act_ticks plan ks upto (type_act typing) has is = has.types
-  act_ticks plan ks upto (make_act m) has is = has.makes
-  act_ticks plan ks upto (map_act fill) has is = false≢true has.maps
-  act_ticks plan ks upto (Outside node entry word) has is = has.outside
-  act_ticks plan ks upto (tick_act charge) has is = false≢true (sym is)
-  act_ticks plan ks upto (touch_act m) has is = no_touch m.page has.call_is
-    where
-      no_touch : (v : ℕ) → Tick n ≡ Touch v → ⊥
-      no_touch v h = cc
-  act_ticks plan ks upto (flush_act by) has is = no_flush has.call_is
-    where
-      no_flush : Tick n ≡ Flush → ⊥
-      no_flush h = cc
-  act_ticks plan ks upto (kill_act m) has is = has.kills
-  act_ticks plan ks upto (untype_act m) has is = has.untypes
-  act_ticks plan ks upto (comp_act m) has is = has.makes
-  act_ticks plan ks upto (invoke_act m) has is = has.invokes
-  act_ticks plan ks upto (return_act m) has is = no_return has.call_is
-    where
-      no_return : Tick n ≡ Ret → ⊥
-      no_return h = cc
-  act_ticks plan ks upto (share_act p) has is = has.shares
-  act_ticks plan ks upto (refill_act r) has is = has.refills
-  act_ticks plan ks upto (switch_act m) has is = has.switches
+      by : (act : ActOf) → KnowsAct setup t c (Tick n) plan ks upto act → ticks_in act ≡ false → IsBudgetAct act → ⊥
+      by (tick_act charge) has is budget = false≢true (sym is)
+      by (share_act p) has is budget = has.shares
+      by (refill_act r) has is budget = has.refills
+      by act has is budget = budget
 
   look_ticks : (ks : List Capability) (look : LookOf) → NamesAre setup t c table (plan_for (Tick n)) ks
       → LooksFor setup t c table (next_of (plan_for (Tick n)) ks) look → ⊥

@@ -19,6 +19,7 @@ use Rattle.flight.specs.act_states.specs.{marked_end, decided_by_mark, b_end, li
 use Rattle.flight.specs.act_states.specs.{ticks_of, alive_end, alive_after}
 use Rattle.flight.specs.stage_tcap.specs.{noted_by, pair_move, at_decided, compared_after, at_by_mark, at_by_head, at_marked, at_read}
 use Rattle.flight.specs.stage_tcap.specs.{b_next, a_next, again_value}
+use Rattle.flight.specs.step_ways.proofs.BudgetActs.{IsBudgetAct, budget_acts}
 use Rattle.flight.specs.{turned, MayStep, core_after, cores_after, stepping_core, IsMadeStep, IsMade, found_by}
 use Rattle.flight.specs.core_invariant.specs.{MakesBy, InvokesBy, SwitchesBy, TypesBy, OutsideBy, KillsBy}
 use Rattle.flight.specs.core_invariant.specs.{Invariant.Invariant, Acting.MakesCompBy, Reaching.is_mapping}
@@ -31,89 +32,7 @@ use Rattle.{flight.specs.pair_invariant.proofs.ShareSteps.shares_same, flight.pr
 use Rattle.flight.specs.share_invariant.proofs.Compared as compared
 use Rattle.flight.specs.pair_invariant.proofs.ShareCalls as calls
 
--- The acts of the calls that change budgets
-
-abbrev pub IsBudgetAct : ActOf → Type 0
-IsBudgetAct (tick_act charge) = Unit {0}
-IsBudgetAct (share_act p) = Unit {0}
-IsBudgetAct (refill_act r) = Unit {0}
-IsBudgetAct act = ⊥
-
-puts_none : (call : Call) (ks : List Capability) (read : Option ℕ) (k : Capability) → changes_budgets call ≡ true
-    → put_by call ks read ≡ Some k → ⊥
-puts_none (Call.Tick n) ks read k budgets h = absurd (cc)
-puts_none (Call.Replenish x m) ks read k budgets h = absurd (cc)
-puts_none (Call.Transfer x y m) ks read k budgets h = absurd (cc)
-puts_none (Call.Delegate x y m) ks read k budgets h = absurd (cc)
-puts_none (Call.Test x y) ks read k budgets h = absurd (cc)
-puts_none call ks read k budgets h = false≢true budgets
-
-removes_none : (call : Call) → changes_budgets call ≡ true → removes_by call ≡ true → ⊥
-removes_none (Call.Remove t b) budgets h = false≢true budgets
-removes_none (Call.Shrink t i) budgets h = false≢true budgets
-removes_none (Call.Unmap p v) budgets h = false≢true budgets
-removes_none call budgets h = false≢true h
-
-types_none : (call : Call) (ks : List Capability) (y : Typing) → changes_budgets call ≡ true → TypesBy call ks y → ⊥
-types_none (Call.Retype r f k) ks y budgets h = false≢true budgets
-types_none call ks y budgets h = h
-
-untypes_none : (call : Call) (ks : List Capability) (m : Untyping) → changes_budgets call ≡ true → UntypesBy call ks m → ⊥
-untypes_none (Call.Retype r f k) ks m budgets h = false≢true budgets
-untypes_none call ks m budgets h = h
-
-makes_none : (call : Call) (ks : List Capability) (m : Making) → changes_budgets call ≡ true → MakesBy call ks m → ⊥
-makes_none (Call.Make what r f u b) ks m budgets h = false≢true budgets
-makes_none call ks m budgets h = h
-
-comps_none : (call : Call) (ks : List Capability) (m : CompMaking) → changes_budgets call ≡ true → MakesCompBy call ks m → ⊥
-comps_none (Call.Make what r f u b) ks m budgets h = false≢true budgets
-comps_none call ks m budgets h = h
-
-maps_none : (call : Call) → changes_budgets call ≡ true → is_mapping call ≡ true → ⊥
-maps_none (Call.Map p v r f w) budgets h = false≢true budgets
-maps_none call budgets h = false≢true h
-
-outside_none : (call : Call) (ks : List Capability) → changes_budgets call ≡ true → OutsideBy call ks → ⊥
-outside_none (Call.Make what r f u b) ks budgets h = false≢true budgets
-outside_none (Call.Map p v r f w) ks budgets h = false≢true budgets
-outside_none (Call.Part r f n u b) ks budgets h = false≢true budgets
-outside_none call ks budgets h = h
-
-kills_none : (call : Call) (ks : List Capability) (f : ℕ) → changes_budgets call ≡ true → KillsBy call ks f → ⊥
-kills_none (Call.Kill name) ks f budgets h = false≢true budgets
-kills_none call ks f budgets h = h
-
-invokes_none : (call : Call) (ks : List Capability) (m : Invoking) → changes_budgets call ≡ true → InvokesBy call ks m → ⊥
-invokes_none (Call.Call g) ks m budgets h = false≢true budgets
-invokes_none call ks m budgets h = h
-
-switches_none : (call : Call) (ks : List Capability) (f q : ℕ) → changes_budgets call ≡ true → SwitchesBy call ks f q → ⊥
-switches_none (Call.Switch h q) ks f g budgets is = false≢true budgets
-switches_none call ks f g budgets is = is
-
-module _ (setup : Setting) (t : Trace) (c : ℕ) (call : Call) (plan : Plan) (ks : List Capability) (upto : ℕ)
-    (budgets : changes_budgets call ≡ true) where
-  budget_acts : (act : ActOf) → KnowsAct setup t c call plan ks upto act → IsBudgetAct act
-  budget_acts (fill_act fill) has = absurd (puts_none call ks has.read fill.cap budgets has.puts)
-  budget_acts (remove_act (AtCompare n i word by) cap) has = absurd (removes_none call budgets has.removal.removes)
-  budget_acts (remove_act (AtDraw n i) cap) has = absurd (removes_none call budgets has.removes)
-  budget_acts (remove_act (AtStore n i x) cap) has = absurd has
-  budget_acts (type_act y) has = absurd (types_none call ks y budgets has.types)
-  budget_acts (make_act m) has = absurd (makes_none call ks m budgets has.makes)
-  budget_acts (map_act fill) has = absurd (maps_none call budgets has.maps)
-  budget_acts (Outside n i word) has = absurd (outside_none call ks budgets has.outside)
-  budget_acts (tick_act charge) has = tt
-  budget_acts (touch_act m) has = absurd (false≢true (sym (ap changes_budgets has.call_is) ∙ budgets))
-  budget_acts (flush_act by) has = absurd (false≢true (sym (ap changes_budgets has.call_is) ∙ budgets))
-  budget_acts (kill_act m) has = absurd (kills_none call ks m.comp budgets has.kills)
-  budget_acts (untype_act m) has = absurd (untypes_none call ks m budgets has.untypes)
-  budget_acts (comp_act m) has = absurd (comps_none call ks m budgets has.makes)
-  budget_acts (invoke_act m) has = absurd (invokes_none call ks m budgets has.invokes)
-  budget_acts (return_act m) has = absurd (false≢true (sym (ap changes_budgets has.call_is) ∙ budgets))
-  budget_acts (share_act p) has = tt
-  budget_acts (refill_act r) has = tt
-  budget_acts (switch_act m) has = absurd (switches_none call ks _ _ budgets has.switches)
+-- The work of a call that changes budgets
 
 undo_none : (act : ActOf) → IsBudgetAct act → StoresNone (undo act)
 undo_none (tick_act charge) is = tt
