@@ -10,8 +10,8 @@ use low.{LoadB, ListB, CompareB, AgainB, StoreList, StoreB, StoreA, dues, put_by
 use low.{LoadComp, LoadLive, Close as kill_close, Draw as kill_draw, MakingAt, NewObject, SwitchAt, Switching, TypingAt, Untyping}
 use low.{UntypingAt, Due, Fill as fill_act, Remove as remove_act, Retype as type_act, Make as make_act, Tick as tick_act}
 use low.{Touch as touch_act, Kill as kill_act, Untype as untype_act, Map as map_act, MakeComp as comp_act, Invoke as invoke_act}
-use low.{Return as return_act, Share as share_act, Refill as refill_act, Switch as switch_act, Tail, Nothing, Quiesce, Unmark, StoreDead}
-use low.{StoreFlush, Release, StoreLive, Push, Pop, StoreRunning, StoreIdle, Lookup, Read, Scan, Acquire, Act, move_in, move_of, CountsAt}
+use low.{Return as return_act, Share as share_act, Refill as refill_act, Switch as switch_act, Tail, Nothing, Quiesce}
+use low.{Release, Push, Pop, Lookup, Read, Scan, Acquire, Act, move_in, move_of, CountsAt}
 use low.{StageFits, stage_move, is_ok, tail_move, Core, ActiveCall, Stage, Enter, Living, Undecided, Decided, Leave, holds_release}
 use low.{holds_thaw, count_of, committed, holds_counts, settled_by, settled, done_by, holds_at, holds_in, holds, held_by, CallIs, KnowsAct}
 use low.{KnowsAt, KnowsClose, due_of, KnowsUndecided, phase_at, untypes, KnowsSweep, KnowsUntypingAt, UntypesBy, claimed_by, SaysCount}

@@ -3,9 +3,9 @@
 use Rattle.time_laws.specs as low
 use low.step_ways.proofs.{◌≡◌, ◌≢◌, ◌⊎◌, inl, inr, ℕ, ◌<◌, ◌++◌, ltb as nat_lt, Bool, true, false, if◌then◌else◌, List, [], ◌∷◌, length}
 use low.step_ways.proofs.{Option, Some, None, refl, sym, ◌∙◌, ap, subst, All, false≢true, Setting, IsSetting, Call, Reply, CountAt}
-use low.step_ways.proofs.{marked_by, Trace, phase, last_left, Acquired, AtCompare as close_compare, AtDraw, AtStore, PairAt, Own, Untyping}
-use low.step_ways.proofs.{UntypingAt, Untype as untype_act, Tail, Nothing, Quiesce, Unmark, StoreDead, StoreFlush, Release, StoreLive, Push}
-use low.step_ways.proofs.{Pop, StoreRunning, StoreIdle, Lookup, Read, Scan, Acquire, Act, WorkStep, Goes, Acquires, Refuses, Answers}
+use low.step_ways.proofs.{marked_by, Trace, phase, last_left, Acquired, AtDraw, PairAt, Own, Untyping}
+use low.step_ways.proofs.{UntypingAt, Untype as untype_act, Tail, Nothing, Quiesce, Release, Push}
+use low.step_ways.proofs.{Pop, Lookup, Read, Scan, Acquire, Act, WorkStep, Goes, Acquires, Refuses, Answers}
 use low.step_ways.proofs.{reply_of, core_after, told_by, CountsAt, landed, took_at, took_tail, Absorbed, ActiveCall, Stage, Enter, Living}
 use low.step_ways.proofs.{Undecided, Decided, Leave, Core, Holding, committed, count_of, holds_counts, settled, settled_by, Invariant}
 use low.step_ways.proofs.{done_by, held_by, holds_at, holds_in, holds_tail, is_done, KnowsAct, KnowsAt, KnowsTail, phase_at}

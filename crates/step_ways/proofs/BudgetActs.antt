@@ -1,6 +1,6 @@
 -- The acts of the calls that change budgets: they charge ticks, move them between two temporal capabilities, or give them back.
 use Rattle.kept_facts.proofs as low
-use low.{◌≡◌, ℕ, Option, Some, true, false, List, refl, sym, ◌∙◌, ap, false≢true, Setting, Call, Capability, Trace, Plan, put_by}
+use low.{◌≡◌, ℕ, Option, Some, true, false, List, sym, ◌∙◌, ap, false≢true, Setting, Call, Capability, Trace, Plan, put_by}
 use low.{AtStore, changes_budgets, KnowsAct, Tick as tick_act, Share as share_act, Refill as refill_act, Remove as remove_act}
 use low.{Untyping, Making, CompMaking, Invoking, UntypesBy}
 use Rattle.kept_facts.specs.act_states.specs.{removes_by, declared.work.Act.Act as ActOf, declared.typings.Typing.Typing}

@@ -1,7 +1,7 @@
 -- Flushes that are decided and still to be stored. What a core holds stands for nothing at a flush word, but there: so where a step
 -- leaves what it stands for at its core's flush word, the core has its last flush stored if it had before.
 use Rattle.kept_facts.specs.core_invariant.proofs as low
-use low.{Tail, Nothing, Quiesce, Unmark, StoreDead, StoreFlush, StoreLive, Push, Pop, Release, StoreRunning, StoreIdle, Work, Lookup, Read}
+use low.{Tail, Quiesce, StoreFlush, Push, Pop, Release, Work, Lookup, Read}
 use low.{Scan, Acquire, ActiveCall, Stage, Enter, Living, Undecided, Decided, Leave, holds_counts, flushing_in, phase_at, KnowsAt, is_done}
 use low.{holds_act, holds_tail, holds_work, holds_at, holds_shared, Pair, PairAt, LoadA, MarkA, ListA, LoadB, ListB, CompareB, AgainB}
 use low.{StoreList, StoreB, StoreA, Trace, Phase, Out, Open, Reply, Call, Setting, Acquired, AtCompare, AtDraw, AtStore, ◌≡◌, ℕ, ◌≤◌, Bool}

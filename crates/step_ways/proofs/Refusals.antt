@@ -1,24 +1,20 @@
 -- The refusals of a call at a load: each leaves all as it was, but counts the call.
 use Rattle.kept_facts.proofs as low
 use low.{Tail, ◌≡◌, ◌≢◌, ℕ, ◌+◌, ◌<◌, Option, Bool, true, false, Some, None, arith, refl, sym, ◌∙◌, ap, subst, List, [], ◌∷◌, false≢true}
-use low.{Setting, IsSetting, Call, Copy, Shrink, Unmap, Retype, Gate, Ret, Grow, Transfer, Delegate, Test, Reply, Move, word_of, Thing}
-use low.{State, RuleMay, Refused, rule_of, change_of, are_calls_spent, counted, state_by, alone, Step, Trace, Open, state_after}
+use low.{Setting, IsSetting, Call, Reply, Move, word_of, Thing, State, RuleMay, Refused, rule_of, change_of, are_calls_spent, counted, state_by, alone, Step, Trace, Open, state_after}
 use low.{state_decided_in, last_left, IsAlone, refused_first, not_inside, not_changed, reads_of, ActiveCall, Stage, Plan, plan_for, next_of}
-use low.{Capability, AtCompare, AtDraw, AtStore, AtCore, AtFlush, Outside, Work, Lookup, Read, Scan, Acquire, Act, Core, calls_counted}
+use low.{Capability, AtCore, AtFlush, Work, Lookup, Read, Scan, Acquire, Act, Core, calls_counted}
 use low.{Nothing, Enter, Living, Undecided, Decided, Leave, Took, core_after, told_by, marked_by, holds_counts, phase_at, CoreIs, KnowsTail}
 use low.{NamesAre, LooksFor, KnowsAct, KnowsUndecided, KnowsAt, holds_in, held_by, Invariant, holds_tail, decided_in, returned_in}
-use low.{limits_of, marker_inside, acts, inl, inr, IsTrue, Make, Part, Replenish, Look as LookOf, Fill as fill_act, Remove as remove_act}
-use low.{Tick as tick_act, Flush as flush_act, Kill as kill_act, Untype as untype_act, Map as map_act, MakeComp as comp_act}
-use low.{Invoke as invoke_act, Return as return_act, Touch as touch_act, Share as share_act, Refill as refill_act, Switch as switch_act}
-use Rattle.kept_facts.specs.kernel_history.specs.{Remove, Tick, Kill, Flush, Map, Touch, Switch, IsRaceLost, asks_life, Look, owed_by}
-use Rattle.kept_facts.specs.core_invariant.specs.{Retype as type_act, Make as make_act}
+use low.{limits_of, marker_inside, acts, inl, inr, IsTrue, Look as LookOf, Tick as tick_act, Share as share_act, Refill as refill_act}
+use Rattle.kept_facts.specs.kernel_history.specs.{Tick, IsRaceLost, asks_life, owed_by}
 use Rattle.kept_facts.specs.kernel_rules.proofs.{lt-leb, lives}
 use Rattle.kept_facts.specs.trace_laws.proofs.AloneCalls.{nobody_waits, dead_first}
 use Rattle.step_ways.proofs.Loads.{Lands, OnlyLooks, step_to, next_at, core_in_call, core_is, call_is, inner, decides_on, decides_with}
 use Rattle.{kept_facts.specs.kernel_history.specs.IsHeldUp}
-use Rattle.{kept_facts.specs.spk_nums.specs.declared.calls.Call.TheVariants.Call as call_gate}
 use Rattle.{kept_facts.specs.kernel_history.specs.Justified.IsOnWay, kept_facts.specs.act_states.specs.declared.work.Act.Act as ActOf}
-use Rattle.{step_ways.proofs.BudgetActs.IsBudgetAct, step_ways.proofs.BudgetActs.budget_acts, step_ways.proofs.Good.IsGood, kept_facts.specs.act_states.specs.phases_of}
+use Rattle.step_ways.proofs.{BudgetActs.IsBudgetAct, BudgetActs.budget_acts, Good.IsGood}
+use Rattle.kept_facts.specs.act_states.specs.{phases_of}
 
 -- The step of core c from which this was taken.
 abbrev pub step_with : ℕ → Move → ℕ → Took → Step

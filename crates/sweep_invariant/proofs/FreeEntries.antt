@@ -4,8 +4,8 @@ use Rattle.freeze_invariant.specs.step_ways.proofs as low
 use low.{◌≡◌, ◌≢◌, inl, inr, ℕ, zero, suc, ◌<◌, ◌≤◌, ◌==◌, ◌&&◌, Bool, true, false, List, [], ◌∷◌, Option, Some, None, arith, refl, sym}
 use low.{◌∙◌, ap, subst, false≢true, ne_eqb, Setting, IsSetting, Capability, Call, Pair, PairAt, LoadA, MarkA, ListA, LoadB, ListB}
 use low.{CompareB, AgainB, StoreList, StoreB, StoreA, Acquired, EntryAt, State, FrameOf, refs, times, IsGuarded, marked_by, Trace, Open}
-use low.{phase, state_after, last_left, Plan, AtCompare, AtDraw, AtStore, Switching, SwitchAt, Tail, Nothing, Quiesce, Unmark, StoreDead}
-use low.{StoreFlush, Release, StoreLive, Push, Pop, StoreRunning, StoreIdle, Work, Lookup, Read, Scan, Acquire, ActiveCall, Stage, Enter}
+use low.{phase, state_after, last_left, Plan, AtCompare, AtDraw, AtStore, Switching, SwitchAt, Tail, Quiesce}
+use low.{Release, Push, Pop, StoreRunning, StoreIdle, Work, Lookup, Read, Scan, Acquire, ActiveCall, Stage, Enter}
 use low.{Living, Undecided, Decided, Leave, Core, Holding, holds_counts, settled, settled_by, KnowsAct, KnowsAt, KnowsTail, KnowsWork}
 use low.{CallIs, phase_at, KnowsStoresAt, Invariant, holds, held_by, holds_act, holds_in, holds_share, holds_shared, holds_tail, holds_work}
 use low.{is_done, holds_switching, slot_relies, release_entry, limits_of, claimed_by, if◌then◌else◌, Remove, Share, Switch, Act as act_work}

@@ -3,10 +3,10 @@
 use Rattle.live_invariant.specs.step_ways.proofs as low
 use low.{◌≡◌, ◌≢◌, ◌⊎◌, ◌<◌, inl, inr, ℕ, zero, suc, Bool, true, false, if◌then◌else◌, List, [], ◌∷◌, length, Option, Some, None, IsTrue}
 use low.{arith, refl, sym, ◌∙◌, ap, subst, false≢true, ne_eqb, Setting, IsSetting, Call, word_of_thread, thread_of_word, Idle, Running}
-use low.{Word, EntryAt, FrameAt, Frame, Kernel, Table, Leaf, Pages, Pleaf, Thread, Tcap, PlaceOf, State, thread_in, thread_of, fits, Relies}
+use low.{Word, EntryAt, Frame, Kernel, Table, Leaf, Pages, Pleaf, Thread, Tcap, PlaceOf, State, thread_in, thread_of, fits, Relies}
 use low.{is_node, mark_in_frame, thread_mark, marked_by, thread_value, stamp, Trace, Open, phase, state_after, last_left, cases_word}
-use low.{same_word-other, same_same, Acquired, AtCompare, AtDraw, AtStore, Pair, PairAt, Switching, SwitchAt, Tail, Nothing, Quiesce}
-use low.{Unmark, StoreDead, StoreFlush, Release, StoreLive, Push, Pop, StoreRunning, StoreIdle, Work, Lookup, Read, Scan, Acquire, Act}
+use low.{same_word-other, same_same, Acquired, AtCompare, AtDraw, AtStore, Pair, PairAt, Switching, SwitchAt, Tail, Quiesce}
+use low.{Release, Push, Pop, StoreRunning, StoreIdle, Work, Lookup, Read, Scan, Acquire, Act}
 use low.{Stage, Enter, Living, Undecided, Decided, Leave, ActiveCall, Core, holds_release, Holding, keeps, holds_counts, settled_by}
 use low.{holds_switching, IsFrameWord, KnowsAct, KnowsWork, KnowsTail, KnowsAt, CallIs, phase_at, KnowsStoresAt, holds_act, holds_share}
 use low.{holds_shared, holds_head, holds_work, holds_tail, is_done, holds_at, holds_in, holds, held_by, Invariant, slot_relies}

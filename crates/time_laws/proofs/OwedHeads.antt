@@ -2,10 +2,10 @@
 -- that the call has still to store there.
 use Rattle.flight.specs.kept_facts.proofs.{◌≡◌, inl, inr, ℕ, ◌<◌, Bool, true, false, if◌then◌else◌, Option, Some, None, IsTrue, arith, refl}
 use Rattle.flight.specs.kept_facts.proofs.{sym, ◌∙◌, ap, subst, false≢true, same_same, Setting, IsSetting, Call, Reply, HeadFits}
-use Rattle.flight.specs.kept_facts.proofs.{word_of_head, head_of_word, HeadWord, spelling, EntryAt, FrameAt, State, changes_budgets, Trace}
+use Rattle.flight.specs.kept_facts.proofs.{word_of_head, head_of_word, HeadWord, spelling, EntryAt, State, changes_budgets, Trace}
 use Rattle.flight.specs.kept_facts.proofs.{phase, state_after, last_left, cases_word, same_word-other, AtCompare, AtDraw, AtStore, marked}
-use Rattle.flight.specs.kept_facts.proofs.{debited, credited, amount_of, Pair, PairAt, Tail, Nothing, Quiesce, Unmark, StoreDead}
-use Rattle.flight.specs.kept_facts.proofs.{StoreFlush, Release, StoreLive, Push, Pop, StoreRunning, StoreIdle, Stage, Enter, Living}
+use Rattle.flight.specs.kept_facts.proofs.{debited, credited, amount_of, Pair, PairAt, Tail, Quiesce}
+use Rattle.flight.specs.kept_facts.proofs.{Release, Push, Pop, StoreRunning, StoreIdle, Stage, Enter, Living}
 use Rattle.flight.specs.kept_facts.proofs.{Undecided, Decided, Leave, ActiveCall, Core, holds_release, Holding, keeps, holds_counts, HeadIs}
 use Rattle.flight.specs.kept_facts.proofs.{KnowsTail, KnowsAt, CallIs, phase_at, KnowsStoresAt, holds_head, holds_shared, holds_tail}
 use Rattle.flight.specs.kept_facts.proofs.{is_done, holds_at, holds_in, holds, Invariant, release_entry, is_tcap}

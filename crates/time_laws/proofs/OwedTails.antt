@@ -2,27 +2,24 @@
 -- tells it, and each store after it leaves it so.
 use Rattle.flight.specs.core_invariant.proofs as low
 use low.{◌≡◌, inl, inr, ℕ, ◌+◌, ◌<◌, ◌≤◌, ◌^◌, ◌==◌, ◌&&◌, ltb as nat_lt, Bool, true, false, if◌then◌else◌, List, [], ◌∷◌, length, Option}
-use low.{Some, None, arith, refl, sym, ◌∙◌, ap, subst, is_some, IsSome, false≢true, eq-eqb, ne_eqb, Setting, IsSetting, Capability, Call}
+use low.{Some, None, arith, refl, sym, ◌∙◌, ap, subst, is_some, IsSome, eq-eqb, ne_eqb, Setting, IsSetting, Capability, Call}
 use low.{Reply, Value, StageEnd, word_of_head, head_of_word, quality_of_word, HeadWord, EntryAt, Move, word_of, told_of, State, put_same}
 use low.{put_other, changes_budgets, Step, Trace, state_after, state_entered, state_before, last_left, Pin, quiet_after, quiet_end}
-use low.{AtCompare, AtDraw, AtStore, head_end, in_order, same_list, amount_of, judged, by_alike, by_room, again_end, Pair, PairAt, LoadA}
-use low.{MarkA, ListA, LoadB, ListB, CompareB, AgainB, StoreList, StoreB, StoreA, Charge, Plan, Leads, LeadsIn, plan_for, CompMaking}
-use low.{Invoking, Making, Own, Untyping, Outside, Work, Lookup, Read, Scan, Acquire, Act, WorkStep, put_by, took_shared, took_share, Stage}
+use low.{head_end, in_order, same_list, amount_of, judged, by_alike, by_room, again_end, Pair, PairAt, LoadA}
+use low.{MarkA, ListA, LoadB, ListB, CompareB, AgainB, StoreList, StoreB, StoreA, Charge, Leads, LeadsIn, plan_for}
+use low.{Own, Work, Lookup, Read, Scan, Acquire, Act, WorkStep, took_shared, took_share, Stage}
 use low.{Enter, Living, Undecided, Decided, Leave, ActiveCall, told_in, told_by, absorbed_in, fresh, stage_move, Took, GoesOn, Decides}
-use low.{Returns, Changes, landed, took, took_scan, Core, decided_in, KnowsAct, KnowsUndecided, KnowsAt, CallIs, UntypesBy, SharesBy}
-use low.{took_refilled, Refusal, Typing, Fill as fill_act, Remove as remove_act, Retype as type_act, Make as make_act, Tick as tick_act}
-use low.{Touch as touch_act, Flush as flush_act, Kill as kill_act, Untype as untype_act, Map as map_act, MakeComp as comp_act}
-use low.{Invoke as invoke_act, Return as return_act, Share as share_act, Refill as refill_act, Switch as switch_act, reply_of, move_of}
+use low.{Returns, Changes, landed, took, took_scan, Core, decided_in, KnowsUndecided, KnowsAt, CallIs, SharesBy}
+use low.{took_refilled, Refusal, Tick as tick_act, Share as share_act, Refill as refill_act, reply_of, move_of}
 use low.{core_after as after_took, took_at, took_count}
-use Rattle.flight.specs.act_states.specs.{giving_back, removes_by, undo, QualityWord, Pinned, pin_after, pin_end, end_by_mark, pair_after}
+use Rattle.flight.specs.act_states.specs.{giving_back, undo, QualityWord, Pinned, pin_after, pin_end, end_by_mark, pair_after}
 use Rattle.flight.specs.act_states.specs.{marked_end, decided_by_mark, b_end, list_end, Refill, took_act, refusal_of, shared, took_charge}
 use Rattle.flight.specs.act_states.specs.{ticks_of, alive_end, alive_after}
 use Rattle.flight.specs.stage_tcap.specs.{noted_by, pair_move, at_decided, compared_after, at_by_mark, at_by_head, at_marked, at_read}
 use Rattle.flight.specs.stage_tcap.specs.{b_next, a_next, again_value}
 use Rattle.flight.specs.step_ways.proofs.BudgetActs.{IsBudgetAct, budget_acts}
 use Rattle.flight.specs.{turned, MayStep, core_after, cores_after, stepping_core, IsMadeStep, IsMade, found_by}
-use Rattle.flight.specs.core_invariant.specs.{MakesBy, InvokesBy, SwitchesBy, TypesBy, OutsideBy, KillsBy}
-use Rattle.flight.specs.core_invariant.specs.{Invariant.Invariant, Acting.MakesCompBy, Reaching.is_mapping}
+use Rattle.flight.specs.core_invariant.specs.{Invariant.Invariant}
 use Rattle.time_laws.proofs.ShareTails.{OwesAt, OwesStage, OwesIn, OwesTook, StoresNone, LeavesNone, tail_on, landed_none, enter_none}
 use Rattle.time_laws.proofs.ShareTails.{alive_none, end_none, reading_none, scan_none}
 use Rattle.{history_laws.specs.Owes, history_laws.specs.state_of_decision, std.proofs.lemmas.Bool.cases_eq}

@@ -5,7 +5,7 @@ use low.{◌≡◌, ℕ, ◌==◌, ltb as nat_lt, leb as nat_le, Bool, true, fal
 use low.{Transfer, Delegate, Test, Reply, StageEnd, Entry, CompWord, Target, Under, Replenish, InRoot, State, changes_budgets, Look}
 use low.{Acquired, Quiet, Thaw, debited, credited, amount_of, Pair, PairAt, LoadA, MarkA, ListA, LoadB, ListB, CompareB, AgainB, StoreList}
 use low.{StoreB, StoreA, PairWork, First, Second, at_place, Next, NextName, NextFree, NextHeld, NextOwn, NextNothing, next_of, Own, Outside}
-use low.{Tail, Nothing, Quiesce, Unmark, StoreDead, StoreFlush, Release, StoreLive, Push, Pop, StoreRunning, StoreIdle, Lookup, Read, Scan}
+use low.{Tail, Nothing, Release, Push, Pop, Lookup, Read, Scan}
 use low.{Acquire, Act, WorkStep, Goes, Refuses, act_begun, reads_of, starts, refuse, Stage, Decided, ActiveCall, Took, GoesOn, Decides}
 use low.{Returns, Changes, landed, found_more, took_scan, Acquires, Answers, reply_of, next_by, took_tail, plan_for, Refusal}
 use Rattle.flight.specs.act_states.specs.{Tick, Ok, pair_after, pushed, looks_under, looks_entry, looks_at, read_first, next_step, met_name}

@@ -7,7 +7,7 @@ use low.act_states.specs.{quality_of_word, Next, NextName, NextFree, NextHeld, N
 use low.act_states.specs.{Look, look_end, end_by_link, place_end, Quiet, quiet_move, quiet_end, quiet_refuses, scan_end, alive_end, Alive}
 use low.act_states.specs.{Claim as ClaimOf, Claimed, compare_end, pin_end, Pin, Pinned, end_by_mark, head_end, charged_end, Charge}
 use low.act_states.specs.{marked_end, decided_by_mark, b_end, list_end, again_end, Pair, PairAt, PairWork, in_order, Refill, RefillAt}
-use low.act_states.specs.{at_place, First, Second, reply_of, refusal_of, looks_under, looks_entry, looks_at, read_first, next_step}
+use low.act_states.specs.{at_place, First, reply_of, refusal_of, looks_under, looks_entry, looks_at, read_first, next_step}
 use low.act_states.specs.{met_right, met_name, met_free, met_held, touches_if, shared, took_shared, shares_if, shares_at, refills_at}
 use low.act_states.specs.{took_refilled, looked, scans, starts, fills_with, removes_held, removes_at, types_if, types_at, makes_at, maps_if}
 use low.act_states.specs.{maps_at, comps_at, made_begun, kills_in, kills_at, invokes_if, invokes_in, invokes_at, returns_if, switches_at}

@@ -7,14 +7,14 @@ use low.{Alive, Claim as ClaimOf, Claimed, Pin, Pinned, end_by, Sweep, SweepAt, 
 use low.{live_of_word, word_of_count, residue, unheld, counters_of, sum_of_counts, pushed, pair_after, refill_after, refusal_of, filled_if}
 use low.{took_charge, meets_page, touch_end, touched, meets_frame, meets_word, typed_if, took_typing_at, enters_if, enters_live, frame_in}
 use low.{below_in, took_claim, switch_table, comp_meets_object, comp_meets_blank, comp_meets, takes_number, scans_number, number_shown}
-use low.{number_met, comp_goes, comp_refuses, number_scanned, closes_number, comp_published, took_close, took_act, act_move, scans}
+use low.{number_met, comp_goes, comp_refuses, number_scanned, closes_number, comp_published, took_close, took_act, act_move}
 use low.{meets_object, meets_blank, meets_making, marks_if, published, took_making_at, meets_comp, meets_life, meets_number, meets_live}
 use low.{closes_if, took_killing_at, meets_untyped, meets_untyping, sweeps_if, took_sweep, took_untyping_at, maps_frame, maps_word}
 use low.{comp_marks, took_comp_at, meets_table, meets_pages, meets_gate, took_invoking_at, meets_below, meets_below_table}
 use low.{meets_below_pages, took_returning_at, switch_pages, took_switching_at, plan_for}
 use Rattle.call_stages.specs.{found_more, landed, next_by, took_first, took_enter, took_alive, named_one, took_found, took_end, took_read}
 use Rattle.call_stages.specs.{took_count, took_scan, took_work, took_at, stage_move, work_move, is_spent}
-use Rattle.call_stages.specs.stage_tcap.specs.{Untyped, User, Kernel, Blank, Make, pair_move, pair_end, noted_by, refill_move, refill_end}
+use Rattle.call_stages.specs.stage_tcap.specs.{Untyped, User, Kernel, Blank, pair_move, pair_end, noted_by, refill_move, refill_end}
 use Rattle.call_stages.specs.stage_sweep.specs.{load_refuses, sum_refuses, compare_refuses, refuses_at, sweep_refuses, sweep_end}
 use Rattle.call_stages.specs.stage_sweep.specs.{sweep_move, sweep_kept, entry_refuses, empty_refuses}
 use Rattle.call_stages.specs.stage_sweep.specs.Freeze.{hold_refuses, some_referenced}
