@@ -86,6 +86,7 @@ some_flush setup t c table a (Leave r x) h knows is = absurd (false≢true is)
 some_flush setup t c table a (Decided r drawn (StoreFlush by stamp)) h knows is =
     subst (λ (d : ℕ). 1 ≤ (holds_tail (StoreFlush by stamp) h).stands (FlushAt d)) knows.core
     (subst (λ (n : ℕ). 1 ≤ n) (sym (ap (λ b. if b then stamp else h.stands (FlushAt by)) (same_same (FlushAt by)))) knows.some)
+some_flush setup t c table a (Decided r drawn _) h knows is = absurd (false≢true is)
 
 -- Where what a core holds stands for the same at its flush word, and it has no flush to store, it had none.
 pub still_flushed : (setup : Setting) (t : Trace) (c table : ℕ) (a : ActiveCall) (stage' : Stage) (counts' : List Acquired)
