@@ -1,2 +1,3 @@
 pub mod Staged
 pub mod Wholes
+pub mod Naming

@@ -5,3 +5,4 @@ pub use Rattle.step_looks.specs.call_stages
 -- Its own.
 pub mod Stepping
 pub mod Straight
+pub mod Naming

@@ -252,7 +252,7 @@ fn leave(active: &mut Option<ActiveCall>)
 
 // How many calls a decision with this reply counts.
 #[inline]
-fn calls_counted(reply: &Reply) -> u64
+pub(crate) fn calls_counted(reply: &Reply) -> u64
     ensures value { result ≡ calls_counted reply.now }
     ensures most { result ≤ 1 }
 {

@@ -35,10 +35,10 @@
 #![tactic(auto)]
 
 mod core_state;
+mod names;
 mod steps;
 mod whole;
 
 pub use core_state::CoreState;
 pub use step_looks::call_stages::Absorbed;
 pub use straight_acts::{Went, Words};
-pub use whole::is_straight;

@@ -8,9 +8,10 @@ ghost use Rattle.step_looks.specs.call_stages.specs.declared.stages.Absorbed.The
 ghost use Rattle.step_looks.specs.call_stages.specs.declared.stages.Stage.TheVariants.{Enter};
 ghost use Rattle.straight_acts.specs.straight_looks.specs.Outcomes.{went_so};
 ghost use Rattle.straight_acts.specs.straight_looks.specs.Standing.{stands};
-ghost use Rattle.call_steps.specs.Straight.{HasGone, is_straight};
+ghost use Rattle.call_steps.specs.Straight.{HasGone};
 
 use crate::core_state::CoreState;
+use crate::names::to_names;
 use spk_nums::{Call, Reply};
 use step_looks::act_states::Own;
 use step_looks::call_stages::{Absorbed, ActiveCall};
@@ -59,6 +60,7 @@ impl CoreState {
         match *went {
             Went::Returned { reply } => reply,
             Went::Falls { found } => self.fall(found, words),
+            Went::Stands => self.finish(words),
             Went::Plainly => {
                 self.begin(*call);
                 self.finish(words)
@@ -105,22 +107,6 @@ impl CoreState {
     }
 }
 
-/// Whether a call is one that `whole` makes straight through, as far as its words are those expected. Others it makes step by step.
-#[inline(always)]
-pub fn is_straight(call: &Call) -> bool
-    ensures { result ≡ is_straight call.now }
-{
-    match call {
-        Call::Look { .. } => true,
-        Call::Copy { .. } => true,
-        Call::Remove { .. } => true,
-        Call::Unmap { .. } => true,
-        Call::Tick { .. } => true,
-        Call::Flush => true,
-        _ => false,
-    }
-}
-
 // A call is made straight through, as far as its words are those expected.
 #[inline(always)]
 fn straight<W: Words>(
@@ -143,6 +129,6 @@ fn straight<W: Words>(
         Call::Unmap { .. } => unmap(own, active, call, words),
         Call::Tick { .. } => tick(own, active, call, words),
         Call::Flush => flush(own, active, call, words),
-        _ => Went::Plainly,
+        _ => to_names(own, active, call, words),
     }
 }

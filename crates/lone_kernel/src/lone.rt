@@ -46,7 +46,7 @@ use crate::seats::{Seat, Turn};
 use crate::whole::make_call;
 use crate::words::{perform, told};
 use boot_words::boot_words;
-use call_steps::{Absorbed, CoreState, is_straight};
+use call_steps::{Absorbed, CoreState};
 use spk_nums::{Call, CoreEnd, CoreNo, Decision, How, Memory, Reply, Setup, WordOp};
 use std::alloc::{AllocError, Global};
 use std::marker::{Brand, Model};
@@ -230,10 +230,7 @@ fn whole_call<'a>(list: &'a Vec<Call>, seat: &Seat, turn: &Turn, how: How) -> Op
 {
     match turn {
         Turn::Begins { .. } => match how {
-            How::Return => match list.get(seat.begun) {
-                None => None,
-                Some(call) => { if is_straight(call) { Some(call) } else { None } }
-            },
+            How::Return => list.get(seat.begun),
             _ => None,
         },
         Turn::GoesOn => None,

@@ -10,7 +10,7 @@ use Rattle.step_starts.specs.call_stages.specs.Fits.{IsCore}
 use Rattle.step_starts.specs.call_stages.specs.declared.stages.ActiveCall.{ActiveCall}
 use Rattle.step_starts.specs.call_stages.specs.declared.stages.Absorbed.{Absorbed}
 use Rattle.straight_looks.specs.declared.ends.Went.{Went}
-use Rattle.straight_looks.specs.declared.ends.Went.TheVariants.{Plainly, Falls, Returned}
+use Rattle.straight_looks.specs.declared.ends.Went.TheVariants.{Plainly, Stands, Falls, Returned}
 use Rattle.straight_looks.specs.Outcomes.{ended_so, went_so}
 use Rattle.straight_looks.specs.Standing.{looks}
 
@@ -27,5 +27,6 @@ look_fits own call steps look ks c is fits = (fits_as c (looks own call steps lo
 pub ended_went : (own own' : Own) (was now : Option ActiveCall) (before c : Core) (told : Absorbed) (w : Went)
     → ended_so own' was now c told w → went_so own own' was now before c told w
 ended_went own own' was now before c told Plainly fell = elim fell [ ]
+ended_went own own' was now before c told Stands at = at
 ended_went own own' was now before c told (Falls found) fell = fell
 ended_went own own' was now before c told (Returned r) left = left

@@ -47,6 +47,12 @@ pub record HasLeft (own : Own) (was now : Option ActiveCall) (c : Core) (last : 
   pub told : last ≡ Absorbed.Returned r
   pub fits : IsCore c
 
+-- a call stands here, with what its core has of its own now, and makes its next step there
+pub record IsStanding (own : Own) (active : Option ActiveCall) (c : Core) : Type 0 where
+  pub core : c ≡ record { own = own; active = active }
+  pub fits : IsCore c
+  pub in_call : IsSome active
+
 -- after the question whether the core's component lives: the call goes on to its first name, or to what comes next of it without one
 abbrev pub asked_so : Own → Call → Option ActiveCall → Option ActiveCall → Core → Absorbed → Asked → Type 0
 asked_so own call was now c told asked.Lives = IsOn was now c (onward own call 2 [])
@@ -62,14 +68,16 @@ abbrev pub named_so : Own → Call → ℕ → List Capability → Option Active
 named_so own call steps found was now c told (named.Finds k) = IsOn was now c (onward own call (steps + 1) (pushed found k))
 named_so own call steps found was now c told (named.Falls word) = Fell own now c told word
 
--- after the last part of a straight call: the general machine goes on; or it has returned
+-- after the last part of a straight call: it stands, or the general machine goes on with the word told; or it has returned
 abbrev pub ended_so : Own → Option ActiveCall → Option ActiveCall → Core → Absorbed → Went → Type 0
 ended_so own was now c told went.Plainly = ⊥
+ended_so own was now c told went.Stands = IsStanding own now c
 ended_so own was now c told (went.Falls found) = Fell own now c told found
 ended_so own was now c told (went.Returned r) = HasLeft own was now c told r
 
--- after a straight call: no step was made; or the general machine goes on; or it has returned
+-- after a straight call: no step was made; or it stands, or the general machine goes on with the word told; or it has returned
 abbrev pub went_so : Own → Own → Option ActiveCall → Option ActiveCall → Core → Core → Absorbed → Went → Type 0
 went_so own own' was now before c told went.Plainly = IsUntouched own own' was now before c
+went_so own own' was now before c told went.Stands = IsStanding own' now c
 went_so own own' was now before c told (went.Falls found) = Fell own' now c told found
 went_so own own' was now before c told (went.Returned r) = HasLeft own' was now c told r

@@ -8,6 +8,8 @@ use step_starts::stage_look::Look;
 pub enum Went {
     /// It has made no step.
     Plainly,
+    /// Its call stands where it was left, and makes its next step there.
+    Stands,
     /// Its call stands where it was left, and the step made there has told this word.
     Falls { found: u64 },
     /// It has returned this.
