@@ -15,7 +15,8 @@ use crate::names::to_names;
 use spk_nums::{Call, Reply};
 use step_looks::act_states::Own;
 use step_looks::call_stages::{Absorbed, ActiveCall};
-use straight_acts::{Went, Words, copy, flush, look, remove, tick, unmap};
+use straight_acts::{Went, Words, copy, look, remove, unmap};
+use straight_own::{flush, tick, touch};
 
 impl CoreState {
     /// Makes a call to its return, and answers its reply. The core is in no call, and the call is in its limits. The core of the words is
@@ -127,6 +128,7 @@ fn straight<W: Words>(
         Call::Copy { .. } => copy(own, active, call, words),
         Call::Remove { .. } => remove(own, active, call, words),
         Call::Unmap { .. } => unmap(own, active, call, words),
+        Call::Touch { .. } => touch(own, active, call, words),
         Call::Tick { .. } => tick(own, active, call, words),
         Call::Flush => flush(own, active, call, words),
         _ => to_names(own, active, call, words),

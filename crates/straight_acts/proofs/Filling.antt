@@ -24,8 +24,8 @@ use low.stage_look.specs.declared.look.Found.{Found}
 use low.stage_pins.specs.declared.held.Acquired.{Acquired}
 use low.call_stages.specs.Cores.{absorbed, own_decided}
 use low.call_stages.specs.declared.stages.Stage.TheVariants.{Undecided, Decided}
-use Rattle.straight_looks.specs.Standing.{stands, looks}
-use Rattle.straight_acts.specs.Acting.{acts, counts, Fills, IsFree, IsVacant, IsVacantFor, ShowsVacant}
+use Rattle.straight_looks.specs.Standing.{acts, stands, looks}
+use Rattle.straight_acts.specs.Acting.{counts, Fills, IsFree, IsVacant, IsVacantFor, ShowsVacant}
 
 -- a free place is one of a target that is to be free
 met : (own : Own) (call : Call) (ks : List Capability) (f : Found) (e : Entry) → IsFree e

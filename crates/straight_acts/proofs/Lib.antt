@@ -3,5 +3,4 @@ pub mod Pinning
 pub mod Filling
 pub mod Copying
 pub mod Removing
-pub mod Timing
 pub mod Sets

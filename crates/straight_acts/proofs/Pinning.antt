@@ -31,20 +31,16 @@ use low.call_stages.specs.View.{Core}
 use low.call_stages.specs.Cores.{absorbed}
 use low.call_stages.specs.Fits.{IsCore}
 use low.call_stages.specs.declared.stages.Stage.TheVariants.{Undecided}
-use Rattle.straight_looks.specs.Standing.{stands}
+use Rattle.straight_looks.specs.Standing.{acts, stands}
 use Rattle.straight_looks.proofs.Fitting.{fits_as}
-use Rattle.straight_acts.specs.Acting.{pins, counts, acts, IsUnheld}
+use Rattle.straight_acts.specs.Acting.{pins, counts, IsUnheld}
 
 -- the count that is acquired is of the machine
 pub pin_fits : (own : Own) (call : Call) (steps : ℕ) (pin : Pin) (change : ℤ) (act : ActType) (ks : List Capability) (c : Core)
     → c ≡ pins own call steps pin change act ks → IsCore c → PinFits own.layout pin
 pin_fits own call steps pin change act ks c is fits = (fits_as c (pins own call steps pin change act ks) is fits).active.stage.0
 
--- so is what an act names, with no count and with one, and so is the count
-pub act_fits : (own : Own) (call : Call) (steps : ℕ) (made : ActType) (ks : List Capability) (c : Core)
-    → c ≡ acts own call steps made ks → IsCore c → ActFits own.layout made
-act_fits own call steps made ks c is fits = (fits_as c (acts own call steps made ks) is fits).active.stage
-
+-- so is what an act names that has a count, and so is the count
 pub counted_act_fits : (own : Own) (call : Call) (steps : ℕ) (made : ActType) (ks : List Capability) (x : Acquired) (c : Core)
     → c ≡ counts own call steps (Undecided (Act made)) ks x → IsCore c → ActFits own.layout made
 counted_act_fits own call steps made ks x c is fits =

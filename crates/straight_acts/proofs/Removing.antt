@@ -31,8 +31,8 @@ use low.call_stages.specs.Fits.{IsCore}
 use low.call_stages.specs.Cores.{absorbed, own_decided}
 use low.call_stages.specs.declared.stages.Stage.TheVariants.{Undecided, Decided}
 use Rattle.straight_looks.proofs.Fitting.{fits_as}
-use Rattle.straight_looks.specs.Standing.{stands, looks, onward, Holds}
-use Rattle.straight_acts.specs.Acting.{acts, counts, Removes, RemovesUnder}
+use Rattle.straight_looks.specs.Standing.{acts, stands, looks, onward, Holds}
+use Rattle.straight_acts.specs.Acting.{counts, Removes, RemovesUnder}
 
 removes : (own : Own) (t b : ℕ) → nat_le t 4095 ≡ true → nat_le b 4095 ≡ true → RemovesUnder own (Remove t b) t kind.Table b
 unfolding onward

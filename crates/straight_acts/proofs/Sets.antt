@@ -1,13 +1,11 @@
 -- The lemmas that each function of this crate uses.
 use Rattle.straight_acts.proofs.Copying.{copy_asked, copy_fills, copy_first, copy_second}
 use Rattle.straight_acts.proofs.Filling.{filled, filled_counted, freed, settled, shows_vacant, vacant_at}
-use Rattle.straight_acts.proofs.Pinning.{act_fits, count_fits, counted_act_fits, loaded, pin_fits, won}
+use Rattle.straight_acts.proofs.Pinning.{count_fits, counted_act_fits, loaded, pin_fits, won}
 use Rattle.straight_acts.proofs.Pinning.{fills_bare, fills_counted, fills_due, removes_bare, removes_counted, removes_due}
 use Rattle.straight_acts.proofs.Removing.{closed, drawn, held, quiesce_fits, quiesced, remove_under, unmap_under}
 use Rattle.straight_acts.proofs.Removing.{closed_counted, drawn_counted, quiesce_counted_fits, quiesced_counted}
-use Rattle.straight_acts.proofs.Timing.{charge_answers, charge_loaded, spent_fits, tick_entered, ticks_kept}
-use Rattle.straight_acts.proofs.Timing.{emptied_fits, flush_entered, flush_marked, flush_stored}
-use Rattle.straight_looks.proofs.Fitting.{ended_went, fits_as, look_fits}
+use Rattle.straight_looks.proofs.Fitting.{act_fits, ended_went, fits_as, look_fits}
 use Rattle.straight_looks.proofs.Leaving.{answers}
 
 pub ruleset copying = (copy_asked, copy_first, copy_second, copy_fills, ended_went)
@@ -39,9 +37,3 @@ pub ruleset bare_removals = (closed, drawn, quiesced, act_fits, quiesce_fits, fi
 pub ruleset counted_fits = (counted_act_fits, quiesce_counted_fits, count_fits)
 
 pub ruleset counted_removals = (closed_counted, drawn_counted, quiesced_counted, settled, counted_fits, fits_as, answers)
-
-pub ruleset ticking = (tick_entered, charge_loaded, ticks_kept, act_fits, fits_as, ended_went)
-
-pub ruleset charging = (spent_fits, charge_answers, act_fits, fits_as)
-
-pub ruleset flushing = (emptied_fits, flush_entered, flush_marked, flush_stored, act_fits, fits_as, answers)

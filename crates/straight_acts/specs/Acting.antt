@@ -32,10 +32,6 @@ use low.call_stages.specs.declared.stages.Stage.{Stage}
 use low.call_stages.specs.declared.stages.Stage.TheVariants.{Undecided}
 use Rattle.straight_looks.specs.Standing.{going, stands, looks, onward}
 
--- a core whose call makes this act, and has no count
-abbrev pub acts : Own → Call → ℕ → ActType → List Capability → Core
-acts own call steps act found = stands own call steps (Undecided (Act act)) found
-
 -- a core whose call acquires a count for this act, its first
 abbrev pub pins : Own → Call → ℕ → Pin → ℤ → ActType → List Capability → Core
 pins own call steps pin change act found = stands own call steps (Undecided (Acquire pin change act)) found

@@ -1,9 +1,9 @@
 //! The filling of a free place.
 
 ghost use Rattle.std.specs.Prelude.{◌≡◌, ◌<◌, ◌∷◌, []};
-ghost use Rattle.straight_acts.specs.Acting.{acts, counts};
+ghost use Rattle.straight_acts.specs.Acting.{counts};
 ghost use Rattle.straight_looks.specs.Outcomes.{ended_so};
-ghost use Rattle.straight_looks.specs.Standing.{stands};
+ghost use Rattle.straight_looks.specs.Standing.{acts, stands};
 ghost use Rattle.straight_looks.specs.step_starts.specs.act_states.specs.Acts.{filling, next_work};
 ghost use Rattle.straight_looks.specs.step_starts.specs.act_states.specs.declared.work.Act.TheVariants as act_of;
 ghost use Rattle.straight_looks.specs.step_starts.specs.act_states.specs.declared.work.Work.TheVariants as work;
@@ -11,7 +11,7 @@ ghost use Rattle.straight_looks.specs.step_starts.specs.call_stages.specs.Fits.{
 ghost use Rattle.straight_looks.specs.step_starts.specs.call_stages.specs.declared.stages.Stage.TheVariants.{Undecided};
 
 use crate::counts::{Acquiring, acquire};
-use crate::rests::{rest_acting, rest_acting_counted};
+use crate::rests::rest_acting_counted;
 use make_acts::fill_op;
 use spk_nums::{Call, Cap, Value};
 use straight_looks::act_states::{Act, Fill, Own};
@@ -20,7 +20,7 @@ use straight_looks::step_starts::call_plans::Caps;
 use straight_looks::step_starts::call_stages::ActiveCall;
 use straight_looks::step_starts::stage_look::Found;
 use straight_looks::step_starts::stage_pins::Acquired;
-use straight_looks::{Went, Words, exit};
+use straight_looks::{Went, Words, exit, rest_acting};
 
 /// A free place is filled, after the count of the capability's frame is acquired if it has one.
 #[inline(always)]

@@ -1,9 +1,9 @@
 //! A removal.
 
 ghost use Rattle.std.specs.Prelude.{◌≡◌, ◌<◌, ◌≤◌, []};
-ghost use Rattle.straight_acts.specs.Acting.{Removes, RemovesUnder, acts, counts};
+ghost use Rattle.straight_acts.specs.Acting.{Removes, RemovesUnder, counts};
 ghost use Rattle.straight_looks.specs.Outcomes.{ended_so, went_so};
-ghost use Rattle.straight_looks.specs.Standing.{looks, stands};
+ghost use Rattle.straight_looks.specs.Standing.{acts, looks, stands};
 ghost use Rattle.straight_looks.specs.step_starts.specs.act_states.specs.Acts.{next_work, removing};
 ghost use Rattle.straight_looks.specs.step_starts.specs.act_states.specs.declared.work.Work.TheVariants as work;
 ghost use Rattle.straight_looks.specs.step_starts.specs.call_stages.specs.Fits.{IsCore, IsOwn};
@@ -11,7 +11,7 @@ ghost use Rattle.straight_looks.specs.step_starts.specs.call_stages.specs.declar
 ghost use Rattle.straight_looks.specs.step_starts.specs.stage_look.specs.declared.look.Look.TheVariants.{AtRoot};
 
 use crate::counts::{Acquiring, acquire};
-use crate::rests::{rest_acting, rest_acting_counted};
+use crate::rests::rest_acting_counted;
 use spk_nums::{Call, Cap, CapId, FrameNo, Kind, Rights, Value};
 use straight_looks::act_states::{Act, Own};
 use straight_looks::step_lands::stage_quiet::{Close, drawn};
@@ -21,7 +21,8 @@ use straight_looks::step_starts::call_stages::ActiveCall;
 use straight_looks::step_starts::stage_look::{Found, Look};
 use straight_looks::step_starts::stage_pins::Acquired;
 use straight_looks::{
-    Asked, Followed, Named, Went, Words, ask, exit, follow, held_at, name, rest_looking,
+    Asked, Followed, Named, Went, Words, ask, exit, follow, held_at, name, rest_acting,
+    rest_looking,
 };
 
 /// Makes a removal straight through.

@@ -43,29 +43,6 @@ pub(crate) fn rest_acquiring(
     });
 }
 
-/// After so many steps this act is made, with no count.
-#[inline(never)]
-pub(crate) fn rest_acting(
-    active: &mut Option<ActiveCall>,
-    call: &Call,
-    steps: u32,
-    act: &Act,
-    found: &Caps,
-)
-    ensures { active.new ≡ Some (going call.now steps (Undecided (work.Act act.now)) found.now []) }
-{
-    *active = Some(ActiveCall {
-        steps,
-        stage: Stage::Undecided {
-            work: Work::Act { act: *act },
-        },
-        found: *found,
-        read: None,
-        counts: AcquiredCounts::none(),
-        call: *call,
-    });
-}
-
 /// After so many steps this act is made, with a count.
 #[inline(never)]
 pub(crate) fn rest_acting_counted(

@@ -5,7 +5,8 @@ use Rattle.spk_nums.specs.declared.calls.Call.{Call}
 use Rattle.spk_nums.specs.declared.replies.Reply.{Reply}
 use Rattle.step_starts.specs.act_states.specs.declared.own.Own.{Own}
 use Rattle.step_starts.specs.act_states.specs.declared.work.Tail.TheVariants.{Nothing}
-use Rattle.step_starts.specs.act_states.specs.declared.work.Work.TheVariants.{Lookup}
+use Rattle.step_starts.specs.act_states.specs.declared.work.Act.{Act as ActType}
+use Rattle.step_starts.specs.act_states.specs.declared.work.Work.TheVariants.{Lookup, Act}
 use Rattle.step_starts.specs.kernel_rules.specs.Access.{Want}
 use Rattle.step_starts.specs.entry_words.specs.declared.entry.Entry.TheVariants.{Held}
 use Rattle.spk_nums.specs.declared.steps.StageEnd.TheVariants.{Done}
@@ -34,6 +35,10 @@ stands own call steps stage found = record { own = own; active = Some (going cal
 -- a core whose call looks a place up
 abbrev pub looks : Own → Call → ℕ → Look → List Capability → Core
 looks own call steps look found = stands own call steps (Undecided (Lookup look)) found
+
+-- a core whose call makes this act, and has no count
+abbrev pub acts : Own → Call → ℕ → ActType → List Capability → Core
+acts own call steps act found = stands own call steps (Undecided (Act act)) found
 
 -- a core after one step more of a call that goes on to what comes next of it by its plan
 unfoldable pub onward : Own → Call → ℕ → List Capability → Core

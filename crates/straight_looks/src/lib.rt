@@ -25,7 +25,7 @@ pub use ends::{Asked, Followed, Named, Went};
 pub use exits::{entry_op, exit};
 pub use looks::look;
 pub use names::{follow, name};
-pub use rests::{rest_asking, rest_looking};
+pub use rests::{rest_acting, rest_asking, rest_looking};
 pub use shows::{HeldAt, held_at};
 pub use step_starts;
 pub use step_starts::{act_states, step_lands};

@@ -4,12 +4,12 @@
 //! those expected writes none.
 
 ghost use Rattle.std.specs.Prelude.{◌≡◌, [], Some};
-ghost use Rattle.step_starts.specs.act_states.specs.declared.work.Work.TheVariants.{Lookup};
+ghost use Rattle.step_starts.specs.act_states.specs.declared.work.Work.TheVariants.{Act, Lookup};
 ghost use Rattle.step_starts.specs.call_stages.specs.declared.stages.Stage.TheVariants.{Living, Undecided};
 ghost use Rattle.straight_looks.specs.Standing.{going};
 
 use spk_nums::Call;
-use step_starts::act_states::Work;
+use step_starts::act_states::{Act, Work};
 use step_starts::call_plans::Caps;
 use step_starts::call_stages::{ActiveCall, Stage};
 use step_starts::stage_look::Look;
@@ -46,6 +46,29 @@ pub fn rest_looking(
         steps,
         stage: Stage::Undecided {
             work: Work::Lookup { look },
+        },
+        found: *found,
+        read: None,
+        counts: AcquiredCounts::none(),
+        call: *call,
+    });
+}
+
+/// After so many steps this act is made, with no count.
+#[inline(never)]
+pub fn rest_acting(
+    active: &mut Option<ActiveCall>,
+    call: &Call,
+    steps: u32,
+    act: &Act,
+    found: &Caps,
+)
+    ensures { active.new ≡ Some (going call.now steps (Undecided (Act act.now)) found.now []) }
+{
+    *active = Some(ActiveCall {
+        steps,
+        stage: Stage::Undecided {
+            work: Work::Act { act: *act },
         },
         found: *found,
         read: None,

@@ -1,9 +1,8 @@
 //! A tick, and a flush.
 
 ghost use Rattle.std.specs.Prelude.{◌≡◌, ◌<◌, ◌-◌, [], Some};
-ghost use Rattle.straight_acts.specs.Acting.{acts};
 ghost use Rattle.straight_looks.specs.Outcomes.{ended_so, went_so};
-ghost use Rattle.straight_looks.specs.Standing.{going, stands};
+ghost use Rattle.straight_looks.specs.Standing.{acts, going, stands};
 ghost use Rattle.straight_looks.specs.step_starts.specs.act_states.specs.OwnChanges.{own_changed};
 ghost use Rattle.straight_looks.specs.step_starts.specs.act_states.specs.Ticks.{ticks_of};
 ghost use Rattle.straight_looks.specs.step_starts.specs.act_states.specs.declared.own.OwnChange.TheVariants.{Empties, Ticks};
@@ -12,7 +11,6 @@ ghost use Rattle.straight_looks.specs.step_starts.specs.act_states.specs.declare
 ghost use Rattle.straight_looks.specs.step_starts.specs.call_stages.specs.Fits.{IsCore, IsOwn};
 ghost use Rattle.straight_looks.specs.step_starts.specs.call_stages.specs.declared.stages.Stage.TheVariants.{Enter, Undecided};
 
-use crate::rests::rest_acting;
 use spk_nums::{Call, StageEnd, Value};
 use straight_looks::act_states::{Act, Own, OwnChange};
 use straight_looks::step_lands::stage_quiet::FlushMark;
@@ -20,7 +18,7 @@ use straight_looks::step_lands::stage_tcap::Charge;
 use straight_looks::step_starts::begin_acts::act_counts::charged_in;
 use straight_looks::step_starts::call_plans::Caps;
 use straight_looks::step_starts::call_stages::ActiveCall;
-use straight_looks::{Went, Words, entry_op, exit};
+use straight_looks::{Went, Words, entry_op, exit, rest_acting};
 
 /// Makes a tick straight through.
 #[inline(never)]

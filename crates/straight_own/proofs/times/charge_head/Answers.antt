@@ -1,5 +1,5 @@
-use Rattle.straight_acts.proofs.Timing.{charge_answers}
-use Rattle.straight_acts.proofs.times.charge_head.Goals as goal
+use Rattle.straight_own.proofs.Timing.{charge_answers}
+use Rattle.straight_own.proofs.times.charge_head.Goals as goal
 
 -- src/times.rt:80:24
 pub exit-requires-clause-decided : goal.exit-requires-clause-decided

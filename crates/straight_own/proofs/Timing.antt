@@ -31,8 +31,7 @@ use low.call_stages.specs.Cores.{absorbed, core_after, own_decided}
 use low.call_stages.specs.Fits.{IsOwn}
 use low.call_stages.specs.Steps.{landed}
 use low.call_stages.specs.declared.stages.Stage.TheVariants.{Enter, Decided, Undecided}
-use Rattle.straight_looks.specs.Standing.{IsAnswered, going, stands}
-use Rattle.straight_acts.specs.Acting.{acts}
+use Rattle.straight_looks.specs.Standing.{IsAnswered, acts, going, stands}
 
 -- the entry of a tick, and its load
 pub tick_entered : (own : Own) (n w : ℕ) → own.made < own.limit
