@@ -1,13 +1,13 @@
 -- The next step of a call is on a word of its machine.
 use Rattle.work_invariant.specs.core_invariant.proofs.{AtComp, AtLive, ℕ, ◌<◌, Option, Some, None, length, arith, ◌≤◌, IsSome, Shape, IsIn}
 use Rattle.work_invariant.specs.core_invariant.proofs.{word_of, StageFits, CompAt, CompMaking, KillingAt, LoadComp, LoadLive, CountWord}
-use Rattle.work_invariant.specs.core_invariant.proofs.{SweepAt, Thaw, UntypingAt, CountAt, Own, Fill, Outside, Untype, MakeComp, Invoke}
-use Rattle.work_invariant.specs.core_invariant.proofs.{Return, FrameKind, MakingAt, NewObject, Lookup, Read, Scan, Acquire, Tail, Nothing}
-use Rattle.work_invariant.specs.core_invariant.proofs.{Quiesce, Unmark, StoreDead, StoreFlush, Release, StoreLive, Push, Pop, StoreRunning}
+use Rattle.work_invariant.specs.core_invariant.proofs.{SweepAt, Thaw, UntypingAt, CountAt, Own, Fill}
+use Rattle.work_invariant.specs.core_invariant.proofs.{FrameKind, MakingAt, NewObject, Lookup, Read, Scan, Acquire, Tail, Nothing}
+use Rattle.work_invariant.specs.core_invariant.proofs.{Release, StoreRunning}
 use Rattle.work_invariant.specs.core_invariant.proofs.{StoreIdle, Reply, Acquired, InvokingAt, ReturningAt, Switching, SwitchAt, stage_move}
 use Rattle.work_invariant.specs.core_invariant.proofs.{ActiveCall, Stage, Enter, Living, Undecided, Decided, Leave, IfSome, List, [], ◌∷◌}
-use Rattle.work_invariant.specs.core_invariant.proofs.{CallFits, move_in, Close as kill_close, Draw as kill_draw, Remove, Retype, Make}
-use Rattle.work_invariant.specs.core_invariant.proofs.{Tick, Flush, Kill, Map as map_act, Touch, Share, Refill, Switch, TypingAt}
+use Rattle.work_invariant.specs.core_invariant.proofs.{CallFits, move_in, Close as kill_close, Draw as kill_draw}
+use Rattle.work_invariant.specs.core_invariant.proofs.{TypingAt}
 use Rattle.work_invariant.specs.core_invariant.proofs.{Act as act_work, tail_move, is_ok}
 use Rattle.call_fits.specs.call_stages.specs.act_states.specs.{CompMakingFits, counters_of, comp_at, killing_at, move_at, ThawFits}
 use Rattle.call_fits.specs.call_stages.specs.act_states.specs.{untyping_at, typing_at, making_at, ActFits, act_move, commit_of, AllFit}
@@ -16,7 +16,7 @@ use Rattle.call_fits.specs.call_stages.specs.act_states.specs.{declared.typings.
 use Rattle.call_fits.specs.call_stages.specs.act_states.specs.{declared.typings.TypingAt.TheVariants.Compare as type_compare}
 use Rattle.call_fits.specs.call_stages.specs.act_states.specs.{Kills.KillingAtFits, Untypings.UntypingAtFits, Untypings.release_at}
 use Rattle.call_fits.specs.call_stages.specs.act_states.specs.{declared.work.Act.Act, declared.fills.Fill.Fill as FillOf, Fills.FillFits}
-use Rattle.call_fits.specs.call_stages.specs.act_states.specs.{Makings.MakingAtFits, declared.work.Tail.TheVariants.Share as share_tail}
+use Rattle.call_fits.specs.call_stages.specs.act_states.specs.{Makings.MakingAtFits}
 use Rattle.call_fits.specs.call_stages.specs.act_states.specs.{Invocations.InvokingAtFits, Invocations.ReturningAtFits}
 use Rattle.call_fits.specs.call_stages.specs.stage_pins.proofs.{PinLemmas.pin_is_in, PinLemmas.settle_is_in, HeldLemmas.commit_fits}
 use Rattle.call_fits.specs.call_stages.specs.stage_tcap.proofs.{PairLemmas.charge_is_in, PairLemmas.pair_is_in, RefillLemmas.refill_is_in}
@@ -106,33 +106,25 @@ switching_in shape m (SwitchAt.Draw to table pages) fits = tt
 
 act_in : (shape : Shape) (act : Act) → ActFits shape act → IsIn shape (word_of (act_move act))
 act_in shape (Fill fill) fits = (fits.node, fits.entry)
-act_in shape (Remove close cap) fits = close_is_in shape close fits.0
-act_in shape (Retype typing) fits = typing_in shape typing.frame typing.kind typing.at fits
-act_in shape (Make m) fits = making_in shape m.frame m.object m.core m.fill m.at fits.frame fits.fill fits.at
-act_in shape (map_act fill) fits = fits.1
-act_in shape (Outside node entry word) fits = fits
-act_in shape (Tick charge) fits = charge_is_in shape charge fits
-act_in shape (Touch m) fits = look_is_in shape m.look fits.look
-act_in shape (Flush core) fits = tt
-act_in shape (Kill m) fits = killing_in shape m.comp m.core m.at fits.comp fits.at
-act_in shape (Untype m) fits = untyping_in shape m.frame m.core m.at fits.frame fits.at
-act_in shape (MakeComp m) fits = comp_in shape m m.at fits
-act_in shape (Invoke m) fits = invoking_in shape m.comp m.at fits.comp fits.at
-act_in shape (Return m) fits = returning_in shape m.thread m.depth m.at fits.thread fits.most_depth fits.at
-act_in shape (Share p) fits = pair_is_in shape p fits
-act_in shape (Refill r) fits = refill_is_in shape r fits
-act_in shape (Switch m) fits = switching_in shape m m.at fits
+act_in shape _ fits =
+    search (
+      close_is_in,
+      typing_in,
+      making_in,
+      charge_is_in,
+      look_is_in,
+      killing_in,
+      untyping_in,
+      comp_in,
+      invoking_in,
+      returning_in,
+      pair_is_in,
+      refill_is_in,
+      switching_in,
+    )
 
 tail_in : (shape : Shape) (r : Reply) (drawn : Option ℕ) (tail : Tail) (counts : List Acquired) → TailFits shape tail
     → AllFit shape counts → IsIn shape (word_of (tail_move r drawn tail counts))
-tail_in shape r drawn (Quiesce close) counts fits fit = close_is_in shape close fits
-tail_in shape r drawn (Unmark f word) counts fits fit = fits
-tail_in shape r drawn (StoreDead life stamp) counts fits fit = fits.0.0
-tail_in shape r drawn (Push push) counts fits fit = push_is_in shape push fits
-tail_in shape r drawn (Pop pop) counts fits fit = pop_is_in shape pop fits
-tail_in shape r drawn (StoreLive l live f word) counts fits fit = fits.0
-tail_in shape r drawn (StoreFlush core stamp) counts fits fit = fits
-tail_in shape r drawn (share_tail p) counts fits fit = pair_is_in shape p fits.fits
 tail_in shape r drawn (StoreRunning f core depth old old_depth) counts fits fit = (fits.0, omega arith)
 tail_in shape r drawn (StoreIdle f depth) counts fits fit = (fits.0, omega arith)
 tail_in shape r drawn Nothing [] fits fit = tt
@@ -142,6 +134,7 @@ tail_in shape r drawn (Release release) [] fits fit =
     release_in shape release.frame release.word release.thaw fits.frame fits.thaw
 tail_in shape r drawn (Release release) (x ∷ xs) fits fit =
     settle_is_in shape (commit_of (is_ok r) drawn x) (commit_fits shape (is_ok r) drawn x (All-head (AcquiredFits shape) x xs fit))
+tail_in shape r drawn _ counts fits fit = search (close_is_in, push_is_in, pop_is_in, pair_is_in)
 
 pub stage_in : (own : Own) (counts : List Acquired) (s : Stage) → own.core < own.layout.cores → AllFit own.layout counts
     → StageFits own.layout s
