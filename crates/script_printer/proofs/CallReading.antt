@@ -1,213 +1,173 @@
 -- Calls as words: the words of the line of a call are read as that call.
 use Rattle.script_reader.specs.call_reader.specs as low
-use low.{first_word, verb_of, later_verb_of, call_word, frame_kind_of, frame_kind_at, fourth_at, both_at, rights_at, call_line, look_line}
-use low.{copy_line, remove_line, grow_line, shrink_line, retype_line, map_line, unmap_line, touch_line, flush_line, gate_line, kill_line}
-use low.{enter_line, ret_line, switch_line, tick_line, transfer_line, delegate_line, test_line, part_line, replenish_line, object_of}
-use low.{object_at, thread_at, tcap_at, comp_at, plain_at, made_at, make_line}
-use Rattle.std.proofs.Common.{◌≡◌, ◌≢◌, ℕ, ◌≤◌, ◌==◌, Bool, true, false, ◌&&◌, if◌then◌else◌, List, [], ◌∷◌, Some, Ok, refl, sym, ap, arith}
-use Rattle.std.proofs.Common.{eqb-true, le-leb, codes, decimal, slice_get, option_and_then, nat_le, None}
-use Rattle.script_printer.specs.{IsName, IsMakeWithin, IsCallWithin}
-use Rattle.script_reader.specs.line_reader.specs.{is_word, word_at, end_at}
-use Rattle.spk_nums.specs.declared.kinds.FrameKind.TheVariants.{Untyped, User, Kernel}
-use Rattle.spk_nums.specs.declared.calls.Call.TheVariants.{Look, Copy, Remove, Grow, Shrink, Retype, Make as make_call, Map, Unmap, Touch}
-use Rattle.spk_nums.specs.declared.calls.Call.TheVariants.{Flush, Gate, Kill, Call as call_gate, Ret, Switch, Tick, Transfer, Delegate}
-use Rattle.spk_nums.specs.declared.calls.Call.TheVariants.{Test, Part, Replenish}
-use Rattle.script_printer.proofs.CallWords.{make_words, copy_words, call_words}
-use Rattle.{script_reader.specs.line_of, script_reader.specs.line_by, std.proofs.lemmas.Bool.eqb-false}
-use Rattle.{spk_nums.specs.Names.frame_kind_word, spk_nums.specs.Rights.both, spk_nums.specs.declared.kinds.FrameKind.FrameKind}
-use Rattle.{spk_nums.specs.declared.calls.Make.Make, spk_nums.specs.declared.calls.Call.Call, script_reader.specs.declared.head.Head.Head}
-use Rattle.{script_printer.proofs.NumberWords.number_back, script_printer.proofs.NumberWords.name_back}
-use low.{declared.first_words.Verb.Verb}
-use Rattle.spk_nums.specs.declared.calls.Make.TheVariants as make
-use Rattle.script_reader.specs.call_reader.specs.declared.first_words.Verb.TheVariants as verb
+use low.{first_word, frame_kind_of, frame_kind_at, object_of, object_at, call_line, read_form, Form, form_of, MaySay, IsCallWithin}
+use Rattle.std.proofs.Common.{◌≡◌, ◌≢◌, ℕ, suc, ◌≤◌, ◌<◌, ◌+◌, ◌==◌, Bool, true, false, ◌&&◌, if◌then◌else◌, List, [], ◌∷◌, ◌++◌, map}
+use Rattle.std.proofs.Common.{Result, Some, Ok, refl, sym, ap, ◌∙◌, arith, eqb-true, le-leb, lt-ltb, le-ltb, slice_get, option_and_then}
+use Rattle.std.proofs.Common.{nat_le, nat_lt, length, append-nil, length-append}
+use Rattle.std.proofs.lemmas.Bool.{eqb-false}
+use Rattle.script_reader.specs.line_reader.specs.{◌>>=◌, is_word, word_at, number_at, end_at, declared.cause.Cause.Cause}
+use Rattle.script_reader.specs.call_reader.proofs.{Spelled.first_of, Forms.AllSay, Forms.IsLast, Forms.forms_say, Forms.may_be_said}
+use Rattle.spk_nums.specs.Verbs.{Argument, argument_word, object_word, rights_written, said, with, said_words, call_words}
+use Rattle.spk_nums.specs.{Names.frame_kind_word, Rights.both, declared.kinds.FrameKind.FrameKind, declared.calls.Call.Call}
+use Rattle.spk_nums.specs.{declared.verbs.Verb.Verb, declared.verbs.Object.Object}
+use Rattle.{script_reader.specs.line_of, script_reader.specs.line_by, script_reader.specs.declared.head.Head.Head}
+use Rattle.script_printer.proofs.NumberWords.{number_back}
 use Rattle.script_reader.specs.call_reader.specs.declared.first_words.FirstWord.TheVariants as first
 use Rattle.script_reader.specs.declared.head.Section.TheVariants as section
 use Rattle.script_reader.specs.declared.head.Line.TheVariants as line
 
--- the word of a call, as the reader knows it
-abbrev call_verb : Call → Verb
-call_verb (Look a) = verb.Look
-call_verb (Copy a t b rights) = verb.Copy
-call_verb (Remove t b) = verb.Remove
-call_verb (Grow t i l) = verb.Grow
-call_verb (Shrink t i) = verb.Shrink
-call_verb (Retype r f k) = verb.Retype
-call_verb (make_call what range frame table slot) = verb.Make
-call_verb (Map p v r f w) = verb.Map
-call_verb (Unmap p v) = verb.Unmap
-call_verb (Touch v) = verb.Touch
-call_verb Flush = verb.Flush
-call_verb (Gate c t b) = verb.Gate
-call_verb (Kill c) = verb.Kill
-call_verb (call_gate g) = verb.Call
-call_verb Ret = verb.Ret
-call_verb (Switch h q) = verb.Switch
-call_verb (Tick n) = verb.Tick
-call_verb (Transfer a b m) = verb.Transfer
-call_verb (Delegate a b m) = verb.Delegate
-call_verb (Test a b) = verb.Test
-call_verb (Part r f n t b) = verb.Part
-call_verb (Replenish a m) = verb.Replenish
+-- ---- where an argument stands
 
-make_first : (version : ℕ) (what : Make) (r f t b : ℕ)
-    → option_and_then (first_word version) (slice_get (make_words what r f t b) 0) ≡ Some (first.Call verb.Make)
-unfolding first_word verb_of later_verb_of is_word
-make_first version make.Table r f t b = refl
-make_first version _ r f t b = refl
+there : (before : List Argument) (one : Argument) (more : List Argument)
+    → slice_get (map argument_word ((before ++ one ∷ []) ++ more)) (length before) ≡ Some (argument_word one)
+there [] one more = refl
+there (a ∷ before) one more = there before one more
 
-copy_first : (version : ℕ) (whole : Bool) (a t b r : ℕ)
-    → option_and_then (first_word version) (slice_get (copy_words whole a t b r) 0) ≡ Some (first.Call verb.Copy)
-unfolding first_word verb_of later_verb_of is_word
-copy_first version true a t b r = refl
-copy_first version false a t b r = refl
+-- the place after so many arguments
+abbrev After : List Argument → ℕ → Type 0
+After before place = place ≡ suc (length before)
+
+argument_there : (v : Verb) (c : Call) (before : List Argument) (one : Argument) (more : List Argument) (place : ℕ)
+    → said c ≡ with v ((before ++ one ∷ []) ++ more) → After before place → slice_get (call_words c) place ≡ Some (argument_word one)
+argument_there v c before one more place is at = (λ i. slice_get (said_words (is i)) (at i)) ∙ there before one more
+
+next_place : (before : List Argument) (one : Argument) (place : ℕ) → After before place → After (before ++ one ∷ []) (place + 1)
+next_place before one place at = omega (arith, at, length-append before (one ∷ []))
+
+words_length : (xs : List Argument) → length (map argument_word xs) ≡ length xs
+words_length [] = refl
+words_length (a ∷ xs) = ap suc (words_length xs)
+
+said_length : (v : Verb) (c : Call) (xs : List Argument) → said c ≡ with v xs → length (call_words c) ≡ suc (length xs)
+said_length v c xs is = ap (λ s. length (said_words s)) is ∙ ap suc (words_length xs)
+
+-- ---- what stands there is read
+
+kind_read : (k : FrameKind) → frame_kind_of (frame_kind_word k) ≡ Some k
+unfolding frame_kind_of is_word
+kind_read FrameKind.Untyped = refl
+kind_read _ = refl
+
+kind_back : (words : List (List ℕ)) (place : ℕ) (k : FrameKind) → slice_get words place ≡ Some (frame_kind_word k)
+    → frame_kind_at words place ≡ Ok k
+unfolding frame_kind_at word_at
+kind_back words place k e = rw (e, kind_read k) refl
+
+object_read : (o : Object) → object_of (object_word o) ≡ Some o
+unfolding object_of is_word
+object_read Object.Table = refl
+object_read _ = refl
+
+object_back : (words : List (List ℕ)) (place : ℕ) (o : Object) → slice_get words place ≡ Some (object_word o) → object_at words place ≡ Ok o
+unfolding object_at word_at
+object_back words place o e = rw (e, object_read o) refl
+
+end_back : (words : List (List ℕ)) (place : ℕ) → length words ≡ place → end_at words place ≡ Ok tt
+unfolding end_at
+end_back words place e = rw (le-leb (length words) place (omega (arith, e))) refl
+
+-- what is read at a place, and what comes after it
+then_read : {A : Type 0} (r : Result A Cause) (f : A → Result Call Cause) (a : A) (c : Call) → r ≡ Ok a → f a ≡ Ok c → (r >>= f) ≡ Ok c
+then_read r f a c e h = ap (λ x. x >>= f) e ∙ h
+
+-- ---- the number that may be left out
+
+last_says : (v : Verb) (version : ℕ) (f : Form) (before : List Argument) (c : Call) → IsLast f → AllSay v f before → MaySay version f c
+    → said c ≡ with v before
+last_says v version (Form.Says d) before c last all may = ap said (sym may) ∙ all
+last_says v version (Form.Number letter least most next) before c last all may = absurd last
+last_says v version (Form.MayNumber letter next) before c last all may = absurd last
+last_says v version (Form.Kind letter next) before c last all may = absurd last
+last_says v version (Form.Made letter next) before c last all may = absurd last
+
+no_more : {A : Type 0} (two more : Bool) (x y z : A) → more ≡ false → y ≡ z → (if two && more then x else y) ≡ z
+no_more true true x y z e h = absurd cc
+no_more true false x y z e h = h
+no_more false more x y z e h = h
+
+-- as a number is written where it is not both rights
+abbrev written : Bool → ℕ → List Argument
+written whole n = if whole then [] else Argument.Number n ∷ []
+
+may_number : (v : Verb) (version : ℕ) (letter : List ℕ) (next : ℕ → Form) (before : List Argument) (c : Call) (place n : ℕ) (whole : Bool)
+    → (n == both) ≡ whole → 1 ≤ version → n ≤ 3 → (version ≡ 1 → n ≡ both) → IsLast (next n)
+    → AllSay v (next n) (before ++ written whole n) → MaySay version (next n) c → After before place
+    → ((p : ℕ) → After (before ++ written whole n) p → read_form version (call_words c) p (next n) ≡ Ok c)
+    → read_form version (call_words c) place (Form.MayNumber letter next) ≡ Ok c
+may_number v version letter next before c place n true is some few one last all may at go =
+    let words = call_words c in
+    let said_is : said c ≡ with v (before ++ []) = last_says v version (next n) (before ++ []) c last all may in
+    let long : length words ≡ suc (length (before ++ [])) = said_length v c (before ++ []) said_is in
+    let here : After (before ++ []) place = omega (arith, at, ap length (append-nil before)) in
+    let past : nat_lt place (length words) ≡ false = le-ltb place (length words) (omega (arith, long, here)) in
+    let rest : read_form version words place (next both) ≡ Ok c =
+    ap (λ k. read_form version words place (next k)) (sym (eqb-true n both is)) ∙ go place here in
+    no_more (nat_le 2 version) (nat_lt place (length words)) _ _ _ past rest
+may_number v version letter next before c place n false is some few one last all may at go =
+    let words = call_words c in
+    let x = Argument.Number n in
+    let said_is : said c ≡ with v (before ++ x ∷ []) = last_says v version (next n) (before ++ x ∷ []) c last all may in
+    let long : length words ≡ suc (length (before ++ x ∷ [])) = said_length v c (before ++ x ∷ []) said_is in
+    let other : version ≢ 1 = λ e. eqb-false n both is (one e) in
+    let two : 2 ≤ version = omega (arith, some, other) in
+    let below : place < length words = omega (arith, long, at, length-append before (x ∷ [])) in
+    let here = argument_there v c before x [] place (said_is ∙ ap (λ xs. with v xs) (sym (append-nil (before ++ x ∷ [])))) at in
+    let rest = then_read (number_at words place 0 3) (λ k. read_form version words (place + 1) (next k)) n c
+    (number_back words place 0 3 n here (omega arith) few (omega arith)) (go (place + 1) (next_place before x place at)) in
+    rw (le-leb 2 version two, lt-ltb place (length words) below) rest
+
+-- ---- the line is read
+
+-- where what stands before a place is what the line says, what stands from there on is read as the call
+reads : (v : Verb) (version : ℕ) (f : Form) (before : List Argument) (c : Call) (place : ℕ) → 1 ≤ version → AllSay v f before
+    → MaySay version f c → After before place → read_form version (call_words c) place f ≡ Ok c
+reads v version (Form.Says d) before c place some all may at =
+    let words = call_words c in
+    let long : length words ≡ suc (length before) = said_length v c before (ap said (sym may) ∙ all) in
+    then_read (end_at words place) (λ done. Ok d) tt c (end_back words place (long ∙ sym at)) (ap Ok may)
+reads v version (Form.Number letter least most next) before c place some all may at =
+    let words = call_words c in
+    let n = may.0 in
+    let x = Argument.Number n in
+    let more = may_be_said v version (next n) (before ++ x ∷ []) c (all.1 n) may.3 in
+    let here = argument_there v c before x more.0 place more.1 at in
+    let small : most ≤ 4000000000 = all.0 in
+    then_read (number_at words place least most) (λ k. read_form version words (place + 1) (next k)) n c
+    (number_back words place least most n here may.1 may.2 (omega (arith, small)))
+    (reads v version (next n) (before ++ x ∷ []) c (place + 1) some (all.1 n) may.3 (next_place before x place at))
+reads v version (Form.MayNumber letter next) before c place some all may at =
+    let n = may.0 in
+    may_number v version letter next before c place n (n == both) refl some may.1 may.2 (all n).0 (all n).1 may.3 at
+    (λ p here. reads v version (next n) (before ++ rights_written n) c p some (all n).1 may.3 here)
+reads v version (Form.Kind letter next) before c place some all may at =
+    let words = call_words c in
+    let k = may.0 in
+    let x = Argument.Kind k in
+    let more = may_be_said v version (next k) (before ++ x ∷ []) c (all k) may.1 in
+    then_read (frame_kind_at words place) (λ j. read_form version words (place + 1) (next j)) k c
+    (kind_back words place k (argument_there v c before x more.0 place more.1 at))
+    (reads v version (next k) (before ++ x ∷ []) c (place + 1) some (all k) may.1 (next_place before x place at))
+reads v version (Form.Made letter next) before c place some all may at =
+    let words = call_words c in
+    let o = may.0 in
+    let x = Argument.Made o in
+    let more = may_be_said v version (next o) (before ++ x ∷ []) c (all o) may.1 in
+    then_read (object_at words place) (λ j. read_form version words (place + 1) (next j)) o c
+    (object_back words place o (argument_there v c before x more.0 place more.1 at))
+    (reads v version (next o) (before ++ x ∷ []) c (place + 1) some (all o) may.1 (next_place before x place at))
+
+call_read : (version : ℕ) (c : Call) → 1 ≤ version → IsCallWithin version c → call_line version (call_words c) (said c).verb ≡ Ok c
+unfolding call_line
+call_read version c some h =
+    let v = (said c).verb in
+    reads v version (form_of v) [] c 1 some (forms_say v) h.1 refl
 
 call_first : (version : ℕ) (c : Call) → IsCallWithin version c
-    → option_and_then (first_word version) (slice_get (call_words c) 0) ≡ Some (first.Call (call_verb c))
-unfolding first_word verb_of later_verb_of is_word
-call_first version (Copy a t b rights) h = copy_first version (rights.0 == 3) a t b rights.0
-call_first version (make_call what range frame table slot) h = make_first version what range frame table slot
-call_first version (Part r f n t b) h =
-    ap (λ late. call_word (if late then Some verb.Part else None)) (le-leb 3 version h.0)
-call_first version (Replenish a m) h =
-    ap (λ late. call_word (if late then Some verb.Replenish else None)) (le-leb 3 version h.0)
-call_first version _ h = refl
-
-kind_back : (w a b : List ℕ) (k : FrameKind) → frame_kind_at (w ∷ a ∷ b ∷ frame_kind_word k ∷ []) 3 ≡ Ok k
-unfolding frame_kind_at word_at frame_kind_of is_word
-kind_back w a b Untyped = refl
-kind_back w a b User = refl
-kind_back w a b Kernel = refl
-
-make_read : (what : Make) (r f t b : ℕ) → IsMakeWithin what → IsName r → IsName f
-    → IsName t → IsName b → make_line (make_words what r f t b) ≡ Ok (make_call what r f t b)
-unfolding make_line object_at word_at object_of is_word made_at plain_at thread_at tcap_at comp_at end_at
-make_read make.Table r f t b h hr hf ht hb =
-    let ws = make_words make.Table r f t b in
-    rw (name_back ws 2 r refl hr, name_back ws 3 f refl hf, name_back ws 4 t refl ht, name_back ws 5 b refl hb) refl
-make_read make.Leaf r f t b h hr hf ht hb =
-    let ws = make_words make.Leaf r f t b in
-    rw (name_back ws 2 r refl hr, name_back ws 3 f refl hf, name_back ws 4 t refl ht, name_back ws 5 b refl hb) refl
-make_read make.Pages r f t b h hr hf ht hb =
-    let ws = make_words make.Pages r f t b in
-    rw (name_back ws 2 r refl hr, name_back ws 3 f refl hf, name_back ws 4 t refl ht, name_back ws 5 b refl hb) refl
-make_read make.Pleaf r f t b h hr hf ht hb =
-    let ws = make_words make.Pleaf r f t b in
-    rw (name_back ws 2 r refl hr, name_back ws 3 f refl hf, name_back ws 4 t refl ht, name_back ws 5 b refl hb) refl
-make_read (make.Thread comp) r f t b h hr hf ht hb =
-    let ws = make_words (make.Thread comp) r f t b in
-    rw (
-      name_back ws 2 r refl hr,
-      name_back ws 3 f refl hf,
-      name_back ws 4 t refl ht,
-      name_back ws 5 b refl hb,
-      name_back ws 6 comp refl h,
-    ) refl
-make_read (make.Tcap sched quality) r f t b h hr hf ht hb =
-    let ws = make_words (make.Tcap sched quality) r f t b in
-    rw (
-      name_back ws 2 r refl hr,
-      name_back ws 3 f refl hf,
-      name_back ws 4 t refl ht,
-      name_back ws 5 b refl hb,
-      number_back ws 6 0 63 sched refl (omega arith) h.0 (omega arith),
-      number_back ws 7 1 16777215 quality refl h.1 h.2 (omega arith),
-    ) refl
-make_read (make.Comp table pages live) r f t b h hr hf ht hb =
-    let ws = make_words (make.Comp table pages live) r f t b in
-    rw (
-      name_back ws 2 r refl hr,
-      name_back ws 3 f refl hf,
-      name_back ws 4 t refl ht,
-      name_back ws 5 b refl hb,
-      name_back ws 6 table refl h.0,
-      name_back ws 7 pages refl h.1,
-      number_back ws 8 0 63 live refl (omega arith) h.2 (omega arith),
-    ) refl
-
--- after `copy A T B` nothing comes, and both rights are kept, in every version
-both_read : (version a t b : ℕ) → rights_at version (copy_words true a t b 3) ≡ Ok (record { 0 = both })
-unfolding rights_at both_at end_at
-both_read version a t b = by (nat_le 2 version)
-  where
-    by : (two : Bool) → (if two && false then fourth_at (copy_words true a t b 3) else Ok (record { 0 = both })) ≡ Ok (record { 0 = both })
-    by true = refl
-    by false = refl
-
--- or a fourth number comes, from version 2 on
-fourth_read : (version a t b r : ℕ) → 2 ≤ version → r ≤ 3 → rights_at version (copy_words false a t b r) ≡ Ok (record { 0 = r })
-unfolding rights_at fourth_at end_at
-fourth_read version a t b r two few =
-    rw (le-leb 2 version two, number_back (copy_words false a t b r) 4 0 3 r refl (omega arith) few (omega arith)) refl
-
-copy_read : (whole : Bool) (version a t b r : ℕ) → (r == 3) ≡ whole → 1 ≤ version → version ≤ 3 → IsName a → IsName t → IsName b → r ≤ 3
-    → (version ≡ 1 → r ≡ both) → copy_line version (copy_words whole a t b r) ≡ Ok (Copy a t b (record { 0 = r }))
-unfolding copy_line
-copy_read true version a t b r is some most ha ht hb few one =
-    let ws = copy_words true a t b r in
-    let three : both ≡ r = sym (eqb-true r 3 is) in
-    rw (name_back ws 1 a refl ha, name_back ws 2 t refl ht, name_back ws 3 b refl hb, both_read version a t b)
-    (ap (λ (n : ℕ). Ok (Copy a t b (record { 0 = n }))) three)
-copy_read false version a t b r is some most ha ht hb few one =
-    let ws = copy_words false a t b r in
-    let other : version ≢ 1 = λ e. eqb-false r 3 is (one e) in
-    let two : 2 ≤ version = omega (arith, some, other) in
-    rw (name_back ws 1 a refl ha, name_back ws 2 t refl ht, name_back ws 3 b refl hb, fourth_read version a t b r two few) refl
-
-call_read : (version : ℕ) (c : Call) → 1 ≤ version → version ≤ 3 → IsCallWithin version c
-    → call_line version (call_words c) (call_verb c) ≡ Ok c
-unfolding call_line look_line copy_line remove_line grow_line shrink_line retype_line map_line unmap_line touch_line
-    flush_line gate_line kill_line enter_line ret_line switch_line tick_line transfer_line delegate_line test_line part_line replenish_line
-    end_at
-call_read version (Look a) some most h = let ws = call_words (Look a) in rw (name_back ws 1 a refl h) refl
-call_read version (Copy a t b rights) some most h = copy_read (rights.0 == 3) version a t b rights.0 refl some most h.0 h.1 h.2 h.3 h.4
-call_read version (Remove t b) some most h = let ws = call_words (Remove t b) in rw (name_back ws 1 t refl h.0, name_back ws 2 b refl h.1) refl
-call_read version (Grow t i l) some most h = let ws = call_words (Grow t i l) in
-    rw (name_back ws 1 t refl h.0, name_back ws 2 i refl h.1, name_back ws 3 l refl h.2) refl
-call_read version (Shrink t i) some most h = let ws = call_words (Shrink t i) in rw (name_back ws 1 t refl h.0, name_back ws 2 i refl h.1) refl
-call_read version (Retype r f k) some most h = let ws = call_words (Retype r f k) in
-    rw (name_back ws 1 r refl h.0, name_back ws 2 f refl h.1, kind_back (codes "retype") (decimal r) (decimal f) k) refl
-call_read version (make_call what range frame table slot) some most h = make_read what range frame table slot h.0 h.1 h.2 h.3 h.4
-call_read version (Map p v r f w) some most h =
-    let ws = call_words (Map p v r f w) in
-    rw (
-      name_back ws 1 p refl h.0,
-      name_back ws 2 v refl h.1,
-      name_back ws 3 r refl h.2,
-      name_back ws 4 f refl h.3,
-      number_back ws 5 0 3 w.0 refl (omega arith) h.4 (omega arith),
-    ) refl
-call_read version (Unmap p v) some most h = let ws = call_words (Unmap p v) in rw (name_back ws 1 p refl h.0, name_back ws 2 v refl h.1) refl
-call_read version (Touch v) some most h = let ws = call_words (Touch v) in rw (name_back ws 1 v refl h) refl
-call_read version Flush some most h = refl
-call_read version (Gate c t b) some most h = let ws = call_words (Gate c t b) in
-    rw (name_back ws 1 c refl h.0, name_back ws 2 t refl h.1, name_back ws 3 b refl h.2) refl
-call_read version (Kill c) some most h = let ws = call_words (Kill c) in rw (name_back ws 1 c refl h) refl
-call_read version (call_gate g) some most h = let ws = call_words (call_gate g) in rw (name_back ws 1 g refl h) refl
-call_read version Ret some most h = refl
-call_read version (Switch h q) some most k = let ws = call_words (Switch h q) in rw (name_back ws 1 h refl k.0, name_back ws 2 q refl k.1) refl
-call_read version (Tick n) some most h = let ws = call_words (Tick n) in rw (number_back ws 1 0 1000000 n refl (omega arith) h (omega arith)) refl
-call_read version (Transfer a b m) some most h =
-    let ws = call_words (Transfer a b m) in
-    rw (name_back ws 1 a refl h.0, name_back ws 2 b refl h.1, number_back ws 3 0 4000000000 m refl (omega arith) h.2 (omega arith)) refl
-call_read version (Delegate a b m) some most h =
-    let ws = call_words (Delegate a b m) in
-    rw (name_back ws 1 a refl h.0, name_back ws 2 b refl h.1, number_back ws 3 0 4000000000 m refl (omega arith) h.2 (omega arith)) refl
-call_read version (Test a b) some most h = let ws = call_words (Test a b) in rw (name_back ws 1 a refl h.0, name_back ws 2 b refl h.1) refl
-call_read version (Replenish a m) some most h =
-    let ws = call_words (Replenish a m) in
-    rw (name_back ws 1 a refl h.1, number_back ws 2 0 4000000000 m refl (omega arith) h.2 (omega arith)) refl
-call_read version (Part r f n t b) some most h =
-    let ws = call_words (Part r f n t b) in
-    rw (
-      name_back ws 1 r refl h.1,
-      name_back ws 2 f refl h.2,
-      name_back ws 3 n refl h.3,
-      name_back ws 4 t refl h.4,
-      name_back ws 5 b refl h.5,
-    ) refl
+    → option_and_then (first_word version) (slice_get (call_words c) 0) ≡ Some (first.Call (said c).verb)
+call_first version c h = first_of version (said c).verb h.0
 
 -- after a `core` line, the line of a call says that call
-pub call_back : (head : Head) (c : Call) → head.section ≡ section.List → 1 ≤ head.version → head.version ≤ 3
+pub call_back : (head : Head) (c : Call) → head.section ≡ section.List → 1 ≤ head.version
     → IsCallWithin head.version c → line_of head (call_words c) ≡ Ok (line.Call c)
 unfolding line_of line_by
-call_back head c e some most h = rw (call_first head.version c h, e, call_read head.version c some most h) refl
+call_back head c e some h = rw (call_first head.version c h, e, call_read head.version c some h) refl

@@ -11,4 +11,5 @@ pub mod LineCounts
 pub mod CallLimits
 pub mod ReadLimits
 -- The names that are used most outside of this library.
-pub use Rattle.script_printer.proofs.Spans.{both_left, both_right, is_line, line_onto, are_lines, is_text, rows_from}
+pub use Rattle.script_reader.specs.call_reader.proofs.Judgements.{both_left, both_right}
+pub use Rattle.script_printer.proofs.Spans.{is_line, line_onto, are_lines, is_text, rows_from}

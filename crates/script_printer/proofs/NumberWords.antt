@@ -5,7 +5,8 @@ use Rattle.script_reader.specs.line_reader.specs.{all_digits, is_digits, value_o
 use Rattle.std.proofs.{lemmas.Bool.and_from, lemmas.Fmt.digits_decimal, lemmas.Fmt.digits_value-decimal, lemmas.Fmt.decimal_nonempty}
 use Rattle.std.proofs.{lemmas.Str.Parse.IsNumeralModel, lemmas.Str.Parse.numerals_by_fold}
 use Rattle.script_reader.specs.line_reader.specs.Numerals.{is_digit, value_from}
-use Rattle.script_printer.proofs.Spans.{is_text, are_word_bytes, both_left, both_right}
+use Rattle.script_reader.specs.call_reader.proofs.Judgements.{both_left, both_right}
+use Rattle.script_printer.proofs.Spans.{is_text, are_word_bytes}
 use Rattle.{script_reader.specs.script_tokens.specs.Bytes.is_word_byte, script_reader.specs.line_reader.proofs.Digits.number_is}
 
 own : IsNumeralModel (λ ds. all_digits ds ≡ true) (value_from 0)
@@ -45,14 +46,7 @@ pub number_back : (words : List (List ℕ)) (place least most n : ℕ) → slice
 unfolding number_at word_at
 number_back words place least most n e low high fits = rw (e, number_read n (omega arith), le-leb least n low, le-leb n most high) refl
 
-pub name_back : (words : List (List ℕ)) (place n : ℕ)
-    → slice_get words place ≡ Some (decimal n) → n ≤ 65535 → number_at words place 0 65535 ≡ Ok n
-name_back words place n e high = number_back words place 0 65535 n e (omega arith) high (omega arith)
-
 pub core_back : (words : List (List ℕ)) (place cores n : ℕ)
     → slice_get words place ≡ Some (decimal n) → n < cores → cores ≤ 8 → core_at words place cores ≡ Ok n
 unfolding core_at word_at
 core_back words place cores n e below fits = rw (e, number_read n (omega arith), lt-ltb n cores below) refl
-
-pub name_text : (n : ℕ) → n ≤ 65535 → is_text (decimal n) ≡ true
-name_text n h = number_text n (omega arith)

@@ -8,7 +8,8 @@ use Rattle.script_reader.specs.{Meaning, no_draft, draft_from, meaning_at, scrip
 use Rattle.std.proofs.{lemmas.Bool.and_from, lemmas.List.Elements.All-head, lemmas.List.Elements.All-tail, lemmas.List.Elements.All-weaker}
 use Rattle.spk_nums.specs.{declared.calls.Call.Call, declared.grants.Grant.Grant, declared.steps.Item.Item, Setting.Setting}
 use Rattle.script_printer.specs.Printing.{grant_line, size_lines, limit_lines, core_lines, order_lines}
-use low.Spans.{both_left, is_line, are_lines, line_onto, lines_onto, rows_from, lines_rows, lines_fault, lines_count}
+use Rattle.script_reader.specs.call_reader.proofs.Judgements.{both_left}
+use low.Spans.{is_line, are_lines, line_onto, lines_onto, rows_from, lines_rows, lines_fault, lines_count}
 use low.HeadLines.{speck_words, cores_words, frames_words, grant_words, calls_words, epochs_words}
 use low.ReadingLines.{Says, grants_then, calls_then, core_then, lists_then, script_lines, script_says}
 use Rattle.{script_reader.specs.script_tokens.specs.words_of, script_reader.specs.line_reader.specs.rows_of}

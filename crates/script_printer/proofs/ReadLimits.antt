@@ -12,8 +12,7 @@ use low.call_reader.specs.{first_word, call_line, most_calls}
 use low.script_tokens.specs.{words_of, ending_of, line_count}
 use Rattle.std.proofs.lemmas.List.{get_or_past, length_push}
 use Rattle.std.proofs.lemmas.List.Elements.{All-push, All-set, All-weaker, All-get_or, All-take, All-nil, All-replicate}
-use Rattle.spk_nums.specs.{declared.calls.Call.Call, declared.calls.Call.TheVariants.Copy, declared.calls.Call.TheVariants.Part}
-use Rattle.spk_nums.specs.{declared.calls.Call.TheVariants.Replenish, declared.grants.Grant.Grant, declared.steps.Item.Item}
+use Rattle.spk_nums.specs.{declared.calls.Call.Call, declared.grants.Grant.Grant, declared.steps.Item.Item}
 use Rattle.spk_nums.specs.{Setting.GrantFits, Setting.IsSetting}
 use low.script_tokens.specs.declared.scanning.ByteFault.TheVariants.{NotAscii, TooManyLines}
 use low.script_tokens.specs.declared.scanning.Ending.TheVariants.{Whole, Fault}
@@ -21,7 +20,9 @@ use low.line_reader.specs.declared.cause.Cause.TheVariants.{S2, S6, S7, S9}
 use low.{declared.head.Section.Section, declared.head.Head.Head, declared.head.Line.Line, Heads.AreFrames, Heads.HasCome, Heads.IsHead}
 use low.{Heads.speck_line, Heads.cores_line, Heads.frames_line, Heads.grant_line, Heads.calls_line, Heads.epochs_line, Orders.Parts}
 use low.{Orders.parts_of, Orders.no_item, Orders.judged, Orders.with_item}
-use Rattle.script_printer.proofs.CallLimits.{judged_is, bind_ok, args_none, args_one, args_three, number_in, call_in}
+use low.call_reader.proofs.Judgements.{judged_is, bind_ok, number_in}
+use low.call_reader.proofs.Forms.{line_within}
+use Rattle.script_printer.proofs.CallLimits.{args_none, args_one, args_three, later_version}
 use Rattle.script_printer.proofs.KnownWords.{IsWordIn, word_known, most_machine}
 use low.{script_tokens.specs.declared.scanning.Ending.Ending, line_reader.specs.declared.cause.Cause.Cause}
 use low.{call_reader.specs.declared.first_words.FirstWord.FirstWord}
@@ -320,7 +321,7 @@ line_by_in h words first.Core l is t known e = head_line h (core_line h words) l
 line_by_in h words first.Order l is t known e = head_line h (order_line h words) l (λ g. order_in h g words is t) e
 line_by_in h words (first.Call v) l is t known e =
     let r = bind_ok (call_line h.version words v) (λ call. Ok (Line.Call call)) l e in
-    subst (IsLineWithin h) (judged_is (Line.Call r.0) l r.2) (call_in h.version words v r.0 known r.1)
+    subst (IsLineWithin h) (judged_is (Line.Call r.0) l r.2) (line_within h.version words v r.0 known r.1)
 
 abbrev failed : {A : Type 0} → Cause → Result A Cause
 failed k = Err k
@@ -393,13 +394,6 @@ record IsRead (d : Draft_of) : Type 0 where
 
 no_order : (cores : ℕ) (order : List Item) → order ≡ [] → IsOrder cores order
 no_order cores order e = subst (IsOrder cores) (sym e) (record { below = All-nil (λ (x : Item). x.core < cores); room = omega arith })
-
--- a call that is within the limits of a version is so in one that is 1 only if that is, and from 3 on if that is
-later_version : (v w : ℕ) → (w ≡ 1 → v ≡ 1) × (3 ≤ v → 3 ≤ w) → (c : Call) → IsCallWithin v c → IsCallWithin w c
-later_version v w goes (Copy a t b rights) h = (h.0, h.1, h.2, h.3, λ one. h.4 (goes.0 one))
-later_version v w goes (Replenish a m) h = (goes.1 h.0, h.1, h.2)
-later_version v w goes (Part r f n t b) h = (goes.1 h.0, h.1, h.2, h.3, h.4, h.5)
-later_version v w goes c h = h
 
 call_more : (v : ℕ) (lists : List (List Call)) (core : ℕ) (c : Call) → All (All (IsCallWithin v)) lists
     → IsCallWithin v c → All (All (IsCallWithin v)) (with_call lists core c)

@@ -5,8 +5,9 @@ use Rattle.script_reader.specs.{no_head, granted, is_whole, line_of, Draft_of, M
 use Rattle.script_reader.specs.{draft_behind, draft_from, meaning_of, meaning_at, setting_of, BelowCores}
 use Rattle.std.proofs.{lemmas.Bool.cases_Bool, lemmas.List.length_push, lemmas.List.Elements.All-head, lemmas.List.Elements.All-tail}
 use Rattle.std.proofs.{Math.Seq.set-append_seam, Math.Seq.get_or-append_seam, Math.Seq.take-append_seam}
-use Rattle.spk_nums.specs.{declared.calls.Call.Call, declared.grants.Grant.Grant, declared.steps.Item.Item, Setting.Setting}
-use Rattle.script_printer.proofs.{Spans.rows_from, CallWords.call_words, CallReading.call_back, HeadLines.speck_words}
+use Rattle.spk_nums.specs.{declared.calls.Call.Call, declared.grants.Grant.Grant, declared.steps.Item.Item}
+use Rattle.spk_nums.specs.{Setting.Setting, Verbs.call_words}
+use Rattle.script_printer.proofs.{Spans.rows_from, CallReading.call_back, HeadLines.speck_words}
 use Rattle.script_printer.proofs.{HeadLines.cores_words, HeadLines.frames_words, HeadLines.grant_words, HeadLines.calls_words}
 use Rattle.script_printer.proofs.{HeadLines.epochs_words, HeadLines.core_words, HeadLines.order_words, HeadLines.IsListing}
 use Rattle.script_printer.proofs.{HeadLines.speck_back, HeadLines.cores_back, HeadLines.frames_back, HeadLines.grant_back}
@@ -56,9 +57,10 @@ unfolding draft_behind behind_line
 head_behind h new lists order words before e = rw (before, e) refl
 
 call_behind : (h : Head) (lists : List (List Call)) (order : List Item) (c : Call) → h.section ≡ section.List
-    → 1 ≤ h.version → h.version ≤ 3 → IsCallWithin h.version c → draft_behind (draft h lists order) (call_words c) ≡ Ok (draft h (with_call lists h.core c) order)
+    → 1 ≤ h.version → IsCallWithin h.version c
+    → draft_behind (draft h lists order) (call_words c) ≡ Ok (draft h (with_call lists h.core c) order)
 unfolding draft_behind behind_line
-call_behind h lists order c e some most within = rw (ap is_order e, call_back h c e some most within) refl
+call_behind h lists order c e some within = rw (ap is_order e, call_back h c e some within) refl
 
 -- ---- grants
 
@@ -123,31 +125,31 @@ one_more done after x core c e =
     ∙ set-append_seam done x after (x ++ c ∷ [])
 
 calls_say : (calls : List Call) (h : Head) (done after : List (List Call)) (x : List Call) (lines : List (List (List ℕ))) (m : Meaning)
-    → h.section ≡ section.List → 1 ≤ h.version → h.version ≤ 3 → h.core ≡ length done → All (IsCallWithin h.version) calls
+    → h.section ≡ section.List → 1 ≤ h.version → h.core ≡ length done → All (IsCallWithin h.version) calls
     → Says (draft h (done ++ (x ++ calls) ∷ after) []) lines m → Says (draft h (done ++ x ∷ after) []) (calls_then calls lines) m
-calls_say [] h done after x lines m e some most at within more =
+calls_say [] h done after x lines m e some at within more =
     subst (λ (l : List Call). Says (draft h (done ++ l ∷ after) []) lines m) (append-nil x) more
-calls_say (c ∷ cs) h done after x lines m e some most at within more =
+calls_say (c ∷ cs) h done after x lines m e some at within more =
     let joined : x ++ c ∷ cs ≡ (x ++ c ∷ []) ++ cs = sym (append_assoc x (c ∷ []) cs) in
     let behind : Says (draft h (done ++ ((x ++ c ∷ []) ++ cs) ∷ after) []) lines m =
     subst (λ (l : List Call). Says (draft h (done ++ l ∷ after) []) lines m) joined more in
     let rest : Says (draft h (done ++ (x ++ c ∷ []) ∷ after) []) (calls_then cs lines) m =
-    calls_say cs h done after (x ++ c ∷ []) lines m e some most at (All-tail (IsCallWithin h.version) c cs within) behind in
+    calls_say cs h done after (x ++ c ∷ []) lines m e some at (All-tail (IsCallWithin h.version) c cs within) behind in
     let one : draft_behind (draft h (done ++ x ∷ after) []) (call_words c) ≡ Ok (draft h (done ++ (x ++ c ∷ []) ∷ after) []) =
-    call_behind h (done ++ x ∷ after) [] c e some most (All-head (IsCallWithin h.version) c cs within)
+    call_behind h (done ++ x ∷ after) [] c e some (All-head (IsCallWithin h.version) c cs within)
     ∙ ap (λ lists. Ok (draft h lists [])) (one_more done after x h.core c at) in
     says_line (draft h (done ++ x ∷ after) []) (draft h (done ++ (x ++ c ∷ []) ∷ after) []) (call_words c) (calls_then cs lines) m one rest
 
 core_says : (calls : List Call) (h : Head) (done after : List (List Call)) (core : ℕ) (lines : List (List (List ℕ))) (m : Meaning)
-    → IsListing h.section → 1 ≤ h.version → h.version ≤ 3 → core ≡ length done → core < h.cores → h.cores ≤ 8
+    → IsListing h.section → 1 ≤ h.version → core ≡ length done → core < h.cores → h.cores ≤ 8
     → All (IsCallWithin h.version) calls
     → ((g : Head) → setting_of g ≡ setting_of h → g.version ≡ h.version → IsListing g.section → Says (draft g (done ++ calls ∷ after) []) lines m)
     → Says (draft h (done ++ [] ∷ after) []) (core_then core calls lines) m
-core_says [] h done after core lines m e some most at below few within more = more h refl refl e
-core_says (c ∷ cs) h done after core lines m e some most at below few within more =
+core_says [] h done after core lines m e some at below few within more = more h refl refl e
+core_says (c ∷ cs) h done after core lines m e some at below few within more =
     let g : Head = record h { section = section.List; core = core } in
     let rest : Says (draft g (done ++ [] ∷ after) []) (calls_then (c ∷ cs) lines) m =
-    calls_say (c ∷ cs) g done after [] lines m refl some most at within (more g refl refl (inr refl)) in
+    calls_say (c ∷ cs) g done after [] lines m refl some at within (more g refl refl (inr refl)) in
     says_line (draft h (done ++ [] ∷ after) []) (draft g (done ++ [] ∷ after) []) (core_words core) (calls_then (c ∷ cs) lines) m
     (head_behind h g (done ++ [] ∷ after) [] (core_words core) (listing_no_order h.section e) (core_line_back h core e below few)) rest
 
@@ -157,13 +159,13 @@ emptied [] = []
 emptied (l ∷ ls) = [] ∷ emptied ls
 
 lists_say : (lists : List (List Call)) (h : Head) (done after : List (List Call)) (core : ℕ) (lines : List (List (List ℕ))) (m : Meaning)
-    → IsListing h.section → 1 ≤ h.version → h.version ≤ 3 → core ≡ length done → core + length lists ≡ h.cores → h.cores ≤ 8
+    → IsListing h.section → 1 ≤ h.version → core ≡ length done → core + length lists ≡ h.cores → h.cores ≤ 8
     → All (All (IsCallWithin h.version)) lists
     → ((g : Head) → setting_of g ≡ setting_of h → g.version ≡ h.version → IsListing g.section → Says (draft g (done ++ (lists ++ after)) []) lines m)
     → Says (draft h (done ++ (emptied lists ++ after)) []) (lists_then core lists lines) m
-lists_say [] h done after core lines m e some most at n few within more = more h refl refl e
-lists_say (l ∷ ls) h done after core lines m e some most at n few within more =
-    core_says l h done (emptied ls ++ after) core (lists_then (core + 1) ls lines) m e some most
+lists_say [] h done after core lines m e some at n few within more = more h refl refl e
+lists_say (l ∷ ls) h done after core lines m e some at n few within more =
+    core_says l h done (emptied ls ++ after) core (lists_then (core + 1) ls lines) m e some
     at (omega arith) few (All-head (All (IsCallWithin h.version)) l ls within) (λ g same version listing.
     let cores : g.cores ≡ h.cores = ap (λ (s : Setting). s.cores) same in
     let pushed : length (done ++ l ∷ []) ≡ length done + 1 = length_push done l in
@@ -171,7 +173,7 @@ lists_say (l ∷ ls) h done after core lines m e some most at n few within more 
     let emptier : (done ++ l ∷ []) ++ (emptied ls ++ after) ≡ done ++ l ∷ (emptied ls ++ after) =
     append_assoc done (l ∷ []) (emptied ls ++ after) in
     subst (λ (lists : List (List Call)). Says (draft g lists []) (lists_then (core + 1) ls lines) m) emptier
-    (lists_say ls g (done ++ l ∷ []) after (core + 1) lines m listing (omega (arith, some, version)) (omega (arith, most, version))
+    (lists_say ls g (done ++ l ∷ []) after (core + 1) lines m listing (omega (arith, some, version))
     (omega arith) (omega arith) (omega arith)
     (subst (λ v. All (All (IsCallWithin v)) ls) (sym version) (All-tail (All (IsCallWithin h.version)) l ls within))
     (λ f again version' still.
@@ -331,7 +333,7 @@ script_says m some most setup limit n calls below room =
     let blank : emptied m.lists ++ after ≡ replicate 8 [] = empty_lists m.lists (8 - length m.lists) 8 (omega arith) in
     let lines : List (List (List ℕ)) = order_rows m.order in
     let listed : Says (draft (limited m.version m.setup) (emptied m.lists ++ after) []) (lists_then 0 m.lists lines) m =
-    lists_say m.lists (limited m.version m.setup) [] after 0 lines m (inl refl) some most refl (omega arith) few calls
+    lists_say m.lists (limited m.version m.setup) [] after 0 lines m (inl refl) some refl (omega arith) few calls
     (λ g same version listing.
     let cores : g.cores ≡ m.setup.cores = ap (λ (s : Setting). s.cores) same in
     let fits : BelowCores g.cores m.order = subst (λ k. BelowCores k m.order) (sym cores) below in

@@ -5,6 +5,7 @@ use Rattle.std.proofs.Common.{eqb-true, eq-eqb, ne_eqb, le-ltb, leb-true, le-leb
 use Rattle.script_reader.specs.script_tokens.specs.{is_feed, is_hash, is_word_byte, is_allowed, Span, Word, joined, spans, first_fault}
 use Rattle.script_reader.specs.script_tokens.specs.{word_at}
 use Rattle.script_reader.specs.line_reader.specs.{Row, with_word, rows_of}
+use Rattle.script_reader.specs.call_reader.proofs.Judgements.{both_left, both_right}
 use Rattle.std.proofs.{lemmas.Bool.cases_Bool, lemmas.List.Sums.sum_by-cons, Math.Seq.take-append_seam, Math.Seq.drop-append_seam}
 use Rattle.script_reader.specs.script_tokens.proofs.Steps.{RisesFrom, spans_rise}
 
@@ -50,14 +51,6 @@ rows_from number [] = []
 rows_from number (ws ∷ lines) = record { number = number; words = ws } ∷ rows_from (number + 1) lines
 
 -- ---- bytes of words
-
-pub both_left : (a b : Bool) → (a && b) ≡ true → a ≡ true
-both_left true b h = refl
-both_left false b h = h
-
-pub both_right : (a b : Bool) → (a && b) ≡ true → b ≡ true
-both_right true b h = h
-both_right false b h = absurd cc
 
 word_no_feed : (b : ℕ) → is_word_byte b ≡ true → is_feed b ≡ false
 word_no_feed b h =
