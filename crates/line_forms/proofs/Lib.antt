@@ -1,1 +1,2 @@
 pub mod WordTexts
+pub mod Objects

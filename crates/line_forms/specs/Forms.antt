@@ -1,48 +1,48 @@
 -- The form of a line. Capitals stand for numbers, as in docs/FORMATS.md.
-use Rattle.std.specs.Prelude.{ℕ, nat_le, List, drop, Option, Some, None, slice_get, codes, if◌then◌else◌}
-use Rattle.call_reader.specs.{declared.first_words.Verb.Verb, declared.first_words.FirstWord.FirstWord}
+use Rattle.std.specs.Prelude.{ℕ, ◌+◌, nat_le, List, ◌++◌, drop, Bool, true, false, Option, Some, None, slice_get, codes, if◌then◌else◌}
+use Rattle.call_reader.specs.{declared.first_words.FirstWord.FirstWord, CallLines.Form, CallLines.object_form}
+use Rattle.call_reader.specs.{CallLines.form_of as verb_line}
+use Rattle.call_reader.specs.spk_nums.specs.{Rights.both, Verbs.verb_word, Verbs.object_word, declared.calls.Call.Call}
+use Rattle.call_reader.specs.spk_nums.specs.{declared.verbs.Verb.Verb, declared.verbs.Object.Object}
 use Rattle.line_forms.specs.{declared.context.Stage.Stage, declared.context.Context.Context, declared.starts.Start.Start, Starts.start_of}
-use Rattle.line_forms.specs.{Calls.is_at, Calls.verb_of}
-
-abbrev pub copy_form : ℕ → List ℕ
-copy_form version = if nat_le 2 version then codes "copy A T B, or copy A T B R" else codes "copy A T B"
+use Rattle.line_forms.specs.{Calls.verb_of, Calls.number_in, Calls.kind_in, Calls.object_in}
 
 -- `task`, from version 3 on with a period where one is given
 abbrev pub task_form : ℕ → List ℕ
 task_form version = if nat_le 3 version then codes "task H Q A N, or task H Q A N P" else codes "task H Q A N"
 
--- by what is made
-abbrev pub make_form : List (List ℕ) → List ℕ
-make_form words =
-    if is_at words 1 (codes "thread") then codes "make thread R F T B C"
-    else (if is_at words 1 (codes "tcap") then codes "make tcap R F T B S W"
-    else (if is_at words 1 (codes "comp") then codes "make comp R F T B X P L"
-    else codes "make O R F T B"))
+-- a letter of a line's form, after those before it
+abbrev pub lettered : List ℕ → List ℕ → List ℕ
+lettered before letter = before ++ codes " " ++ letter
+
+-- the form of a line goes on
+abbrev pub goes_on : Form → Bool
+goes_on (Form.Says c) = false
+goes_on _ = true
+
+-- an object that needs arguments of its own stands with its word in the form of its line, another with its letter
+abbrev pub object_letter : List ℕ → Object → List ℕ
+object_letter letter o = if goes_on (object_form o λ what. Form.Says (Call.Make what 0 0 0 0)) then object_word o else letter
+
+-- what is told of a line whose places from one on are to be of this form, after what is told of those before; it goes on by the words that
+-- stand there. Where a number may be left out, both forms are told
+abbrev pub form_from : ℕ → List (List ℕ) → ℕ → List ℕ → Form → List ℕ
+form_from version words place before (Form.Says c) = before
+form_from version words place before (Form.Number letter least most next) =
+    form_from version words (place + 1) (lettered before letter) (next (number_in words place))
+form_from version words place before (Form.MayNumber letter next) =
+    if nat_le 2 version
+    then form_from version words place before (next both) ++ codes ", or "
+    ++ form_from version words (place + 1) (lettered before letter) (next (number_in words place))
+    else form_from version words place before (next both)
+form_from version words place before (Form.Kind letter next) =
+    form_from version words (place + 1) (lettered before letter) (next (kind_in words place))
+form_from version words place before (Form.Made letter next) =
+    form_from version words (place + 1) (lettered before (object_letter letter (object_in words place))) (next (object_in words place))
 
 -- a call
 abbrev pub verb_form : ℕ → Verb → List (List ℕ) → List ℕ
-verb_form version Verb.Copy words = copy_form version
-verb_form version Verb.Make words = make_form words
-verb_form version Verb.Look words = codes "look A"
-verb_form version Verb.Remove words = codes "remove T B"
-verb_form version Verb.Grow words = codes "grow T I L"
-verb_form version Verb.Shrink words = codes "shrink T I"
-verb_form version Verb.Retype words = codes "retype R F K"
-verb_form version Verb.Map words = codes "map P V R F W"
-verb_form version Verb.Unmap words = codes "unmap P V"
-verb_form version Verb.Touch words = codes "touch V"
-verb_form version Verb.Flush words = codes "flush"
-verb_form version Verb.Gate words = codes "gate C T B"
-verb_form version Verb.Kill words = codes "kill C"
-verb_form version Verb.Call words = codes "call G"
-verb_form version Verb.Ret words = codes "ret"
-verb_form version Verb.Switch words = codes "switch H Q"
-verb_form version Verb.Tick words = codes "tick N"
-verb_form version Verb.Transfer words = codes "transfer A B M"
-verb_form version Verb.Delegate words = codes "delegate A B M"
-verb_form version Verb.Test words = codes "test A B"
-verb_form version Verb.Part words = codes "part R F N T B"
-verb_form version Verb.Replenish words = codes "replenish A M"
+verb_form version v words = form_from version words 1 (verb_word v) (verb_line v)
 
 -- a line of a script
 abbrev pub head_form : ℕ → FirstWord → List (List ℕ) → List ℕ

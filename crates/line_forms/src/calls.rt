@@ -1,14 +1,42 @@
 //! What may stand at each place of a call, counted from its word on. `words` are the line's from there on.
 
-ghost use Rattle.std.specs.Prelude.{◌≡◌};
+ghost use Rattle.std.specs.Prelude.{◌≡◌, ℕ};
 ghost use Rattle.line_reader.specs.Arguments.{texts};
-ghost use Rattle.line_forms.specs.Calls.{verb_of, is_at, copy_slot, retype_slot, map_slot, moved_slot, tcap_slot, comp_slot, object_slot};
-ghost use Rattle.line_forms.specs.Calls.{given_slot, make_slot, verb_slot, call_slot};
+ghost use Rattle.call_reader.specs.spk_nums.specs.declared.verbs.Verb.{Verb};
+ghost use Rattle.call_reader.specs.{form_of};
+ghost use Rattle.line_forms.specs.Calls.{verb_of, is_at, slots_of, slot_in, call_slot};
 
-use crate::slots::{Slot, name, names, number_then};
+use crate::slots::Slot;
 use call_reader::{FirstWord, Verb, first_word};
 use line_reader::is_word;
 use script_tokens::Token;
+
+// The number of a capability, a page, a root entry or a frame, or a count of frames.
+const N: Slot = Slot::Number {
+    least: 0,
+    most: 65_535,
+};
+// An amount of ticks that is moved, and one that is charged.
+const AMOUNT: Slot = Slot::Number {
+    least: 0,
+    most: 4_000_000_000,
+};
+
+const TICKS: Slot = Slot::Number {
+    least: 0,
+    most: 1_000_000,
+};
+// The number of a scheduler or of a liveness word, and a quality.
+const SMALL: Slot = Slot::Number { least: 0, most: 63 };
+
+const QUALITY: Slot = Slot::Number {
+    least: 1,
+    most: 16_777_215,
+};
+// The flags of a page, and the rights of a copy.
+const FLAGS: Slot = Slot::Number { least: 0, most: 3 };
+
+const RIGHTS: Slot = Slot::MayNumber { least: 0, most: 3 };
 
 /// The word at a place is this one.
 pub fn is_at(words: &[Token], place: usize, name: &str) -> bool
@@ -30,128 +58,54 @@ pub fn verb_of(version: u8, word: &[u8]) -> Option<Verb>
     }
 }
 
-// `copy A T B`, and from version 2 on also `copy A T B R`.
-fn copy_slot(version: u8, place: usize) -> Slot
-    ensures { result ≡ copy_slot version place }
+// The one of these at an index; nothing more after them.
+fn slot_in(slots: &[Slot], index: usize) -> Slot
+    ensures { result ≡ slot_in slots.now index }
 {
-    if place == 4 && 2 <= version {
-        Slot::MayNumber { least: 0, most: 3 }
-    } else {
-        names(place, 3)
+    match slots.get(index) {
+        Some(slot) => *slot,
+        None => Slot::End,
     }
 }
 
-// `retype R F K`.
-fn retype_slot(place: usize) -> Slot
-    ensures { result ≡ retype_slot place }
-{
-    if place == 3 {
-        Slot::FrameKind
-    } else {
-        names(place, 2)
-    }
-}
-
-// `map P V R F W`.
-fn map_slot(place: usize) -> Slot
-    ensures { result ≡ map_slot place }
-{
-    if place <= 4 {
-        name()
-    } else {
-        number_then(place, 5, 0, 3)
-    }
-}
-
-// `transfer A B M` and `delegate A B M`.
-fn moved_slot(place: usize) -> Slot
-    ensures { result ≡ moved_slot place }
-{
-    if place <= 2 {
-        name()
-    } else {
-        number_then(place, 3, 0, 4_000_000_000)
-    }
-}
-
-// `replenish A M`.
-fn given_slot(place: usize) -> Slot
-    ensures { result ≡ given_slot place }
-{
-    if place <= 1 {
-        name()
-    } else {
-        number_then(place, 2, 0, 4_000_000_000)
-    }
-}
-
-// After `make tcap R F T B`: `S W`.
-fn tcap_slot(place: usize) -> Slot
-    ensures { result ≡ tcap_slot place }
-{
-    if place == 6 {
-        Slot::Number { least: 0, most: 63 }
-    } else {
-        number_then(place, 7, 1, 16_777_215)
-    }
-}
-
-// After `make comp R F T B`: `X P L`.
-fn comp_slot(place: usize) -> Slot
-    ensures { result ≡ comp_slot place }
-{
-    if place <= 7 {
-        name()
-    } else {
-        number_then(place, 8, 0, 63)
-    }
-}
-
-// After `make O R F T B`.
-fn object_slot(words: &[Token], place: usize) -> Slot
-    ensures { result ≡ object_slot (texts words.now) place }
+// Of a `make`, by the object that its first argument is.
+fn make_slots(words: &[Token]) -> &'static [Slot]
+    ensures { (version : ℕ) → result.now ≡ slots_of version (texts words.now) 1 (form_of Verb.Make) }
 {
     if is_at(words, 1, "thread") {
-        names(place, 6)
+        &[Slot::Object, N, N, N, N, N]
     } else if is_at(words, 1, "tcap") {
-        tcap_slot(place)
+        &[Slot::Object, N, N, N, N, SMALL, QUALITY]
     } else if is_at(words, 1, "comp") {
-        comp_slot(place)
+        &[Slot::Object, N, N, N, N, N, N, SMALL]
     } else {
-        Slot::End
-    }
-}
-
-// `make O R F T B`, and the arguments of the object.
-fn make_slot(words: &[Token], place: usize) -> Slot
-    ensures { result ≡ make_slot (texts words.now) place }
-{
-    if place <= 1 {
-        Slot::Object
-    } else if place <= 5 {
-        name()
-    } else {
-        object_slot(words, place)
+        &[Slot::Object, N, N, N, N]
     }
 }
 
 // The arguments of a call, from place 1 on.
-fn verb_slot(version: u8, verb: Verb, words: &[Token], place: usize) -> Slot
-    ensures { result ≡ verb_slot version verb (texts words.now) place }
+fn verb_slots(version: u8, verb: Verb, words: &[Token]) -> &'static [Slot]
+    ensures { result.now ≡ slots_of version (texts words.now) 1 (form_of verb) }
 {
     match verb {
-        Verb::Flush | Verb::Ret => Slot::End,
-        Verb::Look | Verb::Touch | Verb::Kill | Verb::Call => names(place, 1),
-        Verb::Remove | Verb::Shrink | Verb::Unmap | Verb::Switch | Verb::Test => names(place, 2),
-        Verb::Grow | Verb::Gate => names(place, 3),
-        Verb::Part => names(place, 5),
-        Verb::Copy => copy_slot(version, place),
-        Verb::Retype => retype_slot(place),
-        Verb::Make => make_slot(words, place),
-        Verb::Map => map_slot(place),
-        Verb::Tick => number_then(place, 1, 0, 1_000_000),
-        Verb::Transfer | Verb::Delegate => moved_slot(place),
-        Verb::Replenish => given_slot(place),
+        Verb::Flush | Verb::Ret => &[],
+        Verb::Look | Verb::Touch | Verb::Kill | Verb::Call => &[N],
+        Verb::Remove | Verb::Shrink | Verb::Unmap | Verb::Switch | Verb::Test => &[N, N],
+        Verb::Grow | Verb::Gate => &[N, N, N],
+        Verb::Part => &[N, N, N, N, N],
+        Verb::Copy => {
+            if 2 <= version {
+                &[N, N, N, RIGHTS]
+            } else {
+                &[N, N, N]
+            }
+        }
+        Verb::Retype => &[N, N, Slot::FrameKind],
+        Verb::Make => make_slots(words),
+        Verb::Map => &[N, N, N, N, FLAGS],
+        Verb::Tick => &[TICKS],
+        Verb::Transfer | Verb::Delegate => &[N, N, AMOUNT],
+        Verb::Replenish => &[N, AMOUNT],
     }
 }
 
@@ -166,7 +120,7 @@ pub fn call_slot(version: u8, words: &[Token], place: usize) -> Slot
         return Slot::End;
     };
     match verb_of(version, word.text) {
-        Some(verb) => verb_slot(version, verb, words, place),
+        Some(verb) => slot_in(verb_slots(version, verb, words), place - 1),
         None => Slot::End,
     }
 }

@@ -1,8 +1,9 @@
 //! The form of a line.
 
-ghost use Rattle.std.specs.Prelude.{◌≡◌};
+ghost use Rattle.std.specs.Prelude.{◌≡◌, ℕ, []};
 ghost use Rattle.line_reader.specs.Arguments.{texts};
-ghost use Rattle.line_forms.specs.Forms.{copy_form, make_form, verb_form, task_form, head_form, start_form, items_form, form_of, call_form};
+ghost use Rattle.call_reader.specs.spk_nums.specs.declared.verbs.Verb.{Verb};
+ghost use Rattle.line_forms.specs.Forms.{verb_form, task_form, head_form, start_form, items_form, form_of, call_form};
 ghost use Rattle.line_forms.specs.Forms.{call_form_of};
 
 use crate::calls::{is_at, verb_of};
@@ -13,7 +14,7 @@ use call_reader::{FirstWord, Verb};
 use script_tokens::Token;
 
 fn copy_form(version: u8) -> &'static str
-    ensures { result.now ≡ copy_form version }
+    ensures { result.now ≡ verb_form version Verb.Copy [] }
 {
     if 2 <= version {
         "copy A T B, or copy A T B R"
@@ -24,7 +25,7 @@ fn copy_form(version: u8) -> &'static str
 
 // By what is made.
 fn make_form(words: &[Token]) -> &'static str
-    ensures { result.now ≡ make_form (texts words.now) }
+    ensures { (version : ℕ) → result.now ≡ verb_form version Verb.Make (texts words.now) }
 {
     if is_at(words, 1, "thread") {
         "make thread R F T B C"
