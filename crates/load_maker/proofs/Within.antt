@@ -1,15 +1,17 @@
 -- The script of every number is within the limits, and its text says it.
-use Rattle.std.proofs.Common.{◌≡◌, ℕ, ◌<◌, ◌≤◌, List, [], ◌∷◌, ◌++◌, length, All, Ok, refl, sym, subst, arith, inl, inr, length-append}
+use Rattle.std.proofs.Common.{◌≡◌, ◌∙◌, ℕ, ◌<◌, ◌≤◌, true, false, List, [], ◌∷◌, ◌++◌, length, All, Ok, refl, sym, subst, arith, inl, inr}
+use Rattle.std.proofs.Common.{length-append}
 use Rattle.load_maker.specs.{below, a_call, an_item, load_text}
-use Rattle.script_printer.specs.{printed, IsMakeWithin, IsCallWithin, IsWithin}
+use Rattle.script_printer.specs.{printed, IsCallWithin, IsWithin}
 use Rattle.script_reader.specs.{Meaning, AtMost, BelowCores, script_of}
+use Rattle.script_reader.specs.call_reader.specs.{Form, MaySay, IsVerbIn, CallLines.object_form, FirstWords.is_late}
 use Rattle.std.proofs.{lemmas.Bool.cases_lt, lemmas.List.get_or_past, lemmas.List.Elements.All-append}
 use Rattle.std.proofs.{lemmas.List.Elements.All-from_recursion, lemmas.List.Elements.All-get_or}
-use Rattle.spk_nums.specs.{declared.calls.Make.Make, declared.calls.Make.TheVariants.Tcap, declared.calls.Make.TheVariants.Comp}
 use Rattle.spk_nums.specs.{declared.calls.Call.Call, declared.calls.Call.TheVariants.Copy}
 use Rattle.spk_nums.specs.{declared.calls.Call.TheVariants.Make as make_call, declared.calls.Call.TheVariants.Map}
 use Rattle.spk_nums.specs.{declared.calls.Call.TheVariants.Flush, declared.calls.Call.TheVariants.Tick, declared.steps.Item.Item}
-use Rattle.spk_nums.specs.{CallLimits.MakeInLimits, CallLimits.InLimits, Setting.GrantFits, Setting.IsSetting}
+use Rattle.spk_nums.specs.{declared.verbs.Verb.Verb, declared.verbs.Object.Object, declared.kinds.FrameKind.FrameKind, Rights.both}
+use Rattle.spk_nums.specs.{CallLimits.InLimits, Setting.GrantFits, Setting.IsSetting}
 use Rattle.script_printer.proofs.{LineCounts.few_lines, PrintedLines.printed_read}
 use Rattle.load_maker.specs.{Draws.Draw, Draws.done, Loads.a_slot, Loads.a_frame, Loads.a_tcap, Loads.a_look, Loads.a_copy, Loads.a_remove}
 use Rattle.load_maker.specs.{Loads.a_retype, Loads.a_make, Loads.a_map, Loads.an_unmap, Loads.a_touch, Loads.a_tick, Loads.a_transfer}
@@ -39,47 +41,64 @@ frame_small x = omega (arith, below_range 20 x (omega arith))
 tcap_small : (x : ℕ) → (a_tcap x).0 ≤ 65535
 tcap_small x = omega (arith, below_range 4 x (omega arith))
 
+-- version 1 has the words that are not of later versions
+early : (v : Verb) → is_late v ≡ false → IsVerbIn 1 v
+early v is late = absurd (let no : true ≡ false = sym late ∙ is in cc)
+
 look_in : Draws_within a_look
-look_in x = small 128 x 65535 (omega arith) (omega arith)
+look_in x = (early Verb.Look refl, ((below 128 x).0, omega arith, small 128 x 65535 (omega arith) (omega arith), refl))
 
 copy_in : Draws_within a_copy
-copy_in x = (small 32 x 65535 (omega arith) (omega arith), omega arith, slot_small (below 32 x).1, omega arith, λ one. refl)
+copy_in x =
+    let y = (below 32 x).1 in
+    let b : (a_slot y).0 ≤ 65535 = slot_small y in
+    let a : (below 32 x).0 ≤ 65535 = small 32 x 65535 (omega arith) (omega arith) in
+    (early Verb.Copy refl, (_, omega arith, a, (1, omega arith, omega arith, (_, omega arith, b, (both, omega arith, λ one. refl, refl)))))
 
 remove_in : Draws_within a_remove
-remove_in x = (omega arith, slot_small x)
+remove_in x = (early Verb.Remove refl, (1, omega arith, omega arith, (_, omega arith, slot_small x, refl)))
 
 retype_in : Draws_within a_retype
-retype_in x = (omega arith, frame_small x)
+retype_in x = (early Verb.Retype refl, (0, omega arith, omega arith, (_, omega arith, frame_small x, (_, refl))))
 
 make_in : Draws_within a_make
-make_in x = (tt, omega arith, frame_small x, omega arith, slot_small (a_frame x).1)
+make_in x =
+    let f : (a_frame x).0 ≤ 65535 = frame_small x in
+    let b : (a_slot (a_frame x).1).0 ≤ 65535 = slot_small (a_frame x).1 in (
+      early Verb.Make refl,
+      (Object.Leaf, (0, omega arith, omega arith, (_, omega arith, f, (1, omega arith, omega arith, (_, omega arith, b, refl))))),
+    )
 
 map_in : Draws_within a_map
 map_in x =
-    let y = (below 64 x).1 in (
-      omega arith,
-      small 64 x 65535 (omega arith) (omega arith),
-      omega arith,
-      frame_small y,
-      (let flags = below_range 4 (a_frame y).1 (omega arith) in omega arith),
+    let y = (below 64 x).1 in
+    let v : (below 64 x).0 ≤ 65535 = small 64 x 65535 (omega arith) (omega arith) in
+    let f : (a_frame y).0 ≤ 65535 = frame_small y in
+    let w : (below 4 (a_frame y).1).0 ≤ 3 = omega (arith, below_range 4 (a_frame y).1 (omega arith)) in (
+      early Verb.Map refl,
+      (2, omega arith, omega arith, (_, omega arith, v, (0, omega arith, omega arith, (_, omega arith, f, (_, omega arith, w, refl))))),
     )
 
 unmap_in : Draws_within an_unmap
-unmap_in x = (omega arith, small 64 x 65535 (omega arith) (omega arith))
+unmap_in x = (early Verb.Unmap refl, (2, omega arith, omega arith, (_, omega arith, small 64 x 65535 (omega arith) (omega arith), refl)))
 
 touch_in : Draws_within a_touch
-touch_in x = small 64 x 65535 (omega arith) (omega arith)
+touch_in x = (early Verb.Touch refl, (_, omega arith, small 64 x 65535 (omega arith) (omega arith), refl))
 
 tick_in : Draws_within a_tick
-tick_in x = small 50 x 1000000 (omega arith) (omega arith)
+tick_in x = (early Verb.Tick refl, (_, omega arith, small 50 x 1000000 (omega arith) (omega arith), refl))
 
 transfer_in : Draws_within a_transfer
 transfer_in x =
     let y = (a_tcap x).1 in
-    (tcap_small x, tcap_small y, small 100 (a_tcap y).1 4000000000 (omega arith) (omega arith))
+    let m : (below 100 (a_tcap y).1).0 ≤ 4000000000 = small 100 (a_tcap y).1 4000000000 (omega arith) (omega arith) in
+    (early Verb.Transfer refl, (_, omega arith, tcap_small x, (_, omega arith, tcap_small y, (_, omega arith, m, refl))))
 
 test_in : Draws_within a_test
-test_in x = (tcap_small x, tcap_small (a_tcap x).1)
+test_in x = (early Verb.Test refl, (_, omega arith, tcap_small x, (_, omega arith, tcap_small (a_tcap x).1, refl)))
+
+flush_in : Draws_within (done Flush)
+flush_in x = (early Verb.Flush refl, refl)
 
 numbered_in : (n : ℕ) → Draws_within (call_numbered n)
 numbered_in n =
@@ -88,7 +107,7 @@ numbered_in n =
     let all : All Draws_within draws =
     All-from_recursion Draws_within draws (
       look_in,
-      (copy_in, (remove_in, (retype_in, (make_in, (map_in, (unmap_in, (touch_in, (tick_in, (transfer_in, ((λ x. tt), tt)))))))))),
+      (copy_in, (remove_in, (retype_in, (make_in, (map_in, (unmap_in, (touch_in, (tick_in, (transfer_in, (flush_in, tt)))))))))),
     ) in
     elim (cases_lt n (length draws)) [
       | inl h ↦ All-get_or Draws_within draws n a_test h all
@@ -99,19 +118,30 @@ call_in : Draws_within a_call
 unfolding a_call
 call_in x = numbered_in (below 12 x).0 (below 12 x).1
 
-make_limits : (what : Make) → IsMakeWithin what → MakeInLimits what
-make_limits (Tcap sched quality) h =
-    let most : sched ≤ 63 = h.0 in
-    let best : quality ≤ 16777215 = h.2 in
-    (omega arith, h.1, omega arith)
-make_limits (Comp table pages live) h = let most : live ≤ 63 = h.2 in omega arith
-make_limits _ h = tt
+-- what a `make` may make is in range
+make_limits : (version : ℕ) (o : Object) (r f t b : ℕ) (c : Call)
+    → MaySay version (object_form o λ what. Form.Says (Call.Make what r f t b)) c → InLimits c
+make_limits version Object.Thread r f t b c may = let (comp, least, most, is) = may in subst InLimits is tt
+make_limits version Object.Tcap r f t b c may =
+    let (sched, least, most, after) = may in
+    let (quality, some, best, is) = after in
+    subst InLimits is (omega (arith, most), some, omega (arith, best))
+make_limits version Object.Comp r f t b c may =
+    let (live, least, most, is) = may.3.3 in
+    subst InLimits is (omega (arith, most))
+make_limits version _ r f t b c may = subst InLimits may tt
 
 call_limits : (version : ℕ) (c : Call) → IsCallWithin version c → InLimits c
-call_limits version (Copy a t b rights) h = let few : rights.0 ≤ 3 = h.3 in omega arith
-call_limits version (make_call what range frame table slot) h = make_limits what h.0
-call_limits version (Map p v r f w) h = let flags : w.0 ≤ 3 = h.4 in omega arith
-call_limits version (Tick n) h = h
+call_limits version (Copy a t b rights) h =
+    let (r, few, one, is) = h.1.3.3.3 in
+    subst InLimits is (omega (arith, few))
+call_limits version (make_call what range frame table slot) h =
+    let (o, named) = h.1 in
+    make_limits version o named.0 named.3.0 named.3.3.0 named.3.3.3.0 (make_call what range frame table slot) named.3.3.3.3
+call_limits version (Map p v r f w) h =
+    let (flags, least, few, is) = h.1.3.3.3.3 in
+    subst InLimits is (omega (arith, few))
+call_limits version (Tick n) h = let (ticks, least, most, is) = h.1 in subst InLimits is most
 call_limits version _ h = tt
 
 -- ---- lists
@@ -126,8 +156,17 @@ calls_length x = repeated_length a_call 500 x
 
 first_in : All IsIn first_calls
 first_in = All-from_recursion IsIn first_calls (
-  (omega arith, omega arith),
-  ((tt, omega arith, omega arith, omega arith, omega arith), ((omega arith, omega arith, omega arith), tt)),
+  (early Verb.Retype refl, (0, omega arith, omega arith, (12, omega arith, omega arith, (FrameKind.Kernel, refl)))),
+  (
+    (
+      early Verb.Make refl,
+      (
+        Object.Pleaf,
+        (0, omega arith, omega arith, (12, omega arith, omega arith, (1, omega arith, omega arith, (20, omega arith, omega arith, refl)))),
+      ),
+    ),
+    ((early Verb.Grow refl, (2, omega arith, omega arith, (0, omega arith, omega arith, (20, omega arith, omega arith, refl)))), tt),
+  ),
 )
 
 lists_in : (x : ℕ) → All (All IsIn) (drawn_lists x).0
