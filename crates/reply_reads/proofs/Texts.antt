@@ -6,15 +6,7 @@ use Rattle.reply_reads.specs.Words.{rights_words, cap_words_by, value_words, wor
 use Rattle.{reply_reads.specs.spaced, reply_reads.specs.reply_words, reply_reads.specs.IsReplyWithin, kernel_history.specs.decimal}
 use Rattle.{kernel_history.specs.with_one, kernel_history.specs.reply_text, script_printer.proofs.is_text, script_printer.proofs.is_line}
 use Rattle.{script_printer.proofs.line_onto, kernel_history.specs.spk_nums.specs.Texts.ok_text, reply_ranges.specs.Ranges.ValueFits}
-use Rattle.{script_printer.proofs.Spans.are_texts, script_printer.proofs.NumberWords.number_text}
-
--- ---- words with spaces
-
--- A line of words is the words with spaces, and the end of the line.
-pub spaced_onto : (w : List ℕ) (ws : List (List ℕ)) (rest : List ℕ) → spaced (w ∷ ws) ++ 10 ∷ rest ≡ line_onto (w ∷ ws) rest
-spaced_onto w [] rest = refl
-spaced_onto w (v ∷ ws) rest =
-    append_assoc w (32 ∷ spaced (v ∷ ws)) (10 ∷ rest) ∙ ap (λ (bs : List ℕ). w ++ 32 ∷ bs) (spaced_onto v ws rest)
+use Rattle.script_printer.proofs.{Spans.are_texts, NumberWords.number_text, CallWords.spaced_onto}
 
 -- ---- the text is its words
 

@@ -1,7 +1,7 @@
 -- Which replies are read back from their texts, that they are, and that legal traces decide no others.
 use Rattle.std.specs.Prelude.{◌≡◌, ◌≤◌, ◌∷◌}
 use Rattle.kernel_history.specs.{ℕ, [], All, Ok, Setting, IsSetting, reply_text, Reply, Decision, decisions_of, IsLegal}
-use Rattle.reply_reads.specs.Words.{spaced, reply_words}
+use Rattle.{reply_reads.specs.Words.reply_words, kernel_history.specs.spk_nums.specs.Texts.spaced}
 use Rattle.{kernel_history.specs.Trace.Trace, reply_ranges.specs.Ranges.ReplyFits, script_printer.specs.script_tokens.specs.Words.words_of}
 use Rattle.{script_printer.specs.line_reader.specs.Lines.rows_of, script_printer.specs.Printing.line, history_reader.specs.Replies.reply_of}
 

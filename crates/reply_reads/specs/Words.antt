@@ -1,13 +1,7 @@
 -- The words of replies.
-use Rattle.std.specs.Prelude.{◌==◌, ◌∷◌, ◌++◌}
+use Rattle.std.specs.Prelude.{◌==◌, ◌∷◌}
 use Rattle.kernel_history.specs.{ℕ, Bool, true, false, List, [], codes, decimal, Capability, Kind, Value, Reply}
 use Rattle.kernel_history.specs.spk_nums.specs.Names.{kind_word, reply_word}
-
--- words, with a space between each two
-abbrev pub spaced : List (List ℕ) → List ℕ
-spaced [] = []
-spaced (w ∷ []) = w
-spaced (w ∷ v ∷ ws) = w ++ 32 ∷ spaced (v ∷ ws)
 
 -- the words of rights, which are none where they are both
 abbrev pub rights_words : Bool → ℕ → List (List ℕ)

@@ -14,7 +14,7 @@ use Rattle.trace_reads.proofs.HeadRows.{head_lines, head_onto, head_length, head
 use Rattle.{marked_laws.specs.kernel_history.proofs.IsSetting, std.proofs.lemmas.List.Elements.All-head}
 use Rattle.{std.proofs.lemmas.List.Elements.All-tail, marked_laws.specs.kernel_history.specs.Trace.Trace}
 use Rattle.{trace_lines.specs.script_printer.specs.Printing.setup_lines, trace_lines.specs.script_printer.proofs.Spans.lines_onto}
-use Rattle.{marked_laws.specs.Marks.marks_of, check_run.specs.history_reader.specs.Inputs.history_at, reply_reads.specs.Words.spaced}
+use Rattle.{marked_laws.specs.Marks.marks_of, check_run.specs.history_reader.specs.Inputs.history_at, reply_reads.specs.spaced}
 use Rattle.{trace_reads.specs.Texts.mark_lines, trace_reads.specs.Texts.history_told, trace_reads.proofs.Told.told_is}
 use Rattle.{trace_reads.proofs.MarkLines.mark_words, trace_reads.proofs.MarkLines.MarkReads}
 
