@@ -12,7 +12,7 @@ use Rattle.trace_reads.proofs.{MarkLines.MarkReads, MarkLines.enter_reads, MarkL
 use Rattle.trace_reads.proofs.{HeadRows.IsHeadOf, HeadRows.Headed, HeadRows.headed, Reading.text_read, Verdicts.lines_legal}
 use Rattle.{check_run.specs.history_reader.specs.History, check_run.specs.history_reader.specs.history_of}
 use Rattle.{trace_lines.specs.line_reader.specs.Lines.First_fault, trace_lines.specs.script_reader.specs.Readings.Draft_of}
-use Rattle.{trace_lines.specs.script_printer.specs.Law.IsCallWithin, marked_laws.proofs.Marks.legal_marks}
+use Rattle.{trace_lines.specs.script_printer.specs.IsCallWithin, marked_laws.proofs.Marks.legal_marks}
 use Rattle.{trace_lines.specs.Traces.trace_text, check_run.specs.Texts.verdict_text, check_run.specs.Checked.IsJudged}
 use Rattle.{reply_reads.specs.Laws.IsReplyWithin, trace_reads.specs.Laws.MarksRead, trace_reads.specs.Laws.TracesAreLegal}
 use low.{kernel_history.specs.Trace.Trace, marked_history.proofs.Verdicts.one_verdict}
@@ -32,9 +32,6 @@ module _ (v : ℕ) (setup : Setting) (some : 1 ≤ v) (most : v ≤ 3) (within :
   some_version : 1 ≤ d.head.version
   some_version = omega (arith, some, head.version)
 
-  most_versions : d.head.version ≤ 3
-  most_versions = omega (arith, most, head.version)
-
   few_cores : d.head.cores ≤ 8
   few_cores = omega (arith, within.most_cores, cores)
 
@@ -42,7 +39,7 @@ module _ (v : ℕ) (setup : Setting) (some : 1 ≤ v) (most : v ≤ 3) (within :
       → All (MarkReads d) (with_enter o c marks)
   entry_reads None c marks below h all = all
   entry_reads (Some call) c marks below h all =
-      All-cons (MarkReads d) (Enter c call) marks (enter_reads d head.whole some_version most_versions few_cores c call
+      All-cons (MarkReads d) (Enter c call) marks (enter_reads d head.whole some_version few_cores c call
       (omega (arith, below, cores)) (subst (λ n. IsCallWithin n call) (sym head.version) h)) all
 
   decision_reads : (o : Option Reply) (c : ℕ) (marks : List Mark) → c < setup.cores → DecidesWithin setup.cores o → All (MarkReads d) marks
@@ -50,7 +47,7 @@ module _ (v : ℕ) (setup : Setting) (some : 1 ≤ v) (most : v ≤ 3) (within :
   decision_reads None c marks below h all = all
   decision_reads (Some r) c marks below h all =
       let fits : IsReplyWithin d.head.cores r = subst (λ n. IsReplyWithin n r) (sym cores) h in
-      All-cons (MarkReads d) (Decide c r) marks (decide_reads d head.whole some_version most_versions few_cores c r
+      All-cons (MarkReads d) (Decide c r) marks (decide_reads d head.whole some_version few_cores c r
       (omega (arith, below, cores)) (reply_spaced r) (reply_is_line d.head.cores few_cores r fits)
       (reply_read d.head.cores few_cores r fits)) all
 
@@ -59,7 +56,7 @@ module _ (v : ℕ) (setup : Setting) (some : 1 ≤ v) (most : v ≤ 3) (within :
   response_reads None c marks below all = all
   response_reads (Some r) c marks below all =
       All-cons (MarkReads d) (Return c) marks
-      (return_reads d head.whole some_version most_versions few_cores c (omega (arith, below, cores))) all
+      (return_reads d head.whole some_version few_cores c (omega (arith, below, cores))) all
 
   marks_are_read : (t : Trace) → All (IsStepWithin v setup.cores) t → All (MarkReads d) (marks_of t)
   marks_are_read [] all = All-nil (MarkReads d)

@@ -1,45 +1,30 @@
 -- The line of each mark is its words, and is read as that mark.
 use Rattle.marked_laws.specs as low
-use low.kernel_history.proofs.{◌≡◌, ℕ, ◌≤◌, ◌<◌, true, if◌then◌else◌, List, [], ◌∷◌, ◌++◌, length, take, Option, Some, None, Ok, Err, refl}
-use low.kernel_history.proofs.{sym, ap, ◌∙◌, arith, append_assoc, codes, Result, and_from, append-nil, length-append, Call, Reply}
+use low.kernel_history.proofs.{◌≡◌, ℕ, ◌≤◌, ◌<◌, true, if◌then◌else◌, List, [], ◌∷◌, ◌++◌, Option, Some, None, Ok, Err, refl}
+use low.kernel_history.proofs.{sym, ap, ◌∙◌, arith, append_assoc, codes, Result, and_from, Call, Reply}
 use Rattle.trace_lines.specs.script_reader.specs.{line_of, line_by, may_stand, core_line, order_line, is_whole, no_head, Draft_of}
 use low.kernel_history.specs.kernel_rules.specs.{decimal, ok_or, call_text, with_one, reply_text}
 use Rattle.check_run.specs.history_reader.specs.{reply_of, line_word, line_behind}
-use Rattle.trace_lines.specs.script_printer.proofs.{is_text, is_line, line_onto}
+use Rattle.trace_lines.specs.script_printer.proofs.{is_text, is_line}
 use Rattle.trace_lines.specs.line_reader.specs.{declared.cause.Cause.Cause, declared.cause.Cause.TheVariants.S2}
 use Rattle.trace_lines.specs.line_reader.specs.{declared.cause.Cause.TheVariants.S7, Causes.◌>>=◌, Arguments.is_word, Arguments.word_at}
 use Rattle.trace_lines.specs.call_reader.specs.{declared.first_words.FirstWord.FirstWord, FirstWords.first_word, CallLines.call_line}
 use Rattle.trace_lines.specs.script_reader.specs.{declared.head.Head.Head, declared.head.Line.Line, Heads.goes_on}
-use Rattle.trace_lines.specs.script_printer.proofs.{NumberWords.number_text, NumberWords.core_back, CallWords.call_words}
-use Rattle.trace_lines.specs.script_printer.proofs.{CallWords.call_onto, CallWords.call_is_line, CallReading.call_back}
+use Rattle.trace_lines.specs.script_printer.proofs.{NumberWords.number_text, NumberWords.core_back}
+use Rattle.trace_lines.specs.script_printer.proofs.{CallWords.call_is_line, CallReading.call_back}
+use low.kernel_history.specs.spk_nums.specs.Verbs.{call_words}
 use low.marked_history.specs.{declared.marks.Mark.Mark, declared.marks.Mark.TheVariants.Enter, declared.marks.Mark.TheVariants.Decide}
 use low.marked_history.specs.{declared.marks.Mark.TheVariants.Return, declared.marks.Said.TheVariants.One}
 use Rattle.check_run.specs.history_reader.specs.Lines.{call_in, enter_line, decide_line, return_line, said_by}
-use Rattle.{reply_reads.specs.spaced, reply_reads.specs.reply_words, trace_lines.specs.script_printer.specs.call_line as call_line_text}
-use Rattle.{trace_lines.specs.script_printer.specs.IsCallWithin, std.proofs.Math.Seq.take-append_seam}
+use Rattle.reply_reads.specs.{spaced, reply_words}
+use Rattle.trace_lines.specs.script_printer.specs.{IsCallWithin}
 use Rattle.{trace_lines.specs.line_reader.specs.Arguments.end_at, trace_lines.specs.call_reader.specs.OneLine.verb_in}
 use Rattle.{trace_lines.specs.call_reader.specs.OneLine.verb_at, trace_lines.specs.script_reader.specs.declared.head.Section.Section}
-use Rattle.{check_run.specs.history_reader.specs.Inputs.given_line, reply_reads.proofs.Texts.spaced_onto, trace_reads.proofs.Told.mark_text}
+use Rattle.{check_run.specs.history_reader.specs.Inputs.given_line, trace_reads.proofs.Told.mark_text}
 use Rattle.{trace_reads.proofs.NotedLines.line_texts}
 use low.{marked_history.specs.declared.marks.Line.Line as Given}
 
--- ---- the text of a call is its words
-
-same_front : (xs ys : List ℕ) → xs ++ 10 ∷ [] ≡ ys ++ 10 ∷ [] → xs ≡ ys
-same_front xs ys e =
-    let n : length xs ≡ length ys = omega (arith, ap length e, length-append xs (10 ∷ []), length-append ys (10 ∷ [])) in
-    sym (take-append_seam xs (10 ∷ [])) ∙ ap (take (length xs)) e ∙ ap (λ k. take k (ys ++ 10 ∷ [])) n ∙ take-append_seam ys (10 ∷ [])
-
-line_spaced : (ws : List (List ℕ)) → is_line ws ≡ true → spaced ws ++ 10 ∷ [] ≡ line_onto ws []
-line_spaced [] h = absurd cc
-line_spaced (w ∷ ws) h = spaced_onto w ws []
-
-call_spaced : (v : ℕ) (c : Call) → IsCallWithin v c → call_text c ≡ spaced (call_words c)
-call_spaced v c within =
-    same_front (call_text c) (spaced (call_words c))
-    (sym (append-nil (call_line_text c)) ∙ call_onto c [] ∙ sym (line_spaced (call_words c) (call_is_line v c within)))
-
--- ---- its words are read as the call
+-- ---- the words of a call are read as the call
 
 no_head_line : (r : Result Head Cause) (c : Call) → goes_on r ≡ Ok (Line.Call c) → ⊥
 no_head_line (Ok h) c e = cc
@@ -80,8 +65,8 @@ unfolding line_of call_in verb_at word_at
 from_line v [] c e = absurd cc
 from_line v (w ∷ ws) c e = by_first v (w ∷ ws) c (first_word v w) e
 
-call_read : (v : ℕ) (c : Call) → 1 ≤ v → v ≤ 3 → IsCallWithin v c → call_in v (call_words c) ≡ Ok c
-call_read v c some most within = from_line v (call_words c) c (call_back (listing v) c refl some most within)
+call_read : (v : ℕ) (c : Call) → 1 ≤ v → IsCallWithin v c → call_in v (call_words c) ≡ Ok c
+call_read v c some within = from_line v (call_words c) c (call_back (listing v) c refl some within)
 
 -- ---- marks
 
@@ -108,8 +93,7 @@ after_core w c tail = simp append_assoc
 two_line : (w v : List ℕ) (ws : List (List ℕ)) → is_text w ≡ true → is_text v ≡ true → is_line ws ≡ true → is_line (w ∷ v ∷ ws) ≡ true
 two_line w v ws hw hv h = and_from _ _ hw (and_from _ _ hv (line_texts ws h))
 
-module _ (s : Draft_of) (whole : is_whole s.head.section ≡ true) (some : 1 ≤ s.head.version) (most : s.head.version ≤ 3)
-    (few : s.head.cores ≤ 8) where
+module _ (s : Draft_of) (whole : is_whole s.head.section ≡ true) (some : 1 ≤ s.head.version) (few : s.head.cores ≤ 8) where
   enter_read : (c : ℕ) (call : Call) → c < s.head.cores → IsCallWithin s.head.version call → (lines : List Given) (number : ℕ)
       → line_behind (record { script = s; lines = lines }) number (mark_words (Enter c call))
       ≡ Ok (record { script = s; lines = lines ++ record { number = number; said = One (Enter c call) } ∷ [] })
@@ -118,7 +102,7 @@ module _ (s : Draft_of) (whole : is_whole s.head.section ≡ true) (some : 1 ≤
       rw (
         whole,
         core_back (mark_words (Enter c call)) 1 s.head.cores c refl below few,
-        call_read s.head.version call some most within,
+        call_read s.head.version call some within,
       ) refl
 
   decide_read : (c : ℕ) (r : Reply) → c < s.head.cores → reply_of s.head.cores (reply_words r) ≡ Ok r → (lines : List Given) (number : ℕ)
@@ -139,8 +123,7 @@ module _ (s : Draft_of) (whole : is_whole s.head.section ≡ true) (some : 1 ≤
   enter_reads c call below within =
       let words : is_line (call_words call) ≡ true = call_is_line s.head.version call within in
       record {
-        text = ap (λ t. with_one (codes "enter") c ++ codes " " ++ t) (call_spaced s.head.version call within)
-            ∙ after_core (codes "enter") c (spaced (call_words call))
+        text = after_core (codes "enter") c (call_text call)
             ∙ sym (spaced_two (codes "enter") (decimal c) (call_words call) words);
         line = two_line (codes "enter") (decimal c) (call_words call) refl (number_text c (omega arith)) words;
         read = enter_read c call below within;

@@ -4,7 +4,7 @@ use Rattle.marked_laws.specs.kernel_history.specs.{ℕ, List, [], reverse, Optio
 use Rattle.marked_laws.specs.kernel_history.specs.{Reply, Step}
 use Rattle.marked_laws.specs.marked_history.specs.{declared.marks.Mark.Mark, declared.marks.Said.TheVariants.One, declared.marks.Line.Line}
 use Rattle.{marked_laws.specs.kernel_history.specs.Trace.Trace, trace_lines.specs.script_tokens.specs.Words.line_count}
-use Rattle.{trace_lines.specs.script_printer.specs.Law.IsCallWithin, marked_laws.specs.Marks.marks_of, trace_lines.specs.Traces.trace_text}
+use Rattle.{trace_lines.specs.script_printer.specs.IsCallWithin, marked_laws.specs.Marks.marks_of, trace_lines.specs.Traces.trace_text}
 use Rattle.{check_run.specs.history_reader.specs.Inputs.History, reply_reads.specs.Laws.IsReplyWithin}
 use Rattle.{trace_lines.specs.call_reader.specs.Versions.most_calls}
 
