@@ -7,7 +7,6 @@ ghost use Rattle.act_states.specs.Untypings.{owned_dues, untyping_dues};
 ghost use Rattle.std.specs.Prelude.{[], slice_get, ◌∷◌, ◌≡◌};
 
 use crate::refusing::refuse;
-use act_states::spk_nums::{Cap, CoreNo, FrameNo, Kind};
 use act_states::stage_pins::Pin;
 use act_states::stage_sweep::Owned;
 use act_states::stage_thread::Claimed;
@@ -15,6 +14,7 @@ use act_states::{
     Act, CompAt, CompMaking, Due, Invoking, InvokingAt, Killing, KillingAt, Making, MakingAt,
     Refusal, Returning, ReturningAt, SwitchAt, Switching, Untyping, UntypingAt, Work, WorkStep,
 };
+use spk_nums::{Cap, CoreNo, FrameNo, Kind};
 
 /// What a core does for an act of whose counts it has acquired so many: it acquires the next, or goes on to the act.
 #[inline]

@@ -14,11 +14,6 @@ mod refusing;
 mod values;
 
 pub use act_states;
-pub use act_states::stage_sweep::{entry_words, frame_words, tcap_words, word_map};
-pub use act_states::{
-    call_plans, spk_nums, stage_look, stage_pins, stage_quiet, stage_sweep, stage_tcap,
-    stage_thread,
-};
 pub use counts::{cap_due, next_work, starts};
 pub use refusing::{claim_undo, gives_back, idle_again, refuse, release_of, undo, unmark};
 pub use values::{charged_in, drawn_by, frame_in, stamp_in, ticks_of};

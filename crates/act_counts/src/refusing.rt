@@ -13,13 +13,13 @@ ghost use Rattle.act_states.specs.Untypings.{release_of, untyping_undo};
 ghost use Rattle.act_states.specs.WorkSteps.{refuse};
 ghost use Rattle.std.specs.Prelude.{◌≡◌};
 
-use act_states::spk_nums::FrameNo;
 use act_states::stage_sweep::{Swept, Thaw};
 use act_states::stage_thread::{Claim, Claimed};
 use act_states::{
     Act, CompAt, CompMaking, Making, MakingAt, Refusal, Release, SwitchAt, Switching, Tail,
     Untyping, UntypingAt, WorkStep,
 };
+use spk_nums::FrameNo;
 
 /// The call is refused, with nothing to store.
 #[inline]

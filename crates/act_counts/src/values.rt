@@ -5,10 +5,10 @@ ghost use Rattle.act_states.specs.Invocations.{frame_in};
 ghost use Rattle.act_states.specs.Ticks.{charged_in, ticks_of};
 ghost use Rattle.std.specs.Prelude.{◌≡◌, ◌≤◌};
 
-use act_states::spk_nums::{FrameNo, Stamp, Value};
+use act_states::entry_words::Entry;
 use act_states::stage_quiet::Close;
-use act_states::stage_sweep::entry_words::Entry;
 use act_states::stage_tcap::Charge;
+use spk_nums::{FrameNo, Stamp, Value};
 
 /// The stamp with which a removal goes on to its store.
 #[inline]

@@ -17,13 +17,13 @@ ghost use Rattle.step_lands.specs.call_stages.specs.Fits.{StageFits};
 ghost use Rattle.step_lands.specs.call_stages.specs.Steps.{call_after, landed, told, took};
 ghost use Rattle.step_lands.specs.act_states.specs.declared.work.Tail.TheVariants as tail;
 
-use call_acts::act_counts::{charged_in, drawn_by};
+use act_counts::{charged_in, drawn_by};
 use call_acts::act_took;
+use spk_nums::{CoreNo, Reply, StageEnd, Value};
+use step_lands::act_states::stage_quiet::{Close, FlushMark, drawn};
+use step_lands::act_states::stage_tcap::Pair;
 use step_lands::act_states::{Act, Own, OwnChange, Refusal, Tail, Work};
 use step_lands::call_stages::{ActiveCall, Stage, Told};
-use step_lands::spk_nums::{CoreNo, Reply, StageEnd, Value};
-use step_lands::stage_quiet::{Close, FlushMark, drawn};
-use step_lands::stage_tcap::Pair;
 use step_lands::{decide, go_on, goes_on, land, refused, refused_late};
 
 /// A removal is carried out, and has the entry still to store: it stands here.

@@ -8,16 +8,16 @@ ghost use Rattle.step_lands.specs.call_stages.specs.Fits.{StageFits};
 ghost use Rattle.step_lands.specs.call_stages.specs.Steps.{call_after, landed, told, took};
 
 use crate::ends::act_lands;
-use call_acts::act_counts::frame_in;
+use act_counts::frame_in;
+use spk_nums::{FrameNo, Reply, Stamp, Value};
+use step_lands::act_states::frame_words::{CompWord, LiveWord};
+use step_lands::act_states::stage_pins::Pin;
+use step_lands::act_states::stage_quiet::drawn;
+use step_lands::act_states::stage_thread::{Pop, Push};
 use step_lands::act_states::{
     Act, Invoking, InvokingAt, Own, OwnChange, Refusal, Returning, ReturningAt, Tail, Work,
 };
 use step_lands::call_stages::{ActiveCall, Stage, Told};
-use step_lands::frame_words::{CompWord, LiveWord};
-use step_lands::spk_nums::{FrameNo, Reply, Stamp, Value};
-use step_lands::stage_pins::Pin;
-use step_lands::stage_quiet::drawn;
-use step_lands::stage_thread::{Pop, Push};
 use step_lands::{go_on, refused_late};
 
 /// A step of an entering that does not go on to the next load: after it the count of the component's frame is acquired, or the call is

@@ -7,8 +7,6 @@ mod ends;
 mod entries;
 mod switches;
 
-pub use call_acts;
 pub use ends::{act_lands, charged, flushed, removed, share_ends, stays_owed};
 pub use entries::{invoke_ends, return_ends};
-pub use step_lands;
 pub use switches::switch_ends;

@@ -8,14 +8,14 @@ ghost use Rattle.step_lands.specs.call_stages.specs.Fits.{StageFits};
 ghost use Rattle.step_lands.specs.call_stages.specs.Steps.{call_after, landed, told, took};
 
 use crate::ends::act_lands;
-use call_acts::act_counts::frame_in;
+use act_counts::frame_in;
+use spk_nums::{FrameNo, Reply, Stamp, Value};
+use step_lands::act_states::stage_pins::Pin;
+use step_lands::act_states::stage_quiet::drawn;
+use step_lands::act_states::stage_thread::Claimed;
 use step_lands::act_states::{Act, Own, OwnChange, SwitchAt, Switching, Tail, Work};
 use step_lands::call_stages::{ActiveCall, Stage, Told};
 use step_lands::go_on;
-use step_lands::spk_nums::{FrameNo, Reply, Stamp, Value};
-use step_lands::stage_pins::Pin;
-use step_lands::stage_quiet::drawn;
-use step_lands::stage_thread::Claimed;
 
 /// A step of a switch that does not go on to the next: after it the first count is acquired, or the call is decided.
 #[inline(never)]

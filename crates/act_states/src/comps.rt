@@ -1,8 +1,8 @@
 //! Where the making of a component stands between two steps.
 
 use crate::fills::Fill;
-use stage_sweep::spk_nums::{CoreNo, EntryNo, FrameNo};
-use stage_sweep::stage_quiet::Quiet;
+use spk_nums::{CoreNo, EntryNo, FrameNo};
+use stage_quiet::Quiet;
 
 /// A liveness number as it was found, not live.
 #[derive(Clone, Copy, PartialEq, Eq, Debug)]

@@ -1,6 +1,6 @@
 //! A place that is filled, as its compare finds it.
 
-use stage_sweep::spk_nums::{Cap, EntryNo, FrameNo};
+use spk_nums::{Cap, EntryNo, FrameNo};
 
 /// A place that is filled, between two steps.
 #[derive(Clone, Copy, PartialEq, Eq, Debug)]

@@ -1,7 +1,7 @@
 //! Where the killing of a component stands between two steps.
 
-use stage_sweep::frame_words::CompWord;
-use stage_sweep::spk_nums::{CoreNo, FrameNo};
+use frame_words::CompWord;
+use spk_nums::{CoreNo, FrameNo};
 
 /// Where the killing of a component stands.
 #[derive(Clone, Copy, PartialEq, Eq, Debug)]

@@ -1,7 +1,7 @@
 //! What a name has led to.
 
 use crate::refusals::Refusal;
-use stage_sweep::spk_nums::Cap;
+use spk_nums::Cap;
 
 /// What a name has led to.
 #[derive(Clone, Copy, PartialEq, Eq, Debug)]

@@ -2,7 +2,7 @@
 
 use crate::fills::Fill;
 use crate::objects::NewObject;
-use stage_sweep::spk_nums::{CoreNo, EntryNo, FrameNo};
+use spk_nums::{CoreNo, EntryNo, FrameNo};
 
 /// Where a making stands.
 #[derive(Clone, Copy, PartialEq, Eq, Debug)]

@@ -13,9 +13,9 @@ ghost use Rattle.act_states.specs.Objects.{thread_word, tcap_word, last_word, ob
 
 use crate::work::Due;
 use call_plans::{Caps, Nth};
-use stage_sweep::entry_words::Entry;
-use stage_sweep::spk_nums::{Cap, EntryNo, FrameNo, Kind, Make, Obj};
-use stage_sweep::tcap_words::{HeadWord, QualityWord, StackWord, ThreadWord};
+use entry_words::Entry;
+use spk_nums::{Cap, EntryNo, FrameNo, Kind, Make, Obj};
+use tcap_words::{HeadWord, QualityWord, StackWord, ThreadWord};
 
 /// An object that is made.
 #[derive(Clone, Copy, PartialEq, Eq, Debug)]

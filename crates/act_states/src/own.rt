@@ -4,8 +4,8 @@ ghost use Rattle.std.specs.Prelude.{◌≡◌};
 ghost use Rattle.call_plans.specs.kernel_invariant.specs.kernel_rules.specs.Edits.{caching};
 ghost use Rattle.act_states.specs.OwnChanges.{own_changed};
 
-use stage_sweep::spk_nums::{CoreNo, FrameNo, Stamp, Translation, Translations};
-use stage_sweep::word_map::Layout;
+use spk_nums::{CoreNo, FrameNo, Stamp, Translation, Translations};
+use word_map::Layout;
 
 /// What a core has of its own: where it works, and what it has counted. The step machine of a call reads it; a decision and a
 /// return change it.

@@ -3,7 +3,7 @@
 ghost use Rattle.std.specs.Prelude.{◌≡◌};
 ghost use Rattle.act_states.specs.Refusals.{reply_of, refusal_of};
 
-use stage_sweep::spk_nums::{CoreNo, Reply};
+use spk_nums::{CoreNo, Reply};
 
 /// The refusal of a call. That it has no `ok` says that a step which may only refuse carries nothing out.
 #[derive(Clone, Copy, PartialEq, Eq, Debug)]

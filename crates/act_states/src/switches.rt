@@ -1,6 +1,6 @@
 //! Where a switch stands between two steps.
 
-use stage_sweep::spk_nums::{CoreNo, FrameNo};
+use spk_nums::{CoreNo, FrameNo};
 use stage_thread::{Claim, Claimed};
 
 /// Where a switch stands.

@@ -1,7 +1,7 @@
 //! Where the touching of a page stands between two steps.
 
-use stage_sweep::spk_nums::{FrameNo, PageNo, Translation};
-use stage_sweep::stage_look::Look;
+use spk_nums::{FrameNo, PageNo, Translation};
+use stage_look::Look;
 
 /// A page that is touched, between two steps.
 #[derive(Clone, Copy, PartialEq, Eq, Debug)]

@@ -1,6 +1,6 @@
 //! Where the typing of a frame stands between two steps.
 
-use stage_sweep::spk_nums::{FrameKind, FrameNo};
+use spk_nums::{FrameKind, FrameNo};
 
 /// Where the typing of a frame stands.
 #[derive(Clone, Copy, PartialEq, Eq, Debug)]

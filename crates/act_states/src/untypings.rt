@@ -1,7 +1,7 @@
 //! Where the untyping of a frame stands between two steps, and what it has still to store.
 
-use stage_sweep::frame_words::FrameWord;
-use stage_sweep::spk_nums::{CoreNo, FrameNo};
+use frame_words::FrameWord;
+use spk_nums::{CoreNo, FrameNo};
 use stage_sweep::{Sweep, Swept, Thaw};
 
 /// Where the untyping of a frame stands.

@@ -11,11 +11,11 @@ use crate::switches::Switching;
 use crate::touches::Touching;
 use crate::typings::Typing;
 use crate::untypings::{Release, Untyping};
-use stage_sweep::frame_words::CompWord;
-use stage_sweep::spk_nums::{Cap, CoreNo, EntryNo, FrameNo, Reply, Stamp, Value};
-use stage_sweep::stage_look::Look;
-use stage_sweep::stage_pins::{Acquired, Pin};
-use stage_sweep::stage_quiet::{Close, Quiet};
+use frame_words::CompWord;
+use spk_nums::{Cap, CoreNo, EntryNo, FrameNo, Reply, Stamp, Value};
+use stage_look::Look;
+use stage_pins::{Acquired, Pin};
+use stage_quiet::{Close, Quiet};
 use stage_tcap::{Charge, Pair, Refill};
 use stage_thread::{Pop, Push};
 

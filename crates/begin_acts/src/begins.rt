@@ -13,12 +13,12 @@ use crate::no_target::{
     types_at,
 };
 use crate::targets::{fills_with, made_begun, maps_at, parts_at, removes_at};
+use act_counts::act_states::call_plans::{Caps, Nth};
+use act_counts::act_states::stage_look::Found;
+use act_counts::act_states::stage_tcap::PairWork;
 use act_counts::act_states::{Own, Refusal, Tail, WorkStep};
-use act_counts::call_plans::{Caps, Nth};
 use act_counts::refuse;
-use act_counts::spk_nums::{Call, Cap, FrameNo, Kind, Rights, Value};
-use act_counts::stage_look::Found;
-use act_counts::stage_tcap::PairWork;
+use spk_nums::{Call, Cap, FrameNo, Kind, Rights, Value};
 
 /// What a call of a core does whose names have led to these, which has read this, and whose target, if it has one, was found: a look
 /// answers at once, a copy, a grow, a map, a gate and a part begin to fill their target, a remove, a shrink and an unmap to remove what

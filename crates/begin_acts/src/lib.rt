@@ -14,7 +14,6 @@ mod no_target;
 mod targets;
 mod touches;
 
-pub use act_counts;
 pub use begins::{begin_act, reads_of};
 pub use names::{frame_of, met_name};
 pub use touches::begin_touch;

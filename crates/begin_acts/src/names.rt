@@ -8,10 +8,10 @@ ghost use Rattle.act_counts.specs.call_plans.specs.After.{with_found};
 ghost use Rattle.act_counts.specs.call_plans.specs.GoesBy.{earlier, want_of};
 ghost use Rattle.std.specs.Prelude.{[], ◌≡◌};
 
+use act_counts::act_states::call_plans::{Caps, Name, Nth};
+use act_counts::act_states::entry_words::Entry;
 use act_counts::act_states::{Met, Refusal};
-use act_counts::call_plans::{Caps, Name, Nth};
-use act_counts::entry_words::Entry;
-use act_counts::spk_nums::{Cap, FrameNo};
+use spk_nums::{Cap, FrameNo};
 
 /// The frame to which an earlier name has led, or frame 0.
 #[inline]

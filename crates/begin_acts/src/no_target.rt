@@ -11,14 +11,14 @@ ghost use Rattle.act_counts.specs.kernel_rules.specs.CapabilityCalls.{has_frame}
 ghost use Rattle.std.specs.Prelude.{nat_lt, ◌&&◌, ◌==◌, ◌≡◌};
 
 use crate::targets::has_frame;
+use act_counts::act_states::stage_tcap::{Charge, Pair, PairWork, Refill};
+use act_counts::act_states::stage_thread::Claim;
 use act_counts::act_states::{
     Act, Invoking, InvokingAt, Killing, KillingAt, Own, Refusal, Returning, ReturningAt, SwitchAt,
     Switching, Typing, TypingAt, Untyping, UntypingAt, Work, WorkStep,
 };
 use act_counts::refuse;
-use act_counts::spk_nums::{Cap, CoreNo, FrameArg, FrameKind, FrameNo, Kind};
-use act_counts::stage_tcap::{Charge, Pair, PairWork, Refill};
-use act_counts::stage_thread::Claim;
+use spk_nums::{Cap, CoreNo, FrameArg, FrameKind, FrameNo, Kind};
 
 /// A frame of this range is typed.
 #[inline]

@@ -13,16 +13,16 @@ ghost use Rattle.act_counts.specs.kernel_rules.specs.Access.{found as named_by_c
 ghost use Rattle.act_counts.specs.kernel_rules.specs.CapabilityCalls.{has_frame, has_frames};
 ghost use Rattle.std.specs.Prelude.{◌<◌, ◌≡◌, ◌≤◌};
 
+use act_counts::act_states::call_plans::{Caps, Nth};
+use act_counts::act_states::entry_words::Entry;
+use act_counts::act_states::stage_look::Found;
+use act_counts::act_states::stage_quiet::{Close, Quiet};
 use act_counts::act_states::{
     Act, CompAt, CompMaking, Fill, Making, MakingAt, NewObject, Own, Refusal, Work, WorkStep,
     object_cap, object_made,
 };
-use act_counts::call_plans::{Caps, Nth};
-use act_counts::entry_words::Entry;
-use act_counts::spk_nums::{Cap, CoreNo, FrameArg, FrameNo, Kind, Make, PageFlags};
-use act_counts::stage_look::Found;
-use act_counts::stage_quiet::{Close, Quiet};
 use act_counts::{next_work, refuse, stamp_in, starts};
+use spk_nums::{Cap, CoreNo, FrameArg, FrameNo, Kind, Make, PageFlags};
 
 /// The target, which is or is not a place of a page table, is filled with this capability.
 #[inline]

@@ -4,10 +4,10 @@ ghost use Rattle.act_counts.specs.act_states.specs.Touches.{touches};
 ghost use Rattle.act_counts.specs.kernel_rules.specs.MemoryCalls.{translation_of};
 ghost use Rattle.std.specs.Prelude.{Some, length, slice_get, ◌&&◌, ◌<◌, ◌==◌, ◌≡◌};
 
+use act_counts::act_states::stage_look::Look;
 use act_counts::act_states::{Act, Own, Refusal, Touching, Work, WorkStep};
 use act_counts::refuse;
-use act_counts::spk_nums::{CapId, FrameNo, PageNo, Translation, Translations};
-use act_counts::stage_look::Look;
+use spk_nums::{CapId, FrameNo, PageNo, Translation, Translations};
 
 /// A page of a core's own pages is touched; one past 4,095 has no slot.
 #[inline(never)]

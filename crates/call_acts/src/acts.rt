@@ -11,20 +11,20 @@ ghost use Rattle.make_acts.specs.word_map.specs.Places.{size_of};
 ghost use Rattle.make_acts.specs.spk_nums.specs.WordSteps.{place_in};
 ghost use Rattle.std.specs.Prelude.{◌<◌, ◌≡◌};
 
+use act_counts::act_states::frame_words::FrameWord;
+use act_counts::act_states::stage_quiet::Close;
+use act_counts::act_states::word_map::Layout;
+use act_counts::act_states::{Act, Fill, Refusal, Tail, Work, WorkStep};
+use act_counts::{drawn_by, refuse};
 use frame_acts::{
     flush_op, flush_took, touch_op, touch_ready, touch_took, typing_op, typing_ready, typing_took,
     untyping_op, untyping_ready, untyping_took,
 };
-use make_acts::act_counts::{drawn_by, refuse};
-use make_acts::act_states::{Act, Fill, Refusal, Tail, Work, WorkStep};
-use make_acts::frame_words::FrameWord;
-use make_acts::spk_nums::{Cap, FrameKind, StageEnd, Stamp, Value, WordOp};
-use make_acts::stage_quiet::Close;
-use make_acts::word_map::Layout;
 use make_acts::{
     comp_op, comp_ready, comp_took, fill_op, fill_took, killing_op, killing_ready, killing_took,
     making_op, making_ready, making_took,
 };
+use spk_nums::{Cap, FrameKind, StageEnd, Stamp, Value, WordOp};
 use thread_acts::{
     invoking_op, invoking_ready, invoking_took, is_charging, is_refilling, is_sharing, refill_op,
     refill_took, returning_op, returning_ready, returning_took, share_op, share_took, switching_op,

@@ -94,5 +94,4 @@ mod acts;
 mod moves;
 
 pub use acts::{act_op, act_ready, act_took};
-pub use make_acts::act_counts;
 pub use moves::act_moves;

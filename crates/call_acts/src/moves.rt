@@ -18,17 +18,17 @@ ghost use Rattle.make_acts.specs.stage_tcap.specs.Refilling.{RefillFits};
 ghost use Rattle.make_acts.specs.stage_thread.specs.Claiming.{ClaimFits, claim_after, claim_end};
 ghost use Rattle.std.specs.Prelude.{◌≤◌};
 
-use make_acts::act_counts::frame_in;
-use make_acts::act_states::{
+use act_counts::act_states::stage_quiet::Close;
+use act_counts::act_states::stage_tcap::{Charge, Refill};
+use act_counts::act_states::stage_thread::Claim;
+use act_counts::act_states::word_map::Layout;
+use act_counts::act_states::{
     Act, Invoking, InvokingAt, Making, MakingAt, Returning, ReturningAt, SwitchAt, Switching,
     Touching, Untyping, UntypingAt,
 };
-use make_acts::spk_nums::{Cap, StageEnd};
-use make_acts::stage_quiet::Close;
-use make_acts::stage_tcap::{Charge, Refill};
-use make_acts::stage_thread::Claim;
+use act_counts::frame_in;
 use make_acts::stored;
-use make_acts::word_map::Layout;
+use spk_nums::{Cap, StageEnd};
 use thread_acts::below_in;
 
 /// Makes the step of an act that found this word, where the same act goes on after it, and says so; else the act stays as it was. What it

@@ -10,5 +10,3 @@
 //!
 //! See docs/PROOF.md, 'The invariant of the step machine'.
 #![tactic(auto)]
-
-pub use act_fits::call_stages;

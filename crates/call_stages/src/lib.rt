@@ -18,6 +18,5 @@ mod laws;
 mod stages;
 
 pub use act_states;
-pub use act_states::spk_nums;
 pub use laws::{decides_once, ready_decides, unready_refuses};
 pub use stages::{Absorbed, ActiveCall, Stage, Told};

@@ -1,10 +1,10 @@
 //! Where a call stands between two of its steps.
 
 use act_states::call_plans::Caps;
-use act_states::spk_nums::{Call, Reply, Stamp};
 use act_states::stage_pins::AcquiredCounts;
 use act_states::stage_thread::Alive;
 use act_states::{OwnChange, Tail, Work};
+use spk_nums::{Call, Reply, Stamp};
 
 /// Where a call stands between two of its steps.
 #[derive(Clone, Copy, PartialEq, Eq, Debug)]

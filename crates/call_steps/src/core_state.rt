@@ -14,11 +14,11 @@ ghost use Rattle.call_steps.specs.Stepping.{steps_made};
 use crate::steps::{absorb, is_ready, stage_op};
 use spk_nums::{Call, CoreEnd, CoreNo, FrameNo, Reply, Setup, Stamp, Translations, WordOp};
 use std::marker::Model;
-use step_looks::act_states::Own;
-use step_looks::call_plans::Caps;
-use step_looks::call_stages::{Absorbed, ActiveCall, Stage, Told};
-use step_looks::stage_pins::AcquiredCounts;
-use step_looks::word_map::Layout;
+use step_lands::act_states::Own;
+use step_lands::act_states::call_plans::Caps;
+use step_lands::act_states::stage_pins::AcquiredCounts;
+use step_lands::act_states::word_map::Layout;
+use step_lands::call_stages::{Absorbed, ActiveCall, Stage, Told};
 
 /// A core of a machine: its call, if it is in one, and what it has of its own.
 #[derive(Clone, Copy, PartialEq, Eq, Debug)]

@@ -40,5 +40,5 @@ mod steps;
 mod whole;
 
 pub use core_state::CoreState;
-pub use step_looks::call_stages::Absorbed;
+pub use step_lands::call_stages::Absorbed;
 pub use straight_acts::{Went, Words};

@@ -13,13 +13,13 @@ ghost use Rattle.call_steps.specs.Naming.{IsOnward, further_so, named_so, own_to
 
 use crate::core_state::calls_counted;
 use spk_nums::Call;
-use step_looks::act_states::Own;
-use step_looks::call_plans::{Caps, Next};
-use step_looks::call_stages::{ActiveCall, Stage, Told};
-use step_looks::stage_pins::AcquiredCounts;
+use step_lands::act_states::Own;
+use step_lands::act_states::call_plans::{Caps, Next};
+use step_lands::act_states::stage_pins::AcquiredCounts;
+use step_lands::call_stages::{ActiveCall, Stage, Told};
 use step_looks::{is_living, look_next, next_of};
-use straight_acts::straight_looks::{Asked, Named, ask, entry_op, name};
 use straight_acts::{Went, Words};
+use straight_looks::{Asked, Named, ask, entry_op, name};
 
 /// How one name more of a call went.
 #[derive(Clone, Copy)]

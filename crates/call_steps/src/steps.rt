@@ -10,18 +10,18 @@ ghost use Rattle.step_looks.specs.stage_pins.specs.Held.{AllFit};
 ghost use Rattle.step_looks.specs.word_map.specs.Moves.{op_of};
 ghost use Rattle.step_looks.specs.word_map.specs.Places.{size_of};
 
+use call_acts::{act_op, act_ready};
 use spk_nums::{EntryNo, Stamp, WordOp};
 use step_counts::{acquire_step, scan_step};
 use step_ends::act_step;
-use step_ends::call_acts::{act_op, act_ready};
-use step_ends::step_lands::goes_on;
-use step_looks::act_states::{Act, Own, Work};
-use step_looks::call_plans::{Decides, plan_of};
-use step_looks::call_stages::{ActiveCall, Stage, Told};
-use step_looks::frame_words::CoreWord;
-use step_looks::stage_look::Look;
-use step_looks::stage_pins::AcquiredCounts;
-use step_looks::word_map::Layout;
+use step_lands::act_states::call_plans::{Decides, plan_of};
+use step_lands::act_states::frame_words::CoreWord;
+use step_lands::act_states::stage_look::Look;
+use step_lands::act_states::stage_pins::AcquiredCounts;
+use step_lands::act_states::word_map::Layout;
+use step_lands::act_states::{Act, Own, Work};
+use step_lands::call_stages::{ActiveCall, Stage, Told};
+use step_lands::goes_on;
 use step_looks::{ask, enter, look_up, read};
 use step_stores::{store, tail_op};
 

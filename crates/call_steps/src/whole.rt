@@ -13,8 +13,8 @@ ghost use Rattle.call_steps.specs.Straight.{HasGone};
 use crate::core_state::CoreState;
 use crate::names::to_names;
 use spk_nums::{Call, Reply};
-use step_looks::act_states::Own;
-use step_looks::call_stages::{Absorbed, ActiveCall};
+use step_lands::act_states::Own;
+use step_lands::call_stages::{Absorbed, ActiveCall};
 use straight_acts::{Went, Words, copy, look, remove, unmap};
 use straight_own::{flush, tick, touch};
 

@@ -1,6 +1,6 @@
 //! The words on which a core makes its steps.
 
-use call_stages::spk_nums::WordOp;
+use spk_nums::WordOp;
 
 /// The words on which a core makes the steps of its call, one after another. Contracts see the core, and what it has told of the step made
 /// last.

@@ -8,7 +8,5 @@
 
 mod laws;
 
-pub use call_fits::call_stages::{
-    Absorbed, ActiveCall, decides_once, ready_decides, unready_refuses,
-};
+pub use call_stages::{Absorbed, ActiveCall, decides_once, ready_decides, unready_refuses};
 pub use laws::{boots, made_stands, represents, represents_counts, says_words, steps_on};

@@ -12,11 +12,11 @@ ghost use Rattle.act_counts.specs.word_map.specs.Places.{size_of};
 ghost use Rattle.act_counts.specs.spk_nums.specs.WordSteps.{place_in};
 ghost use Rattle.std.specs.Prelude.{◌<◌, ◌≡◌};
 
+use act_counts::act_states::stage_quiet::FlushMark;
+use act_counts::act_states::word_map::Layout;
 use act_counts::act_states::{OwnChange, Refusal, Tail, WorkStep};
 use act_counts::refuse;
-use act_counts::spk_nums::{CoreNo, Reply, Value, WordOp};
-use act_counts::stage_quiet::FlushMark;
-use act_counts::word_map::Layout;
+use spk_nums::{CoreNo, Reply, Value, WordOp};
 
 /// The load of the clock. The core is below the layout's.
 #[inline]

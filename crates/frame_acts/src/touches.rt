@@ -17,12 +17,12 @@ ghost use Rattle.act_counts.specs.word_map.specs.Places.{size_of};
 ghost use Rattle.act_counts.specs.spk_nums.specs.WordSteps.{place_in};
 ghost use Rattle.std.specs.Prelude.{None, ◌<◌, ◌≡◌};
 
+use act_counts::act_states::entry_words::Entry;
+use act_counts::act_states::stage_look::{Found, Look};
+use act_counts::act_states::word_map::Layout;
 use act_counts::act_states::{Act, OwnChange, Refusal, Tail, Touching, Work, WorkStep};
-use act_counts::entry_words::Entry;
 use act_counts::refuse;
-use act_counts::spk_nums::{Cap, PageFlags, Reply, StageEnd, Translation, Value, WordOp};
-use act_counts::stage_look::{Found, Look};
-use act_counts::word_map::Layout;
+use spk_nums::{Cap, PageFlags, Reply, StageEnd, Translation, Value, WordOp};
 
 /// The next load of a touch. Its frame is below the layout's.
 #[inline]

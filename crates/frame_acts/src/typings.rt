@@ -11,11 +11,11 @@ ghost use Rattle.act_counts.specs.word_map.specs.Places.{size_of};
 ghost use Rattle.act_counts.specs.spk_nums.specs.WordSteps.{place_in};
 ghost use Rattle.std.specs.Prelude.{◌<◌, ◌≡◌};
 
+use act_counts::act_states::frame_words::FrameWord;
+use act_counts::act_states::word_map::Layout;
 use act_counts::act_states::{Act, Refusal, Tail, Typing, TypingAt, Work, WorkStep};
-use act_counts::frame_words::FrameWord;
 use act_counts::refuse;
-use act_counts::spk_nums::{FrameKind, Obj, Value, WordOp};
-use act_counts::word_map::Layout;
+use spk_nums::{FrameKind, Obj, Value, WordOp};
 
 /// The next step of a typing. The frame is below the layout's.
 #[inline]

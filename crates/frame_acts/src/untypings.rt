@@ -27,13 +27,13 @@ ghost use Rattle.act_counts.specs.spk_nums.specs.WordSteps.{place_in};
 ghost use Rattle.act_counts.specs.spk_nums.specs.declared.kinds.FrameKind.TheVariants.{Untyped};
 ghost use Rattle.std.specs.Prelude.{None, false, ◌<◌, ◌≡◌};
 
+use act_counts::act_states::frame_words::FrameWord;
+use act_counts::act_states::stage_quiet::drawn;
+use act_counts::act_states::stage_sweep::{Sweep, Swept};
+use act_counts::act_states::word_map::Layout;
 use act_counts::act_states::{Act, Refusal, Tail, Untyping, UntypingAt, Work, WorkStep};
-use act_counts::frame_words::FrameWord;
-use act_counts::spk_nums::{CoreNo, FrameKind, Obj, StageEnd, Stamp, Value, WordOp};
-use act_counts::stage_quiet::drawn;
-use act_counts::stage_sweep::{Sweep, Swept};
-use act_counts::word_map::Layout;
 use act_counts::{next_work, refuse, release_of};
+use spk_nums::{CoreNo, FrameKind, Obj, StageEnd, Stamp, Value, WordOp};
 
 /// The next step of an untyping. What it names is of the layout's machine.
 #[inline]

@@ -28,12 +28,12 @@ ghost use Rattle.std.specs.Prelude.{◌+◌, ◌<◌, ◌^◌, ◌≡◌, ◌≤
 use crate::fills::fill_op;
 use crate::kills::closing_word;
 use crate::makings::marked_word;
+use act_counts::act_states::frame_words::{CompWord, FrameWord, LiveWord};
+use act_counts::act_states::stage_quiet::Quiet;
+use act_counts::act_states::word_map::Layout;
 use act_counts::act_states::{Act, CompAt, CompMaking, LastEpoch, Refusal, Work, WorkStep};
-use act_counts::frame_words::{CompWord, FrameWord, LiveWord};
-use act_counts::spk_nums::{EntryNo, FrameKind, FrameNo, Obj, StageEnd, Value, WordOp};
-use act_counts::stage_quiet::Quiet;
-use act_counts::word_map::Layout;
 use act_counts::{gives_back, next_work, refuse, unmark};
+use spk_nums::{EntryNo, FrameKind, FrameNo, Obj, StageEnd, Value, WordOp};
 
 /// The next step of the making of a component. What it names is of the layout's machine.
 #[inline]

@@ -11,10 +11,10 @@ ghost use Rattle.act_counts.specs.word_map.specs.Places.{size_of};
 ghost use Rattle.act_counts.specs.spk_nums.specs.WordSteps.{place_in};
 ghost use Rattle.std.specs.Prelude.{◌<◌, ◌≡◌};
 
+use act_counts::act_states::entry_words::Entry;
+use act_counts::act_states::word_map::Layout;
 use act_counts::act_states::{Fill, Refusal, Tail, WorkStep};
-use act_counts::entry_words::Entry;
-use act_counts::spk_nums::{Cap, Value, WordOp};
-use act_counts::word_map::Layout;
+use spk_nums::{Cap, Value, WordOp};
 
 /// The next step of a filling: the place's word is compared with the one found. The node and the frames of what it is to hold are
 /// below the layout's.

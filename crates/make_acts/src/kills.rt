@@ -18,12 +18,12 @@ ghost use Rattle.act_counts.specs.word_map.specs.Places.{size_of};
 ghost use Rattle.act_counts.specs.spk_nums.specs.WordSteps.{place_in};
 ghost use Rattle.std.specs.Prelude.{◌<◌, ◌≡◌};
 
+use act_counts::act_states::frame_words::{CompWord, LiveWord};
+use act_counts::act_states::stage_quiet::drawn;
+use act_counts::act_states::word_map::Layout;
 use act_counts::act_states::{Act, Killing, KillingAt, Refusal, Tail, Work, WorkStep};
-use act_counts::frame_words::{CompWord, LiveWord};
-use act_counts::spk_nums::{CoreNo, EntryNo, Stamp, Value, WordOp};
-use act_counts::stage_quiet::drawn;
-use act_counts::word_map::Layout;
 use act_counts::{next_work, refuse};
+use spk_nums::{CoreNo, EntryNo, Stamp, Value, WordOp};
 
 /// The next step of a killing. What it names is of the layout's machine.
 #[inline]

@@ -13,10 +13,6 @@ mod fills;
 mod kills;
 mod makings;
 
-pub use act_counts;
-pub use act_counts::{
-    act_states, frame_words, spk_nums, stage_quiet, stage_tcap, stage_thread, word_map,
-};
 pub use comps::{comp_op, comp_ready, comp_took};
 pub use fills::{fill_op, fill_took};
 pub use kills::{killing_op, killing_ready, killing_took};

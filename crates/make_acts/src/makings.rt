@@ -18,11 +18,11 @@ ghost use Rattle.act_counts.specs.spk_nums.specs.WordSteps.{place_in};
 ghost use Rattle.std.specs.Prelude.{◌<◌, ◌≡◌};
 
 use crate::fills::fill_op;
+use act_counts::act_states::frame_words::FrameWord;
+use act_counts::act_states::word_map::Layout;
 use act_counts::act_states::{Act, Making, MakingAt, NewObject, Refusal, Tail, Work, WorkStep};
-use act_counts::frame_words::FrameWord;
-use act_counts::spk_nums::{CoreNo, EntryNo, FrameKind, Obj, Value, WordOp};
-use act_counts::word_map::Layout;
 use act_counts::{next_work, refuse};
+use spk_nums::{CoreNo, EntryNo, FrameKind, Obj, Value, WordOp};
 
 /// The next step of a making. What it names is of the layout's machine.
 #[inline]

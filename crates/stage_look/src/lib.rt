@@ -6,4 +6,3 @@
 mod look;
 
 pub use look::{Found, Look};
-pub use word_map::spk_nums;

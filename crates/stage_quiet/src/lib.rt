@@ -8,8 +8,5 @@ mod flush_mark;
 mod quiet;
 
 pub use close::{Close, drawn};
-pub use entry_words;
 pub use flush_mark::FlushMark;
-pub use frame_words;
 pub use quiet::Quiet;
-pub use word_map;

@@ -5,8 +5,8 @@ ghost use Rattle.stage_pins.specs.frame_words.specs.Count.{NumberFits};
 ghost use Rattle.stage_sweep.specs.Counters.{sum_of_counts, latest_stamp};
 ghost use Rattle.stage_sweep.specs.CountLists.{blank_count};
 
-use stage_look::spk_nums::Stamp;
-use stage_quiet::frame_words::{CountWord, Hold};
+use frame_words::{CountWord, Hold};
+use spk_nums::Stamp;
 use std::marker::Model;
 
 /// Up to 8 count words, that of the first counter first, each with a count from -2^15 to 2^15 - 1; contracts see their

@@ -12,11 +12,11 @@ ghost use Rattle.stage_sweep.specs.Emptiness.{loads_of, is_page_node, may_be_cac
 ghost use Rattle.stage_sweep.specs.Emptiness.{field_refuses, depth_refuses, thread_refuses, place_refuses, stack_refuses, head_by_mark};
 ghost use Rattle.stage_sweep.specs.Emptiness.{head_refuses, by_turn, empty_refuses, frame_if, place_owned, stack_owned, owns, owned_after};
 
-use stage_look::spk_nums::{CoreNo, EntryNo, FrameKind, FrameNo, Obj, Reply, StageEnd};
+use entry_words::Entry;
+use spk_nums::{CoreNo, EntryNo, FrameKind, FrameNo, Obj, Reply, StageEnd};
 use stage_look::{Found, Look};
-use stage_quiet::entry_words::Entry;
-use stage_quiet::word_map::Layout;
 use tcap_words::{HeadWord, StackWord, ThreadWord};
+use word_map::Layout;
 
 /// The frames that an object itself names: a component its table and its pages, a thread its bottom component.
 #[derive(Clone, Copy, PartialEq, Eq, Debug)]

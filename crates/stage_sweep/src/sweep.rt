@@ -31,10 +31,10 @@ ghost use Rattle.stage_sweep.specs.Freeze.{sweep_refuses, sweep_next, at_after, 
 
 use crate::count_words::CountWords;
 use crate::empty::{Owned, empty_refuses, loads_of, may_be_cached, owned_after};
-use stage_look::spk_nums::{CoreNo, EntryNo, FrameNo, Obj, Reply, StageEnd, Stamp, WordOp};
+use frame_words::{CountWord, FrameWord, Hold, residue};
+use spk_nums::{CoreNo, EntryNo, FrameNo, Obj, Reply, StageEnd, Stamp, WordOp};
 use stage_quiet::Quiet;
-use stage_quiet::frame_words::{CountWord, FrameWord, Hold, residue};
-use stage_quiet::word_map::Layout;
+use word_map::Layout;
 
 /// Where a sweep stands, between two of its steps.
 #[derive(Clone, Copy, PartialEq, Eq, Debug)]

@@ -14,9 +14,9 @@ ghost use Rattle.stage_sweep.specs.Release.{ThawFits, released, thaw_move, thaw_
 
 use crate::count_words::CountWords;
 use crate::sweep::Swept;
-use stage_look::spk_nums::{CoreNo, FrameNo, StageEnd, Stamp, WordOp};
-use stage_quiet::frame_words::{CountWord, Hold};
-use stage_quiet::word_map::Layout;
+use frame_words::{CountWord, Hold};
+use spk_nums::{CoreNo, FrameNo, StageEnd, Stamp, WordOp};
+use word_map::Layout;
 
 /// The release of frozen counters, between two of its steps.
 #[derive(Clone, Copy, PartialEq, Eq, Debug)]

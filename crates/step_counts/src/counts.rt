@@ -8,11 +8,11 @@ ghost use Rattle.step_lands.specs.call_stages.specs.Fits.{StageFits};
 ghost use Rattle.step_lands.specs.call_stages.specs.Steps.{call_after, landed, told, took};
 
 use act_counts::{cap_due, next_work, starts, undo};
+use spk_nums::{Cap, StageEnd};
+use step_lands::act_states::stage_pins::{Acquired, Pin, Pinned};
+use step_lands::act_states::stage_quiet::Close;
 use step_lands::act_states::{Act, Fill, Own, Refusal, Work};
 use step_lands::call_stages::{ActiveCall, Stage, Told};
-use step_lands::spk_nums::{Cap, StageEnd};
-use step_lands::stage_pins::{Acquired, Pin, Pinned};
-use step_lands::stage_quiet::Close;
 use step_lands::{decide, go_on, goes_on, land, refused_late};
 
 /// A step of the scan before a call's act.

@@ -13,16 +13,16 @@ ghost use Rattle.act_ends.specs.step_lands.specs.act_states.specs.declared.work.
 ghost use Rattle.act_ends.specs.step_lands.specs.call_stages.specs.Fits.{StageFits};
 ghost use Rattle.act_ends.specs.step_lands.specs.call_stages.specs.Steps.{call_after, landed, told, took};
 
-use act_ends::call_acts::act_counts::ticks_of;
-use act_ends::call_acts::act_moves;
-use act_ends::step_lands::act_states::{Act, Own, Refusal, Tail, Work};
-use act_ends::step_lands::call_stages::{ActiveCall, Stage, Told};
-use act_ends::step_lands::spk_nums::{Reply, StageEnd, Value};
-use act_ends::step_lands::{decide, goes_on, refused_late};
+use act_counts::ticks_of;
 use act_ends::{
     act_lands, charged, flushed, invoke_ends, removed, return_ends, share_ends, stays_owed,
     switch_ends,
 };
+use call_acts::act_moves;
+use spk_nums::{Reply, StageEnd, Value};
+use step_lands::act_states::{Act, Own, Refusal, Tail, Work};
+use step_lands::call_stages::{ActiveCall, Stage, Told};
+use step_lands::{decide, goes_on, refused_late};
 
 /// A step of the call's act.
 #[inline(always)]

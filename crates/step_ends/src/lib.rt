@@ -7,5 +7,4 @@
 
 mod acts;
 
-pub use act_ends::{call_acts, step_lands};
 pub use acts::act_step;

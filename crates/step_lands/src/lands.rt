@@ -6,8 +6,8 @@ ghost use Rattle.call_stages.specs.declared.stages.Stage.TheVariants.{Decided};
 ghost use Rattle.std.specs.Prelude.{◌<◌, ◌≡◌};
 
 use call_stages::act_states::{OwnChange, Refusal, Tail, WorkStep};
-use call_stages::spk_nums::{Reply, Stamp};
 use call_stages::{ActiveCall, Stage, Told};
+use spk_nums::{Reply, Stamp};
 
 /// The call is refused, with nothing to store.
 #[inline]

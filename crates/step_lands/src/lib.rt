@@ -12,9 +12,5 @@
 mod lands;
 
 pub use call_stages;
-pub use call_stages::act_states::stage_sweep::{entry_words, frame_words, tcap_words, word_map};
-pub use call_stages::act_states::{
-    call_plans, stage_look, stage_pins, stage_quiet, stage_sweep, stage_tcap, stage_thread,
-};
-pub use call_stages::{act_states, spk_nums};
+pub use call_stages::act_states;
 pub use lands::{decide, go_on, goes_on, land, refused, refused_late};

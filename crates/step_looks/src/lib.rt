@@ -13,7 +13,3 @@ mod places;
 pub use looks::{ask, enter, look_up, read};
 pub use next::{is_living, next_of};
 pub use places::look_next;
-pub use step_starts;
-pub use step_starts::{
-    act_states, call_plans, call_stages, frame_words, stage_look, stage_pins, word_map,
-};

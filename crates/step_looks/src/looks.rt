@@ -10,15 +10,15 @@ ghost use Rattle.step_starts.specs.step_lands.specs.Standing.{IsAsking, IsLookin
 
 use crate::next::{is_living, next_of};
 use crate::places::{look_next, looks_up};
-use step_starts::act_states::{Met, Own, Refusal, Work};
-use step_starts::begin_acts::met_name;
-use step_starts::call_plans::Next;
-use step_starts::call_stages::{ActiveCall, Stage, Told};
-use step_starts::frame_words::CompWord;
-use step_starts::spk_nums::StageEnd;
-use step_starts::stage_look::{Found, Look};
-use step_starts::stage_thread::Alive;
-use step_starts::step_lands::{go_on, goes_on, refused};
+use begin_acts::met_name;
+use spk_nums::StageEnd;
+use step_lands::act_states::call_plans::Next;
+use step_lands::act_states::frame_words::CompWord;
+use step_lands::act_states::stage_look::{Found, Look};
+use step_lands::act_states::stage_thread::Alive;
+use step_lands::act_states::{Met, Own, Refusal, Work};
+use step_lands::call_stages::{ActiveCall, Stage, Told};
+use step_lands::{go_on, goes_on, refused};
 use step_starts::{found_free, found_held};
 
 /// A step of the question whether the core's component lives.

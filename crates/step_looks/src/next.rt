@@ -12,8 +12,8 @@ ghost use Rattle.step_starts.specs.call_plans.specs.declared.plans.Spot.TheVaria
 ghost use Rattle.step_starts.specs.call_plans.specs.declared.plans.Nth.TheVariants.{First};
 ghost use Rattle.step_starts.specs.call_plans.specs.declared.plans.Target.TheVariants.{Free, Held, Nowhere};
 
-use step_starts::call_plans::{Caps, Name, Next, Nth, Spot, Target, Wanted, plan_of};
-use step_starts::spk_nums::{Call, CapId, Kind, Rights};
+use spk_nums::{Call, CapId, Kind, Rights};
+use step_lands::act_states::call_plans::{Caps, Name, Next, Nth, Spot, Target, Wanted, plan_of};
 
 /// Whether a call asks first that its core's component lives, as its plan says.
 #[inline]

@@ -13,14 +13,14 @@ ghost use Rattle.step_starts.specs.call_plans.specs.declared.plans.Nth.TheVarian
 ghost use Rattle.step_starts.specs.call_stages.specs.Steps.{call_after, landed, next_by, told};
 
 use crate::next::next_of;
+use begin_acts::{begin_touch, frame_of, reads_of};
+use spk_nums::{Call, CapId, EntryNo, FrameNo, PageNo, Reply, Value};
+use step_lands::act_states::call_plans::{Next, Nth, Spot};
+use step_lands::act_states::stage_look::Look;
+use step_lands::act_states::{Own, Refusal, Tail, Work};
+use step_lands::call_stages::{ActiveCall, Stage, Told};
+use step_lands::{decide, go_on, land, refused};
 use step_starts::act_begins;
-use step_starts::act_states::{Own, Refusal, Tail, Work};
-use step_starts::begin_acts::{begin_touch, frame_of, reads_of};
-use step_starts::call_plans::{Next, Nth, Spot};
-use step_starts::call_stages::{ActiveCall, Stage, Told};
-use step_starts::spk_nums::{Call, CapId, EntryNo, FrameNo, PageNo, Reply, Value};
-use step_starts::stage_look::Look;
-use step_starts::step_lands::{decide, go_on, land, refused};
 
 /// What comes next of the call: a look-up, or its act.
 #[inline]

@@ -5,10 +5,4 @@
 
 mod starts;
 
-pub use begin_acts;
 pub use starts::{act_begins, found_free, found_held};
-pub use step_lands;
-pub use step_lands::{
-    act_states, call_plans, call_stages, frame_words, spk_nums, stage_look, stage_pins,
-    stage_thread, word_map,
-};

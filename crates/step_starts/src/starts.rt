@@ -15,21 +15,21 @@ ghost use Rattle.step_lands.specs.call_plans.specs.declared.plans.Nth.TheVariant
 ghost use Rattle.step_lands.specs.call_stages.specs.Steps.{call_after, landed, told};
 ghost use Rattle.step_lands.specs.entry_words.specs.declared.entry.Entry.TheVariants.{Held};
 
-use begin_acts::act_counts::{cap_due, stamp_in};
+use act_counts::{cap_due, stamp_in};
 use begin_acts::begin_act;
+use spk_nums::{Call, Cap, FrameNo, Kind, Rights};
+use step_lands::act_states::call_plans::Nth;
+use step_lands::act_states::entry_words::Entry;
+use step_lands::act_states::stage_look::Found;
+use step_lands::act_states::stage_pins::Pin;
+use step_lands::act_states::stage_quiet::{Close, Quiet};
+use step_lands::act_states::stage_tcap::{Charge, Pair, PairWork};
+use step_lands::act_states::stage_thread::Claim;
 use step_lands::act_states::{
     Act, Fill, Invoking, InvokingAt, Own, Refusal, Returning, ReturningAt, SwitchAt, Switching,
     Work,
 };
-use step_lands::call_plans::Nth;
 use step_lands::call_stages::{ActiveCall, Stage, Told};
-use step_lands::entry_words::Entry;
-use step_lands::spk_nums::{Call, Cap, FrameNo, Kind, Rights};
-use step_lands::stage_look::Found;
-use step_lands::stage_pins::Pin;
-use step_lands::stage_quiet::{Close, Quiet};
-use step_lands::stage_tcap::{Charge, Pair, PairWork};
-use step_lands::stage_thread::Claim;
 use step_lands::{go_on, land, refused};
 
 /// The act of a call without a target begins.

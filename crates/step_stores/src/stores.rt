@@ -7,10 +7,10 @@ ghost use Rattle.step_lands.specs.call_stages.specs.Steps.{call_after, told, too
 ghost use Rattle.step_lands.specs.call_stages.specs.declared.stages.Told.TheVariants as told_as;
 
 use crate::tails::{commits, stamp_of, took_tail};
+use spk_nums::StageEnd;
+use step_lands::act_states::stage_thread::{Pop, Push};
 use step_lands::act_states::{Own, Tail};
 use step_lands::call_stages::{ActiveCall, Stage};
-use step_lands::spk_nums::StageEnd;
-use step_lands::stage_thread::{Pop, Push};
 use step_lands::{go_on, goes_on};
 
 /// A step of a call that is decided: a store, a commit, or the load of the clock.

@@ -11,12 +11,12 @@ ghost use Rattle.step_lands.specs.word_map.specs.Places.{size_of};
 use crate::words::{
     dead_op, flushed_op, idle_op, release_op, release_took, running_op, shared_more, shared_op,
 };
+use spk_nums::{Reply, Stamp, WordOp};
 use step_lands::act_states::Tail;
+use step_lands::act_states::stage_pins::AcquiredCounts;
+use step_lands::act_states::stage_thread::{Pop, Push};
+use step_lands::act_states::word_map::Layout;
 use step_lands::call_stages::Stage;
-use step_lands::spk_nums::{Reply, Stamp, WordOp};
-use step_lands::stage_pins::AcquiredCounts;
-use step_lands::stage_thread::{Pop, Push};
-use step_lands::word_map::Layout;
 
 /// The next step of a decided call that has acquired these counts: its next store, then the commit of its earliest count, then the
 /// load of the clock; counters that the call has frozen, and their frame's word, are stored after the commits. The counts are of the

@@ -14,14 +14,14 @@ ghost use Rattle.step_lands.specs.tcap_words.specs.Thread.{DepthFits};
 ghost use Rattle.step_lands.specs.word_map.specs.Moves.{op_of};
 ghost use Rattle.step_lands.specs.word_map.specs.Places.{size_of};
 
+use spk_nums::{CoreNo, EntryNo, FrameNo, StageEnd, Stamp, Value, WordOp};
+use step_lands::act_states::frame_words::{CompWord, LiveWord};
+use step_lands::act_states::stage_quiet::FlushMark;
+use step_lands::act_states::stage_sweep::Thaw;
+use step_lands::act_states::stage_tcap::Pair;
+use step_lands::act_states::tcap_words::ThreadWord;
+use step_lands::act_states::word_map::Layout;
 use step_lands::act_states::{Release, Tail};
-use step_lands::frame_words::{CompWord, LiveWord};
-use step_lands::spk_nums::{CoreNo, EntryNo, FrameNo, StageEnd, Stamp, Value, WordOp};
-use step_lands::stage_quiet::FlushMark;
-use step_lands::stage_sweep::Thaw;
-use step_lands::stage_tcap::Pair;
-use step_lands::tcap_words::ThreadWord;
-use step_lands::word_map::Layout;
 
 /// The store of the word of a number that is dead since a stamp.
 #[inline]

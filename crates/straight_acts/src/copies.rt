@@ -9,13 +9,13 @@ ghost use Rattle.straight_looks.specs.step_starts.specs.call_stages.specs.declar
 ghost use Rattle.straight_looks.specs.step_starts.specs.stage_look.specs.declared.look.Look.TheVariants.{AtRoot};
 
 use crate::fills::fill_free;
+use act_counts::act_states::Own;
+use act_counts::act_states::call_plans::{Caps, Name, Wanted};
+use act_counts::act_states::entry_words::Entry;
+use act_counts::act_states::stage_look::{Found, Look};
+use act_counts::act_states::stage_quiet::Quiet;
+use call_stages::ActiveCall;
 use spk_nums::{Call, Cap, CapId, EntryNo, FrameNo, Kind, Rights};
-use straight_looks::act_states::Own;
-use straight_looks::step_lands::entry_words::Entry;
-use straight_looks::step_lands::stage_quiet::Quiet;
-use straight_looks::step_starts::call_plans::{Caps, Name, Wanted};
-use straight_looks::step_starts::call_stages::ActiveCall;
-use straight_looks::step_starts::stage_look::{Found, Look};
 use straight_looks::{Asked, Followed, Named, Went, Words, ask, follow, name, rest_looking};
 
 /// Makes a copy straight through.

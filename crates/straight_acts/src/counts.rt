@@ -7,13 +7,13 @@ ghost use Rattle.straight_looks.specs.step_starts.specs.call_stages.specs.Fits.{
 ghost use Rattle.straight_looks.specs.step_starts.specs.stage_pins.specs.declared.pin.Pin.TheVariants.{AtLoad};
 
 use crate::rests::rest_acquiring;
+use act_counts::act_states::call_plans::Caps;
+use act_counts::act_states::frame_words::{CountWord, Hold};
+use act_counts::act_states::stage_pins::{Acquired, Pin, Pinned};
+use act_counts::act_states::{Act, Own};
+use call_stages::ActiveCall;
 use spk_nums::{Call, FrameNo};
 use straight_looks::Words;
-use straight_looks::act_states::{Act, Own};
-use straight_looks::step_starts::call_plans::Caps;
-use straight_looks::step_starts::call_stages::ActiveCall;
-use straight_looks::step_starts::frame_words::{CountWord, Hold};
-use straight_looks::step_starts::stage_pins::{Acquired, Pin, Pinned};
 
 /// How the acquiring of a count ended.
 #[derive(Clone, Copy)]

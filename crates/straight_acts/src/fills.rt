@@ -12,14 +12,14 @@ ghost use Rattle.straight_looks.specs.step_starts.specs.call_stages.specs.declar
 
 use crate::counts::{Acquiring, acquire};
 use crate::rests::rest_acting_counted;
+use act_counts::act_states::call_plans::Caps;
+use act_counts::act_states::stage_look::Found;
+use act_counts::act_states::stage_pins::Acquired;
+use act_counts::act_states::{Act, Fill, Own};
+use act_counts::cap_due;
+use call_stages::ActiveCall;
 use make_acts::fill_op;
 use spk_nums::{Call, Cap, Value};
-use straight_looks::act_states::{Act, Fill, Own};
-use straight_looks::step_starts::begin_acts::act_counts::cap_due;
-use straight_looks::step_starts::call_plans::Caps;
-use straight_looks::step_starts::call_stages::ActiveCall;
-use straight_looks::step_starts::stage_look::Found;
-use straight_looks::step_starts::stage_pins::Acquired;
 use straight_looks::{Went, Words, exit, rest_acting};
 
 /// A free place is filled, after the count of the capability's frame is acquired if it has one.

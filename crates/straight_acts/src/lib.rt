@@ -13,5 +13,4 @@ mod rests;
 
 pub use copies::copy;
 pub use removals::{remove, unmap};
-pub use straight_looks;
 pub use straight_looks::{Went, Words, look};

@@ -12,14 +12,14 @@ ghost use Rattle.straight_looks.specs.step_starts.specs.stage_look.specs.declare
 
 use crate::counts::{Acquiring, acquire};
 use crate::rests::rest_acting_counted;
+use act_counts::act_states::call_plans::{Caps, Name, Wanted};
+use act_counts::act_states::stage_look::{Found, Look};
+use act_counts::act_states::stage_pins::Acquired;
+use act_counts::act_states::stage_quiet::{Close, drawn};
+use act_counts::act_states::{Act, Own};
+use act_counts::cap_due;
+use call_stages::ActiveCall;
 use spk_nums::{Call, Cap, CapId, FrameNo, Kind, Rights, Value};
-use straight_looks::act_states::{Act, Own};
-use straight_looks::step_lands::stage_quiet::{Close, drawn};
-use straight_looks::step_starts::begin_acts::act_counts::cap_due;
-use straight_looks::step_starts::call_plans::{Caps, Name, Wanted};
-use straight_looks::step_starts::call_stages::ActiveCall;
-use straight_looks::step_starts::stage_look::{Found, Look};
-use straight_looks::step_starts::stage_pins::Acquired;
 use straight_looks::{
     Asked, Followed, Named, Went, Words, ask, exit, follow, held_at, name, rest_acting,
     rest_looking,

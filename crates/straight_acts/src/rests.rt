@@ -8,11 +8,11 @@ ghost use Rattle.straight_looks.specs.Standing.{going};
 ghost use Rattle.straight_looks.specs.step_starts.specs.act_states.specs.declared.work.Work.TheVariants as work;
 ghost use Rattle.straight_looks.specs.step_starts.specs.call_stages.specs.declared.stages.Stage.TheVariants.{Undecided};
 
+use act_counts::act_states::call_plans::Caps;
+use act_counts::act_states::stage_pins::{Acquired, AcquiredCounts, Pin};
+use act_counts::act_states::{Act, Work};
+use call_stages::{ActiveCall, Stage};
 use spk_nums::Call;
-use straight_looks::act_states::{Act, Work};
-use straight_looks::step_starts::call_plans::Caps;
-use straight_looks::step_starts::call_stages::{ActiveCall, Stage};
-use straight_looks::step_starts::stage_pins::{Acquired, AcquiredCounts, Pin};
 
 /// After so many steps its first count is acquired here for this act.
 #[inline(never)]

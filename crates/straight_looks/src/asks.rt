@@ -15,10 +15,10 @@ use crate::exits::entry_op;
 use crate::rests::rest_asking;
 use core_words::Words;
 use spk_nums::{Call, EntryNo, WordOp};
-use step_starts::act_states::Own;
-use step_starts::call_stages::ActiveCall;
-use step_starts::frame_words::{CompWord, LiveWord};
-use step_starts::stage_thread::Alive;
+use step_lands::act_states::Own;
+use step_lands::act_states::frame_words::{CompWord, LiveWord};
+use step_lands::act_states::stage_thread::Alive;
+use step_lands::call_stages::ActiveCall;
 
 /// The entry of a call, and the question whether its core's component lives, as its plan asks.
 #[inline(always)]

@@ -1,7 +1,7 @@
 //! How far a part of a straight call went.
 
 use spk_nums::{Cap, Reply};
-use step_starts::stage_look::Look;
+use step_lands::act_states::stage_look::Look;
 
 /// How far a straight call went.
 #[derive(Clone, Copy)]

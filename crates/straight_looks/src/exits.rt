@@ -12,8 +12,8 @@ ghost use Rattle.straight_looks.specs.Standing.{IsAnswered};
 
 use core_words::Words;
 use spk_nums::{Reply, Stamp, Value, WordOp};
-use step_starts::act_states::Own;
-use step_starts::frame_words::CoreWord;
+use step_lands::act_states::Own;
+use step_lands::act_states::frame_words::CoreWord;
 
 /// The first step of a call: the core word is stored, with inside set and the stamp of the last exit.
 #[inline(always)]

@@ -27,5 +27,3 @@ pub use looks::look;
 pub use names::{follow, name};
 pub use rests::{rest_acting, rest_asking, rest_looking};
 pub use shows::{HeldAt, held_at};
-pub use step_starts;
-pub use step_starts::{act_states, step_lands};

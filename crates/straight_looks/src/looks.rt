@@ -12,9 +12,9 @@ use crate::exits::exit;
 use crate::names::name;
 use core_words::Words;
 use spk_nums::{Call, Rights, Value};
-use step_starts::act_states::Own;
-use step_starts::call_plans::{Caps, Name, Wanted};
-use step_starts::call_stages::ActiveCall;
+use step_lands::act_states::Own;
+use step_lands::act_states::call_plans::{Caps, Name, Wanted};
+use step_lands::call_stages::ActiveCall;
 
 /// Makes a look straight through.
 #[inline(always)]

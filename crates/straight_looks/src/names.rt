@@ -14,10 +14,10 @@ use crate::rests::rest_looking;
 use crate::shows::{held_at, is_wanted};
 use core_words::Words;
 use spk_nums::{Call, Cap};
-use step_starts::act_states::Own;
-use step_starts::call_plans::{Caps, Name};
-use step_starts::call_stages::ActiveCall;
-use step_starts::stage_look::Look;
+use step_lands::act_states::Own;
+use step_lands::act_states::call_plans::{Caps, Name};
+use step_lands::act_states::stage_look::Look;
+use step_lands::call_stages::ActiveCall;
 
 /// The load of a root's entry, in a look-up that stands before it.
 #[inline(always)]

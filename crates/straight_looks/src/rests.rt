@@ -9,12 +9,12 @@ ghost use Rattle.step_starts.specs.call_stages.specs.declared.stages.Stage.TheVa
 ghost use Rattle.straight_looks.specs.Standing.{going};
 
 use spk_nums::Call;
-use step_starts::act_states::{Act, Work};
-use step_starts::call_plans::Caps;
-use step_starts::call_stages::{ActiveCall, Stage};
-use step_starts::stage_look::Look;
-use step_starts::stage_pins::AcquiredCounts;
-use step_starts::stage_thread::Alive;
+use step_lands::act_states::call_plans::Caps;
+use step_lands::act_states::stage_look::Look;
+use step_lands::act_states::stage_pins::AcquiredCounts;
+use step_lands::act_states::stage_thread::Alive;
+use step_lands::act_states::{Act, Work};
+use step_lands::call_stages::{ActiveCall, Stage};
 
 /// After so many steps it is asked here whether the core's component lives.
 #[inline(never)]

@@ -10,10 +10,10 @@ ghost use Rattle.step_starts.specs.stage_look.specs.Shown.{end_of_frames, entry_
 ghost use Rattle.straight_looks.specs.Standing.{Holds};
 
 use spk_nums::{Cap, EntryNo, Kind};
-use step_starts::act_states::Own;
-use step_starts::call_plans::{Caps, Name};
-use step_starts::stage_look::{Found, Look};
-use step_starts::step_lands::entry_words::Entry;
+use step_lands::act_states::Own;
+use step_lands::act_states::call_plans::{Caps, Name};
+use step_lands::act_states::entry_words::Entry;
+use step_lands::act_states::stage_look::{Found, Look};
 
 /// A place that holds a capability.
 #[derive(Clone, Copy)]

@@ -11,13 +11,13 @@ ghost use Rattle.straight_looks.specs.step_starts.specs.act_states.specs.declare
 ghost use Rattle.straight_looks.specs.step_starts.specs.call_stages.specs.Fits.{IsCore, IsOwn};
 ghost use Rattle.straight_looks.specs.step_starts.specs.call_stages.specs.declared.stages.Stage.TheVariants.{Enter, Undecided};
 
+use act_counts::act_states::call_plans::Caps;
+use act_counts::act_states::stage_quiet::FlushMark;
+use act_counts::act_states::stage_tcap::Charge;
+use act_counts::act_states::{Act, Own, OwnChange};
+use act_counts::charged_in;
+use call_stages::ActiveCall;
 use spk_nums::{Call, StageEnd, Value};
-use straight_looks::act_states::{Act, Own, OwnChange};
-use straight_looks::step_lands::stage_quiet::FlushMark;
-use straight_looks::step_lands::stage_tcap::Charge;
-use straight_looks::step_starts::begin_acts::act_counts::charged_in;
-use straight_looks::step_starts::call_plans::Caps;
-use straight_looks::step_starts::call_stages::ActiveCall;
 use straight_looks::{Went, Words, entry_op, exit, rest_acting};
 
 /// Makes a tick straight through.

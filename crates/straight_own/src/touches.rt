@@ -9,12 +9,12 @@ ghost use Rattle.straight_looks.specs.step_starts.specs.call_stages.specs.Fits.{
 ghost use Rattle.straight_looks.specs.step_starts.specs.call_stages.specs.declared.stages.Stage.TheVariants.{Enter, Undecided};
 ghost use Rattle.straight_own.specs.Touching.{IsTouching};
 
+use act_counts::act_states::call_plans::Caps;
+use act_counts::act_states::{Act, Own, OwnChange, Touching, Work, WorkStep};
+use begin_acts::begin_touch;
+use call_stages::ActiveCall;
 use frame_acts::{mapping_of, translated};
 use spk_nums::{Call, PageNo};
-use straight_looks::act_states::{Act, Own, OwnChange, Touching, Work, WorkStep};
-use straight_looks::step_starts::begin_acts::begin_touch;
-use straight_looks::step_starts::call_plans::Caps;
-use straight_looks::step_starts::call_stages::ActiveCall;
 use straight_looks::{Asked, Went, Words, ask, exit, held_at, rest_acting};
 
 /// Makes a touch straight through.

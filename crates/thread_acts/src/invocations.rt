@@ -21,16 +21,16 @@ ghost use Rattle.act_counts.specs.word_map.specs.Places.{size_of};
 ghost use Rattle.act_counts.specs.spk_nums.specs.WordSteps.{place_in};
 ghost use Rattle.std.specs.Prelude.{◌<◌, ◌≡◌};
 
+use act_counts::act_states::frame_words::{CompWord, LiveWord};
+use act_counts::act_states::stage_quiet::drawn;
+use act_counts::act_states::stage_thread::{Pop, Push};
+use act_counts::act_states::tcap_words::StackWord;
+use act_counts::act_states::word_map::Layout;
 use act_counts::act_states::{
     Act, Invoking, InvokingAt, OwnChange, Refusal, Returning, ReturningAt, Tail, Work, WorkStep,
 };
-use act_counts::frame_words::{CompWord, LiveWord};
-use act_counts::spk_nums::{EntryNo, FrameNo, Reply, Stamp, Value, WordOp};
-use act_counts::stage_quiet::drawn;
-use act_counts::stage_thread::{Pop, Push};
-use act_counts::tcap_words::StackWord;
-use act_counts::word_map::Layout;
 use act_counts::{frame_in, next_work, refuse};
+use spk_nums::{EntryNo, FrameNo, Reply, Stamp, Value, WordOp};
 
 /// The next step of an entering. What it names is of the layout's machine.
 #[inline]

@@ -15,11 +15,11 @@ ghost use Rattle.act_counts.specs.word_map.specs.Places.{size_of};
 ghost use Rattle.act_counts.specs.spk_nums.specs.WordSteps.{place_in};
 ghost use Rattle.std.specs.Prelude.{◌<◌, ◌≡◌};
 
+use act_counts::act_states::stage_tcap::{Pair, PairAt};
+use act_counts::act_states::word_map::Layout;
 use act_counts::act_states::{Act, Refusal, Tail, Work, WorkStep};
 use act_counts::refuse;
-use act_counts::spk_nums::{Reply, StageEnd, Value, WordOp};
-use act_counts::stage_tcap::{Pair, PairAt};
-use act_counts::word_map::Layout;
+use spk_nums::{Reply, StageEnd, Value, WordOp};
 
 /// The next step of a call on two temporal capabilities, which are below the layout's frames.
 #[inline]

@@ -24,13 +24,13 @@ ghost use Rattle.act_counts.specs.word_map.specs.Places.{size_of};
 ghost use Rattle.act_counts.specs.spk_nums.specs.WordSteps.{place_in};
 ghost use Rattle.std.specs.Prelude.{◌<◌, ◌≡◌};
 
+use act_counts::act_states::stage_quiet::drawn;
+use act_counts::act_states::stage_thread::{Claim, Claimed};
+use act_counts::act_states::tcap_words::ThreadWord;
+use act_counts::act_states::word_map::Layout;
 use act_counts::act_states::{Act, OwnChange, Refusal, SwitchAt, Switching, Tail, Work, WorkStep};
-use act_counts::spk_nums::{CoreNo, EntryNo, FrameNo, Reply, StageEnd, Stamp, Value, WordOp};
-use act_counts::stage_quiet::drawn;
-use act_counts::stage_thread::{Claim, Claimed};
-use act_counts::tcap_words::ThreadWord;
-use act_counts::word_map::Layout;
 use act_counts::{claim_undo, frame_in, idle_again, next_work};
+use spk_nums::{CoreNo, EntryNo, FrameNo, Reply, StageEnd, Stamp, Value, WordOp};
 
 /// The next step of a switch. What it names is of the layout's machine.
 #[inline]

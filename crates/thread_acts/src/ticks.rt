@@ -12,11 +12,11 @@ ghost use Rattle.act_counts.specs.word_map.specs.Places.{size_of};
 ghost use Rattle.act_counts.specs.spk_nums.specs.WordSteps.{place_in};
 ghost use Rattle.std.specs.Prelude.{◌<◌, ◌≡◌};
 
+use act_counts::act_states::stage_tcap::Charge;
+use act_counts::act_states::word_map::Layout;
 use act_counts::act_states::{Act, OwnChange, Tail, Work, WorkStep};
-use act_counts::spk_nums::{Reply, StageEnd, Value, WordOp};
-use act_counts::stage_tcap::Charge;
-use act_counts::word_map::Layout;
 use act_counts::{charged_in, ticks_of};
+use spk_nums::{Reply, StageEnd, Value, WordOp};
 
 /// The next step of a charge. Its temporal capability is below the layout's frames.
 #[inline]
