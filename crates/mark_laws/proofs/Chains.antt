@@ -1,19 +1,22 @@
 -- A line is judged word by word, and so is its first word found that does not fit.
 use Rattle.std.proofs.Common.{◌≡◌, ℕ, ◌+◌, ◌<◌, ◌≤◌, Bool, true, false, ◌&&◌, List, length, drop, Option, Some, None, Result, Ok, Err, refl}
 use Rattle.std.proofs.Common.{sym, ◌∙◌, ap, arith, if◌then◌else◌, nat_le, slice_get, is_some, ok_or, leb-true, leb-false, le-leb}
-use Rattle.fault_texts.specs.call_reader.specs.{frame_kind_of, frame_kind_at}
+use Rattle.std.proofs.Common.{option_and_then, unwrap_or}
+use Rattle.fault_texts.specs.call_reader.specs.{frame_kind_of, frame_kind_at, object_of, object_at}
 use Rattle.fault_texts.specs.line_reader.specs.{◌>>=◌, number_of}
 use Rattle.fault_texts.specs.line_reader.specs.declared.cause.Cause.TheVariants.{S1, S2, S3, S4, S5}
 use Rattle.fault_texts.specs.line_reader.specs.Arguments.{word_at, number_at, end_at}
 use Rattle.fault_texts.specs.line_forms.specs.{declared.context.Context.Context, declared.slots.Slot.Slot}
 use Rattle.fault_texts.specs.line_forms.specs.{declared.slots.Slot.TheVariants.Number, declared.slots.Slot.TheVariants.MayNumber}
 use Rattle.fault_texts.specs.line_forms.specs.{declared.slots.Slot.TheVariants.FrameKind as Frame_kind, declared.slots.Slot.TheVariants.End}
+use Rattle.fault_texts.specs.line_forms.specs.{declared.slots.Slot.TheVariants.Object as Object_slot}
+use Rattle.fault_texts.specs.line_forms.specs.Calls.{number_in, kind_in, object_in}
 use Rattle.fault_texts.specs.line_forms.specs.{Slots.is_number_between, Lines.slot_at, Fitting.fits_by, Fitting.fits}
 use Rattle.mark_laws.specs.Marked.{number_cause, cause_by, cause_at}
 use Rattle.mark_laws.proofs.Gets.{cond_true, cond_false, get_drop, get_end, get_low, get_none, get_some}
-use Rattle.{fault_texts.specs.spk_nums.specs.declared.kinds.FrameKind.FrameKind}
+use Rattle.fault_texts.specs.spk_nums.specs.{declared.kinds.FrameKind.FrameKind, declared.verbs.Object.Object}
 use Rattle.{fault_texts.specs.line_reader.specs.declared.cause.Cause.Cause, fault_texts.specs.Places.misfit_from}
-use Rattle.{mark_laws.proofs.Words.kinds_same}
+use Rattle.mark_laws.proofs.Words.{kinds_same, objects_same, worth}
 
 module _ (here : Context) (ws : List (List ℕ)) where
   -- the first place from this one on whose word does not fit
@@ -71,14 +74,14 @@ module _ (here : Context) (ws : List (List ℕ)) where
   may_ranges least most = record { fit = λ w. refl; cause = λ w. refl }
 
   module _ {B : Type 0} (p least most : ℕ) (s : Slot) (ranges : Ranges s least most) (slot : slot_at here ws p ≡ s) (k : ℕ → Result B Cause)
-      (next : (n : ℕ) → p + 1 ≤ length ws → Judged (p + 1) (k n)) where
+      (next : (n : ℕ) → number_in ws p ≡ n → p + 1 ≤ length ws → Judged (p + 1) (k n)) where
     range_by : (w : List ℕ) (n : ℕ) → slice_get ws p ≡ Some w → number_of w ≡ Some n → (b : Bool) → (nat_le least n && nat_le n most) ≡ b
         → Judged p ((if b then Ok n else Err S5) >>= k)
     range_by w n e en true eb =
         let low : p < length ws = get_low ws p w e in
         let fine : fits here ws p ≡ true =
         fits_is p s (Some w) slot e ∙ ranges.fit w ∙ ap (λ (o : Option ℕ). is_number_between o least most) en ∙ eb in
-        lift p (k n) (walk_fit p w e fine) (next n (omega arith))
+        lift p (k n) (walk_fit p w e fine) (next n (worth number_of 0 w n (slice_get ws p) e en) (omega arith))
     range_by w n e en false eb =
         let bad : fits here ws p ≡ false =
         fits_is p s (Some w) slot e ∙ ranges.fit w ∙ ap (λ (o : Option ℕ). is_number_between o least most) en ∙ eb in
@@ -103,14 +106,14 @@ module _ (here : Context) (ws : List (List ℕ)) where
     judge_range = word_by (slice_get ws p) refl
 
   pub judge_number : {B : Type 0} (p least most : ℕ) (k : ℕ → Result B Cause) → slot_at here ws p ≡ Number least most
-      → ((n : ℕ) → p + 1 ≤ length ws → Judged (p + 1) (k n)) → Judged p (number_at ws p least most >>= k)
+      → ((n : ℕ) → number_in ws p ≡ n → p + 1 ≤ length ws → Judged (p + 1) (k n)) → Judged p (number_at ws p least most >>= k)
   judge_number p least most k slot next = judge_range p least most (Number least most) (number_ranges least most) slot k next
 
   -- a word that names something
   module _ {B X : Type 0} (p : ℕ) (s : Slot) (read : List ℕ → Option X)
       (fit : (w : List ℕ) → fits_by here ws s (Some w) ≡ is_some (read w))
       (cause : (w : List ℕ) → cause_by s (Some w) ≡ S2) (slot : slot_at here ws p ≡ s) (k : X → Result B Cause)
-      (next : (w : List ℕ) → slice_get ws p ≡ Some w → (x : X) → read w ≡ Some x → p + 1 ≤ length ws → Judged (p + 1) (k x)) where
+      (d : X) (next : (x : X) → unwrap_or (option_and_then read (slice_get ws p)) d ≡ x → p + 1 ≤ length ws → Judged (p + 1) (k x)) where
     meant_by : (w : List ℕ) → slice_get ws p ≡ Some w → (m : Option X) → read w ≡ m → Judged p (ok_or m S2 >>= k)
     meant_by w e None em =
         let bad : fits here ws p ≡ false =
@@ -120,7 +123,7 @@ module _ (here : Context) (ws : List (List ℕ)) where
         let low : p < length ws = get_low ws p w e in
         let fine : fits here ws p ≡ true =
         fits_is p s (Some w) slot e ∙ fit w ∙ ap (λ (o : Option X). is_some o) em in
-        lift p (k x) (walk_fit p w e fine) (next w e x em (omega arith))
+        lift p (k x) (walk_fit p w e fine) (next x (worth read d w x (slice_get ws p) e em) (omega arith))
 
     pub judge_name : (o : Option (List ℕ)) → slice_get ws p ≡ o
         → Judged p ((ok_or o S3 >>= λ (w : List ℕ). ok_or (read w) S2) >>= k)
@@ -128,10 +131,16 @@ module _ (here : Context) (ws : List (List ℕ)) where
     judge_name (Some w) e = meant_by w e (read w) refl
 
   pub judge_kind : {B : Type 0} (p : ℕ) (k : FrameKind → Result B Cause) → slot_at here ws p ≡ Frame_kind
-      → ((x : FrameKind) → p + 1 ≤ length ws → Judged (p + 1) (k x)) → Judged p (frame_kind_at ws p >>= k)
+      → ((x : FrameKind) → kind_in ws p ≡ x → p + 1 ≤ length ws → Judged (p + 1) (k x)) → Judged p (frame_kind_at ws p >>= k)
   unfolding frame_kind_at word_at
   judge_kind p k slot next =
-      judge_name p Frame_kind frame_kind_of (λ w. kinds_same w) (λ w. refl) slot k (λ w e x named low. next x low) (slice_get ws p) refl
+      judge_name p Frame_kind frame_kind_of (λ w. kinds_same w) (λ w. refl) slot k FrameKind.Untyped next (slice_get ws p) refl
+
+  pub judge_object : {B : Type 0} (p : ℕ) (k : Object → Result B Cause) → slot_at here ws p ≡ Object_slot
+      → ((x : Object) → object_in ws p ≡ x → p + 1 ≤ length ws → Judged (p + 1) (k x)) → Judged p (object_at ws p >>= k)
+  unfolding object_at word_at
+  judge_object p k slot next =
+      judge_name p Object_slot object_of (λ w. objects_same w) (λ w. refl) slot k Object.Table next (slice_get ws p) refl
 
   -- the end of a line, at a place where it may end and no word may stand
   module _ {B : Type 0} (p : ℕ) (s : Slot) (x : B) (low : p ≤ length ws) (slot : slot_at here ws p ≡ s)

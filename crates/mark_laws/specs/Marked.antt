@@ -2,10 +2,11 @@
 use Rattle.fault_texts.specs as low
 use Rattle.std.specs.Prelude.{◌≡◌, ℕ, List, ◌∷◌, length, true, Option, Some, None, Result, Ok, Err, slice_get}
 use low.line_reader.specs.declared.cause.Cause.TheVariants.{S1, S2, S3, S4, S5}
-use low.call_reader.specs.{declared.first_words.Verb.Verb, FirstWords.first_word, declared.first_words.FirstWord.FirstWord}
+use low.call_reader.specs.{FirstWords.first_word, declared.first_words.FirstWord.FirstWord}
 use low.line_forms.specs.{declared.context.Context.Context, declared.slots.Slot.Slot, Contexts.at_stage, Starts.start_of, Lines.slot_at}
 use low.line_forms.specs.{Fitting.fits, declared.context.Stage.Stage, declared.starts.Start.Start}
 use low.{line_reader.specs.declared.cause.Cause.Cause, line_reader.specs.Numerals.number_of, Places.first_misfit}
+use low.spk_nums.specs.declared.verbs.Verb.{Verb}
 
 -- for which cause a word is no number of a range: it is no number, or out of range
 abbrev pub number_cause : Option ℕ → Cause

@@ -4,7 +4,7 @@
 #![tactic(auto)]
 
 ghost use Rattle.std.specs.Prelude.{ℕ, List, ◌∷◌};
-ghost use Rattle.fault_texts.specs.call_reader.specs.declared.first_words.Verb.{Verb};
+ghost use Rattle.fault_texts.specs.spk_nums.specs.declared.verbs.Verb.{Verb};
 ghost use Rattle.fault_texts.specs.call_reader.specs.CallLines.{call_line};
 ghost use Rattle.fault_texts.specs.line_forms.specs.declared.context.Context.{Context};
 ghost use Rattle.mark_laws.specs.Marked.{GoesByMark, in_list, IsCallLine};
