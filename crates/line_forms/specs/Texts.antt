@@ -1,9 +1,28 @@
 -- What may stand at a place, as it is told.
-use Rattle.std.specs.Prelude.{ℕ, nat_le, List, ◌++◌, codes, decimal, if◌then◌else◌}
+use Rattle.std.specs.Prelude.{ℕ, nat_le, List, [], ◌∷◌, ◌++◌, drop, filter, Bool, true, false, ◌||◌, not, codes, decimal, if◌then◌else◌}
+use Rattle.call_reader.specs.{FirstWords.verbs, FirstWords.is_late, spk_nums.specs.declared.verbs.Verb.Verb, spk_nums.specs.Verbs.verb_word}
 use Rattle.line_forms.specs.{declared.context.Reading.Reading, declared.context.Stage.Stage, declared.slots.Slot.Slot}
 use Rattle.line_forms.specs.declared.context.Reading.TheVariants as reading
 use Rattle.line_forms.specs.declared.context.Stage.TheVariants as stage
 use Rattle.line_forms.specs.declared.slots.Slot.TheVariants as slot
+
+-- the words of these calls, a space before each
+abbrev pub verb_words : List Verb → List ℕ
+verb_words [] = []
+verb_words (v ∷ vs) = codes " " ++ verb_word v ++ verb_words vs
+
+-- those of the calls that each version of the language has
+abbrev pub early_words : List ℕ
+early_words = verb_words (filter (λ v. not (is_late v)) verbs)
+
+-- the call charges ticks
+abbrev pub charges : Verb → Bool
+charges Verb.Tick = true
+charges _ = false
+
+-- those of them that charge none
+abbrev pub free_words : List ℕ
+free_words = verb_words (filter (λ v. not (is_late v || charges v)) verbs)
 
 -- the words with which a line of a script may begin, and those of a given history after its head
 abbrev pub script_words : Stage → List ℕ
@@ -14,7 +33,7 @@ script_words stage.Grants = codes "grant"
 script_words stage.Calls = codes "calls epochs core order"
 script_words stage.Epochs = codes "epochs core order"
 script_words stage.Lists = codes "core order"
-script_words stage.List = codes "core order look copy remove grow shrink retype make map unmap touch flush gate kill call ret switch tick transfer delegate test"
+script_words stage.List = codes "core order" ++ early_words
 script_words stage.Order = codes ""
 script_words stage.Asks = codes "core"
 script_words stage.AskList = codes "core send recv"
@@ -30,7 +49,7 @@ history_words s = script_words s
 
 -- the words with which a line may begin of what `sched` reads, where no call charges ticks
 abbrev pub sched_words : Stage → List ℕ
-sched_words stage.List = codes "core order look copy remove grow shrink retype make map unmap touch flush gate kill call ret switch transfer delegate test"
+sched_words stage.List = codes "core order" ++ free_words
 sched_words s = script_words s
 
 -- the words with which a line may begin
@@ -56,7 +75,7 @@ more_words r _ = codes ""
 
 -- after the words of calls, those that there are from version 3 on
 abbrev pub third_words : ℕ → List ℕ
-third_words version = if nat_le 3 version then codes " part replenish" else codes ""
+third_words version = if nat_le 3 version then verb_words (filter is_late verbs) else codes ""
 
 -- they stand after the words with which a line of a list may begin
 abbrev pub late_words : ℕ → Stage → List ℕ
@@ -71,7 +90,7 @@ due_text version r s (slot.MayNumber least most) = codes "nothing more, or a num
 due_text version r s (slot.Core cores) = codes "a core, a number below " ++ decimal cores
 due_text version r s slot.FrameKind = codes "untyped user kernel"
 due_text version r s slot.Object = codes "table leaf pages pleaf thread tcap comp"
-due_text version r s slot.Verb = codes "look copy remove grow shrink retype make map unmap touch flush gate kill call ret switch tick transfer delegate test" ++ third_words version
+due_text version r s slot.Verb = drop 1 early_words ++ third_words version
 due_text version r s (slot.Item cores) = codes "a number below " ++ decimal cores ++ codes ", alone or with < ! or . right after it"
 due_text version r s slot.ReplyName = codes "ok no-slot empty wrong-cap occupied quiescing unflushed frame-kind out-of-range referenced not-empty dead deep bottom running short unlike too-many same epochs-spent raced busy fault calls-spent no-right"
 due_text version r s slot.Value = codes "nothing more, a number, range table leaf pages pleaf comp gate thread tcap link page preempts stays"
