@@ -1,11 +1,11 @@
 -- What a call puts is the same in two states that are one for all that the machine has, one of them reached.
 use Rattle.call_judge.specs.same_changes.specs.kernel_laws.proofs as low
-use low.{◌≡◌, ℕ, Bool, true, refl, ◌∙◌, ap, Option, Some, None, IsTrue, false≢true, Capability, Call, Copy, Make as make_call, Gate, Part}
+use low.{◌≡◌, ℕ, Bool, true, refl, ◌∙◌, ap, Option, Some, None, IsTrue, false≢true, Capability, Call, Copy}
 use low.{Reply, State, Slot, Under, only, to_use, own, reached, Judged, Refused, Found, named, name_of, is_node, none_some, some_inj, Kind}
 use Rattle.call_judge.specs.same_changes.proofs.{Twins, RootGood, reached_same, named_same}
 use Rattle.origin_rules.specs.{Put, puts, puts_by}
 use Rattle.call_judge.specs.same_changes.proofs.Reaching.{IsSlot, own_good, own_same, slot_good}
-use Rattle.origin_rules.specs.declared.chains.Step.TheVariants.{Copied, Made, Gated, Parted}
+use Rattle.origin_rules.specs.declared.chains.Step.TheVariants.{Copied}
 use Rattle.origin_rules.specs.Chains.{slot_named, slot_under, put_from}
 use Rattle.{call_judge.specs.same_changes.proofs.TimeRules.named_table, origin_rules.specs.declared.chains.Step.Step}
 
@@ -38,12 +38,13 @@ module _ {t s : State} {o : ℕ → Bool} {c : ℕ} (w : Twins t s o c) where
   under_same n b = ap (λ j. reached t c (Under (name_of j) b)) (named_same w n (to_use (only Kind.Table)))
       ∙ reached_same w (Under (name_of (named s c n (to_use (only Kind.Table)))) b) (table_good n b)
 
+  from_same : (what : Step) (n x b : ℕ)
+      → put_from what (slot_named t c n) (slot_under t c x b) ≡ put_from what (slot_named s c n) (slot_under s c x b)
+  from_same what n x b = λ i. put_from what (named_slot_same n i) (under_same x b i)
+
   puts_same : (call : Call) → puts t c call ≡ puts s c call
-  puts_same (Copy a x b rights) = λ i. put_from Copied (named_slot_same a i) (under_same x b i)
-  puts_same (make_call what r f x b) = λ i. put_from Made (named_slot_same r i) (under_same x b i)
-  puts_same (Gate k x b) = λ i. put_from Gated (named_slot_same k i) (under_same x b i)
-  puts_same (Part r f n x b) = λ i. put_from Parted (named_slot_same r i) (under_same x b i)
-  puts_same call = refl
+  puts_same (Copy a x b rights) = from_same Copied a x b
+  puts_same _ = search from_same
 
   pub puts_by_same : (call : Call) (r : Reply) → puts_by t c call r ≡ puts_by s c call r
   puts_by_same call (Reply.Ok v) = puts_same call
@@ -63,12 +64,12 @@ module _ {t s : State} {o : ℕ → Bool} {c : ℕ} (w : Twins t s o c) where
         at = slot_good w (Under (name_of (named s c x (to_use (only Kind.Table)))) b) p.at (table_good x b) parts.at;
       }
 
+  no_slots : (p : Put) → None ≡ Some p → AreSlots p
+  no_slots p e = absurd (none_some p e)
+
   put_slots : (call : Call) (p : Put) → puts s c call ≡ Some p → AreSlots p
   put_slots (Copy a x b rights) p e = slots_of Copied a x b p e
-  put_slots (make_call what r f x b) p e = slots_of Made r x b p e
-  put_slots (Gate k x b) p e = slots_of Gated k x b p e
-  put_slots (Part r f n x b) p e = slots_of Parted r x b p e
-  put_slots call p e = absurd (none_some p e)
+  put_slots _ p e = search (slots_of, no_slots)
 
   pub puts_slots : (call : Call) (r : Reply) (p : Put) → puts_by s c call r ≡ Some p → AreSlots p
   puts_slots call (Reply.Ok v) p e = put_slots call p e
