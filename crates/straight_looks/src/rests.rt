@@ -4,7 +4,7 @@
 //! those expected writes none.
 
 ghost use Rattle.std.specs.Prelude.{◌≡◌, [], Some};
-ghost use Rattle.step_starts.specs.act_states.specs.declared.work.Work.TheVariants.{Act, Lookup};
+ghost use Rattle.step_starts.specs.act_states.specs.declared.work.Work.TheVariants as work;
 ghost use Rattle.step_starts.specs.call_stages.specs.declared.stages.Stage.TheVariants.{Living, Undecided};
 ghost use Rattle.straight_looks.specs.Standing.{going};
 
@@ -40,7 +40,7 @@ pub fn rest_looking(
     look: Look,
     found: &Caps,
 )
-    ensures { active.new ≡ Some (going call.now steps (Undecided (Lookup look)) found.now []) }
+    ensures { active.new ≡ Some (going call.now steps (Undecided (work.Lookup look)) found.now []) }
 {
     *active = Some(ActiveCall {
         steps,
@@ -63,7 +63,7 @@ pub fn rest_acting(
     act: &Act,
     found: &Caps,
 )
-    ensures { active.new ≡ Some (going call.now steps (Undecided (Act act.now)) found.now []) }
+    ensures { active.new ≡ Some (going call.now steps (Undecided (work.Act act.now)) found.now []) }
 {
     *active = Some(ActiveCall {
         steps,

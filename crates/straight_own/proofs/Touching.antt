@@ -62,20 +62,23 @@ touch_followed own call steps w m look b c at fits goes none going is =
     rw (goes, at, none, is, (touch_fits own call steps m b at fits).all, going) refl
 
 -- the entry of the page: its mapping is answered, and cached
-pub touch_met : (own : Own) (call : Call) (steps w : ℕ) (m : Touching) (place : Found) (k : Capability) (b c : Core)
+pub touch_met : (own own' : Own) (call : Call) (steps w : ℕ) (m : Touching) (place : Found) (k : Capability) (item : Translation) (v : Value)
+    (b c : Core)
     → b ≡ acts own call steps (act.Touch m) [] → IsCore b → c ≡ absorbed b w → m.cached ≡ None → Holds own m.look w place k
-    → IsAnswered (own_changed own (Caches (mapping_of m k))) (Ok (translated (mapping_of m k))) c
-touch_met own call steps w m place k b c at fits goes none holds = record {
+    → item ≡ mapping_of m k → own' ≡ own_changed own (Caches item) → v ≡ translated item
+    → IsAnswered own' (Ok v) c
+touch_met own own' call steps w m place k item v b c at fits goes none holds maps caches is = record {
   call = call;
   steps = steps + 1;
   found = [];
   drawn = None;
-  is = rw (goes, at, none, (touch_fits own call steps m b at fits).all, holds.found, holds.held) refl;
+  is =
+      rw (goes, at, is, caches, maps, none, (touch_fits own call steps m b at fits).all, holds.found, holds.held) refl;
 }
 
 -- what a core has of its own fits with one translation more
-pub cached_fits : (own : Own) (item : Translation) → IsOwn own → IsOwn (own_changed own (Caches item))
-cached_fits own item h = record {
+pub cached_fits : (own own' : Own) (item : Translation) → own' ≡ own_changed own (Caches item) → IsOwn own → IsOwn own'
+cached_fits own own' item is h = rw is (record {
   shape = h.shape;
   core = h.core;
   thread = h.thread;
@@ -88,4 +91,4 @@ cached_fits own item h = record {
   most_calls = h.most_calls;
   most_epochs = h.most_epochs;
   made = h.made;
-}
+})
