@@ -1,17 +1,16 @@
 -- What a call puts at its target is counted: the call changes references, and the frame that it names there is in its footprint.
 use Rattle.step_ways.specs.act_states.proofs as low
-use low.{◌≡◌, ◌≢◌, ℕ, ℤ, ◌+◌, ◌++◌, ◌==◌, ◌^◌, ◌<◌, ◌≤◌, Bool, true, false, if◌then◌else◌, leb as nat_le, List, [], ◌∷◌, Option, Some, None}
-use low.{IsTrue, refl, sym, ◌∙◌, ap, subst, Capability, cap_of, Call, Copy, Remove, Shrink, Unmap, Retype, Tick, Gate, Kill, Grow, Touch}
-use low.{Flush, Map, Ret, Transfer, Delegate, Test, Switch, State, named_by, only, Found, only_is, at_place, First, Second, plan_for, Leads}
-use low.{LeadsIn, put_by, to_use, suits, Part, Replenish, part_of, has_frames, found, false≢true}
-use Rattle.plan_ways.specs.kernel_history.specs.{counts_references, is_one_of, footprint_frames, Look, Make as make_call, of_kind}
+use low.{◌≡◌, ◌≢◌, ℕ, ◌+◌, ◌++◌, ◌==◌, ◌^◌, ◌<◌, ◌≤◌, Bool, true, false, if◌then◌else◌, leb as nat_le, List, [], ◌∷◌, Option, Some, None}
+use low.{IsTrue, refl, sym, ◌∙◌, ap, subst, Capability, cap_of, Call, Copy, Gate, Grow}
+use low.{Map, State, named_by, only, Found, only_is, at_place, First, Second, plan_for, Leads}
+use low.{LeadsIn, put_by, to_use, suits, part_of, has_frames, found, false≢true}
+use Rattle.plan_ways.specs.kernel_history.specs.{counts_references, is_one_of, footprint_frames, of_kind}
 use Rattle.step_ways.specs.act_states.specs.{gate_if, gate_to}
 use Rattle.step_ways.specs.kernel_laws.proofs.{name_parts, kept}
 use Rattle.plan_ways.specs.spk_nums.specs.declared.kinds.Kind.TheVariants.{Comp as comp_kind, Gate as gate_kind}
 use Rattle.step_ways.specs.act_states.specs.Acts.{kept_of, part_in}
 use Rattle.count_invariant.proofs.LinkCounts.{link_footprint, page_footprint}
 use Rattle.{plan_ways.specs.kernel_invariant.proofs.Facts.Suits}
-use Rattle.{plan_ways.specs.spk_nums.specs.declared.calls.Call.TheVariants.Call as call_gate}
 use Rattle.{plan_ways.specs.spk_nums.specs.declared.rights.Rights.Rights, plan_ways.proofs.InFootprint.footprint_found}
 
 cap_same : (j k : Capability) → Some j ≡ Some k → j ≡ k
@@ -30,15 +29,26 @@ part_unnamed (Some range) g n k puts f names_it = by (has_frames (found range) g
         false≢true (sym (ap (is_one_of f) none) ∙ names_it)
     by false h = absurd (cc)
 
--- A call that fills its target with what names a frame changes references, and that frame is in its footprint: a line a call.
+-- So is nothing that a call without a target puts.
+part_counts : (o : Option Capability) (g n : ℕ) (k : Capability) → part_in o g n ≡ Some k
+    → (f : ℕ) → is_one_of f (named_by k.kind k.frame) ≡ true → IsTrue false
+part_counts o g n k puts f names_it = absurd (part_unnamed o g n k puts f names_it)
+
+part_footprint : (xs : List ℕ) (o : Option Capability) (g n : ℕ) (k : Capability) → part_in o g n ≡ Some k
+    → (f : ℕ) → is_one_of f (named_by k.kind k.frame) ≡ true → is_one_of f xs ≡ true
+part_footprint xs o g n k puts f names_it = absurd (part_unnamed o g n k puts f names_it)
+
+none_counts : (k : Capability) → None ≡ Some k → IsTrue false
+none_counts k puts = absurd (cc)
+
+none_footprint : (xs : List ℕ) (f : ℕ) (k : Capability) → None ≡ Some k → is_one_of f xs ≡ true
+none_footprint xs f k puts = absurd (cc)
+
+-- A call that fills its target with what names a frame changes references, and that frame is in its footprint.
 pub put_counts : (call : Call) (ks : List Capability) (read : Option ℕ) (k : Capability) → put_by call ks read ≡ Some k
     → (d : ℕ) → is_one_of d (named_by k.kind k.frame) ≡ true → IsTrue (counts_references call)
 put_counts (Copy a u b rights) ks read k puts d names_it = refl
-put_counts (Grow u i l) ks read k puts d names_it = refl
-put_counts (Map p v r f w) ks read k puts d names_it = refl
-put_counts (Gate n u b) ks read k puts d names_it = refl
-put_counts (Part r g n u b) ks read k puts d names_it = absurd (part_unnamed (at_place ks First) g n k puts d names_it)
-put_counts _ ks read k puts d names_it = absurd (cc)
+put_counts _ ks read k puts d names_it = search (part_counts, none_counts)
 
 -- A name that wants a component has led to one.
 wanted_is : (j k : Capability) → of_kind (to_use (only comp_kind)) j ≡ Found k → k.kind ≡ comp_kind
@@ -86,5 +96,5 @@ put_footprint s c (Grow u i l) ks read k puts lead f names_it = link_footprint s
 put_footprint s c (Map p v r g w) ks read k puts lead f names_it = page_footprint s c p v r g w (at_place ks Second) k puts f names_it
 put_footprint s c (Gate n u b) ks read k puts lead f names_it = gate_footprint s c n u b ks
     (at_place ks First) read k refl puts lead f names_it
-put_footprint s c (Part r g n u b) ks read k puts lead f names_it = absurd (part_unnamed (at_place ks First) g n k puts f names_it)
-put_footprint s c _ ks read k puts lead f names_it = absurd (cc)
+put_footprint s c _ ks read k puts lead f names_it =
+    search (part_footprint, none_footprint)

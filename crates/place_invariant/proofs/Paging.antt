@@ -1,13 +1,15 @@
 -- Which places that a call fills are those of page tables.
 use Rattle.count_invariant.specs.act_states.proofs as low
 use low.{◌≡◌, ℕ, ◌&&◌, leb as nat_le, if◌then◌else◌, Bool, true, false, List, [], ◌∷◌, Some, None, refl, sym, ◌∙◌, ap, IsTrue, false≢true}
-use low.{Capability, Setting, IsSetting, Kind, Call, Copy, Grow, Map, Retype, Gate}
+use low.{Capability, Setting, IsSetting, Kind, Call, Grow, Map, Retype}
 use low.{Table, Pages, Frame, Kernel, State, Slot, Named, found, only, Target, Under, InRoot, reached}
-use low.{fits, some_inj, opened, Nowhere, Plan, plan_for, Leads, LeadsIn, NextNothing, NextHeld, NextOwn, NextFree, next_of, Part}
-use low.{to_use, FrameKind}
+use low.{fits, some_inj, opened, Nowhere, Plan, plan_for, Leads, LeadsIn, NextNothing, NextHeld, NextOwn, NextFree}
+use low.{next_of, to_use, FrameKind}
 use Rattle.count_invariant.specs.step_ways.proofs.{events_of, IsLegal, Trace, Open, phase, state_after, sound_of, opened_is}
 use Rattle.count_invariant.specs.kernel_laws.proofs.{is_paging, none_some, root, IsGood, named_good}
 use Rattle.count_invariant.specs.call_plans.specs.declared.plans.Target.TheVariants.{Free, Held, Own}
+use Rattle.count_invariant.specs.call_plans.specs.{of_kind, with_found, names_after, next_in, declared.plans.Name.Name}
+use Rattle.count_invariant.specs.call_plans.specs.declared.plans.{Nth.TheVariants.Second, Spot.TheVariants.Under as under_name}
 use Rattle.place_invariant.proofs.{CompMakes.IsCompMake, CompMakes.comp_make, ObjectMakes.made_of, ObjectMakes.IsObjectMake}
 use Rattle.place_invariant.proofs.{ObjectMakes.object_make, Outside.none_left_of, Vacancy.in_leaf, Vacancy.in_pleaf}
 use Rattle.{count_invariant.specs.step_ways.proofs.Make as make_call, count_invariant.specs.act_states.specs.Acts.fills_page}
@@ -67,15 +69,25 @@ module _ (setup : Setting) (setting : IsSetting setup) (t : Trace) (legal : IsLe
   none_free : (call : Call) (ks : List Capability) → next_of (plan_for call) ks ≡ NextFree target → IsFreeTarget (plan_for call).target
   none_free call ks next = free_target (plan_for call) ks target next
 
-  -- a line a call: the place that it fills is one of a page table exactly where `fills_page` says so
+  not_free : (call : Call) (ks : List Capability) → next_of (plan_for call) ks ≡ NextFree target
+      → (IsFreeTarget (plan_for call).target → ⊥) → is_paging (s.frame at.node) ≡ false
+  not_free call ks next none = absurd (none (none_free call ks next))
+
+  -- a place of the table to which the second of two names has led
+  under_second : (call : Call) → phase t c ≡ Open call → (x : Name) (u b : ℕ) (ks : List Capability)
+      → Leads (LeadsIn s c) (x ∷ of_kind Kind.Table u ∷ []) [] ks
+      → next_in (with_found [] ks) (names_after (x ∷ of_kind Kind.Table u ∷ []) ks) (Free (under_name Second b)) ≡ NextFree target
+      → is_paging (s.frame at.node) ≡ false
+  under_second call is x u b (k ∷ j ∷ []) lead next =
+      ap is_paging (in_leaf setup setting t legal c call is u b j at lead.1.0
+      (ap (reached s c) (target_in (Under (found j) b) target next) ∙ reaches))
+  under_second call is x u b [] lead next = absurd (cc)
+  under_second call is x u b (k ∷ []) lead next = absurd (cc)
+  under_second call is x u b (k ∷ j ∷ i ∷ ks) lead next = absurd lead.1.1
+
+  -- the place that a call fills is one of a page table exactly where `fills_page` says so
   pub paging_by : (call : Call) → phase t c ≡ Open call → (ks : List Capability)
       → Leads (LeadsIn s c) (plan_for call).names [] ks → next_of (plan_for call) ks ≡ NextFree target → PagingIs call ks
-  paging_by (Copy a u b rights) is (k ∷ j ∷ []) lead next =
-      ap is_paging (in_leaf setup setting t legal c (Copy a u b rights) is u b j at lead.1.0
-      (ap (reached s c) (target_in (Under (found j) b) target next) ∙ reaches))
-  paging_by (Copy a u b rights) is [] lead next = absurd (cc)
-  paging_by (Copy a u b rights) is (k ∷ []) lead next = absurd (cc)
-  paging_by (Copy a u b rights) is (k ∷ j ∷ i ∷ ks) lead next = absurd lead.1.1
   paging_by (Grow u i l) is (k ∷ j ∷ []) lead next =
       let good : IsGood s k × IsTrue (root k.kind) =
       named_good s (opened (events_of t)) c u (to_use root) k (sound_of setup setting t legal)
@@ -103,17 +115,5 @@ module _ (setup : Setting) (setting : IsSetting setup) (t : Trace) (legal : IsLe
       let make : IsObjectMake s c r f u b what object ks = object_make s c r f u b what object ks of lead none in
       ap is_paging (in_leaf setup setting t legal c (make_call what r f u b) is u b make.two.table at make.two.second
       (ap (reached s c) (target_in (Under (found make.two.table) b) target (sym make.next ∙ next)) ∙ reaches)))
-  paging_by (Gate n u b) is (k ∷ j ∷ []) lead next =
-      ap is_paging (in_leaf setup setting t legal c (Gate n u b) is u b j at lead.1.0
-      (ap (reached s c) (target_in (Under (found j) b) target next) ∙ reaches))
-  paging_by (Gate n u b) is [] lead next = absurd (cc)
-  paging_by (Gate n u b) is (k ∷ []) lead next = absurd (cc)
-  paging_by (Gate n u b) is (k ∷ j ∷ i ∷ ks) lead next = absurd lead.1.1
-  paging_by (Part r f n u b) is (k ∷ j ∷ []) lead next =
-      ap is_paging (in_leaf setup setting t legal c (Part r f n u b) is u b j at lead.1.0
-      (ap (reached s c) (target_in (Under (found j) b) target next) ∙ reaches))
-  paging_by (Part r f n u b) is [] lead next = absurd (cc)
-  paging_by (Part r f n u b) is (k ∷ []) lead next = absurd (cc)
-  paging_by (Part r f n u b) is (k ∷ j ∷ i ∷ ks) lead next = absurd lead.1.1
   paging_by (Retype r f FrameKind.Untyped) is ks lead next = absurd (none_free (Retype r f FrameKind.Untyped) ks next)
-  paging_by call is ks lead next = absurd (none_free call ks next)
+  paging_by call is ks lead next = search (under_second call is, not_free call ks next)
