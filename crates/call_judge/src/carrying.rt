@@ -13,7 +13,7 @@ ghost use Rattle.call_judge.specs.Putting.{answers_value};
 
 use crate::values::is_value;
 use plain_kernel::decide;
-use plain_kernel::seq_state::{Core, Frame, SeqKernel};
+use seq_state::{Core, Frame, SeqKernel};
 use spk_nums::{Call, CoreNo, Memory, Reply, Value};
 use std::alloc::Global;
 

@@ -14,11 +14,11 @@ ghost use Rattle.plain_kernel.specs.seq_plans.specs.Refusals.{Decides};
 ghost use Rattle.call_judge.specs.Judged.{IsOfSort, JudgesExactly};
 
 use crate::carrying::carry_out;
-use plain_kernel::call_plans::plan_of;
-use plain_kernel::seq_lookups::{comp_of, is_live_in};
-use plain_kernel::seq_plans::{Causes, Looked, Reach, look_up, looks_may, one_may};
-use plain_kernel::seq_state::{Core, SeqKernel};
-use plain_kernel::{Family, acts, are_spent, family_of, seq_caps, seq_memory, seq_time};
+use call_plans::plan_of;
+use plain_kernel::{Family, acts, are_spent, family_of};
+use seq_lookups::{comp_of, is_live_in};
+use seq_plans::{Causes, Looked, Reach, look_up, looks_may, one_may};
+use seq_state::{Core, SeqKernel};
 use spk_nums::{Call, CoreNo, Memory, Reply, Value};
 use std::alloc::Global;
 

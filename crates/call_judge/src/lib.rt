@@ -15,5 +15,3 @@ mod deciding;
 mod values;
 
 pub use deciding::decide_by;
-pub use plain_kernel;
-pub use plain_kernel::{seq_lookups, seq_state};

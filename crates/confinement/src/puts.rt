@@ -6,9 +6,9 @@ ghost use Rattle.call_judge.specs.seq_state.specs.Maps.{state_of};
 ghost use Rattle.origin_rules.specs.Chains.{slot_named, slot_under, put_from, puts, puts_by};
 ghost use Rattle.confinement.specs.Links.{put_of};
 
-use call_judge::seq_lookups::{Slot, Target, Wanted, comp_of, named_for, reached};
-use call_judge::seq_state::SeqKernel;
 use origin_rules::Step;
+use seq_lookups::{Slot, Target, Wanted, comp_of, named_for, reached};
+use seq_state::SeqKernel;
 use spk_nums::{Call, CapId, CoreNo, Kind, Reply, Rights};
 
 /// A capability that a call puts: the slot, how it is put, and the slot where its parent stands.

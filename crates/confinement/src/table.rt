@@ -8,8 +8,8 @@ ghost use Rattle.confinement.specs.Links.{chain_from, origin_at, GoOn, IsBelow, 
 
 use crate::chain::Chain;
 use crate::puts::Put;
-use call_judge::seq_lookups::Slot;
 use origin_rules::ChainLink;
+use seq_lookups::Slot;
 use spk_nums::{Cap, EntryNo, FrameNo};
 use std::alloc::{AllocError, Global};
 use std::marker::Model;

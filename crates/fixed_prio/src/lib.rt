@@ -22,6 +22,5 @@ mod scheduling;
 mod turning;
 
 pub use machine::{Machine, call_both};
-pub use plain_kernel;
 pub use sched_rules::{Rule, Task, Turn};
 pub use scheduling::schedule;

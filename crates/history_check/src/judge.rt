@@ -12,8 +12,8 @@ ghost use Rattle.history_check.specs.Judging.{core_of, seen_of, alone_after};
 
 use crate::seen::{At, Seen, is_another_in, is_held_up, no_ones};
 use call_judge::decide_by;
-use call_judge::seq_state::SeqKernel;
 use marked_history::{Mark, Said, Why};
+use seq_state::SeqKernel;
 use spk_nums::{Call, CoreNo, Make, Memory, Reply, Setup};
 use std::alloc::Global;
 

@@ -1,7 +1,7 @@
 //! One decision, judged in a state that a script makes.
 
 use call_judge::decide_by;
-use call_judge::plain_kernel::plain_step;
+use plain_kernel::plain_step;
 use plain_tables::tables;
 use script_reader::{Script, read, read_call};
 use seq_state::SeqKernel;

@@ -6,8 +6,8 @@ ghost use Rattle.plain_kernel.specs.seq_state.specs.kernel_rules.specs.Alone.{al
 ghost use Rattle.plain_kernel.specs.seq_state.specs.Maps.{state_of};
 ghost use Rattle.plain_kernel.specs.seq_lookups.specs.Ranges.{IsInRange};
 
-use plain_kernel::seq_state::SeqKernel;
 use plain_kernel::{acts, are_spent, decide};
+use seq_state::SeqKernel;
 use spk_nums::{Call, CoreNo, Memory, Reply};
 use std::alloc::Global;
 

@@ -5,9 +5,9 @@ ghost use Rattle.plain_kernel.specs.seq_state.specs.Maps.{state_of};
 ghost use Rattle.plain_kernel.specs.seq_lookups.specs.Judged.{judged};
 ghost use Rattle.open_calls.specs.Leads.{lead, lead_line, some_name, names_text};
 
-use plain_kernel::call_plans::{Name, Nth, plan_of};
-use plain_kernel::seq_lookups::{Wanted, named_for};
-use plain_kernel::seq_state::SeqKernel;
+use call_plans::{Name, Nth, plan_of};
+use seq_lookups::{Wanted, named_for};
+use seq_state::SeqKernel;
 use spk_nums::{Call, Cap, CapId, CoreNo, Reply, Rights};
 use std::alloc::AllocError;
 

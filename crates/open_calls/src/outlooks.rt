@@ -8,7 +8,7 @@ ghost use Rattle.open_calls.specs.Outlooks.{IsOutlookWhere};
 use crate::alone::alone;
 use crate::leads::push_names;
 use crate::told::told;
-use plain_kernel::seq_state::SeqKernel;
+use seq_state::SeqKernel;
 use spk_nums::{Call, CoreNo, Memory, Reply};
 use std::alloc::Global;
 

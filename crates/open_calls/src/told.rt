@@ -4,8 +4,8 @@ ghost use Rattle.std.specs.Prelude.{◌≡◌, ◌<◌};
 ghost use Rattle.plain_kernel.specs.seq_state.specs.Maps.{state_of};
 ghost use Rattle.open_calls.specs.Told.{left, referenced, short, told};
 
-use plain_kernel::seq_lookups::{Wanted, named_for, tcap_at};
-use plain_kernel::seq_state::SeqKernel;
+use seq_lookups::{Wanted, named_for, tcap_at};
+use seq_state::SeqKernel;
 use spk_nums::{Call, CapId, CoreNo, FrameArg, FrameKind, FrameNo, Kind, Reply, Rights};
 
 // How many references a frame of the machine has.

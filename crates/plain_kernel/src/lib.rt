@@ -13,10 +13,5 @@ mod families;
 mod step;
 
 pub use families::{Family, decide, family_of};
-pub use seq_caps;
-pub use seq_caps::seq_lookups::seq_state;
 pub use seq_caps::seq_lookups::seq_state::SeqKernel;
-pub use seq_caps::{call_plans, seq_lookups, seq_plans};
-pub use seq_memory;
-pub use seq_time;
 pub use step::{acts, are_spent, plain_step};

@@ -6,9 +6,9 @@ ghost use Rattle.fixed_prio.specs.Machines.{Beside};
 ghost use Rattle.sched_reader.specs.Inputs.{input_view, IsSchedInput};
 ghost use Rattle.sched_run.specs.Made.{IsMade, IsSchedMade, IsSchedFault};
 
-use fixed_prio::plain_kernel::SeqKernel;
 use fixed_prio::{Machine, call_both, schedule};
 use line_reader::ReadFault;
+use plain_kernel::SeqKernel;
 use sched_reader::{SchedInput, read_sched};
 use sched_text::schedule_text;
 use spk_nums::{Call, Make, Memory, Setup};
