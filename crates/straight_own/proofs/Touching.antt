@@ -1,5 +1,5 @@
 -- What the words make of a core whose call touches a page.
-use Rattle.std.proofs.Common.{◌≡◌, ℕ, ◌+◌, List, [], Option, Some, None, refl}
+use Rattle.std.proofs.Common.{◌≡◌, ℕ, ◌+◌, [], Option, Some, None, refl, subst}
 use Rattle.spk_nums.specs.Capability.{Capability}
 use Rattle.spk_nums.specs.declared.calls.Call.{Call}
 use Rattle.spk_nums.specs.declared.calls.Call.TheVariants.{Touch}
@@ -15,15 +15,20 @@ use low.act_states.specs.declared.own.Own.{Own}
 use low.act_states.specs.declared.own.OwnChange.TheVariants.{Caches}
 use low.act_states.specs.declared.touches.Touching.{Touching}
 use low.act_states.specs.declared.work.Act.TheVariants as act
+use low.act_states.specs.declared.work.Work.TheVariants.{Act}
 use low.stage_look.specs.Lookup.{LookFits, look_after, look_end}
 use low.stage_look.specs.Shown.{shown_in}
 use low.stage_look.specs.declared.look.Look.{Look}
 use low.stage_look.specs.declared.look.Found.{Found}
 use low.call_stages.specs.View.{Core}
-use low.call_stages.specs.Cores.{absorbed}
+use low.call_stages.specs.Cores.{absorbed, told_of_step}
 use low.call_stages.specs.Fits.{IsCore, IsOwn}
+use low.call_stages.specs.declared.stages.Absorbed.{Absorbed}
+use low.call_stages.specs.declared.stages.ActiveCall.{ActiveCall}
+use low.call_stages.specs.declared.stages.Stage.TheVariants.{Undecided}
 use Rattle.straight_looks.proofs.Fitting.{act_fits}
-use Rattle.straight_looks.specs.Standing.{Holds, IsAnswered, acts, onward}
+use Rattle.straight_looks.specs.Outcomes.{Fell}
+use Rattle.straight_looks.specs.Standing.{Holds, IsAnswered, acts, going, onward}
 use Rattle.straight_own.specs.Touching.{IsTouching}
 
 -- after the question whether the core's component lives
@@ -74,6 +79,17 @@ touch_met own own' call steps w m place k item v b c at fits goes none holds map
   drawn = None;
   is =
       rw (goes, at, is, caches, maps, none, (touch_fits own call steps m b at fits).all, holds.found, holds.held) refl;
+}
+
+-- it stands where it stood before the step that has found this word
+pub touch_rests : (own : Own) (active : Option ActiveCall) (call : Call) (steps : ℕ) (m : Touching) (b c : Core) (said : Absorbed) (w : ℕ)
+    → active ≡ Some (going call steps (Undecided (Act (act.Touch m))) [] []) → b ≡ acts own call steps (act.Touch m) [] → IsCore b
+    → c ≡ absorbed b w → said ≡ told_of_step b w → Fell own active c said w
+touch_rests own active call steps m b c said w stands at fits goes tells = record {
+  core = rw (goes, at, stands) refl;
+  told = rw (tells, at, stands) refl;
+  fits = rw stands (subst IsCore at fits);
+  in_call = rw stands refl;
 }
 
 -- what a core has of its own fits with one translation more
