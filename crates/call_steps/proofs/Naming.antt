@@ -87,8 +87,6 @@ change_counts own (Caches item) r n is = rw is refl
 
 pub ruleset starting = (ended_went)
 
-pub ruleset entering = (entered, stands_at)
-
 pub ruleset standing = (none_named, stands_at)
 
 pub ruleset naming = (names_at, further)

@@ -68,7 +68,6 @@ pub(crate) fn to_names<W: Words>(
 
 // The entry of a call that does not ask whether its core's component lives, and that names nothing.
 #[inline(always)]
-#[tactic(auto, using(crate::proofs::Naming::entering))]
 fn enter<W: Words>(
     own: &mut Own,
     active: &mut Option<ActiveCall>,
