@@ -222,7 +222,7 @@ fn is_over(how: How, absorbed: &Absorbed, state: &CoreState) -> bool
     }
 }
 
-// The call of a list that an item makes whole: it begins at the turn, is to return, and is made straight through.
+// The call of a list that an item makes whole: it begins at the turn, and is to return.
 #[inline(always)]
 fn whole_call<'a>(list: &'a Vec<Call>, seat: &Seat, turn: &Turn, how: How) -> Option<&'a Call>
     requires listed { (call : Call) → turn.now ≡ Begins call → slice_get list.now.items seat.now.begun ≡ Some call }
