@@ -1,14 +1,14 @@
 -- What an act answers where it begins: nothing, but of a call that is decided where its last name is found.
 use Rattle.act_states.specs as low
 use low.{Quiet, quiet_scan, ◌≡◌, ℕ, ltb as nat_lt, Bool, true, false, List, Option, Some, None, leb as nat_le, at_place, Capability}
-use low.{PageFlags, FrameKind, Call, Copy, Remove, Shrink, Unmap, Retype, Make as make_call, Gate, Kill, Grow, Map, Ret, Switch, Transfer}
-use low.{Delegate, Test, Part, Replenish, Entry, found, Target as place, Under, InRoot, plan_for, fills_with, removes_held, removes_at}
+use low.{PageFlags, FrameKind, Call, Gate}
+use low.{Entry, found, Target as place, Under, InRoot, plan_for, fills_with, removes_held, removes_at}
 use low.{act_begun, types_if, types_at, stamp_in, filling, starts, scans, makes_at, kills_in, kills_at, maps_if, maps_at, parts_at}
-use low.{comps_at, made_begun, invokes_if, invokes_in, invokes_at, returns_if, switches_at, First, Second, Third, Fourth, Kind, looks_under}
-use low.{looks_entry, looks_at, refills_at, PairWork, stage_tcap.specs.Make, stage_tcap.specs.Look as look_call}
+use low.{comps_at, made_begun, invokes_if, invokes_in, invokes_at, returns_if, switches_at, First, Third, Fourth, Kind, looks_under}
+use low.{looks_entry, looks_at, refills_at, stage_tcap.specs.Make, stage_tcap.specs.Look as look_call}
 use low.{stage_look.specs.declared.look.Found.Found, declared.own.Own.Own, declared.objects.NewObject.NewObject, Objects.object_made}
 use low.{declared.work.Act.Act as ActType}
-use Rattle.{act_states.specs.spk_nums.specs.declared.calls.Call.TheVariants.Call as call_gate, call_stages.specs.Steps.decides_at_name}
+use Rattle.{call_stages.specs.Steps.decides_at_name}
 use Rattle.{call_stages.proofs.Answering.NoAnswer, call_stages.proofs.ShareDecisions.shares_no}
 use Rattle.act_states.specs.{phases_of, Acts.starts_if}
 
@@ -132,22 +132,18 @@ pub act_no : (own : Own) (call : Call) (found : List Capability) (read : Option 
     → decides_at_name (plan_for call).decides ≡ false
     → NoAnswer (act_begun own call found read target)
 act_no own (look_call a) found read target not = absurd (cc)
-act_no own (Copy a t b rights) found read target not = fill_no own _ false target
-act_no own (Grow t i l) found read target not = fill_no own _ _ target
-act_no own (Map p v r f w) found read target not = maps_no own (at_place found Second) f w target
-act_no own (Remove t b) found read target not = remove_no own.core target
-act_no own (Shrink t i) found read target not = remove_no own.core target
-act_no own (Unmap p v) found read target not = remove_no own.core target
-act_no own (Retype r f k) found read target not = types_no own (at_place found First) f k
-act_no own (make_call what range frame table slot) found read target not = made_no own what found frame target
-act_no own (Gate c t b) found read target not = fill_no own _ false target
-act_no own (Kill k) found read target not = kills_no own (at_place found First)
-act_no own (call_gate g) found read target not = invokes_no own (at_place found First)
-act_no own Ret found read target not = return_no (nat_le own.depth 1) own
-act_no own (Switch h q) found read target not = switches_no own (at_place found First) (at_place found Second)
-act_no own (Transfer a b m) found read target not = shares_no own.core (PairWork.Transfer m) (at_place found First) (at_place found Second)
-act_no own (Delegate a b m) found read target not = shares_no own.core (PairWork.Delegate m) (at_place found First) (at_place found Second)
-act_no own (Test a b) found read target not = shares_no own.core PairWork.Test (at_place found First) (at_place found Second)
-act_no own (Replenish a m) found read target not = refills_no own m (at_place found First)
-act_no own (Part r f n t b) found read target not = parts_no own (at_place found First) f n target
-act_no own call found read target not = tt
+act_no own _ found read target not =
+    search (
+      fill_no own,
+      maps_no own,
+      remove_no own.core,
+      types_no own,
+      made_no own,
+      kills_no own,
+      invokes_no own,
+      return_no,
+      switches_no own,
+      shares_no own.core,
+      refills_no own,
+      parts_no own,
+    )

@@ -1,8 +1,8 @@
 -- When a call is decided, and what a step of it may decide.
 use Rattle.act_states.specs as low
 use low.{Quiet, quiet_after, quiet_end, Pin, Pinned, Acquired, pin_after, pin_end, ◌≡◌, ℕ, ℤ, ◌+◌, ◌==◌, ◌&&◌, Bool, true, false, List, []}
-use low.{◌∷◌, length, Option, Some, None, refl, leb as nat_le, pushed, Capability, FrameKind, Call, Copy, Remove, Shrink, Unmap, Retype}
-use low.{Make as make_call, Tick, Gate, Kill, Grow, Flush, Map, Ret, Switch, Transfer, Delegate, Test, Part, Replenish, Reply, Entry, found}
+use low.{◌∷◌, length, Option, Some, None, refl, leb as nat_le, pushed, Capability, FrameKind, Call, Retype}
+use low.{Make as make_call, Reply, Entry, found}
 use low.{is_link, end_by_link, place_end, Look, AtRoot, AtLeaf, AtEntry, StageEnd, Name, Nowhere, Plan, plan_for, alive_end, alive_after}
 use low.{Alive, refusal_of, refuse, took_act, reads_of, act_begun, starts, CompWord, read_first, next_step, met_free, met_held, touches_if}
 use low.{with_found, names_after, next_in, next_of, Next, NextName, NextFree, NextHeld, NextOwn, NextNothing}
@@ -14,10 +14,7 @@ use low.{declared.own.Own.Own, declared.lookups.Met.Met, declared.lookups.Met.Th
 use low.{declared.work.Act.Act as ActType, declared.work.Work.Work, declared.work.Work.TheVariants.Lookup}
 use low.{declared.work.Work.TheVariants.Read, declared.work.Work.TheVariants.Scan, declared.work.Work.TheVariants.Acquire}
 use low.{declared.work.Work.TheVariants.Act, declared.work.Tail.Tail, declared.work.Tail.TheVariants.Nothing}
-use low.{declared.work.Tail.TheVariants.Quiesce, declared.work.Tail.TheVariants.Unmark, declared.work.Tail.TheVariants.StoreDead}
-use low.{declared.work.Tail.TheVariants.StoreFlush, declared.work.Tail.TheVariants.Release, declared.work.Tail.TheVariants.StoreLive}
-use low.{declared.work.Tail.TheVariants.Push as push_tail, declared.work.Tail.TheVariants.Pop as pop_tail}
-use low.{declared.work.Tail.TheVariants.StoreRunning, declared.work.Tail.TheVariants.StoreIdle, declared.work.Tail.TheVariants.Share}
+use low.{declared.work.Tail.TheVariants.Release}
 use low.{declared.work.WorkStep.WorkStep, declared.work.WorkStep.TheVariants.Goes, declared.work.WorkStep.TheVariants.Acquires}
 use low.{declared.work.WorkStep.TheVariants.Refuses as refuses_to, declared.work.WorkStep.TheVariants.Answers}
 use low.{declared.work.WorkStep.TheVariants.Changes as work_changes}
@@ -28,7 +25,6 @@ use Rattle.call_stages.proofs.{Answering.NoAnswer, Answering.IsOver, Ends.act_un
 use low.{call_plans.specs.any_cap, call_plans.specs.plan_of_retype, call_plans.specs.plan_of_make, stage_look.specs.Lookup.root_end}
 use low.{stage_look.specs.declared.look.Found.Found, call_plans.specs.declared.plans.Target.Target, declared.refusals.Refusal.Refusal}
 use Rattle.{act_states.specs.spk_nums.specs.Rights.neither}
-use Rattle.{act_states.specs.spk_nums.specs.declared.calls.Call.TheVariants.Call as call_gate}
 use Rattle.{act_states.proofs.Refusing.refusal_refuses, call_stages.specs.declared.stages.Stage.Stage}
 use Rattle.{call_stages.specs.declared.stages.ActiveCall.ActiveCall, call_stages.proofs.Beginning.target_no}
 use Rattle.{call_stages.proofs.Beginning.starts_no, call_stages.proofs.Beginning.act_no}
@@ -88,20 +84,11 @@ work_turns own a (Act act) found = landed_turns a (took_act own.layout act found
 
 tail_turns : (a : ActiveCall) (r : Reply) (drawn : Option ℕ) (tail : Tail) (counts : List Acquired) (found : ℕ)
     → Turns (Some r) (GoesOn (went_with a (tail_counts tail counts) (took_tail r drawn tail counts found)))
-tail_turns a r drawn (Quiesce close) counts found = refl
-tail_turns a r drawn (Unmark f word) counts found = refl
-tail_turns a r drawn (StoreDead life stamp) counts found = refl
-tail_turns a r drawn (StoreFlush core stamp) counts found = refl
-tail_turns a r drawn (StoreLive l live f word) counts found = refl
-tail_turns a r drawn (push_tail push) counts found = refl
-tail_turns a r drawn (pop_tail pop) counts found = refl
-tail_turns a r drawn (StoreRunning f core depth old old_depth) counts found = refl
-tail_turns a r drawn (StoreIdle f depth) counts found = refl
-tail_turns a r drawn (Share p) counts found = refl
 tail_turns a r drawn Nothing [] found = refl
 tail_turns a r drawn Nothing (x ∷ xs) found = refl
 tail_turns a r drawn (Release release) [] found = refl
 tail_turns a r drawn (Release release) (x ∷ xs) found = refl
+tail_turns a r drawn tail counts found = refl
 
 stage_turns : (own : Own) (a : ActiveCall) (stage : Stage) (found : ℕ) → Turns (reply_at stage) (took_at own a stage found)
 stage_turns own a Enter found = enter_turns _ own a
@@ -349,35 +336,10 @@ landed_decides a (work_changes r change drawn tail) over = tt
 begun_over : (own : Own) (call : Call) (k : Capability) → decides_at_name (plan_for call).decides ≡ true
     → IsOver (act_begun own call (k ∷ []) None None)
 begun_over own (look_call a) k is = tt
-begun_over own (Copy a t b rights) k is = absurd (cc)
-begun_over own (Grow t i l) k is = absurd (cc)
-begun_over own (Map p v r f w) k is = absurd (cc)
-begun_over own (Remove t b) k is = absurd (cc)
-begun_over own (Shrink t i) k is = absurd (cc)
-begun_over own (Unmap p v) k is = absurd (cc)
 begun_over own (Retype r f Untyped) k is = absurd (cc)
-begun_over own (Retype r f User) k is = absurd (cc)
-begun_over own (Retype r f Kernel) k is = absurd (cc)
-begun_over own (make_call Make.Table r f t b) k is = absurd (cc)
-begun_over own (make_call Make.Leaf r f t b) k is = absurd (cc)
-begun_over own (make_call Make.Pages r f t b) k is = absurd (cc)
-begun_over own (make_call Make.Pleaf r f t b) k is = absurd (cc)
 begun_over own (make_call (Make.Thread comp) r f t b) k is = absurd (cc)
-begun_over own (make_call (Make.Tcap sched quality) r f t b) k is = absurd (cc)
 begun_over own (make_call (Make.Comp table pages live) r f t b) k is = absurd (cc)
-begun_over own Flush k is = absurd (cc)
-begun_over own (Tick n) k is = absurd (cc)
-begun_over own (Gate c t b) k is = absurd (cc)
-begun_over own (Kill c) k is = absurd (cc)
-begun_over own (call_gate g) k is = absurd (cc)
-begun_over own Ret k is = absurd (cc)
-begun_over own (Switch h q) k is = absurd (cc)
-begun_over own (Transfer a b m) k is = absurd (cc)
-begun_over own (Delegate a b m) k is = absurd (cc)
-begun_over own (Test a b) k is = absurd (cc)
-begun_over own (Replenish a m) k is = absurd (cc)
-begun_over own (Part r f n t b) k is = absurd (cc)
-begun_over own call k is = tt
+begun_over own _ k is = absurd (cc)
 
 zero_of : (found : List Capability) → (length found + 1 == 1) ≡ true → found ≡ []
 zero_of [] is = refl
