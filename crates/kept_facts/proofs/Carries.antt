@@ -9,8 +9,8 @@ use low.{Want, Slot, Named, root_at, found, Target, Under, InRoot, usable, linke
 use low.{phase, state_after, own_left, own_read, last_left, HasReached, IsLegal, IsInFootprint, Name, Plan, Leads, Next, NextName, NextFree}
 use low.{NextHeld, NextOwn, NextNothing, next_of, Entry, entry_of_word, Thing, PlaceOf, Frame, Kernel, Comp, comp_in, first_of_stack}
 use low.{NumberOf, FrameOf, thread_in, stamp, AtCompare, AtDraw, AtStore, Quiet, AtCore, AtFlush, Pin, Fill as fill_act}
-use low.{Remove as remove_act, Retype as type_act, Make as make_act, Outside, Tick as tick_act, Flush as flush_act, Kill as kill_act}
-use low.{Untype as untype_act, Map as map_act, MakeComp as comp_act, Invoke as invoke_act, Return as return_act, Touch as touch_act}
+use low.{Make as make_act, Outside, Kill as kill_act}
+use low.{Untype as untype_act, Map as map_act, MakeComp as comp_act, Touch as touch_act}
 use low.{Share as share_act, Refill as refill_act, Switch as switch_act, Work, Lookup, Read, Scan, Acquire, Act, reads_of, ActiveCall}
 use low.{due_of, IsCount, HasFound, LooksUp, own_in, NamesAre, LooksFor, IsScanned, MayFill, KnowsClose, KnowsAct, KnowsQuiet, KnowsStore}
 use low.{acts, AtComp, AtLive, KnowsWork, KnowsUndecided, ChargesBy, IsSpot, HasStored, KnowsMakingAt, HasComp, ReadIs, ReadBefore}
@@ -484,8 +484,6 @@ module _ (setup : Setting) (setting : IsSetting setup) (t : Trace) (e : Step) (l
   pub act_on : (of : Call) (plan : Plan) (caps : List Capability) (upto : ℕ) (act : ActOf) → ReadsSame setup t e c act
       → KnowsAct setup t c of plan caps upto act → KnowsAct setup (e ∷ t) c of plan caps upto act
   act_on of plan caps upto (fill_act fill) same has = fill_on of plan caps upto fill same.entries same.users has
-  act_on of plan caps upto (remove_act close cap) same has = close_on of plan caps close cap same.entries has
-  act_on of plan caps upto (type_act typing) same has = typing_on of caps typing same.frames has
   act_on of plan caps upto (make_act m) same has = record {
     spot = spot_on plan caps upto m.fill.node m.fill.entry m.fill.word (same.entries m.fill.node m.fill.entry) has.spot;
     makes = has.makes;
@@ -503,7 +501,6 @@ module _ (setup : Setting) (setting : IsSetting setup) (t : Trace) (e : Step) (l
   }
   act_on of plan caps upto (Outside node entry word) same has =
       record { spot = spot_on plan caps upto node entry word (same.entries node entry) has.spot; outside = has.outside }
-  act_on of plan caps upto (tick_act charge) same has = tick_on of charge same.entries has
   act_on of plan caps upto (touch_act m) same has = record {
     call_is = has.call_is;
     root = has.root ∙ ap (λ k. k.pages) (sym carries.stays.comp);
@@ -512,7 +509,6 @@ module _ (setup : Setting) (setting : IsSetting setup) (t : Trace) (e : Step) (l
     first = has.first;
     looks = looks_on (Under (root_at m.pages) m.page) m.look has.looks;
   }
-  act_on of plan caps upto (flush_act by) same has = has
   act_on of plan caps upto (kill_act m) same has = record {
     kills = has.kills;
     core = has.core;
@@ -549,8 +545,7 @@ module _ (setup : Setting) (setting : IsSetting setup) (t : Trace) (e : Step) (l
     at = untyping_on m.frame m.at same.frames same.counts
         (λ looks. same.rests m.frame (ap (λ b. b && m.frame == m.frame) looks ∙ eq-eqb m.frame m.frame refl)) has.at;
   }
-  act_on of plan caps upto (invoke_act m) same has = invoking_on of caps m has
-  act_on of plan caps upto (return_act m) same has = returning_on of m has
+  act_on of plan caps upto _ same has = search (close_on of plan caps, typing_on of caps, tick_on of, invoking_on of caps, returning_on of)
 
   scan_on : (a : ActiveCall) (at by upto flushes : ℕ) (page : Bool) (act : ActOf) → ReadsSame setup t e c act
       → KnowsScan setup t c a at by upto flushes page act → KnowsScan setup (e ∷ t) c a at by upto flushes page act
