@@ -3,8 +3,8 @@ use Rattle.seq_state.specs.kernel_rules.proofs as low
 use low.{◌≡◌, ◌≢◌, inl, inr, ℕ, ◌<◌, ◌≤◌, ◌+◌, ◌^◌, ◌==◌, Bool, true, false, not, ◌&&◌, ltb as nat_lt, leb as nat_le, if◌then◌else◌, refl}
 use low.{sym, ap, subst, ◌∙◌, arith, zero, suc, drop, length, List, [], ◌∷◌, Option, Some, None, IsTrue, IsFalse, is_some, IsSome}
 use low.{IsSomeAnd, min, true≢false, ltb-true, ltb-false, leb-true, leb-false, eqb-false, le-ltb, Capability, FrameKind, Translation, Make}
-use low.{Call, Look, Copy, Remove, Grow, Shrink, Retype, Map, Unmap, Touch, Flush, Gate, Kill, Ret, Switch, Tick, Transfer, Delegate, Test}
-use low.{Part, Replenish, Reply, Table, Leaf, Pages, Pleaf, Comp, Thread, Tcap, Frame, Untyped, User, Kernel, outstanding, comp_in, comp_of}
+use low.{Call, Retype, Touch, Kill, Ret, Switch, Transfer, Delegate}
+use low.{Replenish, Reply, Table, Leaf, Pages, Pleaf, Comp, Thread, Tcap, Frame, Untyped, User, Kernel, outstanding, comp_in, comp_of}
 use low.{thread_in, thread_of, Slot, Named, found, only, to_use, to_part, Cause, Found, named, mapped, first_of, refusal_of, first_cause}
 use low.{has_frame, outside, epoch_of, has_frames, is_empty, not_retyped, retype_rule, translation_of, is_live_in, not_live, switch_to}
 use low.{are_same, is_short, are_many, merged_list, is_finer, is_less, rule_of, frames_in, Kind}
@@ -14,7 +14,10 @@ use Rattle.seq_plans.specs.{declared.walking.Looked.Looked, Carrying.MayRetype, 
 use Rattle.{std.proofs.lemmas.Bool.and_parts, std.proofs.lemmas.Bool.cases_lt, seq_state.specs.Make as make_call, seq_state.specs.State}
 use Rattle.{seq_state.specs.kernel_rules.specs.beyond, seq_state.specs.kernel_rules.specs.budget_at}
 use Rattle.{spk_nums.specs.declared.calls.Call.TheVariants.Call as call_gate, call_plans.specs.PlanOf.plan_for}
-use Rattle.{seq_lookups.proofs.Outcomes.where_found, seq_plans.proofs.FoundAll.found_all}
+use Rattle.{seq_lookups.proofs.Outcomes.where_found, seq_plans.specs.nothing, seq_plans.specs.Walks.before}
+use Rattle.seq_plans.proofs.FoundAll.{found_all, IsFound, NameIs}
+use Rattle.call_plans.specs.{at_place, declared.plans.Name.Name}
+use Rattle.call_plans.specs.declared.plans.Nth.TheVariants.{First, Second}
 
 -- ---- no cause stands
 
@@ -44,6 +47,15 @@ not_false false e = absurd (true≢false e)
 some_of : {A : Type 0} (o : Option A) (P : A → Type 0) → IsSomeAnd o P → IsSome o
 some_of None P h = absurd h
 some_of (Some x) P h = refl
+
+-- A name, if there is one, has led to something.
+abbrev SomeIf : Option Name → Option Capability → Type 0
+SomeIf None o = Unit {0}
+SomeIf (Some name) o = IsSome o
+
+some_named : (s : State) (c : ℕ) (m : Looked) (name : Option Name) (o : Option Capability) → NameIs s c m name o → SomeIf name o
+some_named s c m None o h = tt
+some_named s c m (Some name) o h = some_of o _ h
 
 is_found : (o : Option Capability) → IsSome o → (named_of o).found ≡ true
 is_found None h = absurd (true≢false (sym h))
@@ -237,70 +249,49 @@ few_merged s c (Some x) (Some y) o p some_x some_y calm =
 
 -- ---- every call
 
-pub may_carry : (s : State) (c : ℕ) (call : Call) (l : Looked) → IsInRange s c call → Found l ≡ resolved s c (plan_for call)
-    → None ≡ first_cause s c (causes_of (left_of (rule_of s c call) l)) → MayCarry s c call l
-may_carry s c (Look a) l ranges is calm =
-    let h = found_all s c (plan_for (Look a)) l is in
-    some_of l.first _ h.first
-may_carry s c (Copy a t b rights) l ranges is calm =
-    let h = found_all s c (plan_for (Copy a t b rights)) l is in
-    (some_of l.first _ h.first, h.target)
-may_carry s c (Remove t b) l ranges is calm = (found_all s c (plan_for (Remove t b)) l is).target
-may_carry s c (Grow t i k) l ranges is calm =
-    let h = found_all s c (plan_for (Grow t i k)) l is in
-    (some_of l.second _ h.second, h.target)
-may_carry s c (Shrink t i) l ranges is calm = (found_all s c (plan_for (Shrink t i)) l is).target
-may_carry s c (Retype r f k) l ranges is calm = may_retype s c r f k l ranges is calm
-may_carry s c (make_call what r f t b) l ranges is calm = may_make s c what r f t b l ranges is calm
-may_carry s c (Map p v r f w) l ranges is calm =
-    let h = found_all s c (plan_for (Map p v r f w)) l is in
-    (h.target, found_frame s c r f l.second _ h.second ranges calm)
-may_carry s c (Unmap p v) l ranges is calm = (found_all s c (plan_for (Unmap p v)) l is).target
-may_carry s c (Touch v) l ranges is calm =
-    let h = found_all s c (plan_for (Touch v)) l is in
+-- By what its plan has found: the calls whose own causes tell nothing else have what their names and their targets have led to, and frames
+-- within the range that they name.
+carried : (s : State) (c : ℕ) (call : Call) (l : Looked) → IsFound s c (plan_for call) l → IsInRange s c call
+    → Found l ≡ resolved s c (plan_for call) → None ≡ first_cause s c (causes_of (left_of (rule_of s c call) l)) → MayCarry s c call l
+carried s c (Retype r f k) l h ranges is calm = may_retype s c r f k l ranges is calm
+carried s c (make_call what r f t b) l h ranges is calm = may_make s c what r f t b l ranges is calm
+carried s c (Touch v) l h ranges is calm =
     may_touch s c v (translation_of (s.core c).cached (comp_of s c).pages v) l.held ranges h.target
-may_carry s c Flush l ranges is calm = tt
-may_carry s c (Gate k t b) l ranges is calm =
-    let h = found_all s c (plan_for (Gate k t b)) l is in
-    (some_of l.first _ h.first, h.target, gate_epoch s c k l.first h.first ranges)
-may_carry s c (Kill k) l ranges is calm =
-    let h = found_all s c (plan_for (Kill k)) l is in
+carried s c (Kill k) l h ranges is calm =
     let some = some_of l.first _ h.first in
     let comp = comp_in (s.frame (named_of l.first).frame) in
     (some, lives_now s c (named_of l.first) comp.number comp.epoch (is_found l.first some) calm)
-may_carry s c (call_gate g) l ranges is calm =
-    let h = found_all s c (plan_for (call_gate g)) l is in
+carried s c (call_gate g) l h ranges is calm =
     let depth = length (thread_of s c).stack in
     (some_of l.first _ h.first, leb-false 16 depth (calm_when (nat_le 16 depth) Reply.Deep (calm_parts _ _ calm).0))
-may_carry s c Ret l ranges is calm =
+carried s c Ret l h ranges is calm =
     let depth = length (thread_of s c).stack in
     leb-false depth 1 (calm_when (nat_le depth 1) Reply.Bottom (calm_parts _ _ calm).0)
-may_carry s c (Switch n q) l ranges is calm =
-    let h = found_all s c (plan_for (Switch n q)) l is in
+carried s c (Switch n q) l h ranges is calm =
     let some = some_of l.first _ h.first in (
       some,
       some_of l.second _ h.second,
       idle_now s c (named_of l.first) (named_of l.second).frame (thread_in (s.frame (named_of l.first).frame)).runs_on
           (named_of l.third ∷ named_of l.fourth ∷ []) l.at l.held (is_found l.first some) calm,
     )
-may_carry s c (Tick n) l ranges is calm = ranges
-may_carry s c (Transfer a b m) l ranges is calm =
-    let h = found_all s c (plan_for (Transfer a b m)) l is in
-    may_move s c a b m l.first l.second _ h.first h.second ranges calm
-may_carry s c (Delegate a b m) l ranges is calm =
-    let h = found_all s c (plan_for (Delegate a b m)) l is in (
-      may_move s c a b m l.first l.second _ h.first h.second ranges calm,
-      few_merged s c l.first l.second _ _ (some_of l.first _ h.first) (some_of l.second _ h.second) calm,
+carried s c (Transfer a b m) l h ranges is calm = may_move s c a b m l.first l.second _ h.first h.second ranges calm
+carried s c (Delegate a b m) l h ranges is calm = (
+  may_move s c a b m l.first l.second _ h.first h.second ranges calm,
+  few_merged s c l.first l.second _ _ (some_of l.first _ h.first) (some_of l.second _ h.second) calm,
+)
+carried s c (Replenish a m) l h ranges is calm = gives s c a m l.first h.first ranges calm
+carried s c call l h ranges is calm =
+    search (
+      some_named s c nothing (at_place (plan_for call).names First) l.first h.first,
+      some_named s c (before l Second) (at_place (plan_for call).names Second) l.second h.second,
+      found_frame s c,
+      part_frame s c,
+      gate_epoch s c,
     )
-may_carry s c (Test a b) l ranges is calm =
-    let h = found_all s c (plan_for (Test a b)) l is in
-    (some_of l.first _ h.first, some_of l.second _ h.second)
-may_carry s c (Replenish a m) l ranges is calm =
-    let h = found_all s c (plan_for (Replenish a m)) l is in
-    gives s c a m l.first h.first ranges calm
-may_carry s c (Part r f n t b) l ranges is calm =
-    let h = found_all s c (plan_for (Part r f n t b)) l is in
-    (some_of l.first _ h.first, h.target, part_frame s c r f n l.first h.first ranges calm)
+
+pub may_carry : (s : State) (c : ℕ) (call : Call) (l : Looked) → IsInRange s c call → Found l ≡ resolved s c (plan_for call)
+    → None ≡ first_cause s c (causes_of (left_of (rule_of s c call) l)) → MayCarry s c call l
+may_carry s c call l ranges is calm = carried s c call l (found_all s c (plan_for call) l is) ranges is calm
 
 -- The own causes of a call as it is judged are those of its rule, for all that the first of them decides.
 pub judged_alike : (s : State) (c : ℕ) (call : Call) (l : Looked) → IsInRange s c call → Found l ≡ resolved s c (plan_for call)
