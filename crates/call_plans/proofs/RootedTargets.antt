@@ -1,6 +1,6 @@
 -- The target of each call is in a table to whose root one of its names is to lead.
 use Rattle.kernel_invariant.specs as low
-use low.kernel_rules.specs.{Bool, true, false, ◌||◌, IsTrue, Copy, Remove, Grow, Shrink, Retype, Map, Unmap, Gate, Part, only, Kind, Make}
+use low.kernel_rules.specs.{Bool, true, false, ◌||◌, IsTrue, Retype, only, Kind, Make}
 use Rattle.call_plans.specs.declared.plans.Wanted.TheVariants.{Only, Root}
 use Rattle.call_plans.specs.Rooted.{WantsRoot, AreRooted}
 use low.{spk_nums.specs.declared.kinds.FrameKind.TheVariants.Untyped, spk_nums.specs.declared.calls.Call.TheVariants.Make as make_call}
@@ -23,17 +23,7 @@ any_root : WantsRoot Root
 any_root caps k is = is
 
 pub rooted : AreRooted
-rooted (Copy a t b rights) = table_root
-rooted (Remove t b) = table_root
-rooted (Grow t i l) = any_root
-rooted (Shrink t i) = any_root
 rooted (Retype r f Untyped) = tt
-rooted (Retype r f _) = tt
 rooted (make_call (Make.Thread comp) r f t b) = table_root
 rooted (make_call (Make.Comp table pages live) r f t b) = table_root
-rooted (make_call _ r f t b) = table_root
-rooted (Map p v r f w) = pages_root
-rooted (Unmap p v) = pages_root
-rooted (Gate k t b) = table_root
-rooted (Part r f n t b) = table_root
-rooted _ = tt
+rooted _ = search (table_root, pages_root, any_root)
