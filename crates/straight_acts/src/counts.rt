@@ -17,7 +17,7 @@ use straight_looks::Words;
 
 /// How the acquiring of a count ended.
 #[derive(Clone, Copy)]
-pub(crate) enum Acquiring {
+pub enum Acquiring {
     /// The count is acquired.
     Holds { count: Acquired },
     /// The call stands where it was left, and the step made there has told this word.
@@ -27,7 +27,7 @@ pub(crate) enum Acquiring {
 /// Acquires the count of a frame for an act, the first that the act changes, by so many.
 #[inline(always)]
 #[tactic(auto, using(crate::proofs::Sets::acquiring))]
-pub(crate) fn acquire<W: Words>(
+pub fn acquire<W: Words>(
     own: &Own,
     active: &mut Option<ActiveCall>,
     call: &Call,

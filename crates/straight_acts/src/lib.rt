@@ -12,5 +12,7 @@ mod removals;
 mod rests;
 
 pub use copies::copy;
+pub use counts::{Acquiring, acquire};
 pub use removals::{remove, unmap};
+pub use rests::rest_acting_counted;
 pub use straight_looks::{Went, Words, look};

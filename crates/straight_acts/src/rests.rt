@@ -45,7 +45,7 @@ pub(crate) fn rest_acquiring(
 
 /// After so many steps this act is made, with a count.
 #[inline(never)]
-pub(crate) fn rest_acting_counted(
+pub fn rest_acting_counted(
     active: &mut Option<ActiveCall>,
     call: &Call,
     steps: u32,
