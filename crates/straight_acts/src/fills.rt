@@ -25,7 +25,7 @@ use straight_looks::{Went, Words, exit, rest_acting};
 /// A free place is filled, after the count of the capability's frame is acquired if it has one.
 #[inline(always)]
 #[tactic(auto, using(crate::proofs::Sets::fillings))]
-pub(crate) fn fill_free<W: Words>(
+pub fn fill_free<W: Words>(
     own: &mut Own,
     active: &mut Option<ActiveCall>,
     call: &Call,
@@ -105,10 +105,10 @@ fn fill_bare<W: Words>(
     }
 }
 
-// The place is filled, and the count that was acquired is committed.
+/// The place is filled, and the count that was acquired is committed.
 #[inline(always)]
 #[tactic(auto, using(crate::proofs::Sets::counted_fillings))]
-fn fill_counted<W: Words>(
+pub fn fill_counted<W: Words>(
     own: &mut Own,
     active: &mut Option<ActiveCall>,
     call: &Call,

@@ -13,6 +13,7 @@ mod rests;
 
 pub use copies::copy;
 pub use counts::{Acquiring, acquire};
-pub use removals::{remove, unmap};
+pub use fills::{fill_counted, fill_free};
+pub use removals::{remove, remove_held, unmap};
 pub use rests::rest_acting_counted;
 pub use straight_looks::{Went, Words, look};

@@ -157,10 +157,10 @@ fn remove_at<W: Words>(
     }
 }
 
-// What a place holds is removed, after the count of its frame is acquired if it has one.
+/// What a place holds is removed, after the count of its frame is acquired if it has one.
 #[inline(always)]
 #[tactic(auto, using(crate::proofs::Sets::removals_held))]
-fn remove_held<W: Words>(
+pub fn remove_held<W: Words>(
     own: &mut Own,
     active: &mut Option<ActiveCall>,
     call: &Call,
