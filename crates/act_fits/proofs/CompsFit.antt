@@ -19,11 +19,9 @@ pub comp_undone : (own : Own) (m : CompMaking) (at : CompAt) → CompMakingFits 
     → TailFits own.layout (comp_undo m at) × (tail_left (comp_undo m at) ≤ comp_left m.cores at)
 comp_undone own m Load fits = (tt, omega arith)
 comp_undone own m (Mark word) fits = (tt, omega arith)
-comp_undone own m (LoadLive word) fits = (fits.frame, omega arith)
-comp_undone own m (Scan word last q) fits = (fits.frame, omega arith)
-comp_undone own m (Close word last) fits = (fits.frame, omega arith)
 comp_undone own m (Store word last entry) fits = ((fits.number, fits.frame), omega arith)
 comp_undone own m (Fill word last) fits = ((fits.number, fits.frame), omega arith)
+comp_undone own m _ fits = (fits.frame, omega arith)
 
 -- A making that stands elsewhere fits where that does.
 stands_at : (own : Own) (m : CompMaking) (at next : CompAt) → CompMakingFits own.layout (record m { at = at })

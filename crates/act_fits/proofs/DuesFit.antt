@@ -1,7 +1,7 @@
 -- What fits: where a step of the work leads to, what a decision changes, and the counts that an act changes.
 use Rattle.act_fits.proofs.Common.{◌≡◌, ℕ, suc, ℤ, pos, negsuc, ◌+◌, ◌*◌, ◌-◌, slice_get, ◌<◌, ◌≤◌, Bool, true, false, ◌==◌, List, [], ◌∷◌}
 use Rattle.act_fits.proofs.Common.{length, Option, Some, None, IfSome, refl, subst, arith, Acquired, cap_of, Kind, Range, Shape, CapNames}
-use Rattle.act_fits.proofs.Common.{NewObject, NewTable, NewLeaf, NewPages, NewPleaf, NewThread, NewTcap, object_dues, counts_of, last_word}
+use Rattle.act_fits.proofs.Common.{NewObject, NewTable, NewThread, object_dues, counts_of, last_word}
 use Rattle.act_fits.proofs.Common.{MakingAt, make_load, Mark, KillingAt, LoadComp, LoadLive, GivesBack, Caches, InvokingAt, ReturningAt}
 use Rattle.act_fits.proofs.Common.{ActType, fill_act, remove_act, make_act, kill_act, untype_act, map_act, comp_act, invoke_act, return_act}
 use Rattle.act_fits.proofs.Common.{switch_act, WorkStep, Goes, Acquires, Refuses, Answers, Changes, Due, ActFits, act_left, cap_dues, dues}
@@ -41,31 +41,19 @@ cap_one kind frame arg change = omega arith
 -- an object has so many due
 pub object_count : (object : NewObject) (f : ℕ) → length (object_dues object f) ≡ counts_of object
 object_count NewTable f = refl
-object_count NewLeaf f = refl
-object_count NewPages f = refl
-object_count NewPleaf f = refl
-object_count (NewThread comp) f = refl
-object_count (NewTcap sched quality) f = refl
+object_count _ f = refl
 
 pub invoking_one : (f : ℕ) (at : InvokingAt) → length (invoking_dues f at) ≤ 1
 invoking_one f InvokingAt.LoadTable = omega arith
-invoking_one f (InvokingAt.LoadPages table) = omega arith
-invoking_one f (InvokingAt.LoadComp table pages) = omega arith
-invoking_one f (InvokingAt.LoadLive table pages life) = omega arith
+invoking_one f _ = omega arith
 
 pub returning_one : (f : ℕ) (at : ReturningAt) → length (returning_dues f at) ≤ 1
 returning_one f ReturningAt.LoadBelow = omega arith
-returning_one f (ReturningAt.LoadTable comp) = omega arith
-returning_one f (ReturningAt.LoadPages comp table) = omega arith
-returning_one f (ReturningAt.Draw comp table pages) = omega arith
+returning_one f _ = omega arith
 
 pub last_small : (object : NewObject) → last_word object < 64
 last_small NewTable = omega arith
-last_small NewLeaf = omega arith
-last_small NewPages = omega arith
-last_small NewPleaf = omega arith
-last_small (NewThread comp) = omega arith
-last_small (NewTcap sched quality) = omega arith
+last_small _ = omega arith
 
 -- no more than so many dues, each of them a small change
 abbrev pub AreFew : ℕ → List Due → Type 0

@@ -26,10 +26,9 @@ still_unpaged cores (AtCore stamp core at page) found alone is =
     by : (refused : Option Reply) (there page : Bool) → page ≡ false
         → scan_end refused (core_scan there stamp core (next_other core at) page) ≡ StageEnd.Going
         → IsUnpaged (scan_after (AtCore stamp core at page) refused (core_scan there stamp core (next_other core at) page))
-    by (Some r) there page alone is = absurd (cc)
     by None true page alone is = alone
     by None false true alone is = absurd (cc)
-    by None false false alone is = absurd (cc)
+    by _ _ _ alone is = absurd (cc)
 
 module _ (s : Shape) where
   -- a scan goes on to the next core, to the flush words, or to the act
@@ -58,9 +57,8 @@ module _ (s : Shape) where
           × ScanFits s (scan_after (AtFlush stamp at) refused (if there then Some (AtFlush stamp (at + 1)) else None))
           × (left_of_scan s.cores
           (scan_after (AtFlush stamp at) refused (if there then Some (AtFlush stamp (at + 1)) else None)) < s.cores - at)
-      by (Some r) there below is = absurd (cc)
       by None true below is = let l = ltb-true (at + 1) s.cores below in (l, fits, omega (arith, l))
-      by None false below is = absurd (cc)
+      by _ _ below is = absurd (cc)
   scan_goes (AtCore stamp core at page) found quiet fits is =
       by (quiet_refuses (AtCore stamp core at page) found) (nat_lt (next_other core at) s.cores) refl page is
     where
@@ -119,7 +117,6 @@ module _ (s : Shape) where
           × ScanFits s (scan_after (AtCore stamp core at page) refused (core_scan there stamp core (next_other core at) page))
           × (left_of_scan s.cores (scan_after (AtCore stamp core at page) refused
           (core_scan there stamp core (next_other core at) page)) < left_is at + (if page then s.cores else 0))
-      by (Some r) there below page is = absurd (cc)
       by None true below page is =
           let in_machine = ltb-true (next_other core at) s.cores below in (
             (in_machine, apart (at + 1 == core) refl),
@@ -131,7 +128,7 @@ module _ (s : Shape) where
           let here = fits.0 in
           let some = core_left core at fits.0 quiet.0 in
           (omega (arith, here), fits.1, flushes_fewer (left_is at) s.cores some)
-      by None false below false is = absurd (cc)
+      by _ _ below _ is = absurd (cc)
 
   pub scan_left : (q : Quiet) → QuietFits s q → ScanFits s q → 1 ≤ left_of_scan s.cores q
   scan_left (AtFlush stamp at) quiet fits = let h : at < s.cores = quiet in omega arith

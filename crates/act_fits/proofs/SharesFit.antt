@@ -40,34 +40,23 @@ judged_left Test p = omega arith
 
 some_store : (what : PairWork) → 1 ≤ stores_of what
 some_store (Transfer ticks) = omega arith
-some_store (Delegate ticks) = omega arith
-some_store Test = omega arith
+some_store _ = omega arith
 
 decided_left : (what : PairWork) → share_left what (at_decided what) ≤ stores_of what
 decided_left (Transfer ticks) = omega arith
-decided_left (Delegate ticks) = omega arith
-decided_left Test = omega arith
+decided_left _ = omega arith
 
 decided_storing : (what : PairWork) → is_storing (at_decided what) ≡ true
 decided_storing (Transfer ticks) = refl
-decided_storing (Delegate ticks) = refl
-decided_storing Test = refl
+decided_storing _ = refl
 
 decided_fits : (what : PairWork) → AtFits (at_decided what)
-decided_fits (Transfer ticks) = tt
 decided_fits (Delegate ticks) = (omega arith, omega arith)
-decided_fits Test = tt
+decided_fits _ = tt
 
 -- what a decided call has still to store after a store
 stored_fits : (s : Shape) (p : Pair) (at : PairAt) (found : ℕ) → SharedFits s (record p { at = at })
     → TailFits s (after_share (record p { at = at }) found) × (tail_left (after_share (record p { at = at }) found) < share_left p.what at)
-stored_fits s p LoadA found fits = absurd (false≢true fits.storing)
-stored_fits s p MarkA found fits = absurd (false≢true fits.storing)
-stored_fits s p (ListA entry) found fits = absurd (false≢true fits.storing)
-stored_fits s p LoadB found fits = absurd (false≢true fits.storing)
-stored_fits s p (ListB entry) found fits = absurd (false≢true fits.storing)
-stored_fits s p CompareB found fits = absurd (false≢true fits.storing)
-stored_fits s p (AgainB r) found fits = absurd (false≢true fits.storing)
 stored_fits s p (StoreList entry) found fits = by (nat_lt entry 8) refl
   where
     by : (more : Bool) → nat_lt entry 8 ≡ more
@@ -84,6 +73,7 @@ stored_fits s p (StoreList entry) found fits = by (nat_lt entry 8) refl
         (record { fits = placed s (record p { at = StoreList entry }) StoreB fits.fits tt; storing = refl }, omega (arith, most))
 stored_fits s p StoreB found fits = (record { fits = placed s (record p { at = StoreB }) _ fits.fits tt; storing = refl }, omega arith)
 stored_fits s p (StoreA moved v) found fits = (tt, omega arith)
+stored_fits s p _ found fits = absurd (false≢true fits.storing)
 
 pub shared_fits : (own : Own) (a : ActiveCall) (r : Reply) (drawn : Option ℕ) (p : Pair) (counts : List Acquired) (found : ℕ)
     → Facts own a → a.counts ≡ counts → SharedFits own.layout p

@@ -9,9 +9,9 @@ use low.{Nowhere, Plan, at_place, earlier, with_found, names_after, Leads, next_
 use low.{has_frames, counts_of, last_word, ActFits, act_left, looked, dues, scans, stamp_in, filling, fills_with, removes_held, removes_at}
 use low.{types_if, types_at, gate_if, gate_to, reads_of, starts, makes_at, act_begun, next_work, kills_in, kills_at, page_cap, maps_if}
 use low.{maps_at, comps_at, made_begun, invokes_in, invokes_if, invokes_at, returns_if, switches_at, parts_at, LoadA, PairWork, share_left}
-use low.{shares_if, shares_at, refills_at, ScanFits, left_of_scan, touches_if, looks_under, looks_entry, looks_at, read_first}
+use low.{shares_if, shares_at, refills_at, ScanFits, left_of_scan, touches_if, looks_under, looks_entry, looks_at, read_first, phases_of}
 use Rattle.act_fits.proofs.Common.{sym, ap, subst, arith, ltb-true, ltb-false, eqb-true, eqb-false, Table, Pages, root, EntryNames, rooted}
-use Rattle.act_fits.proofs.Common.{Untyped, User, Kernel, Make, NewObject, NewTable, NewLeaf, NewPages, NewPleaf, NewThread, NewTcap, Own}
+use Rattle.act_fits.proofs.Common.{Untyped, Make, NewObject, NewTable, Own}
 use Rattle.act_fits.proofs.Common.{ActType, Outside, WorkStep, Goes, Acquires, Refuses, Answers, Changes, left_of_cores, FoundFits, IsOwn}
 use Rattle.call_stages.specs.kernel_rules.proofs.{leb-false, leb-true, Look as look_call, frames_in}
 use Rattle.call_stages.specs.call_plans.specs.{place_of_spot, WantsRoot}
@@ -25,11 +25,10 @@ use Rattle.call_stages.specs.call_plans.proofs.Roots.{earlier_is, Led, nth_led}
 use low.Objects.{object_cap, object_made, thread_on, ObjectFits}
 use low.Acts.{removing, frame_named, making, making_if, makes_in, kept_of, link_to, is_pages, mapping, mapping_if, comp_making, comp_if}
 use low.Acts.{comps_in, returns_at, part_if, starts_if}
-use low.{phases_of}
+use low.{next_step, declared.work.Work.TheVariants.Lookup}
 use Rattle.call_stages.specs.Fits.{IsWanted, looks_later, after_reading, acts_later}
 use Rattle.act_fits.proofs.NamedFit.{TwoNamed, ObjectNamed}
 use Rattle.act_fits.proofs.DuesFit.{StepFits, cap_one, work_next, counts_next}
-use low.{next_step, declared.work.Work.TheVariants.Lookup}
 
 -- what the first name has led to names frames of the machine
 pub first_named : (frames : ℕ) (names : List Name) (caps : List Named) (ks : List Capability) → Leads (IsWanted frames) names caps ks
@@ -159,14 +158,12 @@ grow_words false cores = omega arith
 pub removed_held : (s : Shape) (later most core : ℕ) (f : Found) (value : Entry) → core < s.cores → EntryNames s.frames value
     → f.node < s.frames → f.entry < 64 → 6 ≤ most
     → StepFits s [] later most (removes_held core f value)
-removed_held s later most core f Entry.Free here names node small some = (omega arith, tt)
 removed_held s later most core f (Entry.Held k) here names node small some =
     let act : ActType = removing core k f in
     let next = work_next s later core 0 act (slice_get (dues act) 0) refl here ((node, small), names) in
     let one = cap_one k.kind k.frame k.arg (negsuc 0) in
     (next.0, (let fewer = next.1 in omega arith), counts_next core 0 [] act (slice_get (dues act) 0) refl refl (omega arith))
-removed_held s later most core f (Entry.Closing by) here names node small some = (omega arith, tt)
-removed_held s later most core f (Entry.Quiescing stamp) here names node small some = (omega arith, tt)
+removed_held s later most core f _ here names node small some = (omega arith, tt)
 
 pub removed : (s : Shape) (later most core : ℕ) (target : Option Found) → core < s.cores → IfSome target (PlaceFits s) → 6 ≤ most
     → StepFits s [] later most (removes_at core target)
@@ -187,9 +184,8 @@ touched_fit own later most v false is h some = (omega arith, tt)
 pub types_fit : (s : Shape) (later core f : ℕ) (k : FrameKind) (within : Bool) → (within ≡ true → f < s.frames) → core < s.cores
     → StepFits s [] later (retype_steps k s.cores) (types_if within core f k)
 types_fit s later core f Untyped true below here = (record { frame = below refl; core = here; at = tt }, omega arith, refl)
-types_fit s later core f User true below here = (below refl, omega arith, refl)
-types_fit s later core f Kernel true below here = (below refl, omega arith, refl)
 types_fit s later core f k false below here = (omega arith, tt)
+types_fit s later core f _ true below here = (below refl, omega arith, refl)
 
 pub types : (own : Own) (later : ℕ) (range : Option Capability) (f : ℕ) (k : FrameKind) → own.core < own.layout.cores
     → StepFits own.layout [] later (retype_steps k own.layout.cores) (types_at own range f k)
@@ -208,11 +204,7 @@ frame_in own range f = has_frame (found range) f && nat_lt f own.layout.frames
 
 object_below : (frames : ℕ) (object : NewObject) (f : ℕ) → f < frames → CapNames frames (object_cap object f)
 object_below frames NewTable f below = omega (arith, below)
-object_below frames NewLeaf f below = omega (arith, below)
-object_below frames NewPages f below = omega (arith, below)
-object_below frames NewPleaf f below = omega (arith, below)
-object_below frames (NewThread comp) f below = omega (arith, below)
-object_below frames (NewTcap sched quality) f below = omega (arith, below)
+object_below frames _ f below = omega (arith, below)
 
 -- the steps of a making, and those of the scan before it
 abbrev making_steps : NewObject → ℕ → ℕ
@@ -332,8 +324,7 @@ parts own later (Some range) f n (Some at) h ends fits =
         (quiet_scan (stamp_in at.value) own.core own.layout.cores false) h.core
         (record { node = fits.node; entry = fits.entry; cap = part_ends own.layout.frames range f n ends is })
         (scan_may own.layout (stamp_in at.value) own.core false h.core) (omega (arith, many))
-    by true false is = outside
-    by false below is = outside
+    by _ _ is = outside
 
 -- the act that makes a component, where the range has its frame
 comps : (own : Own) (later live : ℕ) (range table pages : Capability) (f : ℕ) (target : Found) → IsOwn own → live < 64
@@ -380,10 +371,7 @@ comp_at : (own : Own) (later live : ℕ) (range table pages : Option Capability)
     → StepFits own.layout [] later (17 + 2 * own.layout.cores) (comps_at own live range table pages f target)
 comp_at own later live (Some range) (Some table) (Some pages) f (Some target) h small root_fits pages_fit fits =
     comps own later live range table pages f target h small root_fits pages_fit fits
-comp_at own later live None table pages f target h small root_fits pages_fit fits = (omega arith, tt)
-comp_at own later live (Some range) None pages f target h small root_fits pages_fit fits = (omega arith, tt)
-comp_at own later live (Some range) (Some table) None f target h small root_fits pages_fit fits = (omega arith, tt)
-comp_at own later live (Some range) (Some table) (Some pages) f None h small root_fits pages_fit fits = (omega arith, tt)
+comp_at own later live _ _ _ f _ h small root_fits pages_fit fits = (omega arith, tt)
 
 made_fits : (s : Shape) (what : Make) (r f t b : ℕ) (found : List Capability) (cores : ℕ) → MakeInLimits what
     → ObjectNamed s.frames (make_call what r f t b) found
@@ -415,16 +403,7 @@ begun_made own later what r f t b found target h named limits fits =
 kills : (s : Shape) (later most core : ℕ) (kind : Kind) (f arg : ℕ) → core < s.cores
     → CapNames s.frames (cap_of kind f arg) → 8 ≤ most → StepFits s [] later most (kills_in core kind f)
 kills s later most core Kind.Comp f arg here names some = (record { comp = omega arith; core = here; at = tt }, omega arith, refl)
-kills s later most core Kind.Range f arg here names some = (omega arith, tt)
-kills s later most core Kind.Table f arg here names some = (omega arith, tt)
-kills s later most core Kind.Leaf f arg here names some = (omega arith, tt)
-kills s later most core Kind.Pages f arg here names some = (omega arith, tt)
-kills s later most core Kind.Pleaf f arg here names some = (omega arith, tt)
-kills s later most core Kind.Gate f arg here names some = (omega arith, tt)
-kills s later most core Kind.Thread f arg here names some = (omega arith, tt)
-kills s later most core Kind.Tcap f arg here names some = (omega arith, tt)
-kills s later most core Kind.Link f arg here names some = (omega arith, tt)
-kills s later most core Kind.Page f arg here names some = (omega arith, tt)
+kills s later most core _ f arg here names some = (omega arith, tt)
 
 killed : (own : Own) (later most : ℕ) (k : Option Capability) → IsOwn own → IfSome k (CapNames own.layout.frames) → 8 ≤ most
     → StepFits own.layout [] later most (kills_at own k)
@@ -453,16 +432,7 @@ invokes own later most Kind.Gate f arg h names some = by (nat_le 16 own.depth) r
       omega arith,
       refl,
     )
-invokes own later most Kind.Comp f arg h names some = (omega arith, tt)
-invokes own later most Kind.Range f arg h names some = (omega arith, tt)
-invokes own later most Kind.Table f arg h names some = (omega arith, tt)
-invokes own later most Kind.Leaf f arg h names some = (omega arith, tt)
-invokes own later most Kind.Pages f arg h names some = (omega arith, tt)
-invokes own later most Kind.Pleaf f arg h names some = (omega arith, tt)
-invokes own later most Kind.Thread f arg h names some = (omega arith, tt)
-invokes own later most Kind.Tcap f arg h names some = (omega arith, tt)
-invokes own later most Kind.Link f arg h names some = (omega arith, tt)
-invokes own later most Kind.Page f arg h names some = (omega arith, tt)
+invokes own later most _ f arg h names some = (omega arith, tt)
 
 invoked : (own : Own) (later most : ℕ) (k : Option Capability) → IsOwn own → IfSome k (CapNames own.layout.frames) → 9 ≤ most
     → StepFits own.layout [] later most (invokes_at own k)
@@ -512,13 +482,12 @@ switched own later (Some h) (Some q) fits thread tcap = (
 -- a gate leads to a frame of the machine
 gate_names : (frames : ℕ) (comp : Option Capability) (read : Option ℕ) → IfSome comp (λ k. k.frame < frames)
     → IfSome (gate_to comp read) (CapNames frames)
-gate_names frames None read below = tt
-gate_names frames (Some k) None below = tt
 gate_names frames (Some k) (Some epoch) below = by (nat_le 1 epoch)
   where
     by : (some : Bool) → IfSome (gate_if some k.frame epoch) (CapNames frames)
     by true = omega (arith, below)
     by false = tt
+gate_names frames _ _ below = tt
 
 link_names : (frames : ℕ) (leaf : Option Capability) → IfSome leaf (λ k. k.frame < frames) → IfSome (link_to leaf) (CapNames frames)
 link_names frames None below = tt
@@ -541,8 +510,7 @@ shared s later most core what found named some = by (at_place found First) (at_p
     by : (a b : Option Capability) → IfSome a (λ k. k.frame < s.frames) → IfSome b (λ k. k.frame < s.frames)
         → StepFits s [] later most (shares_at core what a b)
     by (Some a) (Some b) first second = shares s later most core what a.frame b.frame (a.frame == b.frame) first second some
-    by None b first second = (omega arith, tt)
-    by (Some a) None first second = (omega arith, tt)
+    by _ _ first second = (omega arith, tt)
 
 refilled : (own : Own) (later most m : ℕ) (o : Option Capability) → IfSome o (λ k. k.frame < own.layout.frames)
     → 10 ≤ most → StepFits own.layout [] later most (refills_at own m o)
@@ -658,9 +626,8 @@ more_steps : (s : Shape) (later most more : ℕ) (step : WorkStep) → most ≤ 
     → StepFits s [] later more step
 more_steps s later most more (Goes work) few fits = (fits.0, (let left = fits.1 in omega (arith, left, few)), fits.2)
 more_steps s later most more (Acquires count work) few fits = fits
-more_steps s later most more (Refuses r tail) few fits = ((let left = fits.0 in omega (arith, left, few)), fits.1)
-more_steps s later most more (Answers v drawn tail) few fits = ((let left = fits.0 in omega (arith, left, few)), fits.1)
 more_steps s later most more (Changes r change drawn tail) few fits = ((let left = fits.0 in omega (arith, left, few)), fits.1, fits.2)
+more_steps s later most more _ few fits = ((let left = fits.0 in omega (arith, left, few)), fits.1)
 
 -- a step that begins a look-up, or refuses
 abbrev IsLook : WorkStep → Type 0

@@ -22,9 +22,7 @@ switching_undone own m (Claim (AtLoad f core)) fits = (tt, omega arith)
 switching_undone own m (Claim (AtCompare f core depth)) fits = (tt, omega arith)
 switching_undone own m (Claim (AtStack f depth)) fits = (fits.at, omega arith)
 switching_undone own m (LoadTable to) fits = ((fits.at.thread, fits.at.depth), omega arith)
-switching_undone own m (LoadPages to table) fits = ((fits.at.0.thread, fits.at.0.depth), omega arith)
-switching_undone own m (Leave to table pages) fits = ((fits.at.0.thread, fits.at.0.depth), omega arith)
-switching_undone own m (Draw to table pages) fits = ((fits.at.0.thread, fits.at.0.depth), omega arith)
+switching_undone own m _ fits = ((fits.at.0.thread, fits.at.0.depth), omega arith)
 
 -- A switch that stands elsewhere fits where that does.
 stands_at : (own : Own) (m : Switching) (at next : SwitchAt) → SwitchingFits own.layout (record m { at = at })

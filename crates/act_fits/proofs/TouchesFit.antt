@@ -19,12 +19,11 @@ module _ (own : Own) (a : ActiveCall) (facts : Facts own a) (room : own.made < o
   page_fits : (m : Touching) (left : ℕ) (look : Look) (node index word : ℕ) (shown : Option Entry) → 2 + length a.counts < left
       → TookFits own left a (landed a (touch_end m look (place_end node index word shown)))
   page_fits m left look node index word None some = refused left (fault_of Reply.Raced) some
-  page_fits m left look node index word (Some Entry.Free) some = refused left Refusal.Fault some
   page_fits m left look node index word (Some (Entry.Held k)) some =
       landed_fits own a a refl refl facts.found facts.acquired room 0 left
       (Changes (Reply.Ok (translated (mapping_of m k))) (Caches (mapping_of m k)) None Nothing) (omega arith, tt, tt) (omega arith)
   page_fits m left look node index word (Some (Entry.Closing by)) some = refused left (fault_of (Reply.Busy by)) some
-  page_fits m left look node index word (Some (Entry.Quiescing stamp)) some = refused left Refusal.Fault some
+  page_fits m left look node index word _ some = refused left Refusal.Fault some
 
   link_fits : (m : Touching) (linked : Bool) (top number : ℕ) (k : Capability) → linked ≡ is_link k.kind → CapNames own.layout.frames k
       → m.frames ≡ own.layout.frames
@@ -48,8 +47,7 @@ module _ (own : Own) (a : ActiveCall) (facts : Facts own a) (room : own.made < o
 
   some_left : (look : Look) → 1 ≤ touch_left look
   some_left (AtRoot top number) = omega arith
-  some_left (AtLeaf leaf number) = omega arith
-  some_left (AtEntry top index) = omega arith
+  some_left _ = omega arith
 
   pub touch_fits : (m : Touching) (word : ℕ) → TouchFits own.layout m
       → TookFits own (2 + length a.counts + touch_left m.look) a (landed a (took_touch m word))

@@ -34,24 +34,13 @@ use Rattle.call_stages.specs.frame_words.proofs.FrameLemmas as frames
 -- the words of an object, with the counts that it releases, are few
 object_few : (o : Obj) → object_left o ≤ 64
 object_few Obj.Blank = omega arith
-object_few Obj.Table = omega arith
-object_few Obj.Leaf = omega arith
-object_few Obj.Pages = omega arith
-object_few Obj.Pleaf = omega arith
-object_few Obj.Comp = omega arith
-object_few Obj.Thread = omega arith
-object_few Obj.Tcap = omega arith
+object_few _ = omega arith
 
 -- nothing is known yet of what an object names
 owned_none : (o : Obj) → OwnedBy o (record { first = None; second = None })
-owned_none Obj.Blank = (refl, refl)
-owned_none Obj.Table = (refl, refl)
-owned_none Obj.Leaf = (refl, refl)
-owned_none Obj.Pages = (refl, refl)
-owned_none Obj.Pleaf = (refl, refl)
 owned_none Obj.Comp = tt
 owned_none Obj.Thread = refl
-owned_none Obj.Tcap = (refl, refl)
+owned_none _ = (refl, refl)
 
 -- so many counts are due of it at most
 two_most : (f g : Option ℕ) → length (released_dues f g) ≤ 2
@@ -67,8 +56,7 @@ one_most f (Some g) is = absurd (cc)
 
 none_due : (f g : Option ℕ) → f ≡ None → g ≡ None → length (released_dues f g) ≤ 0
 none_due None None is nil = omega arith
-none_due (Some f) g is nil = absurd (cc)
-none_due None (Some g) is nil = absurd (cc)
+none_due _ _ is nil = absurd (cc)
 
 owned_few : (object : Obj) (o : Owned) → OwnedBy object o → length (owned_dues o) ≤ owned_most object
 owned_few Obj.Comp o by = two_most o.first o.second
@@ -109,12 +97,7 @@ after_fits frames Obj.Thread at found o fits = by (at == 0)
     by : (first : Bool) → OwnedFits frames (if first then o else owns true (stack_owned frames (stack_of_word found)) o)
     by true = fits
     by false = owns_fits frames true _ o (stack_below frames (stack_of_word found)) fits
-after_fits frames Obj.Blank at found o fits = fits
-after_fits frames Obj.Table at found o fits = fits
-after_fits frames Obj.Leaf at found o fits = fits
-after_fits frames Obj.Pages at found o fits = fits
-after_fits frames Obj.Pleaf at found o fits = fits
-after_fits frames Obj.Tcap at found o fits = fits
+after_fits frames _ at found o fits = fits
 
 after_by : (frames : ℕ) (object : Obj) (at found : ℕ) (o : Owned) → OwnedBy object o
     → OwnedBy object (owned_after frames object at found o)
@@ -124,38 +107,27 @@ after_by frames Obj.Thread at found o is = by (at == 0)
     by : (first : Bool) → (if first then o else owns true (stack_owned frames (stack_of_word found)) o).second ≡ None
     by true = is
     by false = is
-after_by frames Obj.Blank at found o by = by
-after_by frames Obj.Table at found o by = by
-after_by frames Obj.Leaf at found o by = by
-after_by frames Obj.Pages at found o by = by
-after_by frames Obj.Pleaf at found o by = by
-after_by frames Obj.Tcap at found o by = by
+after_by frames _ at found o by = by
 
 owned_fits : (s : Shape) (object : Obj) (at : SweepAt) (found : ℕ) (o : Owned) → OwnedFits s.frames o
     → OwnedFits s.frames (owned_at s object at found o)
-owned_fits s object SweepAt.Load found o fits = fits
-owned_fits s object (SweepAt.Compare count stamp) found o fits = fits
-owned_fits s object (SweepAt.Scan q) found o fits = fits
 owned_fits s object (SweepAt.Empty entry) found o fits = after_fits s.frames object entry found o fits
+owned_fits s object _ found o fits = fits
 
 owned_by : (s : Shape) (object : Obj) (at : SweepAt) (found : ℕ) (o : Owned) → OwnedBy object o
     → OwnedBy object (owned_at s object at found o)
-owned_by s object SweepAt.Load found o by = by
-owned_by s object (SweepAt.Compare count stamp) found o by = by
-owned_by s object (SweepAt.Scan q) found o by = by
 owned_by s object (SweepAt.Empty entry) found o by = after_by s.frames object entry found o by
+owned_by s object _ found o by = by
 
 -- no more counters are frozen than the frame has
 kept_fits : (s : Shape) (kept : List CountWord) (at : SweepAt) (found : ℕ) → AtFits s kept at → length kept ≤ counters_of s
     → length (kept_with kept (frozen_at at found)) ≤ counters_of s
-kept_fits s kept SweepAt.Load found fits few = few
 kept_fits s kept (SweepAt.Compare count stamp) found fits few = by (found == word_of_count (unheld count stamp))
   where
     by : (same : Bool) → length (kept_with kept (frozen_if same (unheld count stamp))) ≤ counters_of s
     by true = let one = length-append kept (unheld count stamp ∷ []) in let below = fits.0 in omega (arith, one, below)
     by false = few
-kept_fits s kept (SweepAt.Scan q) found fits few = few
-kept_fits s kept (SweepAt.Empty entry) found fits few = few
+kept_fits s kept _ found fits few = few
 
 -- each word that a scan loads leaves fewer to load
 others_fewer : (cores core at : ℕ) → core < cores → next_other core at < cores
@@ -366,10 +338,9 @@ module _ (s : Shape) (w : Sweep) (found : ℕ) (shape : IsShape s) (h : SweepsFr
       let fewer = on.1 in
       falls_to (quiet_left s.cores q + object_left object) (length w.kept) (SweepAt.Scan q) (SweepAt.Scan next) None
       (on.0, omega (arith, fewer))
-  falls_scanning q next (StageEnd.Decided r) some falls = λ swept goes. absurd (cc)
   falls_scanning q next (StageEnd.Done x) some falls =
       falls_empty (quiet_left s.cores q + object_left object) (length w.kept) (SweepAt.Scan q) None (omega (arith, some))
-  falls_scanning q next (StageEnd.Refuse r) some falls = λ swept goes. absurd (cc)
+  falls_scanning q next _ some falls = λ swept goes. absurd (cc)
 
   falls_at : (at : SweepAt) → AtFits s w.kept at → SweepAtFits w.core object at
       → FallsIf (sweep_left s.cores object (length w.kept) at) (length (kept_with w.kept (frozen_at at found))) at
@@ -435,9 +406,8 @@ module _ (s : Shape) (w : Sweep) (found : ℕ) (shape : IsShape s) (h : SweepsFr
       by (SweepAt.Empty entry) fits is = omega (arith, is)
 
 done_is : (r : Option Reply) (next : Option SweepAt) (swept done : Swept) → end_by r next swept ≡ StageEnd.Done done → done ≡ swept
-done_is (Some r) next swept done is = absurd (cc)
-done_is None (Some at) swept done is = absurd (cc)
 done_is None None swept done is = cc
+done_is _ _ swept done is = absurd (cc)
 
 -- the counters of a sweep, from the first on, and those after one that is stored
 abbrev thaw_from : Swept → Bool → Thaw
@@ -514,8 +484,6 @@ released_fits own a r drawn x (count ∷ xs) found facts is fits = record {
 -- what a refused call has still to store is of the machine
 pub undone_fits : (s : Shape) (m : Untyping) (at : UntypingAt) → IsShape s → UntypingFits s (record m { at = at })
     → TailFits s (untyping_undo m.frame at) × (tail_left (untyping_undo m.frame at) ≤ untyping_left s.cores at)
-undone_fits s m Load shape fits = (tt, omega arith)
-undone_fits s m (Mark word v) shape fits = (tt, omega arith)
 undone_fits s m (sweep_at word w) shape fits =
     let sweeps : SweepsFrame s w = fits.at in
     let back = release_fits s m.frame word (swept_of w) false fits.frame
@@ -523,6 +491,7 @@ undone_fits s m (sweep_at word w) shape fits =
     let few = back.1 in let kept = sweeps.kept in let below = counters_within s shape in (back.0, omega (arith, few, kept, below))
 undone_fits s m (Draw word w) shape fits =
     let back = release_fits s m.frame word w false fits.frame fits.at in let few = back.1 in (back.0, omega (arith, few))
+undone_fits s m _ shape fits = (tt, omega arith)
 
 module _ (own : Own) (a : ActiveCall) (facts : Facts own a) (room : own.made < own.limit) where
   refused : (left : ℕ) (r : Refusal) → 2 + length a.counts < left → TookFits own left a (landed a (refuse r))
