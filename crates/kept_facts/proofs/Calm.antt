@@ -1,9 +1,9 @@
 -- Steps that change no frame and no liveness number, and of the cores only what the own core counts and whether it is inside; and
 -- steps at which no grace period begins or ends and nothing is flushed. A step that decides nothing is such, and so is a refusal and the
 -- decision that fills a place; one that draws a stamp, or changes what a frame is, is not.
-use Rattle.core_invariant.proofs.{◌≡◌, ◌≢◌, inl, inr, ℕ, zero, suc, ◌+◌, ◌*◌, ◌<◌, ◌≤◌, ◌==◌, if◌then◌else◌, Bool, true, false, cond, ◌∷◌}
-use Rattle.core_invariant.proofs.{None, arith, refl, sym, ◌∙◌, ap, subst, eq-eqb, false≢true, Setting, Word, EntryAt, FrameAt, CountAt}
-use Rattle.core_invariant.proofs.{CoreAt, FlushAt, LiveAt, ClockAt, same_word, word_of, Thing, PlaceOf, NumberOf, State, put, thread_in}
+use Rattle.core_invariant.proofs.{◌≡◌, ◌≢◌, inl, inr, ℕ, zero, suc, ◌+◌, ◌<◌, ◌≤◌, ◌==◌, if◌then◌else◌, Bool, true, false, cond, ◌∷◌}
+use Rattle.core_invariant.proofs.{None, arith, refl, sym, ◌∙◌, ap, eq-eqb, false≢true, Setting, Word, EntryAt, FrameAt}
+use Rattle.core_invariant.proofs.{CoreAt, FlushAt, LiveAt, same_word, word_of, Thing, PlaceOf, NumberOf, State, put, thread_in}
 use Rattle.core_invariant.proofs.{comp_in, first_of_stack, thread_of, comp_of, sum_below, counted, sum_one, put_same, put_other, Step}
 use Rattle.core_invariant.proofs.{Trace, state_after, begins_at, ends_at, flushes_at, stamp, clock, exit_of, flush_of, flush_stored}
 use Rattle.core_invariant.proofs.{stamp-kept, flush_of-own, flush_stored-own, flush_stored-other, KeepsTime, Own, WorksIn, times_of}
@@ -216,9 +216,8 @@ calm_words setup t e calm plain (EntryAt f i) place inside = record {
   stamp = plain_stamp setup t e plain (PlaceOf f i);
 }
 calm_words setup t e calm plain (FrameAt f) place inside = calm.frame f
-calm_words setup t e calm plain (CountAt f c) place inside = tt
 calm_words setup t e calm plain (CoreAt c) place inside = record { inside = (inside c refl).0; exit = (inside c refl).1 }
 calm_words setup t e calm plain (FlushAt c) place inside = plain_flush setup t e plain c
 calm_words setup t e calm plain (LiveAt l) place inside =
     record { number = calm.number l; stamp = plain_stamp setup t e plain (NumberOf l) }
-calm_words setup t e calm plain ClockAt place inside = tt
+calm_words setup t e calm plain _ place inside = tt

@@ -4,27 +4,26 @@ use Rattle.core_invariant.specs as low
 use low.{NewObject, live_of_word, LiveWord, CompAt, CompMaking, Load as making_load, Mark, Store, MakingAt, map, ◌+◌, ◌≡◌, ◌≤◌, ℕ, ◌&&◌}
 use low.{◌||◌, not, leb as nat_le, if◌then◌else◌, cond, [], ◌∷◌, ◌++◌, List, Bool, true, false, Option, Some, None, refl, ◌==◌, IsTrue}
 use low.{IsSome, is_some, All, length, Acquired, count_of, Capability, Setting, IsSetting, CompWord, KillingAt, LoadComp, LoadLive}
-use low.{Close as kill_close, Draw as kill_draw, Call, Word, EntryAt, CountAt, FrameAt, LiveAt, word_of, Look, AtRoot, AtLeaf, AtEntry}
-use low.{Want, Slot, Named, root_at, found, Target, Under, InRoot, usable, linked, root_slot, reached, fits, Relies, Step, Trace, Open}
-use low.{phase, state_after, own_left, own_read, last_left, HasReached, IsLegal, IsInFootprint, Name, Plan, Leads, Next, NextName, NextFree}
-use low.{NextHeld, NextOwn, NextNothing, next_of, Entry, entry_of_word, Thing, PlaceOf, Frame, Kernel, Comp, comp_in, first_of_stack}
-use low.{NumberOf, FrameOf, thread_in, stamp, AtCompare, AtDraw, AtStore, Quiet, AtCore, AtFlush, Pin, Fill as fill_act}
-use low.{Make as make_act, Outside, Kill as kill_act}
-use low.{Untype as untype_act, Map as map_act, MakeComp as comp_act, Touch as touch_act}
-use low.{Share as share_act, Refill as refill_act, Switch as switch_act, Work, Lookup, Read, Scan, Acquire, Act, reads_of, ActiveCall}
-use low.{due_of, IsCount, HasFound, LooksUp, own_in, NamesAre, LooksFor, IsScanned, MayFill, KnowsClose, KnowsAct, KnowsQuiet, KnowsStore}
-use low.{acts, AtComp, AtLive, KnowsWork, KnowsUndecided, ChargesBy, IsSpot, HasStored, KnowsMakingAt, HasComp, ReadIs, ReadBefore}
-use low.{scanned_for, HasUser, MayTake, KnowsCompAt, KnowsLive, Charge, AtLoad as charge_load, Typing, TypingAt, CountWord, frame_names}
-use low.{latest_stamp, loads_of, Owned, Sweep, SweepAt, Compare as sweep_compare, Empty as sweep_empty, UntypingAt, Invoking, ReturningAt}
-use low.{HasLoadedComp, KnowsInvoking, HasLoadedBelow, KnowsReturning, below_of, Claimed, SwitchAt, IsTop, KnowsSwitchAt, claimed_by}
-use low.{is_claimed, IsQuiet, IsSwept, KnowsSweepScan, KnowsSweepAt, KnowsUntypingAt, plan_for, Claim}
+use low.{Close as kill_close, Draw as kill_draw, Call, Word, EntryAt, CountAt, FrameAt, LiveAt, word_of, Look, AtLeaf, Want, Slot, Named}
+use low.{root_at, found, Target, Under, InRoot, usable, linked, root_slot, reached, fits, Relies, Step, Trace, Open, phase, state_after}
+use low.{own_left, own_read, last_left, HasReached, IsLegal, IsInFootprint, Name, Plan, Leads, Next, NextName, NextFree, NextHeld, NextOwn}
+use low.{NextNothing, next_of, Entry, entry_of_word, Thing, PlaceOf, Frame, Kernel, Comp, comp_in, first_of_stack, NumberOf, FrameOf}
+use low.{thread_in, stamp, AtCompare, AtDraw, AtStore, Quiet, AtCore, AtFlush, Pin, Fill as fill_act, Make as make_act, Outside}
+use low.{Kill as kill_act, Untype as untype_act, Map as map_act, MakeComp as comp_act, Touch as touch_act, Share as share_act}
+use low.{Refill as refill_act, Switch as switch_act, Work, Lookup, Read, Scan, Acquire, Act, reads_of, ActiveCall, due_of, IsCount}
+use low.{HasFound, LooksUp, own_in, NamesAre, LooksFor, IsScanned, MayFill, KnowsClose, KnowsAct, KnowsQuiet, KnowsStore, acts, AtComp}
+use low.{AtLive, KnowsWork, KnowsUndecided, ChargesBy, IsSpot, HasStored, KnowsMakingAt, HasComp, ReadIs, ReadBefore, scanned_for, HasUser}
+use low.{MayTake, KnowsCompAt, KnowsLive, Charge, AtLoad as charge_load, Typing, TypingAt, CountWord, frame_names, latest_stamp, loads_of}
+use low.{Owned, Sweep, SweepAt, Compare as sweep_compare, Empty as sweep_empty, UntypingAt, Invoking, ReturningAt, HasLoadedComp}
+use low.{KnowsInvoking, HasLoadedBelow, KnowsReturning, below_of, Claimed, SwitchAt, IsTop, KnowsSwitchAt, claimed_by, is_claimed, IsQuiet}
+use low.{IsSwept, KnowsSweepScan, KnowsSweepAt, KnowsUntypingAt, plan_for, Claim, act_states.specs.comp_is_marked}
+use low.{act_states.specs.comp_word_at, act_states.specs.is_marked, act_states.specs.AtLoad, act_states.specs.ticks_due}
 use low.act_states.proofs.{last_word, arith, inl, inr, ◌∙◌, ap, subst, sym, eq-eqb, false≢true, translation_of, some_inj, want_of, Close}
 use low.act_states.proofs.{asks_life, Alive, Map, Tick, Load as sweep_load, Scan as sweep_scan}
 use low.act_states.specs.{declared.comps.LastEpoch.LastEpoch, declared.makings.MakingAt.TheVariants.Fill as making_fill}
 use low.act_states.specs.{declared.fills.Fill.Fill, declared.work.Act.Act as ActOf, declared.typings.TypingAt.TheVariants.Load}
 use low.Acting.{KnowsTyping, HasMetAt, HasHeadAt, KnowsTick, KnowsKillingAt, TakesNumber, KnowsNumber, HasWords}
-use low.{act_states.specs.comp_is_marked, act_states.specs.comp_word_at, act_states.specs.is_marked, act_states.specs.AtLoad}
-use low.{act_states.specs.ticks_due, act_states.specs.declared.typings.TypingAt.TheVariants.Compare as type_compare}
+use low.{act_states.specs.declared.typings.TypingAt.TheVariants.Compare as type_compare}
 use low.{act_states.specs.declared.invocations.Returning.Returning, stage_pins.specs.declared.pin.Pin.TheVariants.AtCompare as pin_compare}
 use low.{Reaching.IsReached, Reaching.LookIs, Reaching.IsFill, Reaching.IsRemoval, Knows.HasLoaded, Knows.KnowsAlive, Knows.KnowsAliveAt}
 use low.{Knows.KnowsDead, Knows.KnowsScan, Components.HasLife, Components.IsOnThread, Components.IsBelow, Threads.HasTable}
@@ -96,7 +95,6 @@ module _ (setup : Setting) (setting : IsSetting setup) (t : Trace) (e : Step) (l
       by_cases (Some k) is h = ap linked (carries.stays.usable at k node is) ∙ h
 
   look_on : (target : Target) (look : Look) → LooksUp setup t c target look → LookIs setup (e ∷ t) c target look
-  look_on (Under table n) (AtRoot root number) looks = looks.at
   look_on (Under table n) (AtLeaf leaf number) looks = record {
     found = looks.at.found;
     same = looks.at.same;
@@ -104,10 +102,7 @@ module _ (setup : Setting) (setting : IsSetting setup) (t : Trace) (e : Step) (l
     link = link_on (root_slot table.frame n) leaf looks.relies looks.at.link;
     stepped = carries.own _ looks.at.stepped;
   }
-  look_on (Under table n) (AtEntry root index) looks = looks.at
-  look_on (InRoot table i) (AtRoot root number) looks = looks.at
-  look_on (InRoot table i) (AtLeaf leaf number) looks = looks.at
-  look_on (InRoot table i) (AtEntry root index) looks = looks.at
+  look_on _ _ looks = looks.at
 
   pub looks_on : (target : Target) (look : Look) → LooksUp setup t c target look → LooksUp setup (e ∷ t) c target look
   looks_on target look looks = record { relies = carries.stays.relies _ looks.relies; at = look_on target look looks }
@@ -129,8 +124,7 @@ module _ (setup : Setting) (setting : IsSetting setup) (t : Trace) (e : Step) (l
   looks_for_on table (NextName n wanted) look has = looks_on (own_in table n) look has
   looks_for_on table (NextFree target) look has = looks_on target look has
   looks_for_on table (NextHeld target) look has = looks_on target look has
-  looks_for_on table (NextOwn v) look has = has
-  looks_for_on table NextNothing look has = has
+  looks_for_on table _ look has = has
 
   scanned_on : (x : Thing) (at upto : ℕ) → stamp setup t x ≤ stamp setup (e ∷ t) x → IsScanned setup t c x at upto
       → IsScanned setup (e ∷ t) c x at upto
@@ -145,11 +139,8 @@ module _ (setup : Setting) (setting : IsSetting setup) (t : Trace) (e : Step) (l
 
   may_fill_on : (x : Thing) (upto : ℕ) (o : Option Entry) → stamp setup t x ≤ stamp setup (e ∷ t) x → MayFill setup t c x upto o
       → MayFill setup (e ∷ t) c x upto o
-  may_fill_on x upto None rises has = has
-  may_fill_on x upto (Some Entry.Free) rises has = has
-  may_fill_on x upto (Some (Entry.Held k)) rises has = has
-  may_fill_on x upto (Some (Entry.Closing by)) rises has = has
   may_fill_on x upto (Some (Entry.Quiescing at)) rises has = scanned_on x at upto rises has
+  may_fill_on x upto _ rises has = has
 
   comp_on : (f : ℕ) → HasComp (state_after setup t) c f → (state_after setup (e ∷ t)).frame f ≡ (state_after setup t).frame f
   comp_on f has = carries.stays.frame f (comp_fixed ((state_after setup t).frame f) has.comp) has.guarded
@@ -695,13 +686,12 @@ live_on setup t e c call no_entry l live f word has = record {
 pub store_on : (setup : Setting) (t : Trace) (e : Step) (c : ℕ) (call : Call) → (c ≡ e.core → e.enters ≡ None)
     → ((f : ℕ) → Relies (state_after setup t) c f → Relies (state_after setup (e ∷ t)) c f) → (close : Close)
     → KnowsStore setup t c call close → KnowsStore setup (e ∷ t) c call close
-store_on setup t e c call no_entry relies (AtCompare node index word core) has = has
-store_on setup t e c call no_entry relies (AtDraw node index) has = has
 store_on setup t e c call no_entry relies (AtStore node index at) has = record {
   relies = relies node has.relies;
   footprint = was_stays (IsInFootprint c call (EntryAt node index)) setup t e c no_entry has.footprint;
   places = has.places;
 }
+store_on setup t e c call no_entry relies _ has = has
 
 -- And of the word of a liveness number that it has still to store.
 pub dead_on : (setup : Setting) (t : Trace) (e : Step) (c : ℕ) (call : Call) → (c ≡ e.core → e.enters ≡ None) → (life : CompWord)

@@ -2,14 +2,13 @@
 -- whose list has it. So no word has two keepers, and another word settles to itself where it carries no mark.
 use Rattle.core_invariant.proofs.{◌≡◌, ◌≢◌, ◌≤◌, ◌<◌, ◌⊎◌, inl, inr, ℕ, [], ◌∷◌, length, Bool, true, false, Option, Some, None, IsTrue}
 use Rattle.core_invariant.proofs.{if◌then◌else◌, arith, refl, sym, ◌∙◌, ap, subst, false≢true, ne_eqb, Setting, IsSetting, Call, Word}
-use Rattle.core_invariant.proofs.{EntryAt, word_of, left_of, is_node, Frame, Kernel, Untyped, User, Blank, Table, Leaf, Pages, Pleaf, Comp}
+use Rattle.core_invariant.proofs.{EntryAt, word_of, left_of, is_node, Frame, Kernel, Table, Leaf, Pages, Pleaf}
 use Rattle.core_invariant.proofs.{Thread, Tcap, TcapFields, thread_in, thread_of, put, put_same, Step, Trace, Open, state_after, last_left}
 use Rattle.core_invariant.proofs.{mark_of, mark_in_frame, head_mark, marked_by, cases_word, inside_is, last_left-here, last_left-there}
 use Rattle.core_invariant.proofs.{MayFollow, events_of, state_is, run_of, head_of_word, ActiveCall, Core, MarkIs, phase_at, HasTcap, holds}
 use Rattle.core_invariant.proofs.{holds_in, held_by, IsExclusive, AsBefore, IsNotKept, none_kept, own_kept, core_bare, marker_inside}
-use Rattle.core_invariant.specs.{bare_value, IsOfThread, SaysRunning}
+use Rattle.core_invariant.specs.{bare_value, IsOfThread, SaysRunning, Holding.Holding, Invariant.IsOfList, Invariant.Invariant}
 use Rattle.kernel_laws.specs.found_stays.proofs.{OwnStay, RunsOn, runs_of}
-use Rattle.core_invariant.specs.{Holding.Holding, Invariant.IsOfList, Invariant.Invariant}
 use Rattle.kept_facts.proofs.Tcaps.{is_tcap, tcap_of, tcap_stays}
 use Rattle.{thread_laws.specs.kernel_history.specs.Discipline.KeepsMarked, kernel_laws.specs.kernel_invariant.proofs.SoundRuns.limits_stay}
 use Rattle.{thread_laws.specs.trace_laws.proofs.Stays.own_stays_other, core_invariant.proofs.ActBares.open_bare}
@@ -121,16 +120,8 @@ thread_mark_in : (x y : Frame) (i v : ℕ) → 1 ≤ length (thread_in x).stack 
 thread_mark_in x y i v some some' = one x some ∙ sym (one y some')
   where
     one : (z : Frame) → 1 ≤ length (thread_in z).stack → mark_in_frame z i v ≡ mark_in_frame a_thread i v
-    one Untyped h = absurd (omega (arith, h))
-    one User h = absurd (omega (arith, h))
-    one (Kernel Blank) h = absurd (omega (arith, h))
-    one (Kernel Table) h = absurd (omega (arith, h))
-    one (Kernel Leaf) h = absurd (omega (arith, h))
-    one (Kernel Pages) h = absurd (omega (arith, h))
-    one (Kernel Pleaf) h = absurd (omega (arith, h))
-    one (Kernel (Comp k)) h = absurd (omega (arith, h))
     one (Kernel (Thread k)) h = refl
-    one (Kernel (Tcap q)) h = absurd (omega (arith, h))
+    one _ h = absurd (omega (arith, h))
 
 -- A mark in a list is none.
 list_mark : (f : Frame) (i v : ℕ) → IsTrue (is_tcap f) → 1 ≤ i → mark_in_frame f i v ≡ None
@@ -245,16 +236,9 @@ may_keep (Kernel (Tcap q)) = true
 may_keep _ = false
 
 no_stack : (x : Frame) → may_keep x ≡ false → length (thread_in x).stack ≡ 0
-no_stack Untyped not = refl
-no_stack User not = refl
-no_stack (Kernel Blank) not = refl
-no_stack (Kernel Table) not = refl
-no_stack (Kernel Leaf) not = refl
-no_stack (Kernel Pages) not = refl
-no_stack (Kernel Pleaf) not = refl
-no_stack (Kernel (Comp k)) not = refl
 no_stack (Kernel (Thread k)) not = absurd (false≢true (sym not))
 no_stack (Kernel (Tcap q)) not = absurd (false≢true (sym not))
+no_stack _ not = refl
 
 -- A word of another frame is kept by no core without a mark, and settles to itself where it carries none.
 pub not_exclusive : (setup : Setting) (cores : ℕ → Core) (t : Trace) → Invariant setup cores t → (f : ℕ)

@@ -4,8 +4,8 @@ use Rattle.core_invariant.proofs.{if◌then◌else◌, List, Option, Some, None,
 use Rattle.core_invariant.proofs.{false≢true, Setting, word_of_head, head_of_word, quality_of_word, HeadWord, Word, EntryAt, FrameAt}
 use Rattle.core_invariant.proofs.{CountAt, CoreAt, FlushAt, LiveAt, ClockAt, word_of, left_of, Kernel, Tcap, TcapFields, mark_in_frame}
 use Rattle.core_invariant.proofs.{head_mark, marked_by, Step, Trace, state_after, last_left, own_read, cases_word, last_left-here}
-use Rattle.core_invariant.proofs.{last_left-there, marked, read_word, Pair, PairAt, LoadA, MarkA, ListA, LoadB, ListB, CompareB, AgainB}
-use Rattle.core_invariant.proofs.{StoreList, StoreB, StoreA, list_changed, TurnsHead, SparesTcap, list_word, read_up, HasMarkedA, HasBoth}
+use Rattle.core_invariant.proofs.{last_left-there, marked, read_word, Pair, PairAt, MarkA, ListA, LoadB, ListB, CompareB, AgainB}
+use Rattle.core_invariant.proofs.{list_changed, TurnsHead, SparesTcap, list_word, read_up, HasMarkedA, HasBoth}
 use Rattle.core_invariant.proofs.{KnowsPairAt, StoresA, HeadFits}
 use Rattle.core_invariant.specs.{turns_list, HasSeenB, KeepsList, KnowsRefillAt}
 use Rattle.core_invariant.specs.{Shares.MayTurn, Shares.ReadsHead, Shares.HasReadB, Refills.HasReadList, Refills.HasWeighed}
@@ -37,24 +37,14 @@ kept_list (EntryAt g (suc i)) f before = by (g == f)
     by : (b : Bool) → (if b && false then true else before) ≡ before
     by true = refl
     by false = refl
-kept_list (FrameAt g) f before = refl
-kept_list (CountAt g d) f before = refl
-kept_list (CoreAt d) f before = refl
-kept_list (FlushAt d) f before = refl
-kept_list (LiveAt l) f before = refl
-kept_list ClockAt f before = refl
+kept_list _ f before = refl
 
 away_list : (w : Word) (same : Bool) (f : ℕ) (before : Bool) → ((i : ℕ) → w ≢ EntryAt f i) → turns_list w same f before ≡ before
 away_list (EntryAt g zero) same f before away =
     ap (λ b. if b && not same then false else before) (ne_eqb g f (λ h. away 0 (ap (λ (x : ℕ). EntryAt x 0) h)))
 away_list (EntryAt g (suc i)) same f before away =
     ap (λ b. if b && not same then true else before) (ne_eqb g f (λ h. away (suc i) (ap (λ (x : ℕ). EntryAt x (suc i)) h)))
-away_list (FrameAt g) same f before away = refl
-away_list (CountAt g d) same f before away = refl
-away_list (CoreAt d) same f before away = refl
-away_list (FlushAt d) same f before away = refl
-away_list (LiveAt l) same f before away = refl
-away_list ClockAt same f before away = refl
+away_list _ same f before away = refl
 
 module _ (setup : Setting) (t : Trace) (e : Step) (found_is : e.found ≡ last_left setup t (word_of e.move)) where
   abbrev left : ℕ
@@ -146,9 +136,6 @@ module _ (setup : Setting) (t : Trace) (e : Step) (found_is : e.found ≡ last_l
   module _ (f version : ℕ) (list : Option (List (ℕ × ℕ))) (n : ℕ) (has : HasSeenB setup t f version list n)
       (mark_is : marked_by setup t (EntryAt f 0) ≡ head_mark (head_of_word (last_left setup t (EntryAt f 0))))
       (spares : (i : ℕ) → word_of e.move ≡ EntryAt f i → SparesTcap setup t e f i) where
-    some_head : (v u : HeadWord) → Some v ≡ Some u → v ≡ u
-    some_head v u is = cc
-
     -- no word of it changes
     all_kept : ((i : ℕ) → EntryAt f i ≡ word_of e.move → left ≡ e.found) → HasSeenB setup (e ∷ t) f version list n
     all_kept kept = record {
@@ -299,11 +286,10 @@ module _ (setup : Setting) (t : Trace) (e : Step) (found_is : e.found ≡ last_l
   weighed_other covered has = record { read = read_other 8 has.read; is = has.is; enough = has.enough }
 
   pub refill_other : (at : RefillAt) → KnowsRefillAt setup t c r at → KnowsRefillAt setup (e ∷ t) c r at
-  refill_other RefillAt.Load has = has
-  refill_other (RefillAt.List zero) has = has
   refill_other (RefillAt.List (suc n)) has = read_other n has
   refill_other RefillAt.Compare has = weighed_other true has
   refill_other RefillAt.Again has = weighed_other false has
+  refill_other _ has = has
 
 -- A step of another core, where both are temporal capabilities.
 module _ (setup : Setting) (t : Trace) (e : Step) (found_is : e.found ≡ last_left setup t (word_of e.move)) (c : ℕ) (other : c ≢ e.core)
@@ -345,15 +331,10 @@ module _ (setup : Setting) (t : Trace) (e : Step) (found_is : e.found ≡ last_l
     }
 
     pub pair_other : (at : PairAt) → KnowsPairAt setup t c p at → KnowsPairAt setup (e ∷ t) c p at
-    pair_other LoadA has = has
     pair_other MarkA has = (head_other p.a p.head_a has.0, has.1, has.2)
-    pair_other (ListA zero) has = has
     pair_other (ListA (suc n)) has = (a_other n has.0, has.1)
     pair_other LoadB has = (a_other 8 has.0, has.1)
-    pair_other (ListB zero) has = has
     pair_other (ListB (suc n)) has = (a_other 8 has.0, b_other p.list_b n has.1)
     pair_other CompareB has = both_other CompareB has
     pair_other (AgainB r) has = both_other (AgainB r) has
-    pair_other (StoreList n) has = has
-    pair_other StoreB has = has
-    pair_other (StoreA moved v) has = has
+    pair_other _ has = has

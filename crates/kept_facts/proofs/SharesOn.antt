@@ -2,8 +2,7 @@
 use Rattle.core_invariant.proofs.{◌≡◌, ◌≢◌, ◌<◌, ℕ, true, List, [], ◌∷◌, Some, arith, sym, ◌∙◌, ap, Setting, IsSetting, Capability, Call}
 use Rattle.core_invariant.proofs.{Replenish, HeadFits, word_of_head, head_of_word, HeadWord, EntryAt, word_of, left_of, Kernel, Tcap}
 use Rattle.core_invariant.proofs.{TcapFields, IsInFootprint, MayFollow, IsLegal, Step, Trace, phase, state_after, last_left, is_in, marked}
-use Rattle.core_invariant.proofs.{Pair, PairAt, LoadA, MarkA, ListA, LoadB, ListB, CompareB, AgainB, StoreList, StoreB, StoreA, SparesTcap}
-use Rattle.core_invariant.proofs.{HasTcap, StoresA, KnowsStoresAt}
+use Rattle.core_invariant.proofs.{Pair, PairAt, StoreList, StoreB, StoreA, SparesTcap, HasTcap, StoresA, KnowsStoresAt}
 use Rattle.core_invariant.specs.{RefillsBy, StoresB, KnowsShared}
 use Rattle.kept_facts.proofs.Pairs.{tcap_mark, kept_all, left_same, pair_other, refill_other, stores_on_a, keeps_on_b}
 use Rattle.{core_invariant.specs.act_states.specs.left_among, core_invariant.specs.act_states.specs.Refill}
@@ -98,15 +97,9 @@ module _ (setup : Setting) (setting : IsSetting setup) (t : Trace) (legal : IsLe
   stored_stays : is_in (phase t c) ≡ true → (call : Call) (p : Pair) (at : PairAt) → HasTcap (state_after setup t) c p.a → p.core ≡ c
       → KnowsStoresAt setup t c call p at → KnowsStoresAt setup (e ∷ t) c call p at
   stored_stays inside call p (StoreA moved v) tcap core has = a_stays p tcap core has
-  stored_stays inside call p LoadA tcap core has = has
-  stored_stays inside call p MarkA tcap core has = has
-  stored_stays inside call p (ListA n) tcap core has = has
-  stored_stays inside call p LoadB tcap core has = has
-  stored_stays inside call p (ListB n) tcap core has = has
-  stored_stays inside call p CompareB tcap core has = has
-  stored_stays inside call p (AgainB r) tcap core has = has
   stored_stays inside call p (StoreList n) tcap core has = (has.0, has.1, b_stays inside call p tcap core has.2)
   stored_stays inside call p StoreB tcap core has = b_stays inside call p tcap core has
+  stored_stays inside call p _ tcap core has = has
 
   pub shares_other : SharesStay setup t e c
   shares_other = record {

@@ -3,7 +3,7 @@
 use Rattle.core_invariant.proofs as low
 use low.{◌≡◌, ◌≢◌, inl, inr, ℕ, pos, ◌<◌, Bool, true, false, List, Option, ◌∷◌, length, slice_get, Some, IsTrue, arith, refl, sym, ◌∙◌, ap}
 use low.{subst, false≢true, Setting, IsSetting, CountFits, word_of_count, count_of_word, frame_of_word, residue, CountWord, FrameWord, Word}
-use low.{CountAt, FrameAt, Frame, Untyped, User, Kernel, Object, Blank, Table, Leaf, Pages, Pleaf, Comp, Thread, Tcap, FrameOf, State}
+use low.{CountAt, FrameAt, Frame, Untyped, User, Kernel, Object, Blank, Comp, Thread, Tcap, FrameOf, State}
 use low.{held_in, refs, is_node, counters, count_in, count_sum, MayFollow, frame_value, stamp, Step, Trace, state_after, unheld}
 use low.{latest_stamp, released, Owned, Swept, release_of, Core, stamp_in, newest_of, holds_release, settled, held_by, count_shown}
 use low.{AreFrozen, AreKept, IsLookedAt, IsQuiet, SaysTyped, limits_of, release_frame, thaw_all, thaw_from, thaw_here, FrameKind, Obj}
@@ -30,13 +30,7 @@ kernel_is (Kernel x) kind object = object_is x object
   where
     object_is : (x : Object) → name_of_object x ≡ Obj.Blank → Kernel x ≡ Kernel Blank
     object_is Blank h = refl
-    object_is Table h = absurd (cc)
-    object_is Leaf h = absurd (cc)
-    object_is Pages h = absurd (cc)
-    object_is Pleaf h = absurd (cc)
-    object_is (Comp k) h = absurd (cc)
-    object_is (Thread k) h = absurd (cc)
-    object_is (Tcap k) h = absurd (cc)
+    object_is _ h = absurd (cc)
 
 -- What a core holds that sweeps this frame: the frame's word, and each counter that it has frozen, which stand for what was found.
 pub record HoldsSwept (h : Holding) (f word : ℕ) (kept : List CountWord) : Type 0 where
@@ -73,16 +67,13 @@ pub looked_on : (s s' : State) (f n : ℕ) (o : Owned) → LeavesFrame s s' f �
 looked_on s s' f n o rests has = subst (λ x. IsLookedAt s' f x n o) (sym rests.frame) (by (s.frame f) (rests.place) has)
   where
     by : (x : Frame) → ((i : ℕ) → IsTrue (is_node x) → s'.place f i ≡ s.place f i) → IsLookedAt s f x n o → IsLookedAt s' f x n o
-    by (Kernel Table) place has = λ i below. ap held_in (place i refl) ∙ has i below
-    by (Kernel Leaf) place has = λ i below. ap held_in (place i refl) ∙ has i below
-    by (Kernel Pages) place has = λ i below. ap held_in (place i refl) ∙ has i below
-    by (Kernel Pleaf) place has = λ i below. ap held_in (place i refl) ∙ has i below
     by (Kernel (Comp k)) place has = has
     by (Kernel (Thread k)) place has = has
     by (Kernel (Tcap q)) place has = has
     by (Kernel Blank) place has = tt
     by User place has = tt
     by Untyped place has = tt
+    by _ place has = λ i below. ap held_in (place i refl) ∙ has i below
 
 -- Where all count words of a frame show what was found there, the counts found sum to the references to the frame, modulo 2 ^ 16, and the
 -- latest stamp found is that of its last release.
@@ -185,11 +176,4 @@ module _ (setup : Setting) (cores : ℕ → Core) (t : Trace) (stands : Invarian
           by : (x : Frame) → s.frame f ≡ x → LeavesFrame s s' f
           by Untyped at = absurd (met.kind (ap (λ x. x.kind) shown ∙ ap (λ x. (frame_value x).kind) at))
           by (Kernel Blank) at = blank_rests at
-          by User at = typed_rests (ap is_typed at)
-          by (Kernel Table) at = typed_rests (ap is_typed at)
-          by (Kernel Leaf) at = typed_rests (ap is_typed at)
-          by (Kernel Pages) at = typed_rests (ap is_typed at)
-          by (Kernel Pleaf) at = typed_rests (ap is_typed at)
-          by (Kernel (Comp k)) at = typed_rests (ap is_typed at)
-          by (Kernel (Thread k)) at = typed_rests (ap is_typed at)
-          by (Kernel (Tcap q)) at = typed_rests (ap is_typed at)
+          by _ at = typed_rests (ap is_typed at)

@@ -6,13 +6,12 @@ use Rattle.kernel_laws.proofs.{with_thread, running, with_tcap, with_budget, tca
 use Rattle.kernel_laws.proofs.{Component, Push, Pop, Charge, Move, Merge, Give, Change, does, Judged, Refused, Found, change_of, changed}
 use Rattle.kernel_laws.proofs.{owed_by, state_by, ends, ends_by, MayReply, put_all, IsOpen, is_bare, Each, Edits, found_by, IfFound}
 use Rattle.kernel_laws.proofs.{ends_by_rule, opened, core_same_refs, IsGuarded, Kind}
-use Rattle.core_invariant.proofs.{MayDecide, MayFollow, IsLegal, Step, Trace, Phase, Out, Open, phase, after_enter, state_after}
+use Rattle.core_invariant.proofs.{MayDecide, MayFollow, IsLegal, Step, Trace, Phase, Open, phase, after_enter, state_after}
 use Rattle.core_invariant.proofs.{state_entered, state_decided, state_returned, state_before, is_in, entered_events, HasTcap, limits_of}
 use Rattle.thread_laws.specs.trace_laws.proofs.{opens, open_inj, stays_in_other}
 use Rattle.{std.proofs.lemmas.Bool.or_left, std.proofs.lemmas.Bool.or_right, kernel_laws.specs.kernel_invariant.specs.ends_in}
 use Rattle.{kernel_laws.specs.kernel_invariant.specs.ends_all, kernel_laws.specs.kernel_invariant.proofs.Known}
 use Rattle.{kernel_laws.specs.kernel_invariant.proofs.MayEnd, kernel_laws.specs.kernel_rules.specs.Edits.Switch}
-use Rattle.thread_laws.specs.kernel_history.specs.Trace as history
 
 abbrev pub is_tcap : Frame → Bool
 is_tcap x = fits Kind.Tcap x
@@ -172,8 +171,6 @@ module _ (setup : Setting) (setting : IsSetting setup) (t : Trace) (legal : IsLe
 
   by_phase : (o : Option Reply) → e.decides ≡ o → (q : Phase) → entered ≡ q → MayDecide setup t e o q
       → IsTrue (is_tcap ((state_decided o q before e.core).frame f))
-  by_phase None is q at may = before_is
-  by_phase (Some r) is Out at may = before_is
   by_phase (Some r) is (Open call) at may =
       still (decided_keeps before (opened (entered_events t e)) e.core (opens setup setting t legal e follows call at) call r f before_is)
     where
@@ -183,7 +180,7 @@ module _ (setup : Setting) (setting : IsSetting setup) (t : Trace) (legal : IsLe
           (ends_by_rule before (opened (entered_events t e)) e.core (opens setup setting t legal e follows call at) call r (FrameOf f)
           (subst (λ k. MayReply before e.core k r) (open_inj may.call call may.is_open) may.permitted) ended))
       still (inr is) = is
-  by_phase (Some r) is (history.Decided call q) at may = before_is
+  by_phase _ is _ at may = before_is
 
   pub tcap_stays : HasTcap (state_after setup (e ∷ t)) c f
   tcap_stays = record {

@@ -1,11 +1,10 @@
 -- What is said of a word stays where the step leaves the word, and what is said of it, as they were; of every kind of word at once.
-use Rattle.core_invariant.proofs.{◌≡◌, ◌≢◌, ◌≤◌, inl, inr, ℕ, zero, suc, arith, Bool, true, false, if◌then◌else◌, ◌∷◌, Option, Some, None}
-use Rattle.core_invariant.proofs.{refl, sym, ◌∙◌, ap, subst, Setting, Word, EntryAt, FrameAt, CountAt, CoreAt, FlushAt, LiveAt, ClockAt}
-use Rattle.core_invariant.proofs.{word_of, left_of, Place, TcapFields, Object, Blank, Table, Leaf, Pages, Pleaf, Comp, Thread, Tcap, Frame}
-use Rattle.core_invariant.proofs.{Untyped, User, Kernel, Liveness, PlaceOf, NumberOf, State, put, put_same, put_other, live_of_word}
-use Rattle.core_invariant.proofs.{frame_value, mark_of, mark_in_frame, Step, Trace, state_after, last_left, last_left-here, last_left-there}
-use Rattle.core_invariant.proofs.{cases_word, Core, marked_by, settled_by, settled, MarkIs, IsFrameWord, NumberIs, WordIs, same_value}
-use Rattle.core_invariant.proofs.{core_bare, AsBefore, holds, held_by, times_of}
+use Rattle.core_invariant.proofs.{◌≡◌, ◌≢◌, inl, inr, ℕ, Bool, true, false, if◌then◌else◌, ◌∷◌, Option, Some, None, refl, sym, ◌∙◌, ap}
+use Rattle.core_invariant.proofs.{subst, Setting, Word, EntryAt, FrameAt, CountAt, CoreAt, FlushAt, LiveAt, ClockAt, word_of, left_of}
+use Rattle.core_invariant.proofs.{Place, Frame, Liveness, PlaceOf, NumberOf, State, put, put_same, put_other, live_of_word, frame_value}
+use Rattle.core_invariant.proofs.{mark_of, mark_in_frame, Step, Trace, state_after, last_left, last_left-here, last_left-there, cases_word}
+use Rattle.core_invariant.proofs.{Core, marked_by, settled_by, settled, MarkIs, IsFrameWord, NumberIs, WordIs, same_value, core_bare}
+use Rattle.core_invariant.proofs.{AsBefore, holds, held_by, times_of}
 use Rattle.core_invariant.specs.{Holding.Holding, Holding.bare_value, Words.Times}
 use Rattle.{std.proofs.lemmas.Bool.cases_eq, thread_laws.specs.kernel_history.specs.Discipline.MarksOwn}
 
@@ -60,12 +59,7 @@ word_stays s s' m m' ClockAt x same h = tt
 -- A mark is read by what the frame holds.
 pub mark_same : (s s' : State) (w : Word) (x : ℕ) → ((f : ℕ) → s'.frame f ≡ s.frame f) → mark_of s' w x ≡ mark_of s w x
 mark_same s s' (EntryAt f i) x frames = ap (λ y. mark_in_frame y i x) (frames f)
-mark_same s s' (FrameAt f) x frames = refl
-mark_same s s' (CountAt f c) x frames = refl
-mark_same s s' (CoreAt c) x frames = refl
-mark_same s s' (FlushAt c) x frames = refl
-mark_same s s' (LiveAt l) x frames = refl
-mark_same s s' ClockAt x frames = refl
+mark_same s s' _ x frames = refl
 
 -- A step leaves the marks of all words readable as they were: where it changes what a frame holds, the words of the frame carry no mark
 -- before and none after.
