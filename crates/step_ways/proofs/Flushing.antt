@@ -1,19 +1,15 @@
 -- Flushes that are decided and still to be stored. What a core holds stands for nothing at a flush word, but there: so where a step
 -- leaves what it stands for at its core's flush word, the core has its last flush stored if it had before.
 use Rattle.kept_facts.specs.core_invariant.proofs as low
-use low.{Tail, Quiesce, StoreFlush, Push, Pop, Release, Work, Lookup, Read}
-use low.{Scan, Acquire, ActiveCall, Stage, Enter, Living, Undecided, Decided, Leave, holds_counts, flushing_in, phase_at, KnowsAt, is_done}
-use low.{holds_act, holds_tail, holds_work, holds_at, holds_shared, Pair, PairAt, LoadA, MarkA, ListA, LoadB, ListB, CompareB, AgainB}
-use low.{StoreList, StoreB, StoreA, Trace, Phase, Out, Open, Reply, Call, Setting, Acquired, AtCompare, AtDraw, AtStore, ◌≡◌, ℕ, ◌≤◌, Bool}
-use low.{true, false, if◌then◌else◌, List, [], ◌∷◌, Option, Some, None, ◌⊎◌, inl, inr, arith, refl, sym, ◌∙◌, ap, subst, false≢true}
-use low.{same_same, FlushAt, Act as act_work, IfSome}
-use Rattle.kept_facts.specs.act_states.specs.{Close, Push as PushOf, Pop as PopOf}
-use Rattle.kept_facts.specs.core_invariant.specs.{is_flushing, holds_stage}
-use Rattle.kept_facts.specs.act_states.specs.{declared.work.Tail.TheVariants.Share, declared.work.Act.Act as ActOf}
-use Rattle.kept_facts.specs.core_invariant.specs.{Holding.Holding, Holding.holds_drawn, Knows.flushes_tail, Invariant.holds_push}
-use Rattle.kept_facts.specs.core_invariant.specs.{Invariant.holds_pop}
-use low.{Freezing.release_flush, Keepings.IsApart, Keepings.all_beside, Keepings.act_beside, Keepings.plain_spared}
-use Rattle.kept_facts.specs.act_states.specs.{phases_of}
+use low.{Tail, Quiesce, StoreFlush, Push, Pop, Release, Work, Acquire, ActiveCall, Stage, Undecided, Decided, holds_counts, flushing_in}
+use low.{phase_at, KnowsAt, is_done, holds_act, holds_tail, holds_work, holds_at, holds_shared, Pair, PairAt, LoadA, Trace, Phase, Out}
+use low.{Open, Reply, Call, Setting, Acquired, AtCompare, ◌≡◌, ℕ, ◌≤◌, Bool, true, false, if◌then◌else◌, List, [], ◌∷◌, Option, Some, None}
+use low.{◌⊎◌, inl, inr, arith, refl, sym, ◌∙◌, ap, subst, false≢true, same_same, FlushAt, Act as act_work, IfSome, Freezing.release_flush}
+use low.{Keepings.IsApart, Keepings.all_beside, Keepings.act_beside, Keepings.plain_spared}
+use Rattle.kept_facts.specs.act_states.specs.{Close, Push as PushOf, Pop as PopOf, declared.work.Tail.TheVariants.Share}
+use Rattle.kept_facts.specs.core_invariant.specs.{is_flushing, holds_stage, Holding.Holding, Holding.holds_drawn, Knows.flushes_tail}
+use Rattle.kept_facts.specs.act_states.specs.{declared.work.Act.Act as ActOf, phases_of}
+use Rattle.kept_facts.specs.core_invariant.specs.{Invariant.holds_push, Invariant.holds_pop}
 use Rattle.kept_facts.specs.kernel_history.specs.Trace.{Decided as Decided_phase}
 
 counts_flush : (fate : Option (Option ℕ)) (xs : List Acquired) (c : ℕ) → (holds_counts fate xs).stands (FlushAt c) ≡ 0
@@ -22,20 +18,11 @@ counts_flush fate (x ∷ xs) c = counts_flush fate xs c
 
 drawn_flush : (close : Close) (h : Holding) (c : ℕ) → (holds_drawn close h).stands (FlushAt c) ≡ h.stands (FlushAt c)
 drawn_flush (AtCompare node entry word core) h c = refl
-drawn_flush (AtDraw node entry) h c = refl
-drawn_flush (AtStore node entry stamp) h c = refl
+drawn_flush _ h c = refl
 
 shared_flush : (p : Pair) (at : PairAt) (h : Holding) (c : ℕ) → (holds_shared p at h).stands (FlushAt c) ≡ h.stands (FlushAt c)
 shared_flush p LoadA h c = refl
-shared_flush p MarkA h c = refl
-shared_flush p (ListA n) h c = refl
-shared_flush p LoadB h c = refl
-shared_flush p (ListB n) h c = refl
-shared_flush p CompareB h c = refl
-shared_flush p (AgainB r) h c = refl
-shared_flush p (StoreList n) h c = refl
-shared_flush p StoreB h c = refl
-shared_flush p (StoreA moved v) h c = refl
+shared_flush p _ h c = refl
 
 act_flush : (act : ActOf) (h : Holding) (c : ℕ) → (holds_act act h).stands (FlushAt c) ≡ h.stands (FlushAt c)
 act_flush act h c =
@@ -45,11 +32,9 @@ act_flush act h c =
     apart = record { entries = λ f i. refl; frames = λ f. refl; numbers = λ l. refl }
 
 work_flush : (work : Work) (h : Holding) (c : ℕ) → (holds_work work h).stands (FlushAt c) ≡ h.stands (FlushAt c)
-work_flush (Lookup look) h c = refl
-work_flush (Read comp look) h c = refl
-work_flush (Scan q act) h c = refl
 work_flush (Acquire pin change act) h c = act_flush act h c
 work_flush (act_work act) h c = act_flush act h c
+work_flush _ h c = refl
 
 push_flush : (p : PushOf) (h : Holding) (c : ℕ) → (holds_push p h).stands (FlushAt c) ≡ h.stands (FlushAt c)
 push_flush (PushOf.AtStack f core depth comp) h c = refl
@@ -70,23 +55,17 @@ tail_flush tail h c none = refl
 
 stage_flush : (stage : Stage) (h : Holding) (c : ℕ) → is_flushing stage ≡ false
     → (holds_stage stage h).stands (FlushAt c) ≡ h.stands (FlushAt c)
-stage_flush Enter h c none = refl
-stage_flush (Living alive) h c none = refl
 stage_flush (Undecided work) h c none = work_flush work h c
 stage_flush (Decided r drawn tail) h c none = tail_flush tail h c none
-stage_flush (Leave r x) h c none = refl
+stage_flush _ h c none = refl
 
 -- A flush that is still to be stored has a stamp.
 some_flush : (setup : Setting) (t : Trace) (c table : ℕ) (a : ActiveCall) (stage : Stage) (h : Holding) → KnowsAt setup t c table a stage
     → is_flushing stage ≡ true → 1 ≤ (holds_stage stage h).stands (FlushAt c)
-some_flush setup t c table a Enter h knows is = absurd (false≢true is)
-some_flush setup t c table a (Living alive) h knows is = absurd (false≢true is)
-some_flush setup t c table a (Undecided work) h knows is = absurd (false≢true is)
-some_flush setup t c table a (Leave r x) h knows is = absurd (false≢true is)
 some_flush setup t c table a (Decided r drawn (StoreFlush by stamp)) h knows is =
     subst (λ (d : ℕ). 1 ≤ (holds_tail (StoreFlush by stamp) h).stands (FlushAt d)) knows.core
     (subst (λ (n : ℕ). 1 ≤ n) (sym (ap (λ b. if b then stamp else h.stands (FlushAt by)) (same_same (FlushAt by)))) knows.some)
-some_flush setup t c table a (Decided r drawn _) h knows is = absurd (false≢true is)
+some_flush setup t c table a _ h knows is = absurd (false≢true is)
 
 -- Where what a core holds stands for the same at its flush word, and it has no flush to store, it had none.
 pub still_flushed : (setup : Setting) (t : Trace) (c table : ℕ) (a : ActiveCall) (stage' : Stage) (counts' : List Acquired)
@@ -122,16 +101,10 @@ none_flushing (Some a) p at undecided = by a.stage refl
         open_no call h = cc
 
     by : (stage : Stage) → a.stage ≡ stage → is_flushing a.stage ≡ false
-    by Enter is = ap is_flushing is
-    by (Living alive) is = ap is_flushing is
-    by (Undecided work) is = ap is_flushing is
     by (Decided r drawn tail) is = absurd (none r (at ∙ ap (phase_at a.call) is))
-    by (Leave r x) is = ap is_flushing is
+    by _ is = ap is_flushing is
 
 -- A call that is not decided has none.
 pub open_flushed : (call : Call) (stage : Stage) → phase_at call stage ≡ Open call → is_flushing stage ≡ false
-open_flushed call Enter opens = refl
-open_flushed call (Living alive) opens = refl
-open_flushed call (Undecided work) opens = refl
 open_flushed call (Decided r drawn tail) opens = absurd (cc)
-open_flushed call (Leave r x) opens = refl
+open_flushed call _ opens = refl

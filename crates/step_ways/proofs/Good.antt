@@ -1,29 +1,27 @@
 -- What a step must show, and why the cores then stand for the trace with it. Calls are not looked at here.
 use Rattle.kept_facts.specs.core_invariant.proofs as low
-use low.{FrameWord, NewObject, CompAt, CompMaking, Mark, Store, MakingAt, Lookup, Read, Scan, Acquire, Work, AtCore, AtFlush, Plan}
-use low.{cases_word, frame_value, is_node, same_same, word_of, left_of, frame_of_word, Capability, suc, zero, ◌≡◌, ◌≢◌, inl, inr, ℕ, ◌+◌}
-use low.{◌<◌, ◌≤◌, ◌∷◌, length, Option, Some, None, arith, sym, ◌∙◌, ap, subst, ◌⊎◌, ◌&&◌, ◌==◌, not, Bool, true, false, List, IsTrue}
-use low.{if◌then◌else◌, refl, eqb-true, false≢true, Setting, IsSetting, Call, Word, EntryAt, FrameAt, LiveAt, put, first_of_stack, Frame}
-use low.{Untyped, User, Kernel, Blank, Table, Leaf, Pages, Pleaf, Comp, Thread, Tcap, put_same, put_other, Step, Trace, Out, Open, phase}
-use low.{state_after, last_left, marked_by, IsInFootprint, MayFollow, is_in, clock, phase-other, flush_stored-other, last_left-here}
-use low.{last_left-there, KeepsTime, Stage, Enter, Living, Undecided, Decided, Leave, ActiveCall, Own, Nothing, Quiesce, Unmark, StoreDead}
-use low.{StoreFlush, Release, StoreLive, Push, Pop, StoreRunning, StoreIdle, Core, HasThread, holds_switching, claimed_by, is_claimed}
-use low.{settled, MarkIs, keeps, holds_counts, settled_by, WordIs, SparesTcap, phase_at, CallIs, KnowsAt, WorksIn, CoreIs, blank_word}
-use low.{KnowsMakingAt, KnowsAct, KnowsWork, KnowsCompAt, held_by, times_of, counted_in, SumIs, is_done, holds_making, holds_act}
-use low.{holds_work, holds_at, holds_in, holds, holds_comp, IsExclusive, marker_inside, latest_stamp, swept_of, Sweep, SweepAt, Swept}
-use low.{release_of, UntypingAt, holds_release, holds_untyping, AreFrozen, AreKept, IsQuiet, KnowsSweep, KnowsUntypingAt, SaysTyped}
-use low.{Load as making_load, Act as act_work, Make as make_act, Untype as untype_act, MakeComp as comp_act, Switch as switch_act}
-use low.{true≢false, MayEnter, calls_of-other, inside_is, IsIdleIn, Compare as sweep_compare, Empty as sweep_empty, plan_for}
+use low.{FrameWord, NewObject, CompAt, CompMaking, Store, MakingAt, Scan, Acquire, Work, AtCore, AtFlush, Plan, cases_word, frame_value}
+use low.{is_node, same_same, word_of, left_of, frame_of_word, Capability, suc, zero, ◌≡◌, ◌≢◌, inl, inr, ℕ, ◌+◌, ◌<◌, ◌≤◌, ◌∷◌, length}
+use low.{Option, Some, None, arith, sym, ◌∙◌, ap, subst, ◌⊎◌, ◌&&◌, ◌==◌, not, Bool, true, false, List, IsTrue, if◌then◌else◌, refl}
+use low.{eqb-true, false≢true, Setting, IsSetting, Call, Word, EntryAt, FrameAt, LiveAt, put, first_of_stack, Frame, Untyped, User, Kernel}
+use low.{Blank, Table, Leaf, Pages, Pleaf, Comp, Thread, Tcap, put_same, put_other, Step, Trace, Out, Open, phase, state_after, last_left}
+use low.{marked_by, IsInFootprint, MayFollow, is_in, clock, phase-other, flush_stored-other, last_left-here, last_left-there, KeepsTime}
+use low.{Stage, Living, Undecided, Decided, Leave, ActiveCall, Own, Quiesce, StoreDead, StoreFlush, StoreLive, StoreRunning, StoreIdle}
+use low.{Core, HasThread, holds_switching, claimed_by, is_claimed, settled, MarkIs, keeps, holds_counts, settled_by, WordIs, SparesTcap}
+use low.{phase_at, CallIs, KnowsAt, WorksIn, CoreIs, blank_word, KnowsMakingAt, KnowsAct, KnowsWork, KnowsCompAt, held_by, times_of}
+use low.{counted_in, SumIs, is_done, holds_making, holds_act, holds_work, holds_at, holds_in, holds, holds_comp, IsExclusive, marker_inside}
+use low.{latest_stamp, swept_of, Sweep, SweepAt, Swept, release_of, UntypingAt, holds_release, holds_untyping, AreFrozen, AreKept, IsQuiet}
+use low.{KnowsSweep, KnowsUntypingAt, SaysTyped, Act as act_work, Make as make_act, Untype as untype_act, MakeComp as comp_act}
+use low.{Switch as switch_act, true≢false, MayEnter, calls_of-other, inside_is, IsIdleIn, Empty as sweep_empty, plan_for}
+use low.{ThreadHolds.claimed_idle}
 use Rattle.kept_facts.proofs.{was_stays, Holding, Invariant, counts_on, HoldsSwept, release_swept, SparesExclusive, KeepsUsers}
 use Rattle.kept_facts.specs.core_invariant.specs.{KnowsSwept, KnowsIdle, KnowsRunning, is_start, KnowsSweepAt}
-use Rattle.kept_facts.specs.act_states.specs.{comp_is_marked, is_marked, Load as sweep_load, Scan as sweep_scan}
-use Rattle.kept_facts.specs.kernel_history.specs.{IsWithin, IsDisciplined, StepsInFootprint}
+use Rattle.kept_facts.specs.act_states.specs.{comp_is_marked, is_marked, declared.work.Tail.TheVariants.Share}
+use Rattle.kept_facts.specs.kernel_history.specs.{IsWithin, IsDisciplined, StepsInFootprint, Alone.AnswersAlone, Graces.LeavesBy}
 use Rattle.kept_facts.specs.kernel_history.proofs.{own_read-other, exit_of-other, flush_of-other}
 use Rattle.kept_facts.specs.trace_laws.proofs.{Carries.Carries, Carries.carries_other, Stays.own_stays_other, Stays.stays_in_other}
 use Rattle.kept_facts.specs.trace_laws.proofs.{GraceSteps.grace_on, GraceSteps.times_on, Waiting.leave_on, Waiting.passed_on}
-use Rattle.kept_facts.specs.act_states.specs.{declared.work.Tail.TheVariants.Share}
 use Rattle.kept_facts.specs.act_states.specs.{declared.makings.MakingAt.TheVariants.Fill as making_fill, declared.work.Act.Act as ActOf}
-use Rattle.kept_facts.specs.kernel_history.specs.{Alone.AnswersAlone, Graces.LeavesBy}
 use Rattle.kept_facts.specs.kernel_history.proofs.{Steps.steps_in_call-other, Markings.marked_on}
 use Rattle.kept_facts.proofs.{Claimed.guarded_thread, Claimed.claimed_rests, Carries.alive_on, Carries.undecided_on, Carries.store_on}
 use Rattle.kept_facts.proofs.{Carries.dead_on, Carries.live_on, KeptReads.stores_in, KeptReads.stores_of, KeptReads.looks_at}
@@ -33,7 +31,6 @@ use Rattle.kept_facts.proofs.{SharesOn.shares_other, Exclusive.exclusive_other}
 use Rattle.step_ways.proofs.Users.{SparesCounted, users_stay}
 use Rattle.{std.proofs.lemmas.Bool.cases_eq, kept_facts.specs.trace_laws.proofs.Waiting.flushed_on}
 use Rattle.{kept_facts.specs.found_stays.proofs.Stays.OwnStay}
-use low.{ThreadHolds.claimed_idle}
 
 -- A step changes a word of a blank frame only where its core has marked the frame, and a word of a temporal capability as `SparesTcap`
 -- says.
@@ -63,14 +60,7 @@ kept_tcap setup t e f (suc j) kept = inl kept
 kept_spared : (setup : Setting) (t : Trace) (e : Step) (f i : ℕ) (x : Frame) → left_of e.move e.found ≡ e.found → Spared setup t e f i x
 kept_spared setup t e f i (Kernel Blank) kept = inr kept
 kept_spared setup t e f i (Kernel (Tcap q)) kept = kept_tcap setup t e f i kept
-kept_spared setup t e f i Untyped kept = tt
-kept_spared setup t e f i User kept = tt
-kept_spared setup t e f i (Kernel Table) kept = tt
-kept_spared setup t e f i (Kernel Leaf) kept = tt
-kept_spared setup t e f i (Kernel Pages) kept = tt
-kept_spared setup t e f i (Kernel Pleaf) kept = tt
-kept_spared setup t e f i (Kernel (Comp k)) kept = tt
-kept_spared setup t e f i (Kernel (Thread u)) kept = tt
+kept_spared setup t e f i _ kept = tt
 
 pub spares_kept : (setup : Setting) (t : Trace) (e : Step) → left_of e.move e.found ≡ e.found → SparesBlanks setup t e
 spares_kept setup t e kept f i at = kept_spared setup t e f i ((state_after setup t).frame f) kept
@@ -81,12 +71,7 @@ node_spared setup t e f i (Kernel Table) node = tt
 node_spared setup t e f i (Kernel Leaf) node = tt
 node_spared setup t e f i (Kernel Pages) node = tt
 node_spared setup t e f i (Kernel Pleaf) node = tt
-node_spared setup t e f i Untyped node = absurd (false≢true node)
-node_spared setup t e f i User node = absurd (false≢true node)
-node_spared setup t e f i (Kernel Blank) node = absurd (false≢true node)
-node_spared setup t e f i (Kernel (Comp k)) node = absurd (false≢true node)
-node_spared setup t e f i (Kernel (Thread u)) node = absurd (false≢true node)
-node_spared setup t e f i (Kernel (Tcap q)) node = absurd (false≢true node)
+node_spared setup t e f i _ node = absurd (false≢true node)
 
 pub spares_node : (setup : Setting) (t : Trace) (e : Step) (node index : ℕ) → word_of e.move ≡ EntryAt node index
     → IsTrue (is_node ((state_after setup t).frame node)) → SparesBlanks setup t e
@@ -122,10 +107,9 @@ filled_here f g word h same says = subst (λ (n : ℕ). IsFilled (keeps (FrameAt
 filled_making : (setup : Setting) (t : Trace) (c f g : ℕ) (object : NewObject) (at : MakingAt) (h : Holding)
     → KnowsMakingAt setup t c g object at
     → (is_marked at && f == g) ≡ true → IsFilled (holds_making g at h) f
-filled_making setup t c f g object making_load h knows is = absurd (false≢true is)
-filled_making setup t c f g object (Mark word) h knows is = absurd (false≢true is)
 filled_making setup t c f g object (Store word n) h knows is = filled_here f g word h is knows.says
 filled_making setup t c f g object (making_fill word) h knows is = filled_here f g word h is knows.says
+filled_making setup t c f g object _ h knows is = absurd (false≢true is)
 
 filled_two : (f g l word live : ℕ) (h : Holding) → (true && f == g) ≡ true → frame_of_word word ≡ Some blank_word
     → IsFilled (keeps (LiveAt l) live (keeps (FrameAt g) word h)) f
@@ -134,13 +118,12 @@ filled_two f g l word live h same says =
 
 filled_comp : (setup : Setting) (t : Trace) (c f : ℕ) (m : CompMaking) (at : CompAt) (h : Holding) → KnowsCompAt setup t c m at
     → (comp_is_marked at && f == m.frame) ≡ true → IsFilled (holds_comp m at h) f
-filled_comp setup t c f m CompAt.Load h knows is = absurd (false≢true is)
-filled_comp setup t c f m (CompAt.Mark word) h knows is = absurd (false≢true is)
 filled_comp setup t c f m (CompAt.LoadLive word) h knows is = filled_here f m.frame word h is knows
 filled_comp setup t c f m (CompAt.Scan word last q) h knows is = filled_here f m.frame word h is knows.0
 filled_comp setup t c f m (CompAt.Close word last) h knows is = filled_here f m.frame word h is knows.0
 filled_comp setup t c f m (CompAt.Store word last n) h knows is = filled_two f m.frame m.number word last.word h is knows.0
 filled_comp setup t c f m (CompAt.Fill word last) h knows is = filled_two f m.frame m.number word last.word h is knows.0
+filled_comp setup t c f m _ h knows is = absurd (false≢true is)
 
 filled_act : (setup : Setting) (t : Trace) (c f : ℕ) (call : Call) (plan : Plan) (ks : List Capability) (act : ActOf) (h : Holding)
     → KnowsAct setup t c call plan ks setup.cores act → stores_in act f ≡ true → IsFilled (holds_act act h) f
@@ -174,8 +157,6 @@ scans_unclaimed act f starts = refl
 
 filled_work : (setup : Setting) (t : Trace) (c table f : ℕ) (a : ActiveCall) (work : Work) (h : Holding) → KnowsWork setup t c table a work
     → stores_of work f ≡ true → IsFilled (holds_work work h) f
-filled_work setup t c table f a (Lookup look) h knows is = absurd (false≢true is)
-filled_work setup t c table f a (Read comp look) h knows is = absurd (false≢true is)
 filled_work setup t c table f a (Scan (AtCore at core upto page) act) h knows is =
     absurd (false≢true (sym (scans_nothing act f knows.starts) ∙ is))
 filled_work setup t c table f a (Scan (AtFlush at upto) act) h knows is =
@@ -183,6 +164,7 @@ filled_work setup t c table f a (Scan (AtFlush at upto) act) h knows is =
 filled_work setup t c table f a (Acquire pin change act) h knows is = filled_act setup t c f a.call (plan_for a.call) a.found act h
     knows.knows is
 filled_work setup t c table f a (act_work act) h knows is = filled_act setup t c f a.call (plan_for a.call) a.found act h knows.knows is
+filled_work setup t c table f a _ h knows is = absurd (false≢true is)
 
 pub blank_is : (x : Frame) → Some (frame_value x) ≡ Some blank_word → x ≡ Kernel Blank
 blank_is x h = kernel_is x (ap (λ v. v.kind) (same _ _ h)) (ap (λ v. v.object) (same _ _ h))
@@ -295,21 +277,18 @@ module _ (setup : Setting) (setting : IsSetting setup) (cores : ℕ → Core) (t
 
       by_sweep : (word : ℕ) (w : Sweep) → m.at ≡ UntypingAt.Sweep word w → KnowsSweep setup t c m.frame word w → (at : SweepAt) → w.at ≡ at
           → KnowsSweepAt setup t c m.frame w at → Goal
-      by_sweep word w at_is knows sweep_load is at = unlooked (ap looks_in at_is ∙ ap looks_at is)
-      by_sweep word w at_is knows (sweep_compare count stamp) is at = unlooked (ap looks_in at_is ∙ ap looks_at is)
-      by_sweep word w at_is knows (sweep_scan q) is at = unlooked (ap looks_in at_is ∙ ap looks_at is)
       by_sweep word w at_is knows (sweep_empty entry) is at =
           rests (UntypingAt.Sweep word w) at_is word (swept_of w) w.word refl knows.frame knows.met knows.kept at.frozen at.quiet
+      by_sweep word w at_is knows _ is at = unlooked (ap looks_in at_is ∙ ap looks_at is)
 
       by_at : (at : UntypingAt) → m.at ≡ at → Goal
-      by_at UntypingAt.Load at_is = unlooked (ap looks_in at_is)
-      by_at (UntypingAt.Mark word v) at_is = unlooked (ap looks_in at_is)
       by_at (UntypingAt.Sweep word w) at_is =
           let knows : KnowsSweep setup t c m.frame word w = subst (KnowsUntypingAt setup t c m.frame) at_is has.at in
           by_sweep word w at_is knows w.at refl knows.at
       by_at (UntypingAt.Draw word w) at_is =
           let knows : KnowsSwept setup t c m.frame word w = subst (KnowsUntypingAt setup t c m.frame) at_is has.at in
           rests (UntypingAt.Draw word w) at_is word w knows.shown refl knows.frame knows.met knows.kept knows.swept.frozen knows.swept.quiet
+      by_at _ at_is = unlooked (ap looks_in at_is)
   act_looked follows c other call plan ks upto act h held typed has f is = absurd (false≢true is)
 
   looked_stays : MayFollow setup t e → (c table : ℕ) → c ≢ e.core → (a : ActiveCall) (work : Work) (h : Holding)
@@ -317,8 +296,6 @@ module _ (setup : Setting) (setting : IsSetting setup) (cores : ℕ → Core) (t
       → ((f : ℕ) → (holds_work work h).marks (FrameAt f) ≡ true → ValueStays f)
       → KnowsWork setup t c table a work → (f : ℕ) → looked_of work f ≡ true
       → LeavesFrame (state_after setup t) (state_after setup (e ∷ t)) f
-  looked_stays follows c table other a (Lookup look) h held typed has f is = absurd (false≢true is)
-  looked_stays follows c table other a (Read comp look) h held typed has f is = absurd (false≢true is)
   looked_stays follows c table other a (Scan (AtCore at core upto page) act) h held typed has f is =
       absurd (false≢true (sym (scans_unlooked act f has.starts) ∙ is))
   looked_stays follows c table other a (Scan (AtFlush at upto) act) h held typed has f is =
@@ -327,6 +304,7 @@ module _ (setup : Setting) (setting : IsSetting setup) (cores : ℕ → Core) (t
       act_looked follows c other a.call (plan_for a.call) a.found setup.cores act h held typed has.knows f is
   looked_stays follows c table other a (act_work act) h held typed has f is =
       act_looked follows c other a.call (plan_for a.call) a.found setup.cores act h held typed has.knows f is
+  looked_stays follows c table other a _ h held typed has f is = absurd (false≢true is)
 
   -- a thread that another core has claimed rests
   abbrev ClaimRests : ℕ → Holding → Type 0
@@ -358,13 +336,12 @@ module _ (setup : Setting) (setting : IsSetting setup) (cores : ℕ → Core) (t
     where
       by : (work : Work) → ClaimRests c (holds_work work h) → KnowsWork setup t c table a work → (f : ℕ) → claimed_of work f ≡ true
           → HasThread (state_after setup t) c f → (state_after setup (e ∷ t)).frame f ≡ (state_after setup t).frame f
-      by (Lookup look) rests knows f is has = absurd (false≢true is)
-      by (Read comp look) rests knows f is has = absurd (false≢true is)
       by (Scan (AtCore at core upto page) act) rests knows f is has =
           absurd (false≢true (sym (scans_unclaimed act f knows.starts) ∙ is))
       by (Scan (AtFlush at upto) act) rests knows f is has = absurd (false≢true (sym (scans_unclaimed act f knows.starts) ∙ is))
       by (Acquire pin change act) rests knows f is has = act_claimed c act h rests f is has
       by (act_work act) rests knows f is has = act_claimed c act h rests f is has
+      by _ rests knows f is has = absurd (false≢true is)
 
   -- what it has still to store of threads
   idle_other : MayFollow setup t e → (c : ℕ) → c ≢ e.core → is_in (phase t c) ≡ true → (call : Call) (f : ℕ) → KnowsIdle setup t c call f
@@ -399,7 +376,6 @@ module _ (setup : Setting) (setting : IsSetting setup) (cores : ℕ → Core) (t
       → ((f : ℕ) → (holds_at stage a.counts).marks (FrameAt f) ≡ true → ValueStays f)
       → (is_in (phase t c) ≡ true → ClaimRests c (holds_at stage a.counts))
       → phase t c ≡ phase_at a.call stage → KnowsAt setup t c table a stage → KnowsAt setup (e ∷ t) c table a stage
-  knows_other follows time blanks c users shares table a other Enter held typed claims at has = has
   knows_other follows time blanks c users shares table a other (Living alive) held typed claims at has =
       alive_on setup setting t e stands.legal c a.call at (open_carries follows time c a.call other at) a.call alive has
   knows_other follows time blanks c users shares table a other (Undecided work) held typed claims at has =
@@ -415,8 +391,6 @@ module _ (setup : Setting) (setting : IsSetting setup) (cores : ℕ → Core) (t
       (threads_stay follows c table other (ap is_in at) a work
       (holds_counts (is_done (Undecided work)) a.counts) (claims (ap is_in at)) has.knows)
       has
-  knows_other follows time blanks c users shares table a other (Decided r drawn Nothing) held typed claims at has = has
-  knows_other follows time blanks c users shares table a other (Decided r drawn (Unmark f word)) held typed claims at has = has
   knows_other follows time blanks c users shares table a other (Decided r drawn (StoreDead life stamp)) held typed claims at has =
       dead_on setup t e c a.call (λ own. absurd (other own)) life has
   knows_other follows time blanks c users shares table a other (Decided r drawn (StoreFlush by x)) held typed claims at has = record {
@@ -426,7 +400,6 @@ module _ (setup : Setting) (setting : IsSetting setup) (cores : ℕ → Core) (t
     small = has.small;
     last = flush_of-other c e t other ∙ has.last;
   }
-  knows_other follows time blanks c users shares table a other (Decided r drawn (Release release)) held typed claims at has = has
   knows_other follows time blanks c users shares table a other (Decided r drawn (Share p)) held typed claims at has =
       shares.decided (ap is_in at) a.call p has
   knows_other follows time blanks c users shares table a other
@@ -436,13 +409,12 @@ module _ (setup : Setting) (setting : IsSetting setup) (cores : ℕ → Core) (t
       idle_other follows c other (ap is_in at) a.call f has
   knows_other follows time blanks c users shares table a other (Decided r drawn (StoreLive l live f word)) held typed claims at has =
       live_on setup t e c a.call (λ own. absurd (other own)) l live f word has
-  knows_other follows time blanks c users shares table a other (Decided r drawn (Push push)) held typed claims at has = has
-  knows_other follows time blanks c users shares table a other (Decided r drawn (Pop pop)) held typed claims at has = has
   knows_other follows time blanks c users shares table a other (Decided r drawn (Quiesce close)) held typed claims at has =
       store_on setup t e c a.call (λ own. absurd (other own)) (λ f.
       (stays_in_other setup setting t stands.legal e follows c other (ap is_in at)).relies f) close has
   knows_other follows time blanks c users shares table a other (Leave r x) held typed claims at has =
       leave_on setup t e follows time stands.graces c x other (inside_is setup t c ∙ ap is_in at) has
+  knows_other follows time blanks c users shares table a other _ held typed claims at has = has
 
   call_other : MayFollow setup t e → KeepsTime setup t e → SparesBlanks setup t e → (c : ℕ) → KeepsUsers setup t e c
       → SharesStay setup t e c → (table : ℕ)

@@ -5,8 +5,8 @@ use low.{Tail, ◌≡◌, ◌≢◌, ◌⊎◌, ℕ, ◌+◌, ◌^◌, ◌<◌, 
 use low.{Setting, IsSetting, Call, Reply, Word, CountAt, FlushAt, ClockAt, same_word, Move, word_of, left_of, Thing, FrameOf, put, MayReply}
 use low.{state_by, counted, begins, ends, flushes, alone, calls_counted, put_same, decided-inside, Step, Trace, Out, Open, phase}
 use low.{after_decide, after_return, state_after, state_decided_in, last_left, WasAt, shape_of, IsInFootprint, IsAlone, IsFirst}
-use low.{IsJustified, MayFollow, ends_in, flushes_in, flush_stored, last_small, phase-own, steps_in_call-own, Stage, Nothing, Enter, Living}
-use low.{Undecided, Decided, Leave, ActiveCall, Core, phase_at, Knows, CallIs, WorksIn, CoreIs, KnowsTail, flushing_in, done_by, holds_at}
+use low.{IsJustified, MayFollow, ends_in, flushes_in, flush_stored, last_small, phase-own, steps_in_call-own, Stage, Nothing, Enter}
+use low.{Decided, ActiveCall, Core, phase_at, Knows, CallIs, WorksIn, CoreIs, KnowsTail, flushing_in, done_by, holds_at}
 use low.{holds_in, holds, held_by, Invariant, marks_own, settled_on, sums_stay, counts_on, holds_counts, IsCalm, calm_counted, calm_words}
 use low.{counted_rises, IsUntimed, plain_time, plain_exit, BeginsNone, plain_begins, exclusive_open, exclusive_kept, IsIn as IsInShape}
 use low.{begins_in, IsCore, CallFits, load_keeps, load_marks, load_words, calm_same, none_flushed, exclusive_still}
@@ -62,10 +62,7 @@ pub record OnlyLooks (setup : Setting) (t : Trace) (c : ℕ) (call : Call) (move
 -- A step is still to come of every call.
 pub some_left : (cores : ℕ) (a : ActiveCall) (stage : Stage) → 1 ≤ left_at cores a stage
 some_left cores a Enter = omega arith
-some_left cores a (Living alive) = omega arith
-some_left cores a (Undecided work) = omega arith
-some_left cores a (Decided r drawn tail) = omega arith
-some_left cores a (Leave r x) = omega arith
+some_left cores a _ = omega arith
 
 -- The core c is in the call a.
 module _ (setup : Setting) (setting : IsSetting setup) (cores : ℕ → Core) (t : Trace) (stands : Invariant setup cores t) (c : ℕ)

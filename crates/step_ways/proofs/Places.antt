@@ -1,9 +1,9 @@
 -- What the word of a place of a node is: it carries the mark of a core that is in a call, or says what the place is.
 use Rattle.kept_facts.proofs.{◌≡◌, ◌⊎◌, inl, inr, ℕ, ◌<◌, Option, Some, None, refl, sym, ◌∙◌, ap, subst, IsTrue, false≢true, Setting, Entry}
-use Rattle.kept_facts.proofs.{Held, entry_of_word, EntryAt, Place, Frame, Kernel, Table, Leaf, Pages, Pleaf, PlaceOf, is_node, entry_mark}
+use Rattle.kept_facts.proofs.{entry_of_word, EntryAt, Place, Frame, Kernel, Table, Leaf, Pages, Pleaf, PlaceOf, is_node, entry_mark}
 use Rattle.kept_facts.proofs.{mark_in_frame, Trace, state_after, last_left, stamp, Core, marked_by, settled_by, PlaceIs, IsFrameWord}
 use Rattle.kept_facts.proofs.{held_by, Invariant, limits_of, not_exclusive_value, node_keeps_none}
-use Rattle.kept_facts.specs.entry_words.specs.declared.entry.Entry.TheVariants.{Closing, Free, Quiescing}
+use Rattle.kept_facts.specs.entry_words.specs.declared.entry.Entry.TheVariants.{Closing}
 
 -- The word of a place carries the mark of a core.
 pub record IsMarked (setup : Setting) (t : Trace) (f i : ℕ) : Type 0 where
@@ -33,11 +33,8 @@ node_mark (Kernel Pleaf) i v node = refl
 node_mark _ i v node = absurd (false≢true node)
 
 closing_by : (o : Option Entry) (d : ℕ) → entry_mark o ≡ Some d → o ≡ Some (Closing d)
-closing_by None d h = absurd (cc)
-closing_by (Some Free) d h = absurd (cc)
-closing_by (Some (Held k)) d h = absurd (cc)
 closing_by (Some (Closing e)) d h = ap (λ o. Rattle.std.specs.Prelude.option_map Closing o) h
-closing_by (Some (Quiescing s)) d h = absurd (cc)
+closing_by _ d h = absurd (cc)
 
 -- What is read at a place of a node.
 pub place_reads : (setup : Setting) (cores : ℕ → Core) (t : Trace) → Invariant setup cores t → (f i : ℕ)

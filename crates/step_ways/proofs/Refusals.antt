@@ -97,8 +97,7 @@ module _ (setup : Setting) (t : Trace) (c table n : ℕ) where
   stage_ticks a Enter of plan knows opens is = knows
   stage_ticks a (Living alive) of plan knows opens is = false≢true (subst (λ x. IsTrue (asks_life x)) of knows.asks)
   stage_ticks a (Undecided work) of plan knows opens is = work_ticks a work of plan knows is
-  stage_ticks a (Decided r drawn tail) of plan knows opens is = cc
-  stage_ticks a (Leave r x) of plan knows opens is = cc
+  stage_ticks a _ of plan knows opens is = cc
 
 -- The calls of a core are not spent where it may count one more.
 pub not_spent : (setup : Setting) (core : Core) (t : Trace) (c : ℕ) → CoreIs setup core t c → core.own.made < core.own.limit
@@ -221,14 +220,6 @@ module _ (setup : Setting) (setting : IsSetting setup) (cores : ℕ → Core) (t
       decides_on setup setting cores t stands c here a active move Reply.Unlike a.found looks lands (still None refl) opens refl refl
       (λ x. refl) (λ x. refl) refl (unspent, may) tt
       (first_of Reply.Unlike may_act first)
-
-  pub refuses_short : (n : ℕ) → IsTrue (acts (state_after setup t) c a.call)
-      → RuleMay (state_after setup t) c (rule_of (state_after setup t) c a.call) (Reply.Short n) → IsFirstCause (Reply.Short n)
-      → RefusedWith (Reply.Short n)
-  refuses_short n may_act may first lands =
-      decides_on setup setting cores t stands c here a active move (Reply.Short n) a.found looks lands (still None refl) opens refl refl
-      (λ x. refl) (λ x. refl) refl (unspent, may) tt
-      (first_of (Reply.Short n) may_act first)
 
   pub refuses_running : (d : ℕ) → IsTrue (acts (state_after setup t) c a.call)
       → RuleMay (state_after setup t) c (rule_of (state_after setup t) c a.call) (Reply.Running d)

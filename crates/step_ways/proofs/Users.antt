@@ -3,14 +3,13 @@
 use Rattle.kept_facts.proofs.{◌≡◌, ◌≢◌, ◌⊎◌, ◌<◌, ℕ, inl, inr, Bool, true, false, ◌∷◌, Option, Some, None, refl, sym, ◌∙◌, ap, subst}
 use Rattle.kept_facts.proofs.{IsTrue, All, false≢true, Setting, IsSetting, Call, Retype, Reply, count_of_word, CountAt, word_of, Frame}
 use Rattle.kept_facts.proofs.{User, Kernel, Blank, Pages, Pleaf, FrameOf, PlaceOf, State, is_node, MayReply, ends_by, ends, opened}
-use Rattle.kept_facts.proofs.{counters, MayDecide, MayFollow, IsLegal, marked_by, count_mark, ends_at, ends_in, Step, Trace, Phase, Out}
+use Rattle.kept_facts.proofs.{counters, MayDecide, MayFollow, IsLegal, marked_by, count_mark, ends_at, ends_in, Step, Trace, Phase}
 use Rattle.kept_facts.proofs.{Open, phase, after_enter, state_after, state_entered, state_decided, state_returned, state_before, last_left}
 use Rattle.kept_facts.proofs.{cases_word, open_inj, last_left-here, last_left-there, untypes, Make as make_call, entered_events, KeepsUsers}
 use Rattle.kept_facts.specs.kernel_invariant.proofs.{ends_by_rule, is_typed, TurnsIn, decided_turns}
 use Rattle.kept_facts.specs.kernel_history.proofs.{KeepsMarked, counter_all, Make}
 use Rattle.{kept_facts.proofs.FrameKind, kept_facts.specs.kernel_rules.specs.GracePeriods.is_translated}
 use Rattle.{kept_facts.specs.trace_laws.proofs.Opens.opens}
-use Rattle.kept_facts.specs.kernel_history.specs.Trace as history
 
 -- A step that ends the grace period of a frame, and so makes it untyped, is by a core that holds all counters of the frame.
 abbrev pub SparesCounted : Setting → Trace → Step → Type 0
@@ -24,16 +23,8 @@ spares_none setup t e none f is = absurd (false≢true (sym (none f) ∙ is))
 -- A call that makes no frame untyped ends the grace period of no frame.
 ends_none : (call : Call) → untypes call ≡ false → (f : ℕ) → ends_by call (FrameOf f) ≡ false
 ends_none (Retype r g FrameKind.Untyped) other f = absurd (false≢true (sym other))
-ends_none (Retype r g FrameKind.User) other f = refl
-ends_none (Retype r g FrameKind.Kernel) other f = refl
 ends_none (make_call Make.Table r g u b) other f = refl
-ends_none (make_call Make.Leaf r g u b) other f = refl
-ends_none (make_call Make.Pages r g u b) other f = refl
-ends_none (make_call Make.Pleaf r g u b) other f = refl
-ends_none (make_call (Make.Thread comp) r g u b) other f = refl
-ends_none (make_call (Make.Tcap sched quality) r g u b) other f = refl
-ends_none (make_call (Make.Comp table pages live) r g u b) other f = refl
-ends_none call other f = refl
+ends_none _ other f = refl
 
 ends_no_frame : (call : Call) (r : Reply) → untypes call ≡ false → (f : ℕ) → ends call r (FrameOf f) ≡ false
 ends_no_frame call (Reply.Ok v) other f = ends_none call other f
@@ -103,15 +94,13 @@ module _ (setup : Setting) (setting : IsSetting setup) (t : Trace) (legal : IsLe
       by_phase : (o : Option Reply) → e.decides ≡ o → (q : Phase) → entered ≡ q → MayDecide setup t e o q
           → ends_in o q (FrameOf f) ≡ false
           → (state_decided o q before e.core).frame f ≡ User
-      by_phase None is q at may ends_not = user_before
-      by_phase (Some r) is Out at may ends_not = user_before
       by_phase (Some r) is (Open call) at may ends_not =
           turned call r ends_not _
           (decided_turns before (opened (entered_events t e)) e.core (opens setup setting t legal e follows call at) call r f)
           (λ h. ends_by_rule before (opened (entered_events t e)) e.core (opens setup setting t legal e follows call at) call r
           (PlaceOf f 0)
           (subst (λ k. MayReply before e.core k r) (open_inj may.call call may.is_open) may.permitted) h)
-      by_phase (Some r) is (history.Decided call q) at may ends_not = user_before
+      by_phase _ is _ at may ends_not = user_before
 
 -- They stay at an own step that leaves the frames, and each count that the core has marked.
 pub users_kept : (setup : Setting) (t : Trace) (e : Step) (c : ℕ)
