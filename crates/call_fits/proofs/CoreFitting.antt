@@ -2,7 +2,7 @@
 use Rattle.act_fits.specs.act_states.proofs.{◌≡◌, ℕ, ◌+◌, ◌<◌, ◌≤◌, Option, Some, refl, sym, ◌∙◌, ap, subst, arith, bound_of, InLimits}
 use Rattle.act_fits.specs.act_states.proofs.{Reply, calls_counted, found, own_changed}
 use Rattle.act_fits.specs.call_stages.specs.{left_of, IsActive, CallFits, IsOwn, IsCore, left_for, GoesOn, Decides, took, told, call_after}
-use Rattle.act_fits.specs.act_states.specs.declared.own.OwnChange.TheVariants.{Ticks, GivesBack, Empties, Works, Switches, Caches}
+use Rattle.act_fits.specs.act_states.specs.declared.own.OwnChange.TheVariants.{Ticks}
 use Rattle.act_fits.specs.call_stages.specs.{declared.stages.ActiveCall.ActiveCall, declared.stages.Told.Told}
 use Rattle.act_fits.proofs.{DuesFit.ChangeFits, LandsFit.IsNext, LandsFit.TookFits}
 use Rattle.call_fits.proofs.{Landing.told_goes, Landing.told_decides, Landing.told_changes, Fitting.took_fits}
@@ -31,106 +31,11 @@ active_on own made old a active next = record {
 
 -- What a decision changes beside leaves the core in its ranges.
 changed_on : (own : Own) (change : OwnChange) → IsOwn own → ChangeFits own.layout change → IsOwn (own_changed own change)
-changed_on own (Ticks charged owed) h fits = record {
-  shape = h.shape;
-  core = h.core;
-  thread = h.thread;
-  some_depth = h.some_depth;
-  most_depth = h.most_depth;
-  comp = h.comp;
-  table = h.table;
-  pages = h.pages;
-  tcap = h.tcap;
-  most_calls = h.most_calls;
-  most_epochs = h.most_epochs;
-  made = h.made;
-}
-changed_on own (GivesBack ticks) h fits = record {
-  shape = h.shape;
-  core = h.core;
-  thread = h.thread;
-  some_depth = h.some_depth;
-  most_depth = h.most_depth;
-  comp = h.comp;
-  table = h.table;
-  pages = h.pages;
-  tcap = h.tcap;
-  most_calls = h.most_calls;
-  most_epochs = h.most_epochs;
-  made = h.made;
-}
-changed_on own Empties h fits = record {
-  shape = h.shape;
-  core = h.core;
-  thread = h.thread;
-  some_depth = h.some_depth;
-  most_depth = h.most_depth;
-  comp = h.comp;
-  table = h.table;
-  pages = h.pages;
-  tcap = h.tcap;
-  most_calls = h.most_calls;
-  most_epochs = h.most_epochs;
-  made = h.made;
-}
-changed_on own (Works comp table pages depth) h fits = record {
-  shape = h.shape;
-  core = h.core;
-  thread = h.thread;
-  some_depth = fits.3;
-  most_depth = fits.4;
-  comp = fits.0;
-  table = fits.1;
-  pages = fits.2;
-  tcap = h.tcap;
-  most_calls = h.most_calls;
-  made = h.made;
-  most_epochs = h.most_epochs;
-}
-changed_on own (Switches thread depth comp table pages tcap) h fits = record {
-  shape = h.shape;
-  core = h.core;
-  thread = fits.0;
-  some_depth = fits.1;
-  most_depth = fits.2;
-  comp = fits.3;
-  table = fits.4;
-  pages = fits.5;
-  tcap = fits.6;
-  most_calls = h.most_calls;
-  most_epochs = h.most_epochs;
-  made = h.made;
-}
-changed_on own (Caches item) h fits = record {
-  shape = h.shape;
-  core = h.core;
-  thread = h.thread;
-  some_depth = h.some_depth;
-  most_depth = h.most_depth;
-  comp = h.comp;
-  table = h.table;
-  pages = h.pages;
-  tcap = h.tcap;
-  most_calls = h.most_calls;
-  most_epochs = h.most_epochs;
-  made = h.made;
-}
+changed_on own (Ticks charged owed) h fits = search h
+changed_on own _ h fits = search h
 
 own_on : (own : Own) (made : ℕ) → IsOwn own → made ≤ own.limit → IsOwn (record own { made = made })
-own_on own made h counted = record {
-  shape = h.shape;
-  core = h.core;
-  thread = h.thread;
-  some_depth = h.some_depth;
-  most_depth = h.most_depth;
-  comp = h.comp;
-  table = h.table;
-  pages = h.pages;
-  tcap = h.tcap;
-  most_calls = h.most_calls;
-  most_epochs = h.most_epochs;
-  made = counted;
-}
+own_on own made h counted = search h
 
 -- A core after a step that goes on, and after one that decides.
 pub goes_on : (own : Own) (active : Option ActiveCall) (a new : ActiveCall) (found : ℕ) → IsCore (record { own = own; active = active })
@@ -167,83 +72,17 @@ decides_on own active a new r counted found h is decided next count =
 
 made_changed : (own : Own) (change : OwnChange) → (own_changed own change).made ≡ own.made
 made_changed own (Ticks charged owed) = refl
-made_changed own (GivesBack ticks) = refl
-made_changed own Empties = refl
-made_changed own (Works comp table pages depth) = refl
-made_changed own (Switches thread depth comp table pages tcap) = refl
-made_changed own (Caches item) = refl
+made_changed own _ = refl
 
 limit_changed : (own : Own) (change : OwnChange) → (own_changed own change).limit ≡ own.limit
 limit_changed own (Ticks charged owed) = refl
-limit_changed own (GivesBack ticks) = refl
-limit_changed own Empties = refl
-limit_changed own (Works comp table pages depth) = refl
-limit_changed own (Switches thread depth comp table pages tcap) = refl
-limit_changed own (Caches item) = refl
+limit_changed own _ = refl
 
 -- a call fits its core still where a decision changes what the core has of its own beside
 active_changed : (own : Own) (change : OwnChange) (made : ℕ) (a : ActiveCall) → IsActive (record own { made = made }) a
     → IsActive (record (own_changed own change) { made = made }) a
-active_changed own (Ticks charged owed) made a on = record {
-  limits = on.limits;
-  found = on.found;
-  first = on.first;
-  stage = on.stage;
-  acquired = on.acquired;
-  counts = on.counts;
-  room = on.room;
-  steps = on.steps;
-}
-active_changed own (GivesBack ticks) made a on = record {
-  limits = on.limits;
-  found = on.found;
-  first = on.first;
-  stage = on.stage;
-  acquired = on.acquired;
-  counts = on.counts;
-  room = on.room;
-  steps = on.steps;
-}
-active_changed own Empties made a on = record {
-  limits = on.limits;
-  found = on.found;
-  first = on.first;
-  stage = on.stage;
-  acquired = on.acquired;
-  counts = on.counts;
-  room = on.room;
-  steps = on.steps;
-}
-active_changed own (Works comp table pages depth) made a on = record {
-  limits = on.limits;
-  found = on.found;
-  first = on.first;
-  stage = on.stage;
-  acquired = on.acquired;
-  counts = on.counts;
-  room = on.room;
-  steps = on.steps;
-}
-active_changed own (Switches thread depth comp table pages tcap) made a on = record {
-  limits = on.limits;
-  found = on.found;
-  first = on.first;
-  stage = on.stage;
-  acquired = on.acquired;
-  counts = on.counts;
-  room = on.room;
-  steps = on.steps;
-}
-active_changed own (Caches item) made a on = record {
-  limits = on.limits;
-  found = on.found;
-  first = on.first;
-  stage = on.stage;
-  acquired = on.acquired;
-  counts = on.counts;
-  room = on.room;
-  steps = on.steps;
-}
+active_changed own (Ticks charged owed) made a on = search on
+active_changed own _ made a on = search on
 
 pub changes_on : (own : Own) (active : Option ActiveCall) (a new : ActiveCall) (r : Reply) (change : OwnChange) (counted found : ℕ)
     → IsCore (record { own = own; active = active }) → active ≡ Some a
@@ -270,11 +109,7 @@ changes_on own active a new r change counted found h is decided next count =
 
 layout_changed : (own : Own) (change : OwnChange) → (own_changed own change).layout ≡ own.layout
 layout_changed own (Ticks charged owed) = refl
-layout_changed own (GivesBack ticks) = refl
-layout_changed own Empties = refl
-layout_changed own (Works comp table pages depth) = refl
-layout_changed own (Switches thread depth comp table pages tcap) = refl
-layout_changed own (Caches item) = refl
+layout_changed own _ = refl
 
 pub changes_to : (own own' : Own) (active : Option ActiveCall) (a new : ActiveCall) (r : Reply) (change : OwnChange) (counted found : ℕ)
     → IsCore (record { own = own; active = active }) → active ≡ Some a

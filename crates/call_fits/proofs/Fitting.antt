@@ -21,7 +21,7 @@ use Rattle.act_fits.specs.stage_thread.specs.{AliveFits, lives_end, number_end, 
 use Rattle.act_fits.specs.stage_pins.specs.{PinFits, end_by_hold, load_end, after_load, AcquiredFits, pushed as count_pushed}
 use Rattle.act_fits.specs.stage_tcap.specs.{Untyped, ChargeFits, after_mark, after_head, Blank}
 use Rattle.act_fits.specs.stage_quiet.specs.{stamp_of_clock, CloseFits, close_compared, close_at}
-use Rattle.act_fits.proofs.{few_dues, TookFits}
+use Rattle.act_fits.proofs.{few_dues, TookFits, StepsFit.starts_fit, DuesFit.StepFits, DuesFit.object_count, DuesFit.work_next}
 use Rattle.std.proofs.lemmas.List.Elements.{All-nil, All-cons, All-tail, All-append}
 use Rattle.act_fits.specs.stage_pins.specs.{declared.pin.Pin.TheVariants.AtCompare, Acquire.PinnedFits, Acquire.EndFits, Acquire.after_hold}
 use Rattle.act_fits.specs.act_states.specs.declared.own.OwnChange.TheVariants.{Ticks, Empties}
@@ -32,15 +32,14 @@ use Rattle.act_fits.specs.act_states.specs.declared.work.Act.TheVariants.{Make a
 use Rattle.act_fits.specs.act_states.specs.declared.work.Act.TheVariants.{Kill as kill_act, Untype as untype_act, Map as map_act}
 use Rattle.act_fits.specs.act_states.specs.declared.work.Act.TheVariants.{MakeComp as comp_act, Invoke as invoke_act, Return as return_act}
 use Rattle.act_fits.specs.act_states.specs.declared.work.Act.TheVariants.{Switch as switch_act, Touch as touch_act, Share as share_act}
-use Rattle.act_fits.specs.act_states.specs.declared.work.Tail.TheVariants.{Nothing, Quiesce, Unmark, StoreDead, StoreFlush, Release}
-use Rattle.act_fits.specs.act_states.specs.declared.work.Tail.TheVariants.{StoreLive, Push, Pop, StoreRunning, StoreIdle, Share}
+use Rattle.act_fits.specs.act_states.specs.declared.work.Tail.TheVariants.{Nothing, Quiesce, Unmark, StoreFlush, Release}
+use Rattle.act_fits.specs.act_states.specs.declared.work.Tail.TheVariants.{StoreLive, Push, Pop, StoreRunning, Share}
 use Rattle.act_fits.specs.act_states.specs.declared.work.Work.TheVariants.{Lookup, Read, Scan, Acquire, Act}
 use Rattle.act_fits.specs.act_states.specs.declared.work.WorkStep.TheVariants.{Goes, Acquires, Refuses, Answers, Changes as work_changes}
 use Rattle.act_fits.specs.call_stages.specs.Fits.{WorkFits, CountsWait, left_of_alive, left_of_look, left_of_pin}
 use Rattle.act_fits.specs.call_stages.specs.declared.stages.Stage.TheVariants.{Enter, Living, Undecided, Decided, Leave}
-use Rattle.act_fits.proofs.{StepsFit.starts_fit, DuesFit.StepFits, DuesFit.object_count, DuesFit.work_next, DuesFit.counts_next}
-use Rattle.act_fits.proofs.{DuesFit.ChangeFits, LandsFit.Facts, LandsFit.next_fits, LandsFit.landed_fits, ScansFit.scan_goes}
-use Rattle.act_fits.proofs.{ScansFit.scan_left, KillsFit.kill_fits, UntypingsFit.untype_fits, UntypingsFit.undone_fits}
+use Rattle.act_fits.proofs.{DuesFit.counts_next, DuesFit.ChangeFits, LandsFit.Facts, LandsFit.next_fits, LandsFit.landed_fits}
+use Rattle.act_fits.proofs.{ScansFit.scan_goes, ScansFit.scan_left, KillsFit.kill_fits, UntypingsFit.untype_fits, UntypingsFit.undone_fits}
 use Rattle.act_fits.proofs.{UntypingsFit.released_fits, CompsFit.comp_fits, CompsFit.comp_undone, SwitchesFit.switch_fits}
 use Rattle.act_fits.proofs.{SwitchesFit.switching_undone, InvocationsFit.invoke_fits, InvocationsFit.return_fits, InvocationsFit.push_fits}
 use Rattle.act_fits.proofs.{InvocationsFit.pop_fits, TouchesFit.touch_fits, RefillsFit.refill_fits, SharesFit.share_fits}
@@ -376,8 +375,7 @@ module _ (own : Own) (a : ActiveCall) (facts : Facts own a) (room : own.made < o
     where
       by_hold : (v : CountWord) (h : Hold) → end_by_hold h ≡ StageEnd.Going → left_of_pin (after_hold frame core v.count v.stamp h) < 2
       by_hold v Hold.Unheld is = omega arith
-      by_hold v (Hold.Pinned d) is = absurd (cc)
-      by_hold v (Hold.Closed d) is = absurd (cc)
+      by_hold v _ is = absurd (cc)
 
       by : (o : Option CountWord) → load_end o ≡ StageEnd.Going → left_of_pin (after_load frame core o) < 2
       by None is = absurd (cc)
@@ -394,8 +392,7 @@ module _ (own : Own) (a : ActiveCall) (facts : Facts own a) (room : own.made < o
     where
       by_hold : (h : Hold) → EndFits s (end_by_hold h)
       by_hold Hold.Unheld = tt
-      by_hold (Hold.Pinned d) = tt
-      by_hold (Hold.Closed d) = tt
+      by_hold _ = tt
 
       by : (o : Option CountWord) → EndFits s (load_end o)
       by None = tt

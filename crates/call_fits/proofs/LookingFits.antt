@@ -2,12 +2,12 @@
 use Rattle.act_fits.specs as low
 use low.act_states.proofs.{◌≡◌, ℕ, suc, if◌then◌else◌, ◌+◌, ◌%◌, ◌<◌, ◌≤◌, Bool, true, false, List, [], ◌∷◌, length, Option, Some, None}
 use low.act_states.proofs.{IfSome, refl, sym, ◌∙◌, ap, subst, arith, Acquired, Capability, Entry, CapNames, is_link, end_by_link, place_end}
-use low.act_states.proofs.{Look, AtRoot, AtLeaf, AtEntry, First, Name, Nowhere, at_place, pushed, want_of, with_found, names_after, next_in}
+use low.act_states.proofs.{Look, AtRoot, AtLeaf, AtEntry, First, Name, at_place, pushed, want_of, with_found, names_after, next_in}
 use low.act_states.proofs.{refusal_of, refuse, act_begun, met_name, met_free, met_held, plan_for, Reply}
 use low.call_stages.specs.{FoundFits, names_left, steps_later, landed, found_more, next_by, named_one, took_found, took_end, took_look}
 use low.act_states.specs.{has_rights, look_steps, act_steps, met_right}
 use low.stage_look.specs.{EntryNames, LookFits, after_link, Lookup.FoundFits as PlaceFits, declared.look.Found.Found}
-use low.call_plans.specs.declared.plans.Target.TheVariants.{Free, Held, Own as own_page}
+use low.call_plans.specs.declared.plans.Target.TheVariants.{Free, Held}
 use low.call_plans.proofs.{Roots.count_led, Roots.after_more, Roots.pushed_one, FewNames.few_names, AfterNames.NextBy, AfterNames.one_more}
 use low.act_states.specs.{declared.refusals.Refusal.Refusal, declared.own.Own.Own, declared.lookups.Met.TheVariants.Finds}
 use low.act_states.specs.{declared.lookups.Met.TheVariants.Refused, declared.work.Work.TheVariants.Lookup, declared.work.WorkStep.WorkStep}
@@ -117,17 +117,15 @@ module _ (own : Own) (a : ActiveCall) (facts : Facts own a) (none : a.counts ≡
 
   pub free_fits : (left : ℕ) (f : Found) (value : Entry) → PlaceFits own.layout f → 2 + after_reading a.call own.layout.cores < left
       → TookFits own left a (landed a (met_free own a.call a.found a.read f value))
-  free_fits left f Entry.Free fits some = acts_on left a.read f fits some
   free_fits left f (Entry.Held k) fits some = refused_fits left Refusal.Occupied (omega arith)
   free_fits left f (Entry.Closing by) fits some = refused_fits left (Refusal.Busy by) (omega arith)
-  free_fits left f (Entry.Quiescing stamp) fits some = acts_on left a.read f fits some
+  free_fits left f _ fits some = acts_on left a.read f fits some
 
   pub held_fits : (left : ℕ) (f : Found) (value : Entry) → PlaceFits own.layout f → 2 + after_reading a.call own.layout.cores < left
       → TookFits own left a (landed a (met_held own a.call a.found f value))
-  held_fits left f Entry.Free fits some = refused_fits left Refusal.Empty (omega arith)
   held_fits left f (Entry.Held k) fits some = acts_on left None f fits some
   held_fits left f (Entry.Closing by) fits some = refused_fits left (Refusal.Busy by) (omega arith)
-  held_fits left f (Entry.Quiescing stamp) fits some = refused_fits left Refusal.Empty (omega arith)
+  held_fits left f _ fits some = refused_fits left Refusal.Empty (omega arith)
 
   -- the place that was looked for is found
   pub found_case : (left : ℕ) (names : List Name) (target : Target) (f : Found) → names_left a ≡ names → (plan_for a.call).target ≡ target
@@ -137,10 +135,9 @@ module _ (own : Own) (a : ActiveCall) (facts : Facts own a) (none : a.counts ≡
   found_case left (name ∷ rest) target f is to fits some =
       met_fits left name rest f.value is fits.names (subst (λ (t : Target). 2 + (look_steps rest t + act_steps a.call own.layout.cores) <
       left) (sym to) some)
-  found_case left [] Nowhere f is to fits some = refused_fits left Refusal.Raced (omega arith)
   found_case left [] (Free spot) f is to fits some = free_fits left f f.value fits (omega arith)
   found_case left [] (Held spot) f is to fits some = held_fits left f f.value fits (omega arith)
-  found_case left [] (own_page v) f is to fits some = refused_fits left Refusal.Raced (omega arith)
+  found_case left [] _ f is to fits some = refused_fits left Refusal.Raced (omega arith)
 
   pub place_fits : (left : ℕ) (look : Look) (node index word : ℕ) (shown : Option Entry) → IfSome shown (EntryNames own.layout.frames)
       → node < own.layout.frames → index < 64
