@@ -1,18 +1,16 @@
 -- Replies as words: the words of a reply in range are read as that reply.
-use Rattle.kernel_history.proofs.{◌≡◌, ◌≢◌, ℕ, ◌<◌, ◌≤◌, ◌==◌, Bool, true, false, List, [], ◌∷◌, ◌^◌, length, map, None, Ok, refl, sym, ap}
+use Rattle.kernel_history.proofs.{◌≡◌, ◌≢◌, ℕ, ◌<◌, ◌≤◌, ◌==◌, Bool, true, false, List, [], ◌∷◌, ◌^◌, length, Ok, refl, sym, ap}
 use Rattle.kernel_history.proofs.{◌∙◌, arith, codes, and_from, eqb-true, eqb-false, lt-ltb, Kind, Value, Reply}
-use Rattle.script_printer.specs.script_tokens.specs.{spans, first_fault, line_count, ending_from, before_fault, word_at as word_there}
-use Rattle.script_printer.proofs.{is_line, are_lines, line_onto}
 use Rattle.reply_reads.specs.{reply_words, IsReplyWithin}
 use Rattle.kernel_history.specs.kernel_rules.specs.{decimal, least_rights}
-use Rattle.kernel_history.specs.spk_nums.specs.{Limits.end_of_arg, Limits.least_arg, Names.kind_word, Names.reply_word}
+use Rattle.kernel_history.specs.spk_nums.specs.{Limits.end_of_arg, Limits.least_arg, Names.kind_word}
 use Rattle.script_printer.specs.line_reader.specs.{Lines.rows_of, Numerals.is_digits, Arguments.is_word, Arguments.word_at}
-use Rattle.script_printer.proofs.Spans.{lines_rows, lines_fault}
+use Rattle.script_printer.proofs.Spans.{lines_scanned}
 use Rattle.script_printer.proofs.NumberWords.{number_digits, number_back, core_back}
 use Rattle.history_reader.specs.Replies.{kind_of, arg_at, rights_place, fewer_rights, both_rights, rights_at, cap_at, ticks_at, page_at}
 use Rattle.history_reader.specs.Replies.{said_at, numbers_at, named_at, value_at, later_name, plain_name, reply_name, core_named}
 use Rattle.history_reader.specs.Replies.{count_named, reply_by, reply_of}
-use Rattle.reply_reads.specs.{Words.rights_words, Words.cap_words_by, Words.value_words, Words.words_after, Laws.RepliesReadBack}
+use Rattle.reply_reads.specs.{Words.rights_words, Words.cap_words_by, Words.value_words, Laws.RepliesReadBack}
 use Rattle.reply_reads.proofs.Texts.{reply_spaced, reply_onto, reply_is_line}
 use Rattle.{script_printer.specs.script_tokens.specs.words_of, std.proofs.lemmas.Fmt.decimal_nonempty, reply_ranges.specs.Ranges.ValueFits}
 use Rattle.{script_printer.specs.line_reader.specs.Arguments.end_at}
@@ -153,21 +151,10 @@ reply_read cores most _ h = refl
 
 -- ---- the law
 
--- A line of words has these words.
-one_row : (w : List ℕ) (ws : List (List ℕ)) → is_line (w ∷ ws) ≡ true
-    → rows_of (words_of (line_onto (w ∷ ws) [])) ≡ record { number = 1; words = w ∷ ws } ∷ []
-one_row w ws is =
-    let lines = (w ∷ ws) ∷ [] in
-    let source = line_onto (w ∷ ws) [] in
-    let are : are_lines lines ≡ true = and_from _ _ is refl in
-    let fault : first_fault 1 source ≡ None = lines_fault 1 lines are (omega arith) in
-    ap (λ o. rows_of (map (word_there source) (before_fault (ending_from o (line_count source)) (spans 1 0 false source)))) fault
-    ∙ lines_rows source 1 0 lines are refl
-
 pub replies_read_back : RepliesReadBack
 replies_read_back cores most r h = record {
   text = reply_spaced r;
   row = ap (λ (bytes : List ℕ). rows_of (words_of bytes)) (reply_onto r [])
-      ∙ one_row (reply_word r) (words_after r) (reply_is_line cores most r h);
+      ∙ (lines_scanned (reply_words r ∷ []) (and_from _ _ (reply_is_line cores most r h) refl) (omega arith)).rows;
   read = reply_read cores most r h;
 }

@@ -56,7 +56,7 @@ reply_spaced _ = refl
 
 -- A line of the text of a reply is a line of its words.
 pub reply_onto : (r : Reply) (rest : List ℕ) → reply_text r ++ 10 ∷ rest ≡ line_onto (reply_words r) rest
-reply_onto r rest = ap (λ (bs : List ℕ). bs ++ 10 ∷ rest) (reply_spaced r) ∙ spaced_onto (reply_word r) (words_after r) rest
+reply_onto r rest = ap (λ (bs : List ℕ). bs ++ 10 ∷ rest) (reply_spaced r) ∙ spaced_onto (reply_words r) (10 ∷ rest)
 
 -- ---- its words are words
 

@@ -75,10 +75,7 @@ then_read r f a c e h = ap (λ x. x >>= f) e ∙ h
 last_says : (v : Verb) (version : ℕ) (f : Form) (before : List Argument) (c : Call) → IsLast f → AllSay v f before → MaySay version f c
     → said c ≡ with v before
 last_says v version (Form.Says d) before c last all may = ap said (sym may) ∙ all
-last_says v version (Form.Number letter least most next) before c last all may = absurd last
-last_says v version (Form.MayNumber letter next) before c last all may = absurd last
-last_says v version (Form.Kind letter next) before c last all may = absurd last
-last_says v version (Form.Made letter next) before c last all may = absurd last
+last_says v version _ before c last all may = absurd last
 
 no_more : {A : Type 0} (two more : Bool) (x y z : A) → more ≡ false → y ≡ z → (if two && more then x else y) ≡ z
 no_more true true x y z e h = absurd cc

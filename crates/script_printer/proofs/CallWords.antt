@@ -6,23 +6,24 @@ use Rattle.std.proofs.lemmas.Bool.{and_from}
 use Rattle.script_reader.specs.call_reader.specs.{Form, form_of, MaySay, IsCallWithin}
 use Rattle.script_reader.specs.call_reader.proofs.{Judgements.both_left, Judgements.both_right, Forms.AllSay, Forms.forms_say}
 use Rattle.script_printer.specs.{call_line}
-use Rattle.script_printer.proofs.Spans.{is_text, are_texts, is_line, line_onto}
+use Rattle.script_printer.proofs.Spans.{is_text, are_texts, is_line, words_onto, line_onto}
 use Rattle.script_printer.proofs.NumberWords.{number_text}
-use low.Verbs.{Argument, argument_word, verb_word, object_word, rights_written, said, call_word, call_words}
+use low.Verbs.{Argument, argument_word, verb_word, object_word, rights_written, said, call_words}
 use low.{Texts.spaced, Texts.call_text, Names.frame_kind_word, Rights.both, declared.kinds.FrameKind.FrameKind}
 use low.{declared.calls.Call.Call, declared.verbs.Verb.Verb, declared.verbs.Object.Object}
 
 -- ---- the line is its words
 
--- words with a space between, before the bytes after them, are the line of these words
-pub spaced_onto : (w : List ℕ) (ws : List (List ℕ)) (rest : List ℕ) → spaced (w ∷ ws) ++ 10 ∷ rest ≡ line_onto (w ∷ ws) rest
-spaced_onto w [] rest = refl
-spaced_onto w (v ∷ ws) rest =
-    append_assoc w (32 ∷ spaced (v ∷ ws)) (10 ∷ rest) ∙ ap (λ (bs : List ℕ). w ++ 32 ∷ bs) (spaced_onto v ws rest)
+-- words with a space between, before the bytes after them
+pub spaced_onto : (ws : List (List ℕ)) (tail : List ℕ) → spaced ws ++ tail ≡ words_onto ws tail
+spaced_onto [] tail = refl
+spaced_onto (w ∷ []) tail = refl
+spaced_onto (w ∷ v ∷ ws) tail =
+    append_assoc w (32 ∷ spaced (v ∷ ws)) tail ∙ ap (λ t. w ++ 32 ∷ t) (spaced_onto (v ∷ ws) tail)
 
 -- the line of a call, before the bytes after it
 pub call_onto : (c : Call) (rest : List ℕ) → call_line c ++ rest ≡ line_onto (call_words c) rest
-call_onto c rest = append_assoc (call_text c) (10 ∷ []) rest ∙ spaced_onto (call_word c) (map argument_word (said c).arguments) rest
+call_onto c rest = append_assoc (call_text c) (10 ∷ []) rest ∙ spaced_onto (call_words c) (10 ∷ rest)
 
 -- ---- its words are words
 

@@ -2,8 +2,7 @@
 use Rattle.std.proofs.Common.{◌≡◌, ℕ, zero, suc, ◌+◌, ◌%◌, ◌<◌, ◌≤◌, Bool, true, false, cond, List, [], ◌∷◌, ◌++◌, All, Some, Ok, refl, sym}
 use Rattle.std.proofs.Common.{ap, ◌∙◌, arith, append_assoc, inl, inr, codes, decimal, ◌==◌, lt-ltb, append-nil}
 use Rattle.std.proofs.{lemmas.Bool.cases_Bool, lemmas.List.Elements.All-head, lemmas.List.Elements.All-tail, lemmas.Fmt.decimal_digit}
-use Rattle.spk_nums.specs.{declared.steps.How.How, declared.steps.How.TheVariants.One, declared.steps.How.TheVariants.Ready}
-use Rattle.spk_nums.specs.{declared.steps.How.TheVariants.Decide, declared.steps.How.TheVariants.Return, declared.steps.Item.Item}
+use Rattle.spk_nums.specs.{declared.steps.How.How, declared.steps.How.TheVariants.One, declared.steps.Item.Item}
 use Rattle.script_reader.specs.line_reader.specs.Numerals.{value_of}
 use Rattle.script_reader.specs.Orders.{parts_of, item_of}
 use Rattle.script_printer.specs.Printing.{how_text, item_text, before_item, items_text, order_lines}
@@ -79,17 +78,6 @@ order_onto (i ∷ is) = append_assoc (codes "order") (items_text 0 (i ∷ is)) (
 
 -- ---- items are words
 
-below_eight : (P : ℕ → Type 0) → P 0 → P 1 → P 2 → P 3 → P 4 → P 5 → P 6 → P 7 → (n : ℕ) → n < 8 → P n
-below_eight P p0 p1 p2 p3 p4 p5 p6 p7 zero h = p0
-below_eight P p0 p1 p2 p3 p4 p5 p6 p7 (suc zero) h = p1
-below_eight P p0 p1 p2 p3 p4 p5 p6 p7 (suc (suc zero)) h = p2
-below_eight P p0 p1 p2 p3 p4 p5 p6 p7 (suc (suc (suc zero))) h = p3
-below_eight P p0 p1 p2 p3 p4 p5 p6 p7 (suc (suc (suc (suc zero)))) h = p4
-below_eight P p0 p1 p2 p3 p4 p5 p6 p7 (suc (suc (suc (suc (suc zero))))) h = p5
-below_eight P p0 p1 p2 p3 p4 p5 p6 p7 (suc (suc (suc (suc (suc (suc zero)))))) h = p6
-below_eight P p0 p1 p2 p3 p4 p5 p6 p7 (suc (suc (suc (suc (suc (suc (suc zero))))))) h = p7
-below_eight P p0 p1 p2 p3 p4 p5 p6 p7 (suc (suc (suc (suc (suc (suc (suc (suc n)))))))) h = absurd (omega arith)
-
 -- an item of one digit
 abbrev digit_item : ℕ → How → List ℕ
 digit_item core how = (48 + core) ∷ how_text how
@@ -97,32 +85,26 @@ digit_item core how = (48 + core) ∷ how_text how
 item_digit : (core : ℕ) (how : How) → core < 8 → decimal core ++ how_text how ≡ digit_item core how
 item_digit core how h = ap (λ ds. ds ++ how_text how) (decimal_digit core (omega arith))
 
-digit_text : (how : How) (core : ℕ) → core < 8 → is_text (digit_item core how) ≡ true
-digit_text One core h = below_eight (λ n. is_text (digit_item n One) ≡ true) refl refl refl refl refl refl refl refl core h
-digit_text Ready core h = below_eight (λ n. is_text (digit_item n Ready) ≡ true) refl refl refl refl refl refl refl refl core h
-digit_text Decide core h = below_eight (λ n. is_text (digit_item n Decide) ≡ true) refl refl refl refl refl refl refl refl core h
-digit_text Return core h = below_eight (λ n. is_text (digit_item n Return) ≡ true) refl refl refl refl refl refl refl refl core h
+-- it is a word, and has these parts
+record IsItem (core : ℕ) (how : How) : Type 0 where
+  text : is_text (digit_item core how) ≡ true
+  parts : parts_of (digit_item core how) ≡ Some (record { digits = (48 + core) ∷ []; how = how })
+
+is_item : (how : How) (core : ℕ) → core < 8 → IsItem core how
+unfolding parts_of
+is_item One zero h = record { text = refl; parts = refl }
+is_item _ (suc (suc (suc (suc (suc (suc (suc (suc n)))))))) h = absurd (omega arith)
+is_item _ _ h = record { text = refl; parts = refl }
 
 pub item_is_text : (i : Item) → i.core < 8 → is_text (item_text i) ≡ true
-item_is_text i h = ap is_text (item_digit i.core i.how h) ∙ digit_text i.how i.core h
-
-digit_parts : (how : How) (core : ℕ) → core < 8 → parts_of (digit_item core how) ≡ Some (record { digits = (48 + core) ∷ []; how = how })
-unfolding parts_of
-digit_parts One core h = below_eight (λ n. parts_of (digit_item n One) ≡ Some (record { digits = (48 + n) ∷ []; how = One }))
-    refl refl refl refl refl refl refl refl core h
-digit_parts Ready core h = below_eight (λ n. parts_of (digit_item n Ready) ≡ Some (record { digits = (48 + n) ∷ []; how = Ready }))
-    refl refl refl refl refl refl refl refl core h
-digit_parts Decide core h = below_eight (λ n. parts_of (digit_item n Decide) ≡ Some (record { digits = (48 + n) ∷ []; how = Decide }))
-    refl refl refl refl refl refl refl refl core h
-digit_parts Return core h = below_eight (λ n. parts_of (digit_item n Return) ≡ Some (record { digits = (48 + n) ∷ []; how = Return }))
-    refl refl refl refl refl refl refl refl core h
+item_is_text i h = ap is_text (item_digit i.core i.how h) ∙ (is_item i.how i.core h).text
 
 digit_read : (version cores core : ℕ) (how : How) → core < cores → core < 8
     → item_of version cores (digit_item core how) ≡ Ok (record { core = core; how = how })
 unfolding item_of
 digit_read version cores core how below h =
     let value : value_of ((48 + core) ∷ []) ≡ core = omega arith in
-    rw (digit_parts how core h, value, lt-ltb core cores below) refl
+    rw ((is_item how core h).parts, value, lt-ltb core cores below) refl
 
 -- an item is read as it was printed
 pub item_read : (version cores : ℕ) (i : Item) → i.core < cores → cores ≤ 8 → item_of version cores (item_text i) ≡ Ok i

@@ -10,7 +10,7 @@ use Rattle.{script_reader.specs.script_tokens.specs.is_feed, script_reader.specs
 use Rattle.{script_reader.specs.script_tokens.specs.Words.ends_open, script_printer.specs.Law.most_list_lines}
 use Rattle.{script_printer.specs.Law.most_lines, script_printer.proofs.PrintedLines.script_are_lines}
 
-grants_length : (gs : List Grant) (lines : List (List (List ℕ))) → length (grants_then gs lines) ≡ length gs + length lines
+pub grants_length : (gs : List Grant) (lines : List (List (List ℕ))) → length (grants_then gs lines) ≡ length gs + length lines
 grants_length [] lines = omega arith
 grants_length (g ∷ gs) lines = omega (arith, grants_length gs lines)
 

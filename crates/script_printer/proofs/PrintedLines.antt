@@ -1,20 +1,19 @@
 -- The printed form of a script is its lines of words, and is read as that script.
 use Rattle.script_printer.proofs as low
-use Rattle.std.proofs.Common.{◌≡◌, ℕ, ◌+◌, ◌-◌, ◌<◌, ◌≤◌, ◌^◌, true, false, List, [], ◌∷◌, ◌++◌, length, map, All, None, Ok, refl, ap}
-use Rattle.std.proofs.Common.{subst, ◌∙◌, arith, append_assoc, codes, decimal, count_by, flat_map}
-use Rattle.script_reader.specs.script_tokens.specs.{is_feed, first_fault, line_count, ending_from, ending_of, before_fault, spans, word_at}
+use Rattle.std.proofs.Common.{◌≡◌, ℕ, ◌+◌, ◌-◌, ◌<◌, ◌≤◌, ◌^◌, true, List, [], ◌∷◌, ◌++◌, length, All, Ok, refl, ap}
+use Rattle.std.proofs.Common.{subst, ◌∙◌, arith, append_assoc, codes, decimal, flat_map}
+use Rattle.script_reader.specs.script_tokens.specs.{line_count, ending_of}
 use Rattle.script_printer.specs.{setup_lines, call_line, list_lines, printed, line, IsCallWithin, IsWithin}
 use Rattle.script_reader.specs.{Meaning, no_draft, draft_from, meaning_at, script_of, BelowCores}
 use Rattle.std.proofs.{lemmas.Bool.and_from, lemmas.List.Elements.All-head, lemmas.List.Elements.All-tail, lemmas.List.Elements.All-weaker}
 use Rattle.spk_nums.specs.{declared.calls.Call.Call, declared.grants.Grant.Grant, declared.steps.Item.Item, Setting.Setting}
 use Rattle.script_printer.specs.Printing.{grant_line, size_lines, limit_lines, core_lines, order_lines}
 use Rattle.script_reader.specs.call_reader.proofs.Judgements.{both_left}
-use low.Spans.{is_line, are_lines, line_onto, lines_onto, rows_from, lines_rows, lines_fault, lines_count}
+use low.Spans.{is_line, are_lines, line_onto, lines_onto, rows_from, lines_scanned, lines_count}
 use low.HeadLines.{speck_words, cores_words, frames_words, grant_words, calls_words, epochs_words}
 use low.ReadingLines.{Says, grants_then, calls_then, core_then, lists_then, script_lines, script_says}
-use Rattle.{script_reader.specs.script_tokens.specs.words_of, script_reader.specs.line_reader.specs.rows_of}
 use Rattle.{script_reader.specs.line_reader.specs.and_then, spk_nums.specs.Setting.GrantFits, spk_nums.specs.Setting.IsSetting}
-use Rattle.{spk_nums.specs.Texts.with_one, script_reader.specs.script_tokens.specs.declared.scanning.Ending.TheVariants.Whole}
+use Rattle.spk_nums.specs.{Texts.with_one}
 use low.{NumberWords.number_text, CallWords.call_onto, CallWords.call_is_line, ItemWords.order_rows, ItemWords.order_onto}
 use low.{ItemWords.rows_lines}
 
@@ -166,13 +165,9 @@ lines_read : (lines : List (List (List ℕ))) (m : Meaning) → are_lines lines 
 unfolding script_of
 lines_read lines m are few says =
     let source = lines_onto lines [] in
-    let feeds : count_by is_feed source ≡ length lines = lines_count lines are in
-    let fault : first_fault 1 source ≡ None = lines_fault 1 lines are (omega arith) in
-    let ending : ending_of source ≡ Whole (line_count source) = ap (λ o. ending_from o (line_count source)) fault in
-    let rows : rows_of (words_of source) ≡ rows_from 1 lines =
-    ap (λ e. rows_of (map (word_at source) (before_fault e (spans 1 0 false source)))) ending ∙ lines_rows source 1 0 lines are refl in
-    ap (λ rs. and_then (draft_from no_draft rs) (λ d. meaning_at d (ending_of source))) rows
-    ∙ ap (λ e. and_then (draft_from no_draft (rows_from 1 lines)) (λ d. meaning_at d e)) ending
+    let scanned = lines_scanned lines are (omega (arith, few, lines_count lines are)) in
+    ap (λ rs. and_then (draft_from no_draft rs) (λ d. meaning_at d (ending_of source))) scanned.rows
+    ∙ ap (λ e. and_then (draft_from no_draft (rows_from 1 lines)) (λ d. meaning_at d e)) scanned.ending
     ∙ says.says 1 (line_count source)
 
 pub printed_read : (m : Meaning) → IsWithin m → script_of (printed m) ≡ Ok m

@@ -1,11 +1,12 @@
 -- What bytes say is a script within the limits.
 use Rattle.script_reader.specs as low
-use Rattle.std.proofs.Common.{◌≡◌, ℕ, ◌+◌, ◌*◌, ◌≤◌, ◌<◌, Bool, true, false, cond, eqb, ltb, List, [], ◌∷◌, ◌++◌, length, All, Option, Some}
+use Rattle.std.proofs.Common.{◌≡◌, ℕ, ◌+◌, ◌*◌, ◌^◌, ◌≤◌, ◌<◌, Bool, true, false, cond, eqb, ltb, List, [], ◌∷◌, ◌++◌, length, All, Option, Some}
 use Rattle.std.proofs.Common.{None, Result, Ok, Err, refl, sym, ap, subst, ◌∙◌, arith, inl, inr, slice_get, ok_or, option_and_then}
 use Rattle.std.proofs.Common.{eqb-true, ltb-true, length-set, length-take-le}
 use low.{may_stand, granted, is_whole, line_of, line_by, core_line, order_line, item_of, items_of, Draft_of, Meaning, no_draft, calls_of}
 use low.{with_call, with_line, is_order, behind_line, draft_behind, draft_from, meaning_of, meaning_at, script_of, BelowCores}
-use low.line_reader.specs.{◌>>=◌, value_of, number_at, core_at, end_at, Row, First_fault, at_line, and_then, rows_of}
+use low.line_reader.specs.{◌>>=◌, value_of, number_at, core_at, end_at, Row, First_fault, rows_of}
+use low.line_reader.proofs.{read_is, then_ok, at_line_ok, lines_keep}
 use Rattle.script_printer.specs.{printed, IsCallWithin, IsWithin}
 use Rattle.std.proofs.lemmas.Bool.{cases_Bool, cases_lt, eqb-false}
 use low.call_reader.specs.{first_word, call_line, most_calls}
@@ -13,12 +14,12 @@ use low.script_tokens.specs.{words_of, ending_of, line_count}
 use Rattle.std.proofs.lemmas.List.{get_or_past, length_push}
 use Rattle.std.proofs.lemmas.List.Elements.{All-push, All-set, All-weaker, All-get_or, All-take, All-nil, All-replicate}
 use Rattle.spk_nums.specs.{declared.calls.Call.Call, declared.grants.Grant.Grant, declared.steps.Item.Item}
-use Rattle.spk_nums.specs.{Setting.GrantFits, Setting.IsSetting}
+use Rattle.spk_nums.specs.{Setting.GrantFits}
 use low.script_tokens.specs.declared.scanning.ByteFault.TheVariants.{NotAscii, TooManyLines}
 use low.script_tokens.specs.declared.scanning.Ending.TheVariants.{Whole, Fault}
 use low.line_reader.specs.declared.cause.Cause.TheVariants.{S2, S6, S7, S9}
 use low.{declared.head.Section.Section, declared.head.Head.Head, declared.head.Line.Line, Heads.AreFrames, Heads.HasCome, Heads.IsHead}
-use low.{Heads.speck_line, Heads.cores_line, Heads.frames_line, Heads.grant_line, Heads.calls_line, Heads.epochs_line, Orders.Parts}
+use low.{Heads.speck_line, Heads.cores_line, Heads.frames_line, Heads.grant_line, Heads.calls_line, Heads.epochs_line, Orders.Parts, Readings.draft_step}
 use low.{Orders.parts_of, Orders.no_item, Orders.judged, Orders.with_item}
 use low.call_reader.proofs.Judgements.{judged_is, bind_ok, number_in}
 use low.call_reader.proofs.Forms.{line_within}
@@ -109,27 +110,57 @@ speck_in h g words is t e =
       λ v. let one : h.version ≡ 1 = first_version h.section h t is.come in absurd (omega arith),
     )
 
+-- another head of the version, with values in range
+abbrev made : Head → Section → ℕ → ℕ → ℕ → List Grant → ℕ → ℕ → Head
+made h s cores frames core grants calls epochs = record {
+  section = s;
+  version = h.version;
+  cores = cores;
+  frames = frames;
+  grants = grants;
+  calls = calls;
+  epochs = epochs;
+  core = core;
+}
+
+goes : (h : Head) (s : Section) (cores frames core : ℕ) (grants : List Grant) (calls epochs : ℕ) → IsHead h → (1 ≤ cores) × (cores ≤ 8)
+    → All GrantFits grants → calls ≤ most_calls h.version → (1 ≤ epochs) × (epochs < 2 ^ 16)
+    → HasCome s (made h s cores frames core grants calls epochs) → Goes h (made h s cores frames core grants calls epochs)
+goes h s cores frames core grants calls epochs is many fit few some come = (
+  record {
+    some_version = is.some_version;
+    most_versions = is.most_versions;
+    some_core = many.0;
+    most_cores = many.1;
+    fit = fit;
+    most_calls = few;
+    machine_calls = (let most = most_machine h.version in omega arith);
+    some_epoch = some.0;
+    most_epochs = some.1;
+    come = come;
+  },
+  λ v. v,
+  λ v. v,
+)
+
 cores_in : (h g : Head) (words : List (List ℕ)) → IsHead h → may_stand h.section first.Cores ≡ true → cores_line h words ≡ Ok g → Goes h g
 unfolding cores_line
 cores_in h g words is t e =
     let r = args_one (number_at words 1 1 8) (end_at words 2) (λ n. record h { section = Section.Frames; cores = n }) g e in
-    let n = number_in words 1 1 8 r.0 r.1 in
-    subst (Goes h) r.2 (
-      record {
-        some_version = is.some_version;
-        most_versions = is.most_versions;
-        some_core = n.0;
-        most_cores = n.1;
-        fit = is.fit;
-        most_calls = is.most_calls;
-        machine_calls = is.machine_calls;
-        some_epoch = is.some_epoch;
-        most_epochs = is.most_epochs;
-        come = no_grants_cores h.section h t is.come;
-      },
-      λ v. v,
-      λ v. v,
-    )
+    subst (Goes h) r.2 (goes h Section.Frames r.0 h.frames h.core h.grants h.calls h.epochs is (number_in words 1 1 8 r.0 r.1) is.fit
+    is.most_calls (is.some_epoch, is.most_epochs) (no_grants_cores h.section h t is.come))
+
+-- a head that goes on with the same cores, grants and limits
+module _ (h : Head) (is : IsHead h) where
+  goes_on : (s : Section) (frames core : ℕ) → HasCome s (made h s h.cores frames core h.grants h.calls h.epochs)
+      → Goes h (made h s h.cores frames core h.grants h.calls h.epochs)
+  goes_on s frames core come = goes h s h.cores frames core h.grants h.calls h.epochs is (is.some_core, is.most_cores) is.fit
+      is.most_calls (is.some_epoch, is.most_epochs) come
+
+  with_grants : (s : Section) (grants : List Grant) → All GrantFits grants
+      → HasCome s (made h s h.cores h.frames h.core grants h.calls h.epochs) → IsHead (made h s h.cores h.frames h.core grants h.calls h.epochs)
+  with_grants s grants fit come = (goes h s h.cores h.frames h.core grants h.calls h.epochs is (is.some_core, is.most_cores) fit
+      is.most_calls (is.some_epoch, is.most_epochs) come).0
 
 frames_in : (h g : Head) (words : List (List ℕ)) → IsHead h
     → may_stand h.section first.Frames ≡ true → frames_line h words ≡ Ok g → Goes h g
@@ -140,22 +171,7 @@ frames_in h g words is t e =
     let none : h.grants ≡ [] = no_grants_frames h.section h t is.come in
     let some : 1 ≤ h.cores = is.some_core in
     let few : length h.grants < h.cores = subst (λ (gs : List Grant). length gs < h.cores) (sym none) (omega arith) in
-    subst (Goes h) r.2 (
-      record {
-        some_version = is.some_version;
-        most_versions = is.most_versions;
-        some_core = is.some_core;
-        most_cores = is.most_cores;
-        fit = is.fit;
-        most_calls = is.most_calls;
-        machine_calls = is.machine_calls;
-        some_epoch = is.some_epoch;
-        most_epochs = is.most_epochs;
-        come = (number_in words 1 (4 + 2 * h.cores) 512 r.0 r.1, few);
-      },
-      λ v. v,
-      λ v. v,
-    )
+    subst (Goes h) r.2 (goes_on h is Section.Grants r.0 h.core (number_in words 1 (4 + 2 * h.cores) 512 r.0 r.1, few))
 
 granted_in : (h : Head) (g : Grant) → IsHead h → AreFrames h × (length h.grants < h.cores) → GrantFits g → IsHead (granted h g)
 granted_in h g is come fits =
@@ -165,32 +181,10 @@ granted_in h g is come fits =
     elim (cases_Bool (eqb (length h.grants + 1) h.cores)) [
       | inl e ↦
           let last : length h.grants + 1 ≡ h.cores = eqb-true _ _ e in
-          rw e (record {
-            some_version = is.some_version;
-            most_versions = is.most_versions;
-            some_core = is.some_core;
-            most_cores = is.most_cores;
-            fit = all;
-            most_calls = is.most_calls;
-            machine_calls = is.machine_calls;
-            some_epoch = is.some_epoch;
-            most_epochs = is.most_epochs;
-            come = (come.0, long ∙ last);
-          })
+          rw e (with_grants h is Section.Calls (h.grants ++ g ∷ []) all (come.0, long ∙ last))
       | inr e ↦
           let more : ¬ (length h.grants + 1 ≡ h.cores) = eqb-false _ _ e in
-          rw e (record {
-            some_version = is.some_version;
-            most_versions = is.most_versions;
-            some_core = is.some_core;
-            most_cores = is.most_cores;
-            fit = all;
-            most_calls = is.most_calls;
-            machine_calls = is.machine_calls;
-            some_epoch = is.some_epoch;
-            most_epochs = is.most_epochs;
-            come = (come.0, omega arith);
-          })
+          rw e (with_grants h is Section.Grants (h.grants ++ g ∷ []) all (come.0, omega arith))
     ]
 
 grant_in : (h g : Head) (words : List (List ℕ)) → IsHead h → may_stand h.section first.Grant ≡ true → grant_line h words ≡ Ok g → Goes h g
@@ -213,24 +207,8 @@ unfolding calls_line
 calls_in h g words is t e =
     let r = args_one (number_at words 1 0 (most_calls h.version)) (end_at words 2)
     (λ n. record h { section = Section.Epochs; calls = n }) g e in
-    let few : r.0 ≤ most_calls h.version = (number_in words 1 0 (most_calls h.version) r.0 r.1).1 in
-    subst (Goes h) r.2 (
-      record {
-        some_version = is.some_version;
-        most_versions = is.most_versions;
-        some_core = is.some_core;
-        most_cores = is.most_cores;
-        fit = is.fit;
-        most_calls = few;
-        machine_calls = (let most = most_machine h.version in omega arith);
-        some_epoch =
-            is.some_epoch;
-        most_epochs = is.most_epochs;
-        come = all_grants_calls h.section h t is.come;
-      },
-      λ v. v,
-      λ v. v,
-    )
+    subst (Goes h) r.2 (goes h Section.Epochs h.cores h.frames h.core h.grants r.0 h.epochs is (is.some_core, is.most_cores) is.fit
+    (number_in words 1 0 (most_calls h.version) r.0 r.1).1 (is.some_epoch, is.most_epochs) (all_grants_calls h.section h t is.come))
 
 epochs_in : (h g : Head) (words : List (List ℕ)) → IsHead h
     → may_stand h.section first.Epochs ≡ true → epochs_line h words ≡ Ok g → Goes h g
@@ -239,64 +217,20 @@ epochs_in h g words is t e =
     let r = args_one (number_at words 1 1 65535) (end_at words 2) (λ n. record h { section = Section.Lists; epochs = n }) g e in
     let n = number_in words 1 1 65535 r.0 r.1 in
     let most : r.0 ≤ 65535 = n.1 in
-    subst (Goes h) r.2 (
-      record {
-        some_version = is.some_version;
-        most_versions = is.most_versions;
-        some_core = is.some_core;
-        most_cores = is.most_cores;
-        fit = is.fit;
-        most_calls = is.most_calls;
-        machine_calls = is.machine_calls;
-        some_epoch = n.0;
-        most_epochs = omega arith;
-        come = all_grants_epochs h.section h t is.come;
-      },
-      λ v. v,
-      λ v. v,
-    )
+    subst (Goes h) r.2 (goes h Section.Lists h.cores h.frames h.core h.grants h.calls r.0 is (is.some_core, is.most_cores) is.fit
+    is.most_calls (n.0, omega arith) (all_grants_epochs h.section h t is.come))
 
 core_in : (h g : Head) (words : List (List ℕ)) → IsHead h → may_stand h.section first.Core ≡ true → core_line h words ≡ Ok g → Goes h g
 unfolding core_line
 core_in h g words is t e =
     let r = args_one (core_at words 1 h.cores) (end_at words 2) (λ n. record h { section = Section.List; core = n }) g e in
-    subst (Goes h) r.2 (
-      record {
-        some_version = is.some_version;
-        most_versions = is.most_versions;
-        some_core = is.some_core;
-        most_cores = is.most_cores;
-        fit = is.fit;
-        most_calls = is.most_calls;
-        machine_calls = is.machine_calls;
-        some_epoch = is.some_epoch;
-        most_epochs = is.most_epochs;
-        come = all_grants_core h.section h t is.come;
-      },
-      λ v. v,
-      λ v. v,
-    )
+    subst (Goes h) r.2 (goes_on h is Section.List h.frames r.0 (all_grants_core h.section h t is.come))
 
 order_in : (h g : Head) (words : List (List ℕ)) → IsHead h → may_stand h.section first.Order ≡ true → order_line h words ≡ Ok g → Goes h g
 unfolding order_line
 order_in h g words is t e =
-    subst (Goes h) (args_none (end_at words 1) (record h { section = Section.Order }) g e) (
-      record {
-        some_version = is.some_version;
-        most_versions = is.most_versions;
-        some_core = is.some_core;
-        most_cores = is.most_cores;
-        fit = is.fit;
-        most_calls = is.most_calls;
-        machine_calls = is.machine_calls;
-        some_epoch =
-            is.some_epoch;
-        most_epochs = is.most_epochs;
-        come = all_grants_order h.section h t is.come;
-      },
-      λ v. v,
-      λ v. v,
-    )
+    subst (Goes h) (args_none (end_at words 1) (record h { section = Section.Order }) g e)
+    (goes_on h is Section.Order h.frames h.core (all_grants_order h.section h t is.come))
 
 -- what a line says is within the limits
 abbrev IsLineWithin : Head → Line → Type 0
@@ -442,26 +376,9 @@ behind_read d e words is h =
     both : {b : Bool} → b ≡ true → b ≡ false → ⊥
     both t f = cc
 
-abbrev read : {A : Type 0} → A → Result A First_fault
-read x = Ok x
-
-read_is : {A : Type 0} (x y : A) → read x ≡ read y → x ≡ y
-read_is x y e = cc
-
-then_ok : {A B : Type 0} (r : Result A First_fault) (f : A → Result B First_fault) (y : B)
-    → and_then r f ≡ Ok y → (x : A) × (r ≡ Ok x) × (f x ≡ Ok y)
-then_ok (Ok x) f y e = (x, refl, e)
-then_ok (Err c) f y e = absurd cc
-
-at_line_ok : {A : Type 0} (number : ℕ) (r : Result A Cause) (x : A) → at_line number r ≡ Ok x → r ≡ Ok x
-at_line_ok number (Ok y) x e = cc
-at_line_ok number (Err c) x e = absurd cc
-
 from_read : (d e : Draft_of) (rows : List Row) → IsRead d → draft_from d rows ≡ Ok e → IsRead e
-from_read d e [] is h = subst IsRead (read_is d e h) is
-from_read d e (row ∷ rows) is h =
-    let r = then_ok (at_line row.number (draft_behind d row.words)) (λ more. draft_from more rows) e h in
-    from_read r.0 e rows (behind_read d r.0 row.words is (at_line_ok row.number (draft_behind d row.words) r.0 r.1)) r.2
+from_read d e rows is h = lines_keep draft_step (λ n x. IsRead x)
+    (λ n d e number words taken read. behind_read d e words read (at_line_ok number (draft_behind d words) e taken)) 0 d e rows h is
 
 none_read : IsRead no_draft
 none_read =
@@ -486,18 +403,12 @@ none_read =
 
 -- ---- the whole
 
--- a script within the limits, but for its lines
-record IsInRange (m : Meaning) : Type 0 where
-  some_version : 1 ≤ m.version
-  most_versions : m.version ≤ 3
-  setup : IsSetting m.setup
-  limit : m.setup.calls ≤ most_calls m.version
-  lists : length m.lists ≡ m.setup.cores
-  calls : All (All (IsCallWithin m.version)) m.lists
-  order : IsOrder m.setup.cores m.order
+-- a script within the limits, where its printed form has few lines
+abbrev IsInRange : Meaning → Type 0
+IsInRange m = line_count (printed m) ≤ 20000 → IsWithin m
 
 meaning_in : (d : Draft_of) → IsRead d → is_whole d.head.section ≡ true → IsInRange (meaning_of d)
-meaning_in d is whole =
+meaning_in d is whole = λ lines.
     let come = all_grants_whole d.head.section d.head whole is.head.come in
     let few : d.head.cores ≤ 8 = is.head.most_cores in
     let eight : length d.lists ≡ 8 = is.eight in
@@ -518,7 +429,9 @@ meaning_in d is whole =
       limit = is.head.most_calls;
       lists = length-take-le d.head.cores d.lists (omega arith);
       calls = All-take (All (IsCallWithin d.head.version)) d.head.cores d.lists is.calls;
-      order = is.order;
+      below = is.order.below;
+      items = is.order.room;
+      lines = lines;
     }
 
 at_in : (d : Draft_of) (e : Ending) (m : Meaning) → IsRead d → meaning_at d e ≡ Ok m → IsInRange m
@@ -533,24 +446,9 @@ at_in d (Whole lines) m is h =
     no_meaning : {f : First_fault} (x : Meaning) → Err f ≡ Ok x → ⊥
     no_meaning x k = cc
 
-script_in : (source : List ℕ) (m : Meaning) → script_of source ≡ Ok m → IsInRange m
-unfolding script_of
-script_in source m h =
-    let d = then_ok (draft_from no_draft (rows_of (words_of source))) (λ d. meaning_at d (ending_of source)) m h in
-    at_in d.0 (ending_of source) m (from_read no_draft d.0 (rows_of (words_of source)) none_read d.1) d.2
-
 -- what bytes say is within the limits, where its printed form has few lines
 pub read_within : (source : List ℕ) (m : Meaning) → script_of source ≡ Ok m → line_count (printed m) ≤ 20000 → IsWithin m
-read_within source m h few =
-    let r = script_in source m h in
-    record {
-      some_version = r.some_version;
-      most_versions = r.most_versions;
-      setup = r.setup;
-      limit = r.limit;
-      lists = r.lists;
-      calls = r.calls;
-      below = r.order.below;
-      items = r.order.room;
-      lines = few;
-    }
+unfolding script_of
+read_within source m h =
+    let d = then_ok (draft_from no_draft (rows_of (words_of source))) (λ d. meaning_at d (ending_of source)) m h in
+    at_in d.0 (ending_of source) m (from_read no_draft d.0 (rows_of (words_of source)) none_read d.1) d.2

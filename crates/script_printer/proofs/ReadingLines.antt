@@ -9,7 +9,7 @@ use Rattle.spk_nums.specs.{declared.calls.Call.Call, declared.grants.Grant.Grant
 use Rattle.spk_nums.specs.{Setting.Setting, Verbs.call_words}
 use Rattle.script_printer.proofs.{Spans.rows_from, CallReading.call_back, HeadLines.speck_words}
 use Rattle.script_printer.proofs.{HeadLines.cores_words, HeadLines.frames_words, HeadLines.grant_words, HeadLines.calls_words}
-use Rattle.script_printer.proofs.{HeadLines.epochs_words, HeadLines.core_words, HeadLines.order_words, HeadLines.IsListing}
+use Rattle.script_printer.proofs.{HeadLines.epochs_words, HeadLines.core_words, HeadLines.IsListing}
 use Rattle.script_printer.proofs.{HeadLines.speck_back, HeadLines.cores_back, HeadLines.frames_back, HeadLines.grant_back}
 use Rattle.script_printer.proofs.{HeadLines.calls_back, HeadLines.epochs_back, HeadLines.core_line_back, HeadLines.order_back}
 use Rattle.script_printer.proofs.{ItemWords.in_front, ItemWords.item_rows, ItemWords.order_rows, ItemWords.item_read}
@@ -56,6 +56,12 @@ head_behind : (h new : Head) (lists : List (List Call)) (order : List Item) (wor
 unfolding draft_behind behind_line
 head_behind h new lists order words before e = rw (before, e) refl
 
+head_says : {h new : Head} {lists : List (List Call)} {order : List Item} {words : List (List ℕ)} {lines : List (List (List ℕ))} {m : Meaning}
+    → is_order h.section ≡ false → line_of h words ≡ Ok (line.Head new) → Says (draft new lists order) lines m
+    → Says (draft h lists order) (words ∷ lines) m
+head_says {h} {new} {lists} {order} {words} {lines} {m} before e more =
+    says_line (draft h lists order) (draft new lists order) words lines m (head_behind h new lists order words before e) more
+
 call_behind : (h : Head) (lists : List (List Call)) (order : List Item) (c : Call) → h.section ≡ section.List
     → 1 ≤ h.version → IsCallWithin h.version c
     → draft_behind (draft h lists order) (call_words c) ≡ Ok (draft h (with_call lists h.core c) order)
@@ -85,9 +91,7 @@ grants_say : (g : Grant) (gs : List Grant) (h : Head) (lists : List (List Call))
     → Says (draft (all_granted h (g ∷ gs)) lists []) lines m → Says (draft h lists []) (grants_then (g ∷ gs) lines) m
 grants_say g [] h lists lines m e n fits all more =
     let last : granted h g ≡ all_granted h (g ∷ []) = granted_last h g (omega arith) in
-    says_line (draft h lists []) (draft (all_granted h (g ∷ [])) lists []) (grant_words g) lines m
-    (head_behind h (all_granted h (g ∷ [])) lists [] (grant_words g)
-    (ap is_order e) (grant_back h g e fits ∙ ap (λ x. Ok (line.Head x)) last)) more
+    head_says (ap is_order e) (grant_back h g e fits ∙ ap (λ x. Ok (line.Head x)) last) more
 grants_say g (f ∷ fs) h lists lines m e n fits all more =
     let new : Head = record h { section = section.Grants; grants = h.grants ++ g ∷ [] } in
     let step : granted h g ≡ new = granted_more h g (λ k. omega arith) in
@@ -97,8 +101,7 @@ grants_say g (f ∷ fs) h lists lines m e n fits all more =
     subst (λ (gs : List Grant). Says (draft (record h { section = section.Calls; grants = gs }) lists []) lines m) joined more in
     let rest : Says (draft new lists []) (grants_then (f ∷ fs) lines) m =
     grants_say f fs new lists lines m refl count (All-head GrantFits f fs all) (All-tail GrantFits f fs all) behind in
-    says_line (draft h lists []) (draft new lists []) (grant_words g) (grants_then (f ∷ fs) lines) m
-    (head_behind h new lists [] (grant_words g) (ap is_order e) (grant_back h g e fits ∙ ap (λ x. Ok (line.Head x)) step)) rest
+    head_says (ap is_order e) (grant_back h g e fits ∙ ap (λ x. Ok (line.Head x)) step) rest
 
 -- ---- calls
 
@@ -150,8 +153,7 @@ core_says (c ∷ cs) h done after core lines m e some at below few within more =
     let g : Head = record h { section = section.List; core = core } in
     let rest : Says (draft g (done ++ [] ∷ after) []) (calls_then (c ∷ cs) lines) m =
     calls_say (c ∷ cs) g done after [] lines m refl some at within (more g refl refl (inr refl)) in
-    says_line (draft h (done ++ [] ∷ after) []) (draft g (done ++ [] ∷ after) []) (core_words core) (calls_then (c ∷ cs) lines) m
-    (head_behind h g (done ++ [] ∷ after) [] (core_words core) (listing_no_order h.section e) (core_line_back h core e below few)) rest
+    head_says (listing_no_order h.section e) (core_line_back h core e below few) rest
 
 -- as many lists, without calls
 abbrev emptied : List (List Call) → List (List Call)
@@ -236,8 +238,7 @@ order_says (i ∷ is) h lists m e few all room is_m =
     let P : Item → Type 0 = λ (x : Item). x.core < h.cores in
     let more : Says (draft g lists []) (item_rows 0 i is) m =
     items_say is i 0 g lists [] m refl few (All-head P i is all) (All-tail P i is all) (omega arith) is_m in
-    says_line (draft h lists []) (draft g lists []) order_words (item_rows 0 i is) m
-    (head_behind h g lists [] order_words (listing_no_order h.section e) (order_back h e)) more
+    head_says (listing_no_order h.section e) (order_back h e) more
 
 -- ---- the whole
 
@@ -258,31 +259,12 @@ grants_all_say [] h lists lines m e n some all more = absurd (omega arith)
 grants_all_say (g ∷ gs) h lists lines m e n some all more =
     grants_say g gs h lists lines m e n (All-head GrantFits g gs all) (All-tail GrantFits g gs all) more
 
--- the head of a setup after its last limit
+-- the head of a setup before its grants, and after its last limit
 abbrev sized : ℕ → Setting → Head
-sized v s = record {
-  section = section.Grants;
-  version = v;
-  cores = s.cores;
-  frames = s.frames;
-  grants = [];
-  calls = most_calls v;
-  epochs = 65535;
-  core = 0;
-}
+sized v s = record no_head { section = section.Grants; version = v; cores = s.cores; frames = s.frames; calls = most_calls v }
 
 abbrev limited : ℕ → Setting → Head
-limited v s = record {
-  section = section.Lists;
-  version = v;
-  cores = s.cores;
-  frames =
-      s.frames;
-  grants = s.grants;
-  calls = s.calls;
-  epochs = s.epochs;
-  core = 0;
-}
+limited v s = record (sized v s) { section = section.Lists; grants = s.grants; calls = s.calls; epochs = s.epochs }
 
 setup_says : (v : ℕ) (s : Setting) (lists : List (List Call)) (lines : List (List (List ℕ))) (m : Meaning) → 1 ≤ v → v ≤ 3 → IsSetting s
     → s.calls ≤ most_calls v → Says (draft (limited v s) lists []) lines m
@@ -294,27 +276,16 @@ setup_says v s lists lines m some most within limit more =
     let h3 : Head = sized v s in
     let h4 : Head = all_granted h3 s.grants in
     let h5 : Head = record h4 { section = section.Epochs; calls = s.calls } in
-    let h6 : Head = limited v s in
     let low : 1 ≤ s.cores = within.some_core in
     let granted_all : length s.grants ≡ s.cores = within.granted in
     let epochs : s.epochs < 2 ^ 16 = within.most_epochs in
-    let p6 : Says (draft h5 lists []) (epochs_words s.epochs ∷ lines) m = says_line (draft h5 lists []) (draft h6 lists [])
-    (epochs_words s.epochs) lines m
-    (head_behind h5 h6 lists [] (epochs_words s.epochs) refl (epochs_back h5 s.epochs refl within.some_epoch (omega arith))) more in
-    let p5 : Says (draft h4 lists []) (calls_words s.calls ∷ epochs_words s.epochs ∷ lines) m =
-    says_line (draft h4 lists []) (draft h5 lists []) (calls_words s.calls) (epochs_words s.epochs ∷ lines) m
-    (head_behind h4 h5 lists [] (calls_words s.calls) refl (calls_back h4 s.calls refl limit)) p6 in
     let rest : List (List (List ℕ)) = calls_words s.calls ∷ epochs_words s.epochs ∷ lines in
-    let p4 : Says (draft h3 lists []) (grants_then s.grants rest) m =
-    grants_all_say s.grants h3 lists rest m refl (omega arith) (omega arith) within.grants_fit p5 in
-    let p3 : Says (draft h2 lists []) (frames_words s.frames ∷ grants_then s.grants rest) m = says_line (draft h2 lists [])
-    (draft h3 lists []) (frames_words s.frames) (grants_then s.grants rest) m (head_behind h2 h3 lists []
-    (frames_words s.frames) refl (frames_back h2 s.frames refl within.least_frames within.most_frames)) p4 in
-    let p2 : Says (draft h1 lists []) (cores_words s.cores ∷ frames_words s.frames ∷ grants_then s.grants rest) m =
-    says_line (draft h1 lists []) (draft h2 lists []) (cores_words s.cores) (frames_words s.frames ∷ grants_then s.grants rest)
-    m (head_behind h1 h2 lists [] (cores_words s.cores) refl (cores_back h1 s.cores refl low within.most_cores)) p3 in
-    says_line (draft no_head lists []) (draft h1 lists []) (speck_words v) (cores_words s.cores ∷ frames_words s.frames
-    ∷ grants_then s.grants rest) m (head_behind no_head h1 lists [] (speck_words v) refl (speck_back v some most)) p2
+    let sizes : Says (draft h4 lists []) rest m = head_says refl (calls_back h4 s.calls refl limit)
+    (head_says refl (epochs_back h5 s.epochs refl within.some_epoch (omega arith)) more) in
+    let grants : Says (draft h3 lists []) (grants_then s.grants rest) m =
+    grants_all_say s.grants h3 lists rest m refl (omega arith) (omega arith) within.grants_fit sizes in
+    head_says refl (speck_back v some most) (head_says refl (cores_back h1 s.cores refl low within.most_cores)
+    (head_says refl (frames_back h2 s.frames refl within.least_frames within.most_frames) grants))
 
 meaning_back : (g : Head) (m : Meaning) (after : List (List Call)) → g.version ≡ m.version → setting_of g ≡ m.setup
     → length m.lists ≡ m.setup.cores → meaning_of (draft g (m.lists ++ after) m.order) ≡ m

@@ -15,7 +15,7 @@ use Rattle.trace_lines.specs.call_reader.specs.{FirstWords.first_word, Versions.
 use Rattle.trace_lines.specs.script_printer.proofs.Spans.{lines_onto}
 use Rattle.trace_lines.specs.script_printer.proofs.HeadLines.{speck_words, cores_words, frames_words, calls_words, epochs_words}
 use Rattle.trace_lines.specs.script_printer.proofs.ReadingLines.{grants_then, lists_then, script_lines, script_says}
-use Rattle.trace_lines.specs.script_printer.proofs.PrintedLines.{printed_onto, script_are_lines}
+use Rattle.trace_lines.specs.script_printer.proofs.{PrintedLines.printed_onto, PrintedLines.script_are_lines, LineCounts.grants_length}
 use Rattle.check_run.specs.history_reader.specs.{Lines.is_numbered, Inputs.head_line, declared.lines.LineWord.LineWord}
 
 -- the lines of a head
@@ -50,10 +50,6 @@ head_onto v s =
     ∙ ap (λ t. setup_lines v s ++ t) (sym nothing)
     ∙ printed_onto (bare v s)
     ∙ ap (λ ls. lines_onto ls []) (bare_lines v s)
-
-grants_length : (gs : List Grant) (lines : List (List (List ℕ))) → length (grants_then gs lines) ≡ length gs + length lines
-grants_length [] lines = omega arith
-grants_length (g ∷ gs) lines = omega (arith, grants_length gs lines)
 
 pub head_length : (v : ℕ) (s : Setting) → IsSetting s → length (head_lines v s) ≡ s.cores + 5
 head_length v s within =

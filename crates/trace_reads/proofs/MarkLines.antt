@@ -1,11 +1,11 @@
 -- The line of each mark is its words, and is read as that mark.
 use Rattle.marked_laws.specs as low
-use low.kernel_history.proofs.{◌≡◌, ℕ, ◌≤◌, ◌<◌, true, if◌then◌else◌, List, [], ◌∷◌, ◌++◌, Option, Some, None, Ok, Err, refl}
+use low.kernel_history.proofs.{◌≡◌, ℕ, ◌≤◌, ◌<◌, true, if◌then◌else◌, List, [], ◌∷◌, ◌++◌, Option, Some, Ok, Err, refl}
 use low.kernel_history.proofs.{sym, ap, ◌∙◌, arith, append_assoc, codes, Result, and_from, Call, Reply}
 use Rattle.trace_lines.specs.script_reader.specs.{line_of, line_by, may_stand, core_line, order_line, is_whole, no_head, Draft_of}
 use low.kernel_history.specs.kernel_rules.specs.{decimal, ok_or, call_text, with_one, reply_text}
 use Rattle.check_run.specs.history_reader.specs.{reply_of, line_word, line_behind}
-use Rattle.trace_lines.specs.script_printer.proofs.{is_text, is_line}
+use Rattle.trace_lines.specs.script_printer.proofs.{is_text, is_line, Spans.line_texts}
 use Rattle.trace_lines.specs.line_reader.specs.{declared.cause.Cause.Cause, declared.cause.Cause.TheVariants.S2}
 use Rattle.trace_lines.specs.line_reader.specs.{declared.cause.Cause.TheVariants.S7, Causes.◌>>=◌, Arguments.is_word, Arguments.word_at}
 use Rattle.trace_lines.specs.call_reader.specs.{declared.first_words.FirstWord.FirstWord, FirstWords.first_word, CallLines.call_line}
@@ -21,7 +21,6 @@ use Rattle.trace_lines.specs.script_printer.specs.{IsCallWithin}
 use Rattle.{trace_lines.specs.line_reader.specs.Arguments.end_at, trace_lines.specs.call_reader.specs.OneLine.verb_in}
 use Rattle.{trace_lines.specs.call_reader.specs.OneLine.verb_at, trace_lines.specs.script_reader.specs.declared.head.Section.Section}
 use Rattle.{check_run.specs.history_reader.specs.Inputs.given_line, trace_reads.proofs.Told.mark_text}
-use Rattle.{trace_reads.proofs.NotedLines.line_texts}
 use low.{marked_history.specs.declared.marks.Line.Line as Given}
 
 -- ---- the words of a call are read as the call
@@ -49,16 +48,10 @@ by_first : (v : ℕ) (words : List (List ℕ)) (c : Call) (o : Option FirstWord)
     → (ok_or o S2 >>= λ word. if may_stand Section.List word then line_by (listing v) words word else Err S7) ≡ Ok (Line.Call c)
     → (verb_in o >>= λ verb. call_line v words verb) ≡ Ok c
 unfolding line_by
-by_first v words c None e = absurd cc
-by_first v words c (Some FirstWord.Speck) e = absurd cc
-by_first v words c (Some FirstWord.Cores) e = absurd cc
-by_first v words c (Some FirstWord.Frames) e = absurd cc
-by_first v words c (Some FirstWord.Grant) e = absurd cc
-by_first v words c (Some FirstWord.Calls) e = absurd cc
-by_first v words c (Some FirstWord.Epochs) e = absurd cc
 by_first v words c (Some FirstWord.Core) e = absurd (no_head_line (core_line (listing v) words) c e)
 by_first v words c (Some FirstWord.Order) e = absurd (no_head_line (order_line (listing v) words) c e)
 by_first v words c (Some (FirstWord.Call verb)) e = call_line_is (call_line v words verb) c e
+by_first v words c _ e = absurd cc
 
 from_line : (v : ℕ) (words : List (List ℕ)) (c : Call) → line_of (listing v) words ≡ Ok (Line.Call c) → call_in v words ≡ Ok c
 unfolding line_of call_in verb_at word_at

@@ -1,22 +1,13 @@
 -- What the comments of a trace tell: each byte of a step is a printed character or a space, so that no line ends in a comment.
-use Rattle.marked_laws.specs.kernel_history.proofs.{◌≡◌, ℕ, zero, suc, ◌+◌, ◌%◌, ◌/◌, ◌<◌, ◌≤◌, Bool, true, false, cond, leb, ltb, List, []}
-use Rattle.marked_laws.specs.kernel_history.proofs.{◌∷◌, ◌++◌, refl, arith, ◌&&◌, codes, ◌==◌, and_from, le-leb, Word, EntryAt, FrameAt}
-use Rattle.marked_laws.specs.kernel_history.proofs.{CountAt, CoreAt, FlushAt, LiveAt, ClockAt, Move, LoadOf, CompareOf, StoreOf, AddOf}
+use Rattle.marked_laws.specs.kernel_history.proofs.{◌≡◌, ℕ, zero, suc, ◌+◌, ◌%◌, ◌/◌, ◌<◌, ◌≤◌, Bool, true, false, cond, ltb, List, []}
+use Rattle.marked_laws.specs.kernel_history.proofs.{◌∷◌, ◌++◌, refl, arith, codes, ◌==◌, and_from, le-leb, Word, EntryAt, FrameAt}
+use Rattle.marked_laws.specs.kernel_history.proofs.{CountAt, CoreAt, FlushAt, LiveAt, ClockAt, Move, LoadOf}
 use Rattle.marked_laws.specs.kernel_history.proofs.{word_of, left_of, Step}
 use Rattle.marked_laws.specs.kernel_history.specs.{decimal, with_one}
-use Rattle.trace_lines.specs.script_printer.proofs.{both_left, both_right}
+use Rattle.trace_lines.specs.script_printer.proofs.{both_left, both_right, Spans.is_printed, Spans.are_printed}
 use Rattle.std.specs.Fmt.{digits, digits_onto, digit_glyph}
 use Rattle.trace_lines.specs.Steps.{value_text, word_text, move_text, left_text, step_text}
 use Rattle.{std.proofs.Math.Nat.mod-lt, marked_laws.specs.spk_nums.specs.Texts.with_two}
-
--- a printed character, or a space
-abbrev pub is_printed : ℕ → Bool
-is_printed b = leb 32 b && leb b 126
-
--- each byte is one
-abbrev pub are_printed : List ℕ → Bool
-are_printed [] = true
-are_printed (b ∷ bs) = is_printed b && are_printed bs
 
 pub printed_append : (xs ys : List ℕ) → are_printed xs ≡ true → are_printed ys ≡ true → are_printed (xs ++ ys) ≡ true
 printed_append [] ys h k = k
@@ -76,9 +67,7 @@ word_printed ClockAt = refl
 
 move_printed : (m : Move) → are_printed (move_text m) ≡ true
 move_printed (LoadOf w) = refl
-move_printed (CompareOf w expected new) = refl
-move_printed (StoreOf w new) = refl
-move_printed (AddOf w by) = refl
+move_printed _ = refl
 
 left_printed : (found left : ℕ) → are_printed (left_text found left) ≡ true
 left_printed found left = either_printed (found == left) [] (codes " > " ++ value_text left) refl

@@ -5,10 +5,10 @@ use Rattle.marked_laws.specs.kernel_history.proofs.{Call, Reply, Step}
 use Rattle.trace_lines.specs.{step_text, event_lines, Told, line_end, step_told, told}
 use Rattle.marked_laws.specs.{with_enter, with_decide, with_return, marks_of}
 use Rattle.marked_laws.specs.kernel_history.specs.kernel_rules.specs.{with_one, call_text, reply_text}
-use Rattle.trace_lines.specs.script_printer.proofs.{both_left, both_right}
+use Rattle.trace_lines.specs.script_printer.proofs.{both_left, both_right, Spans.are_printed}
 use Rattle.marked_laws.specs.marked_history.specs.declared.marks.Mark.TheVariants.{Enter, Decide, Return}
 use Rattle.trace_lines.specs.{Steps.enter_line, Steps.decide_line, Steps.return_line, Traces.lines_told}
-use Rattle.trace_reads.proofs.Printed.{are_printed, printed_append, step_printed}
+use Rattle.trace_reads.proofs.Printed.{printed_append, step_printed}
 use Rattle.{marked_laws.specs.kernel_history.specs.Trace.Trace, marked_laws.specs.marked_history.specs.declared.marks.Mark.Mark}
 
 -- what is written of a mark
