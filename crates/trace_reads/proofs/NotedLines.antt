@@ -1,6 +1,6 @@
 -- Comments after lines: they have no words, and end the lines.
 use Rattle.std.proofs.Common.{◌≡◌, ℕ, ◌+◌, true, false, List, [], ◌∷◌, ◌++◌, length, refl, ap, ◌∙◌, arith, append_assoc, count_by, codes}
-use Rattle.std.proofs.Common.{length-append}
+use Rattle.std.proofs.Common.{length-append, suc}
 use Rattle.trace_lines.specs.script_tokens.specs.{is_feed, spans, first_fault}
 use Rattle.trace_lines.specs.script_printer.proofs.{both_left, both_right}
 use Rattle.trace_lines.specs.script_printer.proofs.Spans.{are_printed, printed_no_feed, printed_fault, printed_count, IsEnd, feed_ends}
