@@ -16,6 +16,7 @@ use spk_nums::{Call, Reply};
 use step_lands::act_states::Own;
 use step_lands::call_stages::{Absorbed, ActiveCall};
 use straight_acts::{Went, Words, copy, look, remove, unmap};
+use straight_entries::{enter, leave};
 use straight_own::{flush, tick, touch};
 
 impl CoreState {
@@ -128,6 +129,8 @@ fn straight<W: Words>(
         Call::Copy { .. } => copy(own, active, call, words),
         Call::Remove { .. } => remove(own, active, call, words),
         Call::Unmap { .. } => unmap(own, active, call, words),
+        Call::Call { .. } => enter(own, active, call, words),
+        Call::Ret => leave(own, active, call, words),
         Call::Touch { .. } => touch(own, active, call, words),
         Call::Tick { .. } => tick(own, active, call, words),
         Call::Flush => flush(own, active, call, words),

@@ -1,0 +1,3 @@
+pub mod Entries
+pub mod Storing
+pub mod Sets
