@@ -80,7 +80,8 @@ pub gate_entered : (own : Own) (call : Call) (g : ℕ) (ks js : List Capability)
     → call ≡ call_gate g → own.depth < 16 → ks ≡ [] → js ≡ pushed ks k → IsCore c → c ≡ onward own call 4 (pushed ks k)
     → c ≡ acts own call 5 (act.Invoke (entering own k)) js
 gate_entered own call g ks js k c named deep none first fits on =
-    let on-gate : c ≡ onward own (call_gate g) 4 (k ∷ []) = rw (← named, ← none) on in
+    let led : c ≡ onward own call 4 (k ∷ []) = subst (λ (xs : List Capability). c ≡ onward own call 4 (pushed xs k)) none on in
+    let on-gate : c ≡ onward own (call_gate g) 4 (k ∷ []) = subst (λ (x : Call). c ≡ onward own x 4 (k ∷ [])) named led in
     rw (first, none, named, on-gate) (gate_led own g k deep (subst IsCore on-gate fits))
 
 -- the loads of the component's words
@@ -103,7 +104,7 @@ pub life_loaded : (own : Own) (call : Call) (steps w t p : ℕ) (life : CompWord
     → b ≡ acts own call steps (act.Invoke m) ks → c ≡ absorbed b w → m.at ≡ InvokingAt.LoadComp t p → m.core ≡ own.core
     → comp_of_word w ≡ Some life
     → c ≡ pins own call (steps + 1) (AtLoad m.comp own.core) (pos 1) (act.Invoke (record m { at = InvokingAt.LoadLive t p life })) ks
-life_loaded own call steps w t p life m ks b c at goes stands same shown = rw (goes, at, stands, same, shown) refl
+life_loaded own call steps w t p life m ks b c at goes stands same shown = rw (goes, at, stands, shown, same) refl
 
 -- the load of its number's word
 live_step : (m : Invoking) (t p : ℕ) (shown : Option LiveWord) → is_live_at m.epoch shown ≡ true
@@ -155,7 +156,7 @@ pub below_pages_loaded : (own : Own) (call : Call) (steps w f t p : ℕ) (m : Re
     → b ≡ acts own call steps (act.Return m) ks → c ≡ absorbed b w → m.at ≡ ReturningAt.LoadPages f t → m.core ≡ own.core
     → Some p ≡ frame_in m.frames w
     → c ≡ pins own call (steps + 1) (AtLoad m.top own.core) (negsuc 0) (act.Return (record m { at = ReturningAt.Draw f t p })) ks
-below_pages_loaded own call steps w f t p m ks b c at goes stands same shown = rw (goes, at, stands, same, ← shown) refl
+below_pages_loaded own call steps w f t p m ks b c at goes stands same shown = rw (goes, at, stands, ← shown, same) refl
 
 -- the draw of the stamp
 pub acting : (own : Own) (call : Call) (steps : ℕ) (a : ActType) (ks : List Capability) (x : Acquired) (c : Core)
