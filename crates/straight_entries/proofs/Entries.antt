@@ -1,7 +1,7 @@
 -- What the words make of a core whose call enters a component, or leaves one.
 use Rattle.std.proofs.Common.{◌≡◌, ◌+◌, ◌-◌, ◌^◌, ◌<◌, ◌≤◌, ◌==◌, ℕ, min, pos, negsuc, IsTrue, true, List, [], ◌∷◌, Option, Some, None}
-use Rattle.std.proofs.Common.{nat_le, refl, subst}
-use Rattle.std.proofs.lemmas.Bool.{lt-leb}
+use Rattle.std.proofs.Common.{nat_le, false, refl, subst, sym, ◌∙◌}
+use Rattle.std.proofs.lemmas.Bool.{le-leb, lt-leb}
 use Rattle.spk_nums.specs.Capability.{Capability}
 use Rattle.spk_nums.specs.declared.kinds.Kind.{Kind}
 use Rattle.spk_nums.specs.declared.calls.Call.{Call}
@@ -49,40 +49,50 @@ use Rattle.straight_looks.specs.Standing.{acts, going, looks, onward, stands}
 use Rattle.straight_entries.specs.Entering.{IsActing, IsStoring, entering, is_live_at, leaving}
 
 -- the name of a gate
-pub gate_asked : (own : Own) (g : ℕ) → nat_le g 4095 ≡ true
+gate_asks : (own : Own) (g : ℕ) → nat_le g 4095 ≡ true
     → onward own (call_gate g) 2 [] ≡ looks own (call_gate g) 3 (AtRoot own.table g) []
 unfolding onward
-gate_asked own g small = rw small refl
+gate_asks own g small = rw small refl
+
+pub gate_asked : (own : Own) (call : Call) (g : ℕ) (ks : List Capability) (c : Core)
+    → call ≡ call_gate g → g ≤ 4095 → ks ≡ [] → c ≡ onward own call 2 [] → c ≡ looks own call 3 (AtRoot own.table g) ks
+gate_asked own call g ks c named small none on = rw (on, none, named) (gate_asks own g (le-leb g 4095 small))
 
 -- it has led to one: a capability of another kind is not wanted
+not_wanted : (k : Capability) (d : Kind) → k.kind ≡ d → only Kind.Gate d ≡ false → IsTrue (only Kind.Gate k.kind) → ⊥
+not_wanted k d is other wanted = false_is_not (sym other ∙ subst (λ (e : Kind). IsTrue (only Kind.Gate e)) is wanted)
+  where
+    false_is_not : false ≡ true → ⊥
+    false_is_not e = cc
+
 gate_begins : (own : Own) (g : ℕ) (k : Capability) (d : Kind) → k.kind ≡ d → own.depth < 16
     → IsCore (core_after own (landed (going (call_gate g) 4 Enter (k ∷ []) []) (invokes_in own d k.frame k.arg)))
     → core_after own (landed (going (call_gate g) 4 Enter (k ∷ []) []) (invokes_in own d k.frame k.arg))
     ≡ acts own (call_gate g) 5 (act.Invoke (entering own k)) (k ∷ [])
 gate_begins own g k Kind.Gate is deep fits = rw (lt-leb 16 own.depth deep) refl
-gate_begins own g k Kind.Range is deep fits = absurd (subst (λ e. IsTrue (only Kind.Gate e)) is fits.active.found.0.0)
-gate_begins own g k Kind.Table is deep fits = absurd (subst (λ e. IsTrue (only Kind.Gate e)) is fits.active.found.0.0)
-gate_begins own g k Kind.Leaf is deep fits = absurd (subst (λ e. IsTrue (only Kind.Gate e)) is fits.active.found.0.0)
-gate_begins own g k Kind.Pages is deep fits = absurd (subst (λ e. IsTrue (only Kind.Gate e)) is fits.active.found.0.0)
-gate_begins own g k Kind.Pleaf is deep fits = absurd (subst (λ e. IsTrue (only Kind.Gate e)) is fits.active.found.0.0)
-gate_begins own g k Kind.Comp is deep fits = absurd (subst (λ e. IsTrue (only Kind.Gate e)) is fits.active.found.0.0)
-gate_begins own g k Kind.Thread is deep fits = absurd (subst (λ e. IsTrue (only Kind.Gate e)) is fits.active.found.0.0)
-gate_begins own g k Kind.Tcap is deep fits = absurd (subst (λ e. IsTrue (only Kind.Gate e)) is fits.active.found.0.0)
-gate_begins own g k Kind.Link is deep fits = absurd (subst (λ e. IsTrue (only Kind.Gate e)) is fits.active.found.0.0)
-gate_begins own g k Kind.Page is deep fits = absurd (subst (λ e. IsTrue (only Kind.Gate e)) is fits.active.found.0.0)
+gate_begins own g k Kind.Range is deep fits = absurd (not_wanted k Kind.Range is refl fits.active.found.0.0)
+gate_begins own g k Kind.Table is deep fits = absurd (not_wanted k Kind.Table is refl fits.active.found.0.0)
+gate_begins own g k Kind.Leaf is deep fits = absurd (not_wanted k Kind.Leaf is refl fits.active.found.0.0)
+gate_begins own g k Kind.Pages is deep fits = absurd (not_wanted k Kind.Pages is refl fits.active.found.0.0)
+gate_begins own g k Kind.Pleaf is deep fits = absurd (not_wanted k Kind.Pleaf is refl fits.active.found.0.0)
+gate_begins own g k Kind.Comp is deep fits = absurd (not_wanted k Kind.Comp is refl fits.active.found.0.0)
+gate_begins own g k Kind.Thread is deep fits = absurd (not_wanted k Kind.Thread is refl fits.active.found.0.0)
+gate_begins own g k Kind.Tcap is deep fits = absurd (not_wanted k Kind.Tcap is refl fits.active.found.0.0)
+gate_begins own g k Kind.Link is deep fits = absurd (not_wanted k Kind.Link is refl fits.active.found.0.0)
+gate_begins own g k Kind.Page is deep fits = absurd (not_wanted k Kind.Page is refl fits.active.found.0.0)
 
 gate_led : (own : Own) (g : ℕ) (k : Capability) → own.depth < 16 → IsCore (onward own (call_gate g) 4 (k ∷ []))
     → onward own (call_gate g) 4 (k ∷ []) ≡ acts own (call_gate g) 5 (act.Invoke (entering own k)) (k ∷ [])
 unfolding onward
 gate_led own g k deep fits = gate_begins own g k k.kind refl deep fits
 
-pub gate_entered : (own : Own) (call : Call) (g : ℕ) (ks js : List Capability) (k : Capability) (c : Core)
-    → call ≡ call_gate g → own.depth < 16 → ks ≡ [] → js ≡ pushed ks k → IsCore c → c ≡ onward own call 4 (pushed ks k)
-    → c ≡ acts own call 5 (act.Invoke (entering own k)) js
-gate_entered own call g ks js k c named deep none first fits on =
+pub gate_entered : (own : Own) (call : Call) (g : ℕ) (ks js : List Capability) (k : Capability) (m : Invoking) (c : Core)
+    → call ≡ call_gate g → own.depth < 16 → ks ≡ [] → js ≡ pushed ks k → m ≡ entering own k → IsCore c → c ≡ onward own call 4 (pushed ks k)
+    → c ≡ acts own call 5 (act.Invoke m) js
+gate_entered own call g ks js k m c named deep none first begins fits on =
     let led : c ≡ onward own call 4 (k ∷ []) = subst (λ (xs : List Capability). c ≡ onward own call 4 (pushed xs k)) none on in
     let on-gate : c ≡ onward own (call_gate g) 4 (k ∷ []) = subst (λ (x : Call). c ≡ onward own x 4 (k ∷ [])) named led in
-    rw (first, none, named, on-gate) (gate_led own g k deep (subst IsCore on-gate fits))
+    rw (first, none, begins, named, on-gate) (gate_led own g k deep (subst IsCore on-gate fits))
 
 -- the loads of the component's words
 pub entered_few : (own : Own) (call : Call) (steps : ℕ) (m : Invoking) (ks : List Capability) (c : Core)
@@ -117,16 +127,16 @@ live_step m t p (Some (LiveWord.Closing epoch by)) lives = absurd (cc)
 live_step m t p (Some (LiveWord.Dead epoch stamp)) lives = absurd (cc)
 live_step m t p None lives = absurd (cc)
 
-pub live_entered : (own own' : Own) (call : Call) (steps w t p : ℕ) (life : CompWord) (m : Invoking) (ks : List Capability) (x : Acquired)
-    (b c : Core)
+pub live_entered : (own own' : Own) (call : Call) (steps w t p depth : ℕ) (life : CompWord) (m : Invoking) (ks : List Capability)
+    (x : Acquired) (b c : Core)
     → b ≡ counts own call steps (Undecided (Act (act.Invoke m))) ks x → c ≡ absorbed b w → m.at ≡ InvokingAt.LoadLive t p life
-    → is_live_at m.epoch (live_of_word w) ≡ true → own' ≡ own_changed own (Works m.comp t p (min (m.depth + 1) (2 ^ 8 - 1)))
+    → is_live_at m.epoch (live_of_word w) ≡ true → depth ≡ min (m.depth + 1) (2 ^ 8 - 1) → own' ≡ own_changed own (Works m.comp t p depth)
     → IsStoring own' (tail.Push (Push.AtStack m.thread m.core m.depth m.comp)) None x c
-live_entered own own' call steps w t p life m ks x b c at goes stands lives works = record {
+live_entered own own' call steps w t p depth life m ks x b c at goes stands lives deeper works = record {
   call = call;
   steps = steps + 1;
   found = ks;
-  is = rw (goes, at, works, stands, live_step m t p (live_of_word w) lives) refl;
+  is = rw (goes, at, works, deeper, stands, live_step m t p (live_of_word w) lives) refl;
 }
 
 -- the entry of a leaving
@@ -171,13 +181,13 @@ pub draw_fits : (own : Own) (m : Returning) (x : Acquired) (c : Core) → IsActi
     → ReturningFits own.layout m
 draw_fits own m x c at fits = (subst IsCore at.is fits).active.stage
 
-pub stamp_drawn : (own own' : Own) (w f t p stamp : ℕ) (m : Returning) (x : Acquired) (b c : Core)
+pub stamp_drawn : (own own' : Own) (w f t p stamp depth : ℕ) (m : Returning) (x : Acquired) (b c : Core)
     → IsActing own (act.Return m) x b → c ≡ absorbed b w → m.at ≡ ReturningAt.Draw f t p → stamp ≡ drawn_stamp w
-    → own' ≡ own_changed own (Works f t p (m.depth - 1))
+    → depth ≡ m.depth - 1 → own' ≡ own_changed own (Works f t p depth)
     → IsStoring own' (tail.Pop (Pop.AtThread m.thread m.core m.depth)) (Some stamp) x c
-stamp_drawn own own' w f t p stamp m x b c at goes stands drawn works = record {
+stamp_drawn own own' w f t p stamp depth m x b c at goes stands drawn higher works = record {
   call = at.call;
   steps = at.steps + 1;
   found = at.found;
-  is = rw (goes, at.is, works, drawn, stands) refl;
+  is = rw (goes, at.is, works, higher, drawn, stands) refl;
 }
