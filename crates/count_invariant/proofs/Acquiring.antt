@@ -13,7 +13,7 @@ use low.{own_pages, calls_go, Due, Nothing, Acquire, Undecided, Decided, ActiveC
 use low.{GoesOn, landed, went_with, Core, UntypingAt, Holding, count_of, committed, holds_counts, settled_by, settled, SaysCount}
 use low.{AreDuesApart, own_in, HasFound, NamesAre, due_of, KnowsAct, KnowsWork, KnowsUndecided, IsCount, phase_at, KnowsTail, goes_on}
 use low.{untypes, done_by, holds_act, holds_work, holds_at, holds_in, holds, held_by, Invariant, holds_tail, names_on, counts_on}
-use low.{length-append, lt-ltb, Hold, Free as Vacant, Quiescing as Removed, AtCompare as close_compare, acquired, Fill as fill_act}
+use low.{length-append, lt-ltb, Hold, Quiescing as Removed, AtCompare as close_compare, acquired, Fill as fill_act}
 use low.{Remove as remove_act, Tick as tick_act, Kill as kill_act, Untype as untype_act, Map as map_act, MakeComp as comp_act}
 use low.{Invoke as invoke_act, Return as return_act, Switch as switch_act, Acquires, took_count, is_ok, same_marks, IsGood, spares_other}
 use low.{users_kept, IsOfCall, Lands, step_to, core_in_call, inner, call_is, is_active, loads_on, GoodTook, ticks_at, Refusal}
@@ -46,7 +46,6 @@ use Rattle.{step_ways.specs.stage_pins.proofs.PinLemmas.changed_none, plan_ways.
 use Rattle.{step_ways.specs.act_states.specs.declared.work.Act.Act as ActOf, step_ways.specs.call_stages.specs.Steps.gives_up}
 use Rattle.{plan_ways.specs.kernel_history.proofs.OwnCounts.own_counts, step_ways.specs.kept_facts.proofs.Swept.LeavesFrame}
 use Rattle.{count_invariant.proofs.Findings.found_named}
-use Rattle.step_ways.specs.act_states.specs.declared.comps.CompAt.TheVariants as comp_at
 use Rattle.plan_ways.specs.frame_words.proofs.CountLemmas as counts
 use Rattle.step_ways.proofs.Counting as counters
 
@@ -93,10 +92,8 @@ counting_unread : (act : ActOf) → is_counting act ≡ true → reads_counts ac
 counting_unread (untype_act m) is = by m.at is
   where
     by : (at : UntypingAt) → is_drawing at ≡ true → freezes_at at ≡ false
-    by UntypingAt.Load is = refl
-    by (UntypingAt.Mark word v) is = refl
     by (UntypingAt.Sweep word w) is = absurd (false≢true is)
-    by (UntypingAt.Draw word w) is = refl
+    by _ is = refl
 counting_unread act is = refl
 
 -- An act that changes a count charges no ticks.
@@ -484,10 +481,9 @@ removal_raises call is = absurd (false≢true is)
 
 -- What may be used at a place is what it holds, or held.
 usable_is : (p : Place) (waits : Bool) (k : Capability) → usable_in p waits ≡ Some k → capability_in p ≡ Some k
-usable_is Vacant waits k is = absurd (cc)
 usable_is (Holds j) waits k is = is
 usable_is (Removed j) true k is = is
-usable_is (Removed j) false k is = absurd (cc)
+usable_is _ _ k is = absurd (cc)
 
 module _ (setup : Setting) (setting : IsSetting setup) (cores : ℕ → Core) (t : Trace) (stands : Invariant setup cores t) (c : ℕ)
     (here : c < setup.cores)

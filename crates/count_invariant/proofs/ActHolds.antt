@@ -3,15 +3,12 @@
 use Rattle.step_ways.specs.core_invariant.proofs as low
 use low.{CompAt, KillingAt, Mark, MakingAt, ◌≡◌, ◌≢◌, ℕ, true, false, refl, not, false≢true, CountAt, AtDraw, AtStore, UntypingAt, swept_of}
 use low.{thaw_of, holds_untyping, thaws_own, holds_act, holds_tail, holds_making, holds_killing, holds_comp, Draw as kill_draw}
-use low.{Load as making_load, AtCompare as close_compare, Remove as remove_act, Make as make_act, Kill as kill_act, MakeComp as comp_act}
-use low.{Untype as untype_act, Share as share_act}
-use Rattle.step_ways.specs.act_states.specs.{undo, comp_undo, undo_at, is_killing, untyping_undo}
-use low.{Refill as refill_act, Switch as switch_act, ThreadHolds.switching_undo_holds, SameAt, Keepings.IsApart, Keepings.all_beside}
-use low.{Keepings.act_beside, Keepings.SparesWord, Keepings.SparesWordAt, Keepings.frozen_away}
-use Rattle.step_ways.specs.act_states.specs.{phases_of}
+use low.{AtCompare as close_compare, Remove as remove_act, Make as make_act, Kill as kill_act, MakeComp as comp_act, Untype as untype_act}
+use low.{Share as share_act, Refill as refill_act, Switch as switch_act, ThreadHolds.switching_undo_holds, SameAt, Keepings.IsApart}
+use Rattle.step_ways.specs.act_states.specs.{undo, comp_undo, undo_at, is_killing, untyping_undo, phases_of}
+use low.{Keepings.all_beside, Keepings.act_beside, Keepings.SparesWord, Keepings.SparesWordAt, Keepings.frozen_away}
 use Rattle.{step_ways.specs.core_invariant.specs.Holding.Holding, step_ways.specs.core_invariant.specs.Knows.is_counting}
 use Rattle.{step_ways.specs.act_states.specs.declared.work.Act.Act as ActOf}
-use Rattle.plan_ways.specs.frame_words.proofs.CountLemmas as counts
 
 -- While its counts are acquired an act holds what it will hold at its next step, which is what a refusal has then to store.
 pub undo_holds : (act : ActOf) (h : Holding) → is_counting act ≡ true → holds_tail (undo act) h ≡ holds_act act h
@@ -21,9 +18,8 @@ undo_holds (remove_act (AtStore node index x) cap) h is = absurd (false≢true i
 undo_holds (make_act m) h is = by m.at
   where
     by : (at : MakingAt) → holds_tail (undo_at m.frame at) h ≡ holds_making m.frame at h
-    by making_load = refl
     by (Mark word) = refl
-    by at = refl
+    by _ = refl
 undo_holds (untype_act m) h is = by m.at
   where
     by : (at : UntypingAt) → holds_tail (untyping_undo m.frame at) h ≡ holds_untyping m.frame at h
@@ -66,8 +62,7 @@ act_count act h f d spares = all_beside (phases_of act).keeps h (CountAt f d) (a
     spared (untype_act m) other = by m.at other
       where
         by : (at : UntypingAt) → SparesAt at f → SparesWordAt at (CountAt f d)
-        by UntypingAt.Load other = tt
-        by (UntypingAt.Mark word v) other = tt
         by (UntypingAt.Sweep word x) other = frozen_away (thaw_of (swept_of x) false) f x.frame d (thaws_own (swept_of x) false) other
         by (UntypingAt.Draw word x) other = frozen_away (thaw_of x false) f x.frame d (thaws_own x false) other
+        by _ other = tt
     spared act other = tt

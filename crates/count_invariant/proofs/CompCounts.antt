@@ -1,5 +1,5 @@
 -- A call that makes a component: what it is, its counts, and what it has still to store where it is refused.
-use Rattle.step_ways.proofs.{◌≡◌, true, false, Some, ◌∙◌, refl, ℕ, ◌==◌, ◌||◌, sym, [], ◌∷◌, ◌++◌, ap, subst, IsTrue, eq-eqb, false≢true}
+use Rattle.step_ways.proofs.{◌≡◌, true, false, Some, ◌∙◌, refl, ℕ, ◌||◌, sym, [], ◌∷◌, ◌++◌, ap, subst, IsTrue, eq-eqb, false≢true}
 use Rattle.step_ways.proofs.{Capability, Setting, Call, Kind, found, to_use, only, has_frame, named_by, State, only_is, counts_references}
 use Rattle.step_ways.proofs.{changes_frames, changes_places, footprint_frames, is_one_of, frame_argument, Trace, plan_for, Leads, LeadsIn}
 use Rattle.step_ways.proofs.{Acquired, comp_dues, comp_due_list, CompAt, CompMaking, Due, KnowsTail, KnowsCompAt, List, ℤ}
@@ -142,11 +142,7 @@ module _ (s : State) (c : ℕ) (call : Call) (ks : List Capability) (m : CompMak
       → is_one_of d.frame (footprint_frames s c call) ≡ true
   comp_due_footprint CompAt.Load xs d rest h = absurd (no_due xs d rest h)
   comp_due_footprint (CompAt.Mark word) xs d rest h = absurd (no_due xs d rest h)
-  comp_due_footprint (CompAt.LoadLive word) xs d rest h = list_footprint xs d rest h
-  comp_due_footprint (CompAt.Scan word last q) xs d rest h = list_footprint xs d rest h
-  comp_due_footprint (CompAt.Close word last) xs d rest h = list_footprint xs d rest h
-  comp_due_footprint (CompAt.Store word last n) xs d rest h = list_footprint xs d rest h
-  comp_due_footprint (CompAt.Fill word last) xs d rest h = list_footprint xs d rest h
+  comp_due_footprint _ xs d rest h = list_footprint xs d rest h
 
 -- While its counts are acquired it has to store the word of its frame, as it was found.
 pub comp_left : (setup : Setting) (t u : Trace) (c : ℕ) (counts : List Acquired) (call : Call) (ks : List Capability) (m : CompMaking)

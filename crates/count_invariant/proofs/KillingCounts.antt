@@ -1,7 +1,7 @@
 -- The count and the component of a call that kills.
 use Rattle.step_ways.proofs.{◌≡◌, refl, ℕ, true, false, sym, ◌∙◌, [], ◌∷◌, ◌++◌, ap, subst, IsTrue, ◌||◌, eq-eqb, Capability, Kind, Call}
 use Rattle.step_ways.proofs.{named_by, State, counts_references, raises_clock, footprint_frames, is_one_of, First, at_place, plan_for}
-use Rattle.step_ways.proofs.{Leads, LeadsIn, KillingAt, LoadComp, LoadLive, Due, untypes, List, negsuc, Close, Draw}
+use Rattle.step_ways.proofs.{Leads, LeadsIn, KillingAt, Due, untypes, List, negsuc, Close, Draw}
 use Rattle.step_ways.specs.act_states.specs.{Kill, killing_dues}
 use Rattle.{plan_ways.specs.kernel_history.specs.Discipline.changes_numbers, plan_ways.proofs.InFootprint.footprint_found}
 use Rattle.{step_ways.specs.core_invariant.specs.Acting.KillsBy, count_invariant.proofs.MakingCounts.no_due}
@@ -57,7 +57,6 @@ only_due f (x ∷ xs) d rest is = absurd (no_due xs d rest (tail_same _ _ _ _ is
 
 -- The count that a killing changes is that of the component's frame.
 pub killing_due : (f : ℕ) (at : KillingAt) (xs : List Due) (d : Due) (rest : List Due) → killing_dues f at ≡ xs ++ d ∷ rest → d.frame ≡ f
-killing_due f LoadComp xs d rest is = absurd (no_due xs d rest is)
-killing_due f (LoadLive life) xs d rest is = absurd (no_due xs d rest is)
 killing_due f (Close life word) xs d rest is = only_due f xs d rest is
 killing_due f (Draw life word) xs d rest is = only_due f xs d rest is
+killing_due f _ xs d rest is = absurd (no_due xs d rest is)

@@ -25,12 +25,11 @@ same_cap x y h = cc
 pub link_footprint : (s : State) (c u i l : ℕ) (ks : List Capability) (k : Capability) → link_to (at_place ks Second) ≡ Some k
     → Leads (LeadsIn s c) (plan_for (Grow u i l)).names [] ks
     → (f : ℕ) → is_one_of f (named_by k.kind k.frame) ≡ true → is_one_of f (footprint_frames s c (Grow u i l)) ≡ true
-link_footprint s c u i l [] k puts lead f names_it = absurd (cc)
-link_footprint s c u i l (x ∷ []) k puts lead f names_it = absurd (cc)
 link_footprint s c u i l (x ∷ y ∷ ks) k puts lead f names_it =
     footprint_found s c (Grow u i l) (x ∷ y ∷ ks) lead Second y refl f
     (ap (is_one_of f) (leaf_names x.kind y.kind y.frame (named_kind s c l (to_use (leaf_for (found x))) y lead.1.0))
     ∙ ap (λ (q : Capability). is_one_of f (named_by q.kind q.frame)) (same_cap (plain_cap Kind.Link y.frame) k puts) ∙ names_it)
+link_footprint s c u i l _ k puts lead f names_it = absurd (cc)
 
 pub page_footprint : (s : State) (c p v r g : ℕ) (w : PageFlags) (range : Option Capability) (k : Capability) → page_of range g w ≡ Some k
     → (f : ℕ) → is_one_of f (named_by k.kind k.frame) ≡ true → is_one_of f (footprint_frames s c (Map p v r g w)) ≡ true

@@ -63,16 +63,7 @@ shown_of frames (Removed k) stamp word is = record {
 
 pub link_kind : (k : Kind) → is_link k ≡ only Kind.Link k
 link_kind Kind.Range = refl
-link_kind Kind.Table = refl
-link_kind Kind.Leaf = refl
-link_kind Kind.Pages = refl
-link_kind Kind.Pleaf = refl
-link_kind Kind.Comp = refl
-link_kind Kind.Gate = refl
-link_kind Kind.Thread = refl
-link_kind Kind.Tcap = refl
-link_kind Kind.Link = refl
-link_kind Kind.Page = refl
+link_kind _ = refl
 
 -- The call has arrived at the place of a target.
 pub record Arrives (setup : Setting) (t : Trace) (c : ℕ) (target : Target) (at : Slot) : Type 0 where
@@ -115,10 +106,8 @@ leaf_reached s c table n leaf found within link =
 
 -- What may be used links to the leaf to which what stands there links.
 pub link_shown : (p : Place) (waits : Bool) (leaf : ℕ) → linked (usable_in p waits) ≡ Some leaf → linked (capability_in p) ≡ Some leaf
-link_shown Vacant waits leaf h = h
-link_shown (Holds k) waits leaf h = h
-link_shown (Removed k) true leaf h = h
 link_shown (Removed k) false leaf h = absurd (cc)
+link_shown _ _ leaf h = h
 
 -- No number is reached by what is no link.
 unlinked : (s : State) (table : Named) (n : ℕ) → table.found ≡ true → holds_link (place_at s (root_slot table.frame n)) ≡ false
@@ -490,8 +479,6 @@ module _ (setup : Setting) (setting : IsSetting setup) (cores : ℕ → Core) (t
       → GoodTook setup cores t c (look_move look)
       (took_look (cores c).own a look (last_left setup t (word_of (look_move look)))
       (shown_in setup.frames (last_left setup t (word_of (look_move look)))))
-  in_root_step (AtRoot root number) at looks = absurd looks.at
-  in_root_step (AtLeaf leaf number) at looks = absurd looks.at
   in_root_step (AtEntry root index) at looks =
       subst Goal looks.at.frame (subst Of looks.at.same (λ at looks. entry_step at looks)) at looks
     where
@@ -504,3 +491,4 @@ module _ (setup : Setting) (setting : IsSetting setup) (cores : ℕ → Core) (t
       Goal r = a.stage ≡ Undecided (Lookup (AtEntry r index)) → LooksUp setup t c (InRoot table i) (AtEntry r index)
           → Takes setup setting cores t stands c here a active (InRoot table i) is_open may_act no_slot no_way on_way goes done
           (AtEntry r index) r index
+  in_root_step _ at looks = absurd looks.at

@@ -43,19 +43,16 @@ made_counts call ks m is = absurd is
 
 pub made_changes : (call : Call) (ks : List Capability) (m : Making) → MakesBy call ks m → changes_frames call ≡ true
 made_changes (make_call what r f u b) (range ∷ ks) m is = refl
-made_changes (make_call what r f u b) [] m is = absurd is
-made_changes call ks m is = absurd is
+made_changes _ _ m is = absurd is
 
 -- It makes no frame untyped.
 pub made_types : (call : Call) (ks : List Capability) (m : Making) → MakesBy call ks m → untypes call ≡ false
 made_types (make_call what r f u b) (range ∷ ks) m is = refl
-made_types (make_call what r f u b) [] m is = absurd is
-made_types call ks m is = absurd is
+made_types _ _ m is = absurd is
 
 pub made_argument : (call : Call) (ks : List Capability) (m : Making) → MakesBy call ks m → is_one_of m.frame (frame_argument call) ≡ true
 made_argument (make_call what r f u b) (range ∷ ks) m is = ap (λ b. b || false) (eq-eqb f m.frame (sym is.frame))
-made_argument (make_call what r f u b) [] m is = absurd is
-made_argument call ks m is = absurd is
+made_argument _ _ m is = absurd is
 
 pub argument_footprint : (s : State) (c : ℕ) (call : Call) (f : ℕ) → is_one_of f (frame_argument call) ≡ true
     → is_one_of f (footprint_frames s c call) ≡ true
@@ -105,12 +102,10 @@ none_named object g R none names_it = absurd (false≢true (sym (ap (is_one_of g
 comp_named : (s : State) (c r u n : ℕ) (qs : List Capability) (k : Capability) → at_place qs Third ≡ Some k
     → Leads (LeadsIn s c) (of_kind_name Kind.Range r ∷ of_kind_name Kind.Table u ∷ of_kind_name Kind.Comp n ∷ []) [] qs
     → named_by k.kind k.frame ≡ k.frame ∷ []
-comp_named s c r u n [] k at lead = absurd (cc)
-comp_named s c r u n (x ∷ []) k at lead = absurd (cc)
-comp_named s c r u n (x ∷ y ∷ []) k at lead = absurd (cc)
 comp_named s c r u n (x ∷ y ∷ z ∷ zs) k at lead =
     ap (λ (j : Kind). named_by j k.frame) (only_is Kind.Comp k.kind
     (ap (λ (q : Capability). only Kind.Comp q.kind) (sym (same_cap z k at)) ∙ named_kind s c n (to_use (only Kind.Comp)) z lead.1.1.0))
+comp_named s c r u n _ k at lead = absurd (cc)
 
 third_footprint : (s : State) (c r f u b n g : ℕ) (qs : List Capability) (o : Option Capability) → at_place qs Third ≡ o →
     (object : NewObject)

@@ -69,9 +69,8 @@ first_one [] some = absurd (omega (arith, some))
 first_one (f ∷ fs) some = ap (λ b. b || is_one_of f fs) (eq-eqb f f refl)
 
 pub below_one : (fs : List ℕ) → 2 ≤ length fs → is_one_of (below_of fs) fs ≡ true
-below_one [] deep = absurd (omega (arith, deep))
-below_one (f ∷ []) deep = absurd (omega (arith, deep))
 below_one (f ∷ g ∷ fs) deep = or_right (f == g) (is_one_of g (g ∷ fs)) (ap (λ b. b || is_one_of g fs) (eq-eqb g g refl))
+below_one _ deep = absurd (omega (arith, deep))
 
 only_due : (f : ℕ) (z : ℤ) (xs : List Due) (d : Due) (rest : List Due) → record { frame = f; change = z } ∷ [] ≡ xs ++ d ∷ rest
     → d.frame ≡ f
@@ -87,17 +86,13 @@ only_due f z (x ∷ xs) d rest is = absurd (no_due xs d rest (tail_same _ _ _ _ 
 -- The count that an entering changes is that of the component's frame, and that of a leaving that of the top's.
 pub invoking_due : (f : ℕ) (at : InvokingAt) (xs : List Due) (d : Due) (rest : List Due) → invoking_dues f at ≡ xs ++ d ∷ rest
     → d.frame ≡ f
-invoking_due f InvokingAt.LoadTable xs d rest is = absurd (no_due xs d rest is)
-invoking_due f (InvokingAt.LoadPages table) xs d rest is = absurd (no_due xs d rest is)
-invoking_due f (InvokingAt.LoadComp table pages) xs d rest is = absurd (no_due xs d rest is)
 invoking_due f (InvokingAt.LoadLive table pages life) xs d rest is = only_due f (pos 1) xs d rest is
+invoking_due f _ xs d rest is = absurd (no_due xs d rest is)
 
 pub returning_due : (f : ℕ) (at : ReturningAt) (xs : List Due) (d : Due) (rest : List Due) → returning_dues f at ≡ xs ++ d ∷ rest
     → d.frame ≡ f
-returning_due f ReturningAt.LoadBelow xs d rest is = absurd (no_due xs d rest is)
-returning_due f (ReturningAt.LoadTable comp) xs d rest is = absurd (no_due xs d rest is)
-returning_due f (ReturningAt.LoadPages comp table) xs d rest is = absurd (no_due xs d rest is)
 returning_due f (ReturningAt.Draw comp table pages) xs d rest is = only_due f (negsuc 0) xs d rest is
+returning_due f _ xs d rest is = absurd (no_due xs d rest is)
 
 -- The component at the top of a core's stack is in the footprint of each of its calls.
 pub top_footprint : (s : State) (c : ℕ) (call : Call) (top : ℕ) → top ≡ first_of_stack (thread_of s c).stack → 1 ≤ length

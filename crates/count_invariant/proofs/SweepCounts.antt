@@ -1,6 +1,6 @@
 -- The counts that a call acquires which makes a frame untyped: of the frames that its object names itself. None of them is the frame, since
 -- nothing refers to that; and they are in the call's footprint.
-use Rattle.step_ways.proofs.{◌^◌, ◌≡◌, ◌≢◌, ◌⊎◌, ℕ, ℤ, negsuc, ◌<◌, ◌≤◌, ◌+◌, ◌++◌, ◌||◌, ◌==◌, map, cond, Bool, true, false, IsTrue, List}
+use Rattle.step_ways.proofs.{◌^◌, ◌≡◌, ◌≢◌, ℕ, ℤ, negsuc, ◌<◌, ◌≤◌, ◌+◌, ◌++◌, ◌||◌, ◌==◌, map, cond, Bool, true, false, IsTrue, List}
 use Rattle.step_ways.proofs.{[], ◌∷◌, Option, Some, None, arith, refl, sym, ◌∙◌, ap, subst, All, flat_map, eq-eqb, eqb-true, false≢true}
 use Rattle.step_ways.proofs.{Capability, Setting, IsSetting, Call, Retype, Word, CountAt, State, frame_names, times, refs, rule_of}
 use Rattle.step_ways.proofs.{times_cons, counts_references, changes_frames, frame_mark, IsInFootprint, is_one_of, frames_named}
@@ -114,11 +114,9 @@ module _ (setup : Setting) (setting : IsSetting setup) (cores : ℕ → Core) (t
   drawing = by m.at refl has.knows.starts
     where
       by : (at : UntypingAt) → m.at ≡ at → is_drawing at ≡ true → Drawing
-      by UntypingAt.Load at_is starts = absurd (false≢true starts)
-      by (UntypingAt.Mark word v) at_is starts = absurd (false≢true starts)
-      by (UntypingAt.Sweep word w) at_is starts = absurd (false≢true starts)
       by (UntypingAt.Draw word w) at_is starts =
           record { word = word; swept = w; at_is = at_is; knows_it = subst (KnowsUntypingAt setup t c f) at_is knows.at }
+      by _ at_is starts = absurd (false≢true starts)
 
   abbrev w : Swept
   w = drawing.swept

@@ -1,5 +1,5 @@
 -- The counts of a call that switches, and the frames that it names.
-use Rattle.step_ways.proofs.{All, flat_map, ◌≡◌, ◌+◌, ◌<◌, inl, inr, refl, ℕ, Bool, true, false, sym, ◌∙◌, [], ◌∷◌, ◌++◌, map, ap, subst}
+use Rattle.step_ways.proofs.{All, flat_map, ◌≡◌, ◌+◌, inl, inr, refl, ℕ, Bool, true, false, sym, ◌∙◌, [], ◌∷◌, ◌++◌, map, ap, subst}
 use Rattle.step_ways.proofs.{IsTrue, ◌||◌, ◌==◌, arith, eq-eqb, Setting, Capability, Kind, Call, to_use, only, EntryAt, rule_of, counted}
 use Rattle.step_ways.proofs.{named_by, frame_names, IsGuarded, State, thread_of, comp_of, only_is, core_same_refs, counts_references}
 use Rattle.step_ways.proofs.{changes_threads, IsInFootprint, footprint_frames, frames_own, is_one_of, Step, Trace, Open, Out, WasAt, phase}
@@ -10,7 +10,6 @@ use Rattle.step_ways.specs.core_invariant.specs.{HasThread, SwitchesBy, KnowsIdl
 use Rattle.plan_ways.proofs.{footprint_found, one_left}
 use Rattle.std.proofs.lemmas.List.Elements.{All-nil, All-cons, All-head, All-tail}
 use Rattle.step_ways.specs.act_states.specs.declared.switches.SwitchAt.TheVariants.{LoadTable, Claim, LoadPages, Leave, Draw}
-use Rattle.step_ways.specs.stage_thread.specs.declared.claim.Claim.TheVariants.{AtLoad, AtCompare}
 use Rattle.{plan_ways.specs.kernel_history.specs.Footprint.frames_about, step_ways.specs.core_invariant.specs.Threads.LeavesOwn}
 use Rattle.{step_ways.proofs.Refusals.IsRefusing, count_invariant.proofs.MakingCounts.named_kind}
 
@@ -125,13 +124,11 @@ module _ (s : State) (c : ℕ) (call : Call) (ks : List Capability) (m : Switchi
 
   dues_footprint : (at : SwitchAt) → IsSwitch call ks (claimed_by at) m.tcap → Leads (LeadsIn s c) (plan_for call).names [] ks
       → All IsFootprint (switching_dues m at)
-  dues_footprint (Claim claim) is lead = All-nil IsFootprint
-  dues_footprint (LoadTable to) is lead = All-nil IsFootprint
-  dues_footprint (LoadPages to table) is lead = All-nil IsFootprint
   dues_footprint (Leave to table pages) is lead =
       all_footprint to (thread_footprint s c call ks to.thread m.tcap is lead) (tcap_footprint s c call ks to.thread m.tcap is lead)
   dues_footprint (Draw to table pages) is lead =
       all_footprint to (thread_footprint s c call ks to.thread m.tcap is lead) (tcap_footprint s c call ks to.thread m.tcap is lead)
+  dues_footprint _ is lead = All-nil IsFootprint
 
   pub switch_due_footprint : (at : SwitchAt) → IsSwitch call ks (claimed_by at) m.tcap → Leads (LeadsIn s c) (plan_for call).names [] ks
       → (xs : List Due) (d : Due) (rest : List Due) → switching_dues m at ≡ xs ++ d ∷ rest → IsFootprint d
@@ -177,10 +174,9 @@ switch_left setup t e c call ks counts m at is lead opens by has = left at is ha
 
     left : (at : SwitchAt) → IsSwitch call ks (claimed_by at) m.tcap → HasThread (state_after setup t) c (claimed_by at)
         → KnowsTail setup (e ∷ t) c call counts (switching_undo at)
-    left (Claim (AtLoad f core)) of thread = tt
-    left (Claim (AtCompare f core depth)) of thread = tt
     left (Claim (AtStack f depth)) of thread = idle f of thread
     left (LoadTable to) of thread = idle to.thread of thread
     left (LoadPages to table) of thread = idle to.thread of thread
     left (Leave to table pages) of thread = idle to.thread of thread
     left (Draw to table pages) of thread = idle to.thread of thread
+    left _ of thread = tt
