@@ -92,11 +92,8 @@ changes_node call _ places node = absurd (false≢true node)
 -- A slot that is reached under a number is on the way.
 leads_like : (p : Place) (waits b : Bool) (i : ℕ) (at : Slot) → (if b then slot_in (linked (usable_in p waits)) i else None) ≡ Some at
     → (if b then slot_in (linked (capability_in p)) i else None) ≡ Some at
-leads_like Vacant waits b i at h = h
-leads_like (Holds k) waits b i at h = h
-leads_like (Removed k) true b i at h = h
 leads_like (Removed k) false true i at h = absurd (cc)
-leads_like (Removed k) false false i at h = h
+leads_like _ _ _ i at h = h
 
 pub target_way : (s : State) (c : ℕ) (target : Target) (at : Slot) → reached s c target ≡ Some at
     → is_slot_in (wide_way_to s target) at.node at.index ≡ true

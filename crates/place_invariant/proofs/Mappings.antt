@@ -14,8 +14,7 @@ use low.{limits_of, ◌||◌, Fill as fill_act, Map as map_act, first_marked, On
 use low.{decides_on, GoodTook, ticks_at, not_spent, refuses_busy, does, Reply, Refusal}
 use Rattle.count_invariant.specs.boot_words.specs.kernel_rules.specs.{Map, PageFlags, is_user, not_user, Fill as fill_edit}
 use Rattle.count_invariant.proofs.{plan_leads, goes_by, argument_footprint}
-use Rattle.count_invariant.specs.act_states.specs.{maps_frame, maps_word}
-use Rattle.count_invariant.specs.act_states.specs.{declared.fills.Fill.Fill, Acts.page_of, Taking.maps_kind}
+use Rattle.count_invariant.specs.act_states.specs.{maps_frame, maps_word, declared.fills.Fill.Fill, Acts.page_of, Taking.maps_kind}
 use Rattle.count_invariant.specs.core_invariant.specs.Reaching.{HasUser, IsUser, IsMapping, mapped_frame, is_mapping}
 use Rattle.place_invariant.proofs.Outside.{vacant_slot, vacant_node, stands_alone}
 use Rattle.{count_invariant.specs.boot_words.specs.kernel_rules.specs.Nothing as no_value, std.proofs.lemmas.List.Elements.All-head}
@@ -23,14 +22,12 @@ use Rattle.{count_invariant.specs.kernel_history.specs.Discipline.looks_at_frame
 
 -- A frame that its word does not call a user frame is none.
 not_user_is : (x : Frame) (j : FrameKind) → (frame_value x).kind ≡ j → (j ≡ FrameKind.User → ⊥) → is_user x ≡ false
-not_user_is Untyped j is other = refl
 not_user_is User j is other = absurd (other (sym is))
-not_user_is (Kernel object) j is other = refl
+not_user_is _ j is other = refl
 
 user_is : (x : Frame) → (frame_value x).kind ≡ FrameKind.User → x ≡ User
-user_is Untyped is = absurd (cc)
 user_is User is = refl
-user_is (Kernel object) is = absurd (cc)
+user_is _ is = absurd (cc)
 
 -- A call that maps a frame.
 record IsMap (call : Call) (ks : List Capability) : Type 0 where

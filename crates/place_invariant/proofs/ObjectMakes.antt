@@ -212,7 +212,6 @@ made_of (Make.Comp table pages live) other r f u b ks none R by = absurd other
 -- What such an object names is not its frame, which is blank.
 pub dues_apart : (s : State) (f : ℕ) (object : NewObject) → s.frame f ≡ Kernel Blank → HasObjects s object
     → AreDuesApart (object_dues object f)
-dues_apart s f NewObject.Table blank names = (All-nil (λ (x : Due). f ≢ x.frame), tt)
 dues_apart s f (NewObject.Thread comp) blank names = (
   All-cons (λ (x : Due). f ≢ x.frame) (one_more comp) []
       (λ same. false≢true (sym (ap (fits Kind.Comp) (sym (ap s.frame same) ∙ blank)) ∙ names)) (All-nil (λ (x : Due). f ≢ x.frame)),

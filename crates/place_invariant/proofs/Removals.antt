@@ -28,12 +28,11 @@ use Rattle.count_invariant.proofs.{plan_leads, goes_by, counts_commit, counts_su
 use Rattle.count_invariant.proofs.{ANameLeft, NoneLeft, rest_of, next_name}
 use Rattle.count_invariant.specs.act_states.specs.{Remove, begins_in, Close, removes_by, close_move, close_end, close_after, took_close}
 use Rattle.count_invariant.specs.act_states.specs.{cap_dues, Nothing as no_value}
-use Rattle.count_invariant.specs.kept_facts.proofs.{IsCalm, reads_alike, counted_grows}
+use Rattle.count_invariant.specs.kept_facts.proofs.{IsCalm, reads_alike, counted_grows, Calm.calm_core, CountSums.removed_refs}
 use Rattle.count_invariant.specs.kernel_laws.specs.found_stays.proofs.{slot_is, place_here, place_there}
 use Rattle.std.proofs.{lemmas.Bool.cases_eq, Math.IntN.pos-+ℤ-pos, Math.IntN.+ℤ_assoc, Math.IntN.+ℤ_invr, Math.IntN.+ℤ_idr}
 use Rattle.count_invariant.specs.boot_words.specs.kernel_rules.specs.{State.with_grace, Edits.Remove as remove_edit}
 use Rattle.count_invariant.specs.plan_ways.proofs.Ways.{next_on_way, all_ways}
-use Rattle.count_invariant.specs.kept_facts.proofs.{Calm.calm_core, CountSums.removed_refs}
 use Rattle.count_invariant.proofs.Acquiring.{removal_places, removal_raises, removal_types}
 use Rattle.place_invariant.proofs.{Closings.close_good, Closings.store_at, Fills.node_word, Fills.target_way}
 use Rattle.{std.specs.List.list_any, count_invariant.specs.entry_words.proofs.Spelling.spelling}
@@ -535,7 +534,6 @@ pub store_good : (setup : Setting) → IsSetting setup → (cores : ℕ → Core
     → (a : ActiveCall) → (cores c).active ≡ Some a
     → (r : Reply) (drawn : Option ℕ) (close : Close) → a.stage ≡ Decided r drawn (Quiesce close) → KnowsStore setup t c a.call close
     → GoodTook setup cores t c (close_move close) (GoesOn (went_with a a.counts (Decided r drawn Nothing)))
-store_good setup setting cores t stands c here a active r drawn (AtCompare node index word by) is has = absurd has
-store_good setup setting cores t stands c here a active r drawn (AtDraw node index) is has = absurd has
 store_good setup setting cores t stands c here a active r drawn (AtStore node index x) is has =
     store_at setup setting cores t stands c here a active node index r drawn x is has
+store_good setup setting cores t stands c here a active r drawn _ is has = absurd has

@@ -168,9 +168,6 @@ module _ (setup : Setting) (t : Trace) (c node index : ℕ) (cores : (state_afte
   abbrev thing : Thing
   thing = PlaceOf node index
 
-  some_entry : (v u : Entry) → Some v ≡ Some u → v ≡ u
-  some_entry v u h = cc
-
   free_is : (n : ℕ) (p : Place) (r : ℕ) → PlaceIs n p r (Some Entry.Free) → p ≡ Free
   free_is n Free r is = refl
   free_is n (Holds k) r is = absurd (not_free k is.0)
