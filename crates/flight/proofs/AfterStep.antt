@@ -1,20 +1,12 @@
 -- What a core is after its step, whatever the call: it is on the same machine, and is between calls exactly where the step returned.
-use Rattle.work_invariant.specs.core_invariant.specs.{◌≡◌, ℕ, Option, Some, None, refl, Reply, ActiveCall, Took, GoesOn, Decides, Returns}
-use Rattle.work_invariant.specs.core_invariant.specs.{Changes, took, Core, Own, Works, core_after, absorbed_in, absorbed, told_by, told_in}
+use Rattle.work_invariant.specs.core_invariant.specs.{◌≡◌, ℕ, Option, Some, None, refl, Reply, ActiveCall, Took, Returns}
+use Rattle.work_invariant.specs.core_invariant.specs.{Changes, took, Core, Own, core_after, absorbed_in, absorbed, told_by, told_in}
 use Rattle.work_invariant.specs.core_invariant.specs.{returned_in, IsSome, told_of_step}
-use Rattle.call_fits.specs.call_stages.specs.act_states.specs.declared.own.OwnChange.TheVariants.{Ticks, GivesBack, Empties, Caches}
-use Rattle.call_fits.specs.call_stages.specs.act_states.specs.declared.own.OwnChange.TheVariants.{Switches}
+use Rattle.call_fits.specs.call_stages.specs.act_states.specs.declared.own.OwnChange.TheVariants.{Ticks}
 
 after_shape : (own : Own) (k : Took) → (core_after own k).own.layout ≡ own.layout
-after_shape own (GoesOn a) = refl
-after_shape own (Decides r a) = refl
-after_shape own (Returns r x) = refl
 after_shape own (Changes r (Ticks charged owed) a) = refl
-after_shape own (Changes r (GivesBack ticks) a) = refl
-after_shape own (Changes r Empties a) = refl
-after_shape own (Changes r (Works comp table pages depth) a) = refl
-after_shape own (Changes r (Caches item) a) = refl
-after_shape own (Changes r (Switches thread depth comp table pages tcap) a) = refl
+after_shape own _ = refl
 
 absorbed_in_shape : (own : Own) (o : Option ActiveCall) (found : ℕ) → (absorbed_in own o found).own.layout ≡ own.layout
 absorbed_in_shape own None found = refl
@@ -26,10 +18,8 @@ absorbed_shape c found = absorbed_in_shape c.own c.active found
 
 -- the step that leaves a core between calls has returned a reply
 after_returns : (own : Own) (k : Took) → (core_after own k).active ≡ None → (r : Reply) × (returned_in (told_by k) ≡ Some r)
-after_returns own (GoesOn a) none = absurd (cc)
-after_returns own (Decides r a) none = absurd (cc)
 after_returns own (Returns r x) none = (r, refl)
-after_returns own (Changes r change a) none = absurd (cc)
+after_returns own _ none = absurd (cc)
 
 absorbed_in_returns : (own : Own) (o : Option ActiveCall) (found : ℕ) → IsSome o → (absorbed_in own o found).active ≡ None
     → (r : Reply) × (returned_in (told_in own o found) ≡ Some r)

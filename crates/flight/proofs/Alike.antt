@@ -4,10 +4,9 @@ use Rattle.work_invariant.specs.boot_words.specs.kernel_history.proofs.{◌∙�
 use Rattle.work_invariant.specs.boot_words.specs.kernel_history.proofs.{FrameAt, CountAt, CoreAt, LiveAt, IsIn, entry_of_word, comp_of_word}
 use Rattle.work_invariant.specs.boot_words.specs.kernel_history.proofs.{count_of_word, frame_of_word, live_of_word, core_of_word}
 use Rattle.work_invariant.specs.boot_words.specs.kernel_history.proofs.{thread_of_word, stack_of_word, head_of_word, quality_of_word, Place}
-use Rattle.work_invariant.specs.boot_words.specs.kernel_history.proofs.{Object, Blank, Table, Leaf, Pages, Pleaf, Comp, Thread, Tcap, Frame}
-use Rattle.work_invariant.specs.boot_words.specs.kernel_history.proofs.{Untyped, User, Kernel, State, shape_of, counters, count_in}
-use Rattle.work_invariant.specs.boot_words.specs.kernel_history.proofs.{count_sum, get_or, CoreEnd, residue, count_at, RepresentCounts}
-use Rattle.work_invariant.specs.boot_words.specs.kernel_history.proofs.{Represent, AreFrame, SaysPlace}
+use Rattle.work_invariant.specs.boot_words.specs.kernel_history.proofs.{Object, Blank, Comp, Thread, Tcap, Frame, Kernel, State, shape_of}
+use Rattle.work_invariant.specs.boot_words.specs.kernel_history.proofs.{counters, count_in, count_sum, get_or, CoreEnd, residue, count_at}
+use Rattle.work_invariant.specs.boot_words.specs.kernel_history.proofs.{RepresentCounts, Represent, AreFrame, SaysPlace}
 use Rattle.work_invariant.specs.boot_words.specs.kernel_history.specs.{IsUnheld, AreEntries, SaysNumber}
 use Rattle.std.proofs.lemmas.List.FromFn.{length-range_with_len, get_or-range_with_len}
 use Rattle.work_invariant.specs.boot_words.specs.kernel_history.specs.FinalWords.{AreObject, SaysOut}
@@ -19,10 +18,6 @@ module _ (word word' : ℕ → ℕ) (alike : (i : ℕ) → i < 64 → word i ≡
 
   like_object : (object : Object) (place : ℕ → Place) → AreObject object place word → AreObject object place word'
   like_object Blank place are = tt
-  like_object Table place are = like_entries place are
-  like_object Leaf place are = like_entries place are
-  like_object Pages place are = like_entries place are
-  like_object Pleaf place are = like_entries place are
   like_object (Comp k) place are = record {
     table = sym (alike 0 (omega arith)) ∙ are.table;
     pages = sym (alike 1 (omega arith)) ∙ are.pages;
@@ -38,11 +33,11 @@ module _ (word word' : ℕ → ℕ) (alike : (i : ℕ) → i < 64 → word i ≡
     list = λ j low. ap (λ (w : ℕ). quality_of_word w) (sym (alike (1 + j) (omega arith))) ∙ are.list j low;
     most = are.most;
   }
+  like_object _ place are = like_entries place are
 
   like_frame : (frame : Frame) (place : ℕ → Place) → AreFrame frame place word → AreFrame frame place word'
-  like_frame Untyped place are = tt
-  like_frame User place are = tt
   like_frame (Kernel object) place are = like_object object place are
+  like_frame _ place are = tt
 
 -- the words of a machine of a setup, and the ends of its cores
 pub like : (setup : Setting) (s : State) (word word' : Word → ℕ) (end end' : ℕ → CoreEnd) → s.limits.frames ≡ setup.frames

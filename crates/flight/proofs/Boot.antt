@@ -5,7 +5,7 @@ use low.core_invariant.proofs.{true, false, [], Option, Some, None, arith, refl,
 use low.core_invariant.proofs.{ne_eqb, false≢true, lt-ltb, eqb-true, Capability, Setting, IsSetting, Kind, Entry, word_of_entry}
 use low.core_invariant.proofs.{entry_of_word, frame_of_word, count_of_word, live_of_word, Word, EntryAt, FrameAt, CountAt, CoreAt, FlushAt}
 use low.core_invariant.proofs.{LiveAt, ClockAt, Place, Free, Holds, Quiescing, Object, Blank, Table, Leaf, Pages, Pleaf, Comp, Thread, Tcap}
-use low.core_invariant.proofs.{TcapFields, Frame, Untyped, User, Kernel, State, comp_in, thread_in, thread_of, first_of_stack, refs, fits}
+use low.core_invariant.proofs.{TcapFields, Frame, Untyped, Kernel, State, comp_in, thread_in, thread_of, first_of_stack, refs, fits}
 use low.core_invariant.proofs.{frame_value, entry_mark, frame_mark, count_mark, live_mark, thread_mark, head_mark, mark_in_frame, CapNames}
 use low.core_invariant.proofs.{marked_by, settled_by, PlaceIs, IsFrameWord, NumberIs, WordIs, word_of_head, head_of_word, HeadWord, held_by}
 use low.core_invariant.proofs.{times_of, count_shown, SumIs, stamp_in, count_in, word_of_count, word_of_frame, word_of_live, at_height}
@@ -86,9 +86,8 @@ place_says n (Holds k) o stands names h = (h, names k refl)
 place_says n (Quiescing k) o stands names h = absurd (stands k refl)
 
 place_unmarked : (p : Place) (o : Option Entry) → Stands p → SaysPlace p o → entry_mark o ≡ None
-place_unmarked Free o stands h = ap entry_mark h
-place_unmarked (Holds k) o stands h = ap entry_mark h
 place_unmarked (Quiescing k) o stands h = absurd (stands k refl)
+place_unmarked _ o stands h = ap entry_mark h
 
 -- A place past a node's entries is free.
 past_free : (setup : Setting) → IsSetting setup → (f i : ℕ) → 64 ≤ i → start_place setup f i ≡ Free
@@ -152,10 +151,6 @@ module _ (setup : Setting) (setting : IsSetting setup) where
   object_marks : (f : ℕ) (x : Object) → AreObject x (start_place setup f) (λ i. boot_object x (start_place setup f) i)
       → (i : ℕ) → object_mark x i (boot_object x (start_place setup f) i) ≡ None
   object_marks f Blank h i = refl
-  object_marks f Table h i = node_marks f h i
-  object_marks f Leaf h i = node_marks f h i
-  object_marks f Pages h i = node_marks f h i
-  object_marks f Pleaf h i = node_marks f h i
   object_marks f (Comp k) h i = refl
   object_marks f (Thread t) h i =
       first_mark i (λ i. thread_mark (thread_of_word (boot_object (Thread t) (start_place setup f) i)))
@@ -163,14 +158,11 @@ module _ (setup : Setting) (setting : IsSetting setup) where
   object_marks f (Tcap q) h i =
       first_mark i (λ i. head_mark (head_of_word_of_head (boot_object (Tcap q) (start_place setup f) i)))
       (ap head_mark h.head)
+  object_marks f _ h i = node_marks f h i
 
   object_says : (f : ℕ) (x : Object) → AreObject x (start_place setup f) (λ i. boot_object x (start_place setup f) i)
       → (i : ℕ) → IsObjectWord setup.frames x (start_place setup f i) 0 i (boot_object x (start_place setup f) i)
   object_says f Blank h i = tt
-  object_says f Table h i = node_says f h i
-  object_says f Leaf h i = node_says f h i
-  object_says f Pages h i = node_says f h i
-  object_says f Pleaf h i = node_says f h i
   object_says f (Comp k) h zero = h.table
   object_says f (Comp k) h (suc zero) = h.pages
   object_says f (Comp k) h (suc (suc zero)) = h.live
@@ -190,18 +182,17 @@ module _ (setup : Setting) (setting : IsSetting setup) where
       λ below. subst (λ (j : ℕ). quality_of_word (boot_object (Tcap q) (start_place setup f) j) ≡ Some
       (record { 0 = slice_get q.qualities i }))
       (next i) (h.list i below)
+  object_says f _ h i = node_says f h i
 
   frame_marks : (f : ℕ) (x : Frame) → AreFrame x (start_place setup f) (λ i. boot_frame x (start_place setup f) i) → (i : ℕ)
       → mark_in_frame x i (boot_frame x (start_place setup f) i) ≡ None
-  frame_marks f Untyped h i = refl
-  frame_marks f User h i = refl
   frame_marks f (Kernel x) h i = object_marks f x h i
+  frame_marks f _ h i = refl
 
   frame_says : (f : ℕ) (x : Frame) → AreFrame x (start_place setup f) (λ i. boot_frame x (start_place setup f) i)
       → (i : ℕ) → IsFrameWord setup.frames x (start_place setup f i) 0 i (boot_frame x (start_place setup f) i)
-  frame_says f Untyped h i = tt
-  frame_says f User h i = tt
   frame_says f (Kernel x) h i = object_says f x h i
+  frame_says f _ h i = tt
 
   -- the words of every frame, also past those of the machine
   are_frame : (f : ℕ) → AreFrame (start_frame setup f) (start_place setup f)
@@ -222,8 +213,7 @@ module _ (setup : Setting) (setting : IsSetting setup) where
 
   frame_value_mark : (x : Frame) → (frame_value x).mark ≡ None
   frame_value_mark Untyped = refl
-  frame_value_mark User = refl
-  frame_value_mark (Kernel x) = refl
+  frame_value_mark _ = refl
 
   count_reads : (f n : ℕ) → n ≤ refs (start setup) f
       → count_of_word (word_of_count (record { hold = Unheld; count = pos n; stamp = 0 })) ≡ Some
@@ -251,10 +241,8 @@ module _ (setup : Setting) (setting : IsSetting setup) where
   boot_mark (EntryAt f i) = frame_marks f (start_frame setup f) (are_frame f) i
   boot_mark (FrameAt f) = ap frame_mark (kind_reads f) ∙ frame_value_mark (start_frame setup f)
   boot_mark (CountAt f c) = ap count_mark (count_reads f (if c == 0 then refs (start setup) f else 0) (least c (refs (start setup) f)))
-  boot_mark (CoreAt c) = refl
-  boot_mark (FlushAt c) = refl
   boot_mark (LiveAt l) = ap live_mark (number_reads l) ∙ number_mark l
-  boot_mark ClockAt = refl
+  boot_mark _ = refl
 
   boot_says : (w : Word) → WordIs (start setup) (times_of setup []) w (boot_word setup w)
   boot_says (EntryAt f i) = frame_says f (start_frame setup f) (are_frame f) i

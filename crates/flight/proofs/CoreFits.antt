@@ -1,12 +1,11 @@
 -- A core keeps in its ranges: at the start, where it begins a call, and after each step.
 use Rattle.work_invariant.specs.step_ways.proofs.{◌≡◌, ℕ, ◌<◌, ◌≤◌, ◌*◌, ◌+◌, Option, Some, None, arith, refl, sym, ap, subst, IsSome}
-use Rattle.work_invariant.specs.step_ways.proofs.{Setting, IsSetting, InLimits, Call, calls_counted, Own, Works, Reply, ActiveCall, Core}
+use Rattle.work_invariant.specs.step_ways.proofs.{Setting, IsSetting, InLimits, Call, calls_counted, Own, Reply, ActiveCall, Core}
 use Rattle.work_invariant.specs.step_ways.proofs.{Took, GoesOn, Decides, Returns, Changes, took, fresh, core_after, absorbed_in, absorbed}
 use Rattle.work_invariant.specs.step_ways.proofs.{started, IsCore, steps_left}
 use Rattle.call_fits.specs.call_stages.specs.{told, call_after, begun, IsOwn, left_of, left_for}
 use Rattle.call_fits.specs.call_stages.specs.act_states.specs.declared.own.OwnChange.{OwnChange}
-use Rattle.call_fits.specs.call_stages.specs.act_states.specs.declared.own.OwnChange.TheVariants.{Ticks, GivesBack, Empties, Caches}
-use Rattle.call_fits.specs.call_stages.specs.act_states.specs.declared.own.OwnChange.TheVariants.{Switches}
+use Rattle.call_fits.specs.call_stages.specs.act_states.specs.declared.own.OwnChange.TheVariants.{Ticks}
 use Rattle.call_fits.specs.act_fits.proofs.LandsFit.{TookFits}
 use Rattle.call_fits.proofs.{Fitting.took_fits, CoreFitting.goes_on, CoreFitting.decides_on, CoreFitting.changes_on}
 use Rattle.call_fits.proofs.Begun as begun
@@ -62,11 +61,7 @@ further_changed : (own : Own) (a : ActiveCall) (r : Reply) (change : OwnChange) 
     → IsCore (core_after own (Changes r change new)) → left_of own.layout.cores new < left_of own.layout.cores a
     → GoesFurther own a (core_after own (Changes r change new))
 further_changed own a r (Ticks charged owed) new fits fewer = record { fits = fits; fewer = fewer }
-further_changed own a r (GivesBack ticks) new fits fewer = record { fits = fits; fewer = fewer }
-further_changed own a r Empties new fits fewer = record { fits = fits; fewer = fewer }
-further_changed own a r (Works comp table pages depth) new fits fewer = record { fits = fits; fewer = fewer }
-further_changed own a r (Caches item) new fits fewer = record { fits = fits; fewer = fewer }
-further_changed own a r (Switches thread depth comp table pages tcap) new fits fewer = record { fits = fits; fewer = fewer }
+further_changed own a r _ new fits fewer = record { fits = fits; fewer = fewer }
 
 further : (own : Own) (a : ActiveCall) (found : ℕ) (k : Took) → took own a found ≡ k → IsCore (record { own = own; active = Some a })
     → GoesFurther own a (core_after own k)

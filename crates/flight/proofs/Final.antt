@@ -4,7 +4,7 @@ use low.{◌≡◌, ◌≢◌, ◌⊎◌, inl, inr, ℕ, suc, ◌+◌, ◌<◌, 
 use low.{subst, IsTrue, false≢true, All, Setting, IsSetting, Capability, Translation, Entry, entry_of_word, quality_of_word, stack_of_word}
 use low.{LiveWord, count_of_word, CountWord, Word, EntryAt, FrameAt, CountAt, CoreAt, LiveAt, Place, Free, Holds, Quiescing, Blank, Table}
 use low.{Leaf, Pages, Pleaf, Comp, Thread, Tcap, Frame, Untyped, User, Kernel, Liveness, Unused, Live, Dead, PlaceOf, NumberOf, State}
-use low.{held_in, counters, holds_node, at_height, Trace, Phase, Out, Open, phase, state_after, last_left, is_in, stamp, exit_of, sound_of}
+use low.{held_in, counters, holds_node, at_height, Trace, Phase, Out, phase, state_after, last_left, is_in, stamp, exit_of, sound_of}
 use low.{Core, marked_by, settled_by, settled, PlaceIs, IsFrameWord, SaysCount, NumberIs, WordIs, CallIs, WorksIn, holds_in, held_by}
 use low.{times_of, count_shown, Invariant, limits_of, marker_inside, true≢false, CoreEnd, residue, is_node as is_sound_node, count_at}
 use low.{RepresentCounts, Represent, inside_is, end_of, IsMarked, IsUnmarked, place_reads}
@@ -13,19 +13,14 @@ use Rattle.std.proofs.{lemmas.Bool.cases_lt, lemmas.List.Elements.All-nil, lemma
 use Rattle.work_invariant.specs.boot_words.specs.kernel_history.specs.Moments.{EntrySays, CoreSays}
 use Rattle.work_invariant.specs.kept_facts.proofs.{CountSums.sum_same, Few.refs_residue}
 use Rattle.flight.specs.Theorems.{SaysWords, AreBetween, Represents, RepresentsCounts}
-use Rattle.{work_invariant.specs.boot_words.specs.kernel_history.specs.Decided, work_invariant.specs.core_invariant.proofs.Bare.none_value}
+use Rattle.{work_invariant.specs.core_invariant.proofs.Bare.none_value}
 
 sound_node : (x : Frame) → IsTrue (holds_node x) → IsTrue (is_sound_node x)
-sound_node Untyped h = absurd (false≢true h)
-sound_node User h = absurd (false≢true h)
-sound_node (Kernel Blank) h = absurd (false≢true h)
 sound_node (Kernel Table) h = refl
 sound_node (Kernel Leaf) h = refl
 sound_node (Kernel Pages) h = refl
 sound_node (Kernel Pleaf) h = refl
-sound_node (Kernel (Comp k)) h = absurd (false≢true h)
-sound_node (Kernel (Thread t)) h = absurd (false≢true h)
-sound_node (Kernel (Tcap q)) h = absurd (false≢true h)
+sound_node _ h = absurd (false≢true h)
 
 node_sound : (x : Frame) → IsTrue (is_sound_node x) → holds_node x ≡ false → ⊥
 node_sound (Kernel Table) h none = true≢false none
@@ -46,13 +41,11 @@ says_number (Dead epoch) r o h = record { stamp = r; says = h.says }
 
 inside_phase : (p : Phase) → is_in p ≡ true → p ≢ Out
 inside_phase Out h = absurd (false≢true h)
-inside_phase (Open call) h = λ q. cc
-inside_phase (Decided call r) h = λ q. cc
+inside_phase _ h = λ q. cc
 
 phase_inside : (p : Phase) → p ≢ Out → is_in p ≡ true
 phase_inside Out h = absurd (h refl)
-phase_inside (Open call) h = refl
-phase_inside (Decided call r) h = refl
+phase_inside _ h = refl
 
 pub says_words : SaysWords
 says_words setup setting cores t stands = record { entries = entries; cores = core_says }
@@ -89,10 +82,6 @@ frame_parts : (n : ℕ) (x : Frame) (p : ℕ → Place) (r word : ℕ → ℕ) �
 frame_parts n Untyped p r word h = tt
 frame_parts n User p r word h = tt
 frame_parts n (Kernel Blank) p r word h = tt
-frame_parts n (Kernel Table) p r word h = λ i below. says_place n (p i) (r i) (entry_of_word (word i)) (h i below)
-frame_parts n (Kernel Leaf) p r word h = λ i below. says_place n (p i) (r i) (entry_of_word (word i)) (h i below)
-frame_parts n (Kernel Pages) p r word h = λ i below. says_place n (p i) (r i) (entry_of_word (word i)) (h i below)
-frame_parts n (Kernel Pleaf) p r word h = λ i below. says_place n (p i) (r i) (entry_of_word (word i)) (h i below)
 frame_parts n (Kernel (Comp k)) p r word h = record { table = h 0; pages = h 1; live = h 2 }
 frame_parts n (Kernel (Thread t)) p r word h = record {
   runs = h 0;
@@ -105,12 +94,12 @@ frame_parts n (Kernel (Tcap q)) p r word h = let head = h 0 in record {
       (h (suc i) below);
   most = head.most;
 }
+frame_parts n _ p r word h = λ i below. says_place n (p i) (r i) (entry_of_word (word i)) (h i below)
 
 -- Places of frames that are no nodes hold nothing.
 none_held : (p : Place) → ((k : Capability) → p ≡ Holds k → ⊥) → held_in p ≡ None
-none_held Free h = refl
 none_held (Holds k) h = absurd (h k refl)
-none_held (Quiescing k) h = refl
+none_held _ h = refl
 
 end_with : ℕ → ℕ → ℕ → ℕ → ℕ → ℕ → List Translation → CoreEnd
 end_with thread tcap comp spent back owed cached =

@@ -3,7 +3,7 @@ use Rattle.work_invariant.specs.step_ways.proofs as low
 use low.{◌≡◌, ◌≢◌, ℕ, ◌<◌, arith, true, List, [], ◌∷◌, Option, Some, None, inl, inr, refl, sym, ◌∙◌, ap, subst, IsSome, is_some, false≢true}
 use low.{Call, Reply, Setting, told_of, put_same, put_other, Step, Trace, Phase, Out, Open, phase, after_enter, after_decide, after_return}
 use low.{phase-own, phase-other, Core, Own, absorbed_in, told_by, told_in, fresh, Capability, Plan, decided_in, returned_in, ActiveCall}
-use low.{Stage, Enter, Living, Undecided, Decided, Leave, Took, GoesOn, Decides, Returns, Changes, took, calls_of-other}
+use low.{Stage, Enter, Decided, Leave, Took, GoesOn, Decides, Returns, Changes, took, calls_of-other}
 use low.{core_after as after_took, move_of, plan_for}
 use Rattle.flight.specs.{is_decided_at, is_decided_in, turned, MayStep, core_after, cores_after, stepping_core, IsMadeStep}
 use Rattle.work_invariant.specs.boot_words.specs.kernel_history.specs.{Trace.Decided as decided_phase, Order.IsDecided}
@@ -25,17 +25,13 @@ decides_open (Open call) r inside un = tt
 decides_open (decided_phase call q) r inside un = absurd (un tt)
 
 is_decided_inside : (p : Phase) → IsDecided p → p ≢ Out
-is_decided_inside Out is = absurd is
-is_decided_inside (Open call) is = absurd is
 is_decided_inside (decided_phase call r) is = λ e. cc
+is_decided_inside _ is = absurd is
 
 -- Whether a call is decided goes by the reply with which it is.
 decided_by : (s : Stage) → is_decided_at s ≡ is_some (reply_at s)
 decided_by Enter = refl
-decided_by (Living alive) = refl
-decided_by (Undecided work) = refl
-decided_by (Decided r drawn tail) = refl
-decided_by (Leave r x) = refl
+decided_by _ = refl
 
 turns_by : (s : Stage) (k : Took) → laws.Turns (reply_at s) k → Turns (is_decided_at s) k
 turns_by s (GoesOn a) h = decided_by a.stage ∙ ap is_some h ∙ sym (decided_by s)
@@ -191,11 +187,9 @@ made_events setup t e step =
     (subst (λ d. AreEvents core (core_after core e.found) d (returned_in (told_in core.own core.active told_here))) decides are)
 
 stage_decided : (plan : Plan) (found : List Capability) (s : Stage) → is_decided_at s ≡ true → ready_at plan found s ≡ true
-stage_decided plan found Enter h = absurd (cc)
-stage_decided plan found (Living alive) h = absurd (cc)
-stage_decided plan found (Undecided work) h = absurd (cc)
 stage_decided plan found (Decided r drawn tail) h = refl
 stage_decided plan found (Leave r x) h = refl
+stage_decided plan found _ h = absurd (cc)
 
 flight_decided : (o : Option ActiveCall) → is_decided_in o ≡ true → ready_in o ≡ true
 flight_decided None h = absurd (cc)

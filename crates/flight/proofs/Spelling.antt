@@ -1,14 +1,11 @@
 -- The next step of a call is on a word of its machine.
 use Rattle.work_invariant.specs.core_invariant.proofs.{AtComp, AtLive, ℕ, ◌<◌, Option, Some, None, length, arith, ◌≤◌, IsSome, Shape, IsIn}
 use Rattle.work_invariant.specs.core_invariant.proofs.{word_of, StageFits, CompAt, CompMaking, KillingAt, LoadComp, LoadLive, CountWord}
-use Rattle.work_invariant.specs.core_invariant.proofs.{SweepAt, Thaw, UntypingAt, CountAt, Own, Fill}
-use Rattle.work_invariant.specs.core_invariant.proofs.{FrameKind, MakingAt, NewObject, Lookup, Read, Scan, Acquire, Tail, Nothing}
-use Rattle.work_invariant.specs.core_invariant.proofs.{Release, StoreRunning}
-use Rattle.work_invariant.specs.core_invariant.proofs.{StoreIdle, Reply, Acquired, InvokingAt, ReturningAt, Switching, SwitchAt, stage_move}
-use Rattle.work_invariant.specs.core_invariant.proofs.{ActiveCall, Stage, Enter, Living, Undecided, Decided, Leave, IfSome, List, [], ◌∷◌}
-use Rattle.work_invariant.specs.core_invariant.proofs.{CallFits, move_in, Close as kill_close, Draw as kill_draw}
-use Rattle.work_invariant.specs.core_invariant.proofs.{TypingAt}
-use Rattle.work_invariant.specs.core_invariant.proofs.{Act as act_work, tail_move, is_ok}
+use Rattle.work_invariant.specs.core_invariant.proofs.{SweepAt, Thaw, UntypingAt, CountAt, Own, Fill, FrameKind, MakingAt, NewObject}
+use Rattle.work_invariant.specs.core_invariant.proofs.{Lookup, Read, Scan, Acquire, Tail, Nothing, Release, StoreRunning, StoreIdle, Reply}
+use Rattle.work_invariant.specs.core_invariant.proofs.{Acquired, InvokingAt, ReturningAt, Switching, SwitchAt, stage_move, ActiveCall}
+use Rattle.work_invariant.specs.core_invariant.proofs.{Stage, Living, Undecided, Decided, Leave, IfSome, List, [], ◌∷◌, CallFits, move_in}
+use Rattle.work_invariant.specs.core_invariant.proofs.{Draw as kill_draw, TypingAt, Act as act_work, tail_move, is_ok}
 use Rattle.call_fits.specs.call_stages.specs.act_states.specs.{CompMakingFits, counters_of, comp_at, killing_at, move_at, ThawFits}
 use Rattle.call_fits.specs.call_stages.specs.act_states.specs.{untyping_at, typing_at, making_at, ActFits, act_move, commit_of, AllFit}
 use Rattle.call_fits.specs.call_stages.specs.act_states.specs.{SwitchingFits, switching_at, invoking_at, returning_at}
@@ -33,18 +30,16 @@ typing_in shape f k (type_compare word) fits = fits
 
 making_in : (shape : Shape) (f : ℕ) (object : NewObject) (core : ℕ) (fill : FillOf) (at : MakingAt) → f < shape.frames
     → FillFits shape fill → MakingAtFits object at → IsIn shape (word_of (making_at f object core fill at))
-making_in shape f object core fill MakingAt.Load frame fits at = frame
-making_in shape f object core fill (MakingAt.Mark word) frame fits at = frame
 making_in shape f object core fill (MakingAt.Store word entry) frame fits at =
     (frame, (let small = last_small object in omega (arith, at, small)))
 making_in shape f object core fill (MakingAt.Fill word) frame fits at = (fits.node, fits.entry)
+making_in shape f object core fill _ frame fits at = frame
 
 killing_in : (shape : Shape) (f core : ℕ) (at : KillingAt) → f < shape.frames → KillingAtFits at
     → IsIn shape (word_of (killing_at f core at))
 killing_in shape f core LoadComp below fits = (below, omega arith)
-killing_in shape f core (LoadLive life) below fits = fits.0
-killing_in shape f core (kill_close life word) below fits = fits.0
 killing_in shape f core (kill_draw life word) below fits = tt
+killing_in shape f core _ below fits = fits.0
 
 -- a frame's counters are those of the cores
 counter_in : (shape : Shape) (f n : ℕ) → f < shape.frames → n < counters_of shape → IsIn shape (CountAt f n)
@@ -60,11 +55,10 @@ sweep_in shape f core kept (SweepAt.Empty entry) below fits = (below, fits)
 
 untyping_in : (shape : Shape) (f core : ℕ) (at : UntypingAt) → f < shape.frames → UntypingAtFits shape at
     → IsIn shape (word_of (untyping_at f core at))
-untyping_in shape f core UntypingAt.Load below fits = below
-untyping_in shape f core (UntypingAt.Mark word v) below fits = below
 untyping_in shape f core (UntypingAt.Sweep word w) below fits =
     sweep_in shape w.frame w.core w.kept w.at fits.fits.frame fits.fits.at
 untyping_in shape f core (UntypingAt.Draw word w) below fits = tt
+untyping_in shape f core _ below fits = below
 
 release_in : (shape : Shape) (f word : ℕ) (o : Option Thaw) → f < shape.frames → IfSome o (ThawFits shape)
     → IsIn shape (word_of (release_at f word o))
@@ -74,20 +68,17 @@ release_in shape f word (Some x) below fits =
 
 comp_in : (shape : Shape) (m : CompMaking) (at : CompAt) → CompMakingFits shape (record m { at = at })
     → IsIn shape (word_of (comp_at m at))
-comp_in shape m CompAt.Load fits = fits.frame
-comp_in shape m (CompAt.Mark word) fits = fits.frame
 comp_in shape m (CompAt.LoadLive word) fits = fits.number
 comp_in shape m (CompAt.Scan word last q) fits = quiet_is_in shape q fits.at.0
 comp_in shape m (CompAt.Close word last) fits = fits.number
 comp_in shape m (CompAt.Store word last entry) fits = (fits.frame, (let most = fits.at.1 in omega (arith, most)))
 comp_in shape m (CompAt.Fill word last) fits = (fits.fill.node, fits.fill.entry)
+comp_in shape m _ fits = fits.frame
 
 invoking_in : (shape : Shape) (f : ℕ) (at : InvokingAt) → f < shape.frames → InvokingAtFits shape at
     → IsIn shape (word_of (invoking_at f at))
-invoking_in shape f InvokingAt.LoadTable below fits = (below, omega arith)
-invoking_in shape f (InvokingAt.LoadPages table) below fits = (below, omega arith)
-invoking_in shape f (InvokingAt.LoadComp table pages) below fits = (below, omega arith)
 invoking_in shape f (InvokingAt.LoadLive table pages life) below fits = fits.2.0
+invoking_in shape f _ below fits = (below, omega arith)
 
 returning_in : (shape : Shape) (thread depth : ℕ) (at : ReturningAt) → thread < shape.frames → depth ≤ 16 → ReturningAtFits shape at
     → IsIn shape (word_of (returning_at thread depth at))
@@ -139,7 +130,6 @@ tail_in shape r drawn _ counts fits fit = search (close_is_in, push_is_in, pop_i
 pub stage_in : (own : Own) (counts : List Acquired) (s : Stage) → own.core < own.layout.cores → AllFit own.layout counts
     → StageFits own.layout s
     → IsIn own.layout (word_of (stage_move own counts s))
-stage_in own counts Enter here acquired fits = here
 stage_in own counts (Living (AtComp comp)) here acquired fits = (fits, omega arith)
 stage_in own counts (Living (AtLive life)) here acquired fits = fits.0
 stage_in own counts (Undecided (Lookup look)) here acquired fits = look_is_in own.layout look fits
@@ -148,7 +138,7 @@ stage_in own counts (Undecided (Scan q act)) here acquired fits = quiet_is_in ow
 stage_in own counts (Undecided (Acquire pin change act)) here acquired fits = pin_is_in own.layout pin fits.0
 stage_in own counts (Undecided (act_work act)) here acquired fits = act_in own.layout act fits
 stage_in own counts (Decided r drawn tail) here acquired fits = tail_in own.layout r drawn tail counts fits acquired
-stage_in own counts (Leave r x) here acquired fits = here
+stage_in own counts _ here acquired fits = here
 
 move_word : (own : Own) (o : Option ActiveCall) → own.core < own.layout.cores → CallFits own o → IsSome o
     → IsIn own.layout (word_of (move_in own o))
