@@ -1,6 +1,6 @@
 -- What is kept without a mark: what the words settle to where a step leaves what is kept, or where no core keeps a word.
 use Rattle.act_fits.specs.act_states.proofs.{◌≡◌, ◌≢◌, ◌<◌, ℕ, zero, suc, List, [], ◌∷◌, true, Option, Some, None, arith, refl, sym, ◌∙◌}
-use Rattle.act_fits.specs.act_states.proofs.{ap, inl, inr, Word, EntryAt, FrameAt, CountAt, CoreAt, FlushAt, LiveAt, ClockAt, put, put_same}
+use Rattle.act_fits.specs.act_states.proofs.{ap, inl, inr, Word, EntryAt, put, put_same}
 use Rattle.core_invariant.specs.{Core, holds_counts, bare_value, holds, held_by}
 use Rattle.core_invariant.specs.Holding.{Holding, kept_or, kept_below}
 use Rattle.{act_fits.specs.act_states.proofs.put_other, act_fits.specs.act_states.proofs.Acquired, std.proofs.lemmas.Bool.cases_eq}
@@ -34,22 +34,12 @@ same_kept (suc n) held held' f i x same =
 pub same_value : (held held' : ℕ → Holding) (w : Word) (x : ℕ)
     → ((f i : ℕ) → w ≡ EntryAt f i → (d : ℕ) → (held' d).bare f i ≡ (held d).bare f i) → bare_value held' w x ≡ bare_value held w x
 same_value held held' (EntryAt f i) x same = same_kept 8 held held' f i x (same f i refl)
-same_value held held' (FrameAt f) x same = refl
-same_value held held' (CountAt f c) x same = refl
-same_value held held' (CoreAt c) x same = refl
-same_value held held' (FlushAt c) x same = refl
-same_value held held' (LiveAt l) x same = refl
-same_value held held' ClockAt x same = refl
+same_value held held' _ x same = refl
 
 -- Where no core keeps any, each settles to itself.
 pub none_value : (held : ℕ → Holding) (w : Word) (x : ℕ) → ((f i d : ℕ) → (held d).bare f i ≡ None) → bare_value held w x ≡ x
 none_value held (EntryAt f i) x none = none_kept 8 held f i x (none f i)
-none_value held (FrameAt f) x none = refl
-none_value held (CountAt f c) x none = refl
-none_value held (CoreAt c) x none = refl
-none_value held (FlushAt c) x none = refl
-none_value held (LiveAt l) x none = refl
-none_value held ClockAt x none = refl
+none_value held _ x none = refl
 
 -- A word that no core keeps without a mark.
 abbrev pub IsNotKept : (ℕ → Holding) → Word → Type 0
@@ -57,12 +47,7 @@ IsNotKept held w = (f i : ℕ) → w ≡ EntryAt f i → (d : ℕ) → (held d).
 
 pub free_value : (held : ℕ → Holding) (w : Word) (x : ℕ) → IsNotKept held w → bare_value held w x ≡ x
 free_value held (EntryAt f i) x free = none_kept 8 held f i x (free f i refl)
-free_value held (FrameAt f) x free = refl
-free_value held (CountAt f c) x free = refl
-free_value held (CoreAt c) x free = refl
-free_value held (FlushAt c) x free = refl
-free_value held (LiveAt l) x free = refl
-free_value held ClockAt x free = refl
+free_value held _ x free = refl
 
 -- Counts are marked, so no word is kept without a mark beside them.
 pub counts_bare : (fate : Option (Option ℕ)) (xs : List Acquired) (f i : ℕ) → (holds_counts fate xs).bare f i ≡ None

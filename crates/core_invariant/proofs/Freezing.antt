@@ -2,10 +2,9 @@
 use Rattle.act_fits.specs.act_states.proofs as low
 use low.{◌≡◌, ◌≢◌, ℕ, ◌<◌, ◌≤◌, ◌&&◌, ◌==◌, ltb as nat_lt, leb as nat_le, Bool, true, false, if◌then◌else◌, length, slice_get, Option, Some}
 use low.{None, arith, refl, sym, ◌∙◌, ap, false≢true, eq-eqb, ne_eqb, eqb-true, ltb-true, leb-true, lt-ltb, le-leb, word_of_count, Word}
-use low.{EntryAt, FrameAt, CountAt, CoreAt, FlushAt, LiveAt, ClockAt, same_word, same_same, released, thaw_of, Swept, Thaw}
-use Rattle.core_invariant.specs.{is_frozen, holds_thaw, holds_release, ThawsFrame}
+use low.{EntryAt, FrameAt, CountAt, FlushAt, same_word, same_same, released, thaw_of, Swept, Thaw}
+use Rattle.core_invariant.specs.{is_frozen, holds_thaw, holds_release, ThawsFrame, Frozen.thawed, Holding.Holding}
 use Rattle.act_fits.specs.act_states.specs.declared.untypings.Release.{Release}
-use Rattle.core_invariant.specs.{Frozen.thawed, Holding.Holding}
 
 -- Whether a word is a count.
 abbrev pub is_count : Word → Bool
@@ -18,14 +17,8 @@ SameAt h g w = (h.marks w ≡ g.marks w) × (h.stands w ≡ g.stands w)
 
 -- Of a word that is no count the frozen counters hold nothing.
 pub thaw_plain : (o : Option Thaw) (h : Holding) (w : Word) → is_count w ≡ false → SameAt (holds_thaw o h) h w
-thaw_plain None h w is = (refl, refl)
-thaw_plain (Some t) h (EntryAt f i) is = (refl, refl)
-thaw_plain (Some t) h (FrameAt f) is = (refl, refl)
 thaw_plain (Some t) h (CountAt f d) is = absurd (false≢true (sym is))
-thaw_plain (Some t) h (CoreAt c) is = (refl, refl)
-thaw_plain (Some t) h (FlushAt c) is = (refl, refl)
-thaw_plain (Some t) h (LiveAt l) is = (refl, refl)
-thaw_plain (Some t) h ClockAt is = (refl, refl)
+thaw_plain _ h _ is = (refl, refl)
 
 -- Nor of a count of another frame.
 pub thaw_away : (o : Option Thaw) (h : Holding) (f g d : ℕ) → ThawsFrame g o → f ≢ g → SameAt (holds_thaw o h) h (CountAt f d)
@@ -65,12 +58,6 @@ release_entry x h f i = thaw_plain x.thaw h (EntryAt f i) refl
 pub release_flush : (x : Release) (h : Holding) (c : ℕ) → SameAt (holds_release x h) h (FlushAt c)
 release_flush x h c = thaw_plain x.thaw h (FlushAt c) refl
 
-pub release_live : (x : Release) (h : Holding) (l : ℕ) → SameAt (holds_release x h) h (LiveAt l)
-release_live x h l = thaw_plain x.thaw h (LiveAt l) refl
-
-pub release_core : (x : Release) (h : Holding) (c : ℕ) → SameAt (holds_release x h) h (CoreAt c)
-release_core x h c = thaw_plain x.thaw h (CoreAt c) refl
-
 pub release_away : (x : Release) (h : Holding) (f d : ℕ) → ThawsFrame x.frame x.thaw → f ≢ x.frame
     → SameAt (holds_release x h) h (CountAt f d)
 release_away x h f d of other = thaw_away x.thaw h f x.frame d of other
@@ -108,14 +95,8 @@ frozen_word t (CountAt f d) is =
   where
     both : (x y : Bool) → (x && y) ≡ true → (x ≡ true) × (y ≡ true)
     both true true h = (refl, refl)
-    both true false h = absurd (false≢true h)
-    both false y h = absurd (false≢true h)
-frozen_word t (EntryAt f i) is = absurd (false≢true is)
-frozen_word t (FrameAt f) is = absurd (false≢true is)
-frozen_word t (CoreAt c) is = absurd (false≢true is)
-frozen_word t (FlushAt c) is = absurd (false≢true is)
-frozen_word t (LiveAt l) is = absurd (false≢true is)
-frozen_word t ClockAt is = absurd (false≢true is)
+    both _ _ h = absurd (false≢true h)
+frozen_word t _ is = absurd (false≢true is)
 
 -- The release of no counter is none.
 abbrev pub thaw_from : Swept → Bool → Thaw

@@ -1,16 +1,15 @@
 -- What a call holds of what it keeps beside its counts: of a word that is not among this nothing, and no word without a mark.
 use Rattle.core_invariant.specs.{◌≡◌, ℕ, Bool, true, false, if◌then◌else◌, List, [], ◌∷◌, Option, Some, None, refl, Word, EntryAt, FrameAt}
-use Rattle.core_invariant.specs.{CountAt, LiveAt, same_word, AtCompare as close_compare, AtDraw, AtStore, swept_of, PairAt, ListA, LoadB}
-use Rattle.core_invariant.specs.{ListB, CompareB, AgainB, CompAt, KillingAt, Draw as kill_draw, MakingAt, Load as making_load, Mark}
-use Rattle.core_invariant.specs.{UntypingAt, Remove as remove_act, Make as make_act, Kill as kill_act, Untype as untype_act}
-use Rattle.core_invariant.specs.{MakeComp as comp_act, Share as share_act, Switch as switch_act, SwitchAt, Thaw, is_frozen, holds_act}
-use Rattle.core_invariant.specs.{thaw_of, Frozen.thawed, Frozen.holds_one, Frozen.holds_all, Holding.Holding, ◌≢◌, ◌&&◌, length, ThawsFrame}
-use Rattle.core_invariant.specs.{ltb as nat_lt, leb as nat_le}
+use Rattle.core_invariant.specs.{CountAt, LiveAt, same_word, AtDraw, swept_of, PairAt, ListA, LoadB, ListB, CompareB, AgainB, CompAt}
+use Rattle.core_invariant.specs.{KillingAt, Draw as kill_draw, MakingAt, Load as making_load, Mark, UntypingAt, Remove as remove_act}
+use Rattle.core_invariant.specs.{Make as make_act, Kill as kill_act, Untype as untype_act, MakeComp as comp_act, Share as share_act}
+use Rattle.core_invariant.specs.{Switch as switch_act, SwitchAt, Thaw, is_frozen, holds_act, thaw_of, Frozen.thawed, Frozen.holds_one}
+use Rattle.core_invariant.specs.{Frozen.holds_all, Holding.Holding, ◌≢◌, ◌&&◌, length, ThawsFrame, ltb as nat_lt, leb as nat_le}
 use Rattle.act_fits.specs.act_states.proofs.{ap, ◌∙◌, ne_eqb}
 use Rattle.act_fits.specs.act_states.specs.{Keeping.Keeping, KeepsWord, KeepsCounters, phases_of, Untypings.untyping_keeps}
 use Rattle.act_fits.specs.act_states.specs.{Makings.making_keeps, Kills.killing_keeps, Comps.comp_keeps, Shares.share_keeps}
 use Rattle.act_fits.specs.act_states.specs.{Switches.switching_keeps, declared.work.Act.Act as ActOf}
-use Rattle.act_fits.specs.stage_thread.specs.declared.claim.Claim.TheVariants.{AtLoad, AtCompare, AtStack}
+use Rattle.act_fits.specs.stage_thread.specs.declared.claim.Claim.TheVariants.{AtStack}
 use Rattle.core_invariant.proofs.Freezing.{SameAt, is_count, thaw_over, thaw_bare}
 
 -- Whether a word is kept.
@@ -66,12 +65,11 @@ act_bare act h f i = all_bare (phases_of act).keeps h f i
 
 -- Frozen counters are counts.
 pub counts_beside : (o : Option Thaw) (w : Word) → is_count w ≡ false → are_frozen o w ≡ false
-counts_beside None w not = refl
 counts_beside (Some t) (CountAt f d) not = absurd (true_false not)
   where
     true_false : true ≡ false → ⊥
     true_false h = cc
-counts_beside (Some t) w not = refl
+counts_beside _ w not = refl
 
 pub frozen_away : (o : Option Thaw) (f g d : ℕ) → ThawsFrame g o → f ≢ g → are_frozen o (CountAt f d) ≡ false
 frozen_away None f g d of other = refl
@@ -100,17 +98,14 @@ pub plain_spared : (act : ActOf) (w : Word) → is_count w ≡ false → SparesW
 plain_spared (untype_act m) w not = by m.at
   where
     by : (at : UntypingAt) → SparesWordAt at w
-    by UntypingAt.Load = tt
-    by (UntypingAt.Mark word v) = tt
     by (UntypingAt.Sweep word x) = counts_beside (thaw_of (swept_of x) false) w not
     by (UntypingAt.Draw word x) = counts_beside (thaw_of x false) w not
+    by _ = tt
 plain_spared act w not = tt
 
 -- Words of frames, numbers and counters are all that an act keeps.
 pub act_beside : (act : ActOf) (w : Word) → IsApart w → SparesWord act w → IsBeside w (phases_of act).keeps
-act_beside (remove_act (close_compare node index word by) cap) w apart spares = tt
 act_beside (remove_act (AtDraw node index) cap) w apart spares = (apart.entries node index, tt)
-act_beside (remove_act (AtStore node index x) cap) w apart spares = tt
 act_beside (make_act m) w apart spares = by m.at
   where
     by : (at : MakingAt) → IsBeside w (making_keeps m.frame at)
@@ -125,10 +120,9 @@ act_beside (kill_act m) w apart spares = by m.at
 act_beside (untype_act m) w apart spares = by m.at spares
   where
     by : (at : UntypingAt) → SparesWordAt at w → IsBeside w (untyping_keeps m.frame at)
-    by UntypingAt.Load spared = tt
-    by (UntypingAt.Mark word v) spared = tt
     by (UntypingAt.Sweep word x) spared = (apart.frames m.frame, (spared, tt))
     by (UntypingAt.Draw word x) spared = (apart.frames m.frame, (spared, tt))
+    by _ spared = tt
 act_beside (comp_act m) w apart spares = by m.at
   where
     by : (at : CompAt) → IsBeside w (comp_keeps m at)
@@ -149,14 +143,13 @@ act_beside (share_act p) w apart spares = by p.at
 act_beside (switch_act m) w apart spares = by m.at
   where
     by : (at : SwitchAt) → IsBeside w (switching_keeps m at)
-    by (SwitchAt.Claim (AtLoad f core)) = tt
-    by (SwitchAt.Claim (AtCompare f core depth)) = tt
     by (SwitchAt.Claim (AtStack f depth)) = (apart.entries f 0, tt)
     by (SwitchAt.LoadTable to) = (apart.entries to.thread 0, tt)
     by (SwitchAt.LoadPages to table) = (apart.entries to.thread 0, tt)
     by (SwitchAt.Leave to table pages) = (apart.entries to.thread 0, tt)
     by (SwitchAt.Draw to table pages) = (apart.entries to.thread 0, (apart.entries m.old 0, tt))
-act_beside act w apart spares = tt
+    by _ = tt
+act_beside _ w apart spares = tt
 
 -- The entries that an act keeps are those of a removal, of an act on two temporal capabilities and of a switch.
 abbrev pub KeepsNoEntry : ActOf → Type 0
@@ -180,10 +173,9 @@ entry_beside (kill_act m) f i none = by m.at
 entry_beside (untype_act m) f i none = by m.at
   where
     by : (at : UntypingAt) → IsBeside (EntryAt f i) (untyping_keeps m.frame at)
-    by UntypingAt.Load = tt
-    by (UntypingAt.Mark word v) = tt
     by (UntypingAt.Sweep word x) = (refl, (counts_beside (thaw_of (swept_of x) false) (EntryAt f i) refl, tt))
     by (UntypingAt.Draw word x) = (refl, (counts_beside (thaw_of x false) (EntryAt f i) refl, tt))
+    by _ = tt
 entry_beside (comp_act m) f i none = by m.at
   where
     by : (at : CompAt) → IsBeside (EntryAt f i) (comp_keeps m at)

@@ -1,6 +1,6 @@
 -- A call is in its phase, and a core whose mark a word carries is in a call.
 use Rattle.core_invariant.specs.{◌≡◌, ◌≢◌, ℕ, true, Option, Some, None, refl, IsSome, Setting, Word, marked_by, Trace, Phase, Out, phase}
-use Rattle.core_invariant.specs.{state_after, is_in, Stage, Enter, Living, Undecided, Decided, Leave, ActiveCall, Core, phase_at, KnowsAt}
+use Rattle.core_invariant.specs.{state_after, is_in, Stage, Enter, ActiveCall, Core, phase_at, KnowsAt}
 use Rattle.kernel_history.proofs.{inl, inr, sym, ◌∙◌, false≢true, call_in, inside_is}
 use Rattle.{core_invariant.specs.CallIs, core_invariant.specs.holds_in, std.proofs.lemmas.Bool.cases_lt, core_invariant.specs.Knows.Knows}
 use Rattle.{core_invariant.specs.Invariant.Invariant}
@@ -9,10 +9,7 @@ use Rattle.{core_invariant.specs.Invariant.Invariant}
 phase_at_in : (setup : Setting) (t : Trace) (c table : ℕ) (a : ActiveCall) (stage : Stage) → KnowsAt setup t c table a stage
     → phase_at a.call stage ≢ Out
 phase_at_in setup t c table a Enter knows = absurd knows
-phase_at_in setup t c table a (Living alive) knows = λ h. cc
-phase_at_in setup t c table a (Undecided work) knows = λ h. cc
-phase_at_in setup t c table a (Decided r drawn tail) knows = λ h. cc
-phase_at_in setup t c table a (Leave r x) knows = λ h. cc
+phase_at_in setup t c table a _ knows = λ h. cc
 
 pub phase_in : (setup : Setting) (t : Trace) (c table : ℕ) (a : ActiveCall) → Knows setup t c table a → phase_at a.call a.stage ≢ Out
 phase_in setup t c table a knows = phase_at_in setup t c table a a.stage knows
@@ -20,10 +17,7 @@ phase_in setup t c table a knows = phase_at_in setup t c table a a.stage knows
 phase_at_call : (setup : Setting) (t : Trace) (c table : ℕ) (a : ActiveCall) (stage : Stage) → KnowsAt setup t c table a stage
     → call_in (phase_at a.call stage) ≡ Some a.call
 phase_at_call setup t c table a Enter knows = absurd knows
-phase_at_call setup t c table a (Living alive) knows = refl
-phase_at_call setup t c table a (Undecided work) knows = refl
-phase_at_call setup t c table a (Decided r drawn tail) knows = refl
-phase_at_call setup t c table a (Leave r x) knows = refl
+phase_at_call setup t c table a _ knows = refl
 
 pub phase_call : (setup : Setting) (t : Trace) (c table : ℕ) (a : ActiveCall) → Knows setup t c table a
     → call_in (phase_at a.call a.stage) ≡ Some a.call
@@ -36,8 +30,7 @@ flight_some (Some f) w h = refl
 
 in_phase : (p : Phase) → p ≢ Out → is_in p ≡ true
 in_phase Out h = absurd (h refl)
-in_phase (Rattle.kernel_history.specs.Trace.Open call) h = refl
-in_phase (Rattle.kernel_history.specs.Trace.Decided call r) h = refl
+in_phase _ h = refl
 
 -- A core whose mark a word carries is in a call.
 pub marker_inside : (setup : Setting) (cores : ℕ → Core) (t : Trace) → Invariant setup cores t → (w : Word) (d : ℕ)

@@ -11,6 +11,3 @@ residue_plus x z y same = ap residue (turned x z) ∙ residue_sum z y x same ∙
 
 pub plus_residue : (x z y : ℤ) → residue x ≡ residue z → residue (x +ℤ y) ≡ residue (z +ℤ y)
 plus_residue x z y same = residue_sum x z y same
-
-pub both_residues : (x z y w : ℤ) → residue x ≡ residue z → residue y ≡ residue w → residue (x +ℤ y) ≡ residue (z +ℤ w)
-both_residues x z y w first second = plus_residue x z y first ∙ residue_plus z y w second

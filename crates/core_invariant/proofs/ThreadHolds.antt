@@ -3,7 +3,7 @@ use Rattle.core_invariant.specs.{◌≡◌, ℕ, true, not, if◌then◌else◌,
 use Rattle.core_invariant.specs.{holds_tail, holds_idle, holds_switching, claimed_by, is_claimed}
 use Rattle.act_fits.specs.act_states.proofs.{ap, false≢true, AtStack, same_same}
 use Rattle.act_fits.specs.act_states.specs.{is_switching, switching_undo}
-use Rattle.act_fits.specs.stage_thread.specs.declared.claim.Claim.TheVariants.{AtLoad, AtCompare}
+use Rattle.act_fits.specs.stage_thread.specs.declared.claim.Claim.TheVariants.{AtLoad}
 use Rattle.act_fits.specs.act_states.specs.declared.switches.SwitchAt.TheVariants.{Claim, LoadTable, LoadPages, Leave, Draw}
 use Rattle.core_invariant.specs.Holding.{Holding}
 
@@ -11,12 +11,8 @@ use Rattle.core_invariant.specs.Holding.{Holding}
 pub switching_undo_holds : (m : Switching) (at : SwitchAt) (h : Holding) → not (is_switching at) ≡ true
     → holds_tail (switching_undo at) h ≡ holds_switching m at h
 switching_undo_holds m (Claim (AtLoad f core)) h is = refl
-switching_undo_holds m (Claim (AtCompare f core depth)) h is = refl
-switching_undo_holds m (Claim (AtStack f depth)) h is = refl
-switching_undo_holds m (LoadTable to) h is = refl
-switching_undo_holds m (LoadPages to table) h is = refl
-switching_undo_holds m (Leave to table pages) h is = refl
 switching_undo_holds m (Draw to table pages) h is = absurd (false≢true is)
+switching_undo_holds m _ h is = refl
 
 -- A thread that is claimed is held, and stands for an idle one.
 pub record IsIdleIn (h : Holding) (f : ℕ) : Type 0 where
@@ -32,11 +28,10 @@ idle_here f depth h = record {
 }
 
 pub claimed_idle : (m : Switching) (at : SwitchAt) (h : Holding) → is_claimed at ≡ true → IsIdleIn (holds_switching m at h) (claimed_by at)
-claimed_idle m (Claim (AtLoad f core)) h is = absurd (false≢true is)
-claimed_idle m (Claim (AtCompare f core depth)) h is = absurd (false≢true is)
 claimed_idle m (Claim (AtStack f depth)) h is = idle_here f depth h
 claimed_idle m (LoadTable to) h is = idle_here to.thread to.depth h
 claimed_idle m (LoadPages to table) h is = idle_here to.thread to.depth h
 claimed_idle m (Leave to table pages) h is = idle_here to.thread to.depth h
 claimed_idle m (Draw to table pages) h is =
     idle_here to.thread to.depth (keeps (EntryAt m.old 0) (word_of_thread (Running m.core m.old_depth)) h)
+claimed_idle m _ h is = absurd (false≢true is)
