@@ -1,19 +1,18 @@
 -- What the head of a temporal capability says that a core has marked in a call that is not decided: the mark, and the budget still.
 use Rattle.flight.specs.kept_facts.proofs as low
-use low.{◌≡◌, ◌<◌, inl, inr, ℕ, zero, suc, true, false, if◌then◌else◌, Option, Some, None, IsTrue, arith, refl, sym, ◌∙◌, ap, subst}
+use low.{◌≡◌, ◌<◌, inl, inr, ℕ, suc, true, false, if◌then◌else◌, Option, Some, None, IsTrue, arith, refl, sym, ◌∙◌, ap, subst}
 use low.{false≢true, Setting, IsSetting, Call, HeadFits, word_of_head, head_of_word, HeadWord, spelling, EntryAt, same_same, Frame, Kernel}
 use low.{Table, Leaf, Pages, Pleaf, Thread, State, fits, is_node, Trace, Open, phase, state_after, last_left, cases_word, same_word-other}
-use low.{AtCompare, AtDraw, AtStore, marked, Pair, PairAt, Switching, SwitchAt, Work, Lookup, Read, Scan, Acquire, Act, Stage, Enter}
-use low.{Living, Undecided, Decided, Leave, ActiveCall, Core, Holding, keeps, holds_counts, holds_switching, claimed_by, HeadIs, KnowsAct}
+use low.{AtCompare, AtDraw, AtStore, marked, Pair, PairAt, Switching, SwitchAt, Work, Acquire, Act, Stage, Enter}
+use low.{Undecided, Decided, Leave, ActiveCall, Core, Holding, keeps, holds_counts, holds_switching, claimed_by, HeadIs, KnowsAct}
 use low.{KnowsWork, KnowsAt, CallIs, phase_at, KnowsPairAt, holds_act, holds_share, holds_head, holds_work, holds_at, holds_in, holds}
 use low.{Invariant, slot_relies, Remove as remove_act, Share as share_act, Switch as switch_act, is_tcap, plan_for, Kind}
 use Rattle.flight.specs.core_invariant.specs.{nothing, HasMarkedA, Claim}
 use Rattle.flight.specs.thread_invariant.proofs.{counts_apart, holder_below, own_thread}
 use Rattle.flight.specs.{cores_after, IsMade}
-use Rattle.flight.specs.act_states.specs.{declared.work.Act.Act as ActOf}
+use Rattle.flight.specs.act_states.specs.{declared.work.Act.Act as ActOf, phases_of}
 use Rattle.{flight.specs.pair_invariant.proofs.ShareSteps.marked_says, history_laws.specs.Time.OpenHeadsSay, flight.proofs.Made.made_stands}
 use Rattle.flight.specs.core_invariant.proofs.Keepings.{all_beside, entry_beside}
-use Rattle.flight.specs.act_states.specs.{phases_of}
 use Rattle.flight.specs.kernel_history.specs.Trace as history
 
 pub node_no_tcap : (x : Frame) → IsTrue (is_node x) → is_tcap x ≡ false
@@ -75,27 +74,22 @@ module _ (setup : Setting) (setting : IsSetting setup) (cores : ℕ → Core) (t
   shares : (p : Pair) (at : PairAt) (h : Holding) → KnowsPairAt setup t d p at → p.core ≡ d → IsFree h → Tells (holds_share p at h)
   shares p PairAt.LoadA h has core free = none h free
   shares p PairAt.MarkA h has core free = none h free
-  shares p (PairAt.ListA zero) h has core free = absurd has
   shares p (PairAt.ListA (suc n)) h has core free = first p n h has.0 core free
   shares p PairAt.LoadB h has core free = first p 8 h has.0 core free
-  shares p (PairAt.ListB zero) h has core free = absurd has
   shares p (PairAt.ListB (suc n)) h has core free = first p 8 h has.0 core free
   shares p PairAt.CompareB h has core free = first p 8 h has.a core free
   shares p (PairAt.AgainB r) h has core free = first p 8 h has.a core free
-  shares p (PairAt.StoreList n) h has core free = absurd has
-  shares p PairAt.StoreB h has core free = absurd has
-  shares p (PairAt.StoreA moved v) h has core free = absurd has
+  shares p _ h has core free = absurd has
 
   switching : (m : Switching) (at : SwitchAt) (h : Holding) → is_tcap (s.frame m.old) ≡ false → is_tcap (s.frame (claimed_by at)) ≡ false
       → IsFree h → IsFree (holds_switching m at h)
-  switching m (SwitchAt.Claim (Claim.AtLoad g core)) h own other free = free
-  switching m (SwitchAt.Claim (Claim.AtCompare g core depth)) h own other free = free
   switching m (SwitchAt.Claim (Claim.AtStack g depth)) h own other free = beside h g 0 0 free other
   switching m (SwitchAt.LoadTable to) h own other free = beside h to.thread 0 0 free other
   switching m (SwitchAt.LoadPages to table) h own other free = beside h to.thread 0 0 free other
   switching m (SwitchAt.Leave to table pages) h own other free = beside h to.thread 0 0 free other
   switching m (SwitchAt.Draw to table pages) h own other free =
       beside (keeps (EntryAt m.old 0) 0 h) to.thread 0 0 (beside h m.old 0 0 free own) other
+  switching m _ h own other free = free
 
   own_no_tcap : (g : ℕ) → g ≡ (s.core d).thread → is_tcap (s.frame g) ≡ false
   own_no_tcap g own = ap (λ (n : ℕ). is_tcap (s.frame n)) own ∙ ap is_tcap (own_thread setup setting t stands.legal d below)
@@ -116,23 +110,20 @@ module _ (setup : Setting) (setting : IsSetting setup) (cores : ℕ → Core) (t
 
     by_work : (table : ℕ) (work : Work) → phase t d ≡ Open a.call → KnowsWork setup t d table a work
         → Tells (holds_work work (holds_counts None a.counts))
-    by_work table (Lookup look) opens has = none (holds_counts None a.counts) (counts_apart None a.counts f 0)
-    by_work table (Read c look) opens has = none (holds_counts None a.counts) (counts_apart None a.counts f 0)
-    by_work table (Scan q act) opens has = none (holds_counts None a.counts) (counts_apart None a.counts f 0)
     by_work table (Acquire pin change act) opens has =
         by_act act (holds_counts None a.counts) opens has.knows (counts_apart None a.counts f 0)
     by_work table (Act act) opens has = by_act act (holds_counts None a.counts) opens has.knows (counts_apart None a.counts f 0)
+    by_work table _ opens has = none (holds_counts None a.counts) (counts_apart None a.counts f 0)
 
     by_stage : (call : Call) (table : ℕ) (stage : Stage) → phase t d ≡ Open call → phase t d ≡ phase_at a.call stage
         → KnowsAt setup t d table a stage → Tells (holds_at stage a.counts)
     by_stage call table Enter undecided at knows = absurd knows
-    by_stage call table (Living alive) undecided at knows = none (holds_counts None a.counts) (counts_apart None a.counts f 0)
     by_stage call table (Undecided work) undecided at knows = by_work table work at knows.knows
     by_stage call table (Decided r drawn tail) undecided at knows = absurd (unlike (sym undecided ∙ at))
       where
         unlike : Open call ≡ history.Decided a.call r → ⊥
         unlike h = cc
-    by_stage call table (Leave r x) undecided at knows = none (holds_counts None a.counts) (counts_apart None a.counts f 0)
+    by_stage call table _ undecided at knows = none (holds_counts None a.counts) (counts_apart None a.counts f 0)
 
   by_call : (call : Call) (table : ℕ) (o : Option ActiveCall) → phase t d ≡ Open call → CallIs setup t d table o → Tells (holds_in o)
   by_call call table None undecided at = none nothing refl

@@ -2,13 +2,12 @@
 -- that the call has still to store there.
 use Rattle.flight.specs.kept_facts.proofs.{◌≡◌, inl, inr, ℕ, ◌<◌, Bool, true, false, if◌then◌else◌, Option, Some, None, IsTrue, arith, refl}
 use Rattle.flight.specs.kept_facts.proofs.{sym, ◌∙◌, ap, subst, false≢true, same_same, Setting, IsSetting, Call, Reply, HeadFits}
-use Rattle.flight.specs.kept_facts.proofs.{word_of_head, head_of_word, HeadWord, spelling, EntryAt, State, changes_budgets, Trace}
-use Rattle.flight.specs.kept_facts.proofs.{phase, state_after, last_left, cases_word, same_word-other, AtCompare, AtDraw, AtStore, marked}
-use Rattle.flight.specs.kept_facts.proofs.{debited, credited, amount_of, Pair, PairAt, Tail, Quiesce}
-use Rattle.flight.specs.kept_facts.proofs.{Release, Push, Pop, StoreRunning, StoreIdle, Stage, Enter, Living}
-use Rattle.flight.specs.kept_facts.proofs.{Undecided, Decided, Leave, ActiveCall, Core, holds_release, Holding, keeps, holds_counts, HeadIs}
-use Rattle.flight.specs.kept_facts.proofs.{KnowsTail, KnowsAt, CallIs, phase_at, KnowsStoresAt, holds_head, holds_shared, holds_tail}
-use Rattle.flight.specs.kept_facts.proofs.{is_done, holds_at, holds_in, holds, Invariant, release_entry, is_tcap}
+use Rattle.flight.specs.kept_facts.proofs.{word_of_head, head_of_word, HeadWord, spelling, EntryAt, State, changes_budgets, Trace, phase}
+use Rattle.flight.specs.kept_facts.proofs.{state_after, last_left, cases_word, same_word-other, AtCompare, AtDraw, AtStore, marked, debited}
+use Rattle.flight.specs.kept_facts.proofs.{credited, amount_of, Pair, PairAt, Tail, Quiesce, Release, Push, Pop, StoreRunning, StoreIdle}
+use Rattle.flight.specs.kept_facts.proofs.{Stage, Enter, Living, Undecided, Decided, Leave, ActiveCall, Core, holds_release, Holding, keeps}
+use Rattle.flight.specs.kept_facts.proofs.{holds_counts, HeadIs, KnowsTail, KnowsAt, CallIs, phase_at, KnowsStoresAt, holds_head}
+use Rattle.flight.specs.kept_facts.proofs.{holds_shared, holds_tail, is_done, holds_at, holds_in, holds, Invariant, release_entry, is_tcap}
 use Rattle.flight.specs.core_invariant.specs.{nothing, holds_idle, StoresA, holds_heads, StoresB}
 use Rattle.history_laws.specs.{Owes, state_of_decision, MarkedHeadsSay}
 use Rattle.flight.specs.thread_invariant.proofs.{counts_apart, holder_below, own_thread}
@@ -110,13 +109,6 @@ module _ (setup : Setting) (setting : IsSetting setup) (cores : ℕ → Core) (t
 
   shared : (r : Reply) (call : Call) (p : Pair) (at : PairAt) (h : Holding) → KnowsStoresAt setup t d call p at → p.core ≡ d
       → OwesAt decided_in d r call p at → IsFree h → Tells r call (holds_shared p at h)
-  shared r call p pair.LoadA h has core owes free = absurd has
-  shared r call p pair.MarkA h has core owes free = absurd has
-  shared r call p (pair.ListA n) h has core owes free = absurd has
-  shared r call p pair.LoadB h has core owes free = absurd has
-  shared r call p (pair.ListB n) h has core owes free = absurd has
-  shared r call p pair.CompareB h has core owes free = absurd has
-  shared r call p (pair.AgainB x) h has core owes free = absurd has
   shared r call p (pair.StoreList n) h has core owes free = λ is.
       let told = both r call p h has.2 core owes free is in
       record {
@@ -131,6 +123,7 @@ module _ (setup : Setting) (setting : IsSetting setup) (cores : ℕ → Core) (t
   shared r call p pair.StoreB h has core owes free = both r call p h has core owes free
   shared r call p (pair.StoreA true v) h has core owes free = first_less r call p h has core owes free
   shared r call p (pair.StoreA false v) h has core owes free = first_same r call p h has core owes free
+  shared r call p _ h has core owes free = absurd has
 
   own_no_tcap : (g : ℕ) → g ≡ (s.core d).thread → is_tcap (s.frame g) ≡ false
   own_no_tcap g own = ap (λ (n : ℕ). is_tcap (s.frame n)) own ∙ ap is_tcap (own_thread setup setting t stands.legal d below)

@@ -2,16 +2,14 @@
 -- tells it, and each store after it leaves it so.
 use Rattle.flight.specs.core_invariant.proofs as low
 use low.{◌≡◌, inl, inr, ℕ, ◌+◌, ◌<◌, ◌≤◌, ◌^◌, ◌==◌, ◌&&◌, ltb as nat_lt, Bool, true, false, if◌then◌else◌, List, [], ◌∷◌, length, Option}
-use low.{Some, None, arith, refl, sym, ◌∙◌, ap, subst, is_some, IsSome, eq-eqb, ne_eqb, Setting, IsSetting, Capability, Call}
-use low.{Reply, Value, StageEnd, word_of_head, head_of_word, quality_of_word, HeadWord, EntryAt, Move, word_of, told_of, State, put_same}
-use low.{put_other, changes_budgets, Step, Trace, state_after, state_entered, state_before, last_left, Pin, quiet_after, quiet_end}
-use low.{head_end, in_order, same_list, amount_of, judged, by_alike, by_room, again_end, Pair, PairAt, LoadA}
-use low.{MarkA, ListA, LoadB, ListB, CompareB, AgainB, StoreList, StoreB, StoreA, Charge, Leads, LeadsIn, plan_for}
-use low.{Own, Work, Lookup, Read, Scan, Acquire, Act, WorkStep, took_shared, took_share, Stage}
-use low.{Enter, Living, Undecided, Decided, Leave, ActiveCall, told_in, told_by, absorbed_in, fresh, stage_move, Took, GoesOn, Decides}
-use low.{Returns, Changes, landed, took, took_scan, Core, decided_in, KnowsUndecided, KnowsAt, CallIs, SharesBy}
-use low.{took_refilled, Refusal, Tick as tick_act, Share as share_act, Refill as refill_act, reply_of, move_of}
-use low.{core_after as after_took, took_at, took_count}
+use low.{Some, None, arith, refl, sym, ◌∙◌, ap, subst, is_some, IsSome, eq-eqb, ne_eqb, Setting, IsSetting, Capability, Call, Reply, Value}
+use low.{StageEnd, word_of_head, head_of_word, quality_of_word, HeadWord, EntryAt, Move, word_of, told_of, State, put_same, put_other}
+use low.{changes_budgets, Step, Trace, state_after, state_entered, state_before, last_left, Pin, quiet_after, quiet_end, head_end, in_order}
+use low.{same_list, amount_of, judged, by_alike, by_room, again_end, Pair, PairAt, LoadA, MarkA, ListA, LoadB, ListB, CompareB, AgainB}
+use low.{StoreList, StoreB, StoreA, Charge, Leads, LeadsIn, plan_for, Own, Work, Lookup, Read, Scan, Acquire, Act, WorkStep, took_shared}
+use low.{took_share, Stage, Enter, Living, Undecided, Decided, Leave, ActiveCall, told_in, told_by, absorbed_in, fresh, stage_move, Took}
+use low.{Returns, landed, took, took_scan, Core, decided_in, KnowsUndecided, KnowsAt, CallIs, SharesBy, took_refilled, Refusal}
+use low.{Tick as tick_act, Share as share_act, Refill as refill_act, reply_of, move_of, core_after as after_took, took_at, took_count}
 use Rattle.flight.specs.act_states.specs.{giving_back, undo, QualityWord, Pinned, pin_after, pin_end, end_by_mark, pair_after}
 use Rattle.flight.specs.act_states.specs.{marked_end, decided_by_mark, b_end, list_end, Refill, took_act, refusal_of, shared, took_charge}
 use Rattle.flight.specs.act_states.specs.{ticks_of, alive_end, alive_after}
@@ -39,22 +37,17 @@ undo_none act is = absurd is
 
 count_none : (core n : ℕ) (change : Rattle.std.specs.Prelude.ℤ) (act : ActOf) (pin : Pin) (end : StageEnd Pinned) → IsBudgetAct act
     → LeavesNone (took_count core n change act pin end)
-count_none core n change act pin StageEnd.Going is = tt
 count_none core n change act pin (StageEnd.Decided r) is = undo_none act is
-count_none core n change act pin (StageEnd.Done x) is = tt
 count_none core n change act pin (StageEnd.Refuse r) is = undo_none act is
+count_none core n change act pin _ is = tt
 
 tick_none : (due : ℕ) (charge : Charge) (end : StageEnd Value) → LeavesNone (took_charge due charge end)
 tick_none due charge StageEnd.Going = tt
-tick_none due charge (StageEnd.Decided r) = tt
-tick_none due charge (StageEnd.Done v) = tt
-tick_none due charge (StageEnd.Refuse r) = tt
+tick_none due charge _ = tt
 
 refill_none : (r : Refill) (end : StageEnd Value) → LeavesNone (took_refilled r end)
 refill_none r StageEnd.Going = tt
-refill_none r (StageEnd.Decided reply) = tt
-refill_none r (StageEnd.Done v) = tt
-refill_none r (StageEnd.Refuse reply) = tt
+refill_none r _ = tt
 
 -- What a decision owes
 
@@ -132,8 +125,7 @@ module _ (now before : State) (c : ℕ) (a : ActiveCall) where
   marks_head : (p : Pair) (same short : Bool) (budget : ℕ)
       → Owed (took_shared (record p { at = at_marked same short }) (marked_end same short budget))
   marks_head p true true budget = gives_back p (Reply.Short budget) refl
-  marks_head p true false budget = λ budgets. tt
-  marks_head p false short budget = λ budgets. tt
+  marks_head p _ _ budget = λ budgets. tt
 
   loads_second : (p : Pair) (next : PairAt) (o : Option HeadWord)
       → Owed (took_shared (record p { at = at_by_head next giving_back o }) (b_end o))
@@ -281,10 +273,8 @@ module _ (setup : Setting) (setting : IsSetting setup) (cores : ℕ → Core) (t
 -- The core after what its step led to.
 after_owes : (now before : State) (c : ℕ) (own : Own) (k : Took) → OwesTook now before c k
     → OwesIn (if is_some (decided_in (told_by k)) then now else before) c (after_took own k).active
-after_owes now before c own (GoesOn a) owes = owes
-after_owes now before c own (Decides r a) owes = owes
 after_owes now before c own (Returns r x) owes = tt
-after_owes now before c own (Changes r change a) owes = owes
+after_owes now before c own _ owes = owes
 
 -- What a core with this call is told of its next step.
 abbrev told_to : Setting → Trace → Own → Option ActiveCall → ℕ

@@ -10,9 +10,8 @@ use low.{Acquire, Act, WorkStep, Goes, Refuses, act_begun, reads_of, starts, ref
 use low.{Returns, Changes, landed, found_more, took_scan, Acquires, Answers, reply_of, next_by, took_tail, plan_for, Refusal}
 use Rattle.flight.specs.act_states.specs.{Tick, Ok, pair_after, pushed, looks_under, looks_entry, looks_at, read_first, next_step, met_name}
 use Rattle.flight.specs.act_states.specs.{met_free, met_held, refusal_of, shares_if, shares_at, after_share, refills_at, touches_if}
-use Rattle.flight.specs.act_states.specs.{release_after, Alive}
+use Rattle.flight.specs.act_states.specs.{release_after, Alive, declared.work.Tail.TheVariants.Share, declared.lookups.Met.Met}
 use Rattle.flight.specs.call_stages.specs.{read_more, took_first, took_enter, took_alive, named_one, took_found, took_end, took_read}
-use Rattle.flight.specs.act_states.specs.{declared.work.Tail.TheVariants.Share, declared.lookups.Met.Met}
 use Rattle.flight.specs.act_states.specs.{declared.lookups.Met.TheVariants.Finds, declared.lookups.Met.TheVariants.Refused}
 use Rattle.flight.specs.act_states.specs.{declared.untypings.Release.Release as ReleaseOf, declared.work.Act.Act as ActOf}
 use Rattle.flight.specs.act_states.specs.{declared.work.WorkStep.TheVariants.Changes as work_changes, Untypings.after_store}
@@ -74,16 +73,10 @@ share_on s c r call p found owes = by p.at owes
     next q false n owes = owes
 
     by : (at : PairAt) → OwesAt s c r call p at → OwesTail s c r call (after_share (record p { at = at }) found)
-    by LoadA owes = absurd owes
-    by MarkA owes = absurd owes
-    by (ListA n) owes = absurd owes
-    by LoadB owes = absurd owes
-    by (ListB n) owes = absurd owes
-    by CompareB owes = absurd owes
-    by (AgainB x) owes = absurd owes
     by (StoreList n) owes = next (pair_after (record p { at = StoreList n }) found) (nat_lt n 8) n owes
     by StoreB owes = owes.0
     by (StoreA moved v) owes = tt
+    by _ owes = absurd owes
 
 -- No word of two temporal capabilities is still to be stored.
 abbrev pub StoresNone : Tail → Type 0
@@ -121,11 +114,10 @@ LeavesNone (work_changes r change drawn tail) = StoresNone tail
 
 pub landed_none : (now before : State) (c : ℕ) (a : ActiveCall) (step : WorkStep) → (changes_budgets a.call ≡ true → LeavesNone step)
     → OwesTook now before c (landed a step)
-landed_none now before c a (Goes work) none = λ budgets. tt
-landed_none now before c a (Acquires count work) none = λ budgets. tt
 landed_none now before c a (Refuses r tail) none = λ budgets. none_owed now c (reply_of r) a.call tail (none budgets)
 landed_none now before c a (Answers v drawn tail) none = λ budgets. none_owed now c (Ok v) a.call tail (none budgets)
 landed_none now before c a (work_changes r change drawn tail) none = λ budgets. none_owed now c r a.call tail (none budgets)
+landed_none now before c a _ none = λ budgets. tt
 
 under_none : (within : Bool) (root n : ℕ) → LeavesNone (looks_under within root n)
 under_none true root n = tt
@@ -211,17 +203,14 @@ named_none now before c own a (Refused r) = landed_none now before c a (refuse r
 
 free_none : (own : Own) (call : Call) (ks : List Capability) (read : Option ℕ) (f : Found) (shown : Entry) → changes_budgets call ≡ true
     → LeavesNone (met_free own call ks read f shown)
-free_none own call ks read f Entry.Free budgets = begun_none own call ks read (Some f) budgets
 free_none own call ks read f (Entry.Held k) budgets = tt
 free_none own call ks read f (Entry.Closing by) budgets = tt
-free_none own call ks read f (Entry.Quiescing x) budgets = begun_none own call ks read (Some f) budgets
+free_none own call ks read f _ budgets = begun_none own call ks read (Some f) budgets
 
 held_none : (own : Own) (call : Call) (ks : List Capability) (f : Found) (shown : Entry) → changes_budgets call ≡ true
     → LeavesNone (met_held own call ks f shown)
-held_none own call ks f Entry.Free budgets = tt
 held_none own call ks f (Entry.Held k) budgets = begun_none own call ks None (Some f) budgets
-held_none own call ks f (Entry.Closing by) budgets = tt
-held_none own call ks f (Entry.Quiescing x) budgets = tt
+held_none own call ks f _ budgets = tt
 
 found_none : (now before : State) (c : ℕ) (own : Own) (a : ActiveCall) (next : Next) (f : Found)
     → OwesTook now before c (took_found own a next f)
@@ -231,8 +220,7 @@ found_none now before c own a (NextFree target) f =
     (λ budgets. free_none own a.call a.found a.read f f.value budgets)
 found_none now before c own a (NextHeld target) f =
     landed_none now before c a (met_held own a.call a.found f f.value) (λ budgets. held_none own a.call a.found f f.value budgets)
-found_none now before c own a (NextOwn v) f = landed_none now before c a (refuse Refusal.Raced) (λ budgets. tt)
-found_none now before c own a NextNothing f = landed_none now before c a (refuse Refusal.Raced) (λ budgets. tt)
+found_none now before c own a _ f = landed_none now before c a (refuse Refusal.Raced) (λ budgets. tt)
 
 pub end_none : (now before : State) (c : ℕ) (own : Own) (a : ActiveCall) (look : Look) (end : StageEnd Found)
     → OwesTook now before c (took_end own a look end)
@@ -251,7 +239,5 @@ starts_none core (Outside node index word) = tt
 starts_none core act = tt
 
 pub scan_none : (core : ℕ) (act : ActOf) (q : Quiet) (end : StageEnd (Unit {0})) → LeavesNone (took_scan core act q end)
-scan_none core act q StageEnd.Going = tt
-scan_none core act q (StageEnd.Decided r) = tt
 scan_none core act q (StageEnd.Done x) = starts_none core act
-scan_none core act q (StageEnd.Refuse r) = tt
+scan_none core act q _ = tt

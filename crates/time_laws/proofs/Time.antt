@@ -3,7 +3,7 @@ use Rattle.flight.specs.step_ways.proofs.{to_use, not_exclusive_head_value, ◌�
 use Rattle.flight.specs.step_ways.proofs.{None, if◌then◌else◌, refl, sym, ◌∙◌, ap, subst, Setting, IsSetting, head_of_word, EntryAt}
 use Rattle.flight.specs.step_ways.proofs.{PlaceOf, State, events_of, IsLegal, MayDecide, stamp, Trace, state_after, last_left, Step, Open}
 use Rattle.flight.specs.step_ways.proofs.{phase, after_enter, state_before, state_is, run_of, settled_by, settled, held_by, Invariant}
-use Rattle.flight.specs.step_ways.proofs.{HeadIs, IsFrameWord, Capability, Call, Test, Value, only, Judged, Found, Refused, IsFoundAnd}
+use Rattle.flight.specs.step_ways.proofs.{HeadIs, IsFrameWord, Capability, Call, Test, Value, only, Judged, Found, IsFoundAnd}
 use Rattle.flight.specs.step_ways.proofs.{named, and_then, unless, first_of, tcap_at, change_of, MayReply, Change, does, Kind, Reply}
 use Rattle.history_laws.specs.{TicksAreCounted, BackIsCounted, HeadsSay, ListsSay, TestsTell}
 use Rattle.flight.specs.kernel_history.specs.{ticks, preemption, preempts}
@@ -67,9 +67,8 @@ told_by s c x y v h = by (named s c x (to_use (only Kind.Tcap))) (named s c y (t
 
     by : (j k : Judged Capability) → named s c x (to_use (only Kind.Tcap)) ≡ j → named s c y (to_use (only Kind.Tcap)) ≡ k
         → IsFoundAnd (and_then j λ a. and_then k λ b. rest a b) (λ change. change.value ≡ v) → TellsOf s c x y v
-    by (Refused r) k first second h = absurd h
-    by (Found a) (Refused r) first second h = absurd h
     by (Found a) (Found b) first second h = last a b first second (true && (true && a.frame == b.frame)) h
+    by _ _ first second h = absurd h
 
 pub tests_tell : (setup : Setting) → IsSetting setup → (e : Step) (t : Trace) → IsMade setup (e ∷ t) → TestsTell setup t e
 tests_tell setup setting e t made x y v opens decides = told_by (state_before setup t e) e.core x y v
