@@ -1,8 +1,8 @@
 -- The words and the ends determine the tables of the state that they represent.
 use Rattle.table_lines.specs.kernel_history.specs as low
 use low.{◌≡◌, ℕ, ◌<◌, ◌++◌, List, [], true, Option, refl, length, CoreEnd, Entry, entry_of_word, live_of_word, residue, LiveWord, LiveAt}
-use low.{Shape, Place, Free, Holds, Quiescing, Object, Blank, Table, Leaf, Pages, Pleaf, Comp, Thread, Tcap, Frame, outstanding, Untyped}
-use low.{User, Kernel, Liveness, Unused, Live, Dead, State, first_of_stack, thread_of, tcap_in, sum_below, refs, ticks, holds_node}
+use low.{Shape, Place, Free, Holds, Quiescing, Object, Blank, Table, Leaf, Pages, Pleaf, Frame, outstanding}
+use low.{Kernel, Liveness, Unused, Live, Dead, State, first_of_stack, thread_of, tcap_in, sum_below, refs, ticks, holds_node}
 use low.{SaysPlace, AreEntries, AreFrame, SaysNumber, Represent, word_in, end_in, counters, count_at, count_sum, RepresentCounts}
 use low.{lines_below, entry_line, frame_lines, number_line, core_lines, total_line, tables_of}
 use Rattle.std.proofs.Common.{sym, ap, ◌∙◌, arith, append_assoc, true≢false}
@@ -15,53 +15,24 @@ use Rattle.{table_lines.specs.kernel_history.proofs.Sums.sum_same, table_lines.s
 
 -- What the tables say of a frame does not hang on where its thread runs.
 told_node : (x : Frame) → holds_node (told x) ≡ holds_node x
-told_node Untyped = refl
-told_node User = refl
 told_node (Kernel Blank) = refl
-told_node (Kernel Table) = refl
-told_node (Kernel Leaf) = refl
-told_node (Kernel Pages) = refl
-told_node (Kernel Pleaf) = refl
-told_node (Kernel (Comp k)) = refl
-told_node (Kernel (Thread t)) = refl
-told_node (Kernel (Tcap q)) = refl
+told_node _ = refl
 
 told_lines : (f : ℕ) (x : Frame) (place : ℕ → Place) (k : ℕ) → frame_lines f (told x) place k ≡ frame_lines f x place k
-told_lines f Untyped place k = refl
-told_lines f User place k = refl
 told_lines f (Kernel Blank) place k = refl
-told_lines f (Kernel Table) place k = refl
-told_lines f (Kernel Leaf) place k = refl
-told_lines f (Kernel Pages) place k = refl
-told_lines f (Kernel Pleaf) place k = refl
-told_lines f (Kernel (Comp k)) place n = refl
-told_lines f (Kernel (Thread t)) place k = refl
-told_lines f (Kernel (Tcap q)) place k = refl
+told_lines f _ place k = refl
 
 told_budget : (x : Frame) → (tcap_in (told x)).budget ≡ (tcap_in x).budget
-told_budget Untyped = refl
-told_budget User = refl
 told_budget (Kernel Blank) = refl
-told_budget (Kernel Table) = refl
-told_budget (Kernel Leaf) = refl
-told_budget (Kernel Pages) = refl
-told_budget (Kernel Pleaf) = refl
-told_budget (Kernel (Comp k)) = refl
-told_budget (Kernel (Thread t)) = refl
-told_budget (Kernel (Tcap q)) = refl
+told_budget _ = refl
 
 -- The words of a node are its entries.
 entries_of : (x : Frame) (place : ℕ → Place) (word : ℕ → ℕ) → holds_node x ≡ true → AreFrame x place word → AreEntries place word
-entries_of Untyped place word node h = absurd (true≢false (sym node))
-entries_of User place word node h = absurd (true≢false (sym node))
-entries_of (Kernel Blank) place word node h = absurd (true≢false (sym node))
 entries_of (Kernel Table) place word node h = h
 entries_of (Kernel Leaf) place word node h = h
 entries_of (Kernel Pages) place word node h = h
 entries_of (Kernel Pleaf) place word node h = h
-entries_of (Kernel (Comp k)) place word node h = absurd (true≢false (sym node))
-entries_of (Kernel (Thread t)) place word node h = absurd (true≢false (sym node))
-entries_of (Kernel (Tcap q)) place word node h = absurd (true≢false (sym node))
+entries_of _ place word node h = absurd (true≢false (sym node))
 
 -- The line of an entry is that of what it shows.
 says_line : (i : ℕ) (p : Place) (shown : Option Entry) → SaysPlace p shown → entry_line i (place_shown shown) ≡ entry_line i p
@@ -73,21 +44,17 @@ says_line i (Quiescing k) shown h = ap (λ o. entry_line i (place_shown o)) h.sa
 object_lines_same : (object : Object) (p q : ℕ → Place)
     → (is_node_object object ≡ true → (i : ℕ) → i < 64 → entry_line i (p i) ≡ entry_line i (q i))
     → object_lines object p ≡ object_lines object q
-object_lines_same Blank p q same = refl
 object_lines_same Table p q same = lines_same (λ i. entry_line i (p i)) (λ i. entry_line i (q i)) 64 (same refl)
 object_lines_same Leaf p q same = lines_same (λ i. entry_line i (p i)) (λ i. entry_line i (q i)) 64 (same refl)
 object_lines_same Pages p q same = lines_same (λ i. entry_line i (p i)) (λ i. entry_line i (q i)) 64 (same refl)
 object_lines_same Pleaf p q same = lines_same (λ i. entry_line i (p i)) (λ i. entry_line i (q i)) 64 (same refl)
-object_lines_same (Comp k) p q same = refl
-object_lines_same (Thread t) p q same = refl
-object_lines_same (Tcap fields) p q same = refl
+object_lines_same _ p q same = refl
 
 frame_lines_same : (f : ℕ) (x : Frame) (p q : ℕ → Place) (k : ℕ)
     → (holds_node x ≡ true → (i : ℕ) → i < 64 → entry_line i (p i) ≡ entry_line i (q i))
     → frame_lines f x p k ≡ frame_lines f x q k
-frame_lines_same f Untyped p q k same = refl
-frame_lines_same f User p q k same = refl
 frame_lines_same f (Kernel object) p q k same = ap (λ ls. frame_line f (object_word object) k ++ ls) (object_lines_same object p q same)
+frame_lines_same f _ p q k same = refl
 
 says_number : (x : Liveness) (shown : Option LiveWord) → SaysNumber x shown → number_shown shown ≡ x
 says_number Unused shown h = ap number_shown h
@@ -162,16 +129,7 @@ module _ (shape : Shape) (words : List ℕ) (ends : List CoreEnd) (s : State)
         ∙ ap (lines_below (λ f. frame_lines f (s.frame f) (s.place f) (refs s f))) (sym frames)
 
     pub determined : tables_shown shape words ends ≡ tables_of s
-    determined =
-        ap (λ a. a ++ (numbers_text shape words 64 ++ (cores_text ends shape.cores ++ total_line (ticks (shown shape words ends)))))
-        frames_told
-        ∙ ap (λ b. lines_below (λ f. frame_lines f (s.frame f) (s.place f) (refs s f)) s.limits.frames
-        ++ (b ++ (cores_text ends shape.cores ++ total_line (ticks (shown shape words ends))))) numbers_told
-        ∙ ap (λ d. lines_below (λ f. frame_lines f (s.frame f) (s.place f) (refs s f)) s.limits.frames
-        ++ (lines_below (λ l. number_line l (s.number l)) 64 ++ (d ++ total_line (ticks (shown shape words ends))))) cores_told
-        ∙ ap (λ n. lines_below (λ f. frame_lines f (s.frame f) (s.place f) (refs s f)) s.limits.frames
-        ++ (lines_below (λ l. number_line l (s.number l)) 64
-        ++ (lines_below (λ c. core_lines c (s.core c) (first_of_stack (thread_of s c).stack)) s.limits.cores ++ total_line n))) ticks_told
+    determined = λ i. frames_told i ++ (numbers_told i ++ (cores_told i ++ total_line (ticks_told i)))
 
 -- The text that the pieces make, one after the other.
 pub whole_text : (shape : Shape) (words : List ℕ) (ends : List CoreEnd) (begun a b d e : List ℕ) (total : ℕ)
@@ -189,7 +147,5 @@ whole_text shape words ends begun a b d e total cores ticked none pa pb pd pe =
     let l : List ℕ = total_line (ticks (shown shape words ends)) in
     let first : a ≡ f = pa ∙ ap (λ x. x ++ f) none in
     let second : b ≡ f ++ n = pb ∙ ap (λ x. x ++ n) first in
-    let third : d ≡ (f ++ n) ++ c = pd ∙ ap (λ x. x ++ cores_text ends (length ends)) second
-    ∙ ap (λ k. (f ++ n) ++ cores_text ends k) cores in
-    pe ∙ ap (λ x. x ++ total_line total) third ∙ ap (λ k. ((f ++ n) ++ c) ++ total_line k) ticked
-    ∙ append_assoc (f ++ n) c l ∙ append_assoc f n (c ++ l)
+    let third : d ≡ (f ++ n) ++ c = pd ∙ (λ i. second i ++ cores_text ends (cores i)) in
+    pe ∙ (λ i. third i ++ total_line (ticked i)) ∙ append_assoc (f ++ n) c l ∙ append_assoc f n (c ++ l)

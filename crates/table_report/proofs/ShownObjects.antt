@@ -84,15 +84,9 @@ told (Kernel (Thread t)) = Kernel (Thread (record { stack = t.stack; runs_on = N
 told (Kernel (Tcap q)) = Kernel (Tcap q)
 
 pub frame_is : (x : Frame) (place : ℕ → Place) (word : ℕ → ℕ) → AreFrame x place word → frame_shown (Some (frame_value x)) word ≡ told x
-frame_is Untyped place word h = refl
-frame_is User place word h = refl
-frame_is (Kernel Blank) place word h = refl
-frame_is (Kernel Table) place word h = refl
-frame_is (Kernel Leaf) place word h = refl
-frame_is (Kernel Pages) place word h = refl
-frame_is (Kernel Pleaf) place word h = refl
 frame_is (Kernel (Comp k)) place word h = ap (λ k. Kernel (Comp k)) (comp_is k word h)
 frame_is (Kernel (Thread t)) place word h = ap (λ fs. Kernel (Thread (record { stack = fs; runs_on = None }))) (stack_is t word h)
 frame_is (Kernel (Tcap q)) place word h =
     ap (λ b. Kernel (Tcap (record { budget = b; qualities = qualities_shown word 8 }))) (ap budget_shown h.head)
     ∙ ap (λ ps. Kernel (Tcap (record { budget = q.budget; qualities = ps }))) (qualities_is q word h)
+frame_is _ place word h = refl

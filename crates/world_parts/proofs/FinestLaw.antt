@@ -1,9 +1,9 @@
 -- The partition that joins what holds each other is the finest into worlds that are apart.
-use Rattle.seal_check.specs.world_laws.specs.kernel_laws.proofs.{◌≡◌, ◌⊎◌, inl, inr, ℕ, ◌<◌, ◌≤◌, ◌==◌, Bool, true, false, not, ◌&&◌, refl}
-use Rattle.seal_check.specs.world_laws.specs.kernel_laws.proofs.{sym, ◌∙◌, ap, subst, arith, List, Option, Some, None, if◌then◌else◌}
-use Rattle.seal_check.specs.world_laws.specs.kernel_laws.proofs.{false≢true, Setting, IsSetting, Capability, has_rights, Place, Free, Holds}
-use Rattle.seal_check.specs.world_laws.specs.kernel_laws.proofs.{Quiescing, CompFields, Blank, Table, Leaf, Pages, Pleaf, Comp, Thread}
-use Rattle.seal_check.specs.world_laws.specs.kernel_laws.proofs.{Tcap, Frame, Untyped, User, Kernel, PlaceOf, Limits, State, held_in}
+use Rattle.seal_check.specs.world_laws.specs.kernel_laws.proofs.{◌≡◌, inl, inr, ℕ, ◌<◌, ◌==◌, Bool, true, false, not, ◌&&◌, refl}
+use Rattle.seal_check.specs.world_laws.specs.kernel_laws.proofs.{sym, ◌∙◌, ap, subst, arith, List, Some, None, if◌then◌else◌}
+use Rattle.seal_check.specs.world_laws.specs.kernel_laws.proofs.{false≢true, Setting, Capability, has_rights, Place, Free, Holds}
+use Rattle.seal_check.specs.world_laws.specs.kernel_laws.proofs.{Quiescing, CompFields, Comp}
+use Rattle.seal_check.specs.world_laws.specs.kernel_laws.proofs.{Frame, Untyped, Kernel, PlaceOf, Limits, State, held_in}
 use Rattle.seal_check.specs.world_laws.specs.kernel_laws.proofs.{usable, usable_in, Event, after, is_in, waits_inside, some_inj, none_some}
 use Rattle.seal_check.specs.world_laws.specs.kernel_laws.proofs.{limits_stay, inside_is, runs_sound}
 use Rattle.world_parts.specs.{sight_of, IsLast, HasField, Reaches, IsHeldBelow, IsParts, Joins, world_in, IsFinest}
@@ -36,15 +36,7 @@ module _ (w : ℕ → Bool) (s : State) (h : IsSealed w gates s) (f g : ℕ) (ou
 
   comp_side : (x : Frame) → s.frame f ≡ x → HasField (fields_of x) g → w g ≡ false
   comp_side (Kernel (Comp k)) is field = fields_side k is field
-  comp_side Untyped is never = absurd never
-  comp_side User is never = absurd never
-  comp_side (Kernel Blank) is never = absurd never
-  comp_side (Kernel Table) is never = absurd never
-  comp_side (Kernel Leaf) is never = absurd never
-  comp_side (Kernel Pages) is never = absurd never
-  comp_side (Kernel Pleaf) is never = absurd never
-  comp_side (Kernel (Thread t)) is never = absurd never
-  comp_side (Kernel (Tcap q)) is never = absurd never
+  comp_side _ is never = absurd never
 
   cap_side : (i : ℕ) (k : Capability) → s.place f i ≡ Holds k → (holds k ≡ true) × LeadsTo k.kind k g → w g ≡ false
   cap_side i k is it =

@@ -1,5 +1,5 @@
 -- How partitions are joined.
-use Rattle.std.proofs.Common.{◌≡◌, ◌≢◌, ◌⊎◌, inl, inr, ℕ, ◌<◌, ◌≤◌, ◌==◌, Bool, true, false, refl, sym, ◌∙◌, ap, subst, arith}
+use Rattle.std.proofs.Common.{◌≡◌, ◌≢◌, ◌⊎◌, inl, inr, ℕ, ◌<◌, ◌≤◌, Bool, refl, sym, ◌∙◌, ap, subst, arith}
 use Rattle.std.proofs.Common.{if◌then◌else◌, List, length, Some, None, slice_get, get_or, option_map, eq-eqb, ne_eqb}
 use Rattle.world_parts.specs.Partitions.{or_own, moved, IsPartition, Respects}
 use Rattle.{world_parts.specs.world_in, world_parts.specs.IsParts, world_parts.specs.Joins, std.proofs.lemmas.Bool.cases_eq}
@@ -61,20 +61,6 @@ pub joins_none : (Held : ℕ → ℕ → Type 0) (world : ℕ → ℕ) → ((f g
     → Joins Held world world
 joins_none Held world are = record { keeps = λ f g e. e; joins = are; only = λ w sides respects. respects }
 
--- The same by another function.
-joins_same : (Held : ℕ → ℕ → Type 0) (old new other : ℕ → ℕ) → ((f : ℕ) → new f ≡ other f) → Joins Held old new → Joins Held old other
-joins_same Held old new other same a = record {
-  keeps = λ f g e. sym (same f) ∙ a.keeps f g e ∙ same g;
-  joins = λ f g h low high. sym (same f) ∙ a.joins f g h low high ∙ same g;
-  only = λ w sides respects f g e. a.only w sides respects f g (same f ∙ e ∙ sym (same g));
-}
-
-partition_same : (new other : ℕ → ℕ) → ((f : ℕ) → new f ≡ other f) → IsPartition new → IsPartition other
-partition_same new other same a = record {
-  least = λ f. subst (λ n. n ≤ f) (same f) (a.least f);
-  of_least = λ f. sym (same (other f)) ∙ ap new (sym (same f)) ∙ a.of_least f ∙ same f;
-}
-
 -- What a list says after one number came in place of another.
 world_moved : (xs ys : List ℕ) (from to : ℕ) → length xs ≡ 512 → from < 512
     → ((f : ℕ) → slice_get ys f ≡ option_map (moved from to) (slice_get xs f)) → (f : ℕ) → moved from to (world_in xs f) ≡ world_in ys f
@@ -104,12 +90,13 @@ module _ (xs ys : List ℕ) (parts : IsParts xs) (a b p q : ℕ) (in_b : b < 512
   pub parts_after : IsParts ys
   parts_after = record {
     size = size;
-    partition = partition_same _ _ same (moved_partition (world_in xs) parts.partition a b later);
+    partition = subst IsPartition (λ i f. same f i) (moved_partition (world_in xs) parts.partition a b later);
   }
 
   pub joined_after : (Held : ℕ → ℕ → Type 0) → ((f g : ℕ) → Held f g → ((f ≡ a) × (g ≡ b)) ⊎ ((f ≡ b) × (g ≡ a)))
       → (Held a b ⊎ Held b a) → Joins Held (world_in xs) (world_in ys)
-  joined_after Held are has = joins_same Held _ _ _ same (moved_joins (world_in xs) parts.partition a b later Held are has)
+  joined_after Held are has = subst (Joins Held (world_in xs)) (λ i f. same f i)
+      (moved_joins (world_in xs) parts.partition a b later Held are has)
 
 -- Two frames of one world are joined, and so are two of which one is past 511.
 pub joined_before : (world : ℕ → ℕ) (a b : ℕ) → world a ≡ world b → Joins (λ f g. (f ≡ a) × (g ≡ b)) world world

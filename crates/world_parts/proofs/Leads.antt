@@ -1,5 +1,5 @@
 -- In every state that a run reaches, what a place holds leads to frames of the machine alone.
-use Rattle.seal_check.specs.world_laws.specs.kernel_laws.proofs.{◌≡◌, inl, inr, ℕ, ◌+◌, ◌<◌, ◌≤◌, ◌&&◌, Bool, true, false, refl, sym, ◌∙◌}
+use Rattle.seal_check.specs.world_laws.specs.kernel_laws.proofs.{◌≡◌, inl, inr, ℕ, ◌+◌, ◌<◌, ◌≤◌, Bool, true, refl, sym}
 use Rattle.seal_check.specs.world_laws.specs.kernel_laws.proofs.{ap, subst, arith, List, IsTrue, false≢true, ltb-true, Setting, IsSetting}
 use Rattle.seal_check.specs.world_laws.specs.kernel_laws.proofs.{Capability, Kind, Holds, Untyped, Kernel, Comp, CompFields, Limits, State}
 use Rattle.seal_check.specs.world_laws.specs.kernel_laws.proofs.{found, has_frame, fits, EndsWithin, IsGood, Event, after, IsRun}
@@ -13,16 +13,7 @@ LeadsWithin n k = (f : ℕ) → LeadsTo k.kind k f → f < n
 -- Whether the object of a frame is one that capabilities name.
 typed : (j : Kind) → IsTrue (fits j Untyped) → j ≡ Kind.Range
 typed Kind.Range e = refl
-typed Kind.Table e = absurd (false≢true e)
-typed Kind.Leaf e = absurd (false≢true e)
-typed Kind.Pages e = absurd (false≢true e)
-typed Kind.Pleaf e = absurd (false≢true e)
-typed Kind.Comp e = absurd (false≢true e)
-typed Kind.Gate e = absurd (false≢true e)
-typed Kind.Thread e = absurd (false≢true e)
-typed Kind.Tcap e = absurd (false≢true e)
-typed Kind.Link e = absurd (false≢true e)
-typed Kind.Page e = absurd (false≢true e)
+typed _ e = absurd (false≢true e)
 
 in_range : (k : Capability) (f n : ℕ) → has_frame (found k) f ≡ true → k.frame + k.arg ≤ n → f < n
 in_range k f n e within =
@@ -33,16 +24,7 @@ in_range k f n e within =
 by_kind : (j : Kind) (k : Capability) (n : ℕ) → EndsWithin j k.frame k.arg n → ((j ≡ Kind.Range → ⊥) → k.frame < n)
     → (f : ℕ) → LeadsTo j k f → f < n
 by_kind Kind.Range k n within other f e = in_range k f n e within
-by_kind Kind.Table k n within other f e = subst (λ g. g < n) (sym e) (other (λ q. cc))
-by_kind Kind.Leaf k n within other f e = subst (λ g. g < n) (sym e) (other (λ q. cc))
-by_kind Kind.Pages k n within other f e = subst (λ g. g < n) (sym e) (other (λ q. cc))
-by_kind Kind.Pleaf k n within other f e = subst (λ g. g < n) (sym e) (other (λ q. cc))
-by_kind Kind.Comp k n within other f e = subst (λ g. g < n) (sym e) (other (λ q. cc))
-by_kind Kind.Gate k n within other f e = subst (λ g. g < n) (sym e) (other (λ q. cc))
-by_kind Kind.Thread k n within other f e = subst (λ g. g < n) (sym e) (other (λ q. cc))
-by_kind Kind.Tcap k n within other f e = subst (λ g. g < n) (sym e) (other (λ q. cc))
-by_kind Kind.Link k n within other f e = subst (λ g. g < n) (sym e) (other (λ q. cc))
-by_kind Kind.Page k n within other f e = subst (λ g. g < n) (sym e) (other (λ q. cc))
+by_kind _ k n within other f e = subst (λ g. g < n) (sym e) (other (λ q. cc))
 
 good_within : (s : State) (o : ℕ → Bool) (k : Capability) → IsSound s o → IsGood s k → LeadsWithin s.limits.frames k
 good_within s o k sound good = by_kind k.kind k s.limits.frames good.within below

@@ -1,8 +1,8 @@
 -- What the words and the ends of a machine say of its worlds is so in the final state that they represent.
-use Rattle.kernel_history.proofs.{◌≡◌, inl, inr, ℕ, ◌*◌, ◌<◌, ◌≤◌, ◌&&◌, Bool, true, false, ltb as nat_lt, refl, sym, ◌∙◌, ap, subst, arith}
-use Rattle.kernel_history.proofs.{List, take, drop, slice_index, Option, Some, None, if◌then◌else◌, true≢false, lt-ltb, le-ltb, Setting}
-use Rattle.kernel_history.proofs.{IsSetting, entry_of_word, Entry, comp_of_word, FrameWord, EntryAt, Shape, place_of, Place, Free, Holds}
-use Rattle.kernel_history.proofs.{Quiescing, CompFields, Blank, Table, Leaf, Pages, Pleaf, Comp, Thread, Tcap, Frame, Untyped, User, Kernel}
+use Rattle.kernel_history.proofs.{◌≡◌, inl, inr, ℕ, ◌*◌, ◌<◌, ◌≤◌, Bool, true, false, ltb as nat_lt, refl, sym, ◌∙◌, ap, subst, arith}
+use Rattle.kernel_history.proofs.{List, drop, slice_index, Option, Some, None, if◌then◌else◌, true≢false, lt-ltb, le-ltb, Setting}
+use Rattle.kernel_history.proofs.{entry_of_word, Entry, comp_of_word, EntryAt, Shape, place_of, Place, Free, Holds}
+use Rattle.kernel_history.proofs.{Quiescing, CompFields, Blank, Table, Leaf, Pages, Pleaf, Comp, Frame, Untyped, Kernel}
 use Rattle.kernel_history.proofs.{Limits, State, held_in, Event, after, holds_node, frame_value, SaysPlace, AreFrame}
 use Rattle.machine_image.specs.{ImageOf, word_at, node_words, held_by, component_at}
 use Rattle.world_parts.specs.{sight_of, IsLast}
@@ -10,7 +10,7 @@ use Rattle.std.proofs.Common.{get_or-take, get_or-drop}
 use Rattle.seal_check.specs.world_laws.specs.kernel_laws.proofs.{limits_stay, runs_sound}
 use Rattle.kernel_history.specs.FinalWords.{AreComp, AreEntries}
 use Rattle.world_parts.specs.{Sight.fields_of, Sight.is_untyped, Seen.is_node, Seen.is_comp, Seen.says, Seen.says_untyped, Seen.fields}
-use Rattle.world_parts.specs.{Seen.frame_said, Seen.held_seen, Seen.comp_seen, Seen.untyped_seen, Seen.works_seen, Seen.seen}
+use Rattle.world_parts.specs.{Seen.held_seen, Seen.comp_seen, Seen.untyped_seen, Seen.works_seen, Seen.seen}
 use Rattle.{std.proofs.lemmas.Bool.cases_lt, machine_image.specs.Views.component_of, seal_check.specs.world_laws.specs.Worlds.works_in}
 use Rattle.{seal_check.proofs.Reached.held_within, world_parts.proofs.Leads.fields_within}
 
@@ -24,50 +24,29 @@ says_held (Holds k) shown h = ap held_by h
 says_held (Quiescing k) shown h = ap held_by h.says
 
 none_held : (p : Place) → ((k : _) → p ≡ Holds k → ⊥) → None ≡ held_in p
-none_held Free never = refl
 none_held (Holds k) never = absurd (never k refl)
-none_held (Quiescing k) never = refl
+none_held _ never = refl
 
 says_node : (x : Frame) → says is_node (Some (frame_value x)) ≡ holds_node x
-says_node Untyped = refl
-says_node User = refl
 says_node (Kernel Blank) = refl
-says_node (Kernel Table) = refl
-says_node (Kernel Leaf) = refl
-says_node (Kernel Pages) = refl
-says_node (Kernel Pleaf) = refl
-says_node (Kernel (Comp k)) = refl
-says_node (Kernel (Thread t)) = refl
-says_node (Kernel (Tcap q)) = refl
+says_node _ = refl
 
 says_free : (x : Frame) → says_untyped (Some (frame_value x)) ≡ is_untyped x
 says_free Untyped = refl
-says_free User = refl
-says_free (Kernel object) = refl
+says_free _ = refl
 
 entries_of : (x : Frame) (place : ℕ → Place) (word : ℕ → ℕ) → holds_node x ≡ true → AreFrame x place word → AreEntries place word
-entries_of Untyped place word node h = absurd (true≢false (sym node))
-entries_of User place word node h = absurd (true≢false (sym node))
-entries_of (Kernel Blank) place word node h = absurd (true≢false (sym node))
 entries_of (Kernel Table) place word node h = h
 entries_of (Kernel Leaf) place word node h = h
 entries_of (Kernel Pages) place word node h = h
 entries_of (Kernel Pleaf) place word node h = h
-entries_of (Kernel (Comp k)) place word node h = absurd (true≢false (sym node))
-entries_of (Kernel (Thread t)) place word node h = absurd (true≢false (sym node))
-entries_of (Kernel (Tcap q)) place word node h = absurd (true≢false (sym node))
+entries_of _ place word node h = absurd (true≢false (sym node))
 
 -- A component whose table and pages are frames.
 comp_value : (k : CompFields) (word : ℕ → ℕ) → AreComp k word → k.table < 512 → k.pages < 512
     → fields (component_of (word 0) (word 1) (comp_of_word (word 2))) ≡ Some (k.table, k.pages)
 comp_value k word h low high =
-    ap (λ o. fields (component_of (word 0) (word 1) o)) h.live
-    ∙ ap (λ a. fields (component_of a (word 1) (Some (record { number = k.number; epoch = k.epoch })))) h.table
-    ∙ ap (λ b. fields (component_of k.table b (Some (record { number = k.number; epoch = k.epoch })))) h.pages
-    ∙ ap (λ b. fields (if b && nat_lt k.pages 512
-    then Some (record { table = k.table; pages = k.pages; number = k.number; epoch = k.epoch }) else None)) (lt-ltb k.table 512 low)
-    ∙ ap (λ b. fields (if b then Some (record { table = k.table; pages = k.pages; number = k.number; epoch = k.epoch }) else None))
-    (lt-ltb k.pages 512 high)
+    rw (h.live, h.table, h.pages, lt-ltb k.table 512 low, lt-ltb k.pages 512 high) refl
 
 module _ (setting : Setting) (events : List Event) (m : ImageOf) (last : IsLast setting events m) where
   abbrev s : State
@@ -99,16 +78,11 @@ module _ (setting : Setting) (events : List Event) (m : ImageOf) (last : IsLast 
 
   held_inside : (f i : ℕ) → f < m.shape.frames → i < 64 → held_seen m f i ≡ held_in (s.place f i)
   held_inside f i below small =
-      ap (λ b. if b && nat_lt i 64
-      then (if says is_node (frame_said m f) then held_by (entry_of_word (slice_index (node_words m.words f) i)) else None) else None)
-      (lt-ltb f m.shape.frames below)
-      ∙ ap (λ b. if b
-      then (if says is_node (frame_said m f) then held_by (entry_of_word (slice_index (node_words m.words f) i)) else None) else None)
-      (lt-ltb i 64 small)
-      ∙ ap (λ o. if says is_node o then held_by (entry_of_word (slice_index (node_words m.words f) i)) else None)
+      rw (lt-ltb f m.shape.frames below, lt-ltb i 64 small)
+      (ap (λ o. if says is_node o then held_by (entry_of_word (slice_index (node_words m.words f) i)) else None)
       (last.represents.kinds f (within f below))
       ∙ ap (λ b. if b then held_by (entry_of_word (slice_index (node_words m.words f) i)) else None) (says_node (s.frame f))
-      ∙ node_held f i below small (holds_node (s.frame f)) refl
+      ∙ node_held f i below small (holds_node (s.frame f)) refl)
 
   -- A place outside the machine holds nothing.
   held_outside : (f i : ℕ) → (f < setting.frames → i < 64 → ⊥) → None ≡ held_in (s.place f i)
@@ -119,20 +93,10 @@ module _ (setting : Setting) (events : List Event) (m : ImageOf) (last : IsLast 
   held_same f i = elim (cases_lt f m.shape.frames) [
     | inl below ↦ elim (cases_lt i 64) [
       | inl small ↦ held_inside f i below small
-      | inr large ↦
-          ap (λ b. if b && nat_lt i 64
-          then (if says is_node (frame_said m f) then held_by (entry_of_word (slice_index (node_words m.words f) i)) else None) else None)
-          (lt-ltb f m.shape.frames below)
-          ∙ ap (λ b. if b
-          then (if says is_node (frame_said m f) then held_by (entry_of_word (slice_index (node_words m.words f) i)) else None) else None)
-          (le-ltb i 64 large)
-          ∙ held_outside f i (λ low small. omega (arith, small, large))
+      | inr large ↦ rw (lt-ltb f m.shape.frames below, le-ltb i 64 large) (held_outside f i (λ low small. omega (arith, small, large)))
     ]
     | inr past ↦
-        ap (λ b. if b && nat_lt i 64
-        then (if says is_node (frame_said m f) then held_by (entry_of_word (slice_index (node_words m.words f) i)) else None) else None)
-        (le-ltb f m.shape.frames past)
-        ∙ held_outside f i (λ low small. let same = last.frames in omega (arith, low, past, same))
+        rw (le-ltb f m.shape.frames past) (held_outside f i (λ low small. let same = last.frames in omega (arith, low, past, same)))
   ]
 
   -- The table and the pages of a component.
@@ -145,39 +109,23 @@ module _ (setting : Setting) (events : List Event) (m : ImageOf) (last : IsLast 
       let high = at.1 in
       comp_value k (word f) (subst (λ x. AreFrame x (s.place f) (word f)) is (last.represents.objects f (within f below)))
       (omega (arith, low, most)) (omega (arith, high, most))
-  comp_inside f below Untyped is = refl
-  comp_inside f below User is = refl
-  comp_inside f below (Kernel Blank) is = refl
-  comp_inside f below (Kernel Table) is = refl
-  comp_inside f below (Kernel Leaf) is = refl
-  comp_inside f below (Kernel Pages) is = refl
-  comp_inside f below (Kernel Pleaf) is = refl
-  comp_inside f below (Kernel (Thread t)) is = refl
-  comp_inside f below (Kernel (Tcap q)) is = refl
+  comp_inside f below _ is = refl
 
   comp_same : (f : ℕ) → comp_seen m f ≡ fields_of (s.frame f)
   comp_same f = elim (cases_lt f m.shape.frames) [
     | inl below ↦
-        ap (λ b. if b then (if says is_comp (frame_said m f) then fields (component_at m.shape m.words f) else None) else None)
-        (lt-ltb f m.shape.frames below)
-        ∙ ap (λ o. if says is_comp o then fields (component_at m.shape m.words f) else None) (last.represents.kinds f (within f below))
-        ∙ comp_inside f below (s.frame f) refl
-    | inr past ↦
-        ap (λ b. if b then (if says is_comp (frame_said m f) then fields (component_at m.shape m.words f) else None) else None)
-        (le-ltb f m.shape.frames past)
-        ∙ sym (ap fields_of (beyond f past))
+        rw (lt-ltb f m.shape.frames below)
+        (ap (λ o. if says is_comp o then fields (component_at m.shape m.words f) else None) (last.represents.kinds f (within f below))
+        ∙ comp_inside f below (s.frame f) refl)
+    | inr past ↦ rw (le-ltb f m.shape.frames past) (sym (ap fields_of (beyond f past)))
   ]
 
   -- Which frames are untyped.
   untyped_same : (f : ℕ) → untyped_seen m f ≡ is_untyped (s.frame f)
   untyped_same f = elim (cases_lt f m.shape.frames) [
     | inl below ↦
-        ap (λ b. if b then says_untyped (frame_said m f) else true) (lt-ltb f m.shape.frames below)
-        ∙ ap says_untyped (last.represents.kinds f (within f below))
-        ∙ says_free (s.frame f)
-    | inr past ↦
-        ap (λ b. if b then says_untyped (frame_said m f) else true) (le-ltb f m.shape.frames past)
-        ∙ sym (ap is_untyped (beyond f past))
+        rw (lt-ltb f m.shape.frames below) (ap says_untyped (last.represents.kinds f (within f below)) ∙ says_free (s.frame f))
+    | inr past ↦ rw (le-ltb f m.shape.frames past) (sym (ap is_untyped (beyond f past)))
   ]
 
   -- Where cores work.
@@ -185,13 +133,10 @@ module _ (setting : Setting) (events : List Event) (m : ImageOf) (last : IsLast 
   works_same c = elim (cases_lt c m.shape.cores) [
     | inl below ↦
         let here : c < s.limits.cores = subst (λ n. c < n) cores_are below in
-        ap (λ b. if b then (Rattle.kernel_history.specs.FinalWords.end_in m.ends c).comp else 0) (lt-ltb c m.shape.cores below)
-        ∙ ap (λ e. e.comp) (last.represents.ends c here)
-        ∙ sym (ap (λ b. if b then works_in s c else 0) (lt-ltb c s.limits.cores here))
+        rw (lt-ltb c m.shape.cores below, lt-ltb c s.limits.cores here) (ap (λ e. e.comp) (last.represents.ends c here))
     | inr past ↦
         let out : s.limits.cores ≤ c = subst (λ n. n ≤ c) cores_are past in
-        ap (λ b. if b then (Rattle.kernel_history.specs.FinalWords.end_in m.ends c).comp else 0) (le-ltb c m.shape.cores past)
-        ∙ sym (ap (λ b. if b then works_in s c else 0) (le-ltb c s.limits.cores out))
+        rw (le-ltb c m.shape.cores past, le-ltb c s.limits.cores out) refl
   ]
 
   pub seen_is : seen m ≡ sight_of s

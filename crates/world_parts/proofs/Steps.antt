@@ -1,5 +1,5 @@
 -- Joinings one after another, in the order of frames and places.
-use Rattle.kernel_history.proofs.{◌≡◌, ◌⊎◌, inl, inr, ℕ, ◌+◌, ◌<◌, ◌≤◌, Bool, true, false, refl, sym, ◌∙◌, ap, subst, arith, List, Option}
+use Rattle.kernel_history.proofs.{◌≡◌, ◌⊎◌, inl, inr, ℕ, ◌+◌, ◌<◌, true, false, refl, sym, ◌∙◌, ap, subst, arith, List, Option}
 use Rattle.kernel_history.proofs.{Some, None, false≢true, Capability, Kind, found, has_frame}
 use Rattle.world_parts.specs.{HasField, Reaches, IsHeldBelow, AreWith, Joins, world_in}
 use Rattle.world_parts.specs.{Sight.Sight, Led.HoldsBelow, Led.HoldsFrame, Led.InRange}
@@ -61,16 +61,7 @@ range_again k before node least are same = joins_none (λ f g. (f ≡ node) × (
 pub led_other : (j : Kind) (k : Capability) (node : ℕ) (old new : ℕ → ℕ) → (j ≡ Kind.Range → ⊥)
     → Joins (λ f g. (f ≡ node) × (g ≡ k.frame)) old new → Joins (λ f g. (f ≡ node) × LeadsTo j k g) old new
 led_other Kind.Range k node old new other a = absurd (other refl)
-led_other Kind.Table k node old new other a = a
-led_other Kind.Leaf k node old new other a = a
-led_other Kind.Pages k node old new other a = a
-led_other Kind.Pleaf k node old new other a = a
-led_other Kind.Comp k node old new other a = a
-led_other Kind.Gate k node old new other a = a
-led_other Kind.Thread k node old new other a = a
-led_other Kind.Tcap k node old new other a = a
-led_other Kind.Link k node old new other a = a
-led_other Kind.Page k node old new other a = a
+led_other _ k node old new other a = a
 
 pub cap_free : (k : Capability) (node : ℕ) (world : ℕ → ℕ) → holds k ≡ false
     → Joins (λ f g. (f ≡ node) × ((holds k ≡ true) × LeadsTo k.kind k g)) world world
@@ -132,44 +123,30 @@ places_more x node n old mid new a b =
 
 -- ---- a frame
 
-pub frame_both : (x : Sight) (node : ℕ) (old mid new : ℕ → ℕ) → Joins (λ f g. (f ≡ node) × HasField (x.comp node) g) old mid
-    → Joins (PlacesBelow x node 64) mid new → Joins (λ f g. (f ≡ node) × HoldsFrame x node g) old new
-frame_both x node old mid new a b =
-    joins_as (λ f g. ((f ≡ node) × HasField (x.comp node) g) ⊎ PlacesBelow x node 64 f g) (λ f g. (f ≡ node) × HoldsFrame x node g) old new
-    there back (joins_then (λ f g. (f ≡ node) × HasField (x.comp node) g) (PlacesBelow x node 64) old mid new a b)
+either : (node : ℕ) (P Q : ℕ → Type 0) (old mid new : ℕ → ℕ) → Joins (λ f g. (f ≡ node) × P g) old mid
+    → Joins (λ f g. (f ≡ node) × Q g) mid new → Joins (λ f g. (f ≡ node) × (P g ⊎ Q g)) old new
+either node P Q old mid new a b =
+    joins_as (λ f g. ((f ≡ node) × P g) ⊎ ((f ≡ node) × Q g)) (λ f g. (f ≡ node) × (P g ⊎ Q g)) old new there (λ f g h _ _. split f g h.0 h.1)
+    (joins_then (λ f g. (f ≡ node) × P g) (λ f g. (f ≡ node) × Q g) old mid new a b)
   where
-    there : (f g : ℕ) → ((f ≡ node) × HasField (x.comp node) g) ⊎ PlacesBelow x node 64 f g → (f ≡ node) × HoldsFrame x node g
+    there : (f g : ℕ) → ((f ≡ node) × P g) ⊎ ((f ≡ node) × Q g) → (f ≡ node) × (P g ⊎ Q g)
     there f g (inl h) = (h.0, inl h.1)
     there f g (inr h) = (h.0, inr h.1)
 
-    split : (f g : ℕ) → f ≡ node → HoldsFrame x node g → ((f ≡ node) × HasField (x.comp node) g) ⊎ PlacesBelow x node 64 f g
+    split : (f g : ℕ) → f ≡ node → P g ⊎ Q g → ((f ≡ node) × P g) ⊎ ((f ≡ node) × Q g)
     split f g e (inl h) = inl (e, h)
     split f g e (inr h) = inr (e, h)
 
-    back : (f g : ℕ) → (f ≡ node) × HoldsFrame x node g → f < 512 → g < 512
-        → ((f ≡ node) × HasField (x.comp node) g) ⊎ PlacesBelow x node 64 f g
-    back f g h _ _ = split f g h.0 h.1
+pub frame_both : (x : Sight) (node : ℕ) (old mid new : ℕ → ℕ) → Joins (λ f g. (f ≡ node) × HasField (x.comp node) g) old mid
+    → Joins (PlacesBelow x node 64) mid new → Joins (λ f g. (f ≡ node) × HoldsFrame x node g) old new
+frame_both x node = either node (HasField (x.comp node)) (HoldsBelow x node 64)
 
 pub fields_none : (node : ℕ) (world : ℕ → ℕ) → Joins (λ f g. (f ≡ node) × HasField None g) world world
 fields_none node world = joins_none (λ f g. (f ≡ node) × HasField None g) world (λ f g h _ _. absurd h.1)
 
 pub fields_comp : (node : ℕ) (k : ℕ × ℕ) (old mid new : ℕ → ℕ) → Joins (λ f g. (f ≡ node) × (g ≡ k.0)) old mid
     → Joins (λ f g. (f ≡ node) × (g ≡ k.1)) mid new → Joins (λ f g. (f ≡ node) × HasField (Some k) g) old new
-fields_comp node k old mid new a b =
-    joins_as (λ f g. ((f ≡ node) × (g ≡ k.0)) ⊎ ((f ≡ node) × (g ≡ k.1))) (λ f g. (f ≡ node) × HasField (Some k) g) old new
-    there back (joins_then (λ f g. (f ≡ node) × (g ≡ k.0)) (λ f g. (f ≡ node) × (g ≡ k.1)) old mid new a b)
-  where
-    there : (f g : ℕ) → ((f ≡ node) × (g ≡ k.0)) ⊎ ((f ≡ node) × (g ≡ k.1)) → (f ≡ node) × HasField (Some k) g
-    there f g (inl h) = (h.0, inl h.1)
-    there f g (inr h) = (h.0, inr h.1)
-
-    split : (f g : ℕ) → f ≡ node → HasField (Some k) g → ((f ≡ node) × (g ≡ k.0)) ⊎ ((f ≡ node) × (g ≡ k.1))
-    split f g e (inl h) = inl (e, h)
-    split f g e (inr h) = inr (e, h)
-
-    back : (f g : ℕ) → (f ≡ node) × HasField (Some k) g → f < 512 → g < 512
-        → ((f ≡ node) × (g ≡ k.0)) ⊎ ((f ≡ node) × (g ≡ k.1))
-    back f g h _ _ = split f g h.0 h.1
+fields_comp node k = either node (λ g. g ≡ k.0) (λ g. g ≡ k.1)
 
 -- ---- the frames
 
