@@ -48,9 +48,8 @@ still_has None x fate told has = absurd has
 still_has (Some a) x fate told has = record { a = a; active = refl; among = has.0; done = has.1 }
 
 not_back : (told : Absorbed) → returned_in told ≡ None → NotBack told
-not_back Absorbed.Going none = tt
-not_back (Absorbed.Decided r) none = tt
 not_back (Absorbed.Returned r) none = absurd (cc)
+not_back _ none = tt
 
 -- A step of a core's call that goes on.
 module _ (setup : Setting) (setting : IsSetting setup) (t : Trace) (e : Step) (made : IsMade setup (e ∷ t)) (entry : e.enters ≡ None) where

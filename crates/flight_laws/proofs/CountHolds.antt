@@ -2,23 +2,21 @@
 use Rattle.time_laws.specs.kept_facts.proofs.{◌≡◌, ◌≢◌, ◌⊎◌, inl, inr, ℕ, ℤ, true, [], ◌∷◌, Option, Some, None, refl, sym, ◌∙◌, ap, subst}
 use Rattle.time_laws.specs.kept_facts.proofs.{false≢true, Setting, IsSetting, Call, Retype, Reply, count_of_word, CountWord, Pinned, Closed}
 use Rattle.time_laws.specs.kept_facts.proofs.{Word, CountAt, word_of, left_of, count_at, count_in, MayEnter, MayFollow, marked_by}
-use Rattle.time_laws.specs.kept_facts.proofs.{count_mark, hold_mark, is_in, Step, Trace, Phase, Out, Open, phase, after_enter, after_decide}
+use Rattle.time_laws.specs.kept_facts.proofs.{count_mark, hold_mark, is_in, Step, Trace, Phase, Out, phase, after_enter, after_decide}
 use Rattle.time_laws.specs.kept_facts.proofs.{after_return, state_after, state_before, state_entered, last_left, inside_is, cases_word}
 use Rattle.time_laws.specs.kept_facts.proofs.{phase-own, phase-other, last_left-here, last_left-there, acquired, frozen, Invariant}
 use Rattle.flight_laws.proofs.CountSteps.{Takes, IsOwnCount, IsSweptCount, LeavesCount, count_step}
 use Rattle.{time_laws.specs.kept_facts.proofs.marker_inside, time_laws.specs.flight.specs.cores_after, time_laws.specs.flight.specs.IsMade}
 use Rattle.{time_laws.specs.history_laws.specs.Untypes, time_laws.specs.history_laws.specs.FrozenSay}
-use Rattle.{time_laws.specs.kernel_history.specs.call_in, time_laws.specs.kernel_history.specs.Decided, std.proofs.lemmas.Bool.cases_eq}
+use Rattle.{time_laws.specs.kernel_history.specs.call_in, std.proofs.lemmas.Bool.cases_eq}
 use Rattle.{time_laws.specs.spk_nums.specs.declared.kinds.FrameKind.TheVariants.Untyped, time_laws.specs.flight.proofs.Made.made_stands}
 
 none_some : (d : ℕ) → None ≡ Some d → ⊥
 none_some d h = cc
 
 call_stays : (o : Option Reply) (p : Phase) → call_in (after_decide o p) ≡ call_in p
-call_stays None p = refl
 call_stays (Some r) Out = refl
-call_stays (Some r) (Open call) = refl
-call_stays (Some r) (Decided call q) = refl
+call_stays _ _ = refl
 
 module _ (setup : Setting) (setting : IsSetting setup) (f k : ℕ) (t : Trace) (e : Step) (made : IsMade setup (e ∷ t)) where
   abbrev at : Word
@@ -86,12 +84,6 @@ module _ (setup : Setting) (setting : IsSetting setup) (f k : ℕ) (t : Trace) (
         → count_in o ≡ count
     taken_count o count stamp call (inl is) = ap count_in is.0
     taken_count o count stamp call (inr is) = ap count_in is.0
-
-    pub count_kept : count_in (count_at (last_left setup (e ∷ t)) f k) ≡ count_in (count_at (last_left setup t) f k)
-    count_kept = elim kept [
-      | inl same ↦ ap (λ (n : ℕ). count_in (count_of_word n)) same
-      | inr takes ↦ taken_count (count_of_word (raw (e ∷ t))) takes.count takes.stamp takes.call takes.left ∙ sym (ap count_in takes.found)
-    ]
 
     pub still_marked : raw (e ∷ t) ≡ raw t → marked_by setup t at ≡ Some e.core
     still_marked same = ap (λ (n : ℕ). count_mark (count_of_word n)) (sym same) ∙ mark

@@ -4,133 +4,84 @@ use Rattle.time_laws.specs.core_invariant.proofs as low
 use low.{AtComp, AtLive, ◌≡◌, ◌≢◌, ◌⊎◌, inl, inr, ℕ, ℤ, ◌<◌, ◌==◌, Bool, true, false, List, [], ◌∷◌, length, slice_get, ◌++◌, map, Option}
 use low.{Some, None, IfSome, arith, refl, sym, ◌∙◌, ap, subst, IsSome, false≢true, eqb-true, Capability, Setting, IsSetting, left_if, Call}
 use low.{FrameKind, Reply, CountFits, word_of_count, count_of_word, CountAt, Move, word_of, left_of, count_mark, Step, Trace, Open, phase}
-use low.{last_left, look_move, Look, AtRoot, AtLeaf, AtEntry, unheld, acquired, Acquired, Pin, AtCompare as close_compare, AtDraw, AtStore}
-use low.{Quiet, AtCore, AtFlush, frozen, released, Sweep, SweepAt, Thaw, Charge, AtLoad as charge_load, Pair, PairAt, LoadA, MarkA, ListA}
-use low.{LoadB, ListB, CompareB, AgainB, StoreList, StoreB, StoreA, dues, put_by, CompAt, CompMaking, InvokingAt, ReturningAt, KillingAt}
-use low.{LoadComp, LoadLive, Close as kill_close, Draw as kill_draw, MakingAt, NewObject, SwitchAt, Switching, TypingAt, Untyping}
-use low.{UntypingAt, Due, Fill as fill_act, Remove as remove_act, Retype as type_act, Make as make_act, Tick as tick_act}
-use low.{Touch as touch_act, Kill as kill_act, Untype as untype_act, Map as map_act, MakeComp as comp_act, Invoke as invoke_act}
-use low.{Return as return_act, Share as share_act, Refill as refill_act, Switch as switch_act, Tail, Nothing, Quiesce}
-use low.{Release, Push, Pop, Lookup, Read, Scan, Acquire, Act, move_in, move_of, CountsAt}
-use low.{StageFits, stage_move, is_ok, tail_move, Core, ActiveCall, Stage, Enter, Living, Undecided, Decided, Leave, holds_release}
-use low.{holds_thaw, count_of, committed, holds_counts, settled_by, settled, done_by, holds_at, holds_in, holds, held_by, CallIs, KnowsAct}
-use low.{KnowsAt, KnowsClose, due_of, KnowsUndecided, phase_at, untypes, KnowsSweep, KnowsUntypingAt, UntypesBy, claimed_by, SaysCount}
-use low.{release_away, thaw_here, plan_for, Claim}
+use low.{last_left, look_move, Look, unheld, acquired, Acquired, Pin, AtCompare as close_compare, AtDraw, AtStore, Quiet, frozen, released}
+use low.{Sweep, SweepAt, Thaw, Charge, Pair, PairAt, dues, put_by, CompAt, CompMaking, InvokingAt, ReturningAt, KillingAt}
+use low.{MakingAt, NewObject, SwitchAt, Switching, TypingAt, Untyping, UntypingAt, Due, Fill as fill_act, Remove as remove_act}
+use low.{Retype as type_act, Make as make_act, Tick as tick_act, Touch as touch_act, Kill as kill_act, Untype as untype_act, Map as map_act}
+use low.{MakeComp as comp_act, Invoke as invoke_act, Return as return_act, Share as share_act, Refill as refill_act, Switch as switch_act}
+use low.{Tail, Nothing, Quiesce, Release, Push, Pop, Lookup, Read, Scan, Acquire, Act, move_in, move_of, CountsAt, StageFits, stage_move}
+use low.{is_ok, tail_move, Core, ActiveCall, Stage, Enter, Living, Undecided, Decided, Leave, holds_release, holds_thaw, count_of}
+use low.{committed, holds_counts, settled_by, settled, done_by, holds_at, holds_in, holds, held_by, CallIs, KnowsAct, KnowsAt, KnowsClose}
+use low.{due_of, KnowsUndecided, phase_at, untypes, KnowsSweep, KnowsUntypingAt, UntypesBy, claimed_by, SaysCount, release_away, thaw_here}
+use low.{plan_for, Freezing.is_count}
 use Rattle.time_laws.specs.act_states.specs.{Retype, pin_move, commit_of, AtLoad, close_move, quiet_move, Close, move_at, ThawFits}
 use Rattle.time_laws.specs.act_states.specs.{charge_move, Refill, RefillAt, Pop as PopOf, Push as PushOf, act_move, comp_at, invoking_at}
 use Rattle.time_laws.specs.act_states.specs.{returning_at, killing_at, making_at, switching_at, typing_at, is_drawing, untyping_at}
 use Rattle.time_laws.specs.flight.proofs.{Invariant, turned, MayStep, cores_after, stepping_core, IsMade}
-use Rattle.time_laws.specs.step_ways.proofs.{Compare as type_compare, first_marked, first_stands, is_active}
-use Rattle.time_laws.specs.core_invariant.specs.{pin_frame, KnowsSweepAt}
+use Rattle.time_laws.specs.step_ways.proofs.{first_marked, first_stands, is_active}
+use Rattle.time_laws.specs.core_invariant.specs.{pin_frame, KnowsSweepAt, Knows.HasLoaded, Knows.pin_core, Sweeps.KnowsRelease}
 use Rattle.time_laws.specs.stage_tcap.specs.{move_at as pair_at_move, refill_move_at}
 use Rattle.time_laws.specs.stage_thread.specs.{push_move, pop_move}
 use Rattle.time_laws.specs.stage_pins.specs.{Commit.settled_word, declared.pin.Pin.TheVariants.AtCompare}
 use Rattle.time_laws.specs.act_states.specs.{Untypings.release_at, declared.fills.Fill.Fill as FillOf}
 use Rattle.time_laws.specs.act_states.specs.{declared.typings.TypingAt.TheVariants.Load, declared.untypings.Release.Release as ReleaseOf}
 use Rattle.time_laws.specs.act_states.specs.{declared.work.Act.Act as ActOf, declared.work.Tail.TheVariants.Share}
-use Rattle.time_laws.specs.core_invariant.specs.{Knows.HasLoaded, Knows.pin_core, Sweeps.KnowsRelease}
 use Rattle.time_laws.specs.count_invariant.proofs.{ActHolds.SparesAt, Acquiring.removal_types, CompCounts.comp_call}
 use Rattle.time_laws.specs.count_invariant.proofs.{KillingCounts.kill_types, MakingCounts.made_types, StackCounts.invoke_of}
 use Rattle.time_laws.specs.count_invariant.proofs.{SweepCounts.sweep_spares, SwitchCounts.switch_of}
 use Rattle.{std.proofs.lemmas.List.Elements.All-head}
-use Rattle.{time_laws.specs.stage_tcap.specs.declared.charge.Charge.TheVariants.AtCompare as charge_compare}
 use Rattle.{time_laws.specs.comp_invariant.specs.act_fits.proofs.DuesFit.few_dues, time_laws.specs.flight.proofs.Made.made_stands}
-use low.{Freezing.is_count}
 use Rattle.time_laws.specs.frame_words.proofs.CountLemmas as counts
 use Rattle.time_laws.specs.act_states.specs.declared.untypings.UntypingAt.TheVariants as untype
 
 -- Steps on other words
 
 look_beside : (look : Look) → is_count (word_of (look_move look)) ≡ false
-look_beside (AtRoot root number) = refl
-look_beside (AtLeaf leaf number) = refl
-look_beside (AtEntry root index) = refl
+look_beside look = grind arith
 
 quiet_beside : (q : Quiet) → is_count (word_of (quiet_move q)) ≡ false
-quiet_beside (AtCore stamp core at page) = refl
-quiet_beside (AtFlush stamp at) = refl
+quiet_beside q = grind arith
 
 close_beside : (close : Close) → is_count (word_of (close_move close)) ≡ false
-close_beside (close_compare node entry word core) = refl
-close_beside (AtDraw node entry) = refl
-close_beside (AtStore node entry stamp) = refl
+close_beside close = grind arith
 
 typing_beside : (f : ℕ) (k : FrameKind) (at : TypingAt) → is_count (word_of (typing_at f k at)) ≡ false
-typing_beside f k Load = refl
-typing_beside f k (type_compare word) = refl
+typing_beside f k at = grind arith
 
 making_beside : (f : ℕ) (object : NewObject) (core : ℕ) (fill : FillOf) (at : MakingAt)
     → is_count (word_of (making_at f object core fill at)) ≡ false
-making_beside f object core fill MakingAt.Load = refl
-making_beside f object core fill (MakingAt.Mark word) = refl
-making_beside f object core fill (MakingAt.Store word entry) = refl
-making_beside f object core fill (MakingAt.Fill word) = refl
+making_beside f object core fill at = grind arith
 
 charge_beside : (charge : Charge) → is_count (word_of (charge_move charge)) ≡ false
-charge_beside (charge_load tcap ticks) = refl
-charge_beside (charge_compare tcap ticks budget version) = refl
+charge_beside charge = grind arith
 
 refill_beside : (r : Refill) (at : RefillAt) → is_count (word_of (refill_move_at r at)) ≡ false
-refill_beside r RefillAt.Load = refl
-refill_beside r (RefillAt.List entry) = refl
-refill_beside r RefillAt.Compare = refl
-refill_beside r RefillAt.Again = refl
+refill_beside r at = grind arith
 
 killing_beside : (f core : ℕ) (at : KillingAt) → is_count (word_of (killing_at f core at)) ≡ false
-killing_beside f core LoadComp = refl
-killing_beside f core (LoadLive life) = refl
-killing_beside f core (kill_close life word) = refl
-killing_beside f core (kill_draw life word) = refl
+killing_beside f core at = grind arith
 
 invoking_beside : (f : ℕ) (at : InvokingAt) → is_count (word_of (invoking_at f at)) ≡ false
-invoking_beside f InvokingAt.LoadTable = refl
-invoking_beside f (InvokingAt.LoadPages table) = refl
-invoking_beside f (InvokingAt.LoadComp table pages) = refl
-invoking_beside f (InvokingAt.LoadLive table pages life) = refl
+invoking_beside f at = grind arith
 
 returning_beside : (thread depth : ℕ) (at : ReturningAt) → is_count (word_of (returning_at thread depth at)) ≡ false
-returning_beside thread depth ReturningAt.LoadBelow = refl
-returning_beside thread depth (ReturningAt.LoadTable comp) = refl
-returning_beside thread depth (ReturningAt.LoadPages comp table) = refl
-returning_beside thread depth (ReturningAt.Draw comp table pages) = refl
+returning_beside thread depth at = grind arith
 
 comp_beside : (m : CompMaking) (at : CompAt) → is_count (word_of (comp_at m at)) ≡ false
-comp_beside m CompAt.Load = refl
-comp_beside m (CompAt.Mark word) = refl
-comp_beside m (CompAt.LoadLive word) = refl
 comp_beside m (CompAt.Scan word last q) = quiet_beside q
-comp_beside m (CompAt.Close word last) = refl
-comp_beside m (CompAt.Store word last entry) = refl
-comp_beside m (CompAt.Fill word last) = refl
+comp_beside m _ = refl
 
 pair_beside : (p : Pair) (at : PairAt) → is_count (word_of (pair_at_move p at)) ≡ false
-pair_beside p LoadA = refl
-pair_beside p MarkA = refl
-pair_beside p (ListA entry) = refl
-pair_beside p LoadB = refl
-pair_beside p (ListB entry) = refl
-pair_beside p CompareB = refl
-pair_beside p (AgainB r) = refl
-pair_beside p (StoreList entry) = refl
-pair_beside p StoreB = refl
-pair_beside p (StoreA moved v) = refl
+pair_beside p at = grind arith
 
 switching_beside : (m : Switching) (at : SwitchAt) → is_count (word_of (switching_at m at)) ≡ false
-switching_beside m (SwitchAt.Claim (Claim.AtLoad f core)) = refl
-switching_beside m (SwitchAt.Claim (Claim.AtCompare f core depth)) = refl
-switching_beside m (SwitchAt.Claim (Claim.AtStack f depth)) = refl
-switching_beside m (SwitchAt.LoadTable to) = refl
-switching_beside m (SwitchAt.LoadPages to table) = refl
-switching_beside m (SwitchAt.Leave to table pages) = refl
-switching_beside m (SwitchAt.Draw to table pages) = refl
+switching_beside m at = grind arith
 
 push_beside : (x : PushOf) → is_count (word_of (push_move x)) ≡ false
-push_beside (PushOf.AtStack t core depth comp) = refl
-push_beside (PushOf.AtThread t core depth) = refl
+push_beside x = grind arith
 
 pop_beside : (x : PopOf) → is_count (word_of (pop_move x)) ≡ false
-pop_beside (PopOf.AtThread t core depth) = refl
-pop_beside (PopOf.AtStack t depth) = refl
+pop_beside x = grind arith
 
 -- Steps on a count word
 
@@ -229,10 +180,8 @@ module _ (setup : Setting) (setting : IsSetting setup) (cores : ℕ → Core) (t
 
   swept_none : (m : Untyping) (at : UntypingAt) → is_drawing at ≡ true → KnowsUntypingAt setup t c m.frame at → SparesAt at (pin_frame pin)
       → (g : ℕ) → pin_frame pin ≡ g → m.frame ≡ g → ⊥
-  swept_none m untype.Load draws knows spares g own same = false≢true draws
-  swept_none m (untype.Mark word v) draws knows spares g own same = false≢true draws
-  swept_none m (untype.Sweep word w) draws knows spares g own same = false≢true draws
   swept_none m (untype.Draw word w) draws knows spares g own same = spares (own ∙ sym same ∙ sym knows.frame)
+  swept_none m _ draws knows spares g own same = false≢true draws
 
   same_untyping : (call : Call) (f g : ℕ) → UntypesFrame call f → UntypesFrame call g → f ≡ g
   same_untyping call f g first second = same_frame first.range f second.range g (sym first.is ∙ second.is)
@@ -321,7 +270,6 @@ module _ (setup : Setting) (setting : IsSetting setup) (cores : ℕ → Core) (t
   sweep_leaves : (call : Call) (g word : ℕ) (w : Sweep) → phase t c ≡ Open call → UntypesFrame call g → KnowsSweep setup t c g word w
       → ((count : ℤ) (stamp : ℕ) → w.at ≡ SweepAt.Compare count stamp → Freezing (cores c).active w.frame (length w.kept) count stamp)
       → (at : SweepAt) → w.at ≡ at → KnowsSweepAt setup t c g w at → Leaves (move_at w.frame w.core (length w.kept) at)
-  sweep_leaves call g word w is_open untypes knows stands_at SweepAt.Load at_is has at = inl refl
   sweep_leaves call g word w is_open untypes knows stands_at (SweepAt.Compare count stamp) at_is has at =
       compared call count stamp (word_of_count (frozen w.core count stamp)) is_open has.fits
       (inr (
@@ -335,7 +283,7 @@ module _ (setup : Setting) (setting : IsSetting setup) (cores : ℕ → Core) (t
         },
       ))
   sweep_leaves call g word w is_open untypes knows stands_at (SweepAt.Scan q) at_is has at = beside (quiet_move q) (quiet_beside q) at
-  sweep_leaves call g word w is_open untypes knows stands_at (SweepAt.Empty entry) at_is has at = inl refl
+  sweep_leaves call g word w is_open untypes knows stands_at _ at_is has at = inl refl
 
   untyping_leaves : (call : Call) (g core : ℕ) (at : UntypingAt) → phase t c ≡ Open call → UntypesFrame call g
       → KnowsUntypingAt setup t c g at
@@ -525,11 +473,3 @@ module _ (setup : Setting) (setting : IsSetting setup) (t : Trace) (e : Step) (m
           call_leaves setup setting (cores_after setup t) t stands e.core made.1.is_core f k core.active refl may
           (stands.each e.core made.1.is_core).active word
       by (Some call) may word = absurd (cc)
-
-  -- one at which a call begins is on none
-  pub begins_beside : word_of e.move ≡ CountAt f k → e.enters ≡ None
-  begins_beside at = by e.enters (ap word_of (sym (ap (λ (x : Step). x.move) made.1.made)) ∙ at)
-    where
-      by : (o : Option Call) → word_of (move_of (turned o core)) ≡ CountAt f k → o ≡ None
-      by None word = refl
-      by (Some call) word = absurd (cc)

@@ -1,9 +1,8 @@
 -- The stamp with which a call is carried out, if it has drawn one, is within its range.
 use Rattle.time_laws.specs as low
 use low.core_invariant.proofs.{Pin, Acquired, ◌≡◌, ℕ, ℤ, Bool, true, false, [], length, Option, Some, None, subst, Reply, found, StageEnd}
-use low.core_invariant.proofs.{Own, Lookup, Read, Scan, Acquire, Act, Stage, Enter, Living, Undecided, Decided, Leave, ActiveCall, WorkStep}
-use low.core_invariant.proofs.{Goes, Acquires, Refuses as refuses_to, Answers, Shape, reply_of, core_after, told_by, CountsAt, Took, landed}
-use low.core_invariant.proofs.{took_at, took_count, is_ok, Absorbed, is_done}
+use low.core_invariant.proofs.{Own, Acquire, Act, Stage, Undecided, Decided, ActiveCall, WorkStep, Refuses as refuses_to, Answers, Shape}
+use low.core_invariant.proofs.{reply_of, core_after, told_by, CountsAt, Took, landed, took_at, took_count, is_ok, Absorbed, is_done}
 use low.act_states.specs.{Pinned, pin_after, pin_end, took_act, act_ready, declared.work.Act.Act as ActType}
 use low.act_states.specs.{declared.work.WorkStep.TheVariants.Changes as work_changes}
 use low.call_stages.proofs.{Answering.IsSmall, Answering.IsDrawn, Answering.EndsBy, Answering.none_drawn, Ends.act_ends}
@@ -38,19 +37,15 @@ module _ (own : Own) (a : ActiveCall) where
   Drawn took = OkDrawn (core_after own took).active (told_by took)
 
   landed_drawn : (ws : WorkStep) → IsDrawn ws → Drawn (landed a ws)
-  landed_drawn (Goes work) is = tt
-  landed_drawn (Acquires count work) is = tt
   landed_drawn (refuses_to r tail) is = not_carried ((core_after own (landed a (refuses_to r tail))).active) (reply_of r) (no_ok r)
   landed_drawn (Answers v drawn tail) is = is
   landed_drawn (work_changes (Reply.Ok v) change drawn tail) is = is
-  landed_drawn (work_changes r change drawn tail) is = tt
+  landed_drawn _ is = tt
 
   count_drawn : (core n : ℕ) (change : ℤ) (act : ActType) (pin : Pin) (end : StageEnd Pinned)
       → IsDrawn (took_count core n change act pin end)
   count_drawn core n change act pin StageEnd.Going = tt
-  count_drawn core n change act pin (StageEnd.Decided r) = tt
-  count_drawn core n change act pin (StageEnd.Done p) = tt
-  count_drawn core n change act pin (StageEnd.Refuse r) = tt
+  count_drawn core n change act pin _ = tt
 
   pub acquire_drawn : (pin : Pin) (change : ℤ) (act : ActType) (found : ℕ)
       → Drawn (took_at own a (Undecided (Acquire pin change act)) found)
@@ -63,12 +58,7 @@ module _ (own : Own) (a : ActiveCall) where
   -- where it has acquired a count
   pub stage_drawn : (x : Acquired) → IsAmong x a.counts → (stage : Stage) (found : ℕ) → CountsAt a.counts stage
       → Drawn (took_at own a stage found)
-  stage_drawn x among Enter found counts = absurd (none_among x among counts)
-  stage_drawn x among (Living alive) found counts = absurd (none_among x among counts)
-  stage_drawn x among (Undecided (Lookup look)) found counts = absurd (none_among x among counts)
-  stage_drawn x among (Undecided (Read comp look)) found counts = absurd (none_among x among counts)
-  stage_drawn x among (Undecided (Scan q act)) found counts = absurd (none_among x among counts)
   stage_drawn x among (Undecided (Acquire pin change act)) found counts = acquire_drawn pin change act found
   stage_drawn x among (Undecided (Act act)) found counts = landed_drawn _ (took_drawn own.layout act found)
   stage_drawn x among (Decided r drawn tail) found counts = tt
-  stage_drawn x among (Leave r stamp) found counts = absurd (none_among x among counts)
+  stage_drawn x among _ found counts = absurd (none_among x among counts)

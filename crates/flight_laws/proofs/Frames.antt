@@ -3,7 +3,7 @@ use Rattle.time_laws.specs as low
 use low.kept_facts.proofs.{◌≡◌, ◌≢◌, ◌⊎◌, inl, inr, ℕ, ◌<◌, Bool, true, false, IsTrue, [], ◌∷◌, ◌++◌, Option, Some, None, refl, sym, ◌∙◌}
 use low.kept_facts.proofs.{ap, subst, eq-eqb, eqb-true, false≢true, Setting, IsSetting, InLimits, Call, Retype, Reply, EntryAt, CountAt}
 use low.kept_facts.proofs.{word_of, Frame, FrameOf, State, refs, fits, is_node, Relies, MayReply, ends, opened, MayDecide, MayFollow}
-use low.kept_facts.proofs.{IsLegal, marked_by, is_in, ends_at, ends_in, Step, Trace, Phase, Out, Open, phase, after_enter, after_decide}
+use low.kept_facts.proofs.{IsLegal, marked_by, is_in, ends_at, ends_in, Step, Trace, Phase, Open, phase, after_enter, after_decide}
 use low.kept_facts.proofs.{after_return, state_after, state_before, state_entered, state_decided, state_returned, own_read, run_of}
 use low.kept_facts.proofs.{cases_word, open_inj, sound_of, opened_is, phase-own, phase-other, own_read-here, own_read-there, Invariant}
 use low.kept_facts.proofs.{Core, CallIs, Untyping, move_of, Make as make_call, MayEnter, entered_events, FrameKind, Kind}
@@ -38,18 +38,13 @@ ends_untyping t e f ended = by e.decides refl (after_enter e.enters (phase t e.c
       call = is ∙ ap (λ (n : ℕ). Open (Retype r n FrameKind.Untyped)) (sym (eqb-true f g h));
     }
     by_call (make_call Make.Table r g t b) (Ok v) decides is h = absurd (false≢true h)
-    by_call (make_call Make.Leaf r g t b) (Ok v) decides is h = absurd (false≢true h)
-    by_call (make_call Make.Pages r g t b) (Ok v) decides is h = absurd (false≢true h)
-    by_call (make_call Make.Pleaf r g t b) (Ok v) decides is h = absurd (false≢true h)
     by_call call (Ok v) decides is h = absurd (false≢true h)
-    by_call call r decides is h = absurd (false≢true h)
+    by_call _ _ decides is h = absurd (false≢true h)
 
     by : (o : Option Reply) → e.decides ≡ o → (p : Phase) → after_enter e.enters (phase t e.core) ≡ p → ends_in o p (FrameOf f) ≡ true
         → MakesUntyped t e f
-    by None decides p is h = absurd (false≢true h)
-    by (Some r) decides Out is h = absurd (false≢true h)
     by (Some r) decides (Open call) is h = by_call call r decides is h
-    by (Some r) decides (Decided call q) is h = absurd (false≢true h)
+    by _ decides _ is h = absurd (false≢true h)
 
 pub counted_frames_stay : (setup : Setting) → IsSetting setup → (t : Trace) (e : Step) → IsMade setup (e ∷ t) → CountedFramesStay setup t e
 counted_frames_stay setup setting t e made f is d below c mark = same_core c e.core (sym mark
@@ -262,9 +257,6 @@ module _ (setup : Setting) (setting : IsSetting setup) (t : Trace) (legal : IsLe
 
     by_decision : (o : Option Reply) (p : Phase) → entered ≡ p → MayDecide setup t e o p → ends_in o p (FrameOf f) ≡ false
         → Keeps (state_decided o p before e.core)
-    by_decision None p is may none = record { keeps = relies_before; still = same_before }
-    by_decision (Some r) Out is may none = record { keeps = relies_before; still = same_before }
-    by_decision (Some r) (Decided call q) is may none = record { keeps = relies_before; still = same_before }
     by_decision (Some r) (Open call) is may none =
         let now : IsOpen before (opened (entered_events t e)) e.core = opens setup setting t legal e follows call is in
         let limits : InLimits call = open_limits setup (entered_events t e) e.core call
@@ -275,16 +267,16 @@ module _ (setup : Setting) (setting : IsSetting setup) (t : Trace) (legal : IsLe
           keeps = own_relies before (opened (entered_events t e)) e.core call r now limits permitted f none relies_before;
           still = own_frame before (opened (entered_events t e)) e.core call r now limits permitted f none relies_before.node ∙ same_before;
         }
+    by_decision _ _ is may none = record { keeps = relies_before; still = same_before }
 
     keeps_now : Keeps (state_after setup (e ∷ t))
     keeps_now = subst (λ q. Keeps (state_returned q (state_decided e.decides entered before e.core) e.core)) (sym no_return)
         (by_decision e.decides entered refl follows.decides not_ends)
 
     stays_in : (o : Option Reply) (p : Phase) → is_in p ≡ true → is_in (after_decide o p) ≡ true
-    stays_in None p is = is
-    stays_in (Some r) Out is = is
     stays_in (Some r) (Open call) is = refl
     stays_in (Some r) (Decided call q) is = refl
+    stays_in _ _ is = is
 
     there_own : IsThere setup (e ∷ t) c f x
     there_own = record {

@@ -111,11 +111,10 @@ is_ok_at stage = false
 
 at_stands : (g : ℕ) (at : UntypingAt) (h : Holding) (f k : ℕ) (v : CountWord) → AtHas at f k v
     → (Rattle.time_laws.specs.core_invariant.specs.Frozen.holds_untyping g at h).stands (CountAt f k) ≡ word_of_count (cleared_if false v)
-at_stands g UntypingAt.Load h f k v has = absurd has
-at_stands g (UntypingAt.Mark word x) h f k v has = absurd has
 at_stands g (UntypingAt.Sweep word w) h f k v has =
     thaw_stands (thaw_of (swept_of w) false) false h f k v (thaw_has (swept_of w) false f k v has.0 has.1)
 at_stands g (UntypingAt.Draw word w) h f k v has = thaw_stands (thaw_of w false) false h f k v (thaw_has w false f k v has.0 has.1)
+at_stands g _ h f k v has = absurd has
 
 act_stands : (act : ActOf) (h : Holding) (f k : ℕ) (v : CountWord) → ActHas act f k v
     → (Rattle.time_laws.specs.core_invariant.specs.Invariant.holds_act act h).stands (CountAt f k) ≡ word_of_count (cleared_if false v)
@@ -191,17 +190,15 @@ module _ (own : Own) (a : ActiveCall) (f k : ℕ) (v : CountWord) where
 
   from_act : (m : Untyping) (at : UntypingAt) (found : ℕ) → AtHas at f k v
       → Has (core_after own (landed a (took_untyping_at own.layout m at found))).active
-  from_act m UntypingAt.Load found has = absurd has
-  from_act m (UntypingAt.Mark word x) found has = absurd has
   from_act m (UntypingAt.Sweep word w) found has = from_sweep m word w found has.0 (kept_still w found has.1)
   from_act m (UntypingAt.Draw word w) found has = thaw_has w true f k v has.0 has.1
+  from_act m _ found has = absurd has
 
   undone : (q : Refusal) (g : ℕ) (at : UntypingAt) → AtHas at f k v → TailHas (is_ok (reply_of q)) (untyping_undo g at) f k v
-  undone q g UntypingAt.Load has = absurd has
-  undone q g (UntypingAt.Mark word x) has = absurd has
   undone q g (UntypingAt.Sweep word w) has = refused q (Release (release_of g word (swept_of w) false))
       (thaw_has (swept_of w) false f k v has.0 has.1)
   undone q g (UntypingAt.Draw word w) has = refused q (Release (release_of g word w false)) (thaw_has w false f k v has.0 has.1)
+  undone q g _ has = absurd has
 
   from_count : (core n : ℕ) (change : ℤ) (m : Untyping) (pin : Pin) (end : StageEnd Pinned) → AtHas m.at f k v
       → Has (core_after own (landed a (took_count core n change (untype_act m) pin end))).active

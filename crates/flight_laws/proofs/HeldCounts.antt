@@ -3,13 +3,12 @@
 use Rattle.time_laws.specs as low
 use low.step_ways.proofs.{◌≡◌, ◌≢◌, ◌⊎◌, inl, inr, ℕ, ◌<◌, ◌++◌, ltb as nat_lt, Bool, true, false, if◌then◌else◌, List, [], ◌∷◌, length}
 use low.step_ways.proofs.{Option, Some, None, refl, sym, ◌∙◌, ap, subst, All, false≢true, Setting, IsSetting, Call, Reply, CountAt}
-use low.step_ways.proofs.{marked_by, Trace, phase, last_left, Acquired, AtDraw, PairAt, Own, Untyping}
-use low.step_ways.proofs.{UntypingAt, Untype as untype_act, Tail, Nothing, Quiesce, Release, Push}
-use low.step_ways.proofs.{Pop, Lookup, Read, Scan, Acquire, Act, WorkStep, Goes, Acquires, Refuses, Answers}
-use low.step_ways.proofs.{reply_of, core_after, told_by, CountsAt, landed, took_at, took_tail, Absorbed, ActiveCall, Stage, Enter, Living}
-use low.step_ways.proofs.{Undecided, Decided, Leave, Core, Holding, committed, count_of, holds_counts, settled, settled_by, Invariant}
-use low.step_ways.proofs.{done_by, held_by, holds_at, holds_in, holds_tail, is_done, KnowsAct, KnowsAt, KnowsTail, phase_at}
-use low.step_ways.proofs.{KnowsUntypingAt, first_marked, first_stands, call_is, same_marks, plan_for}
+use low.step_ways.proofs.{marked_by, Trace, phase, last_left, Acquired, AtDraw, PairAt, Own, Untyping, UntypingAt, Untype as untype_act}
+use low.step_ways.proofs.{Tail, Nothing, Quiesce, Release, Push, Pop, Acquire, Act, WorkStep, Goes, Acquires, Refuses, Answers, reply_of}
+use low.step_ways.proofs.{core_after, told_by, CountsAt, landed, took_at, took_tail, Absorbed, ActiveCall, Stage, Enter, Undecided, Decided}
+use low.step_ways.proofs.{Core, Holding, committed, count_of, holds_counts, settled, settled_by, Invariant, done_by, held_by, holds_at}
+use low.step_ways.proofs.{holds_in, holds_tail, is_done, KnowsAct, KnowsAt, KnowsTail, phase_at, KnowsUntypingAt, first_marked}
+use low.step_ways.proofs.{first_stands, call_is, same_marks, plan_for}
 use low.act_states.specs.{declared.work.Act.Act as ActOf, declared.work.Tail.TheVariants.Share, declared.work.WorkStep.TheVariants.Changes}
 use low.count_invariant.proofs.ActHolds.{SparesAt, SparesSwept, act_count}
 use low.{core_invariant.proofs.AreApart, core_invariant.proofs.release_away, kernel_history.specs.Bounds.call_in}
@@ -74,15 +73,7 @@ tail_count setup t c call counts (Share p) h f k knows spares = by p.at
   where
     by : (at : PairAt) → (holds_tail (Share (record p { at = at })) h).stands (CountAt f k) ≡ h.stands (CountAt f k)
     by PairAt.LoadA = refl
-    by PairAt.MarkA = refl
-    by (PairAt.ListA n) = refl
-    by PairAt.LoadB = refl
-    by (PairAt.ListB n) = refl
-    by PairAt.CompareB = refl
-    by (PairAt.AgainB r) = refl
-    by (PairAt.StoreList n) = refl
-    by PairAt.StoreB = refl
-    by (PairAt.StoreA moved v) = refl
+    by _ = refl
 tail_count setup t c call counts tail h f k knows spares = refl
 
 module _ (setup : Setting) (setting : IsSetting setup) (cores : ℕ → Core) (t : Trace) (stands : Invariant setup cores t) (c : ℕ)
@@ -100,10 +91,7 @@ module _ (setup : Setting) (setting : IsSetting setup) (cores : ℕ → Core) (t
       → KnowsUntypingAt setup t c m.frame at → SparesAt at x.pin.frame
   spares_at m UntypingAt.Load untypes not knows = tt
   spares_at m (UntypingAt.Mark word v) untypes not knows = tt
-  spares_at m (UntypingAt.Sweep word w) untypes not knows =
-      λ same. not (subst (UntypesFrame a.call) (sym (same ∙ knows.frame)) untypes)
-  spares_at m (UntypingAt.Draw word w) untypes not knows =
-      λ same. not (subst (UntypesFrame a.call) (sym (same ∙ knows.frame)) untypes)
+  spares_at m _ untypes not knows = λ same. not (subst (UntypesFrame a.call) (sym (same ∙ knows.frame)) untypes)
 
   spares_act : (act : ActOf) → KnowsAct setup t c a.call (plan_for a.call) a.found setup.cores act → (UntypesFrame a.call x.pin.frame → ⊥)
       → SparesSwept act x.pin.frame
@@ -124,10 +112,6 @@ module _ (setup : Setting) (setting : IsSetting setup) (cores : ℕ → Core) (t
 
   stage_stands : (stage : Stage) → a.stage ≡ stage → KnowsAt setup t c (cores c).own.table a stage → StandsAt stage
   stage_stands Enter is has = absurd has
-  stage_stands (Living alive) is has = its_stands None
-  stage_stands (Undecided (Lookup look)) is has = its_stands None
-  stage_stands (Undecided (Read comp look)) is has = its_stands None
-  stage_stands (Undecided (Scan q act)) is has = its_stands None
   stage_stands (Undecided (Acquire pin change act)) is has =
       (act_count act (holds_counts None a.counts) x.pin.frame x.pin.core
       (spares_act act has.knows.knows (its_call (Undecided (Acquire pin change act)) is refl))).1 ∙ its_stands None
@@ -137,7 +121,7 @@ module _ (setup : Setting) (setting : IsSetting setup) (cores : ℕ → Core) (t
   stage_stands (Decided r drawn tail) is has =
       tail_count setup t c a.call a.counts tail (holds_counts (done_by r drawn) a.counts) x.pin.frame x.pin.core has
       (spares_tail tail has (its_call (Decided r drawn tail) is refl)) ∙ its_stands (done_by r drawn)
-  stage_stands (Leave r at) is has = its_stands None
+  stage_stands _ is has = its_stands None
 
   -- so what the word settles to is what the commit stores
   pub count_settles : marked_by setup t (count_of x) ≡ Some c
@@ -201,13 +185,8 @@ module _ (own : Own) (a : ActiveCall) (x : Acquired) (among : IsAmong x a.counts
   pub stage_holds : (stage : Stage) (found : ℕ) → CountsAt a.counts stage → NotCommitted stage
       → NotBack (told_by (took_at own a stage found))
       → HoldsStill (core_after own (took_at own a stage found)).active x (is_done stage) (told_by (took_at own a stage found))
-  stage_holds Enter found counts first back = absurd (none_among counts)
-  stage_holds (Living alive) found counts first back = absurd (none_among counts)
-  stage_holds (Undecided (Lookup look)) found counts first back = absurd (none_among counts)
-  stage_holds (Undecided (Read comp look)) found counts first back = absurd (none_among counts)
-  stage_holds (Undecided (Scan q act)) found counts first back = absurd (none_among counts)
   stage_holds (Undecided (Acquire pin change act)) found counts first back = landed_holds _
   stage_holds (Undecided (Act act)) found counts first back = landed_holds _
   stage_holds (Decided r drawn tail) found counts first back =
       let held = tail_holds r drawn tail a.counts found among first in (held.0, λ not. held.1)
-  stage_holds (Leave r stamp) found counts first back = absurd (none_among counts)
+  stage_holds _ found counts first back = absurd (none_among counts)

@@ -2,7 +2,7 @@
 use Rattle.time_laws.specs as low
 use low.step_ways.proofs.{to_use, ◌≡◌, ◌&&◌, ℕ, leb as nat_le, length, not, [], ◌∷◌, ◌++◌, Bool, true, false, if◌then◌else◌, Option, Some}
 use low.step_ways.proofs.{None, refl, sym, ◌∙◌, ap, subst, eqb-true, false≢true, Capability, Setting, IsSetting, Call, Value, Liveness}
-use low.step_ways.proofs.{Unused, Live, Dead, State, comp_in, thread_of, Named, found, only, Found, Rule, Does, IsFoundAnd, and_then}
+use low.step_ways.proofs.{Live, Dead, State, comp_in, thread_of, Named, found, only, Found, Rule, Does, IsFoundAnd, and_then}
 use low.step_ways.proofs.{first_of, named, outcome, unless, is_live_in, MayReply, after, IsRun, events_of, MayDecide, MayFollow, Step}
 use low.step_ways.proofs.{Trace, Open, phase, after_enter, state_before, state_entered, state_after, state_is, run_of, open_inj, Invariant}
 use low.step_ways.proofs.{does, Kind, Reply}
@@ -54,9 +54,8 @@ record LivesIn (x : Liveness) (epoch : ℕ) : Type 0 where
   is : x ≡ Live epoch frame
 
 lives_in : (x : Liveness) (epoch : ℕ) → is_live_in x epoch ≡ true → LivesIn x epoch
-lives_in Unused epoch h = absurd (false≢true h)
 lives_in (Live e f) epoch h = record { frame = f; is = ap (λ (n : ℕ). Live n f) (eqb-true e epoch h) }
-lives_in (Dead e) epoch h = absurd (false≢true h)
+lives_in _ epoch h = absurd (false≢true h)
 
 -- An entry leaves the numbers.
 entered_number : (o : Option Call) (s : State) (c l : ℕ) → (state_entered o s c).number l ≡ s.number l

@@ -2,8 +2,8 @@
 use Rattle.time_laws.specs.kernel_history.proofs as low
 use low.{◌≡◌, ◌⊎◌, inl, inr, ℕ, ◌≤◌, true, false, List, [], ◌∷◌, ◌++◌, length, Option, Some, None, refl, sym, ◌∙◌, ap, subst, false≢true}
 use low.{Setting, IsSetting, Call, Touch, Reply, Translation, User, State, comp_of, translation_of, state_by, IsRun, put_same, events_of}
-use low.{IsLegal, flushes_in, Step, Phase, Out, phase, after_enter, state_after, state_before, state_entered, state_decided, state_returned}
-use low.{state_is, run_of, Core, with_decision, Decided, entered_events, before_is, decided_run}
+use low.{IsLegal, flushes_in, Step, Phase, phase, after_enter, state_after, state_before, state_entered, state_decided, state_returned}
+use low.{state_is, run_of, Core, with_decision, entered_events, before_is, decided_run}
 use Rattle.time_laws.specs.state_laws.specs.{Stands, Begins, Answers}
 use Rattle.time_laws.specs.kernel_rules.specs.{Page, returned, MayDecide}
 use Rattle.time_laws.specs.flight.proofs.{Trace, Open, IsMade}
@@ -33,11 +33,9 @@ returned_begins (Some r) s d c = put_all (λ c x. Begins (s.core c).cached x.cac
 
 decided_begins : (o : Option Reply) (p : Phase) (s : State) (d c : ℕ) → (c ≡ d → flushes_in o p ≡ false)
     → Begins (s.core c).cached ((state_decided o p s d).core c).cached
-decided_begins None p s d c none = begins_same (s.core c).cached
-decided_begins (Some r) Out s d c none = begins_same (s.core c).cached
 decided_begins (Some r) (Open call) s d c none =
     (decided_keeps s d call r).each c (λ flushing same. false≢true (sym (none same) ∙ flushing))
-decided_begins (Some r) (Decided call q) s d c none = begins_same (s.core c).cached
+decided_begins _ _ s d c none = begins_same (s.core c).cached
 
 trace_begins : (setup : Setting) (u t : Trace) (c : ℕ) → FlushesNone c u t
     → Begins ((state_after setup t).core c).cached ((state_after setup (u ++ t)).core c).cached

@@ -1,28 +1,27 @@
 -- What an undecided call has found held stays usable; and whom a scan has passed is waited for no longer.
 use Rattle.time_laws.specs as low
-use low.core_invariant.proofs.{AtComp, AtLive, ◌≡◌, ◌≢◌, ◌⊎◌, inl, inr, ℕ, ◌<◌, ◌/◌, ◌&&◌, Bool, true, false, IsTrue, cond, [], ◌∷◌, ◌++◌}
-use low.core_invariant.proofs.{Option, Some, None, refl, sym, ◌∙◌, ap, subst, is_some, eqb-true, false≢true, Capability, Setting, IsSetting}
-use low.core_invariant.proofs.{Call, Reply, Entry, Held, entry_of_word, core_of_word, Word, EntryAt, CoreAt, Move, LoadOf, CompareOf}
-use low.core_invariant.proofs.{StoreOf, AddOf, word_of, left_of, told_of, IsIn, Thing, PlaceOf, Frame, Kernel, Tcap, Comp, Thread, State}
-use low.core_invariant.proofs.{fits, Target, Under, InRoot, usable_in, is_node, Relies, Charge, some_inj, put_same, put_other, Step, Trace}
-use low.core_invariant.proofs.{Phase, Out, Open, phase, after_enter, after_decide, after_return, state_after, last_left, own_read}
-use low.core_invariant.proofs.{KeepsTime, IsLegal, MayFollow, stamp, clock, exit_of, is_in, cases_word, phase-own, phase-other}
-use low.core_invariant.proofs.{own_read-here, own_read-there, last_left-here, look_move, Look, AtRoot, AtLeaf, AtEntry, AtCompare, AtDraw}
-use low.core_invariant.proofs.{AtStore, AtCore, AtFlush, Next, NextName, NextFree, NextHeld, NextOwn, NextNothing, next_of, Own, Fill}
-use low.core_invariant.proofs.{Outside, Untype, MakeComp, Invoke, Return, CompAt, CompMaking, InvokingAt, ReturningAt, Switching, SwitchAt}
-use low.core_invariant.proofs.{Pair, PairAt, KillingAt, LoadComp, LoadLive, MakingAt, NewObject, Untyping, Work, Lookup, Read, Scan}
-use low.core_invariant.proofs.{Acquire, Act, Stage, Enter, Living, Undecided, Decided, Leave, ActiveCall, stage_move, absorbed, absorbed_in}
-use low.core_invariant.proofs.{told_in, Core, decided_in, returned_in, IsSpot, LooksUp, own_in, LooksFor, ChargesBy, KnowsWork, KnowsAt}
-use low.core_invariant.proofs.{CallIs, phase_at, HasTcap, KnowsPairAt, HasThread, claimed_by, limits_of, AtLoad as charge_load, Remove}
-use low.core_invariant.proofs.{Retype, Make, Tick as tick_act, Flush, Kill, Map as map_act, Touch, Share, Refill as refill_act, Switch}
-use low.core_invariant.proofs.{Typing, TypingAt, Close as kill_close, Draw as kill_draw, Absorbed, move_in, move_of, told_of_step}
-use low.core_invariant.proofs.{KnowsClose, HasComp, plan_for, Kind, Claim}
+use low.core_invariant.proofs.{AtComp, ◌≡◌, ◌≢◌, ◌⊎◌, inl, inr, ℕ, ◌<◌, ◌/◌, ◌&&◌, Bool, true, false, IsTrue, cond, [], ◌∷◌, ◌++◌, Option}
+use low.core_invariant.proofs.{Some, None, refl, sym, ◌∙◌, ap, subst, is_some, eqb-true, false≢true, Capability, Setting, IsSetting, Call}
+use low.core_invariant.proofs.{Reply, Entry, Held, entry_of_word, core_of_word, Word, EntryAt, CoreAt, Move, StoreOf, AddOf, word_of}
+use low.core_invariant.proofs.{left_of, told_of, IsIn, Thing, PlaceOf, Frame, Kernel, Tcap, Comp, Thread, State, fits, Target, Under}
+use low.core_invariant.proofs.{InRoot, usable_in, is_node, Relies, Charge, some_inj, put_same, put_other, Step, Trace, Phase, Out, Open}
+use low.core_invariant.proofs.{phase, after_enter, after_decide, after_return, state_after, last_left, own_read, KeepsTime, IsLegal}
+use low.core_invariant.proofs.{MayFollow, stamp, clock, exit_of, is_in, cases_word, phase-own, phase-other, own_read-here, own_read-there}
+use low.core_invariant.proofs.{last_left-here, look_move, Look, AtRoot, AtLeaf, AtEntry, AtCompare, AtDraw, AtStore, AtCore, Next, NextName}
+use low.core_invariant.proofs.{NextFree, NextHeld, next_of, Own, Fill, Outside, Untype, MakeComp, Invoke, Return, CompAt, CompMaking}
+use low.core_invariant.proofs.{InvokingAt, ReturningAt, Switching, SwitchAt, Pair, PairAt, KillingAt, LoadComp, LoadLive, MakingAt}
+use low.core_invariant.proofs.{NewObject, Untyping, Work, Lookup, Read, Scan, Acquire, Act, Stage, Enter, Living, Undecided, Leave}
+use low.core_invariant.proofs.{ActiveCall, stage_move, absorbed, absorbed_in, told_in, Core, decided_in, returned_in, IsSpot, LooksUp}
+use low.core_invariant.proofs.{own_in, LooksFor, ChargesBy, KnowsWork, KnowsAt, CallIs, phase_at, HasTcap, KnowsPairAt, HasThread}
+use low.core_invariant.proofs.{claimed_by, limits_of, AtLoad as charge_load, Remove, Retype, Make, Tick as tick_act, Kill, Touch, Share}
+use low.core_invariant.proofs.{Refill as refill_act, Switch, Typing, TypingAt, Absorbed, move_in, move_of, told_of_step, KnowsClose}
+use low.core_invariant.proofs.{HasComp, plan_for, Kind, Claim}
 use low.act_states.specs.{Closing, CoreWord, Tick, AtLoad, Close, charge_move, close_move, typing_at, comp_at, invoking_at, returning_at}
 use low.act_states.specs.{switching_at, Refill, RefillAt, killing_at, making_at}
 use low.step_ways.proofs.{sound_of, opened_is, Invariant, slot_relies, Compare as type_compare, IsMarked, IsUnmarked, place_reads}
 use low.flight.specs.{turned, MayStep, core_after, cores_after, stepping_core, IsMadeStep, IsMade}
 use low.core_invariant.specs.{KnowsRefillAt, HasLoadedBelow, KnowsSwitchAt}
-use low.kernel_history.specs.{Decided as decided_phase, reads, only_reads}
+use low.kernel_history.specs.{reads, only_reads}
 use low.stage_tcap.specs.{Comp as comp_kind, move_at, refill_move_at}
 use low.trace_laws.proofs.{out_passed, later_passed, relies_reached}
 use low.trace_laws.proofs.Stays.{Stays, stays_other, stays_plain, state_plain}
@@ -34,7 +33,7 @@ use Rattle.{std.proofs.lemmas.Bool.cases_lt, std.proofs.lemmas.Bool.cases_eq, fl
 use low.{history_laws.specs.PlacesFound, history_laws.specs.ScannedCores, kernel_invariant.proofs.Facts.none_some}
 use low.{act_states.specs.declared.typings.TypingAt.TheVariants.Load, act_states.specs.declared.fills.Fill.Fill as FillOf}
 use low.{kernel_rules.specs.Relies.is_fixed, stage_tcap.specs.declared.charge.Charge.TheVariants.AtCompare as charge_compare}
-use low.{kernel_history.proofs.Steps.own_read-other, stage_pins.specs.declared.pin.Pin.TheVariants.AtCompare as pin_compare}
+use low.{kernel_history.proofs.Steps.own_read-other}
 use low.{call_stages.specs.Steps.work_move, thread_invariant.proofs.OwnStack.top_comp, kept_facts.proofs.Claimed.guarded_thread}
 use low.{kept_facts.proofs.Tcaps.tcap_stays, count_invariant.proofs.Lookups.leaf_reached, place_invariant.proofs.Removals.holds_place}
 
@@ -52,9 +51,8 @@ pub record WasOpen (decides returns : Option Reply) (p : Phase) (call : Call) : 
 pub was_open : (d r : Option Reply) (p : Phase) (call : Call) → after_return r (after_decide d p) ≡ Open call → WasOpen d r p call
 was_open None None p call is = record { no_decision = refl; no_return = refl; before = is }
 was_open (Some q) None Out call is = absurd (cc)
-was_open (Some q) None (Open other) call is = absurd (cc)
-was_open (Some q) None (decided_phase other v) call is = absurd (cc)
 was_open d (Some r) p call is = absurd (cc)
+was_open _ _ _ call is = absurd (cc)
 
 -- The word is of the temporal capability of core c.
 abbrev pub IsOwnTcap : Setting → Trace → ℕ → ℕ → Type 0
@@ -97,18 +95,15 @@ module _ (setup : Setting) (setting : IsSetting setup) (t : Trace) (cores : ℕ 
   by_look (Under table n) (AtLeaf leaf number) looks on = of_frame leaf _ on
       (relies_reached setup setting t stands.legal c call is_open table n _
       (leaf_reached (state_after setup t) c table n leaf looks.at.found looks.at.within looks.at.link))
-  by_look (Under table n) (AtEntry root index) looks on = absurd looks.at
-  by_look (InRoot table j) (AtRoot root number) looks on = absurd looks.at
-  by_look (InRoot table j) (AtLeaf leaf number) looks on = absurd looks.at
   by_look (InRoot table j) (AtEntry root index) looks on =
       of_frame root index on (subst (Relies (state_after setup t) c) looks.at.frame looks.relies)
+  by_look _ _ looks on = absurd looks.at
 
   by_next : (table : ℕ) (next : Next) (look : Look) → LooksFor setup t c table next look → word_of (look_move look) ≡ EntryAt f i → Rests
   by_next table (NextName n wanted) look looks on = by_look (own_in table n) look looks on
   by_next table (NextFree target) look looks on = by_look target look looks on
   by_next table (NextHeld target) look looks on = by_look target look looks on
-  by_next table (NextOwn v) look looks on = absurd looks
-  by_next table NextNothing look looks on = absurd looks
+  by_next table _ look looks on = absurd looks
 
   by_close : (a : ActiveCall) (close : Close) (cap : Capability) → KnowsClose setup t c a.call (plan_for a.call) a.found close cap
       → word_of (close_move close) ≡ EntryAt f i → Rests
@@ -124,11 +119,10 @@ module _ (setup : Setting) (setting : IsSetting setup) (t : Trace) (cores : ℕ 
   by_making : (a : ActiveCall) (g : ℕ) (object : NewObject) (core : ℕ) (fill : FillOf) (at : MakingAt)
       → IsSpot setup t c (plan_for a.call) a.found setup.cores fill.node fill.entry fill.word
       → word_of (making_at g object core fill at) ≡ EntryAt f i → reads (making_at g object core fill at) ≡ true → Rests
-  by_making a g object core fill MakingAt.Load spot on read = absurd (cc)
-  by_making a g object core fill (MakingAt.Mark word) spot on read = absurd (cc)
   by_making a g object core fill (MakingAt.Store word entry) spot on read = absurd (false≢true read)
   by_making a g object core fill (MakingAt.Fill word) spot on read = of_frame fill.node fill.entry on
       (slot_relies setup setting t stands.legal c call is_open spot.target (record { node = fill.node; index = fill.entry }) spot.way)
+  by_making a g object core fill _ spot on read = absurd (cc)
 
   -- the word is of the core's own thread, of a component, or of a thread or a temporal capability that the call guards
   of_comp : (g j : ℕ) → EntryAt g j ≡ EntryAt f i → HasComp (state_after setup t) c g → Rests
@@ -161,13 +155,11 @@ module _ (setup : Setting) (setting : IsSetting setup) (t : Trace) (cores : ℕ 
   by_sharing p PairAt.LoadA a b at on = of_tcap p.a 0 on a
   by_sharing p PairAt.MarkA a b at on = of_tcap p.a 0 on a
   by_sharing p (PairAt.ListA n) a b at on = of_tcap p.a n on a
-  by_sharing p PairAt.LoadB a b at on = of_tcap p.b 0 on b
   by_sharing p (PairAt.ListB n) a b at on = of_tcap p.b n on b
-  by_sharing p PairAt.CompareB a b at on = of_tcap p.b 0 on b
-  by_sharing p (PairAt.AgainB r) a b at on = of_tcap p.b 0 on b
   by_sharing p (PairAt.StoreList n) a b at on = absurd at
   by_sharing p PairAt.StoreB a b at on = absurd at
   by_sharing p (PairAt.StoreA moved v) a b at on = absurd at
+  by_sharing p _ a b at on = of_tcap p.b 0 on b
 
   by_switching : (m : Switching) (at : SwitchAt) → HasThread (state_after setup t) c (claimed_by at) → KnowsSwitchAt setup t c at
       → word_of (switching_at m at) ≡ EntryAt f i → reads (switching_at m at) ≡ true → Rests
@@ -187,29 +179,21 @@ module _ (setup : Setting) (setting : IsSetting setup) (t : Trace) (cores : ℕ 
 
   by_refill : (r : Refill) (at : RefillAt) → HasTcap (state_after setup t) c r.tcap → KnowsRefillAt setup t c r at
       → word_of (refill_move_at r at) ≡ EntryAt f i → Rests
-  by_refill r RefillAt.Load has at on = of_tcap r.tcap 0 on has
   by_refill r (RefillAt.List n) has at on = of_tcap r.tcap n on has
-  by_refill r RefillAt.Compare has at on = of_tcap r.tcap 0 on has
-  by_refill r RefillAt.Again has at on = of_tcap r.tcap 0 on has
+  by_refill r _ has at on = of_tcap r.tcap 0 on has
 
   by_killing : (g core : ℕ) (at : KillingAt) → HasComp (state_after setup t) c g → word_of (killing_at g core at) ≡ EntryAt f i → Rests
   by_killing g core LoadComp comp on = inr (inr (inl (subst (HasComp (state_after setup t) c) (ap frame_in on) comp)))
-  by_killing g core (LoadLive life) comp on = absurd (cc)
-  by_killing g core (kill_close life word) comp on = absurd (cc)
-  by_killing g core (kill_draw life word) comp on = absurd (cc)
+  by_killing g core _ comp on = absurd (cc)
 
   by_comp : (a : ActiveCall) (m : CompMaking) (at : CompAt)
       → IsSpot setup t c (plan_for a.call) a.found setup.cores m.fill.node m.fill.entry m.fill.word
       → word_of (comp_at m at) ≡ EntryAt f i → reads (comp_at m at) ≡ true → Rests
-  by_comp a m CompAt.Load spot on read = absurd (cc)
-  by_comp a m (CompAt.Mark word) spot on read = absurd (cc)
-  by_comp a m (CompAt.LoadLive word) spot on read = absurd (cc)
   by_comp a m (CompAt.Scan word last (AtCore x by at page)) spot on read = absurd (cc)
-  by_comp a m (CompAt.Scan word last (AtFlush x at)) spot on read = absurd (cc)
-  by_comp a m (CompAt.Close word last) spot on read = absurd (cc)
   by_comp a m (CompAt.Store word last entry) spot on read = absurd (false≢true read)
   by_comp a m (CompAt.Fill word last) spot on read = of_frame m.fill.node m.fill.entry on
       (slot_relies setup setting t stands.legal c call is_open spot.target (record { node = m.fill.node; index = m.fill.entry }) spot.way)
+  by_comp a m _ spot on read = absurd (cc)
 
   some_act : (m : Untyping) → Some m ≡ None → ⊥
   some_act m h = cc
@@ -219,20 +203,16 @@ module _ (setup : Setting) (setting : IsSetting setup) (t : Trace) (cores : ℕ 
   by_work table a (Lookup look) has on read none = by_next table (next_of (plan_for a.call) a.found) look has.looks on
   by_work table a (Read g look) has on read none = inr (inr (inl (subst (HasComp (state_after setup t) c) (ap frame_in on) has.comp)))
   by_work table a (Scan (AtCore at by upto page) act) has on read none = absurd (cc)
-  by_work table a (Scan (AtFlush at upto) act) has on read none = absurd (cc)
   by_work table a (Acquire (AtLoad frame core) change act) has on read none = absurd (cc)
-  by_work table a (Acquire (pin_compare frame core count stamp) change act) has on read none = absurd (cc)
   by_work table a (Act (Fill fill)) has on read none = of_frame fill.node fill.entry on
       (slot_relies setup setting t stands.legal c call is_open has.knows.target (record { node = fill.node; index = fill.entry })
       has.knows.way)
   by_work table a (Act (Remove close cap)) has on read none = by_close a close cap has.knows on
   by_work table a (Act (Retype typing)) has on read none = by_typing typing.frame typing typing.at on
   by_work table a (Act (Make m)) has on read none = by_making a m.frame m.object m.core m.fill m.at has.knows.spot on read
-  by_work table a (Act (map_act fill)) has on read none = absurd (cc)
   by_work table a (Act (Outside node entry word)) has on read none = absurd (false≢true has.goes)
   by_work table a (Act (tick_act charge)) has on read none = by_charge a.call charge has.knows.charges on
   by_work table a (Act (Touch m)) has on read none = by_look (own_in m.pages m.page) m.look has.knows.looks on
-  by_work table a (Act (Flush core)) has on read none = absurd (cc)
   by_work table a (Act (Kill m)) has on read none = by_killing m.comp m.core m.at has.knows.comp on
   by_work table a (Act (Untype m)) has on read none = absurd (some_act m none)
   by_work table a (Act (Share p)) has on read none = by_sharing p p.at has.knows.tcap_a has.knows.tcap_b has.knows.at on
@@ -241,6 +221,7 @@ module _ (setup : Setting) (setting : IsSetting setup) (t : Trace) (cores : ℕ 
   by_work table a (Act (MakeComp m)) has on read none = by_comp a m m.at has.knows.spot on read
   by_work table a (Act (Invoke m)) has on read none = by_invoking m.comp m.at has.knows.comp on
   by_work table a (Act (Return m)) has on read none = by_returning m.thread m.depth m.at has.knows.on.thread has.knows.at on
+  by_work table a _ has on read none = absurd (cc)
 
   by_stage : (table : ℕ) (own : Own) (a : ActiveCall) (stage : Stage) → phase_at a.call stage ≡ Open call
       → KnowsAt setup t c table a stage
@@ -249,10 +230,8 @@ module _ (setup : Setting) (setting : IsSetting setup) (t : Trace) (cores : ℕ 
   by_stage table own a Enter is has on read none = absurd has
   by_stage table own a (Living (AtComp comp)) is has on read none =
       of_comp comp 2 on (subst (HasComp (state_after setup t) c) (sym has.at) (top_comp setup setting t stands.legal c is_core))
-  by_stage table own a (Living (AtLive life)) is has on read none = absurd (cc)
   by_stage table own a (Undecided work) is has on read none = by_work table a work has.knows on read none
-  by_stage table own a (Decided r drawn tail) is has on read none = absurd (cc)
-  by_stage table own a (Leave r x) is has on read none = absurd (cc)
+  by_stage table own a _ is has on read none = absurd (cc)
 
   pub step_relies : (table : ℕ) (own : Own) (o : Option ActiveCall) → CallIs setup t c table o → word_of (move_in own o) ≡ EntryAt f i
       → reads (move_in own o) ≡ true → untyping_now o ≡ None → Rests
@@ -283,10 +262,9 @@ has_read e w false is h = absurd (none_some w h)
 
 -- What a step on a word that it reads is told.
 told_read : (move : Move) → reads move ≡ true → (x : ℕ) → told_of move x ≡ x
-told_read (LoadOf w) is x = refl
-told_read (CompareOf w expected new) is x = refl
 told_read (StoreOf w new) is x = absurd (false≢true is)
 told_read (AddOf w by) is x = absurd (false≢true is)
+told_read _ is x = refl
 
 -- What an entry holds.
 record HeldIn (o : Option Entry) : Type 0 where
@@ -295,8 +273,7 @@ record HeldIn (o : Option Entry) : Type 0 where
 
 held_in : (o : Option Entry) → is_held o ≡ true → HeldIn o
 held_in (Some (Held k)) h = record { cap = k; is = refl }
-held_in None h = absurd (false≢true h)
-held_in (Some x) h = absurd (false≢true h)
+held_in _ h = absurd (false≢true h)
 
 -- What a call had read before a step that leaves it so; and that step begins no call.
 pub entered_none : (o : Option Call) (r : Option ℕ) (w : ℕ) → cond (is_some o) None r ≡ Some w → (o ≡ None) × (r ≡ Some w)
@@ -337,8 +314,7 @@ beside_no_node s c f own (inr (inr has)) = tcap_no_node (s.frame f) has.tcap
 -- A step that neither decides nor returns goes on.
 going_told : (said : Absorbed) → decided_in said ≡ None → returned_in said ≡ None → said ≡ Absorbed.Going
 going_told Absorbed.Going d r = refl
-going_told (Absorbed.Decided q) d r = absurd (cc)
-going_told (Absorbed.Returned q) d r = absurd (cc)
+going_told _ d r = absurd (cc)
 
 module _ (setup : Setting) (setting : IsSetting setup) where
   goes_on_told : (t : Trace) (e : Step) → IsMadeStep setup t e → e.decides ≡ None → e.returns ≡ None

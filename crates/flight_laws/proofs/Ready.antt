@@ -1,21 +1,19 @@
 -- A step of a machine decides where its core is ready, and refuses where it is not: the laws of calls at the cores that stand for a trace.
 use Rattle.time_laws.specs.flight.proofs.{◌≡◌, ℕ, true, false, ◌∷◌, Option, Some, None, refl, sym, ◌∙◌, ap, subst, IsSome, false≢true}
-use Rattle.time_laws.specs.flight.proofs.{Setting, IsSetting, Call, Reply, told_of, Step, Trace, Open, phase, Own, Stage, Enter, Living}
-use Rattle.time_laws.specs.flight.proofs.{Undecided, Leave, move_of, told_in, told_by, told_of_step, Took, GoesOn, Decides, Returns}
-use Rattle.time_laws.specs.flight.proofs.{Changes, took, Core, decided_in, CallIs, phase_at, turned, MayStep, cores_after, IsMade}
+use Rattle.time_laws.specs.flight.proofs.{Setting, IsSetting, Call, Reply, told_of, Step, Trace, Open, phase, Own, Stage, Leave, move_of}
+use Rattle.time_laws.specs.flight.proofs.{told_in, told_by, told_of_step, Took, GoesOn, Decides, Returns, Changes, took, Core, decided_in}
+use Rattle.time_laws.specs.flight.proofs.{CallIs, phase_at, turned, MayStep, cores_after, IsMade, CoreFits.begun_fits, Made.made_stands}
 use Rattle.time_laws.specs.core_invariant.specs.{Decided, ActiveCall, fresh, begun, CallFits, CoreIs}
 use Rattle.time_laws.specs.history_laws.specs.{ReadyDecides, UnreadyRefuses}
 use Rattle.time_laws.specs.call_stages.specs.{Cores.ready_in, Laws.reply_at, Laws.Refuses, Laws.IsDecision}
-use Rattle.time_laws.specs.flight.proofs.{CoreFits.begun_fits, Made.made_stands}
 use Rattle.{time_laws.specs.flight.proofs.ready_after, time_laws.specs.kernel_rules.specs.Laws.IsRefusal}
 use Rattle.time_laws.specs.call_stages.proofs.Decisions as decisions
 
 -- What a core tells of a step that led to this.
 decision_told : (k : Took) → IsDecision k → IsSome (decided_in (told_by k))
-decision_told (GoesOn a) is = absurd is
 decision_told (Decides r a) is = refl
-decision_told (Returns r x) is = absurd is
 decision_told (Changes r change a) is = refl
+decision_told _ is = absurd is
 
 refusal_told : (k : Took) (r : Reply) → Refuses k → decided_in (told_by k) ≡ Some r → IsRefusal r
 refusal_told k r refuses told = by k refuses told
@@ -34,11 +32,9 @@ refusal_told k r refuses told = by k refuses told
 
 -- A call that is in this phase is not decided.
 undecided_at : (call other : Call) (s : Stage) → Open other ≡ phase_at call s → reply_at s ≡ None
-undecided_at call other Enter is = refl
-undecided_at call other (Living alive) is = refl
-undecided_at call other (Undecided work) is = refl
 undecided_at call other (Decided r drawn tail) is = absurd (cc)
 undecided_at call other (Leave r x) is = absurd (cc)
+undecided_at call other _ is = refl
 
 module _ (setup : Setting) (setting : IsSetting setup) (t : Trace) (e : Step) (made : IsMade setup (e ∷ t)) where
   abbrev core : Core

@@ -5,7 +5,7 @@ use low.kept_facts.proofs.{◌≡◌, ◌≢◌, ℕ, pos, ◌+ℤ◌, ◌<◌, 
 use low.kept_facts.proofs.{sym, ◌∙◌, ap, subst, false≢true, true≢false, eq-eqb, ne_eqb, eqb-true, Setting, IsSetting, Call, Retype, Reply}
 use low.kept_facts.proofs.{count_of_word, word_of_count, residue, CountWord, Hold, Pinned, Closed, Word, CountAt, AddOf, CompareOf, LoadOf}
 use low.kept_facts.proofs.{Move, StoreOf, word_of, refs, put_other, counters, count_at, count_in, count_sum, counts_references, marked_by}
-use low.kept_facts.proofs.{count_mark, hold_mark, Step, Trace, Phase, Out, Open, phase, after_enter, after_decide, state_after, last_left}
+use low.kept_facts.proofs.{count_mark, hold_mark, Step, Trace, Phase, Out, phase, after_enter, after_decide, state_after, last_left}
 use low.kept_facts.proofs.{last_left-there, unheld, Absorbed, Stage, decided_in, committed, settled_by, Invariant, count_shown, holds}
 use low.kept_facts.proofs.{held_by, is_done, phase_at, limits_of, refs_residue, counter_once, FrameKind}
 use low.kernel_history.specs.{◌-ℤ◌, Unheld, call_in, MayMove, may_count, Decided}
@@ -33,29 +33,23 @@ unheld_shows n v shows = let fits = (counts.spelling.spells n v shows).0 in
 
 -- A call that is not carried out is not done.
 pub undone : (call : Call) (stage : Stage) → is_carried_out (phase_at call stage) ≡ false → is_done stage ≡ None
-undone call Stage.Enter not = refl
-undone call (Stage.Living alive) not = refl
-undone call (Stage.Undecided work) not = refl
 undone call (Stage.Decided (Reply.Ok x) drawn tail) not = absurd (true≢false not)
-undone call (Stage.Decided r drawn tail) not = refl
-undone call (Stage.Leave r at) not = refl
+undone call _ not = refl
 
 -- A call that makes the frame untyped has cleared it where it is carried out.
 pub cleared_is : (f : ℕ) (p : Phase) → Untypes f p → has_cleared f p ≡ is_carried_out p
-cleared_is f Out is = refl
-cleared_is f (Open call) is = refl
 cleared_is f (Decided call r) is =
     ap (λ c. has_cleared f (Decided c r)) (same_some call (Retype is.range f FrameKind.Untyped) is.is) ∙ by r
   where
     by : (q : Reply) → has_cleared f (Decided (Retype is.range f FrameKind.Untyped) q) ≡ is_carried_out (Decided call q)
     by (Reply.Ok v) = eq-eqb f f refl
     by q = refl
+cleared_is f _ is = refl
 
 -- A step at which nothing is decided does not decide `ok`.
 pub not_ok : (told : Absorbed) → decided_in told ≡ None → NotOk told
-not_ok Absorbed.Going none = tt
 not_ok (Absorbed.Decided r) none = absurd (none_some r (sym none))
-not_ok (Absorbed.Returned r) none = tt
+not_ok _ none = tt
 
 -- What a count word settles to.
 module _ (setup : Setting) (setting : IsSetting setup) (f : ℕ) where
@@ -121,10 +115,8 @@ module _ (setup : Setting) (setting : IsSetting setup) (f k : ℕ) (t : Trace) (
       ∙ sym (ap call_in (entered_is setup setting f k t e made mark))
     where
       stays : (o : Option Reply) (p : Phase) → call_in (after_decide o p) ≡ call_in p
-      stays None p = refl
       stays (Some r) Out = refl
-      stays (Some r) (Open call) = refl
-      stays (Some r) (Decided call q) = refl
+      stays _ _ = refl
 
   not_untyped : (call : Call) → call_now ≡ Some call → untypes_frame call f ≡ true → ⊥
   not_untyped (Retype r g FrameKind.Untyped) at untypes = its_own.spares (record {

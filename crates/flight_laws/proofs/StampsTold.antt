@@ -7,7 +7,7 @@ use Rattle.time_laws.specs.step_ways.proofs.{Call, Retype, Reply, Value, CountFi
 use Rattle.time_laws.specs.step_ways.proofs.{Closed, CountAt, FrameOf, State, refs, Change, Found, IsFoundAnd, Judged, Refused, MayReply}
 use Rattle.time_laws.specs.step_ways.proofs.{begins, change_of, changed as change_made, counted, state_by, grace_refs, opened, count_in}
 use Rattle.time_laws.specs.step_ways.proofs.{counters, IsLegal, MayDecide, marked_by, count_mark, hold_mark, begins_at, begins_in, stamp}
-use Rattle.time_laws.specs.step_ways.proofs.{Step, Trace, Phase, Out, Open, phase, after_enter, after_decide, state_after, state_before}
+use Rattle.time_laws.specs.step_ways.proofs.{Step, Trace, Phase, Open, phase, after_enter, after_decide, state_after, state_before}
 use Rattle.time_laws.specs.step_ways.proofs.{state_decided, state_returned, last_left, phase-other, stamp-begins, run_of, frozen}
 use Rattle.time_laws.specs.step_ways.proofs.{core_after, told_by, took_at, Absorbed, ActiveCall, decided_in, later, unheld, stamp_of_change}
 use Rattle.time_laws.specs.step_ways.proofs.{committed, Invariant, is_done, IsCount, limits_of, counted_refs, call_is, is_active, residue}
@@ -70,17 +70,14 @@ less_not v n d small few same =
 -- The stamp that is stored with a count that changes.
 later_small : (stamp : ℕ) (change : ℤ) (drawn : Option ℕ) → stamp < 2 ^ 43 → IsSmall drawn
     → later stamp (stamp_of_change change drawn) < 2 ^ 43
-later_small stamp (pos n) drawn small fits = small
-later_small stamp (negsuc n) None small fits = small
 later_small stamp (negsuc n) (Some x) small fits = omega (arith, small, fits)
+later_small stamp _ _ small fits = small
 
 -- What has cleared a frame makes it untyped.
 untypes_cleared : (f : ℕ) (p : Phase) → has_cleared f p ≡ true → Untypes f p
-untypes_cleared f Out is = absurd (false≢true is)
-untypes_cleared f (Open call) is = absurd (false≢true is)
 untypes_cleared f (Decided (Retype r g frame_kind.Untyped) (reply.Ok v)) is =
     record { range = r; is = ap (λ (n : ℕ). Some (Retype r n frame_kind.Untyped)) (sym (eqb-true f g is)) }
-untypes_cleared f (Decided call r) is = absurd (false≢true is)
+untypes_cleared f _ is = absurd (false≢true is)
 
 -- A step of the core that has acquired the count.
 module _ (setup : Setting) (setting : IsSetting setup) (f k : ℕ) (t : Trace) (e : Step) (made : IsMade setup (e ∷ t)) (v : CountWord)
@@ -254,10 +251,9 @@ module _ (setup : Setting) (setting : IsSetting setup) (f k : ℕ) (t : Trace) (
         is_told : (y : Absorbed)
             → decided_in y ≡ Some (reply.Ok x)
             → y ≡ told_as.Decided (reply.Ok x)
-        is_told told_as.Going h = absurd (cc)
         is_told (told_as.Decided r) h =
             ap (λ q. told_as.Decided q) (same_some r (reply.Ok x) h)
-        is_told (told_as.Returned r) h = absurd (cc)
+        is_told _ h = absurd (cc)
 
         told_so : (a : ActiveCall) (active : (cores_after setup t e.core).active ≡ Some a)
             → OkDrawn (core_after (cores_after setup t e.core).own (took_at (cores_after setup t e.core).own a a.stage

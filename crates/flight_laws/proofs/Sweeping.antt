@@ -3,15 +3,14 @@
 use Rattle.time_laws.specs as low
 use low.step_ways.proofs.{◌≡◌, ℕ, ℤ, ◌+◌, leb as nat_le, Bool, true, false, List, [], ◌∷◌, length, slice_get, Option, Some, None, refl, sym}
 use low.step_ways.proofs.{◌∙◌, ap, subst, eq-eqb, false≢true, Capability, Setting, Call, Retype, Obj, Reply, StageEnd, entry_of_word}
-use low.step_ways.proofs.{frame_of_word, FrameWord, Word, EntryAt, FrameAt, word_of, Frame, Untyped, User, Kernel, Blank, Table, Leaf}
-use low.step_ways.proofs.{Pages, Pleaf, Comp, Thread, Tcap, is_node, frame_value, Trace, Open, phase, state_after, last_left, open_inj}
-use low.step_ways.proofs.{shown_in, Pin, AtCore, AtFlush, end_by, swept_of, Sweep, SweepAt, Empty, Swept, dues, took_sweep, release_of, Own}
-use low.step_ways.proofs.{UntypingAt, Untyping, Untype, Due, Work, Lookup, Read, Scan, Acquire, Act, absorbed, absorbed_in, core_after}
-use low.step_ways.proofs.{told_by, told_in, landed, stage_move, Core, ActiveCall, Stage, Enter, Living, Undecided, Decided, Leave}
-use low.step_ways.proofs.{holds_untyping, Holding, holds_counts, settled, settled_by, Invariant, held_by, holds_act, holds_at, holds_in}
-use low.step_ways.proofs.{CallIs, KnowsAt, phase_at, KnowsSweep, KnowsUntypingAt, UntypesBy, Acquires, move_in, told_of_step, took_at}
-use low.step_ways.proofs.{took_count, FrameKind, Entry, Absorbed}
-use low.act_states.specs.{end_of_frames, AtLoad, Compare, pin_after, pin_end, Pinned, move_at, Load as sweep_load, Scan as sweep_scan}
+use low.step_ways.proofs.{frame_of_word, FrameWord, Word, EntryAt, FrameAt, word_of, Frame, Untyped, Kernel, Blank, Table, Leaf, Pages}
+use low.step_ways.proofs.{Pleaf, is_node, frame_value, Trace, Open, phase, state_after, last_left, open_inj, shown_in, Pin, AtCore, end_by}
+use low.step_ways.proofs.{swept_of, Sweep, SweepAt, Empty, Swept, dues, took_sweep, release_of, Own, UntypingAt, Untyping, Untype, Due}
+use low.step_ways.proofs.{Work, Lookup, Read, Scan, Acquire, Act, absorbed, absorbed_in, core_after, told_by, told_in, landed, stage_move}
+use low.step_ways.proofs.{Core, ActiveCall, Stage, Enter, Living, Undecided, Decided, Leave, holds_untyping, Holding, holds_counts, settled}
+use low.step_ways.proofs.{settled_by, Invariant, held_by, holds_act, holds_at, holds_in, CallIs, KnowsAt, phase_at, KnowsSweep}
+use low.step_ways.proofs.{KnowsUntypingAt, UntypesBy, Acquires, move_in, told_of_step, took_at, took_count, FrameKind, Entry, Absorbed}
+use low.act_states.specs.{end_of_frames, AtLoad, pin_after, pin_end, Pinned, move_at, Scan as sweep_scan}
 use low.act_states.specs.{acquires, took_untyping_at, untyping_at}
 use low.stage_sweep.specs.{empty_refuses, entry_refuses, refuses_at, sweep_after, sweep_end, sweep_kept, sweep_next, sweep_refuses}
 use low.{stage_look.specs.entry_within, stage_look.specs.held_if, stage_pins.specs.declared.pin.Pin.TheVariants.AtCompare as pin_compare}
@@ -32,16 +31,8 @@ is_node_word None = false
 is_node_word (Some v) = is_node_object v.object
 
 node_value : (x : Frame) → is_node_object (frame_value x).object ≡ is_node x
-node_value Untyped = refl
-node_value User = refl
 node_value (Kernel Blank) = refl
-node_value (Kernel Table) = refl
-node_value (Kernel Leaf) = refl
-node_value (Kernel Pages) = refl
-node_value (Kernel Pleaf) = refl
-node_value (Kernel (Comp k)) = refl
-node_value (Kernel (Thread k)) = refl
-node_value (Kernel (Tcap k)) = refl
+node_value _ = refl
 
 -- The act that makes a frame untyped, at which a call stands, and the frame's word as it was found, from when it is marked.
 abbrev untyping_act : ActOf → Option Untyping
@@ -101,8 +92,6 @@ module _ (own : Own) (a : ActiveCall) (f : ℕ) where
       → word_found at ≡ Some word → (found : ℕ)
       → told_by (landed a (took_untyping_at own.layout act at found)) ≡ Absorbed.Going
       → IsSwept (core_after own (landed a (took_untyping_at own.layout act at found))).active f
-  from_act act word same plain untype.Load is found goes = absurd (none_some word is)
-  from_act act word same plain (untype.Mark x v) is found goes = absurd (none_some word is)
   from_act act word same plain (untype.Draw x w) is found goes = absurd (not_going _ goes)
   from_act act word same plain (untype.Sweep x w) is found goes = by (sweep_end own.layout w found) goes
     where
@@ -127,6 +116,7 @@ module _ (own : Own) (a : ActiveCall) (f : ℕ) where
               → IsSweptIn (record a { steps = a.steps + 1; stage = Undecided (acquires act.core (Untype drawing) o) }) f
           by_due None = record { act = drawing; at = refl; frame = same; word = word; found = is; plain = plain }
           by_due (Some due) = record { act = drawing; at = refl; frame = same; word = word; found = is; plain = plain }
+  from_act act word same plain _ is found goes = absurd (none_some word is)
 
   -- from the acquiring of a count
   from_count : (core n : ℕ) (change : ℤ) (act : Untyping) (word : ℕ) → act.frame ≡ f → is_node_word (frame_of_word word) ≡ false
@@ -135,8 +125,6 @@ module _ (own : Own) (a : ActiveCall) (f : ℕ) where
       → IsSwept (core_after own (landed a (took_count core n change (Untype act) pin e))).active f
   from_count core n change act word same plain is pin StageEnd.Going goes =
       record { act = act; at = refl; frame = same; word = word; found = is; plain = plain }
-  from_count core n change act word same plain is pin (StageEnd.Decided r) goes = absurd (not_going _ goes)
-  from_count core n change act word same plain is pin (StageEnd.Refuse r) goes = absurd (not_going _ goes)
   from_count core n change act word same plain is pin (StageEnd.Done p) goes = by (slice_get (dues (Untype act)) (n + 1))
     where
       by : (o : Option Due) → IsSwept (core_after own (landed a
@@ -144,14 +132,12 @@ module _ (own : Own) (a : ActiveCall) (f : ℕ) where
           (acquires core (Untype act) o)))).active f
       by None = record { act = act; at = refl; frame = same; word = word; found = is; plain = plain }
       by (Some due) = record { act = act; at = refl; frame = same; word = word; found = is; plain = plain }
+  from_count core n change act word same plain is pin _ goes = absurd (not_going _ goes)
 
   by_work : (work : Work) (m : Untyping) → untyping_in work ≡ Some m → (word : ℕ) → m.frame ≡ f → word_found m.at ≡ Some word
       → is_node_word (frame_of_word word) ≡ false → (found : ℕ)
       → told_by (took_at own a (Undecided work) found) ≡ Absorbed.Going
       → IsSwept (core_after own (took_at own a (Undecided work) found)).active f
-  by_work (Lookup look) m is word same shown plain found goes = absurd (none_some m is)
-  by_work (Read comp look) m is word same shown plain found goes = absurd (none_some m is)
-  by_work (Scan q act) m is word same shown plain found goes = absurd (none_some m is)
   by_work (Acquire pin change act) m is word same shown plain found goes =
       subst (λ x. told_by (took_at own a (Undecided (Acquire pin change x)) found) ≡ Absorbed.Going
       → IsSwept (core_after own (took_at own a (Undecided (Acquire pin change x)) found)).active f) (sym (act_is act m is))
@@ -160,15 +146,13 @@ module _ (own : Own) (a : ActiveCall) (f : ℕ) where
       subst (λ x. told_by (took_at own a (Undecided (Act x)) found) ≡ Absorbed.Going
       → IsSwept (core_after own (took_at own a (Undecided (Act x)) found)).active f) (sym (act_is act m is))
       (from_act m word same plain m.at shown found) goes
+  by_work _ m is word same shown plain found goes = absurd (none_some m is)
 
   by_stage : (stage : Stage) (m : Untyping) → untyping_of stage ≡ Some m → (word : ℕ) → m.frame ≡ f → word_found m.at ≡ Some word
       → is_node_word (frame_of_word word) ≡ false → (found : ℕ) → told_by (took_at own a stage found) ≡ Absorbed.Going
       → IsSwept (core_after own (took_at own a stage found)).active f
-  by_stage Enter m is word same shown plain found goes = absurd (none_some m is)
-  by_stage (Living alive) m is word same shown plain found goes = absurd (none_some m is)
   by_stage (Undecided work) m is word same shown plain found goes = by_work work m is word same shown plain found goes
-  by_stage (Decided r drawn tail) m is word same shown plain found goes = absurd (none_some m is)
-  by_stage (Leave r x) m is word same shown plain found goes = absurd (none_some m is)
+  by_stage _ m is word same shown plain found goes = absurd (none_some m is)
 
 -- It stays so while the call goes on.
 swept_in_on : (own : Own) (o : Option ActiveCall) (f found : ℕ) → IsSwept o f → told_in own o found ≡ Absorbed.Going
@@ -232,23 +216,17 @@ module _ (setup : Setting) (t : Trace) (c : ℕ) (own : Own) (a : ActiveCall) (m
 
   at_sweep : (word : ℕ) (w : Sweep) → KnowsSweep setup t c m.frame word w → (at : SweepAt) → w.at ≡ at
       → word_of (move_at w.frame w.core (length w.kept) at) ≡ EntryAt f i → Leads (untype.Sweep word w)
-  at_sweep word w knows sweep_load is on goes = absurd (cc)
-  at_sweep word w knows (Compare count stamp) is on goes = absurd (cc)
   at_sweep word w knows (sweep_scan (AtCore x by at page)) is on goes = absurd (cc)
-  at_sweep word w knows (sweep_scan (AtFlush x at)) is on goes = absurd (cc)
   at_sweep word w knows (Empty entry_no) is on goes = at_entry word entry_no w is knows (same_frame w.frame entry_no on) goes
+  at_sweep word w knows _ is on goes = absurd (cc)
 
   at_act : (at : UntypingAt) → KnowsUntypingAt setup t c m.frame at → word_of (untyping_at m.frame m.core at) ≡ EntryAt f i → Leads at
-  at_act untype.Load knows on goes = absurd (cc)
-  at_act (untype.Mark word v) knows on goes = absurd (cc)
   at_act (untype.Sweep word w) knows on goes = at_sweep word w knows w.at refl on goes
-  at_act (untype.Draw word w) knows on goes = absurd (cc)
+  at_act _ knows on goes = absurd (cc)
 
 -- The frame of such an act is none.
 holds_word : (f : ℕ) (at : UntypingAt) (word : ℕ) → word_found at ≡ Some word → (h : Holding)
     → ((holds_untyping f at h).marks (FrameAt f) ≡ true) × ((holds_untyping f at h).stands (FrameAt f) ≡ word)
-holds_word f untype.Load word is h = absurd (none_some word is)
-holds_word f (untype.Mark x v) word is h = absurd (none_some word is)
 holds_word f (untype.Sweep x w) word is h =
     let frame = release_frame (release_of f x (swept_of w) false) h in (frame.0, frame.1 ∙ same_word x word is)
   where
@@ -259,16 +237,10 @@ holds_word f (untype.Draw x w) word is h =
   where
     same_word : (x y : ℕ) → Some x ≡ Some y → x ≡ y
     same_word x y h = cc
+holds_word f _ word is h = absurd (none_some word is)
 
 holds_stage_word : (a : ActiveCall) (m : Untyping) (stage : Stage) → untyping_of stage ≡ Some m → (word : ℕ) → word_found m.at ≡ Some word
     → ((holds_at stage a.counts).marks (FrameAt m.frame) ≡ true) × ((holds_at stage a.counts).stands (FrameAt m.frame) ≡ word)
-holds_stage_word a m Enter is word shown = absurd (none_some m is)
-holds_stage_word a m (Living alive) is word shown = absurd (none_some m is)
-holds_stage_word a m (Decided r drawn tail) is word shown = absurd (none_some m is)
-holds_stage_word a m (Leave r x) is word shown = absurd (none_some m is)
-holds_stage_word a m (Undecided (Lookup look)) is word shown = absurd (none_some m is)
-holds_stage_word a m (Undecided (Read comp look)) is word shown = absurd (none_some m is)
-holds_stage_word a m (Undecided (Scan q act)) is word shown = absurd (none_some m is)
 holds_stage_word a m (Undecided (Acquire pin change act)) is word shown =
     subst (λ x. ((holds_act x (holds_counts None a.counts)).marks (FrameAt m.frame) ≡ true)
     × ((holds_act x (holds_counts None a.counts)).stands (FrameAt m.frame) ≡ word)) (sym (act_is act m is))
@@ -277,6 +249,7 @@ holds_stage_word a m (Undecided (Act act)) is word shown =
     subst (λ x. ((holds_act x (holds_counts None a.counts)).marks (FrameAt m.frame) ≡ true)
     × ((holds_act x (holds_counts None a.counts)).stands (FrameAt m.frame) ≡ word)) (sym (act_is act m is))
     (holds_word m.frame m.at word shown (holds_counts None a.counts))
+holds_stage_word a m _ is word shown = absurd (none_some m is)
 
 pub swept_no_node : (setup : Setting) (cores : ℕ → Core) (t : Trace) → Invariant setup cores t → (c f : ℕ) → IsSwept (cores c).active f
     → is_node ((state_after setup t).frame f) ≡ false
@@ -303,9 +276,7 @@ untyping_now (Some a) = untyping_of a.stage
 
 untypes_true : (call : Call) (ks : List Capability) (m : Untyping) → UntypesBy call ks m → untypes call ≡ true
 untypes_true (Retype r f FrameKind.Untyped) (range ∷ []) m is = refl
-untypes_true (Retype r f FrameKind.Untyped) [] m is = absurd is
-untypes_true (Retype r f FrameKind.Untyped) (range ∷ k ∷ ks) m is = absurd is
-untypes_true call ks m is = absurd is
+untypes_true _ _ m is = absurd is
 
 -- Such a core steps on an entry only where its call looks at the object: the call makes a frame untyped, and an entry that it goes on from,
 -- though it says that something is held, is of no node.
@@ -315,18 +286,11 @@ module _ (setup : Setting) (t : Trace) (c table : ℕ) (own : Own) (call : Call)
 
   stage_untypes : (a : ActiveCall) (m : Untyping) (stage : Stage) → phase t c ≡ phase_at a.call stage → KnowsAt setup t c table a stage
       → word_of (stage_move own a.counts stage) ≡ EntryAt f i → untyping_of stage ≡ Some m → untypes call ≡ true
-  stage_untypes a m Enter at has on is = absurd (none_some m is)
-  stage_untypes a m (Living alive) at has on is = absurd (none_some m is)
-  stage_untypes a m (Decided r drawn tail) at has on is = absurd (none_some m is)
-  stage_untypes a m (Leave r x) at has on is = absurd (none_some m is)
-  stage_untypes a m (Undecided (Lookup look)) at has on is = absurd (none_some m is)
-  stage_untypes a m (Undecided (Read comp look)) at has on is = absurd (none_some m is)
-  stage_untypes a m (Undecided (Scan q act)) at has on is = absurd (none_some m is)
   stage_untypes a m (Undecided (Acquire (AtLoad frame core) change act)) at has on is = absurd (cc)
   stage_untypes a m (Undecided (Acquire (pin_compare frame core count stamp) change act)) at has on is = absurd (cc)
   stage_untypes a m (Undecided (Act (Untype n))) at has on is =
       its_call a at (untypes_true a.call a.found n has.knows.knows.untypes)
-  stage_untypes a m (Undecided (Act act)) at has on is = absurd (none_some m is)
+  stage_untypes a m _ at has on is = absurd (none_some m is)
 
   pub looks_untypes : (o : Option ActiveCall) → CallIs setup t c table o → word_of (move_in own o) ≡ EntryAt f i → (m : Untyping)
       → untyping_now o ≡ Some m → untypes call ≡ true
@@ -339,39 +303,26 @@ module _ (setup : Setting) (t : Trace) (c table : ℕ) (own : Own) (call : Call)
 
   untypes_asked : (asked : Call) (ks : List Capability) (m : Untyping) → UntypesBy asked ks m → m.frame ≡ f → asks_untyped asked f ≡ true
   untypes_asked (Retype r g FrameKind.Untyped) (range ∷ []) m is same = eq-eqb f g (sym same ∙ is.frame)
-  untypes_asked (Retype r g FrameKind.Untyped) [] m is same = absurd is
-  untypes_asked (Retype r g FrameKind.Untyped) (range ∷ k ∷ ks) m is same = absurd is
-  untypes_asked asked ks m is same = absurd is
+  untypes_asked _ _ m is same = absurd is
 
   at_frame : (m : Untyping) (at : UntypingAt) → KnowsUntypingAt setup t c m.frame at → word_of (untyping_at m.frame m.core at) ≡ EntryAt f i
       → m.frame ≡ f
-  at_frame m untype.Load knows on = absurd (cc)
-  at_frame m (untype.Mark word v) knows on = absurd (cc)
-  at_frame m (untype.Draw word w) knows on = absurd (cc)
   at_frame m (untype.Sweep word w) knows on = by_sweep w.at on
     where
       by_sweep : (at : SweepAt) → word_of (move_at w.frame w.core (length w.kept) at) ≡ EntryAt f i → m.frame ≡ f
-      by_sweep sweep_load on = absurd (cc)
-      by_sweep (Compare count stamp) on = absurd (cc)
       by_sweep (sweep_scan (AtCore x by at page)) on = absurd (cc)
-      by_sweep (sweep_scan (AtFlush x at)) on = absurd (cc)
       by_sweep (Empty entry_no) on = sym knows.frame ∙ frame_there w.frame entry_no on
+      by_sweep _ on = absurd (cc)
+  at_frame m _ knows on = absurd (cc)
 
   stage_asks : (a : ActiveCall) (m : Untyping) (stage : Stage) → phase t c ≡ phase_at a.call stage → KnowsAt setup t c table a stage
       → word_of (stage_move own a.counts stage) ≡ EntryAt f i → untyping_of stage ≡ Some m → asks_untyped call f ≡ true
-  stage_asks a m Enter at has on is = absurd (none_some m is)
-  stage_asks a m (Living alive) at has on is = absurd (none_some m is)
-  stage_asks a m (Decided r drawn tail) at has on is = absurd (none_some m is)
-  stage_asks a m (Leave r x) at has on is = absurd (none_some m is)
-  stage_asks a m (Undecided (Lookup look)) at has on is = absurd (none_some m is)
-  stage_asks a m (Undecided (Read comp look)) at has on is = absurd (none_some m is)
-  stage_asks a m (Undecided (Scan q act)) at has on is = absurd (none_some m is)
   stage_asks a m (Undecided (Acquire (AtLoad frame core) change act)) at has on is = absurd (cc)
   stage_asks a m (Undecided (Acquire (pin_compare frame core count stamp) change act)) at has on is = absurd (cc)
   stage_asks a m (Undecided (Act (Untype n))) at has on is =
       ap (λ k. asks_untyped k f) (open_inj call a.call (sym at ∙ is_open))
       ∙ untypes_asked a.call a.found n has.knows.knows.untypes (at_frame n n.at has.knows.knows.at on)
-  stage_asks a m (Undecided (Act act)) at has on is = absurd (none_some m is)
+  stage_asks a m _ at has on is = absurd (none_some m is)
 
   pub looks_asked : (o : Option ActiveCall) → CallIs setup t c table o → word_of (move_in own o) ≡ EntryAt f i → (m : Untyping)
       → untyping_now o ≡ Some m → asks_untyped call f ≡ true
@@ -382,18 +333,11 @@ module _ (setup : Setting) (t : Trace) (c table : ℕ) (own : Own) (call : Call)
       → word_of (stage_move own a.counts stage) ≡ EntryAt f i → untyping_of stage ≡ Some m → (found : ℕ) (k : Capability)
       → entry_of_word found ≡ Some (Entry.Held k) → told_by (took_at own a stage found) ≡ Absorbed.Going
       → IsSwept (core_after own (took_at own a stage found)).active f
-  stage_swept a m Enter has on is found k held goes = absurd (none_some m is)
-  stage_swept a m (Living alive) has on is found k held goes = absurd (none_some m is)
-  stage_swept a m (Decided r drawn tail) has on is found k held goes = absurd (none_some m is)
-  stage_swept a m (Leave r x) has on is found k held goes = absurd (none_some m is)
-  stage_swept a m (Undecided (Lookup look)) has on is found k held goes = absurd (none_some m is)
-  stage_swept a m (Undecided (Read comp look)) has on is found k held goes = absurd (none_some m is)
-  stage_swept a m (Undecided (Scan q act)) has on is found k held goes = absurd (none_some m is)
   stage_swept a m (Undecided (Acquire (AtLoad frame core) change act)) has on is found k held goes = absurd (cc)
   stage_swept a m (Undecided (Acquire (pin_compare frame core count stamp) change act)) has on is found k held goes = absurd (cc)
   stage_swept a m (Undecided (Act (Untype n))) has on is found k held goes =
       at_act setup t c own a n f i found k held n.at has.knows.knows.at on goes
-  stage_swept a m (Undecided (Act act)) has on is found k held goes = absurd (none_some m is)
+  stage_swept a m _ has on is found k held goes = absurd (none_some m is)
 
   pub looks_swept : (o : Option ActiveCall) → CallIs setup t c table o → word_of (move_in own o) ≡ EntryAt f i → (m : Untyping)
       → untyping_now o ≡ Some m → (found : ℕ) (k : Capability) → entry_of_word found ≡ Some (Entry.Held k)
