@@ -32,16 +32,15 @@ pub drawn_none : {A : Type 0} (d : Draw A) (first : List A) (from : ℕ) → Dra
 unfolding repeated
 drawn_none d first from = record { all = sym (append-nil first); goes_on = refl }
 
-pub drawn_more : {A : Type 0} (d : Draw A) (first : List A) (from n : ℕ) (items : List A) (at : ℕ) (one : A) (next : ℕ)
-    → Drawn d first from n items at → one ≡ (d at).0 → next ≡ (d at).1 →
-    Drawn d first from (n + 1) (items ++ one ∷ []) next
-drawn_more d first from n items at one next h is goes =
+pub drawn_more : {A : Type 0} (d : Draw A) (first : List A) (from n : ℕ) (items new : List A) (at : ℕ) (one : A) (next : ℕ)
+    → Drawn d first from n items at → new ≡ items ++ one ∷ [] → one ≡ (d at).0 → next ≡ (d at).1 → Drawn d first from (n + 1) new next
+drawn_more d first from n items new at one next h more_is is goes =
     let more : n + 1 ≡ suc n = omega arith in
     let step = ap (λ k. repeated k d from) more ∙ repeated_suc n d from in
     let last : one ≡ (d (repeated n d from).1).0 = is ∙ ap (λ x. (d x).0) h.goes_on in
     record {
       all =
-          ap (λ xs. xs ++ one ∷ []) h.all
+          more_is ∙ ap (λ xs. xs ++ one ∷ []) h.all
           ∙ append_assoc first (repeated n d from).0 (one ∷ [])
           ∙ ap (λ y. first ++ ((repeated n d from).0 ++ y ∷ [])) last
           ∙ ap (λ p. first ++ p.0) (sym step);

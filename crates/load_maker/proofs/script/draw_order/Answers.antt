@@ -1,5 +1,5 @@
-use Rattle.std.proofs.Common.{◌≡◌, ◌+◌, ◌++◌, sym, ap, subst, ◌∙◌, arith}
-use Rattle.load_maker.proofs.Repeats.{Drawn, drawn_none, drawn_more}
+use Rattle.std.proofs.Common.{◌≡◌, ◌++◌, ap, ◌∙◌, arith}
+use Rattle.load_maker.proofs.Repeats.{drawn_none, drawn_more}
 use Rattle.{load_maker.specs.repeated, load_maker.specs.an_item, load_maker.specs.Loads.drawn_items}
 use Rattle.load_maker.proofs.script.draw_order.Goals as goal
 
@@ -8,10 +8,7 @@ items-init c = drawn_none an_item c.in_ok-items.items.items c.args.draws.now.at
 
 pub items-preserved : goal.items-preserved
 items-preserved c =
-    subst (λ items. Drawn an_item c.in_ok-items.items.items c.args.draws.now.at (c.items.counter + 1) items c.draw_item.new.draws.at)
-    (sym c.in_ok-push.ensures.items)
-    (drawn_more an_item c.in_ok-items.items.items c.args.draws.now.at c.items.counter c.items.items.items
-    c.items.draws.at _ _ c.items.invariant c.draw_item.ensures.value c.draw_item.ensures.goes_on)
+    drawn_more an_item _ _ _ _ _ _ _ _ c.items.invariant c.in_ok-push.ensures.items c.draw_item.ensures.value c.draw_item.ensures.goes_on
 
 pub returns-clause-value : goal.returns-clause-value
 unfolding drawn_items

@@ -1,5 +1,5 @@
-use Rattle.std.proofs.Common.{◌≡◌, ◌+◌, ◌++◌, sym, ap, subst, ◌∙◌, arith}
-use Rattle.load_maker.proofs.Repeats.{Drawn, drawn_none, drawn_more}
+use Rattle.std.proofs.Common.{◌≡◌, ◌++◌, ap, ◌∙◌, arith}
+use Rattle.load_maker.proofs.Repeats.{drawn_none, drawn_more}
 use Rattle.{load_maker.specs.repeated, load_maker.specs.a_call, load_maker.specs.Loads.drawn_calls}
 use Rattle.load_maker.proofs.script.push_calls.Goals as goal
 
@@ -8,10 +8,7 @@ calls-init c = drawn_none a_call c.args.calls.now.items c.args.draws.now.at
 
 pub calls-preserved : goal.calls-preserved
 calls-preserved c =
-    subst (λ calls. Drawn a_call c.args.calls.now.items c.args.draws.now.at (c.calls.counter + 1) calls c.draw_call.new.draws.at)
-    (sym c.in_ok-push.ensures.items)
-    (drawn_more a_call c.args.calls.now.items c.args.draws.now.at c.calls.counter c.calls.calls.items
-    c.calls.draws.at _ _ c.calls.invariant c.draw_call.ensures.value c.draw_call.ensures.goes_on)
+    drawn_more a_call _ _ _ _ _ _ _ _ c.calls.invariant c.in_ok-push.ensures.items c.draw_call.ensures.value c.draw_call.ensures.goes_on
 
 pub returns-clause-value : goal.returns-clause-value
 unfolding drawn_calls
