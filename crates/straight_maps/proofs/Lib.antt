@@ -1,0 +1,4 @@
+pub mod Placing
+pub mod Scanning
+pub mod Mapping
+pub mod Sets

@@ -1,0 +1,16 @@
+//! Calls made straight through that map a page.
+//!
+//! A mapping looks its names and its place up as `straight_acts` does. Where the place is quiescing, the words of the other cores and
+//! all flush words are loaded before its count is acquired: each is to say that its core no longer waits. Then the frame's word is loaded,
+//! which is to be that of a user frame, and the place is filled.
+//!
+//! A word that is another than the one expected falls back to the step machine, with the scan or the act as it stood before that step.
+#![tactic(auto)]
+
+mod ends;
+mod maps;
+mod places;
+mod rests;
+mod scans;
+
+pub use maps::map;
