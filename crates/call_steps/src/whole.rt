@@ -19,6 +19,7 @@ use straight_acts::{Went, Words, copy, look, remove, unmap};
 use straight_entries::{enter, leave};
 use straight_maps::map;
 use straight_own::{flush, tick, touch};
+use straight_pairs::share;
 
 impl CoreState {
     /// Makes a call to its return, and answers its reply. The core is in no call, and the call is in its limits. The core of the words is
@@ -136,6 +137,9 @@ fn straight<W: Words>(
         Call::Touch { .. } => touch(own, active, call, words),
         Call::Tick { .. } => tick(own, active, call, words),
         Call::Flush => flush(own, active, call, words),
+        Call::Transfer { .. } | Call::Delegate { .. } | Call::Test { .. } => share(
+            own, active, call, words,
+        ),
         _ => to_names(own, active, call, words),
     }
 }
