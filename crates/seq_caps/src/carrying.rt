@@ -16,7 +16,7 @@ ghost use Rattle.seq_lookups.specs.seq_state.specs.Representation.{Represents};
 ghost use Rattle.seq_lookups.specs.Carried.{IsCarriedOut, removed};
 ghost use Rattle.seq_plans.specs.declared.walking.Looked.{Looked};
 ghost use Rattle.seq_plans.specs.Walks.{left_of};
-ghost use Rattle.seq_plans.specs.Carrying.{change_in, MayMake, MayCarry};
+ghost use Rattle.seq_plans.specs.Carrying.{change_in, MayCarry};
 ghost use Rattle.seq_caps.specs.Own.{IsCapCall};
 ghost use Rattle.seq_caps.specs.Holding.{holding};
 
@@ -51,7 +51,7 @@ fn hold_node(k: &mut SeqKernel, frame: FrameNo, object: Object, kind: Kind, at: 
 
 /// The next epoch of a liveness number, where it has one left.
 fn epoch_after(k: &SeqKernel, live: u8) -> u16
-    ensures { epoch_of ((state_of k.now).number live) < (state_of k.now).limits.epochs
+    ensures { epoch_of ((state_of k.now).number live) + 1 ≤ (state_of k.now).limits.epochs
         → result ≡ epoch_of ((state_of k.now).number live) + 1 }
 {
     let epoch = epoch_of(&k.number(live));
@@ -91,7 +91,7 @@ fn hold_comp(
 /// Makes an object in a frame, where what it refers to was found.
 fn make_in(k: &mut SeqKernel, what: &Make, frame: FrameNo, looked: &Looked, at: Slot)
     requires { MakeInLimits what.now }
-    ensures { (core r t b : ℕ) → MayMake (state_of k.old) what.now frame looked.now → looked.now.at ≡ Some at
+    ensures { (core r t b : ℕ) → MayCarry (state_of k.old) core (make_call what.now r frame t b) looked.now → looked.now.at ≡ Some at
         → IsCarriedOut (state_of k.old)
         (change_in (state_of k.old) core (left_of (rule_of (state_of k.old) core (make_call what.now r frame t b)) looked.now))
         (ok Nothing) k.new }
@@ -135,7 +135,7 @@ fn make_in(k: &mut SeqKernel, what: &Make, frame: FrameNo, looked: &Looked, at: 
 /// `make`: the frame holds the object, and the place its capability.
 fn make(k: &mut SeqKernel, what: &Make, frame: FrameArg, looked: &Looked) -> Value
     requires { MakeInLimits what.now }
-    ensures { (core r t b : ℕ) → MayMake (state_of k.old) what.now frame looked.now
+    ensures { (core r t b : ℕ) → MayCarry (state_of k.old) core (make_call what.now r frame t b) looked.now
         → IsCarriedOut (state_of k.old)
         (change_in (state_of k.old) core (left_of (rule_of (state_of k.old) core (make_call what.now r frame t b)) looked.now))
         (ok result) k.new }

@@ -13,7 +13,7 @@ ghost use Rattle.seq_lookups.specs.seq_state.specs.Representation.{Represents};
 ghost use Rattle.seq_lookups.specs.Carried.{IsCarriedOut, removed};
 ghost use Rattle.seq_plans.specs.declared.walking.Looked.{Looked};
 ghost use Rattle.seq_plans.specs.Walks.{left_of};
-ghost use Rattle.seq_plans.specs.Carrying.{change_in, MayRetype, MayCarry};
+ghost use Rattle.seq_plans.specs.Carrying.{change_in, MayCarry};
 ghost use Rattle.seq_memory.specs.Own.{IsMemoryCall};
 ghost use Rattle.seq_memory.specs.Retyped.{retyped};
 
@@ -38,7 +38,7 @@ fn free_few(k: &mut SeqKernel, frame: FrameNo)
 
 /// A frame becomes one of this kind.
 fn turn_into(k: &mut SeqKernel, frame: FrameNo, kind: FrameKind)
-    ensures { MayRetype (state_of k.old) frame kind
+    ensures { (core r : ℕ) (l : Looked) → MayCarry (state_of k.old) core (Retype r frame kind) l
         → Represents k.new (retyped (state_of k.old) frame kind) }
 {
     match kind {
@@ -50,7 +50,7 @@ fn turn_into(k: &mut SeqKernel, frame: FrameNo, kind: FrameKind)
 
 /// `retype`: a frame of the machine becomes one of this kind.
 fn retype(k: &mut SeqKernel, frame: FrameArg, kind: FrameKind) -> Value
-    ensures { (core r : ℕ) (l : Looked) → MayRetype (state_of k.old) frame kind
+    ensures { (core r : ℕ) (l : Looked) → MayCarry (state_of k.old) core (Retype r frame kind) l
         → IsCarriedOut (state_of k.old)
         (change_in (state_of k.old) core (left_of (rule_of (state_of k.old) core (Retype r frame kind)) l)) (ok result) k.new }
 {

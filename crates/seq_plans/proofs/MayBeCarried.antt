@@ -6,18 +6,21 @@ use low.{IsSomeAnd, min, true≢false, ltb-true, ltb-false, leb-true, leb-false,
 use low.{Call, Retype, Touch, Kill, Ret, Switch, Transfer, Delegate}
 use low.{Replenish, Reply, Table, Leaf, Pages, Pleaf, Comp, Thread, Tcap, Frame, Untyped, User, Kernel, outstanding, comp_in, comp_of}
 use low.{thread_in, thread_of, Slot, Named, found, only, to_use, to_part, Cause, Found, named, mapped, first_of, refusal_of, first_cause}
-use low.{has_frame, outside, epoch_of, has_frames, is_empty, not_retyped, retype_rule, translation_of, is_live_in, not_live, switch_to}
+use low.{has_frame, outside, epoch_of, has_frames, is_empty, not_retyped, retype_rule, translation_of, is_live_in, not_live, switch_to, touch_by}
 use low.{are_same, is_short, are_many, merged_list, is_finer, is_less, rule_of, frames_in, Kind}
 use Rattle.seq_plans.specs.{named_of, rest_by, left_of, causes_of, retype_beyond, judged_rule, resolved}
 use Rattle.seq_lookups.specs.Ranges.{RangeEnds, PageFound, HasEpoch, BudgetsFit, IsInRange, WholeEnds, BackFits}
-use Rattle.seq_plans.specs.{declared.walking.Looked.Looked, Carrying.MayRetype, Carrying.MayMake, Carrying.MayTouch, Carrying.MayCarry}
+use Rattle.seq_plans.specs.{declared.walking.Looked.Looked, Carrying.HasLed, Carrying.WasReached, Carrying.WasFound, Carrying.AllMay}
+use Rattle.seq_plans.specs.{Carrying.MayCarry}
+use Rattle.{seq_state.specs.kernel_rules.specs.Rows.edits_at, seq_plans.specs.Carrying.findings_of}
 use Rattle.{std.proofs.lemmas.Bool.and_parts, std.proofs.lemmas.Bool.cases_lt, seq_state.specs.Make as make_call, seq_state.specs.State}
 use Rattle.{seq_state.specs.kernel_rules.specs.beyond, seq_state.specs.kernel_rules.specs.budget_at}
 use Rattle.{spk_nums.specs.declared.calls.Call.TheVariants.Call as call_gate, call_plans.specs.PlanOf.plan_for}
 use Rattle.{seq_lookups.proofs.Outcomes.where_found, seq_plans.specs.nothing, seq_plans.specs.Walks.before}
-use Rattle.seq_plans.proofs.FoundAll.{found_all, IsFound, NameIs}
-use Rattle.call_plans.specs.{at_place, declared.plans.Name.Name}
-use Rattle.call_plans.specs.declared.plans.Nth.TheVariants.{First, Second}
+use Rattle.seq_plans.proofs.FoundAll.{found_all, IsFound, NameIs, TargetIs}
+use Rattle.call_plans.specs.{at_place, declared.plans.Name.Name, declared.plans.Plan.Plan, declared.plans.Target.Target}
+use Rattle.call_plans.specs.declared.plans.Nth.TheVariants.{First, Second, Third, Fourth}
+use Rattle.call_plans.specs.declared.plans.Target.TheVariants.{Nowhere, Free, Held, Own}
 
 -- ---- no cause stands
 
@@ -47,15 +50,6 @@ not_false false e = absurd (true≢false e)
 some_of : {A : Type 0} (o : Option A) (P : A → Type 0) → IsSomeAnd o P → IsSome o
 some_of None P h = absurd h
 some_of (Some x) P h = refl
-
--- A name, if there is one, has led to something.
-abbrev SomeIf : Option Name → Option Capability → Type 0
-SomeIf None o = Unit {0}
-SomeIf (Some name) o = IsSome o
-
-some_named : (s : State) (c : ℕ) (m : Looked) (name : Option Name) (o : Option Capability) → NameIs s c m name o → SomeIf name o
-some_named s c m None o h = tt
-some_named s c m (Some name) o h = some_of o _ h
 
 is_found : (o : Option Capability) → IsSome o → (named_of o).found ≡ true
 is_found None h = absurd (true≢false (sym h))
@@ -125,55 +119,10 @@ few_now s c f range calm =
     few_in s f (s.frame f) (not_false (is_empty s f (s.frame f)) (calm_when (not (is_empty s f (s.frame f))) Reply.NotEmpty
     (calm_at s c 5 (outside range f ∷ not_retyped s f FrameKind.Untyped) calm)))
 
-may_retype : (s : State) (c r f : ℕ) (k : FrameKind) (l : Looked) → RangeEnds s c r
-    → Found l ≡ resolved s c (plan_for (Retype r f k))
-    → None ≡ first_cause s c (causes_of (left_of (rule_of s c (Retype r f k)) l)) → MayRetype s f k
-may_retype s c r f FrameKind.Untyped l ends is calm =
-    let h = found_all s c (plan_for (Retype r f FrameKind.Untyped)) l is in
-    (found_frame s c r f l.first _ h.first ends calm, few_now s c f (named_of l.first) calm)
-may_retype s c r f FrameKind.User l ends is calm =
-    let h = found_all s c (plan_for (Retype r f FrameKind.User)) l is in
-    found_frame s c r f l.first _ h.first ends calm
-may_retype s c r f FrameKind.Kernel l ends is calm =
-    let h = found_all s c (plan_for (Retype r f FrameKind.Kernel)) l is in
-    found_frame s c r f l.first _ h.first ends calm
+-- ---- a component
 
--- ---- a make
-
-less : (e n : ℕ) → e ≤ n → (e == n) ≡ false → e < n
-less e n most apart = elim (cases_lt e n) [ inl lt ↦ lt | inr ge ↦ absurd (eqb-false e n apart (omega (arith, most, ge))) ]
-
-may_make : (s : State) (c : ℕ) (what : Make) (r f t b : ℕ) (l : Looked) → IsInRange s c (make_call what r f t b)
-    → Found l ≡ resolved s c (plan_for (make_call what r f t b))
-    → None ≡ first_cause s c (causes_of (left_of (rule_of s c (make_call what r f t b)) l)) → MayMake s what f l
-may_make s c Make.Table r f t b l ranges is calm =
-    let h = found_all s c (plan_for (make_call Make.Table r f t b)) l is in
-    (h.target, found_frame s c r f l.first _ h.first ranges.0 calm)
-may_make s c Make.Leaf r f t b l ranges is calm =
-    let h = found_all s c (plan_for (make_call Make.Leaf r f t b)) l is in
-    (h.target, found_frame s c r f l.first _ h.first ranges.0 calm)
-may_make s c Make.Pages r f t b l ranges is calm =
-    let h = found_all s c (plan_for (make_call Make.Pages r f t b)) l is in
-    (h.target, found_frame s c r f l.first _ h.first ranges.0 calm)
-may_make s c Make.Pleaf r f t b l ranges is calm =
-    let h = found_all s c (plan_for (make_call Make.Pleaf r f t b)) l is in
-    (h.target, found_frame s c r f l.first _ h.first ranges.0 calm)
-may_make s c (Make.Thread comp) r f t b l ranges is calm =
-    let h = found_all s c (plan_for (make_call (Make.Thread comp) r f t b)) l is in
-    (some_of l.third _ h.third, h.target, found_frame s c r f l.first _ h.first ranges.0 calm)
-may_make s c (Make.Tcap sched quality) r f t b l ranges is calm =
-    let h = found_all s c (plan_for (make_call (Make.Tcap sched quality) r f t b)) l is in
-    (h.target, found_frame s c r f l.first _ h.first ranges.0 calm)
-may_make s c (Make.Comp x p live) r f t b l ranges is calm =
-    let h = found_all s c (plan_for (make_call (Make.Comp x p live) r f t b)) l is in
-    let spent = calm_at s c 4 (causes_of (left_of (rule_of s c (make_call (Make.Comp x p live) r f t b)) l)) calm in (
-      some_of l.third _ h.third,
-      some_of l.fourth _ h.fourth,
-      h.target,
-      found_frame s c r f l.first _ h.first ranges.0 calm,
-      less (epoch_of (s.number live)) s.limits.epochs ranges.1
-          (calm_when (epoch_of (s.number live) == s.limits.epochs) Reply.EpochsSpent spent),
-    )
+next_epoch : (e n : ℕ) → e ≤ n → (e == n) ≡ false → e + 1 ≤ n
+next_epoch e n most apart = elim (cases_lt e n) [ inl lt ↦ omega (arith, lt) | inr ge ↦ absurd (eqb-false e n apart (omega (arith, most, ge))) ]
 
 -- ---- a touch
 
@@ -182,10 +131,11 @@ page_of : (s : State) (c v : ℕ) (held : Option Capability) → PageFound s c v
 page_of s c v None page is = is
 page_of s c v (Some k) page is = where_found (mapped s c (comp_of s c).pages v) (λ k. k.kind ≡ Kind.Page) k (sym is) page
 
-may_touch : (s : State) (c v : ℕ) (cached : Option Translation) (held : Option Capability) → PageFound s c v
-    → (IsFalse (is_some cached) → IsSomeAnd held (λ k. mapped s c (comp_of s c).pages v ≡ Found k)) → MayTouch cached held
-may_touch s c v None held page is = page_of s c v held page (is refl)
-may_touch s c v (Some t) held page is = tt
+touch_may : (s : State) (c v : ℕ) (l : Looked) (cached : Option Translation) → PageFound s c v
+    → (IsFalse (is_some cached) → IsSomeAnd l.held (λ k. mapped s c (comp_of s c).pages v ≡ Found k))
+    → AllMay s c (plan_for (Touch v)) l (edits_at (touch_by (comp_of s c).pages v cached) (findings_of l))
+touch_may s c v l None page is = (page_of s c v l.held page (is refl), tt)
+touch_may s c v l (Some t) page is = tt
 
 -- ---- a gate, a kill and a switch
 
@@ -213,7 +163,7 @@ idle_now s c h q (Some d) ks at held here calm =
 may_move : (s : State) (c a b m : ℕ) (x y : Option Capability) (others : Option Reply)
     → Names s c a Kind.Tcap x → Names s c b Kind.Tcap y → BudgetsFit s c a b
     → None ≡ first_of (refusal_of s c (are_same (named_of x) (named_of y))) (first_of (refusal_of s c (is_short s (named_of x) m)) others)
-    → IsSome x × IsSome y × ((named_of x).frame ≢ (named_of y).frame) × (budget_at s (named_of y).frame + m < 2 ^ 32)
+    → ((named_of x).frame ≢ (named_of y).frame) × (budget_at s (named_of y).frame + m < 2 ^ 32)
 may_move s c a b m None y others is_x is_y fits calm = absurd is_x
 may_move s c a b m (Some x) None others is_x is_y fits calm = absurd is_y
 may_move s c a b m (Some x) (Some y) others is_x is_y fits calm =
@@ -224,18 +174,18 @@ may_move s c a b m (Some x) (Some y) others is_x is_y fits calm =
     ltb-false (budget_at s x.frame) m (calm_when (nat_lt (budget_at s x.frame) m) (Reply.Short (budget_at s x.frame)) second.0) in
     let one = where_found (named s c a (to_use (only Kind.Tcap))) _ x (sym is_x) fits in
     let both = where_found (named s c b (to_use (only Kind.Tcap))) _ y (sym is_y) one in
-    (refl, refl, apart, omega (arith, both apart, enough))
+    (apart, omega (arith, both apart, enough))
 
 gives : (s : State) (c a m : ℕ) (x : Option Capability) → Names s c a Kind.Tcap x → BackFits s c a
     → None ≡ first_of (refusal_of s c (is_finer s c (named_of x))) (first_of (refusal_of s c (is_less s c m)) None)
-    → IsSome x × (budget_at s (named_of x).frame + m < 2 ^ 32) × ((s.core c).back + m < 2 ^ 64)
+    → (budget_at s (named_of x).frame + m < 2 ^ 32) × ((s.core c).back + m < 2 ^ 64)
 gives s c a m None is fits calm = absurd is
 gives s c a m (Some x) is fits calm =
     let second = calm_parts _ _ (calm_parts _ _ calm).1 in
     let left : ℕ = outstanding (s.core c) in
     let enough : m ≤ left = ltb-false left m (calm_when (nat_lt left m) (Reply.Short (min left m)) second.0) in
     let one = where_found (named s c a (to_use (only Kind.Tcap))) _ x (sym is) fits.budget in
-    (refl, omega (arith, one, enough), omega (arith, enough, fits.back, fits.spent))
+    (omega (arith, one, enough), omega (arith, enough, fits.back, fits.spent))
 
 few_merged : (s : State) (c : ℕ) (x y : Option Capability) (o p : Option Reply) → IsSome x → IsSome y
     → None ≡ first_of o (first_of p (first_cause s c (are_many s (named_of x) (named_of y) ∷ [])))
@@ -247,51 +197,68 @@ few_merged s c (Some x) (Some y) o p some_x some_y calm =
     ltb-false 8 (length (merged_list s x.frame y.frame))
     (calm_when (nat_lt 8 (length (merged_list s x.frame y.frame))) Reply.TooMany last.0)
 
+-- ---- what was found
+
+has_led : (s : State) (c : ℕ) (m : Looked) (name : Option Name) (k : Option Capability) → NameIs s c m name k → HasLed name k
+has_led s c m None k h = tt
+has_led s c m (Some name) k h = some_of k _ h
+
+was_reached : (s : State) (c : ℕ) (target : Target) (l : Looked) → TargetIs s c target l → WasReached s c target l
+was_reached s c Nowhere l h = h
+was_reached s c (Free spot) l h = h
+was_reached s c (Held spot) l h = h
+was_reached s c (Own v) l h = λ none. some_of l.held _ (h none)
+
+was_found : (s : State) (c : ℕ) (plan : Plan) (l : Looked) → IsFound s c plan l → WasFound s c plan l
+was_found s c plan l h = (
+  has_led s c nothing (at_place plan.names First) l.first h.first,
+  has_led s c (before l Second) (at_place plan.names Second) l.second h.second,
+  has_led s c (before l Third) (at_place plan.names Third) l.third h.third,
+  has_led s c (before l Fourth) (at_place plan.names Fourth) l.fourth h.fourth,
+  was_reached s c plan.target l h.target,
+)
+
 -- ---- every call
 
--- By what its plan has found: the calls whose own causes tell nothing else have what their names and their targets have led to, and frames
--- within the range that they name.
-carried : (s : State) (c : ℕ) (call : Call) (l : Looked) → IsFound s c (plan_for call) l → IsInRange s c call
-    → Found l ≡ resolved s c (plan_for call) → None ≡ first_cause s c (causes_of (left_of (rule_of s c call) l)) → MayCarry s c call l
-carried s c (Retype r f k) l h ranges is calm = may_retype s c r f k l ranges is calm
-carried s c (make_call what r f t b) l h ranges is calm = may_make s c what r f t b l ranges is calm
-carried s c (Touch v) l h ranges is calm =
-    may_touch s c v (translation_of (s.core c).cached (comp_of s c).pages v) l.held ranges h.target
-carried s c (Kill k) l h ranges is calm =
-    let some = some_of l.first _ h.first in
+-- The edits of a call have found what they need: for those without a line here what was found is enough, and that it is in range.
+edits_may : (s : State) (c : ℕ) (call : Call) (l : Looked) → IsFound s c (plan_for call) l → IsInRange s c call
+    → None ≡ first_cause s c (causes_of (left_of (rule_of s c call) l))
+    → AllMay s c (plan_for call) l (edits_at (rule_of s c call) (findings_of l))
+edits_may s c (Retype r f FrameKind.Untyped) l h ranges calm =
+    ((found_frame s c r f l.first _ h.first ranges calm, few_now s c f (named_of l.first) calm), tt)
+edits_may s c (make_call (Make.Comp x p live) r f t b) l h ranges calm =
+    let spent = calm_at s c 4 (causes_of (left_of (rule_of s c (make_call (Make.Comp x p live) r f t b)) l)) calm in
+    let free = calm_when (epoch_of (s.number live) == s.limits.epochs) Reply.EpochsSpent spent in
+    ((found_frame s c r f l.first _ h.first ranges.0 calm, next_epoch (epoch_of (s.number live)) s.limits.epochs ranges.1 free), (tt, tt))
+edits_may s c (Touch v) l h ranges calm =
+    touch_may s c v l (translation_of (s.core c).cached (comp_of s c).pages v) ranges h.target
+edits_may s c (Kill k) l h ranges calm =
     let comp = comp_in (s.frame (named_of l.first).frame) in
-    (some, lives_now s c (named_of l.first) comp.number comp.epoch (is_found l.first some) calm)
-carried s c (call_gate g) l h ranges is calm =
+    (lives_now s c (named_of l.first) comp.number comp.epoch (is_found l.first (some_of l.first _ h.first)) calm, tt)
+edits_may s c (call_gate g) l h ranges calm =
     let depth = length (thread_of s c).stack in
-    (some_of l.first _ h.first, leb-false 16 depth (calm_when (nat_le 16 depth) Reply.Deep (calm_parts _ _ calm).0))
-carried s c Ret l h ranges is calm =
+    (leb-false 16 depth (calm_when (nat_le 16 depth) Reply.Deep (calm_parts _ _ calm).0), tt)
+edits_may s c Ret l h ranges calm =
     let depth = length (thread_of s c).stack in
-    leb-false depth 1 (calm_when (nat_le depth 1) Reply.Bottom (calm_parts _ _ calm).0)
-carried s c (Switch n q) l h ranges is calm =
-    let some = some_of l.first _ h.first in (
-      some,
-      some_of l.second _ h.second,
-      idle_now s c (named_of l.first) (named_of l.second).frame (thread_in (s.frame (named_of l.first).frame)).runs_on
-          (named_of l.third ∷ named_of l.fourth ∷ []) l.at l.held (is_found l.first some) calm,
-    )
-carried s c (Transfer a b m) l h ranges is calm = may_move s c a b m l.first l.second _ h.first h.second ranges calm
-carried s c (Delegate a b m) l h ranges is calm = (
-  may_move s c a b m l.first l.second _ h.first h.second ranges calm,
-  few_merged s c l.first l.second _ _ (some_of l.first _ h.first) (some_of l.second _ h.second) calm,
+    (leb-false depth 1 (calm_when (nat_le depth 1) Reply.Bottom (calm_parts _ _ calm).0), tt)
+edits_may s c (Switch n q) l h ranges calm = (
+  idle_now s c (named_of l.first) (named_of l.second).frame (thread_in (s.frame (named_of l.first).frame)).runs_on
+      (named_of l.third ∷ named_of l.fourth ∷ []) l.at l.held (is_found l.first (some_of l.first _ h.first)) calm,
+  tt,
 )
-carried s c (Replenish a m) l h ranges is calm = gives s c a m l.first h.first ranges calm
-carried s c call l h ranges is calm =
-    search (
-      some_named s c nothing (at_place (plan_for call).names First) l.first h.first,
-      some_named s c (before l Second) (at_place (plan_for call).names Second) l.second h.second,
-      found_frame s c,
-      part_frame s c,
-      gate_epoch s c,
-    )
+edits_may s c (Transfer a b m) l h ranges calm = (may_move s c a b m l.first l.second _ h.first h.second ranges calm, tt)
+edits_may s c (Delegate a b m) l h ranges calm = (
+  may_move s c a b m l.first l.second _ h.first h.second ranges calm,
+  (few_merged s c l.first l.second _ _ (some_of l.first _ h.first) (some_of l.second _ h.second) calm, tt),
+)
+edits_may s c (Replenish a m) l h ranges calm = (gives s c a m l.first h.first ranges calm, tt)
+edits_may s c call l h ranges calm = search (found_frame s c, part_frame s c, gate_epoch s c)
 
 pub may_carry : (s : State) (c : ℕ) (call : Call) (l : Looked) → IsInRange s c call → Found l ≡ resolved s c (plan_for call)
     → None ≡ first_cause s c (causes_of (left_of (rule_of s c call) l)) → MayCarry s c call l
-may_carry s c call l ranges is calm = carried s c call l (found_all s c (plan_for call) l is) ranges is calm
+may_carry s c call l ranges is calm =
+    let h = found_all s c (plan_for call) l is in
+    (was_found s c (plan_for call) l h, edits_may s c call l h ranges calm)
 
 -- The own causes of a call as it is judged are those of its rule, for all that the first of them decides.
 pub judged_alike : (s : State) (c : ℕ) (call : Call) (l : Looked) → IsInRange s c call → Found l ≡ resolved s c (plan_for call)

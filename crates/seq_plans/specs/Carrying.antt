@@ -1,12 +1,19 @@
--- The change of a call, given what was looked up, and what it must have found beside that none of its causes stands.
-use Rattle.seq_state.specs.kernel_rules.specs as low
-use Rattle.std.specs.Prelude.{◌≡◌, ◌≢◌, ◌<◌, ◌≤◌, ◌+◌, ◌^◌}
-use low.{ℕ, length, Option, Some, None, IsSome, IsSomeAnd, IsTrue, Capability, FrameKind, Translation, Make}
-use low.{Call, Look, Copy, Remove, Grow, Shrink, Retype, Map, Unmap, Touch, Flush, Gate, Kill, Ret, Switch, Tick, Transfer, Delegate, Test}
-use low.{Part, Replenish, comp_in, comp_of, thread_in, thread_of, Rule, Name as name_rule, Vacant, Held as held_rule, Mapped, Does, Change}
-use low.{does, Judged, Refused, Found as Carried, epoch_of, translation_of, is_live_in, merged_list, budget_at, Kind, Reply}
-use Rattle.{seq_state.specs.Make as make_call, seq_state.specs.State, spk_nums.specs.declared.calls.Call.TheVariants.Call as call_gate}
-use Rattle.{seq_lookups.specs.Ranges.TicksFit, seq_plans.specs.declared.walking.Looked.Looked, seq_plans.specs.Reaches.named_of}
+-- The change of a call, given what was looked up, and what it must have found beside that none of its causes stands. What an edit needs is
+-- said once an edit, whatever call makes it.
+use Rattle.std.specs.Prelude.{◌≡◌, ◌≢◌, ◌<◌, ◌≤◌, ◌+◌, ◌^◌, ◌∷◌}
+use Rattle.seq_state.specs.kernel_rules.specs.{ℕ, Bool, true, false, List, [], length, Option, Some, None, is_some, IsSome, IsSomeAnd, IsTrue}
+use Rattle.seq_state.specs.kernel_rules.specs.{IsFalse, Capability, Kind, Call, Reply, comp_of, thread_in, thread_of, Rule, Name as name_rule}
+use Rattle.seq_state.specs.kernel_rules.specs.{Vacant, Held as held_rule, Mapped, Does, Change, does, Judged, Refused, Found as Carried}
+use Rattle.seq_state.specs.kernel_rules.specs.{rule_of, translation_of, is_live_in, budget_at, slot_of, Edit, Fill, Edits.Remove, Node, Become}
+use Rattle.seq_state.specs.kernel_rules.specs.{Untype, Component, Deaden, Push, Pop, Edits.Switch, Cache, Edits.Flush, Charge, Move}
+use Rattle.seq_state.specs.kernel_rules.specs.{Merge, Give, unwrap_or, Rows.Findings, Rows.first, Rows.no_cap, Rows.edits_at}
+use Rattle.call_plans.specs.{at_place, plan_for, declared.plans.Nth.TheVariants.First, declared.plans.Nth.TheVariants.Second}
+use Rattle.call_plans.specs.{declared.plans.Nth.TheVariants.Third, declared.plans.Nth.TheVariants.Fourth, declared.plans.Wanted.Wanted}
+use Rattle.call_plans.specs.{declared.plans.Name.Name, declared.plans.Target.Target, declared.plans.Target.TheVariants.Nowhere}
+use Rattle.call_plans.specs.{declared.plans.Target.TheVariants.Free, declared.plans.Target.TheVariants.Held}
+use Rattle.call_plans.specs.{declared.plans.Target.TheVariants.Own, declared.plans.Plan.Plan}
+use Rattle.{seq_state.specs.State, seq_lookups.specs.Ranges.TicksFit, seq_plans.specs.declared.walking.Looked.Looked}
+use Rattle.{seq_plans.specs.Reaches.named_of}
 
 -- The change of what is left of a rule of core c, where its look-ups have been made.
 abbrev pub change_in : State → ℕ → Rule → Judged Change
@@ -16,55 +23,92 @@ change_in s c (Vacant target rest) = Refused Reply.Raced
 change_in s c (held_rule target rest) = Refused Reply.Raced
 change_in s c (Mapped table v rest) = Refused Reply.Raced
 
--- A frame of the machine, which is to be untyped, has a thread in at most one component.
-abbrev pub MayRetype : State → ℕ → FrameKind → Type 0
-MayRetype s f FrameKind.Untyped = (f < s.limits.frames) × (length (thread_in (s.frame f)).stack ≤ 1)
-MayRetype s f k = f < s.limits.frames
+-- A name, if there is one, has led to something.
+abbrev pub HasLed : Option Name → Option Capability → Type 0
+HasLed None k = Unit {0}
+HasLed (Some name) k = IsSome k
 
--- What is made refers to what was found, and a liveness number has an epoch left.
-abbrev pub MayMake : State → Make → ℕ → Looked → Type 0
-MayMake s (Make.Thread comp) f l = IsSome l.third × IsSome l.at × (f < s.limits.frames)
-MayMake s (Make.Comp table pages live) f l =
-    IsSome l.third × IsSome l.fourth × IsSome l.at × (f < s.limits.frames) × (epoch_of (s.number live) < s.limits.epochs)
-MayMake s what f l = IsSome l.at × (f < s.limits.frames)
+-- A target was found, and what it holds, where that is asked for; a page, where its translation is not cached.
+abbrev pub WasReached : State → ℕ → Target → Looked → Type 0
+WasReached s c Nowhere l = Unit {0}
+WasReached s c (Free spot) l = IsSome l.at
+WasReached s c (Held spot) l = IsSome l.at × IsSome l.held
+WasReached s c (Own v) l = IsFalse (is_some (translation_of (s.core c).cached (comp_of s c).pages v)) → IsSome l.held
 
--- A page that is not cached was found mapped.
-abbrev pub MayTouch : Option Translation → Option Capability → Type 0
-MayTouch None held = IsSomeAnd held λ k. k.kind ≡ Kind.Page
-MayTouch (Some t) held = Unit {0}
+-- All that a plan looks up was found: what each of its names leads to, and its target.
+abbrev pub WasFound : State → ℕ → Plan → Looked → Type 0
+WasFound s c plan l =
+    HasLed (at_place plan.names First) l.first × HasLed (at_place plan.names Second) l.second × HasLed (at_place plan.names Third) l.third
+    × HasLed (at_place plan.names Fourth) l.fourth × WasReached s c plan.target l
 
--- Ticks move between two temporal capabilities, whose sum fits a budget.
-abbrev pub MayMove : State → Looked → ℕ → Type 0
-MayMove s l m = IsSome l.first × IsSome l.second × ((named_of l.first).frame ≢ (named_of l.second).frame)
-    × (budget_at s (named_of l.second).frame + m < 2 ^ 32)
+-- Whether a call names any capability, whatever its kind: then it fills a place with a copy of what that name has led to.
+abbrev pub is_any : Wanted → Bool
+is_any Wanted.Any = true
+is_any wanted = false
 
--- Ticks are given back to a temporal capability, whose budget takes them.
-abbrev pub MayGive : State → ℕ → Looked → ℕ → Type 0
-MayGive s c l m = IsSome l.first × (budget_at s (named_of l.first).frame + m < 2 ^ 32) × ((s.core c).back + m < 2 ^ 64)
+abbrev pub copies : Option Name → Bool
+copies None = false
+copies (Some name) = is_any name.wanted
 
--- What a call of core c must have found to be carried out.
+-- What is put into a place, by its kind, frame and number: a page and a range begin at a frame of the machine, and a gate has an epoch,
+-- which counts from 1.
+abbrev pub MayPut : State → Kind → ℕ → ℕ → Type 0
+MayPut s Kind.Page f n = f < s.limits.frames
+MayPut s Kind.Range f n = f < s.limits.frames
+MayPut s Kind.Gate f n = 1 ≤ n
+MayPut s kind f n = Unit {0}
+
+-- Nothing is asked of a copy, since it has the kind, the frame and the number of what was found.
+abbrev pub MayFill : Bool → State → Capability → Type 0
+MayFill true s k = Unit {0}
+MayFill false s k = MayPut s k.kind k.frame k.arg
+
+-- What core c must have found for an edit, in the state before the call and by the call's plan.
+abbrev pub MayEdit : State → ℕ → Plan → Looked → Edit → Type 0
+-- A place is filled with a copy, or with what may be put anew.
+MayEdit s c plan l (Fill at k) = MayFill (copies (at_place plan.names First)) s k
+-- What a place holds is removed: nothing more than that it was found.
+MayEdit s c plan l (Remove at k) = Unit {0}
+-- A frame of the machine becomes a node, or has another object.
+MayEdit s c plan l (Node f object) = f < s.limits.frames
+MayEdit s c plan l (Become f x) = f < s.limits.frames
+-- It becomes untyped: a thread in it is in at most one component.
+MayEdit s c plan l (Untype f) = (f < s.limits.frames) × (length (thread_in (s.frame f)).stack ≤ 1)
+-- It becomes a component, in an epoch that is within the limit.
+MayEdit s c plan l (Component f k) = (f < s.limits.frames) × (k.epoch ≤ s.limits.epochs)
+-- A liveness number dies that is live in this epoch.
+MayEdit s c plan l (Deaden n epoch) = IsTrue (is_live_in (s.number n) epoch)
+-- The core's thread enters a component: it is in fewer than 16.
+MayEdit s c plan l (Push f) = length (thread_of s c).stack < 16
+-- It leaves one: it is in more than one.
+MayEdit s c plan l Pop = 1 < length (thread_of s c).stack
+-- The core goes on as an idle thread.
+MayEdit s c plan l (Switch h q) = (thread_in (s.frame h)).runs_on ≡ None
+-- The core caches what it found mapped: a page.
+MayEdit s c plan l (Cache t) = IsSomeAnd l.held λ k. k.kind ≡ Kind.Page
+-- It flushes.
+MayEdit s c plan l Flush = Unit {0}
+-- It is charged ticks, and those that it owes: they fit their words.
+MayEdit s c plan l (Charge n) = TicksFit s c n
+-- Ticks move between two temporal capabilities, and fit the other's budget.
+MayEdit s c plan l (Move a b m) = (a ≢ b) × (budget_at s b + m < 2 ^ 32)
+-- A list of at most 8 qualities is put.
+MayEdit s c plan l (Merge f qualities) = length qualities ≤ 8
+-- Ticks are given back, and fit the budget and what the core has had back.
+MayEdit s c plan l (Give f m) = (budget_at s f + m < 2 ^ 32) × ((s.core c).back + m < 2 ^ 64)
+
+abbrev pub AllMay : State → ℕ → Plan → Looked → List Edit → Type 0
+AllMay s c plan l [] = Unit {0}
+AllMay s c plan l (edit ∷ edits) = MayEdit s c plan l edit × AllMay s c plan l edits
+
+-- What was looked up, as what the look-ups of a rule find: its names in their order, its target, and what that holds.
+abbrev pub findings_of : Looked → Findings
+findings_of l = record {
+  names = first (named_of l.first) (first (named_of l.second) (first (named_of l.third) (λ i. named_of l.fourth)));
+  slots = λ i. slot_of l.at;
+  held = λ i. unwrap_or l.held no_cap;
+}
+
+-- What a call of core c must have found to be carried out: all that its plan looks up, and what each edit of its rule needs.
 abbrev pub MayCarry : State → ℕ → Call → Looked → Type 0
-MayCarry s c (Look a) l = IsSome l.first
-MayCarry s c (Copy a t b rights) l = IsSome l.first × IsSome l.at
-MayCarry s c (Remove t b) l = IsSome l.at × IsSome l.held
-MayCarry s c (Grow t i k) l = IsSome l.second × IsSome l.at
-MayCarry s c (Shrink t i) l = IsSome l.at × IsSome l.held
-MayCarry s c (Retype r f k) l = MayRetype s f k
-MayCarry s c (make_call what r f t b) l = MayMake s what f l
-MayCarry s c (Map p v r f w) l = IsSome l.at × (f < s.limits.frames)
-MayCarry s c (Unmap p v) l = IsSome l.at × IsSome l.held
-MayCarry s c (Touch v) l = MayTouch (translation_of (s.core c).cached (comp_of s c).pages v) l.held
-MayCarry s c Flush l = Unit {0}
-MayCarry s c (Gate k t b) l = IsSome l.first × IsSome l.at × (1 ≤ (comp_in (s.frame (named_of l.first).frame)).epoch)
-MayCarry s c (Kill k) l = IsSome l.first
-    × IsTrue (is_live_in (s.number (comp_in (s.frame (named_of l.first).frame)).number) (comp_in (s.frame (named_of l.first).frame)).epoch)
-MayCarry s c (call_gate g) l = IsSome l.first × (length (thread_of s c).stack < 16)
-MayCarry s c Ret l = 1 < length (thread_of s c).stack
-MayCarry s c (Switch h q) l = IsSome l.first × IsSome l.second × ((thread_in (s.frame (named_of l.first).frame)).runs_on ≡ None)
-MayCarry s c (Tick n) l = TicksFit s c n
-MayCarry s c (Transfer a b m) l = MayMove s l m
-MayCarry s c (Delegate a b m) l =
-    MayMove s l m × (length (merged_list s (named_of l.first).frame (named_of l.second).frame) ≤ 8)
-MayCarry s c (Test a b) l = IsSome l.first × IsSome l.second
-MayCarry s c (Part r f n t b) l = IsSome l.first × IsSome l.at × (f < s.limits.frames)
-MayCarry s c (Replenish a m) l = MayGive s c l m
+MayCarry s c call l = WasFound s c (plan_for call) l × AllMay s c (plan_for call) l (edits_at (rule_of s c call) (findings_of l))
