@@ -6,8 +6,8 @@ use low.{IsSomeAnd, min, true≢false, ltb-true, ltb-false, leb-true, leb-false,
 use low.{Call, Retype, Touch, Kill, Ret, Switch, Transfer, Delegate}
 use low.{Replenish, Reply, Table, Leaf, Pages, Pleaf, Comp, Thread, Tcap, Frame, Untyped, User, Kernel, outstanding, comp_in, comp_of}
 use low.{thread_in, thread_of, Slot, Named, found, only, to_use, to_part, Cause, Found, named, mapped, first_of, refusal_of, first_cause}
-use low.{has_frame, outside, epoch_of, has_frames, is_empty, not_retyped, retype_rule, translation_of, is_live_in, not_live, switch_to, touch_by}
-use low.{are_same, is_short, are_many, merged_list, is_finer, is_less, rule_of, frames_in, Kind}
+use low.{has_frame, outside, epoch_of, has_frames, is_empty, not_retyped, retype_rule, translation_of, is_live_in, not_live, switch_to}
+use low.{touch_by, are_same, is_short, are_many, merged_list, is_finer, is_less, rule_of, frames_in, Kind}
 use Rattle.seq_plans.specs.{named_of, rest_by, left_of, causes_of, retype_beyond, judged_rule, resolved}
 use Rattle.seq_lookups.specs.Ranges.{RangeEnds, PageFound, HasEpoch, BudgetsFit, IsInRange, WholeEnds, BackFits}
 use Rattle.seq_plans.specs.{declared.walking.Looked.Looked, Carrying.HasLed, Carrying.WasReached, Carrying.WasFound, Carrying.AllMay}
@@ -122,7 +122,8 @@ few_now s c f range calm =
 -- ---- a component
 
 next_epoch : (e n : ℕ) → e ≤ n → (e == n) ≡ false → e + 1 ≤ n
-next_epoch e n most apart = elim (cases_lt e n) [ inl lt ↦ omega (arith, lt) | inr ge ↦ absurd (eqb-false e n apart (omega (arith, most, ge))) ]
+next_epoch e n most apart =
+    elim (cases_lt e n) [ inl lt ↦ omega (arith, lt) | inr ge ↦ absurd (eqb-false e n apart (omega (arith, most, ge))) ]
 
 -- ---- a touch
 

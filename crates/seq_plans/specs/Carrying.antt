@@ -1,19 +1,19 @@
 -- The change of a call, given what was looked up, and what it must have found beside that none of its causes stands. What an edit needs is
 -- said once an edit, whatever call makes it.
 use Rattle.std.specs.Prelude.{◌≡◌, ◌≢◌, ◌<◌, ◌≤◌, ◌+◌, ◌^◌, ◌∷◌}
-use Rattle.seq_state.specs.kernel_rules.specs.{ℕ, Bool, true, false, List, [], length, Option, Some, None, is_some, IsSome, IsSomeAnd, IsTrue}
-use Rattle.seq_state.specs.kernel_rules.specs.{IsFalse, Capability, Kind, Call, Reply, comp_of, thread_in, thread_of, Rule, Name as name_rule}
-use Rattle.seq_state.specs.kernel_rules.specs.{Vacant, Held as held_rule, Mapped, Does, Change, does, Judged, Refused, Found as Carried}
-use Rattle.seq_state.specs.kernel_rules.specs.{rule_of, translation_of, is_live_in, budget_at, slot_of, Edit, Fill, Edits.Remove, Node, Become}
-use Rattle.seq_state.specs.kernel_rules.specs.{Untype, Component, Deaden, Push, Pop, Edits.Switch, Cache, Edits.Flush, Charge, Move}
-use Rattle.seq_state.specs.kernel_rules.specs.{Merge, Give, unwrap_or, Rows.Findings, Rows.first, Rows.no_cap, Rows.edits_at}
+use Rattle.seq_state.specs.kernel_rules.specs.{ℕ, Bool, true, false, List, [], length, Option, Some, None, is_some, IsSome, IsSomeAnd}
+use Rattle.seq_state.specs.kernel_rules.specs.{IsTrue, IsFalse, Capability, Kind, Call, Reply, comp_of, thread_in, thread_of, Rule}
+use Rattle.seq_state.specs.kernel_rules.specs.{Name as name_rule, Vacant, Held as held_rule, Mapped, Does, Change, does, Judged, Refused}
+use Rattle.seq_state.specs.kernel_rules.specs.{Found as Carried, rule_of, translation_of, is_live_in, budget_at, slot_of, Edit, Fill}
+use Rattle.seq_state.specs.kernel_rules.specs.{Edits.Remove, Node, Become, Untype, Component, Deaden, Push, Pop, Edits.Switch, Cache}
+use Rattle.seq_state.specs.kernel_rules.specs.{Edits.Flush, Charge, Move, Merge, Give, unwrap_or, Rows.Findings, Rows.first, Rows.no_cap}
 use Rattle.call_plans.specs.{at_place, plan_for, declared.plans.Nth.TheVariants.First, declared.plans.Nth.TheVariants.Second}
 use Rattle.call_plans.specs.{declared.plans.Nth.TheVariants.Third, declared.plans.Nth.TheVariants.Fourth, declared.plans.Wanted.Wanted}
 use Rattle.call_plans.specs.{declared.plans.Name.Name, declared.plans.Target.Target, declared.plans.Target.TheVariants.Nowhere}
 use Rattle.call_plans.specs.{declared.plans.Target.TheVariants.Free, declared.plans.Target.TheVariants.Held}
 use Rattle.call_plans.specs.{declared.plans.Target.TheVariants.Own, declared.plans.Plan.Plan}
 use Rattle.{seq_state.specs.State, seq_lookups.specs.Ranges.TicksFit, seq_plans.specs.declared.walking.Looked.Looked}
-use Rattle.{seq_plans.specs.Reaches.named_of}
+use Rattle.{seq_state.specs.kernel_rules.specs.Rows.edits_at, seq_plans.specs.Reaches.named_of}
 
 -- The change of what is left of a rule of core c, where its look-ups have been made.
 abbrev pub change_in : State → ℕ → Rule → Judged Change
@@ -41,11 +41,12 @@ WasFound s c plan l =
     HasLed (at_place plan.names First) l.first × HasLed (at_place plan.names Second) l.second × HasLed (at_place plan.names Third) l.third
     × HasLed (at_place plan.names Fourth) l.fourth × WasReached s c plan.target l
 
--- Whether a call names any capability, whatever its kind: then it fills a place with a copy of what that name has led to.
+-- Whether a capability of any kind is wanted.
 abbrev pub is_any : Wanted → Bool
 is_any Wanted.Any = true
 is_any wanted = false
 
+-- Whether a call copies, by its first name: one that names a capability of any kind fills a place with a copy of that.
 abbrev pub copies : Option Name → Bool
 copies None = false
 copies (Some name) = is_any name.wanted
@@ -58,7 +59,7 @@ MayPut s Kind.Range f n = f < s.limits.frames
 MayPut s Kind.Gate f n = 1 ≤ n
 MayPut s kind f n = Unit {0}
 
--- Nothing is asked of a copy, since it has the kind, the frame and the number of what was found.
+-- What fills a place: of a copy nothing is asked, since it has the kind, the frame and the number of what was found.
 abbrev pub MayFill : Bool → State → Capability → Type 0
 MayFill true s k = Unit {0}
 MayFill false s k = MayPut s k.kind k.frame k.arg
@@ -97,6 +98,7 @@ MayEdit s c plan l (Merge f qualities) = length qualities ≤ 8
 -- Ticks are given back, and fit the budget and what the core has had back.
 MayEdit s c plan l (Give f m) = (budget_at s f + m < 2 ^ 32) × ((s.core c).back + m < 2 ^ 64)
 
+-- All edits of a list have found what they need.
 abbrev pub AllMay : State → ℕ → Plan → Looked → List Edit → Type 0
 AllMay s c plan l [] = Unit {0}
 AllMay s c plan l (edit ∷ edits) = MayEdit s c plan l edit × AllMay s c plan l edits
