@@ -17,7 +17,7 @@ use step_lands::act_states::Own;
 use step_lands::call_stages::{Absorbed, ActiveCall};
 use straight_acts::{Went, Words, copy, look, remove, unmap};
 use straight_entries::{enter, leave};
-use straight_maps::map;
+use straight_maps::{grow, map, shrink};
 use straight_own::{flush, tick, touch};
 use straight_pairs::share;
 
@@ -132,6 +132,8 @@ fn straight<W: Words>(
         Call::Remove { .. } => remove(own, active, call, words),
         Call::Unmap { .. } => unmap(own, active, call, words),
         Call::Map { .. } => map(own, active, call, words),
+        Call::Grow { .. } => grow(own, active, call, words),
+        Call::Shrink { .. } => shrink(own, active, call, words),
         Call::Call { .. } => enter(own, active, call, words),
         Call::Ret => leave(own, active, call, words),
         Call::Touch { .. } => touch(own, active, call, words),

@@ -1,4 +1,5 @@
 pub mod Placing
 pub mod Scanning
 pub mod Mapping
+pub mod Growing
 pub mod Sets

@@ -1,5 +1,5 @@
 -- Where the core stands whose call maps a page.
-use Rattle.std.specs.Prelude.{◌≡◌, ◌%◌, ℕ, true, List, [], Option, Some, None}
+use Rattle.std.specs.Prelude.{◌≡◌, ◌%◌, ℕ, Bool, true, List, [], Option, Some, None}
 use Rattle.spk_nums.specs.Capability.{Capability}
 use Rattle.spk_nums.specs.declared.calls.Call.{Call}
 use Rattle.spk_nums.specs.declared.kinds.FrameKind.TheVariants.{User}
@@ -9,7 +9,7 @@ use Rattle.spk_nums.specs.declared.steps.StageEnd.TheVariants.{Done}
 use low.kernel_rules.specs.Access.{Target}
 use low.call_plans.specs.After.{next_of, NextFree}
 use low.call_plans.specs.PlanOf.{plan_for}
-use low.act_states.specs.Acts.{act_begun, next_work, scans, stamp_in}
+use low.act_states.specs.Acts.{act_begun, fills_at, next_work, scans, stamp_in}
 use low.act_states.specs.declared.own.Own.{Own}
 use low.act_states.specs.declared.work.Act.{Act as ActType}
 use low.act_states.specs.declared.work.Act.TheVariants as act
@@ -79,6 +79,12 @@ pub record Maps (own : Own) (call : Call) (found : List Capability) (k : Capabil
       (f : Found)
       → act_begun own call found None (Some f)
       ≡ scans own.core (quiet_scan (stamp_in f.value) own.core own.layout.cores true) (mapping k f)
+
+-- and fills it with this capability where it is free, after the scan that it waits for: of the other cores, and where it is a place of a
+-- page table of all flushes
+pub record FillsWith (own : Own) (call : Call) (found : List Capability) (k : Capability) (page : Bool) : Type 0 where
+  pub free : HasFree call found
+  pub begins : (f : Found) → act_begun own call found None (Some f) ≡ fills_at own k page f
 
 -- a word is that of a user frame that no core has marked
 pub record IsUserWord (word : ℕ) : Type 0 where
