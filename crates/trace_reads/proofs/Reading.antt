@@ -61,8 +61,11 @@ worded_ended : (s : Draft_of) (lines : List Marked) → All (MarkReads s) (marks
     → AreEnded (worded lines)
 worded_ended s [] all h = tt
 worded_ended s (l ∷ lines) all h =
-    let one : MarkReads s l.mark = All-head (MarkReads s) l.mark (marks_in lines) all in
-    (one.line, note_ends l.note (both_left _ _ h), worded_ended s lines (All-tail (MarkReads s) l.mark (marks_in lines) all) (both_right _ _ h))
+    let one : MarkReads s l.mark = All-head (MarkReads s) l.mark (marks_in lines) all in (
+      one.line,
+      note_ends l.note (both_left _ _ h),
+      worded_ended s lines (All-tail (MarkReads s) l.mark (marks_in lines) all) (both_right _ _ h),
+    )
 
 worded_words : (lines : List Marked) → words_in (worded lines) ≡ map mark_words (marks_in lines)
 worded_words [] = refl
@@ -136,7 +139,8 @@ module _ (v : ℕ) (setup : Setting) (t : Trace) (some : 1 ≤ v) (most : v ≤ 
   unfolding history_of
   text_read few =
       let source = ended_onto lines in
-      let scanned : IsScanned source (words_in lines) = ended_scanned lines are (ended_few lines are (subst (λ ts. line_count ts ≤ 20000) text_is few)) in
+      let scanned : IsScanned source (words_in lines) =
+      ended_scanned lines are (ended_few lines are (subst (λ ts. line_count ts ≤ 20000) text_is few)) in
       let told : History_draft = drafted d (mark_lines (setup.cores + 6) (reverse (marks_of t))) in
       let rows : lines_from no_history (rows_of (words_of source)) ≡ Ok told =
       ap (λ rs. lines_from no_history rs) scanned.rows ∙ draft_is in

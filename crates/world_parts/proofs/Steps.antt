@@ -126,7 +126,8 @@ places_more x node n old mid new a b =
 either : (node : ℕ) (P Q : ℕ → Type 0) (old mid new : ℕ → ℕ) → Joins (λ f g. (f ≡ node) × P g) old mid
     → Joins (λ f g. (f ≡ node) × Q g) mid new → Joins (λ f g. (f ≡ node) × (P g ⊎ Q g)) old new
 either node P Q old mid new a b =
-    joins_as (λ f g. ((f ≡ node) × P g) ⊎ ((f ≡ node) × Q g)) (λ f g. (f ≡ node) × (P g ⊎ Q g)) old new there (λ f g h _ _. split f g h.0 h.1)
+    joins_as (λ f g. ((f ≡ node) × P g) ⊎ ((f ≡ node) × Q g)) (λ f g. (f ≡ node) × (P g ⊎ Q g)) old new there
+    (λ f g h _ _. split f g h.0 h.1)
     (joins_then (λ f g. (f ≡ node) × P g) (λ f g. (f ≡ node) × Q g) old mid new a b)
   where
     there : (f g : ℕ) → ((f ≡ node) × P g) ⊎ ((f ≡ node) × Q g) → (f ≡ node) × (P g ⊎ Q g)
